@@ -1,0 +1,273 @@
+-- Laws of tests, lists and numbers: none knows what a store is.
+use mathlib.Core.Path.{_≡_, refl, sym, ap, _∙_}
+use mathlib.Core.Bool.{Bool, true, false, not, _&&_, _||_, false≢true}
+use mathlib.Core.List.{List, [], _∷_, _++_, append-assoc}
+use mathlib.Core.Logic.{_⊎_, inl, inr, ⊎-elim}
+use mathlib.Core.Option.{Option, none, some}
+use Prim.Native.Nat.{ℕ, zero, suc, _+_, _≤_, _<_}
+use native.Mathlib.Nat.{le-antisymm, eq-or-lt-of-le, le-of-suc-le-suc, not-suc-le-zero}
+use native.Mathlib.Numerals.{add-one}
+use native.Mathlib.Omega.{arith}
+use lib.ListN.{length, getD, length-append, List·getD-append, List·getD-eq-default}
+use lib.Seq.{getD-at}
+use lib.Dec.{eqb, ltb, leb}
+use borrow.Author.Tests.{not-true, not-false, eqb-true, eq-eqb, ltb-true, leb-true, lt-ltb, le-leb, le-ltb, lt-leb}
+use Rattle.records.specs.Lists.{if_then_else_, all, any, joined, table, sameWord, allBelow, firstBelow, Every, none-left, and}
+use Rattle.records.specs.Store.{within}
+
+-- TESTS
+
+pub both-left : (a b : Bool) → a && b ≡ true → a ≡ true
+both-left true b e = refl
+both-left false b e = e
+
+pub both-right : (a b : Bool) → a && b ≡ true → b ≡ true
+both-right true b e = e
+both-right false b e = absurd (false≢true e)
+
+pub both-true : (a b : Bool) → a ≡ true → b ≡ true → a && b ≡ true
+both-true true b p q = q
+both-true false b p q = absurd (false≢true p)
+
+pub left-false : (a b : Bool) → a ≡ false → a && b ≡ false
+left-false true b e = absurd (false≢true (sym e))
+left-false false b e = refl
+
+pub right-false : (a b : Bool) → b ≡ false → a && b ≡ false
+right-false true b e = e
+right-false false b e = refl
+
+pub either : (a b : Bool) → a || b ≡ true → (a ≡ true) ⊎ (b ≡ true)
+either true b e = inl refl
+either false b e = inr e
+
+pub or-left : (a b : Bool) → a ≡ true → a || b ≡ true
+or-left true b e = refl
+or-left false b e = absurd (false≢true e)
+
+pub or-right : (a b : Bool) → b ≡ true → a || b ≡ true
+or-right true b e = refl
+or-right false b e = e
+
+pub clash : {a : Bool} {X : Type 0} → a ≡ true → a ≡ false → X
+clash p q = absurd (false≢true (sym q ∙ p))
+
+-- a test is true or false
+pub decide : {X : Type 0} (b : Bool) → (b ≡ true → X) → (b ≡ false → X) → X
+decide true f g = f refl
+decide false f g = g refl
+
+-- two tests that imply each other are equal
+pub same-test : (a b : Bool) → (a ≡ true → b ≡ true) → (b ≡ true → a ≡ true) → a ≡ b
+same-test true true f g = refl
+same-test true false f g = sym (f refl)
+same-test false true f g = g refl
+same-test false false f g = refl
+
+pub within-low : (n t : ℕ) → within n t ≡ true → 0 < t
+unfolding within
+within-low n t e = ltb-true 0 t (both-left _ _ e)
+
+pub within-high : (n t : ℕ) → within n t ≡ true → t ≤ n
+unfolding within
+within-high n t e = leb-true t n (both-right (ltb 0 t) _ e)
+
+pub within-is : (n t : ℕ) → 0 < t → t ≤ n → within n t ≡ true
+unfolding within
+within-is n t p q = both-true _ _ (lt-ltb 0 t p) (le-leb t n q)
+
+pub within-zero : (n t : ℕ) → t ≡ 0 → within n t ≡ false
+unfolding within
+within-zero n t e = left-false _ _ (le-ltb 0 t (omega arith))
+
+pub within-past : (n t : ℕ) → n < t → within n t ≡ false
+unfolding within
+within-past n t h = right-false (ltb 0 t) _ (lt-leb t n h)
+
+-- EVERY NUMBER BELOW
+
+pub below-zero : (p : ℕ → Bool) → allBelow p 0 ≡ true
+unfolding allBelow
+below-zero p = refl
+
+pub below-suc : (p : ℕ → Bool) (n : ℕ) → allBelow p n ≡ true → p n ≡ true → allBelow p (suc n) ≡ true
+unfolding allBelow
+below-suc p n h q = both-true _ _ h q
+
+pub below-at : (p : ℕ → Bool) (n : ℕ) → allBelow p n ≡ true → (k : ℕ) → k < n → p k ≡ true
+unfolding allBelow
+below-at p zero h k l = absurd (not-suc-le-zero l)
+below-at p (suc n) h k l =
+    ⊎-elim (λ e. ap p e ∙ both-right (allBelow p n) _ h) (λ lt. below-at p n (both-left _ (p n) h) k lt) (eq-or-lt-of-le (le-of-suc-le-suc l))
+
+pub below-all : (p : ℕ → Bool) (n : ℕ) → ((k : ℕ) → k < n → p k ≡ true) → allBelow p n ≡ true
+unfolding allBelow
+below-all p zero f = refl
+below-all p (suc n) f = both-true _ _ (below-all p n (λ k l. f k (omega arith))) (f n (omega arith))
+
+pub below-false : (p : ℕ → Bool) (n k : ℕ) → k < n → p k ≡ false → allBelow p n ≡ false
+unfolding allBelow
+below-false p zero k l h = absurd (not-suc-le-zero l)
+below-false p (suc n) k l h =
+    ⊎-elim (λ e. right-false (allBelow p n) _ (ap p (sym e) ∙ h)) (λ lt. left-false _ (p n) (below-false p n k lt h)) (eq-or-lt-of-le (le-of-suc-le-suc l))
+
+-- the loop `while i < n { if !test(.., i) { return false; } i += 1; } true`
+pub below-stop : (p : ℕ → Bool) (n i : ℕ) (b : Bool) → b ≡ p i → not b ≡ true → i < n → false ≡ allBelow p n
+below-stop p n i b e h l = sym (below-false p n i l (sym e ∙ not-true b h))
+
+pub below-turn : (p : ℕ → Bool) (i : ℕ) (b : Bool) → b ≡ p i → not b ≡ false → allBelow p i ≡ true → allBelow p (i + 1) ≡ true
+below-turn p i b e h q = rw add-one (below-suc p i q (sym e ∙ not-false b h))
+
+pub below-done : (p : ℕ → Bool) (n i : ℕ) → i ≤ n → n ≤ i → allBelow p i ≡ true → true ≡ allBelow p n
+below-done p n i a b h = let e : i ≡ n = le-antisymm a b in sym (rw e at h)
+
+-- two tests of every number below n that agree
+pub below-same : (p q : ℕ → Bool) (n : ℕ) → ((k : ℕ) → k < n → p k ≡ q k) → allBelow p n ≡ allBelow q n
+unfolding allBelow
+below-same p q zero f = refl
+below-same p q (suc n) f = let a = below-same p q n (λ k l. f k (omega arith)) in let b = f n (omega arith) in cc
+
+-- THE LOWEST NUMBER BELOW
+
+pub first-zero : (p : ℕ → Bool) → firstBelow p 0 ≡ none
+unfolding firstBelow
+first-zero p = refl
+
+pub first-pass : (p : ℕ → Bool) (n : ℕ) → firstBelow p n ≡ none → p n ≡ false → firstBelow p (suc n) ≡ none
+unfolding firstBelow
+first-pass p n h q = rw (h, q)
+
+pub first-hit : (p : ℕ → Bool) (n : ℕ) → firstBelow p n ≡ none → p n ≡ true → firstBelow p (suc n) ≡ some n
+unfolding firstBelow
+first-hit p n h q = rw (h, q)
+
+pub first-stays : (p : ℕ → Bool) (i n k : ℕ) → firstBelow p i ≡ some k → i ≤ n → firstBelow p n ≡ some k
+unfolding firstBelow
+first-stays p i zero k h l = let e : i ≡ 0 = omega arith in rw e at h
+first-stays p i (suc n) k h l =
+    ⊎-elim (λ e. rw e at h) (λ lt. rw (first-stays p i n k h (le-of-suc-le-suc lt))) (eq-or-lt-of-le l)
+
+pub first-none : (p : ℕ → Bool) (n : ℕ) → firstBelow p n ≡ none → (k : ℕ) → k < n → p k ≡ false
+unfolding firstBelow
+first-none p zero h k l = absurd (not-suc-le-zero l)
+first-none p (suc n) h k l = go (first-none p n) (firstBelow p n) (p n) refl refl h
+  where
+    go : (firstBelow p n ≡ none → (k : ℕ) → k < n → p k ≡ false) → (o : Option ℕ) (b : Bool) → firstBelow p n ≡ o → p n ≡ b → _≡_ {A = Option ℕ} (elim o [ some i ↦ some i | none ↦ (if b then some n else none) ]) none → p k ≡ false
+    go ih (some i) b e q z = let y : _≡_ {A = ℕ} 0 1 = cc in absurd (omega arith)
+    go ih none true e q z = let y : _≡_ {A = ℕ} 0 1 = cc in absurd (omega arith)
+    go ih none false e q z = ⊎-elim (λ d. ap p d ∙ q) (λ lt. ih e k lt) (eq-or-lt-of-le (le-of-suc-le-suc l))
+
+pub record Found (p : ℕ → Bool) (n i : ℕ) : Type 0 where
+  pub below : i < n
+  pub passes : p i ≡ true
+
+pub first-some : (p : ℕ → Bool) (n i : ℕ) → firstBelow p n ≡ some i → Found p n i
+unfolding firstBelow
+first-some p zero i h = let y : _≡_ {A = ℕ} 0 1 = cc in absurd (omega arith)
+first-some p (suc n) i h = go (first-some p n) (firstBelow p n) (p n) refl refl h
+  where
+    go : ((j : ℕ) → firstBelow p n ≡ some j → Found p n j) → (o : Option ℕ) (b : Bool) → firstBelow p n ≡ o → p n ≡ b → _≡_ {A = Option ℕ} (elim o [ some j ↦ some j | none ↦ (if b then some n else none) ]) (some i) → Found p (suc n) i
+    go ih (some j) b e q z = let f = ih j e in let y : j ≡ i = cc in record { below = (let g = f .below in omega arith); passes = ap p (sym y) ∙ f .passes }
+    go ih none true e q z = let y : n ≡ i = cc in record { below = omega arith; passes = ap p (sym y) ∙ q }
+    go ih none false e q z = let y : _≡_ {A = ℕ} 0 1 = cc in absurd (omega arith)
+
+-- TABLES
+
+module _ {A : Type 0} where
+  pub table-same : (f g : ℕ → A) (n : ℕ) → ((i : ℕ) → i < n → f i ≡ g i) → table f n ≡ table g n
+  unfolding table
+  table-same f g zero h = refl
+  table-same f g (suc n) h = let p = table-same f g n (λ i k. h i (omega arith)) in let q = h n (omega arith) in cc
+
+  pub table-length : (f : ℕ → A) (n : ℕ) → length (table f n) ≡ n
+  unfolding table
+  table-length f zero = refl
+  table-length f (suc n) = length-append (table f n) (f n ∷ []) ∙ (let p = table-length f n in omega arith)
+
+  pub table-at : (f : ℕ → A) (n i : ℕ) (d : A) → i < n → getD (table f n) i d ≡ f i
+  unfolding table
+  table-at f zero i d h = absurd (not-suc-le-zero h)
+  table-at f (suc n) i d h =
+      ⊎-elim (λ e. rw e (getD-at (table f n) (f n) [] d n (table-length f n)))
+      (λ lt. List·getD-append (table f n) (f n ∷ []) d i (let l = table-length f n in omega arith) ∙ table-at f n i d lt) (eq-or-lt-of-le (le-of-suc-le-suc h))
+
+  pub table-past : (f : ℕ → A) (n i : ℕ) (d : A) → n ≤ i → getD (table f n) i d ≡ d
+  table-past f n i d h = List·getD-eq-default (table f n) d {n = i} (let l = table-length f n in omega arith)
+
+  -- one more, and n more
+  pub table-suc : (f : ℕ → A) (n : ℕ) → table f (suc n) ≡ table f n ++ (f n ∷ [])
+  unfolding table
+  table-suc f n = refl
+
+  pub table-add : (f : ℕ → A) (m n : ℕ) → table f (m + n) ≡ table f m ++ table (λ i. f (m + i)) n
+  unfolding table
+  table-add f m zero = rw (native.Mathlib.Nat.add-zero m) (sym (mathlib.Core.List.append-nil (table f m)))
+  table-add f m (suc n) = rw (native.Mathlib.Nat.add-suc m n, table-add f m n, append-assoc)
+
+  pub all-append : (p : A → Bool) (l m : List A) → all p (l ++ m) ≡ (all p l && all p m)
+  unfolding all
+  all-append p [] m = refl
+  all-append p (x ∷ l) m = go (p x) (all-append p l m)
+    where
+      go : (b : Bool) → all p (l ++ m) ≡ (all p l && all p m) → (b && all p (l ++ m)) ≡ ((b && all p l) && all p m)
+      go true e = e
+      go false e = refl
+
+  -- a test of every record of a table is a test of every number
+  pub all-table : (p : A → Bool) (f : ℕ → A) (n : ℕ) → all p (table f n) ≡ allBelow (λ i. p (f i)) n
+  unfolding table allBelow all
+  all-table p f zero = refl
+  all-table p f (suc n) = all-append p (table f n) (f n ∷ []) ∙ (let e = all-table p f n in go (p (f n)) (ap (λ (b : Bool). b && (p (f n) && true)) e))
+    where
+      go : (b : Bool) → (all p (table f n) && (b && true)) ≡ (allBelow (λ i. p (f i)) n && (b && true)) → (all p (table f n) && (b && true)) ≡ (allBelow (λ i. p (f i)) n && b)
+      go true e = e
+      go false e = e
+
+-- WORDS
+
+pub word-is : (v w : List ℕ) → sameWord v w ≡ true → v ≡ w
+unfolding sameWord
+word-is [] [] e = refl
+word-is [] (y ∷ w) e = absurd (false≢true e)
+word-is (x ∷ v) [] e = absurd (false≢true e)
+word-is (x ∷ v) (y ∷ w) e =
+    let p = eqb-true x y (both-left (eqb x y) _ e) in
+    let q = word-is v w (both-right (eqb x y) _ e) in cc
+
+pub word-refl : (w : List ℕ) → sameWord w w ≡ true
+unfolding sameWord
+word-refl [] = refl
+word-refl (x ∷ w) = rw (eq-eqb x x refl) (word-refl w)
+
+pub word-same : (v w : List ℕ) → v ≡ w → sameWord v w ≡ true
+word-same v w e = rw e (word-refl w)
+
+pub word-differs : (v w : List ℕ) → (v ≡ w → ⊥) → sameWord v w ≡ false
+word-differs v w d = decide (sameWord v w) (λ e. absurd (d (word-is v w e))) (λ e. e)
+
+module _ {A B : Type 0} (f : A → List B) where
+  pub joined-append : (l m : List A) → joined f (l ++ m) ≡ joined f l ++ joined f m
+  unfolding joined
+  joined-append [] m = refl
+  joined-append (x ∷ l) m = rw (joined-append l m, append-assoc)
+
+-- EACH ELEMENT
+
+module _ {A : Type 0} where
+  pub every-map : {P Q : A → Type 0} {l : List A} → ((a : A) → P a → Q a) → Every P l → Every Q l
+  every-map f none-left = none-left
+  every-map f (and p k) = and (f _ p) (every-map f k)
+
+  pub every-append : {P : A → Type 0} {l m : List A} → Every P l → Every P m → Every P (l ++ m)
+  every-append none-left k = k
+  every-append (and p h) k = and p (every-append h k)
+
+  pub all-every : (p : A → Bool) (l : List A) → all p l ≡ true → Every (λ a. p a ≡ true) l
+  unfolding all
+  all-every p [] e = none-left
+  all-every p (x ∷ l) e = and (both-left (p x) _ e) (all-every p l (both-right (p x) _ e))
+
+  pub every-all : {p : A → Bool} {l : List A} → Every (λ a. p a ≡ true) l → all p l ≡ true
+  unfolding all
+  every-all none-left = refl
+  every-all (and e k) = both-true _ _ e (every-all k)

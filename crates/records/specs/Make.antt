@@ -1,0 +1,169 @@
+-- Adding records: a reason, a key, and a term, which is the lowest-numbered equal record, else one appended.
+use mathlib.Core.Bool.{Bool, true, false, not, _&&_, _||_}
+use mathlib.Core.List.{List, [], _∷_, _++_}
+use mathlib.Core.Option.{Option, none, some}
+use Prim.Native.Nat.{ℕ, zero, suc, _+_, _-_, _/_, _%_, min, max}
+use lib.ListN.{length}
+use lib.Dec.{eqb, ltb, leb}
+use Rattle.records.specs.Lists.{if_then_else_, any, sameWord, firstBelow}
+use Rattle.records.specs.Store.{Term, Cell, Store, Out, ok, stop, Work, _>>=_, _>>_, give, refuse, store, put, term, count, kind, isConstant, isConcat, isLength, isEquation, text, parts}
+use Rattle.records.specs.Rules.{named}
+
+abbrev pub withReasons : Store → List (ℕ × ℕ) → Store
+withReasons s rs = record { terms = s .terms; cells = s .cells; chars = s .chars; reasons = rs; keys = s .keys; names = s .names; room = s .room }
+
+abbrev pub withKeys : Store → List (ℕ × ℕ) → Store
+withKeys s ks = record { terms = s .terms; cells = s .cells; chars = s .chars; reasons = s .reasons; keys = ks; names = s .names; room = s .room }
+
+abbrev pub withNames : Store → ℕ → Store
+withNames s n = record { terms = s .terms; cells = s .cells; chars = s .chars; reasons = s .reasons; keys = s .keys; names = n; room = s .room }
+
+abbrev pub withChars : Store → List ℕ → Store
+withChars s cs = record { terms = s .terms; cells = s .cells; chars = cs; reasons = s .reasons; keys = s .keys; names = s .names; room = s .room }
+
+abbrev pub withCells : Store → List Cell → Store
+withCells s cs = record { terms = s .terms; cells = cs; chars = s .chars; reasons = s .reasons; keys = s .keys; names = s .names; room = s .room }
+
+abbrev pub withTerms : Store → List Term → Store
+withTerms s ts = record { terms = ts; cells = s .cells; chars = s .chars; reasons = s .reasons; keys = s .keys; names = s .names; room = s .room }
+
+-- REASONS AND KEYS
+
+-- refusal 7: 'the next reason finds its slice (or 4,096) full'
+unfoldable pub addReason : ℕ → ℕ → Work (Unit {0})
+addReason k v = do
+  s ← store
+  if ltb (length (s .reasons)) (s .room .reasons) then put (withReasons s (s .reasons ++ ((k, v) ∷ []))) else refuse 7
+
+-- an unordered pair, 'lower number first'
+abbrev pub ordered : ℕ → ℕ → ℕ × ℕ
+ordered a b = (min a b, max a b)
+
+unfoldable pub samePair : ℕ × ℕ → ℕ × ℕ → Bool
+samePair p q = eqb (p .0) (q .0) && eqb (p .1) (q .1)
+
+unfoldable pub isKey : Store → ℕ → ℕ → Bool
+isKey s a b = any (samePair (ordered a b)) (s .keys)
+
+-- refusal 8: 'a new term, cell, character or key finds its slice or limit full'
+unfoldable pub addKey : ℕ → ℕ → Work (Unit {0})
+addKey a b = do
+  s ← store
+  if ltb (length (s .keys)) (s .room .keys) then put (withKeys s (s .keys ++ (ordered a b ∷ []))) else refuse 8
+
+-- TERMS: 'making a term gives the lowest-numbered equal record, else appends one that is its own class, its characters or cells
+-- at the end of theirs, unsimplified'
+
+-- characters at the end of theirs; answers their place
+unfoldable pub addText : List ℕ → Work ℕ
+addText w = do
+  s ← store
+  if leb (length (s .chars) + length w) (s .room .chars) then put (withChars s (s .chars ++ w)) else refuse 8
+  give (length (s .chars))
+
+-- the cells of a chain of these values whose first cell is number c
+unfoldable pub chainFrom : ℕ → List ℕ → List Cell
+chainFrom c [] = []
+chainFrom c (a ∷ []) = record { value = a; other = 0; next = 0 } ∷ []
+chainFrom c (a ∷ b ∷ l) = record { value = a; other = 0; next = suc c } ∷ chainFrom (suc c) (b ∷ l)
+
+-- cells at the end of theirs; answers the first
+unfoldable pub addChain : List ℕ → Work ℕ
+addChain l = do
+  s ← store
+  let c = suc (length (s .cells))
+  if leb (length (s .cells) + length l) (s .room .cells) then put (withCells s (s .cells ++ chainFrom c l)) else refuse 8
+  give c
+
+-- a term that is its own class
+abbrev pub own : ℕ → ℕ → ℕ → ℕ → Term
+own n k a b = record { kind = k; first = a; second = b; classParent = n; forestParent = n; labelKind = 0; labelValue = 0; stamp = 0 }
+
+unfoldable pub addTerm : ℕ → ℕ → ℕ → Work ℕ
+addTerm k a b = do
+  s ← store
+  let n = suc (count s)
+  if ltb (count s) (s .room .terms) then put (withTerms s (s .terms ++ (own n k a b ∷ []))) else refuse 8
+  give n
+
+abbrev pub isSome : Option ℕ → Bool
+isSome none = false
+isSome (some i) = true
+
+-- the lowest-numbered term that is equal
+unfoldable pub lookup : (Store → ℕ → Bool) → Store → Option ℕ
+lookup equal s = firstBelow (λ i. equal s (suc i)) (count s)
+
+abbrev pub orMake : Work ℕ → Option ℕ → Work ℕ
+orMake make none = make
+orMake make (some i) = give (suc i)
+
+unfoldable pub lowest : (Store → ℕ → Bool) → Work ℕ → Work ℕ
+lowest equal make = do
+  s ← store
+  orMake make (lookup equal s)
+
+-- equal records: same kind, same characters or same part numbers in order
+unfoldable pub constantOf : List ℕ → Store → ℕ → Bool
+constantOf w s t = isConstant s t && sameWord (text s t) w
+
+unfoldable pub concatOf : List ℕ → Store → ℕ → Bool
+concatOf l s t = isConcat s t && sameWord (parts s t) l
+
+unfoldable pub lengthOf : ℕ → Store → ℕ → Bool
+lengthOf a s t = isLength s t && eqb (term s t .first) a
+
+unfoldable pub equationOf : ℕ → ℕ → Store → ℕ → Bool
+equationOf a b s t = isEquation s t && eqb (term s t .first) a && eqb (term s t .second) b
+
+unfoldable pub makeConstant : List ℕ → Work ℕ
+makeConstant w = lowest (constantOf w) (do
+  p ← addText w
+  addTerm 1 p (length w))
+
+unfoldable pub makeVariable : List ℕ → Work ℕ
+makeVariable w = lowest (named w) (do
+  p ← addText w
+  addTerm 2 p (length w))
+
+unfoldable pub makeConcat : List ℕ → Work ℕ
+makeConcat l = lowest (concatOf l) (do
+  c ← addChain l
+  addTerm 3 c 0)
+
+unfoldable pub makeLength : ℕ → Work ℕ
+makeLength a = lowest (lengthOf a) (addTerm 4 a 0)
+
+unfoldable pub makeEquation : ℕ → ℕ → Work ℕ
+makeEquation a b = lowest (equationOf a b) (addTerm 5 a b)
+
+-- NAMES: 'z names are `!strk` with the counter in decimal'
+
+abbrev pub strk : List ℕ
+strk = 33 ∷ 115 ∷ 116 ∷ 114 ∷ 107 ∷ []
+
+-- in decimal, at most n digits
+unfoldable pub decimalBy : ℕ → ℕ → List ℕ
+decimalBy zero x = []
+decimalBy (suc n) x = elim (ltb x 10) [ true ↦ (48 + x) ∷ [] | false ↦ decimalBy n (x / 10) ++ ((48 + x % 10) ∷ []) ]
+
+-- a counter has at most ten digits
+unfoldable pub nameOf : ℕ → List ℕ
+nameOf x = strk ++ decimalBy 10 x
+
+-- '`lookup_symbol` means a variable of that name exists'
+unfoldable pub isTaken : Store → ℕ → Bool
+isTaken s x = isSome (lookup (named (nameOf x)) s)
+
+-- 'a name that exists is passed over, the counter rising by one; taking a name advances the counter and hands the name back';
+-- refusal 9: 'the name counter must rise above 4,294,967,295'. n is how far the counter can still rise
+unfoldable pub takeNameBy : ℕ → Work (List ℕ)
+takeNameBy zero s = stop 9
+takeNameBy (suc n) s =
+    elim (isTaken s (s .names)) [ true ↦ takeNameBy n (withNames s (suc (s .names))) | false ↦ ok (withNames s (suc (s .names))) (nameOf (s .names)) ]
+
+abbrev pub nameLimit : ℕ
+nameLimit = 4294967295
+
+unfoldable pub takeName : Work (List ℕ)
+takeName s = takeNameBy (nameLimit - s .names) s

@@ -1,0 +1,36 @@
+-- Words, and when an edge, a reason, a definitional merge or an atom holds for given words.
+use mathlib.Core.Path.{_≡_}
+use mathlib.Core.Bool.{Bool, true}
+use mathlib.Core.List.{List, List·Memᴰ}
+use Prim.Native.Nat.{ℕ}
+use lib.ListN.{length}
+use Rattle.records.specs.Lists.{all, joined}
+use Rattle.records.specs.Store.{Store, term, kind, text, parts, isEdge}
+use Rattle.records.specs.Rules.{isChar}
+
+-- a word for each term; 'a concatenation's or a list's is its parts' words in order': `joined w l`
+abbrev pub Words : Type 0
+Words = ℕ → List ℕ
+
+-- 'a variable's word is any finite list of characters; a constant's is its own, and a concatenation's or a list's is its parts'
+-- words in order' (SMT-LIB: str.++ is concatenation, str.len is length). Each assignment of words to the variables has exactly
+-- one reading (proofs/Readings.antt)
+pub record Reading (s : Store) (w : Words) : Type 0 where
+  pub characters : (t : ℕ) → all isChar (w t) ≡ true
+  pub constants : (t : ℕ) → kind s t ≡ 1 → w t ≡ text s t
+  pub concats : (t : ℕ) → kind s t ≡ 3 → w t ≡ joined w (parts s t)
+
+-- an edge holds when its two ends have equal words
+abbrev pub Joins : Store → Words → ℕ → Type 0
+Joins s w t = w t ≡ w (term s t .forestParent)
+
+-- 'The edges under a reason are those at entry labelled with its kind and number. A reason holds for given words when the two ends
+-- of every edge under it have equal words; a definitional merge (label 4) holds when its two ends do'
+pub record Holds (s : Store) (rs : List (ℕ × ℕ)) (w : Words) : Type 0 where
+  pub merges : (t : ℕ) → isEdge s t ≡ true → term s t .labelKind ≡ 4 → Joins s w t
+  pub reasons : (t : ℕ) → isEdge s t ≡ true → List·Memᴰ (term s t .labelKind, term s t .labelValue) rs → Joins s w t
+
+-- 'A listed atom .. is true when its two words are equal or, between lengths, equally long'
+pub data True (s : Store) (w : Words) (e : ℕ) : Type 0 where
+  equal : (kind s (term s e .first) ≡ 4 → ⊥) → w (term s e .first) ≡ w (term s e .second) → True s w e
+  long : kind s (term s e .first) ≡ 4 → length (w (term s (term s e .first) .first)) ≡ length (w (term s (term s e .second) .first)) → True s w e

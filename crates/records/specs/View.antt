@@ -1,0 +1,117 @@
+-- What of the lent slices is counted, and whether the slices are long enough for it.
+use mathlib.Core.Bool.{Bool, _&&_}
+use mathlib.Core.List.{List}
+use Prim.Native.Nat.{ℕ, suc, _+_, _-_, _*_, _/_, min}
+use lib.ListN.{length, getD}
+use lib.Dec.{leb}
+use Rattle.records.specs.declared.State.{State}
+use Rattle.records.specs.Lists.{table}
+use Rattle.records.specs.Store.{Term, Cell, Room, Store}
+
+-- the words of the five lent slices
+pub record Lent : Type 0 where
+  pub terms : List ℕ
+  pub cells : List ℕ
+  pub chars : List ℕ
+  pub reasons : List ℕ
+  pub keys : List ℕ
+
+abbrev pub lent : List ℕ → List ℕ → List ℕ → List ℕ → List ℕ → Lent
+lent t e h r k = record { terms = t; cells = e; chars = h; reasons = r; keys = k }
+
+-- 'Up to 512', 'Up to 2,048', 'up to 16,384', 'up to 4,096'
+abbrev pub termLimit : ℕ
+termLimit = 512
+
+abbrev pub cellLimit : ℕ
+cellLimit = 2048
+
+abbrev pub charLimit : ℕ
+charLimit = 16384
+
+abbrev pub reasonLimit : ℕ
+reasonLimit = 4096
+
+abbrev pub keyLimit : ℕ
+keyLimit = 4096
+
+-- a record's words: 'Record 0 of terms and of cells is never read'; 'characters, reasons and keys start at place 0'
+abbrev pub termAt : List ℕ → ℕ → Term
+termAt l t = record {
+  kind = getD l (8 * t + 0) 0;
+  first = getD l (8 * t + 1) 0;
+  second = getD l (8 * t + 2) 0;
+  classParent = getD l (8 * t + 3) 0;
+  forestParent = getD l (8 * t + 4) 0;
+  labelKind = getD l (8 * t + 5) 0;
+  labelValue = getD l (8 * t + 6) 0;
+  stamp = getD l (8 * t + 7) 0;
+}
+
+abbrev pub cellAt : List ℕ → ℕ → Cell
+cellAt l c = record { value = getD l (3 * c + 0) 0; other = getD l (3 * c + 1) 0; next = getD l (3 * c + 2) 0 }
+
+abbrev pub pairAt : List ℕ → ℕ → ℕ × ℕ
+pairAt l i = (getD l (2 * i + 0) 0, getD l (2 * i + 1) 0)
+
+-- the records of a slice up to a count
+abbrev pub termsView : List ℕ → ℕ → List Term
+termsView l n = table (λ i. termAt l (suc i)) n
+
+abbrev pub cellsView : List ℕ → ℕ → List Cell
+cellsView l n = table (λ i. cellAt l (suc i)) n
+
+abbrev pub charsView : List ℕ → ℕ → List ℕ
+charsView l n = table (λ i. getD l i 0) n
+
+abbrev pub pairsView : List ℕ → ℕ → List (ℕ × ℕ)
+pairsView l n = table (pairAt l) n
+
+-- how many records fit a slice and its limit
+abbrev pub roomOf : Lent → Room
+roomOf m = record {
+  terms = min termLimit (length (m .terms) / 8 - 1);
+  cells = min cellLimit (length (m .cells) / 3 - 1);
+  chars = min charLimit (length (m .chars));
+  reasons = min reasonLimit (length (m .reasons) / 2);
+  keys = min keyLimit (length (m .keys) / 2);
+}
+
+abbrev pub storeOf : Lent → State → Store
+storeOf m c = record {
+  terms = termsView (m .terms) (c .terms);
+  cells = cellsView (m .cells) (c .cells);
+  chars = charsView (m .chars) (c .chars);
+  reasons = pairsView (m .reasons) (c .reasons);
+  keys = pairsView (m .keys) (c .keys);
+  names = c .names;
+  room = roomOf m;
+}
+
+-- refusal 1, 'a count above its limit, or a slice too short for it', does not hold; record 0 takes room too
+unfoldable pub sizes : Lent → State → Bool
+sizes m c =
+    (leb (c .terms) termLimit && leb (8 * (c .terms + 1)) (length (m .terms)))
+    && (leb (c .cells) cellLimit && leb (3 * (c .cells + 1)) (length (m .cells)))
+    && (leb (c .chars) charLimit && leb (c .chars) (length (m .chars)))
+    && (leb (c .reasons) reasonLimit && leb (2 * c .reasons) (length (m .reasons)))
+    && (leb (c .keys) keyLimit && leb (2 * c .keys) (length (m .keys)))
+
+-- the state with one term, some cells or characters, one reason or key more, or the next name
+abbrev pub oneTerm : State → State
+oneTerm c = record { terms = c .terms + 1; cells = c .cells; chars = c .chars; reasons = c .reasons; keys = c .keys; names = c .names }
+
+abbrev pub moreCells : State → ℕ → State
+moreCells c n = record { terms = c .terms; cells = c .cells + n; chars = c .chars; reasons = c .reasons; keys = c .keys; names = c .names }
+
+abbrev pub moreChars : State → ℕ → State
+moreChars c n = record { terms = c .terms; cells = c .cells; chars = c .chars + n; reasons = c .reasons; keys = c .keys; names = c .names }
+
+abbrev pub oneReason : State → State
+oneReason c = record { terms = c .terms; cells = c .cells; chars = c .chars; reasons = c .reasons + 1; keys = c .keys; names = c .names }
+
+abbrev pub oneKey : State → State
+oneKey c = record { terms = c .terms; cells = c .cells; chars = c .chars; reasons = c .reasons; keys = c .keys + 1; names = c .names }
+
+abbrev pub oneName : State → State
+oneName c = record { terms = c .terms; cells = c .cells; chars = c .chars; reasons = c .reasons; keys = c .keys; names = c .names + 1 }
