@@ -4,11 +4,12 @@ use mathlib.Core.Bool.{Bool, true, false}
 use mathlib.Core.List.{List, [], _∷_, _++_}
 use Prim.Native.Nat.{ℕ, zero, suc, _+_, _*_, _<_, _≤_}
 use native.Mathlib.Omega.{arith}
-use lib.ListN.{length, getD}
+use lib.ListN.{length, getD, take, drop, length-take, length-drop}
+use lib.Seq.{ext-getD, getD-take, getD-drop}
 use Rattle.records.specs.Lists.{table}
-use Rattle.records.specs.Store.{Term, Cell, noTerm, noCell, termIn, cellIn}
-use Rattle.records.specs.View.{termAt, cellAt, termsView, cellsView, charsView, pairsView}
-use Rattle.records.proofs.Lists.{table-at, table-past}
+use Rattle.records.specs.Store.{Term, Cell, noTerm, noCell, termIn, cellIn, textIn}
+use Rattle.records.specs.View.{termAt, cellAt, termsView, cellsView, charsView, pairsView, span}
+use Rattle.records.proofs.Lists.{table-at, table-past, table-length}
 
 -- a counted term is read from its words, and no other number names one
 pub term-is : (l : List ℕ) (n t : ℕ) → 0 < t → t ≤ n → termIn (termsView l n) t ≡ termAt l t
@@ -34,3 +35,16 @@ pub cell-past : (l : List ℕ) (n c : ℕ) → n < c → cellIn (cellsView l n) 
 unfolding cellIn
 cell-past l n zero q = absurd (omega arith)
 cell-past l n (suc c) q = table-past (λ i. cellAt l (suc i)) n c noCell (omega arith)
+
+-- a text within the count is read from its words
+pub text-span : (l : List ℕ) (n : ℕ) (t : Term) → t .first + t .second ≤ n → textIn (charsView l n) t ≡ span l (t .first) (t .second)
+unfolding textIn
+text-span l n t h =
+    let k = table-length (λ i. getD l i 0) n in
+    let e : length (take (t .second) (drop (t .first) (charsView l n))) ≡ length (span l (t .first) (t .second))
+    = simp (length-take, length-drop, table-length) (omega arith) in
+    let m = table-length (λ i. getD l (t .first + i) 0) (t .second) in
+    ext-getD 0 _ _ e (λ i q.
+    let r : i < t .second = omega arith in
+    getD-take (t .second) (drop (t .first) (charsView l n)) i 0 r ∙ getD-drop (t .first) (charsView l n) i 0
+    ∙ table-at (λ j. getD l j 0) n (t .first + i) 0 (omega arith) ∙ sym (table-at (λ j. getD l (t .first + j) 0) (t .second) i 0 r))

@@ -67,6 +67,10 @@ charsView l n = table (λ i. getD l i 0) n
 abbrev pub pairsView : List ℕ → ℕ → List (ℕ × ℕ)
 pairsView l n = table (pairAt l) n
 
+-- n words of a slice from a place on: a text, where it is within what is counted (proofs/Views.antt, `text-span`)
+abbrev pub span : List ℕ → ℕ → ℕ → List ℕ
+span l p n = table (λ i. getD l (p + i) 0) n
+
 -- how many records fit a slice and its limit
 abbrev pub roomOf : Lent → Room
 roomOf m = record {

@@ -4,7 +4,13 @@ ghost use Prim.Native.Nat.{ℕ, _+_, _<_, _≤_};
 ghost use Rattle.records.specs.View.{termLimit, cellLimit, charLimit, reasonLimit, keyLimit, oneTerm, moreCells, moreChars, oneReason, oneKey, oneName};
 ghost use Rattle.records.specs.Make.{nameLimit};
 
+pub mod classes;
 pub mod fields;
+pub mod make;
+pub mod names;
+pub mod put;
+pub mod rules;
+pub mod text;
 
 pub const TERM_LIMIT: usize = 512;
 

@@ -1,0 +1,1 @@
+// Making terms: the lowest-numbered equal record, else one appended.

@@ -1,0 +1,1 @@
+// Names for new variables: `!strk` and a counter in decimal.

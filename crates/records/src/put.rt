@@ -1,0 +1,1 @@
+// Writing records above the counts: terms, cells, reasons and keys.

@@ -1,0 +1,1 @@
+// Texts: characters compared and copied.
