@@ -1,2 +1,4 @@
 pub mod Lists
 pub mod Views
+pub mod Rooms
+pub mod Puts
