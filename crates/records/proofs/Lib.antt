@@ -1,3 +1,5 @@
 pub mod Lists
 pub mod Views
+pub mod Rooms
+pub mod Puts
 pub mod Texts
