@@ -4,6 +4,7 @@ ghost use Prim.Native.Nat.{ℕ, _+_, _≤_};
 ghost use lib.ListN.{length};
 ghost use Rattle.records.specs.Lists.{sameWord};
 ghost use Rattle.records.specs.View.{span};
+ghost use Rattle.records.specs.Puts.{CharsPut};
 use crate::fields::word;
 
 // Whether the characters from place p on are w. A place past the end of the slice reads as 0.
@@ -37,4 +38,16 @@ fn text_past(chars: &[u32], at: usize, w: &[u32]) -> bool
         i += 1;
     }
     true
+}
+
+// Characters w from place `at` on.
+pub fn put_text_unchecked(chars: &mut [u32], at: usize, w: &[u32])
+    requires { ⌜ at + length (now w) ≤ length (now chars) ⌝ }
+    ensures { λ _. ⌜ CharsPut (now (chars .entry)) (now (chars .exit)) at (now (w .entry)) ⌝ }
+{
+    let mut i: usize = 0;
+    while i < w.len() {
+        chars[at + i] = w[i];
+        i += 1;
+    }
 }
