@@ -3,3 +3,4 @@ pub mod Views
 pub mod Rooms
 pub mod Puts
 pub mod Texts
+pub mod Making
