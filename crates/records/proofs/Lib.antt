@@ -2,3 +2,5 @@ pub mod Lists
 pub mod Views
 pub mod Readings
 pub mod Grown
+pub mod Works
+pub mod Chains
