@@ -4,3 +4,7 @@ pub mod RuleLaws
 pub mod Rooms
 pub mod Puts
 pub mod Texts
+pub mod Readings
+pub mod Grown
+pub mod Works
+pub mod Chains
