@@ -5,3 +5,7 @@ pub mod Rooms
 pub mod Puts
 pub mod Texts
 pub mod Making
+pub mod Readings
+pub mod Grown
+pub mod Works
+pub mod Chains
