@@ -6,15 +6,17 @@ ghost use Prim.Native.Nat.{ℕ, _+_, _*_, _<_, _≤_};
 ghost use lib.ListN.{length};
 ghost use lib.Dec.{leb};
 ghost use Rattle.records.specs.Lists.{all};
-ghost use Rattle.records.specs.Store.{termIn, within, term, cell, chain};
-ghost use Rattle.records.specs.View.{lent, storeOf, termsView, charsView, pairsView, termLimit, cellLimit, charLimit, reasonLimit, keyLimit, sizes};
-ghost use Rattle.records.specs.Rules.{isChar, isNumber, reasonRule, keyRule, cellRule, textRule, partRule, concatRule, lengthRule, isEquatable, equationRule, eachCell};
+ghost use Rattle.records.specs.Store.{termIn, within, term, cell, chain, text};
+ghost use Rattle.records.specs.View.{lent, storeOf, termsView, charsView, pairsView, span, termLimit, cellLimit, charLimit, reasonLimit, keyLimit, sizes};
+ghost use Rattle.records.specs.Rules.{isChar, isNumber, reasonRule, keyRule, cellRule, textRule, named, nameRule, partRule, concatRule, lengthRule, isEquatable, equationRule, eachCell};
 use crate::CELL_LIMIT;
 use crate::CHAR_LIMIT;
 use crate::REASON_LIMIT;
 use crate::State;
 use crate::TERM_LIMIT;
+ghost use Rattle.records.specs.Marks.{markFrom, mark, Naming};
 use crate::fields;
+use crate::make::has_text;
 
 pub fn is_char(c: u32) -> bool
     ensures { λ r. ⌜ r ≡ isChar c ⌝ }
@@ -267,6 +269,70 @@ fn concat_ok(terms: &[u32], cells: &[u32], c: State, t: u32) -> bool
     }
     let f = fields::first(terms, t);
     parts_ok(terms, cells, c, t, f)
+}
+
+// NAMES
+
+fn text_mark(chars: &[u32], p: usize, n: usize) -> u32
+    requires { ⌜ p + n ≤ length (now chars) ⌝ }
+    ensures { λ r. ⌜ r ≡ markFrom 1 (span (now (chars .entry)) p n) ⌝ }
+{
+    let mut h: usize = 1;
+    let mut i: usize = 0;
+    while i < n {
+        h = (69069 * h + h / 65536 + fields::wide(chars[p + i])) % 4294967291;
+        i += 1;
+    }
+    h as u32
+}
+
+fn name_mark(terms: &[u32], chars: &[u32], c: State, t: u32) -> u32
+    requires { ⌜ (within (c .terms) t ≡ true) × (c .chars ≤ length (now chars)) ⌝ }
+    ensures { λ r. ⌜ r ≡ mark (storeOf (lent (now (terms .entry)) [] (now (chars .entry)) [] []) c) t ⌝ }
+{
+    let k = fields::kind(terms, t);
+    if k != 2 {
+        return 0;
+    }
+    if !text_ok(terms, c, t) {
+        return 0;
+    }
+    let p = fields::wide(fields::first(terms, t));
+    let n = fields::wide(fields::second(terms, t));
+    text_mark(chars, p, n)
+}
+
+// Whether u is a variable of t's name; m is the mark of t.
+fn is_named(terms: &[u32], chars: &[u32], c: State, marks: &[u32], m: u32, t: u32, u: u32) -> bool
+    requires { ⌜ Naming (storeOf (lent (now terms) [] (now chars) [] []) c) (now chars) (now marks) m t × (0 < u) × (u < t) ⌝ }
+    ensures { λ r. do
+      let s = storeOf (lent (now (terms .entry)) [] (now (chars .entry)) [] []) c
+      ⌜ r ≡ named (text s t) s u ⌝ }
+{
+    if marks[u as usize] != m {
+        return false;
+    }
+    let p = fields::wide(fields::first(terms, t));
+    let n = fields::wide(fields::second(terms, t));
+    has_text(terms, chars, u, 2, &chars[p..p + n])
+}
+
+fn name_ok(terms: &[u32], chars: &[u32], c: State, marks: &[u32], m: u32, t: u32) -> bool
+    requires { ⌜ Naming (storeOf (lent (now terms) [] (now chars) [] []) c) (now chars) (now marks) m t ⌝ }
+    ensures { λ r. ⌜ r ≡ nameRule (storeOf (lent (now (terms .entry)) [] (now (chars .entry)) [] []) c) t ⌝ }
+{
+    let n = fields::second(terms, t);
+    if n == 0 {
+        return false;
+    }
+    let mut u: u32 = 1;
+    while u < t {
+        if is_named(terms, chars, c, marks, m, t, u) {
+            return false;
+        }
+        u += 1;
+    }
+    true
 }
 
 // RULES OF EVERY RECORD
