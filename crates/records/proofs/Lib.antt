@@ -2,6 +2,7 @@ pub mod Lists
 pub mod Views
 pub mod RuleLaws
 pub mod NameLaws
+pub mod TermLaws
 pub mod Rooms
 pub mod Puts
 pub mod Texts

@@ -98,7 +98,7 @@ module _ (l h : List ℕ) (c : State) where
     named-mark u l e =
         let v = both-left (isVariable here u) _ e in
         let w = word-is _ _ (both-right (isVariable here u) _ e) in
-        a .lower .marked u l ∙ mark-text u v (a .lower .texts u l v) ∙ ap (markFrom 1) w ∙ sym (mark-text t (a .variable) (a .fits)) ∙ sym (a .marked)
+        a .marking .lower .marked u l ∙ mark-text u v (a .marking .lower .texts u l v) ∙ ap (markFrom 1) w ∙ sym (mark-text t (a .variable) (a .fits)) ∙ sym (a .marking .marked)
 
     pub named-other : (u : ℕ) → u < t → (getD marks u 0 ≡ m → ⊥) → false ≡ named (text here t) here u
     named-other u l z = decide (named (text here t) here u) (λ e. absurd (z (named-mark u l e))) (λ e. sym e)
@@ -109,7 +109,7 @@ module _ (l h : List ℕ) (c : State) where
         let i = term-is l (c .terms) u z (let j = within-high _ t (variable-within t (a .variable)) in omega arith) in
         e ∙ ap (λ (r : Term). eqb (r .kind) 2 && sameWord (span h (r .first) (r .second)) w) (sym i)
         ∙ ap (λ (v : List ℕ). eqb (term here u .kind) 2 && sameWord (span h (term here u .first) (term here u .second)) v) f
-        ∙ guarded (term here u .kind) _ _ _ (λ v. text-is u (a .lower .texts u q v))
+        ∙ guarded (term here u .kind) _ _ _ (λ v. text-is u (a .marking .lower .texts u q v))
 
     -- the words lent for it
     module _ (p n : ℕ) (ep : p ≡ getD l (8 * t + 1) 0) (en : n ≡ getD l (8 * t + 2) 0) where
@@ -120,7 +120,7 @@ module _ (l h : List ℕ) (c : State) where
           let j = second-at l (c .terms) t n w en in
           let e = text-ends t (a .fits) in
           let k = table-length (λ i. getD h i 0) (c .chars) in
-          let r = a .room in omega arith
+          let r = a .marking .room in omega arith
 
       pub name-part : take ((p + n) - p) (drop p h) ≡ text here t
       name-part =

@@ -25,11 +25,15 @@ pub record Lower (s : Store) (marks : List ℕ) (t : ℕ) : Type 0 where
   pub texts : (u : ℕ) → u < t → isVariable s u ≡ true → textRule s u ≡ true
   pub marked : (u : ℕ) → u < t → getD marks u 0 ≡ mark s u
 
--- t is a variable of mark m whose name is to be looked for below it
-pub record Naming (s : Store) (chars marks : List ℕ) (m t : ℕ) : Type 0 where
-  pub variable : isVariable s t ≡ true
-  pub fits : textRule s t ≡ true
+-- t has mark m, and there is room to read its text and the marks below it
+pub record Marking (s : Store) (chars marks : List ℕ) (m t : ℕ) : Type 0 where
   pub room : length (s .chars) ≤ length chars
   pub table : t ≤ length marks
   pub marked : m ≡ mark s t
   pub lower : Lower s marks t
+
+-- t is a variable whose name is to be looked for below it
+pub record Naming (s : Store) (chars marks : List ℕ) (m t : ℕ) : Type 0 where
+  pub variable : isVariable s t ≡ true
+  pub fits : textRule s t ≡ true
+  pub marking : Marking s chars marks m t

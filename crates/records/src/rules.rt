@@ -6,15 +6,16 @@ ghost use Prim.Native.Nat.{ℕ, _+_, _*_, _<_, _≤_};
 ghost use lib.ListN.{length};
 ghost use lib.Dec.{leb};
 ghost use Rattle.records.specs.Lists.{all};
-ghost use Rattle.records.specs.Store.{termIn, within, term, cell, chain, text};
+ghost use Rattle.records.specs.Store.{termIn, within, term, cell, chain, isVariable, text};
 ghost use Rattle.records.specs.View.{lent, storeOf, termsView, charsView, pairsView, span, termLimit, cellLimit, charLimit, reasonLimit, keyLimit, sizes};
-ghost use Rattle.records.specs.Rules.{isChar, isNumber, reasonRule, keyRule, cellRule, textRule, named, nameRule, partRule, concatRule, lengthRule, isEquatable, equationRule, eachCell};
+ghost use Rattle.records.specs.Rules.{isChar, isNumber, reasonRule, keyRule, cellRule, textRule, named, nameRule, partRule, concatRule, lengthRule, isEquatable, equationRule, termRule, recordsRule, eachTerm, eachCell};
 use crate::CELL_LIMIT;
 use crate::CHAR_LIMIT;
 use crate::REASON_LIMIT;
 use crate::State;
 use crate::TERM_LIMIT;
-ghost use Rattle.records.specs.Marks.{markFrom, mark, Naming};
+ghost use Rattle.records.specs.Marks.{markFrom, mark, Marking, Naming};
+ghost use Rattle.records.specs.Audited.{Sized};
 use crate::fields;
 use crate::make::has_text;
 
@@ -335,6 +336,42 @@ fn name_ok(terms: &[u32], chars: &[u32], c: State, marks: &[u32], m: u32, t: u32
     true
 }
 
+fn variable_ok(terms: &[u32], chars: &[u32], c: State, marks: &[u32], m: u32, t: u32) -> bool
+    requires { ⌜ Marking (storeOf (lent (now terms) [] (now chars) [] []) c) (now chars) (now marks) m t × (isVariable (storeOf (lent (now terms) [] (now chars) [] []) c) t ≡ true) ⌝ }
+    ensures { λ r. do
+      let s = storeOf (lent (now (terms .entry)) [] (now (chars .entry)) [] []) c
+      ⌜ r ≡ (textRule s t && nameRule s t) ⌝ }
+{
+    if !text_ok(terms, c, t) {
+        return false;
+    }
+    name_ok(terms, chars, c, marks, m, t)
+}
+
+// The first three words of term t; m is its mark.
+fn term_ok(
+    terms: &[u32],
+    cells: &[u32],
+    chars: &[u32],
+    c: State,
+    marks: &[u32],
+    m: u32,
+    t: u32,
+) -> bool
+    requires { ⌜ (within (c .terms) t ≡ true) × Marking (storeOf (lent (now terms) [] (now chars) [] []) c) (now chars) (now marks) m t ⌝ }
+    ensures { λ r. ⌜ r ≡ termRule (storeOf (lent (now (terms .entry)) (now (cells .entry)) (now (chars .entry)) [] []) c) t ⌝ }
+{
+    let k = fields::kind(terms, t);
+    match k {
+        1 => text_ok(terms, c, t),
+        2 => variable_ok(terms, chars, c, marks, m, t),
+        3 => concat_ok(terms, cells, c, t),
+        4 => length_ok(terms, c, t),
+        5 => equation_ok(terms, c, t),
+        _ => false,
+    }
+}
+
 // RULES OF EVERY RECORD
 
 fn cells_ok(cells: &[u32], c: State) -> bool
@@ -400,4 +437,50 @@ fn keys_ok(terms: &[u32], keys: &[u32], c: State) -> bool
         i += 1;
     }
     true
+}
+
+fn terms_ok(terms: &[u32], cells: &[u32], chars: &[u32], c: State) -> bool
+    requires { ⌜ (c .terms ≤ termLimit) × (c .chars ≤ length (now chars)) ⌝ }
+    ensures { λ r. do
+      let s = storeOf (lent (now (terms .entry)) (now (cells .entry)) (now (chars .entry)) [] []) c
+      ⌜ r ≡ eachTerm s (termRule s) ⌝ }
+{
+    let mut marks: [u32; 513] = [0; 513];
+    let mut i: usize = 0;
+    while i < c.terms {
+        let t = (i + 1) as u32;
+        let m = name_mark(terms, chars, c, t);
+        if !term_ok(terms, cells, chars, c, &marks, m, t) {
+            return false;
+        }
+        marks[i + 1] = m;
+        i += 1;
+    }
+    true
+}
+
+pub(crate) fn records_ok(
+    terms: &[u32],
+    cells: &[u32],
+    chars: &[u32],
+    reasons: &[u32],
+    keys: &[u32],
+    c: State,
+) -> bool
+    requires { ⌜ Sized (lent (now terms) (now cells) (now chars) (now reasons) (now keys)) c ⌝ }
+    ensures { λ r. ⌜ r ≡ recordsRule (storeOf (lent (now (terms .entry)) (now (cells .entry)) (now (chars .entry)) (now (reasons .entry)) (now (keys .entry))) c) ⌝ }
+{
+    if !terms_ok(terms, cells, chars, c) {
+        return false;
+    }
+    if !cells_ok(cells, c) {
+        return false;
+    }
+    if !chars_ok(chars, c.chars) {
+        return false;
+    }
+    if !reasons_ok(reasons, c.reasons) {
+        return false;
+    }
+    keys_ok(terms, keys, c)
 }

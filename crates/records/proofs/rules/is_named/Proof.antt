@@ -9,10 +9,10 @@ use Rattle.records.proofs.rules.is_named.Statement.{statement}
 use Rattle.records.proofs.rules.is_named.Tie as tie
 
 mul-if1 : tie.Need-mul-if1
-mul-if1 c = omega (arith, c .before .before .before .pre .0 .table, c .before .before .before .pre .2)
+mul-if1 c = omega (arith, c .before .before .before .pre .0 .marking .table, c .before .before .before .pre .2)
 
 shared-slice-read-if1 : tie.Need-shared-slice-read-if1
-shared-slice-read-if1 c = omega (arith, c .before .before .before .before .pre .0 .table, c .before .before .before .before .pre .2)
+shared-slice-read-if1 c = omega (arith, c .before .before .before .before .pre .0 .marking .table, c .before .before .before .before .pre .2)
 
 returns : tie.Need-returns
 returns c = named-other (c .before .before .before .before .before .args .terms .now) (c .before .before .before .before .before .args .chars .now) (c .before .before .before .before .before .args .c) (c .before .before .before .before .before .args .marks .now) (c .before .before .before .before .before .args .m) (c .before .before .before .before .before .args .t) (c .before .before .before .before .before .pre .0) (c .before .before .before .before .before .args .u) (c .before .before .before .before .before .pre .2) (c .if1 .taken)

@@ -1,0 +1,62 @@
+use Rattle.records.proofs.TermLaws.{term-constant, term-variable, term-concat, term-length, term-equation, term-other, text-of, variable-of, concat-of, length-of, equation-of}
+use Rattle.records.proofs.Views.{kind-at}
+use Rattle.records.specs.View.{lent, storeOf}
+use borrow.Author.Tests.{eq-eqb}
+use mathlib.Core.List.{[]}
+use mathlib.Core.Path.{_∙_, sym}
+use borrow.Author.Needs.{needs}
+use Rattle.records.proofs.rules.term_ok.Statement.{statement}
+use Rattle.records.proofs.rules.term_ok.Tie as tie
+
+kind-requires : tie.Need-kind-requires
+kind-requires c κs = search needs
+
+text-ok-requires : tie.Need-text-ok-requires
+text-ok-requires c κs = search needs
+
+variable-ok-requires : tie.Need-variable-ok-requires
+variable-ok-requires c κs = (c .before .before .before .before .before .before .pre .1, eq-eqb _ 2 (sym (kind-at (c .before .before .before .before .before .before .args .terms .now) _ _ _ (c .before .before .before .before .before .before .pre .0) (c .before .kind .ensures)) ∙ c .match .keys2))
+
+concat-ok-requires : tie.Need-concat-ok-requires
+concat-ok-requires c κs = search needs
+
+length-ok-requires : tie.Need-length-ok-requires
+length-ok-requires c κs = search needs
+
+equation-ok-requires : tie.Need-equation-ok-requires
+equation-ok-requires c κs = search needs
+
+returns : tie.Need-returns
+returns c = term-constant _ _ _ _ (kind-at (c .before .before .before .before .before .before .before .args .terms .now) _ _ _ (c .before .before .before .before .before .before .before .pre .0) (c .before .before .kind .ensures)) (c .before .match .keys1) (c .text-ok .ensures ∙ text-of (c .before .before .before .before .before .before .before .args .terms .now) (c .before .before .before .before .before .before .before .args .cells .now) (c .before .before .before .before .before .before .before .args .chars .now) (c .before .before .before .before .before .before .before .args .c) (c .before .before .before .before .before .before .before .args .t))
+
+returns-2 : tie.Need-returns-2
+returns-2 c = term-variable _ _ _ _ (kind-at (c .before .before .before .before .before .before .before .args .terms .now) _ _ _ (c .before .before .before .before .before .before .before .pre .0) (c .before .before .kind .ensures)) (c .before .match .keys2) (c .variable-ok .ensures ∙ variable-of (c .before .before .before .before .before .before .before .args .terms .now) (c .before .before .before .before .before .before .before .args .cells .now) (c .before .before .before .before .before .before .before .args .chars .now) (c .before .before .before .before .before .before .before .args .c) (c .before .before .before .before .before .before .before .args .t))
+
+returns-3 : tie.Need-returns-3
+returns-3 c = term-concat _ _ _ _ (kind-at (c .before .before .before .before .before .before .before .args .terms .now) _ _ _ (c .before .before .before .before .before .before .before .pre .0) (c .before .before .kind .ensures)) (c .before .match .keys3) (c .concat-ok .ensures ∙ concat-of (c .before .before .before .before .before .before .before .args .terms .now) (c .before .before .before .before .before .before .before .args .cells .now) (c .before .before .before .before .before .before .before .args .chars .now) (c .before .before .before .before .before .before .before .args .c) (c .before .before .before .before .before .before .before .args .t))
+
+returns-4 : tie.Need-returns-4
+returns-4 c = term-length _ _ _ _ (kind-at (c .before .before .before .before .before .before .before .args .terms .now) _ _ _ (c .before .before .before .before .before .before .before .pre .0) (c .before .before .kind .ensures)) (c .before .match .keys4) (c .length-ok .ensures ∙ length-of (c .before .before .before .before .before .before .before .args .terms .now) (c .before .before .before .before .before .before .before .args .cells .now) (c .before .before .before .before .before .before .before .args .chars .now) (c .before .before .before .before .before .before .before .args .c) (c .before .before .before .before .before .before .before .args .t))
+
+returns-5 : tie.Need-returns-5
+returns-5 c = term-equation _ _ _ _ (kind-at (c .before .before .before .before .before .before .before .args .terms .now) _ _ _ (c .before .before .before .before .before .before .before .pre .0) (c .before .before .kind .ensures)) (c .before .match .keys5) (c .equation-ok .ensures ∙ equation-of (c .before .before .before .before .before .before .before .args .terms .now) (c .before .before .before .before .before .before .before .args .cells .now) (c .before .before .before .before .before .before .before .args .chars .now) (c .before .before .before .before .before .before .before .args .c) (c .before .before .before .before .before .before .before .args .t))
+
+returns-6 : tie.Need-returns-6
+returns-6 c = term-other (storeOf (lent (c .before .before .before .before .before .before .args .terms .now) (c .before .before .before .before .before .before .args .cells .now) (c .before .before .before .before .before .before .args .chars .now) [] []) (c .before .before .before .before .before .before .args .c)) (c .before .before .before .before .before .before .args .t) _ (kind-at (c .before .before .before .before .before .before .args .terms .now) _ _ _ (c .before .before .before .before .before .before .pre .0) (c .before .kind .ensures)) (c .match .rest .0 .0 .0 .0 .1) (c .match .rest .0 .0 .0 .1) (c .match .rest .0 .0 .1) (c .match .rest .0 .1) (c .match .rest .1)
+
+pub term-ok-spec : {M : Type 1} → statement M
+term-ok-spec =
+    tie.close
+    (tie.spec
+    kind-requires
+    text-ok-requires
+    variable-ok-requires
+    concat-ok-requires
+    length-ok-requires
+    equation-ok-requires
+    returns
+    returns-2
+    returns-3
+    returns-4
+    returns-5
+    returns-6)
