@@ -5,16 +5,17 @@ use mathlib.Core.List.{List}
 use mathlib.Core.Logic.{inl, inr, ⊎-elim}
 use Prim.Native.Nat.{ℕ, zero, suc, _≤_, _<_}
 use native.Mathlib.Omega.{arith}
-use lib.ListN.{length, List·getD-eq-default}
+use lib.ListN.{length}
 use lib.Dec.{eqb, ltb, leb}
 use borrow.Author.Tests.{not-true, eqb-true, eq-eqb, ltb-true, ltb-false, lt-ltb, leb-true, leb-false, le-leb}
 use Rattle.records.specs.declared.State.{State}
 use Rattle.records.specs.Lists.{if_then_else_, all, allBelow}
-use Rattle.records.specs.Store.{Term, noTerm, Store, termIn, term, cell, count, kind, within, isTerm, isString, text, chain, root, sameClass, isEdge}
+use Rattle.records.specs.Store.{Term, noTerm, Store, term, cell, count, kind, within, isTerm, isString, text, chain, root, sameClass, isEdge}
 use Rattle.records.specs.View.{Lent, storeOf, sizes}
 use Rattle.records.specs.Rules.{eachTerm, isNumber, cellRule, textRule, named, nameRule, partRule, concatRule, lengthRule, isEquatable, equationRule, termRule, recordsRule, parentsRule, endsRule, alikeRule, aloneRule, labelRule, classesRule, pairsOf, fallsRule, congruenceRule, isCongruence, congruencesRule, auditStore, audit}
 use Rattle.records.specs.Audited.{Part, Next, last, later, Label, asserted, interface, congruence, definitional, Unlabelled, Falls, Pairs, Congruent, Recorded, Classed, Congruences, Roomy, Audited, Sized, Ready}
 use Rattle.records.proofs.Lists.{both-left, both-right, both-true, either, or-left, or-right, clash, decide, within-low, within-high, within-is, below-at, below-all, table-length, word-is, word-same, every-map, all-every, every-all}
+use Rattle.records.proofs.Grown.{term-past, term-zero, kind-term}
 
 -- TESTS
 
@@ -102,16 +103,13 @@ sized-after m m′ c c′ z e f r =
 
 -- NUMBERS OF TERMS
 
+pub no-term : (s : Store) (t : ℕ) → isTerm s t ≡ false → term s t ≡ noTerm
+no-term s zero w = term-zero s
+no-term s (suc t) w = decide (leb (suc t) (count s)) (λ h. clash (within-is (count s) (suc t) (omega arith) (leb-true _ _ h)) w) (λ h. term-past s (suc t) (leb-false _ _ h))
+
 -- a number whose record has a word other than 0 names a term
 pub word-term : (s : Store) (word : Term → ℕ) (t k : ℕ) → word noTerm ≡ 0 → word (term s t) ≡ suc k → isTerm s t ≡ true
-unfolding termIn
-word-term s word zero k z e = absurd (omega arith)
-word-term s word (suc t) k z e = decide (leb (suc t) (count s)) (λ h. within-is (count s) (suc t) (omega arith) (leb-true _ _ h))
-    (λ h. let g = leb-false (suc t) (count s) h in
-    let p = ap word (List·getD-eq-default (s .terms) noTerm {n = t} (omega arith)) in absurd (omega arith))
-
-kind-term : (s : Store) (t k : ℕ) → kind s t ≡ suc k → isTerm s t ≡ true
-kind-term s t k e = word-term s (λ x. x .kind) t k refl e
+word-term s word t k z e = decide (isTerm s t) (λ w. w) (λ w. let p = ap word (no-term s t w) in absurd (omega arith))
 
 -- RECORDS
 
