@@ -4,6 +4,7 @@ pub mod RuleLaws
 pub mod Rooms
 pub mod Puts
 pub mod Texts
+pub mod Making
 pub mod Readings
 pub mod Grown
 pub mod Works
