@@ -1,3 +1,4 @@
 pub mod Lists
 pub mod Views
 pub mod Climbs
+pub mod Paths
