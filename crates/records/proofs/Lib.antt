@@ -2,3 +2,4 @@ pub mod Lists
 pub mod Views
 pub mod Climbs
 pub mod Paths
+pub mod RuleLaws
