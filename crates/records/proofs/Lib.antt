@@ -3,3 +3,4 @@ pub mod Views
 pub mod Climbs
 pub mod Paths
 pub mod RuleLaws
+pub mod ClassLaws
