@@ -12,3 +12,4 @@ pub mod Grown
 pub mod Works
 pub mod Chains
 pub mod ClassLaws
+pub mod Passed
