@@ -145,7 +145,7 @@ module _ (s : Store) (ds : List Cell) (hs : List ℕ) (k a b : ℕ) where
   abbrev s′ : Store
   s′ = grow s ds hs k a b
 
-  longer : count s′ ≡ n
+  pub longer : count s′ ≡ n
   longer = length-append (s .terms) _ ∙ omega arith
 
   pub old-term : (t : ℕ) → t ≤ count s → term s′ t ≡ term s t
@@ -157,7 +157,7 @@ module _ (s : Store) (ds : List Cell) (hs : List ℕ) (k a b : ℕ) where
   new-term = getD-append-seam (noTerm ∷ s .terms) _ [] noTerm
 
   -- a number names an old term or 0, the new one, or none
-  each-number : {P : ℕ → Type 0} → ((t : ℕ) → t ≤ count s → P t) → P n → ((t : ℕ) → n < t → P t) → (t : ℕ) → P t
+  pub each-number : {P : ℕ → Type 0} → ((t : ℕ) → t ≤ count s → P t) → P n → ((t : ℕ) → n < t → P t) → (t : ℕ) → P t
   each-number {P} f g h t = go (decLe t (count s)) (decLe t n)
     where
       go : Dec (t ≤ count s) → Dec (t ≤ n) → P t
@@ -178,15 +178,15 @@ module _ (s : Store) (ds : List Cell) (hs : List ℕ) (k a b : ℕ) where
       (λ t h e. let q = within-high _ t e in let l = longer in absurd (omega arith))
 
   -- and likewise for those of one kind
-  each-kind : {P : ℕ → Type 0} (j : ℕ) → ((t : ℕ) → kind s t ≡ suc j → P t) → (k ≡ suc j → P n) → (t : ℕ) → kind s′ t ≡ suc j → P t
+  pub each-kind : {P : ℕ → Type 0} (j : ℕ) → ((t : ℕ) → kind s t ≡ suc j → P t) → (k ≡ suc j → P n) → (t : ℕ) → kind s′ t ≡ suc j → P t
   each-kind {P} j f g =
       each-number {P = λ t. kind s′ t ≡ suc j → P t} (λ t h e. f t (sym (ap (λ (x : Term). x .kind) (old-term t h)) ∙ e)) (λ e. g (sym (ap (λ (x : Term). x .kind) new-term) ∙ e))
       (λ t h e. let q = present s′ t j e in let l = longer in absurd (omega arith))
 
-  at-old : (P : Term → Type 0) (t : ℕ) → t ≤ count s → P (term s t) → P (term s′ t)
+  pub at-old : (P : Term → Type 0) (t : ℕ) → t ≤ count s → P (term s t) → P (term s′ t)
   at-old P t h = subst P (sym (old-term t h))
 
-  at-new : (P : Term → Type 0) → P (own n k a b) → P (term s′ n)
+  pub at-new : (P : Term → Type 0) → P (own n k a b) → P (term s′ n)
   at-new P = subst P (sym new-term)
 
   old-string : (t : ℕ) → isString s t ≡ true → isString s′ t ≡ true
@@ -351,10 +351,10 @@ module _ (s : Store) (ds : List Cell) (hs : List ℕ) (k a b : ℕ) where
   new-is-term : isTerm s′ n ≡ true
   new-is-term = let l = longer in within-is (count s′) n (omega arith) (omega arith)
 
-  old-edge : (t : ℕ) → isTerm s t ≡ true → isEdge s′ t ≡ isEdge s t
+  pub old-edge : (t : ℕ) → isTerm s t ≡ true → isEdge s′ t ≡ isEdge s t
   old-edge t e = ap (λ (x : Term). not (eqb (x .forestParent) t)) (old-term t (within-high _ t e))
 
-  new-edge : isEdge s′ n ≡ false
+  pub new-edge : isEdge s′ n ≡ false
   new-edge = ap (λ (x : Term). not (eqb (x .forestParent) n)) new-term ∙ ap not (eq-eqb n n refl)
 
   label-kept : (t : ℕ) → t ≤ count s → Label s t → Label s′ t

@@ -5,3 +5,4 @@ pub mod Grown
 pub mod Works
 pub mod Chains
 pub mod Append
+pub mod Extend
