@@ -6,3 +6,4 @@ pub mod Works
 pub mod Chains
 pub mod Append
 pub mod Extend
+pub mod Beside
