@@ -7,3 +7,4 @@ pub mod Chains
 pub mod Append
 pub mod Extend
 pub mod Beside
+pub mod Kept
