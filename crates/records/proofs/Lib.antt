@@ -13,3 +13,7 @@ pub mod Works
 pub mod Chains
 pub mod ClassLaws
 pub mod Passed
+pub mod Append
+pub mod Extend
+pub mod Beside
+pub mod Kept
