@@ -1,6 +1,10 @@
 pub mod Lists
 pub mod Views
 pub mod Climbs
+pub mod RuleLaws
+pub mod Rooms
+pub mod Puts
+pub mod Texts
 pub mod Readings
 pub mod Grown
 pub mod Works

@@ -1,1 +1,34 @@
 // Writing records above the counts: terms, cells, reasons and keys.
+ghost use mathlib.Core.Path.{_≡_};
+ghost use Prim.Native.Nat.{ℕ, suc, _+_, _*_, _<_, _≤_};
+ghost use lib.Dec.{ltb, leb};
+ghost use lib.ListN.{length};
+ghost use Rattle.records.specs.View.{termLimit, termRoom};
+ghost use Rattle.records.specs.Puts.{TermPut};
+
+// One term more fits.
+pub fn term_fits(terms: &[u32], n: usize) -> bool
+    ensures { λ r. ⌜ r ≡ ltb n (termRoom (now (terms .entry))) ⌝ }
+{
+    if n < crate::TERM_LIMIT {
+        return 8 * (n + 2) <= terms.len();
+    }
+    false
+}
+
+// Record n + 1, which is its own class: the words above the count are free, so all eight are written.
+pub fn put_term_unchecked(terms: &mut [u32], n: usize, kind: u32, first: u32, second: u32)
+    requires { ⌜ n < termLimit ⌝ ∗ ⌜ 8 * (n + 2) ≤ length (now terms) ⌝ }
+    ensures { λ _. ⌜ TermPut (now (terms .entry)) (now (terms .exit)) n kind first second ⌝ }
+{
+    let at = 8 * (n + 1);
+    let own = (n + 1) as u32;
+    terms[at] = kind;
+    terms[at + 1] = first;
+    terms[at + 2] = second;
+    terms[at + 3] = own;
+    terms[at + 4] = own;
+    terms[at + 5] = 0;
+    terms[at + 6] = 0;
+    terms[at + 7] = 0;
+}
