@@ -1,10 +1,14 @@
 // Writing records above the counts: terms, cells, reasons and keys.
 ghost use mathlib.Core.Path.{_≡_};
-ghost use Prim.Native.Nat.{ℕ, suc, _+_, _*_, _<_, _≤_};
+ghost use Prim.Native.Nat.{ℕ, suc, _+_, _*_, _/_, _<_, _≤_, min, max};
 ghost use lib.Dec.{ltb, leb};
 ghost use lib.ListN.{length};
-ghost use Rattle.records.specs.View.{termLimit, termRoom};
-ghost use Rattle.records.specs.Puts.{TermPut};
+ghost use Rattle.records.specs.Lists.{any};
+ghost use Rattle.records.specs.View.{termLimit, termRoom, pairAt, pairsView, lent};
+ghost use Rattle.records.specs.Make.{addReason, addKey, ordered, samePair};
+ghost use Rattle.records.specs.Puts.{TermPut, PairPut, Pushed};
+ghost use Rattle.records.specs.Audited.{Sized};
+ghost use Rattle.records.specs.Calls.{Working, added};
 
 // One term more fits.
 pub fn term_fits(terms: &[u32], n: usize) -> bool
@@ -31,4 +35,33 @@ pub fn put_term_unchecked(terms: &mut [u32], n: usize, kind: u32, first: u32, se
     terms[at + 5] = 0;
     terms[at + 6] = 0;
     terms[at + 7] = 0;
+}
+
+// One pair more fits a slice and a limit.
+fn pair_fits(pairs: &[u32], limit: usize, n: usize) -> bool
+    ensures { λ r. ⌜ r ≡ ltb n (min limit (length (now (pairs .entry)) / 2)) ⌝ }
+{
+    if n < limit {
+        return n < pairs.len() / 2;
+    }
+    false
+}
+
+fn push_pair(pairs: &mut [u32], n: usize, a: u32, b: u32)
+    requires { ⌜ n < length (now pairs) / 2 ⌝ }
+    ensures { λ _. ⌜ PairPut (now (pairs .entry)) (now (pairs .exit)) n a b ⌝ }
+{
+    pairs[2 * n] = a;
+    pairs[2 * n + 1] = b;
+}
+
+// A reason at the count, where one fits.
+pub fn push_reason_unchecked(reasons: &mut [u32], n: usize, kind: u32, value: u32) -> bool
+    ensures { λ r. ⌜ Pushed (now (reasons .entry)) (now (reasons .exit)) n kind value r ⌝ }
+{
+    if pair_fits(reasons, crate::REASON_LIMIT, n) {
+        push_pair(reasons, n, kind, value);
+        return true;
+    }
+    false
 }
