@@ -2,3 +2,4 @@ pub mod Lists
 pub mod Views
 pub mod Rooms
 pub mod Puts
+pub mod Adds

@@ -65,3 +65,21 @@ pub fn push_reason_unchecked(reasons: &mut [u32], n: usize, kind: u32, value: u3
     }
     false
 }
+
+pub fn add_reason_unchecked(
+    terms: &[u32],
+    cells: &[u32],
+    chars: &[u32],
+    reasons: &mut [u32],
+    keys: &[u32],
+    c: crate::State,
+    kind: u32,
+    value: u32,
+) -> crate::Added
+    ensures { λ r. ⌜ Working (addReason kind value) (lent (now (terms .entry)) (now (cells .entry)) (now (chars .entry)) (now (reasons .entry)) (now (keys .entry))) (lent (now (terms .entry)) (now (cells .entry)) (now (chars .entry)) (now (reasons .exit)) (now (keys .entry))) c (added r (lent (now (terms .entry)) (now (cells .entry)) (now (chars .entry)) (now (reasons .exit)) (now (keys .entry)))) ⌝ }
+{
+    if push_reason_unchecked(reasons, c.reasons, kind, value) {
+        return crate::Added::Counts(c.with_reason());
+    }
+    crate::Added::Refused(7)
+}
