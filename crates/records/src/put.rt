@@ -83,3 +83,71 @@ pub fn add_reason_unchecked(
     }
     crate::Added::Refused(7)
 }
+
+fn lower(a: u32, b: u32) -> u32
+    ensures { λ r. ⌜ r ≡ min a b ⌝ }
+{
+    if a < b {
+        return a;
+    }
+    b
+}
+
+fn higher(a: u32, b: u32) -> u32
+    ensures { λ r. ⌜ r ≡ max a b ⌝ }
+{
+    if a < b {
+        return b;
+    }
+    a
+}
+
+pub fn add_key_unchecked(
+    terms: &[u32],
+    cells: &[u32],
+    chars: &[u32],
+    reasons: &[u32],
+    keys: &mut [u32],
+    c: crate::State,
+    a: u32,
+    b: u32,
+) -> crate::Added
+    ensures { λ r. ⌜ Working (addKey a b) (lent (now (terms .entry)) (now (cells .entry)) (now (chars .entry)) (now (reasons .entry)) (now (keys .entry))) (lent (now (terms .entry)) (now (cells .entry)) (now (chars .entry)) (now (reasons .entry)) (now (keys .exit))) c (added r (lent (now (terms .entry)) (now (cells .entry)) (now (chars .entry)) (now (reasons .entry)) (now (keys .exit)))) ⌝ }
+{
+    if pair_fits(keys, crate::KEY_LIMIT, c.keys) {
+        push_pair(keys, c.keys, lower(a, b), higher(a, b));
+        return crate::Added::Counts(c.with_key());
+    }
+    crate::Added::Refused(8)
+}
+
+fn pair_is(pairs: &[u32], i: usize, a: u32, b: u32) -> bool
+    requires { ⌜ 2 * i + 2 ≤ length (now pairs) ⌝ }
+    ensures { λ r. ⌜ r ≡ samePair (a, b) (pairAt (now (pairs .entry)) i) ⌝ }
+{
+    if a == pairs[2 * i] {
+        return b == pairs[2 * i + 1];
+    }
+    false
+}
+
+fn has_pair(pairs: &[u32], n: usize, a: u32, b: u32) -> bool
+    requires { ⌜ 2 * n ≤ length (now pairs) ⌝ }
+    ensures { λ r. ⌜ r ≡ any (samePair (a, b)) (pairsView (now (pairs .entry)) n) ⌝ }
+{
+    let mut i: usize = 0;
+    while i < n {
+        if pair_is(pairs, i, a, b) {
+            return true;
+        }
+        i += 1;
+    }
+    false
+}
+
+pub fn is_key_unchecked(keys: &[u32], n: usize, a: u32, b: u32) -> bool
+    requires { ⌜ 2 * n ≤ length (now keys) ⌝ }
+    ensures { λ r. ⌜ r ≡ any (samePair (ordered a b)) (pairsView (now (keys .entry)) n) ⌝ }
+{
+    has_pair(keys, n, lower(a, b), higher(a, b))
+}
