@@ -1,5 +1,11 @@
 pub mod Lists
 pub mod Views
+pub mod RuleLaws
 pub mod Rooms
 pub mod Puts
 pub mod Adds
+pub mod Texts
+pub mod Readings
+pub mod Grown
+pub mod Works
+pub mod Chains

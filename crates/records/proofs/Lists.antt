@@ -8,11 +8,11 @@ use Prim.Native.Nat.{ℕ, zero, suc, _+_, _≤_, _<_}
 use native.Mathlib.Nat.{le-antisymm, eq-or-lt-of-le, le-of-suc-le-suc, not-suc-le-zero}
 use native.Mathlib.Numerals.{add-one}
 use native.Mathlib.Omega.{arith}
-use lib.ListN.{length, getD, length-append, List·getD-append, List·getD-eq-default}
+use lib.ListN.{length, take, drop, getD, length-append, List·getD-append, List·getD-eq-default}
 use lib.Seq.{getD-at}
 use lib.Dec.{eqb, ltb, leb}
 use borrow.Author.Tests.{not-true, not-false, eqb-true, eq-eqb, ltb-true, leb-true, lt-ltb, le-leb, le-ltb, lt-leb}
-use Rattle.records.specs.Lists.{if_then_else_, all, any, joined, table, sameWord, allBelow, firstBelow, Every, none-left, and}
+use Rattle.records.specs.Lists.{if_then_else_, all, any, joined, table, sameWord, firsts, seconds, allBelow, firstBelow, Every, none-left, and}
 use Rattle.records.specs.Store.{within}
 
 -- TESTS
@@ -311,3 +311,30 @@ module _ {A : Type 0} where
   unfolding all
   every-all none-left = refl
   every-all (and e k) = both-true _ _ e (every-all k)
+
+  pub all-take : (p : A → Bool) (n : ℕ) (l : List A) → all p l ≡ true → all p (take n l) ≡ true
+  unfolding all
+  all-take p zero l e = refl
+  all-take p (suc n) [] e = refl
+  all-take p (suc n) (x ∷ l) e = both-true _ _ (both-left (p x) _ e) (all-take p n l (both-right (p x) _ e))
+
+  pub all-drop : (p : A → Bool) (n : ℕ) (l : List A) → all p l ≡ true → all p (drop n l) ≡ true
+  unfolding all
+  all-drop p zero l e = e
+  all-drop p (suc n) [] e = e
+  all-drop p (suc n) (x ∷ l) e = all-drop p n l (both-right (p x) _ e)
+
+  pub joined-same : {B : Type 0} (f g : A → List B) {l : List A} → Every (λ a. f a ≡ g a) l → joined f l ≡ joined g l
+  unfolding joined
+  joined-same f g none-left = refl
+  joined-same f g (and {a} {l} e k) = let h = joined-same f g k in cc
+
+  pub all-joined : {B : Type 0} (p : B → Bool) (f : A → List B) (l : List A) → ((a : A) → all p (f a) ≡ true) → all p (joined f l) ≡ true
+  unfolding all joined
+  all-joined p f [] h = refl
+  all-joined p f (x ∷ l) h = all-append p (f x) (joined f l) ∙ both-true _ _ (h x) (all-joined p f l h)
+
+pub every-firsts : {P : ℕ × ℕ → Type 0} {Q : ℕ → Type 0} {l : List (ℕ × ℕ)} → ((p : ℕ × ℕ) → P p → Q (p .0)) → Every P l → Every Q (firsts l)
+unfolding firsts
+every-firsts f none-left = none-left
+every-firsts f (and {a} p k) = and (f a p) (every-firsts f k)

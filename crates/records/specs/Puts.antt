@@ -2,15 +2,21 @@
 use mathlib.Core.Path.{_≡_}
 use mathlib.Core.Bool.{Bool, true, false}
 use mathlib.Core.List.{List, [], _∷_, _++_}
-use Prim.Native.Nat.{ℕ, suc}
+use Prim.Native.Nat.{ℕ, suc, _+_}
+use lib.ListN.{length}
 use lib.Dec.{ltb}
-use Rattle.records.specs.View.{termsView, cellsView, pairsView, reasonRoom}
+use Rattle.records.specs.View.{termsView, cellsView, charsView, pairsView, reasonRoom}
 use Rattle.records.specs.Make.{own, chainFrom}
 
 -- record n + 1 of terms is now one that is its own class
 pub record TermPut (l l′ : List ℕ) (n kind first second : ℕ) : Type 0 where
   pub grown : termsView l′ (suc n) ≡ termsView l n ++ (own (suc n) kind first second ∷ [])
   pub kept : termsView l′ n ≡ termsView l n
+
+-- the characters from place n on are now w
+pub record CharsPut (l l′ : List ℕ) (n : ℕ) (w : List ℕ) : Type 0 where
+  pub grown : charsView l′ (n + length w) ≡ charsView l n ++ w
+  pub kept : charsView l′ n ≡ charsView l n
 
 -- pair n of reasons or of keys is now this one
 pub record PairPut (l l′ : List ℕ) (n a b : ℕ) : Type 0 where
