@@ -48,6 +48,14 @@ module _ (l : List ℕ) (n k : ℕ) (room : 3 * (n + 1) ≤ length l) where
   pub cells-short : length l < 3 * (n + k + 1) → leb (n + k) (cellRoom l) ≡ false
   cells-short h = lt-leb (n + k) (cellRoom l) (omega arith)
 
+  pub cells-test : k ≤ cellLimit - n → n ≤ cellLimit → leb (3 * (n + k + 1)) (length l) ≡ leb (n + k) (cellRoom l)
+  cells-test h g =
+      same-test _ _ (λ e. cells-fit (omega arith) (leb-true (3 * (n + k + 1)) (length l) e))
+      (λ e. le-leb (3 * (n + k + 1)) (length l) (cells-room true (sym e) refl))
+
+  pub cells-none : cellLimit - n < k → leb (n + k) (cellRoom l) ≡ false
+  cells-none h = cells-over (omega arith)
+
 -- k characters more
 module _ (l : List ℕ) (n k : ℕ) where
   pub chars-fit : n + k ≤ charLimit → n + k ≤ length l → leb (n + k) (charRoom l) ≡ true
