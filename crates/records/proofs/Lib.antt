@@ -9,3 +9,4 @@ pub mod Readings
 pub mod Grown
 pub mod Works
 pub mod Chains
+pub mod Making
