@@ -5,8 +5,8 @@ pub mod Rooms
 pub mod Puts
 pub mod Adds
 pub mod Texts
+pub mod Making
 pub mod Readings
 pub mod Grown
 pub mod Works
 pub mod Chains
-pub mod Making
