@@ -5,6 +5,7 @@ pub mod Paths
 pub mod RuleLaws
 pub mod Rooms
 pub mod Puts
+pub mod Adds
 pub mod Texts
 pub mod Making
 pub mod Readings
