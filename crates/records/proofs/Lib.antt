@@ -1,6 +1,14 @@
 pub mod Lists
 pub mod Views
+pub mod Climbs
+pub mod Paths
+pub mod RuleLaws
 pub mod Rooms
 pub mod Puts
 pub mod Texts
 pub mod Making
+pub mod Readings
+pub mod Grown
+pub mod Works
+pub mod Chains
+pub mod ClassLaws

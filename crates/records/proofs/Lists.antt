@@ -8,11 +8,11 @@ use Prim.Native.Nat.{ℕ, zero, suc, _+_, _≤_, _<_}
 use native.Mathlib.Nat.{le-antisymm, eq-or-lt-of-le, le-of-suc-le-suc, not-suc-le-zero}
 use native.Mathlib.Numerals.{add-one}
 use native.Mathlib.Omega.{arith}
-use lib.ListN.{length, getD, length-append, List·getD-append, List·getD-eq-default}
+use lib.ListN.{length, take, drop, getD, length-append, List·getD-append, List·getD-eq-default}
 use lib.Seq.{getD-at}
 use lib.Dec.{eqb, ltb, leb}
 use borrow.Author.Tests.{not-true, not-false, eqb-true, eq-eqb, ltb-true, leb-true, lt-ltb, le-leb, le-ltb, lt-leb}
-use Rattle.records.specs.Lists.{if_then_else_, all, any, joined, table, sameWord, allBelow, firstBelow, Every, none-left, and}
+use Rattle.records.specs.Lists.{if_then_else_, all, any, joined, table, sameWord, firsts, seconds, allBelow, firstBelow, Every, none-left, and}
 use Rattle.records.specs.Store.{within}
 
 -- TESTS
@@ -48,6 +48,66 @@ or-left false b e = absurd (false≢true e)
 pub or-right : (a b : Bool) → b ≡ true → a || b ≡ true
 or-right true b e = refl
 or-right false b e = e
+
+-- a chain of `if`s that return early meets a chain of tests
+pub and-stop : (a b : Bool) → a ≡ false → false ≡ (a && b)
+and-stop a b e = sym (left-false a b e)
+
+pub and-next : (a b r : Bool) → a ≡ true → r ≡ b → r ≡ (a && b)
+and-next a b r e q = rw e q
+
+pub or-stop : (a b : Bool) → a ≡ true → true ≡ (a || b)
+or-stop a b e = sym (or-left a b e)
+
+pub or-next : (a b r : Bool) → a ≡ false → r ≡ b → r ≡ (a || b)
+or-next a b r e q = rw e q
+
+pub right-true : (a b : Bool) → b ≡ true → a && b ≡ a
+right-true true b e = e
+right-true false b e = refl
+
+pub right-falsum : (a b : Bool) → b ≡ false → a || b ≡ a
+right-falsum true b e = refl
+right-falsum false b e = e
+
+-- one test of several fails, and one decides where the others pass
+pub three-1 : (a b c : Bool) → a ≡ false → false ≡ (a && b && c)
+three-1 a b c e = rw e
+
+pub three-2 : (a b c : Bool) → b ≡ false → false ≡ (a && b && c)
+three-2 a b c e = sym (left-false (a && b) c (right-false a b e))
+
+pub three-3 : (a b c : Bool) → c ≡ false → false ≡ (a && b && c)
+three-3 a b c e = sym (right-false (a && b) c e)
+
+pub three-first : (a b c r : Bool) → r ≡ a → b ≡ true → c ≡ true → r ≡ (a && b && c)
+three-first a b c r e p q = e ∙ sym (right-true (a && b) c q ∙ right-true a b p)
+
+pub three-last : (a b c r : Bool) → a ≡ true → b ≡ true → r ≡ c → r ≡ (a && b && c)
+three-last a b c r p q e = rw (p, q) e
+
+module _ (a b c d e : Bool) where
+  pub five-1 : a ≡ false → false ≡ (a && b && c && d && e)
+  five-1 h = rw h
+
+  pub five-2 : b ≡ false → false ≡ (a && b && c && d && e)
+  five-2 h = rw (right-false a b h)
+
+  pub five-3 : c ≡ false → false ≡ (a && b && c && d && e)
+  five-3 h = rw (right-false (a && b) c h)
+
+  pub five-4 : d ≡ false → false ≡ (a && b && c && d && e)
+  five-4 h = rw (right-false (a && b && c) d h)
+
+  pub five-last : (r : Bool) → a ≡ true → b ≡ true → c ≡ true → d ≡ true → r ≡ e → r ≡ (a && b && c && d && e)
+  five-last r p q f g h = rw (p, q, f, g) h
+
+-- a test that a call made
+pub failed : (a x : Bool) → x ≡ a → not x ≡ true → a ≡ false
+failed a x e h = sym e ∙ not-true x h
+
+pub passed : (a x : Bool) → x ≡ a → not x ≡ false → a ≡ true
+passed a x e h = sym e ∙ not-false x h
 
 pub clash : {a : Bool} {X : Type 0} → a ≡ true → a ≡ false → X
 clash p q = absurd (false≢true (sym q ∙ p))
@@ -280,3 +340,30 @@ module _ {A : Type 0} where
   unfolding all
   every-all none-left = refl
   every-all (and e k) = both-true _ _ e (every-all k)
+
+  pub all-take : (p : A → Bool) (n : ℕ) (l : List A) → all p l ≡ true → all p (take n l) ≡ true
+  unfolding all
+  all-take p zero l e = refl
+  all-take p (suc n) [] e = refl
+  all-take p (suc n) (x ∷ l) e = both-true _ _ (both-left (p x) _ e) (all-take p n l (both-right (p x) _ e))
+
+  pub all-drop : (p : A → Bool) (n : ℕ) (l : List A) → all p l ≡ true → all p (drop n l) ≡ true
+  unfolding all
+  all-drop p zero l e = e
+  all-drop p (suc n) [] e = e
+  all-drop p (suc n) (x ∷ l) e = all-drop p n l (both-right (p x) _ e)
+
+  pub joined-same : {B : Type 0} (f g : A → List B) {l : List A} → Every (λ a. f a ≡ g a) l → joined f l ≡ joined g l
+  unfolding joined
+  joined-same f g none-left = refl
+  joined-same f g (and {a} {l} e k) = let h = joined-same f g k in cc
+
+  pub all-joined : {B : Type 0} (p : B → Bool) (f : A → List B) (l : List A) → ((a : A) → all p (f a) ≡ true) → all p (joined f l) ≡ true
+  unfolding all joined
+  all-joined p f [] h = refl
+  all-joined p f (x ∷ l) h = all-append p (f x) (joined f l) ∙ both-true _ _ (h x) (all-joined p f l h)
+
+pub every-firsts : {P : ℕ × ℕ → Type 0} {Q : ℕ → Type 0} {l : List (ℕ × ℕ)} → ((p : ℕ × ℕ) → P p → Q (p .0)) → Every P l → Every Q (firsts l)
+unfolding firsts
+every-firsts f none-left = none-left
+every-firsts f (and {a} p k) = and (f a p) (every-firsts f k)
