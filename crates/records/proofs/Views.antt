@@ -9,9 +9,9 @@ use lib.ListN.{length, getD, take, drop, length-take, length-drop}
 use lib.Seq.{ext-getD, getD-take, getD-drop}
 use Rattle.records.specs.declared.State.{State}
 use Rattle.records.specs.Lists.{table}
-use Rattle.records.specs.Store.{Term, Cell, Store, noTerm, noCell, termIn, cellIn, textIn}
-use Rattle.records.specs.View.{Lent, storeOf, termAt, cellAt, pairAt, termsView, cellsView, charsView, pairsView, span}
-use Rattle.records.proofs.Lists.{table-at, table-past, table-length}
+use Rattle.records.specs.Store.{Term, Cell, noTerm, noCell, termIn, cellIn, textIn, within, Store}
+use Rattle.records.specs.View.{termAt, cellAt, termsView, cellsView, charsView, pairsView, span, Lent, storeOf, pairAt}
+use Rattle.records.proofs.Lists.{table-at, table-past, table-length, within-low, within-high}
 
 -- a counted term is read from its words, and no other number names one
 pub term-is : (l : List ℕ) (n t : ℕ) → 0 < t → t ≤ n → termIn (termsView l n) t ≡ termAt l t
@@ -37,6 +37,32 @@ pub cell-past : (l : List ℕ) (n c : ℕ) → n < c → cellIn (cellsView l n) 
 unfolding cellIn
 cell-past l n zero q = absurd (omega arith)
 cell-past l n (suc c) q = table-past (λ i. cellAt l (suc i)) n c noCell (omega arith)
+
+-- the fields of a counted record, as the readers of src/fields.rt give them
+module _ (l : List ℕ) (n t x : ℕ) (h : within n t ≡ true) where
+  term-at : termIn (termsView l n) t ≡ termAt l t
+  term-at = term-is l n t (within-low n t h) (within-high n t h)
+
+  pub kind-at : x ≡ getD l (8 * t + 0) 0 → x ≡ termIn (termsView l n) t .kind
+  kind-at e = rw term-at e
+
+  pub first-at : x ≡ getD l (8 * t + 1) 0 → x ≡ termIn (termsView l n) t .first
+  first-at e = rw term-at e
+
+  pub second-at : x ≡ getD l (8 * t + 2) 0 → x ≡ termIn (termsView l n) t .second
+  second-at e = rw term-at e
+
+  cell-at : cellIn (cellsView l n) t ≡ cellAt l t
+  cell-at = cell-is l n t (within-low n t h) (within-high n t h)
+
+  pub value-at : x ≡ getD l (3 * t + 0) 0 → x ≡ cellIn (cellsView l n) t .value
+  value-at e = rw cell-at e
+
+  pub other-at : x ≡ getD l (3 * t + 1) 0 → x ≡ cellIn (cellsView l n) t .other
+  other-at e = rw cell-at e
+
+  pub next-at : x ≡ getD l (3 * t + 2) 0 → x ≡ cellIn (cellsView l n) t .next
+  next-at e = rw cell-at e
 
 -- a text within the count is read from its words
 pub text-span : (l : List ℕ) (n : ℕ) (t : Term) → t .first + t .second ≤ n → textIn (charsView l n) t ≡ span l (t .first) (t .second)
