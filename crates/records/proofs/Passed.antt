@@ -13,7 +13,7 @@ use Rattle.records.specs.Lists.{if_then_else_, all, allBelow}
 use Rattle.records.specs.Store.{Term, noTerm, Store, term, cell, count, kind, within, isTerm, isString, text, chain, root, sameClass, isEdge}
 use Rattle.records.specs.View.{Lent, storeOf, sizes}
 use Rattle.records.specs.Rules.{eachTerm, isNumber, cellRule, textRule, named, nameRule, partRule, concatRule, lengthRule, isEquatable, equationRule, termRule, recordsRule, parentsRule, endsRule, alikeRule, aloneRule, labelRule, classesRule, pairsOf, fallsRule, congruenceRule, isCongruence, congruencesRule, auditStore, audit}
-use Rattle.records.specs.Audited.{Part, Next, last, later, Label, asserted, interface, congruence, definitional, Unlabelled, Falls, Pairs, Congruent, Recorded, Classed, Congruences, Roomy, Audited, Sized, Ready}
+use Rattle.records.specs.Audited.{Part, Next, last, later, Label, asserted, interface, congruence, definitional, Unlabelled, Falls, Pairs, Congruent, Recorded, Classed, Congruences, Roomy, Audited, Sized, Ready, Verdict, ready, short, unrecorded, unclassed, incongruent}
 use Rattle.records.proofs.Lists.{both-left, both-right, both-true, either, or-left, or-right, clash, decide, within-low, within-high, within-is, below-at, below-all, table-length, word-is, word-same, every-map, all-every, every-all}
 use Rattle.records.proofs.Grown.{term-past, term-zero, kind-term}
 
@@ -35,6 +35,10 @@ each false b c e = absurd (false≢true e)
 only : (a : Bool) → a || false ≡ true → a ≡ true
 only true e = refl
 only false e = e
+
+refuted : {X : Type 0} (a : Bool) → (a ≡ true → X) → (X → ⊥) → a ≡ false
+refuted true f n = absurd (n (f refl))
+refuted false f n = refl
 
 -- a rule of every number from 1 to n
 each-at : (rule : ℕ → Bool) (n t : ℕ) → allBelow (λ i. rule (suc i)) n ≡ true → within n t ≡ true → rule t ≡ true
@@ -394,3 +398,27 @@ ready-of m c e = decide (sizes m c) (λ z. record { sized = sized-of m c z; audi
 pub audit-of : (m : Lent) (c : State) → Ready m c → audit m c ≡ 0
 unfolding audit
 audit-of m c r = rw (sizes-of m c (r .sized)) (passes (storeOf m c) (r .audited))
+
+-- the answer is the first place whose facts do not hold, and no other
+pub verdict : (m : Lent) (c : State) → Verdict m c (audit m c)
+unfolding audit auditStore
+verdict m c = decide (sizes m c) (λ z. decide (recordsRule s) (λ p. decide (classesRule s) (λ q. decide (congruencesRule s)
+    (λ e. rw (z, p, q, e) (ready (ready-of m c (audit-zero z p q e))))
+    (λ e. rw (z, p, q, e) (incongruent (sized-of m c z) (recorded-of s p) (classed-of s q) (λ h. clash (congruent-of s h) e))))
+    (λ q. rw (z, p, q) (unclassed (sized-of m c z) (recorded-of s p) (λ h. clash (classes-of s h) q))))
+    (λ p. rw (z, p) (unrecorded (sized-of m c z) (λ h. clash (records-of s h) p))))
+    (λ z. rw z (short (λ h. clash (sizes-of m c h) z)))
+  where
+    s : Store
+    s = storeOf m c
+
+    audit-zero : sizes m c ≡ true → recordsRule s ≡ true → classesRule s ≡ true → congruencesRule s ≡ true → audit m c ≡ 0
+    audit-zero z p q e = rw (z, p, q, e)
+
+pub verdict-is : (m : Lent) (c : State) {k : ℕ} → Verdict m c k → audit m c ≡ k
+unfolding audit auditStore
+verdict-is m c (ready r) = audit-of m c r
+verdict-is m c (short f) = rw (refuted (sizes m c) (sized-of m c) f)
+verdict-is m c (unrecorded z f) = rw (sizes-of m c z, refuted (recordsRule (storeOf m c)) (recorded-of _) f)
+verdict-is m c (unclassed z r f) = rw (sizes-of m c z, records-of _ r, refuted (classesRule (storeOf m c)) (classed-of _) f)
+verdict-is m c (incongruent z r q f) = rw (sizes-of m c z, records-of _ r, classes-of _ q, refuted (congruencesRule (storeOf m c)) (congruences-of _) f)
