@@ -15,6 +15,7 @@ use Rattle.records.specs.View.{Lent, storeOf, sizes}
 use Rattle.records.specs.Rules.{eachTerm, isNumber, cellRule, textRule, named, nameRule, partRule, concatRule, lengthRule, isEquatable, equationRule, termRule, recordsRule, parentsRule, endsRule, alikeRule, aloneRule, labelRule, classesRule, pairsOf, fallsRule, congruenceRule, isCongruence, congruencesRule, auditStore, audit}
 use Rattle.records.specs.Audited.{Part, Next, last, later, Label, asserted, interface, congruence, definitional, Unlabelled, Falls, Pairs, Congruent, Recorded, Classed, Congruences, Roomy, Audited, Sized, Ready, Verdict, ready, short, unrecorded, unclassed, incongruent}
 use Rattle.records.proofs.Lists.{both-left, both-right, both-true, either, or-left, or-right, clash, decide, within-low, within-high, within-is, below-at, below-all, table-length, word-is, word-same, every-map, all-every, every-all}
+use Rattle.records.proofs.RuleLaws.{sized-of, sizes-of}
 use Rattle.records.proofs.Grown.{term-past, term-zero, kind-term}
 
 -- TESTS
@@ -48,44 +49,7 @@ each-at rule n (suc t) e w = below-at (λ i. rule (suc i)) n e t (within-high n 
 each-all : (rule : ℕ → Bool) (n : ℕ) → ((t : ℕ) → within n t ≡ true → rule t ≡ true) → allBelow (λ i. rule (suc i)) n ≡ true
 each-all rule n f = below-all (λ i. rule (suc i)) n (λ k l. f (suc k) (within-is n (suc k) (omega arith) l))
 
--- SIZES
-
-limits : (a b x y : ℕ) → leb a b && leb x y ≡ true → (a ≤ b) × (x ≤ y)
-limits a b x y e = (leb-true a b (both-left _ _ e), leb-true x y (both-right (leb a b) _ e))
-
-limited : (a b x y : ℕ) → a ≤ b → x ≤ y → leb a b && leb x y ≡ true
-limited a b x y p q = both-true _ _ (le-leb a b p) (le-leb x y q)
-
-pub sized-of : (m : Lent) (c : State) → sizes m c ≡ true → Sized m c
-unfolding sizes
-sized-of m c e =
-    let p = both _ _ e in
-    let q = both _ _ (p .0) in
-    let r = both _ _ (q .0) in
-    let s = both _ _ (r .0) in
-    let t = limits _ _ _ _ (s .0) in
-    let l = limits _ _ _ _ (s .1) in
-    let h = limits _ _ _ _ (r .1) in
-    let g = limits _ _ _ _ (q .1) in
-    let k = limits _ _ _ _ (p .1) in
-    record {
-      termLimited = t .0;
-      termRoom = t .1;
-      cellLimited = l .0;
-      cellRoom = l .1;
-      charLimited = h .0;
-      charRoom = h .1;
-      reasonLimited = g .0;
-      reasonRoom = g .1;
-      keyLimited = k .0;
-      keyRoom = k .1;
-    }
-
-pub sizes-of : (m : Lent) (c : State) → Sized m c → sizes m c ≡ true
-unfolding sizes
-sizes-of m c z =
-    both-true _ _ (both-true _ _ (both-true _ _ (both-true _ _ (limited _ _ _ _ (z .termLimited) (z .termRoom)) (limited _ _ _ _ (z .cellLimited) (z .cellRoom)))
-    (limited _ _ _ _ (z .charLimited) (z .charRoom))) (limited _ _ _ _ (z .reasonLimited) (z .reasonRoom))) (limited _ _ _ _ (z .keyLimited) (z .keyRoom))
+-- SIZES: that the test is the facts stands in RuleLaws
 
 pub roomy-of : (m : Lent) (c : State) → Sized m c → Roomy (storeOf m c)
 roomy-of m c z = record {
