@@ -13,13 +13,14 @@ use Rattle.records.specs.Lists.{if_then_else_, all, firsts, sameWord, fi
 use Rattle.records.specs.Store.{Term, Cell, Store, Out, ok, stop, Work, andThen, _>>=_, _>>_, give, refuse, put, term, count, kind, within, isTerm, isString, isConstant, isVariable, textIn, text, chainIn, parts}
 use Rattle.records.specs.Rules.{isChar, reasonRule, keyRule, named, isEquatable}
 use Rattle.records.specs.Make.{withReasons, withKeys, withChars, own, addReason, addKey, addText, addChain, addTerm, lookup, orMake, lowest, constantOf, concatOf, lengthOf, equationOf, makeConstant, makeVariable, makeConcat, makeLength, makeEquation, ordered}
+use Rattle.records.specs.Meaning.{Words, Reading, Holds}
 use Rattle.records.specs.Audited.{Recorded, Audited}
 use Rattle.records.proofs.Lists.{both-left, both-right, both-true, decide, clash, all-append, within-low, within-high, word-is, word-same, Found, first-some, first-none}
 use Rattle.records.proofs.Works.{stop-not, via, branch}
 use Rattle.records.proofs.Chains.{extends-refl}
 use Rattle.records.proofs.Grown.{kind-term, Grown, grown-none}
 use Rattle.records.proofs.Append.{grow, More, New, kept-audited, new-term}
-use Rattle.records.proofs.Extend.{kept-grown}
+use Rattle.records.proofs.Extend.{Chosen, choose, kept-grown}
 use Rattle.records.proofs.Beside.{audited-beside, grown-beside}
 
 -- REASONS
@@ -86,12 +87,12 @@ grow-in s ds hs k a b audited more new = record {
 }
 
 -- no term of the store is equal
-pub None : (Store → ℕ → Bool) → Store → Type 0
-None equal s = (t : ℕ) → isTerm s t ≡ true → equal s t ≡ false
+abbrev pub Absent : (Store → ℕ → Bool) → Store → Type 0
+Absent equal s = (t : ℕ) → isTerm s t ≡ true → equal s t ≡ false
 
 -- making finds an equal term, or makes one where there is none
-found-or-made : {X : Type 0} (equal : Store → ℕ → Bool) (make : Work ℕ) (s s′ : Store) (t : ℕ) → (s′ ≡ s → equal s t ≡ true → X) → (None equal s → make s ≡ ok s′ t → X) → lowest equal make s ≡ ok s′ t → X
-unfolding lowest lookup None
+found-or-made : {X : Type 0} (equal : Store → ℕ → Bool) (make : Work ℕ) (s s′ : Store) (t : ℕ) → (s′ ≡ s → equal s t ≡ true → X) → (Absent equal s → make s ≡ ok s′ t → X) → lowest equal make s ≡ ok s′ t → X
+unfolding lowest lookup
 found-or-made {X} equal make s s′ t f g e = go (firstBelow (λ i. equal s (suc i)) (count s)) refl e
   where
     none-is : firstBelow (λ i. equal s (suc i)) (count s) ≡ none → (t : ℕ) → isTerm s t ≡ true → equal s t ≡ false
@@ -239,3 +240,74 @@ constant-kept w s s′ t a good e =
 pub constant-stops : (w : List ℕ) (s : Store) (n : ℕ) → makeConstant w s ≡ stop n → n ≡ 8
 unfolding makeConstant
 constant-stops w s n e = lowest-stops (constantOf w) (texted 1 w) s n (text-stops 1 w s n) e
+
+-- VARIABLES
+
+pub record VariableMade (w : List ℕ) (s s′ : Store) (t : ℕ) : Type 0 where
+  pub made : MadeIn s s′ t 2
+  pub text-is : text s′ t ≡ w
+
+-- a variable that is new: any word can be chosen for it
+pub record Fresh (s s′ : Store) (z : ℕ) : Type 0 where
+  pub made : MadeIn s s′ z 2
+  pub number : z ≡ suc (count s)
+  pub choose : (w : Words) → Reading s w → (u : List ℕ) → all isChar u ≡ true → Chosen s s′ w z u
+
+absent-name : (w : List ℕ) (s : Store) → Absent (named w) s → (t : ℕ) → kind s t ≡ 2 → text s t ≡ w → ⊥
+unfolding named
+absent-name w s q t e f = clash (both-true (isVariable s t) _ (eq-eqb _ _ e) (word-same _ _ f)) (q t (kind-term s t 1 e))
+
+variable-new : (w : List ℕ) (s : Store) → Audited s → 1 ≤ length w → Absent (named w) s → count s < s .room .terms → length (s .chars) + length w ≤ s .room .chars → New s (s .cells) (s .chars ++ w) 2 (length (s .chars)) (length w)
+unfolding within
+variable-new w s a filled q h f = record {
+  kinds = refl;
+  constant = λ e. absurd (omega arith);
+  variable = λ e. simp length-append (omega arith);
+  long = λ e. filled;
+  unique = λ e t d i. absent-name w s q t d (i ∙ text-read s 2 w);
+  two = λ e. absurd (omega arith);
+  strings = λ e. absurd (omega arith);
+  plain = λ e. absurd (omega arith);
+  concatSecond = λ e. absurd (omega arith);
+  string = λ e. absurd (omega arith);
+  lengthSecond = λ e. absurd (omega arith);
+  sides = λ e. absurd (omega arith);
+  termRoom = h;
+  cellRoom = a .roomy .cells;
+  charRoom = simp length-append (omega arith);
+}
+
+module _ (w : List ℕ) (s s′ : Store) (t : ℕ) (audited : Audited s) (good : all isChar w ≡ true) (filled : 1 ≤ length w) where
+  variable-added : Absent (named w) s → TextAdded 2 w s s′ t → VariableMade w s s′ t
+  variable-added q x =
+      subst (λ (y : Store). VariableMade w s y t) (sym (x .is)) (subst (λ (i : ℕ). VariableMade w s (grow s (s .cells) (s .chars ++ w) 2 (length (s .chars)) (length w)) i) (sym (x .number)) (record {
+        made = grow-in s (s .cells) (s .chars ++ w) 2 (length (s .chars)) (length w) audited (text-more s w (audited .recorded) good) (variable-new w s audited filled q (x .room) (x .fits));
+        text-is = ap (textIn (s .chars ++ w)) (new-term s (s .cells) (s .chars ++ w) 2 (length (s .chars)) (length w)) ∙ text-read s 2 w;
+      }))
+
+  chosen-added : Absent (named w) s → TextAdded 2 w s s′ t → (v : Words) → Reading s v → (u : List ℕ) → all isChar u ≡ true → Chosen s s′ v t u
+  chosen-added q x v r u h =
+      subst (λ (y : Store). Chosen s y v t u) (sym (x .is)) (subst (λ (i : ℕ). Chosen s (grow s (s .cells) (s .chars ++ w) 2 (length (s .chars)) (length w)) v i u) (sym (x .number))
+      (choose s (s .cells) (s .chars ++ w) 2 (length (s .chars)) (length w) audited (text-more s w (audited .recorded) good) (variable-new w s audited filled q (x .room) (x .fits)) refl v r u h))
+
+  pub variable-kept : makeVariable w s ≡ ok s′ t → VariableMade w s s′ t
+  unfolding makeVariable named
+  variable-kept e =
+      found-or-made (named w) (texted 2 w) s s′ t
+      (λ same h. record {
+        made = found-in s s′ t 2 audited same (eqb-true _ _ (both-left (isVariable s t) _ h));
+        text-is = ap (λ (x : Store). text x t) same ∙ word-is _ _ (both-right (isVariable s t) _ h);
+      })
+      (λ q d. variable-added q (text-added 2 w s s′ t d)) e
+
+  -- a variable whose name no other has
+  pub variable-fresh : Absent (named w) s → makeVariable w s ≡ ok s′ t → Fresh s s′ t
+  unfolding makeVariable named
+  variable-fresh q e =
+      found-or-made (named w) (texted 2 w) s s′ t
+      (λ same h. clash h (q t (kind-term s t 1 (eqb-true _ _ (both-left (isVariable s t) _ h)))))
+      (λ _ d. let x = text-added 2 w s s′ t d in record { made = variable-added q x .made; number = x .number; choose = chosen-added q x }) e
+
+pub variable-stops : (w : List ℕ) (s : Store) (n : ℕ) → makeVariable w s ≡ stop n → n ≡ 8
+unfolding makeVariable
+variable-stops w s n e = lowest-stops (named w) (texted 2 w) s n (text-stops 2 w s n) e
