@@ -2,22 +2,24 @@
 use mathlib.Core.Path.{_≡_, refl, sym, ap, subst, _∙_}
 use mathlib.Core.Bool.{Bool, true, false, _&&_}
 use mathlib.Core.List.{List, [], _∷_, _++_}
+use mathlib.Core.Logic.{_⊎_, ⊎-elim}
 use mathlib.Core.Option.{Option, none, some}
-use Prim.Native.Nat.{ℕ, zero, suc, _+_, _≤_, _<_}
+use Prim.Native.Nat.{ℕ, zero, suc, _+_, _≤_, _<_, min, max}
+use native.Mathlib.Nat.{min-eq-left, min-eq-right, max-eq-left, max-eq-right, eq-or-lt-of-le}
 use native.Mathlib.Omega.{arith}
 use lib.ListN.{length, take, drop, length-append, length-drop}
 use lib.Seq.{take-append-le, drop-append-le, drop-append-seam, take-length}
 use lib.Dec.{eqb, ltb, leb}
-use borrow.Author.Tests.{eqb-true, eq-eqb, ltb-true, leb-true, lt-ltb}
-use Rattle.records.specs.Lists.{if_then_else_, all, firsts, sameWord, firstBelow, Every}
-use Rattle.records.specs.Store.{Term, Cell, Store, Out, ok, stop, Work, andThen, _>>=_, _>>_, give, refuse, put, term, count, kind, within, isTerm, isString, isConstant, isVariable, textIn, text, chainIn, parts}
+use borrow.Author.Tests.{eqb-true, eq-eqb, ltb-true, leb-true, leb-false, lt-ltb}
+use Rattle.records.specs.Lists.{if_then_else_, all, firsts, sameWord, firstBelow, Every, none-left, and}
+use Rattle.records.specs.Store.{Term, Cell, Store, Out, ok, stop, Work, andThen, _>>=_, _>>_, give, refuse, put, term, count, kind, within, isTerm, isString, isConstant, isVariable, isConcat, isLength, isEquation, textIn, text, chainIn, parts}
 use Rattle.records.specs.Rules.{isChar, reasonRule, keyRule, named, isEquatable}
-use Rattle.records.specs.Make.{withReasons, withKeys, withChars, own, addReason, addKey, addText, addChain, addTerm, lookup, orMake, lowest, constantOf, concatOf, lengthOf, equationOf, makeConstant, makeVariable, makeConcat, makeLength, makeEquation, ordered}
+use Rattle.records.specs.Make.{withReasons, withKeys, withChars, withCells, own, addReason, addKey, addText, addChain, chainFrom, addTerm, lookup, orMake, lowest, constantOf, concatOf, lengthOf, equationOf, makeConstant, makeVariable, makeConcat, makeLength, makeEquation, ordered}
 use Rattle.records.specs.Meaning.{Words, Reading, Holds}
 use Rattle.records.specs.Audited.{Recorded, Audited}
-use Rattle.records.proofs.Lists.{both-left, both-right, both-true, decide, clash, all-append, within-low, within-high, word-is, word-same, Found, first-some, first-none}
+use Rattle.records.proofs.Lists.{both-left, both-right, both-true, decide, clash, all-append, all-every, within-low, within-high, word-is, word-same, Found, first-some, first-none}
 use Rattle.records.proofs.Works.{stop-not, via, branch}
-use Rattle.records.proofs.Chains.{extends-refl}
+use Rattle.records.proofs.Chains.{extends-refl, extends-append, ascends-made, chain-made, from-length, plain, plain-firsts, plain-length}
 use Rattle.records.proofs.Grown.{kind-term, Grown, grown-none}
 use Rattle.records.proofs.Append.{grow, More, New, kept-audited, new-term}
 use Rattle.records.proofs.Extend.{Chosen, choose, kept-grown}
@@ -311,3 +313,257 @@ module _ (w : List ℕ) (s s′ : Store) (t : ℕ) (audited : Audited s) (good :
 pub variable-stops : (w : List ℕ) (s : Store) (n : ℕ) → makeVariable w s ≡ stop n → n ≡ 8
 unfolding makeVariable
 variable-stops w s n e = lowest-stops (named w) (texted 2 w) s n (text-stops 2 w s n) e
+
+-- CONCATENATIONS
+
+pub record ConcatMade (l : List ℕ) (s s′ : Store) (t : ℕ) : Type 0 where
+  pub made : MadeIn s s′ t 3
+  pub parts-is : parts s′ t ≡ l
+
+-- the cells with those of a chain of l
+abbrev chained : Store → List ℕ → List Cell
+chained s l = s .cells ++ chainFrom (suc (length (s .cells))) l
+
+record ChainAdded (l : List ℕ) (s s′ : Store) (t : ℕ) : Type 0 where
+  room : count s < s .room .terms
+  fits : length (s .cells) + length l ≤ s .room .cells
+  is : s′ ≡ grow s (chained s l) (s .chars) 3 (suc (length (s .cells))) 0
+  number : t ≡ suc (count s)
+
+-- the concatenation of a chain
+abbrev joinedUp : List ℕ → Work ℕ
+joinedUp l = addChain l >>= (λ c. addTerm 3 c 0)
+
+chain-added : (l : List ℕ) (s s′ : Store) (t : ℕ) → joinedUp l s ≡ ok s′ t → ChainAdded l s s′ t
+unfolding addChain
+chain-added l s s′ t e =
+    via (λ c. addTerm 3 c 0) (addChain l s) e (λ s₁ c q r.
+    let i = put-given (leb (length (s .cells) + length l) (s .room .cells)) (withCells s (chained s l)) s (suc (length (s .cells))) s₁ c q in
+    go s₁ c (i .store-is) (i .value-is) (leb-true _ _ (i .room)) r)
+  where
+    go : (s₁ : Store) (c : ℕ) → withCells s (chained s l) ≡ s₁ → suc (length (s .cells)) ≡ c → length (s .cells) + length l ≤ s .room .cells → addTerm 3 c 0 s₁ ≡ ok s′ t → ChainAdded l s s′ t
+    go s₁ c i j h r =
+        let d : addTerm 3 (suc (length (s .cells))) 0 (withCells s (chained s l)) ≡ ok s′ t = cc in
+        let u = term-added 3 (suc (length (s .cells))) 0 (withCells s (chained s l)) s′ t d in
+        record { room = u .room; fits = h; is = u .is; number = u .number }
+
+chain-stops : (l : List ℕ) (s : Store) (n : ℕ) → joinedUp l s ≡ stop n → n ≡ 8
+unfolding addChain
+chain-stops l s n e = go (addChain l s) refl e
+  where
+    go : (o : Out ℕ) → addChain l s ≡ o → andThen (λ c. addTerm 3 c 0) o ≡ stop n → n ≡ 8
+    go (ok s₁ c) q r = term-stops 3 c 0 s₁ n r
+    go (stop m) q r =
+        let h = put-stops (leb (length (s .cells) + length l) (s .room .cells)) (withCells s (chained s l)) s (suc (length (s .cells))) m q in
+        let j : m ≡ n = cc in sym j ∙ h
+
+chain-more : (s : Store) (l : List ℕ) → Recorded s → More s (chained s l) (s .chars)
+chain-more s l r = record {
+  cells = extends-append (s .cells) _;
+  ascends = ascends-made (s .cells) l (r .nexts);
+  chars = omega arith;
+  texts = λ x h. refl;
+  characters = r .characters;
+}
+
+plain-strings : (s : Store) (l : List ℕ) → Every (λ p. isString s p ≡ true) l → Every (λ p. isString s (p .0) ≡ true) (plain l)
+plain-strings s [] none-left = none-left
+plain-strings s (p ∷ l) (and h k) = and h (plain-strings s l k)
+
+plain-plain : (l : List ℕ) → Every (λ p. p .1 ≡ 0) (plain l)
+plain-plain [] = none-left
+plain-plain (p ∷ l) = and refl (plain-plain l)
+
+module _ (l : List ℕ) (s s′ : Store) (t : ℕ) (audited : Audited s) (two : 2 ≤ length l) (strings : all (isString s) l ≡ true) where
+  concat-new : count s < s .room .terms → length (s .cells) + length l ≤ s .room .cells → New s (chained s l) (s .chars) 3 (suc (length (s .cells))) 0
+  unfolding within
+  concat-new h f = record {
+    kinds = refl;
+    constant = λ e. absurd (omega arith);
+    variable = λ e. absurd (omega arith);
+    long = λ e. absurd (omega arith);
+    unique = λ e. absurd (omega arith);
+    two = λ e. subst (λ (m : List (ℕ × ℕ)). 2 ≤ length m) (sym (chain-made (s .cells) l)) (let p = plain-length l in omega arith);
+    strings = λ e. subst (Every (λ p. isString s (p .0) ≡ true)) (sym (chain-made (s .cells) l)) (plain-strings s l (all-every (isString s) l strings));
+    plain = λ e. subst (Every (λ p. p .1 ≡ 0)) (sym (chain-made (s .cells) l)) (plain-plain l);
+    concatSecond = λ e. refl;
+    string = λ e. absurd (omega arith);
+    lengthSecond = λ e. absurd (omega arith);
+    sides = λ e. absurd (omega arith);
+    termRoom = h;
+    cellRoom = (let p = length-append (s .cells) (chainFrom (suc (length (s .cells))) l) in let q = from-length (suc (length (s .cells))) l in omega arith);
+    charRoom = audited .roomy .chars;
+  }
+
+  concat-added : ChainAdded l s s′ t → ConcatMade l s s′ t
+  concat-added x =
+      subst (λ (y : Store). ConcatMade l s y t) (sym (x .is)) (subst (λ (i : ℕ). ConcatMade l s (grow s (chained s l) (s .chars) 3 (suc (length (s .cells))) 0) i) (sym (x .number)) (record {
+        made = grow-in s (chained s l) (s .chars) 3 (suc (length (s .cells))) 0 audited (chain-more s l (audited .recorded)) (concat-new (x .room) (x .fits));
+        parts-is = ap (λ (y : Term). firsts (chainIn (chained s l) (y .first))) (new-term s (chained s l) (s .chars) 3 (suc (length (s .cells))) 0) ∙ ap firsts (chain-made (s .cells) l) ∙ plain-firsts l;
+      }))
+
+  pub concat-kept : makeConcat l s ≡ ok s′ t → ConcatMade l s s′ t
+  unfolding makeConcat concatOf
+  concat-kept e =
+      found-or-made (concatOf l) (joinedUp l) s s′ t
+      (λ same h. record {
+        made = found-in s s′ t 3 audited same (eqb-true _ _ (both-left (isConcat s t) _ h));
+        parts-is = ap (λ (x : Store). parts x t) same ∙ word-is _ _ (both-right (isConcat s t) _ h);
+      })
+      (λ q d. concat-added (chain-added l s s′ t d)) e
+
+pub concat-stops : (l : List ℕ) (s : Store) (n : ℕ) → makeConcat l s ≡ stop n → n ≡ 8
+unfolding makeConcat
+concat-stops l s n e = lowest-stops (concatOf l) (joinedUp l) s n (chain-stops l s n) e
+
+-- LENGTHS AND EQUATIONS
+
+same-more : (s : Store) → Recorded s → More s (s .cells) (s .chars)
+same-more s r = record { cells = extends-refl (s .cells); ascends = r .nexts; chars = omega arith; texts = λ x h. refl; characters = r .characters }
+
+pub record LengthMade (a : ℕ) (s s′ : Store) (t : ℕ) : Type 0 where
+  pub made : MadeIn s s′ t 4
+  pub first-is : term s′ t .first ≡ a
+
+pub record EquationMade (a b : ℕ) (s s′ : Store) (t : ℕ) : Type 0 where
+  pub made : MadeIn s s′ t 5
+  pub first-is : term s′ t .first ≡ a
+  pub second-is : term s′ t .second ≡ b
+
+module _ (a : ℕ) (s s′ : Store) (t : ℕ) (audited : Audited s) (string : isString s a ≡ true) where
+  length-new : count s < s .room .terms → New s (s .cells) (s .chars) 4 a 0
+  unfolding within
+  length-new h = record {
+    kinds = refl;
+    constant = λ e. absurd (omega arith);
+    variable = λ e. absurd (omega arith);
+    long = λ e. absurd (omega arith);
+    unique = λ e. absurd (omega arith);
+    two = λ e. absurd (omega arith);
+    strings = λ e. absurd (omega arith);
+    plain = λ e. absurd (omega arith);
+    concatSecond = λ e. absurd (omega arith);
+    string = λ e. string;
+    lengthSecond = λ e. refl;
+    sides = λ e. absurd (omega arith);
+    termRoom = h;
+    cellRoom = audited .roomy .cells;
+    charRoom = audited .roomy .chars;
+  }
+
+  length-added : TermAdded 4 a 0 s s′ t → LengthMade a s s′ t
+  length-added x =
+      subst (λ (y : Store). LengthMade a s y t) (sym (x .is)) (subst (λ (i : ℕ). LengthMade a s (grow s (s .cells) (s .chars) 4 a 0) i) (sym (x .number)) (record {
+        made = grow-in s (s .cells) (s .chars) 4 a 0 audited (same-more s (audited .recorded)) (length-new (x .room));
+        first-is = ap (λ (y : Term). y .first) (new-term s (s .cells) (s .chars) 4 a 0);
+      }))
+
+  pub length-kept : makeLength a s ≡ ok s′ t → LengthMade a s s′ t
+  unfolding makeLength lengthOf
+  length-kept e =
+      found-or-made (lengthOf a) (addTerm 4 a 0) s s′ t
+      (λ same h. record {
+        made = found-in s s′ t 4 audited same (eqb-true _ _ (both-left (isLength s t) _ h));
+        first-is = ap (λ (x : Store). term x t .first) same ∙ eqb-true _ _ (both-right (isLength s t) _ h);
+      })
+      (λ q d. length-added (term-added 4 a 0 s s′ t d)) e
+
+pub length-stops : (a : ℕ) (s : Store) (n : ℕ) → makeLength a s ≡ stop n → n ≡ 8
+unfolding makeLength
+length-stops a s n e = lowest-stops (lengthOf a) (addTerm 4 a 0) s n (term-stops 4 a 0 s n) e
+
+module _ (a b : ℕ) (s s′ : Store) (t : ℕ) (audited : Audited s) (sides : isEquatable s a b ≡ true) where
+  equation-new : count s < s .room .terms → New s (s .cells) (s .chars) 5 a b
+  unfolding within
+  equation-new h = record {
+    kinds = refl;
+    constant = λ e. absurd (omega arith);
+    variable = λ e. absurd (omega arith);
+    long = λ e. absurd (omega arith);
+    unique = λ e. absurd (omega arith);
+    two = λ e. absurd (omega arith);
+    strings = λ e. absurd (omega arith);
+    plain = λ e. absurd (omega arith);
+    concatSecond = λ e. absurd (omega arith);
+    string = λ e. absurd (omega arith);
+    lengthSecond = λ e. absurd (omega arith);
+    sides = λ e. sides;
+    termRoom = h;
+    cellRoom = audited .roomy .cells;
+    charRoom = audited .roomy .chars;
+  }
+
+  equation-added : TermAdded 5 a b s s′ t → EquationMade a b s s′ t
+  equation-added x =
+      subst (λ (y : Store). EquationMade a b s y t) (sym (x .is)) (subst (λ (i : ℕ). EquationMade a b s (grow s (s .cells) (s .chars) 5 a b) i) (sym (x .number)) (record {
+        made = grow-in s (s .cells) (s .chars) 5 a b audited (same-more s (audited .recorded)) (equation-new (x .room));
+        first-is = ap (λ (y : Term). y .first) (new-term s (s .cells) (s .chars) 5 a b);
+        second-is = ap (λ (y : Term). y .second) (new-term s (s .cells) (s .chars) 5 a b);
+      }))
+
+  pub equation-kept : makeEquation a b s ≡ ok s′ t → EquationMade a b s s′ t
+  unfolding makeEquation equationOf
+  equation-kept e =
+      found-or-made (equationOf a b) (addTerm 5 a b) s s′ t
+      (λ same h. let q = both-left (isEquation s t && eqb (term s t .first) a) (eqb (term s t .second) b) h in record {
+        made = found-in s s′ t 5 audited same (eqb-true _ _ (both-left (isEquation s t) (eqb (term s t .first) a) q));
+        first-is = ap (λ (x : Store). term x t .first) same ∙ eqb-true _ _ (both-right (isEquation s t) (eqb (term s t .first) a) q);
+        second-is = ap (λ (x : Store). term x t .second) same ∙ eqb-true _ _ (both-right (isEquation s t && eqb (term s t .first) a) (eqb (term s t .second) b) h);
+      })
+      (λ q d. equation-added (term-added 5 a b s s′ t d)) e
+
+pub equation-stops : (a b : ℕ) (s : Store) (n : ℕ) → makeEquation a b s ≡ stop n → n ≡ 8
+unfolding makeEquation
+equation-stops a b s n e = lowest-stops (equationOf a b) (addTerm 5 a b) s n (term-stops 5 a b s n) e
+
+-- KEYS
+
+pub record KeyAdded (a b : ℕ) (s s′ : Store) : Type 0 where
+  pub is : s′ ≡ withKeys s (s .keys ++ (ordered a b ∷ []))
+  pub audited : Audited s′
+  pub grown : Grown s s′
+  pub reasons : s′ .reasons ≡ s .reasons
+
+-- two different string terms, the lower first
+key-rule : (a b : ℕ) (s : Store) → isString s a ≡ true → isString s b ≡ true → (a ≡ b → ⊥) → keyRule s (ordered a b) ≡ true
+unfolding keyRule
+key-rule a b s p q d = decide (leb a b) (λ h. low (leb-true a b h)) (λ h. high (leb-false a b h))
+  where
+    rule : (x y : ℕ) → x < y → isString s x ≡ true → isString s y ≡ true → (ltb x y && isString s x && isString s y) ≡ true
+    rule x y h i j = both-true (ltb x y && isString s x) _ (both-true (ltb x y) _ (lt-ltb x y h) i) j
+
+    low : a ≤ b → (ltb (min a b) (max a b) && isString s (min a b) && isString s (max a b)) ≡ true
+    low h = rw (min-eq-left h, max-eq-right h) (rule a b (lt-of h) p q)
+      where
+        lt-of : a ≤ b → a < b
+        lt-of h = ⊎-elim (λ e. absurd (d e)) (λ l. l) (eq-or-lt-of-le h)
+
+    high : b < a → (ltb (min a b) (max a b) && isString s (min a b) && isString s (max a b)) ≡ true
+    high h = let e : min a b ≡ b = min-eq-right (omega arith) in let f : max a b ≡ a = max-eq-left (omega arith) in rw (e, f) (rule b a h q p)
+
+key-room : (a b : ℕ) (s s′ : Store) → addKey a b s ≡ ok s′ tt → (length (s .keys) < s .room .keys) × (s′ ≡ withKeys s (s .keys ++ (ordered a b ∷ [])))
+unfolding addKey
+key-room a b s s′ e = branch (ltb (length (s .keys)) (s .room .keys)) _ _ {s = s} (λ c d. (ltb-true _ _ c, cc)) (λ c d. stop-not d) e
+
+pub key-kept : (a b : ℕ) (s s′ : Store) → Audited s → isString s a ≡ true → isString s b ≡ true → (a ≡ b → ⊥) → addKey a b s ≡ ok s′ tt → KeyAdded a b s s′
+unfolding all
+key-kept a b s s′ audited i j d e =
+    let p = key-room a b s s′ e in
+    let l = s .keys ++ (ordered a b ∷ []) in
+    let h = p .0 in
+    let n = length-append (s .keys) (ordered a b ∷ []) in
+    let f = all-append (keyRule s) (s .keys) (ordered a b ∷ []) ∙ both-true _ _ (audited .recorded .keys) (both-true _ _ (key-rule a b s i j d) refl) in
+    record {
+      is = p .1;
+      audited = subst Audited (sym (p .1)) (audited-beside s (s .reasons) l (s .names) audited (audited .recorded .reasons) f (audited .roomy .reasons) (omega arith));
+      grown = subst (Grown s) (sym (p .1)) (grown-beside s (s .reasons) l (s .names));
+      reasons = ap (λ (x : Store). x .reasons) (p .1);
+    }
+
+pub key-stops : (a b : ℕ) (s : Store) (n : ℕ) → addKey a b s ≡ stop n → n ≡ 8
+unfolding addKey
+key-stops a b s n e = go (ltb (length (s .keys)) (s .room .keys)) e
+  where
+    go : (c : Bool) → (if c then put (withKeys s (s .keys ++ (ordered a b ∷ []))) else refuse 8) s ≡ stop n → n ≡ 8
+    go true d = let z : _≡_ {A = ℕ} 0 1 = cc in absurd (omega arith)
+    go false d = cc
