@@ -1,11 +1,11 @@
 -- Making a term, adding a reason or a key and taking a name keep a store audited: what each gives, and with which number it stops.
 use mathlib.Core.Path.{_≡_, refl, sym, ap, subst, _∙_}
-use mathlib.Core.Bool.{Bool, true, false, _&&_}
+use mathlib.Core.Bool.{Bool, true, false, _&&_, false≢true}
 use mathlib.Core.List.{List, [], _∷_, _++_}
 use mathlib.Core.Logic.{_⊎_, ⊎-elim}
 use mathlib.Core.Option.{Option, none, some}
-use Prim.Native.Nat.{ℕ, zero, suc, _+_, _≤_, _<_, min, max}
-use native.Mathlib.Nat.{min-eq-left, min-eq-right, max-eq-left, max-eq-right, eq-or-lt-of-le}
+use Prim.Native.Nat.{ℕ, zero, suc, _+_, _-_, _/_, _%_, _≤_, _<_, min, max}
+use native.Mathlib.Nat.{min-eq-left, min-eq-right, max-eq-left, max-eq-right, eq-or-lt-of-le, mod-lt}
 use native.Mathlib.Omega.{arith}
 use lib.ListN.{length, take, drop, length-append, length-drop}
 use lib.Seq.{take-append-le, drop-append-le, drop-append-seam, take-length}
@@ -14,16 +14,16 @@ use borrow.Author.Tests.{eqb-true, eq-eqb, ltb-true, leb-true, leb-false, lt-ltb
 use Rattle.records.specs.Lists.{if_then_else_, all, firsts, sameWord, firstBelow, Every, none-left, and}
 use Rattle.records.specs.Store.{Term, Cell, Store, Out, ok, stop, Work, andThen, _>>=_, _>>_, give, refuse, put, term, count, kind, within, isTerm, isString, isConstant, isVariable, isConcat, isLength, isEquation, textIn, text, chainIn, parts}
 use Rattle.records.specs.Rules.{isChar, reasonRule, keyRule, named, isEquatable}
-use Rattle.records.specs.Make.{withReasons, withKeys, withChars, withCells, own, addReason, addKey, addText, addChain, chainFrom, addTerm, lookup, orMake, lowest, constantOf, concatOf, lengthOf, equationOf, makeConstant, makeVariable, makeConcat, makeLength, makeEquation, ordered}
+use Rattle.records.specs.Make.{withReasons, withKeys, withChars, withCells, withNames, own, addReason, addKey, addText, addChain, chainFrom, addTerm, lookup, orMake, lowest, constantOf, concatOf, lengthOf, equationOf, makeConstant, makeVariable, makeConcat, makeLength, makeEquation, ordered, strk, decimalBy, nameOf, isSome, isTaken, takeNameBy, nameLimit, takeName}
 use Rattle.records.specs.Meaning.{Words, Reading, Holds}
 use Rattle.records.specs.Audited.{Recorded, Audited}
-use Rattle.records.proofs.Lists.{both-left, both-right, both-true, decide, clash, all-append, all-every, within-low, within-high, word-is, word-same, Found, first-some, first-none}
+use Rattle.records.proofs.Lists.{both-left, both-right, both-true, or-left, decide, clash, all-append, all-every, within-low, within-high, word-is, word-same, Found, first-some, first-none}
 use Rattle.records.proofs.Works.{stop-not, via, branch}
 use Rattle.records.proofs.Chains.{extends-refl, extends-append, ascends-made, chain-made, from-length, plain, plain-firsts, plain-length}
-use Rattle.records.proofs.Grown.{kind-term, Grown, grown-none}
+use Rattle.records.proofs.Grown.{kind-term, Grown, grown-none, grown-then}
 use Rattle.records.proofs.Append.{grow, More, New, kept-audited, new-term}
 use Rattle.records.proofs.Extend.{Chosen, choose, kept-grown}
-use Rattle.records.proofs.Beside.{audited-beside, grown-beside}
+use Rattle.records.proofs.Beside.{audited-beside, grown-beside, reading-beside, holds-beside}
 
 -- REASONS
 
@@ -567,3 +567,130 @@ key-stops a b s n e = go (ltb (length (s .keys)) (s .room .keys)) e
     go : (c : Bool) → (if c then put (withKeys s (s .keys ++ (ordered a b ∷ []))) else refuse 8) s ≡ stop n → n ≡ 8
     go true d = let z : _≡_ {A = ℕ} 0 1 = cc in absurd (omega arith)
     go false d = cc
+
+-- NAMES
+
+digit-character : (d : ℕ) → d < 10 → all isChar ((48 + d) ∷ []) ≡ true
+unfolding isChar all
+digit-character d h = both-true _ true (or-left (ltb (48 + d) 0xD800) (leb 0xE000 (48 + d) && leb (48 + d) 0x10FFFF) (lt-ltb (48 + d) 0xD800 (omega arith))) refl
+
+decimal-characters : (n x : ℕ) → all isChar (decimalBy n x) ≡ true
+unfolding decimalBy all
+decimal-characters zero x = refl
+decimal-characters (suc n) x = go (ltb x 10) refl (decimal-characters n (x / 10))
+  where
+    go : (b : Bool) → ltb x 10 ≡ b → all isChar (decimalBy n (x / 10)) ≡ true → all isChar (elim b [ true ↦ (48 + x) ∷ [] | false ↦ decimalBy n (x / 10) ++ ((48 + x % 10) ∷ []) ]) ≡ true
+    go true e ih = digit-character x (ltb-true x 10 e)
+    go false e ih = all-append isChar (decimalBy n (x / 10)) ((48 + x % 10) ∷ []) ∙ both-true (all isChar (decimalBy n (x / 10))) _ ih (digit-character (x % 10) (mod-lt x (omega arith)))
+
+pub name-characters : (x : ℕ) → all isChar (nameOf x) ≡ true
+unfolding nameOf isChar all
+name-characters x = all-append isChar strk (decimalBy 10 x) ∙ both-true _ _ refl (decimal-characters 10 x)
+
+pub name-filled : (x : ℕ) → 1 ≤ length (nameOf x)
+unfolding nameOf
+name-filled x = let p = length-append strk (decimalBy 10 x) in omega arith
+
+-- a name taken: the store but for its counter, and a name that no variable has
+pub record NameTaken (s s′ : Store) (w : List ℕ) : Type 0 where
+  pub number : ℕ
+  pub counter : s .names ≤ number
+  pub name-is : w ≡ nameOf number
+  pub is : s′ ≡ withNames s (suc number)
+  pub absent : Absent (named w) s′
+
+absent-free : (x : ℕ) (s : Store) → isTaken s x ≡ false → Absent (named (nameOf x)) s
+unfolding isTaken lookup
+absent-free x s e = go (firstBelow (λ i. named (nameOf x) s (suc i)) (count s)) refl e
+  where
+    none-is : firstBelow (λ i. named (nameOf x) s (suc i)) (count s) ≡ none → (t : ℕ) → isTerm s t ≡ true → named (nameOf x) s t ≡ false
+    none-is q zero h = let l = within-low (count s) 0 h in absurd (omega arith)
+    none-is q (suc t) h = first-none (λ i. named (nameOf x) s (suc i)) (count s) q t (within-high (count s) (suc t) h)
+
+    go : (o : Option ℕ) → firstBelow (λ i. named (nameOf x) s (suc i)) (count s) ≡ o → isSome o ≡ false → (t : ℕ) → isTerm s t ≡ true → named (nameOf x) s t ≡ false
+    go none q d = none-is q
+    go (some i) q d = absurd (false≢true (sym d))
+
+named-beside : (w : List ℕ) (s : Store) (m t : ℕ) → named w (withNames s m) t ≡ named w s t
+unfolding named
+named-beside w s m t = refl
+
+taken-by : (n : ℕ) (s s′ : Store) (w : List ℕ) → takeNameBy n s ≡ ok s′ w → NameTaken s s′ w
+unfolding takeNameBy
+taken-by zero s s′ w e = stop-not e
+taken-by (suc n) s s′ w e = go (isTaken s (s .names)) refl (taken-by n (withNames s (suc (s .names))) s′ w) e
+  where
+    here : withNames s (suc (s .names)) ≡ s′ → nameOf (s .names) ≡ w → isTaken s (s .names) ≡ false → NameTaken s s′ w
+    here p q f = record {
+      number = s .names;
+      counter = omega arith;
+      name-is = sym q;
+      is = sym p;
+      absent = subst (λ (x : Store). Absent (named w) x) p (subst (λ (v : List ℕ). Absent (named v) (withNames s (suc (s .names)))) q (λ t h. named-beside (nameOf (s .names)) s (suc (s .names)) t ∙ absent-free (s .names) s f t h));
+    }
+
+    go : (b : Bool) → isTaken s (s .names) ≡ b → (takeNameBy n (withNames s (suc (s .names))) ≡ ok s′ w → NameTaken (withNames s (suc (s .names))) s′ w)
+        → _≡_ {A = Out (List ℕ)} (elim b [ true ↦ takeNameBy n (withNames s (suc (s .names))) | false ↦ ok (withNames s (suc (s .names))) (nameOf (s .names)) ]) (ok s′ w) → NameTaken s s′ w
+    go true f ih d = let x = ih d in record { number = x .number; counter = (let h = x .counter in omega arith); name-is = x .name-is; is = x .is; absent = x .absent }
+    go false f ih d = here (cc) (cc) f
+
+pub name-taken : (s s′ : Store) (w : List ℕ) → takeName s ≡ ok s′ w → NameTaken s s′ w
+unfolding takeName
+name-taken s s′ w e = taken-by (nameLimit - s .names) s s′ w e
+
+pub names-audited : (s : Store) (m : ℕ) → Audited s → Audited (withNames s m)
+names-audited s m a = audited-beside s (s .reasons) (s .keys) m a (a .recorded .reasons) (a .recorded .keys) (a .roomy .reasons) (a .roomy .keys)
+
+pub names-grown : (s : Store) (m : ℕ) → Grown s (withNames s m)
+names-grown s m = grown-beside s (s .reasons) (s .keys) m
+
+pub name-audited : (s s′ : Store) (w : List ℕ) → Audited s → takeName s ≡ ok s′ w → Audited s′
+name-audited s s′ w a e = let x = name-taken s s′ w e in subst Audited (sym (x .is)) (names-audited s _ a)
+
+stops-by : (m : ℕ) (s : Store) (n : ℕ) → takeNameBy m s ≡ stop n → n ≡ 9
+unfolding takeNameBy
+stops-by zero s n e = cc
+stops-by (suc m) s n e = go (isTaken s (s .names)) (stops-by m (withNames s (suc (s .names))) n) e
+  where
+    go : (b : Bool) → (takeNameBy m (withNames s (suc (s .names))) ≡ stop n → n ≡ 9) → _≡_ {A = Out (List ℕ)} (elim b [ true ↦ takeNameBy m (withNames s (suc (s .names))) | false ↦ ok (withNames s (suc (s .names))) (nameOf (s .names)) ]) (stop n) → n ≡ 9
+    go true ih d = ih d
+    go false ih d = let z : _≡_ {A = ℕ} 0 1 = cc in absurd (omega arith)
+
+pub name-stops : (s : Store) (n : ℕ) → takeName s ≡ stop n → n ≡ 9
+unfolding takeName
+name-stops s n e = stops-by (nameLimit - s .names) s n e
+
+-- a variable of a name just taken
+pub fresh-kept : (s s′ : Store) (z : ℕ) → Audited s → (takeName >>= makeVariable) s ≡ ok s′ z → Fresh s s′ z
+fresh-kept s s′ z a e =
+    via makeVariable (takeName s) e (λ s₁ w p q.
+    let x = name-taken s s₁ w p in
+    go s₁ w (suc (x .number)) (x .is) (x .absent) (ap (all isChar) (x .name-is) ∙ name-characters (x .number)) (subst (λ (v : List ℕ). 1 ≤ length v) (sym (x .name-is)) (name-filled (x .number))) q)
+  where
+    here : (w : List ℕ) (m : ℕ) → Fresh (withNames s m) s′ z → Fresh s s′ z
+    here w m f = record {
+      made = record {
+        audited = f .made .audited;
+        grown = grown-then (names-grown s m) (f .made .grown);
+        kind-is = f .made .kind-is;
+        reasons = f .made .reasons;
+        keys = f .made .keys;
+        room = f .made .room;
+      };
+      number = f .number;
+      choose = λ v r u h.
+          let c = f .choose v (reading-beside s (s .reasons) (s .keys) m v r) u h in
+          record {
+            extends = record {
+              words = c .extends .words;
+              reading = c .extends .reading;
+              agree = c .extends .agree;
+              held = λ rs k. c .extends .held rs (holds-beside s (s .reasons) (s .keys) m v rs k);
+            };
+            word = c .word;
+          };
+    }
+
+    go : (s₁ : Store) (w : List ℕ) (m : ℕ) → s₁ ≡ withNames s m → Absent (named w) s₁ → all isChar w ≡ true → 1 ≤ length w → makeVariable w s₁ ≡ ok s′ z → Fresh s s′ z
+    go s₁ w m i absent good filled d =
+        here w m (variable-fresh w (withNames s m) s′ z (names-audited s m a) good filled (subst (λ (x : Store). Absent (named w) x) i absent) (subst (λ (x : Store). makeVariable w x ≡ ok s′ z) i d))
