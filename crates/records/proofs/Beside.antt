@@ -93,10 +93,10 @@ module _ (s : Store) (rs ks : List (ℕ × ℕ)) (m : ℕ) where
     congruences = λ t q e. congruent-beside t (a .congruences t q e);
   }
 
-  reading-beside : (w : Words) → Reading s w → Reading s′ w
+  pub reading-beside : (w : Words) → Reading s w → Reading s′ w
   reading-beside w r = record { characters = r .characters; constants = r .constants; concats = r .concats }
 
-  holds-beside : (w : Words) (l : List (ℕ × ℕ)) → Holds s l w → Holds s′ l w
+  pub holds-beside : (w : Words) (l : List (ℕ × ℕ)) → Holds s l w → Holds s′ l w
   holds-beside w l h = record { merges = h .merges; reasons = h .reasons }
 
   pub grown-beside : Grown s s′
