@@ -2,3 +2,5 @@ pub mod Paths
 pub mod Fits
 pub mod Cites
 pub mod Run
+pub mod Added
+pub mod Walk
