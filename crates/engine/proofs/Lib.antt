@@ -4,3 +4,4 @@ pub mod Cites
 pub mod Run
 pub mod Added
 pub mod Walk
+pub mod Sound
