@@ -49,6 +49,66 @@ pub or-right : (a b : Bool) → b ≡ true → a || b ≡ true
 or-right true b e = refl
 or-right false b e = e
 
+-- a chain of `if`s that return early meets a chain of tests
+pub and-stop : (a b : Bool) → a ≡ false → false ≡ (a && b)
+and-stop a b e = sym (left-false a b e)
+
+pub and-next : (a b r : Bool) → a ≡ true → r ≡ b → r ≡ (a && b)
+and-next a b r e q = rw e q
+
+pub or-stop : (a b : Bool) → a ≡ true → true ≡ (a || b)
+or-stop a b e = sym (or-left a b e)
+
+pub or-next : (a b r : Bool) → a ≡ false → r ≡ b → r ≡ (a || b)
+or-next a b r e q = rw e q
+
+pub right-true : (a b : Bool) → b ≡ true → a && b ≡ a
+right-true true b e = e
+right-true false b e = refl
+
+pub right-falsum : (a b : Bool) → b ≡ false → a || b ≡ a
+right-falsum true b e = refl
+right-falsum false b e = e
+
+-- one test of several fails, and one decides where the others pass
+pub three-1 : (a b c : Bool) → a ≡ false → false ≡ (a && b && c)
+three-1 a b c e = rw e
+
+pub three-2 : (a b c : Bool) → b ≡ false → false ≡ (a && b && c)
+three-2 a b c e = sym (left-false (a && b) c (right-false a b e))
+
+pub three-3 : (a b c : Bool) → c ≡ false → false ≡ (a && b && c)
+three-3 a b c e = sym (right-false (a && b) c e)
+
+pub three-first : (a b c r : Bool) → r ≡ a → b ≡ true → c ≡ true → r ≡ (a && b && c)
+three-first a b c r e p q = e ∙ sym (right-true (a && b) c q ∙ right-true a b p)
+
+pub three-last : (a b c r : Bool) → a ≡ true → b ≡ true → r ≡ c → r ≡ (a && b && c)
+three-last a b c r p q e = rw (p, q) e
+
+module _ (a b c d e : Bool) where
+  pub five-1 : a ≡ false → false ≡ (a && b && c && d && e)
+  five-1 h = rw h
+
+  pub five-2 : b ≡ false → false ≡ (a && b && c && d && e)
+  five-2 h = rw (right-false a b h)
+
+  pub five-3 : c ≡ false → false ≡ (a && b && c && d && e)
+  five-3 h = rw (right-false (a && b) c h)
+
+  pub five-4 : d ≡ false → false ≡ (a && b && c && d && e)
+  five-4 h = rw (right-false (a && b && c) d h)
+
+  pub five-last : (r : Bool) → a ≡ true → b ≡ true → c ≡ true → d ≡ true → r ≡ e → r ≡ (a && b && c && d && e)
+  five-last r p q f g h = rw (p, q, f, g) h
+
+-- a test that a call made
+pub failed : (a x : Bool) → x ≡ a → not x ≡ true → a ≡ false
+failed a x e h = sym e ∙ not-true x h
+
+pub passed : (a x : Bool) → x ≡ a → not x ≡ false → a ≡ true
+passed a x e h = sym e ∙ not-false x h
+
 pub clash : {a : Bool} {X : Type 0} → a ≡ true → a ≡ false → X
 clash p q = absurd (false≢true (sym q ∙ p))
 
@@ -157,6 +217,15 @@ first-none p (suc n) h k l = go (first-none p n) (firstBelow p n) (p n) refl ref
     go ih none true e q z = let y : _≡_ {A = ℕ} 0 1 = cc in absurd (omega arith)
     go ih none false e q z = ⊎-elim (λ d. ap p d ∙ q) (λ lt. ih e k lt) (eq-or-lt-of-le (le-of-suc-le-suc l))
 
+pub first-same : (p q : ℕ → Bool) (n : ℕ) → ((k : ℕ) → k < n → p k ≡ q k) → firstBelow p n ≡ firstBelow q n
+unfolding firstBelow
+first-same p q zero f = refl
+first-same p q (suc n) f =
+    ap (λ (o : Option ℕ). or-next o (p n)) (first-same p q n (λ k l. f k (omega arith))) ∙ ap (or-next (firstBelow q n)) (f n (omega arith))
+  where
+    or-next : Option ℕ → Bool → Option ℕ
+    or-next o b = elim o [ some i ↦ some i | none ↦ (if b then some n else none) ]
+
 pub record Found (p : ℕ → Bool) (n i : ℕ) : Type 0 where
   pub below : i < n
   pub passes : p i ≡ true
@@ -222,6 +291,46 @@ module _ {A : Type 0} where
       go : (b : Bool) → (all p (table f n) && (b && true)) ≡ (allBelow (λ i. p (f i)) n && (b && true)) → (all p (table f n) && (b && true)) ≡ (allBelow (λ i. p (f i)) n && b)
       go true e = e
       go false e = e
+
+-- SOME ELEMENT
+
+module _ {A : Type 0} (p : A → Bool) where
+  pub any-append : (l m : List A) → any p (l ++ m) ≡ (any p l || any p m)
+  unfolding any
+  any-append [] m = refl
+  any-append (x ∷ l) m = go (p x) (any-append l m)
+    where
+      go : (b : Bool) → any p (l ++ m) ≡ (any p l || any p m) → (b || any p (l ++ m)) ≡ ((b || any p l) || any p m)
+      go true e = refl
+      go false e = e
+
+  -- the loop `while i < n { if test(.., i) { return true; } i += 1; } false` over a table
+  pub any-zero : (f : ℕ → A) → any p (table f 0) ≡ false
+  unfolding any table
+  any-zero f = refl
+
+  any-step : (f : ℕ → A) (i : ℕ) → any p (table f (suc i)) ≡ (any p (table f i) || p (f i))
+  unfolding any table
+  any-step f i = any-append (table f i) (f i ∷ []) ∙ ap (λ (b : Bool). any p (table f i) || b) (go (p (f i)))
+    where
+      go : (b : Bool) → (b || false) ≡ b
+      go true = refl
+      go false = refl
+
+  pub any-turn : (f : ℕ → A) (i : ℕ) (b : Bool) → b ≡ p (f i) → b ≡ false → any p (table f i) ≡ false → any p (table f (i + 1)) ≡ false
+  any-turn f i b e h q = rw (add-one, any-step, q) (sym e ∙ h)
+
+  pub any-stays : (f : ℕ → A) (n i : ℕ) → i < n → p (f i) ≡ true → any p (table f n) ≡ true
+  any-stays f zero i l h = absurd (not-suc-le-zero l)
+  any-stays f (suc n) i l h =
+      any-step f n
+      ∙ ⊎-elim (λ e. or-right (any p (table f n)) (p (f n)) (ap (λ (j : ℕ). p (f j)) (sym e) ∙ h)) (λ lt. or-left _ (p (f n)) (any-stays f n i lt h)) (eq-or-lt-of-le (le-of-suc-le-suc l))
+
+  pub any-stop : (f : ℕ → A) (n i : ℕ) (b : Bool) → b ≡ p (f i) → b ≡ true → i < n → true ≡ any p (table f n)
+  any-stop f n i b e h l = sym (any-stays f n i l (sym e ∙ h))
+
+  pub any-done : (f : ℕ → A) (n i : ℕ) → i ≤ n → n ≤ i → any p (table f i) ≡ false → false ≡ any p (table f n)
+  any-done f n i a b h = let e : i ≡ n = le-antisymm a b in sym (rw e at h)
 
 -- WORDS
 
