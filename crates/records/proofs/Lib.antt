@@ -1,5 +1,7 @@
 pub mod Lists
 pub mod Views
+pub mod Climbs
+pub mod Paths
 pub mod RuleLaws
 pub mod Rooms
 pub mod Puts
@@ -10,3 +12,4 @@ pub mod Readings
 pub mod Grown
 pub mod Works
 pub mod Chains
+pub mod ClassLaws

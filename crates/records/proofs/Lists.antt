@@ -217,6 +217,15 @@ first-none p (suc n) h k l = go (first-none p n) (firstBelow p n) (p n) refl ref
     go ih none true e q z = let y : _≡_ {A = ℕ} 0 1 = cc in absurd (omega arith)
     go ih none false e q z = ⊎-elim (λ d. ap p d ∙ q) (λ lt. ih e k lt) (eq-or-lt-of-le (le-of-suc-le-suc l))
 
+pub first-same : (p q : ℕ → Bool) (n : ℕ) → ((k : ℕ) → k < n → p k ≡ q k) → firstBelow p n ≡ firstBelow q n
+unfolding firstBelow
+first-same p q zero f = refl
+first-same p q (suc n) f =
+    ap (λ (o : Option ℕ). or-next o (p n)) (first-same p q n (λ k l. f k (omega arith))) ∙ ap (or-next (firstBelow q n)) (f n (omega arith))
+  where
+    or-next : Option ℕ → Bool → Option ℕ
+    or-next o b = elim o [ some i ↦ some i | none ↦ (if b then some n else none) ]
+
 pub record Found (p : ℕ → Bool) (n i : ℕ) : Type 0 where
   pub below : i < n
   pub passes : p i ≡ true
