@@ -13,3 +13,4 @@ pub mod Grown
 pub mod Works
 pub mod Chains
 pub mod ClassLaws
+pub mod Builds
