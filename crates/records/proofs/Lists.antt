@@ -8,11 +8,11 @@ use Prim.Native.Nat.{ℕ, zero, suc, _+_, _≤_, _<_}
 use native.Mathlib.Nat.{le-antisymm, eq-or-lt-of-le, le-of-suc-le-suc, not-suc-le-zero}
 use native.Mathlib.Numerals.{add-one}
 use native.Mathlib.Omega.{arith}
-use lib.ListN.{length, getD, length-append, List·getD-append, List·getD-eq-default}
+use lib.ListN.{length, take, drop, getD, length-append, List·getD-append, List·getD-eq-default}
 use lib.Seq.{getD-at}
 use lib.Dec.{eqb, ltb, leb}
 use borrow.Author.Tests.{not-true, not-false, eqb-true, eq-eqb, ltb-true, leb-true, lt-ltb, le-leb, le-ltb, lt-leb}
-use Rattle.records.specs.Lists.{if_then_else_, all, any, joined, table, sameWord, allBelow, firstBelow, Every, none-left, and}
+use Rattle.records.specs.Lists.{if_then_else_, all, any, joined, table, sameWord, firsts, seconds, allBelow, firstBelow, Every, none-left, and}
 use Rattle.records.specs.Store.{within}
 
 -- TESTS
@@ -217,6 +217,15 @@ first-none p (suc n) h k l = go (first-none p n) (firstBelow p n) (p n) refl ref
     go ih none true e q z = let y : _≡_ {A = ℕ} 0 1 = cc in absurd (omega arith)
     go ih none false e q z = ⊎-elim (λ d. ap p d ∙ q) (λ lt. ih e k lt) (eq-or-lt-of-le (le-of-suc-le-suc l))
 
+pub first-same : (p q : ℕ → Bool) (n : ℕ) → ((k : ℕ) → k < n → p k ≡ q k) → firstBelow p n ≡ firstBelow q n
+unfolding firstBelow
+first-same p q zero f = refl
+first-same p q (suc n) f =
+    ap (λ (o : Option ℕ). or-next o (p n)) (first-same p q n (λ k l. f k (omega arith))) ∙ ap (or-next (firstBelow q n)) (f n (omega arith))
+  where
+    or-next : Option ℕ → Bool → Option ℕ
+    or-next o b = elim o [ some i ↦ some i | none ↦ (if b then some n else none) ]
+
 pub record Found (p : ℕ → Bool) (n i : ℕ) : Type 0 where
   pub below : i < n
   pub passes : p i ≡ true
@@ -283,6 +292,46 @@ module _ {A : Type 0} where
       go true e = e
       go false e = e
 
+-- SOME ELEMENT
+
+module _ {A : Type 0} (p : A → Bool) where
+  pub any-append : (l m : List A) → any p (l ++ m) ≡ (any p l || any p m)
+  unfolding any
+  any-append [] m = refl
+  any-append (x ∷ l) m = go (p x) (any-append l m)
+    where
+      go : (b : Bool) → any p (l ++ m) ≡ (any p l || any p m) → (b || any p (l ++ m)) ≡ ((b || any p l) || any p m)
+      go true e = refl
+      go false e = e
+
+  -- the loop `while i < n { if test(.., i) { return true; } i += 1; } false` over a table
+  pub any-zero : (f : ℕ → A) → any p (table f 0) ≡ false
+  unfolding any table
+  any-zero f = refl
+
+  any-step : (f : ℕ → A) (i : ℕ) → any p (table f (suc i)) ≡ (any p (table f i) || p (f i))
+  unfolding any table
+  any-step f i = any-append (table f i) (f i ∷ []) ∙ ap (λ (b : Bool). any p (table f i) || b) (go (p (f i)))
+    where
+      go : (b : Bool) → (b || false) ≡ b
+      go true = refl
+      go false = refl
+
+  pub any-turn : (f : ℕ → A) (i : ℕ) (b : Bool) → b ≡ p (f i) → b ≡ false → any p (table f i) ≡ false → any p (table f (i + 1)) ≡ false
+  any-turn f i b e h q = rw (add-one, any-step, q) (sym e ∙ h)
+
+  pub any-stays : (f : ℕ → A) (n i : ℕ) → i < n → p (f i) ≡ true → any p (table f n) ≡ true
+  any-stays f zero i l h = absurd (not-suc-le-zero l)
+  any-stays f (suc n) i l h =
+      any-step f n
+      ∙ ⊎-elim (λ e. or-right (any p (table f n)) (p (f n)) (ap (λ (j : ℕ). p (f j)) (sym e) ∙ h)) (λ lt. or-left _ (p (f n)) (any-stays f n i lt h)) (eq-or-lt-of-le (le-of-suc-le-suc l))
+
+  pub any-stop : (f : ℕ → A) (n i : ℕ) (b : Bool) → b ≡ p (f i) → b ≡ true → i < n → true ≡ any p (table f n)
+  any-stop f n i b e h l = sym (any-stays f n i l (sym e ∙ h))
+
+  pub any-done : (f : ℕ → A) (n i : ℕ) → i ≤ n → n ≤ i → any p (table f i) ≡ false → false ≡ any p (table f n)
+  any-done f n i a b h = let e : i ≡ n = le-antisymm a b in sym (rw e at h)
+
 -- WORDS
 
 pub word-is : (v w : List ℕ) → sameWord v w ≡ true → v ≡ w
@@ -331,3 +380,30 @@ module _ {A : Type 0} where
   unfolding all
   every-all none-left = refl
   every-all (and e k) = both-true _ _ e (every-all k)
+
+  pub all-take : (p : A → Bool) (n : ℕ) (l : List A) → all p l ≡ true → all p (take n l) ≡ true
+  unfolding all
+  all-take p zero l e = refl
+  all-take p (suc n) [] e = refl
+  all-take p (suc n) (x ∷ l) e = both-true _ _ (both-left (p x) _ e) (all-take p n l (both-right (p x) _ e))
+
+  pub all-drop : (p : A → Bool) (n : ℕ) (l : List A) → all p l ≡ true → all p (drop n l) ≡ true
+  unfolding all
+  all-drop p zero l e = e
+  all-drop p (suc n) [] e = e
+  all-drop p (suc n) (x ∷ l) e = all-drop p n l (both-right (p x) _ e)
+
+  pub joined-same : {B : Type 0} (f g : A → List B) {l : List A} → Every (λ a. f a ≡ g a) l → joined f l ≡ joined g l
+  unfolding joined
+  joined-same f g none-left = refl
+  joined-same f g (and {a} {l} e k) = let h = joined-same f g k in cc
+
+  pub all-joined : {B : Type 0} (p : B → Bool) (f : A → List B) (l : List A) → ((a : A) → all p (f a) ≡ true) → all p (joined f l) ≡ true
+  unfolding all joined
+  all-joined p f [] h = refl
+  all-joined p f (x ∷ l) h = all-append p (f x) (joined f l) ∙ both-true _ _ (h x) (all-joined p f l h)
+
+pub every-firsts : {P : ℕ × ℕ → Type 0} {Q : ℕ → Type 0} {l : List (ℕ × ℕ)} → ((p : ℕ × ℕ) → P p → Q (p .0)) → Every P l → Every Q (firsts l)
+unfolding firsts
+every-firsts f none-left = none-left
+every-firsts f (and {a} p k) = and (f a p) (every-firsts f k)

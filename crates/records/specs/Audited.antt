@@ -7,7 +7,7 @@ use Prim.Native.Nat.{ℕ, suc, _+_, _*_, _≤_, _<_}
 use lib.ListN.{length}
 use Rattle.records.specs.declared.State.{State}
 use Rattle.records.specs.Lists.{all, firsts, seconds, Every}
-use Rattle.records.specs.Store.{Store, term, cell, count, kind, isTerm, isString, within, text, chain, parts, root, top, sameClass, sameTree, path, isEdge}
+use Rattle.records.specs.Store.{Store, Cell, term, cellIn, count, kind, isTerm, isString, within, text, chain, parts, root, top, sameClass, sameTree, path, isEdge}
 use Rattle.records.specs.View.{Lent, storeOf, termLimit, cellLimit, charLimit, reasonLimit, keyLimit}
 use Rattle.records.specs.Rules.{isChar, isNumber, reasonRule, keyRule, isEquatable}
 
@@ -18,9 +18,13 @@ pub record Part (s : Store) (t : ℕ) (p : ℕ × ℕ) : Type 0 where
   pub plain : p .1 ≡ 0
 
 -- the next of cell c
-pub data Next (s : Store) (c : ℕ) : Type 0 where
-  last : cell s c .next ≡ 0 → Next s c
-  later : c < cell s c .next → cell s c .next ≤ length (s .cells) → Next s c
+pub data Next (cs : List Cell) (c : ℕ) : Type 0 where
+  last : cellIn cs c .next ≡ 0 → Next cs c
+  later : c < cellIn cs c .next → cellIn cs c .next ≤ length cs → Next cs c
+
+-- each cell's next is above its own number
+abbrev pub Ascends : List Cell → Type 0
+Ascends cs = (c : ℕ) → within (length cs) c ≡ true → Next cs c
 
 -- the label of an edge
 pub data Label (s : Store) (t : ℕ) : Type 0 where
@@ -67,7 +71,7 @@ pub record Recorded (s : Store) : Type 0 where
   pub equationSides : (t : ℕ) → kind s t ≡ 5 → isEquatable s (term s t .first) (term s t .second) ≡ true
   pub equationFirst : (t : ℕ) → kind s t ≡ 5 → term s t .first < t
   pub equationSecond : (t : ℕ) → kind s t ≡ 5 → term s t .second < t
-  pub nexts : (c : ℕ) → within (length (s .cells)) c ≡ true → Next s c
+  pub nexts : Ascends (s .cells)
   pub characters : all isChar (s .chars) ≡ true
   pub reasons : all reasonRule (s .reasons) ≡ true
   pub keys : all (keyRule s) (s .keys) ≡ true

@@ -3,6 +3,7 @@ pub mod Store
 pub mod View
 pub mod Rules
 pub mod Make
+pub mod Puts
 pub mod Meaning
 pub mod Audited
 pub mod Calls

@@ -72,13 +72,28 @@ abbrev pub span : List ℕ → ℕ → ℕ → List ℕ
 span l p n = table (λ i. getD l (p + i) 0) n
 
 -- how many records fit a slice and its limit
+abbrev pub termRoom : List ℕ → ℕ
+termRoom l = min termLimit (length l / 8 - 1)
+
+abbrev pub cellRoom : List ℕ → ℕ
+cellRoom l = min cellLimit (length l / 3 - 1)
+
+abbrev pub charRoom : List ℕ → ℕ
+charRoom l = min charLimit (length l)
+
+abbrev pub reasonRoom : List ℕ → ℕ
+reasonRoom l = min reasonLimit (length l / 2)
+
+abbrev pub keyRoom : List ℕ → ℕ
+keyRoom l = min keyLimit (length l / 2)
+
 abbrev pub roomOf : Lent → Room
 roomOf m = record {
-  terms = min termLimit (length (m .terms) / 8 - 1);
-  cells = min cellLimit (length (m .cells) / 3 - 1);
-  chars = min charLimit (length (m .chars));
-  reasons = min reasonLimit (length (m .reasons) / 2);
-  keys = min keyLimit (length (m .keys) / 2);
+  terms = termRoom (m .terms);
+  cells = cellRoom (m .cells);
+  chars = charRoom (m .chars);
+  reasons = reasonRoom (m .reasons);
+  keys = keyRoom (m .keys);
 }
 
 abbrev pub storeOf : Lent → State → Store

@@ -1,0 +1,154 @@
+-- Document 01, 'Label cases (starred: proved)', as one table, and one fact: the definition that the contracts cite gives each answer.
+use mathlib.Core.Bool.{Bool, true, false, not, _&&_, _||_, Bool·beq}
+use mathlib.Core.List.{List, [], _∷_, _++_}
+use Prim.Native.Nat.{ℕ, zero, suc, _+_, _-_, _*_}
+use Prim.Native.Char.{code}
+use Prim.Native.String.{String}
+use Prim.Native.String
+use lib.ListN.{length, set}
+use lib.IntN.{ℤ, pos, negsuc}
+use lib.Dec.{eqb, T}
+use Rattle.records.specs.Lists.{if_then_else_, all, any, firstOf, keep, joined, table, sameWord, isIn, firsts, seconds, upTo, allBelow, firstBelow}
+use Rattle.records.specs.Store.{Room, Store, Out, ok, stop, Work, _>>=_, _>>_, give, store, put, term, termIn, cellIn, within, textIn, chainBy, climb, aboveBy, nearestIn, pathIn}
+use Rattle.records.specs.Rules.{isChar, isNumber, reasonRule, keyRule, cellRule, textRule, named, nameRule, partRule, concatRule, lengthRule, isEquatable, equationRule, termRule, recordsRule, parentsRule, endsRule, alikeRule, aloneRule, labelRule, classesRule, pairsOf, fallsRule, congruenceRule, congruencesRule, auditStore}
+use Rattle.records.specs.Make.{withTerms, withReasons, addReason, samePair, isKey, addKey, addText, chainFrom, addChain, addTerm, lookup, lowest, constantOf, concatOf, lengthOf, equationOf, makeConstant, makeVariable, makeConcat, makeLength, makeEquation, decimalBy, nameOf, isTaken, takeNameBy, takeName}
+use Rattle.engine.specs.Explain.{wasSeen, each, edge, highest, walk, explain}
+use Rattle.normalize.specs.Normalize.{atomsBy, flatten}
+use Rattle.wordeq.specs.Wordeq.{Answer, done, saturated, conflict, propagate, split, same, fixed, lettersOf, letters, explainMatch, stripHeads, strip, isFull, occurrence, occurs, unequal, short, absent, constants, isPlain, alias, empties, assigns, filled, lead, firstSpan, fits, explainAll, tileBy, tile, differ, clashes, freshVariable, splitCharacter, splitHeads, splits, after, steps, resolve}
+
+-- STORES, line by line as `labelstep` builds them
+
+abbrev pub empty : Store
+empty = record {
+  terms = [];
+  cells = [];
+  chars = [];
+  reasons = [];
+  keys = [];
+  names = 0;
+  room = record { terms = 512; cells = 2048; chars = 16384; reasons = 4096; keys = 4096 };
+}
+
+unfoldable pub codes : String → List ℕ
+codes String.[] = []
+codes (String._∷_ c s) = code c ∷ codes s
+
+-- a constant, a variable, a concatenation, a class under another by an asserted reason (its stamp given)
+pub data Line : Type 0 where
+  con : String → Line
+  var : String → Line
+  cat : List ℕ → Line
+  by : ℕ → ℕ → ℕ → ℕ → Line
+
+unfoldable pub merged : ℕ → ℕ → ℕ → ℕ → Store → Store
+merged c p n m s = withTerms s (set (s .terms) (c - 1) (let t = term s c in
+    record { kind = t .kind; first = t .first; second = t .second; classParent = p; forestParent = p; labelKind = 1; labelValue = n; stamp = m }))
+
+unfoldable pub line : Line → Work ℕ
+line (con x) = makeConstant (codes x)
+line (var x) = makeVariable (codes x)
+line (cat l) = makeConcat l
+line (by c p n m) = do
+  s ← store
+  put (merged c p n m s)
+  give c
+
+unfoldable pub build : List Line → Work (Unit {0})
+build [] = give tt
+build (x ∷ l) = line x >> build l
+
+-- ANSWERS
+
+abbrev pub sameGuard : ℤ → ℤ → Bool
+sameGuard (pos a) (pos b) = eqb a b
+sameGuard (pos a) (negsuc b) = false
+sameGuard (negsuc a) (pos b) = false
+sameGuard (negsuc a) (negsuc b) = eqb a b
+
+-- document 01's number and values of an answer: 0 Done, 1 Saturated, 2 Conflict, 3 Propagate, 4 Split
+abbrev pub number : Answer → ℕ
+number done = 0
+number saturated = 1
+number conflict = 2
+number (propagate v w k) = 3
+number (split l g) = 4
+
+abbrev pub flag : Bool → ℕ
+flag true = 1
+flag false = 0
+
+abbrev pub values : Answer → List ℕ
+values done = []
+values saturated = []
+values conflict = []
+values (propagate v w k) = v ∷ w ∷ flag k ∷ []
+values (split l g) = l
+
+abbrev pub guardOf : Answer → ℤ
+guardOf done = pos 0
+guardOf saturated = pos 0
+guardOf conflict = pos 0
+guardOf (propagate v w k) = pos 0
+guardOf (split l g) = g
+
+unfoldable pub samePairs : List (ℕ × ℕ) → List (ℕ × ℕ) → Bool
+samePairs [] [] = true
+samePairs [] (y ∷ ys) = false
+samePairs (x ∷ xs) [] = false
+samePairs (x ∷ xs) (y ∷ ys) = samePair x y && samePairs xs ys
+
+pub record Case : Type 0 where
+  pub lines : List Line
+  pub left : List ℕ
+  pub right : List ℕ
+  pub incoming : List (ℕ × ℕ)
+  pub expected : Answer
+  pub reasons : List (ℕ × ℕ)
+
+abbrev pub case : List Line → List ℕ → List ℕ → Answer → List (ℕ × ℕ) → Case
+case ls l r x rs = record { lines = ls; left = l; right = r; incoming = []; expected = x; reasons = rs }
+
+-- the same with a reason handed in
+abbrev pub caseAfter : List (ℕ × ℕ) → List Line → List ℕ → List ℕ → Answer → List (ℕ × ℕ) → Case
+caseAfter rs₀ ls l r x rs = record { lines = ls; left = l; right = r; incoming = rs₀; expected = x; reasons = rs }
+
+abbrev pub agrees : Case → Out Answer → Bool
+agrees c (ok s x) = eqb (number x) (number (c .expected)) && sameWord (values x) (values (c .expected)) && sameGuard (guardOf x) (guardOf (c .expected))
+    && samePairs (s .reasons) (c .reasons)
+agrees c (stop n) = false
+
+-- guard 9, on a store that passes the audit
+abbrev pub resolved : Case → Out (Unit {0}) → Bool
+resolved c (stop n) = false
+resolved c (ok s x) = eqb (auditStore s) 0 && agrees c (resolve (c .left) (c .right) (pos 9) (withReasons s (c .incoming)))
+
+unfoldable pub holds : Case → Bool
+holds c = resolved c (build (c .lines) empty)
+
+unfoldable pub starred : List Case
+starred =
+    -- [] = []: Done
+    case [] [] [] done []
+    -- ["a",x] = ["ab",y]: Done
+    ∷ case (con "a" ∷ var "x" ∷ con "ab" ∷ var "y" ∷ []) (1 ∷ 2 ∷ []) (3 ∷ 4 ∷ []) done []
+    -- [v] = ["a",u,"b"], u and v merged by a5: Conflict, a5
+    ∷ case (var "v" ∷ var "u" ∷ con "a" ∷ con "b" ∷ by 2 1 5 1 ∷ []) (1 ∷ []) (3 ∷ 2 ∷ 4 ∷ []) conflict ((1, 5) ∷ [])
+    -- [v] = [x,"a",y], v and "a" merged: Split
+    ∷ case (var "v" ∷ var "x" ∷ con "a" ∷ var "y" ∷ by 1 3 5 1 ∷ []) (1 ∷ []) (2 ∷ 3 ∷ 4 ∷ []) (split (7 ∷ 10 ∷ 13 ∷ []) (negsuc 8)) []
+    -- [u,"z",w] = ["bzc"], w and u merged by a7: Conflict, a7
+    ∷ case (var "u" ∷ con "z" ∷ var "w" ∷ con "bzc" ∷ by 3 1 7 1 ∷ []) (1 ∷ 2 ∷ 3 ∷ []) (4 ∷ []) conflict ((1, 7) ∷ [])
+    -- [] = [x,y], x and "" merged: Propagate y
+    ∷ case (var "x" ∷ var "y" ∷ con "" ∷ by 1 3 1 1 ∷ []) [] (1 ∷ 2 ∷ []) (propagate 2 3 true) []
+    -- [!strk0] = [x]: Split
+    ∷ case (var "!strk0" ∷ var "x" ∷ []) (1 ∷ []) (2 ∷ []) (split (5 ∷ 8 ∷ 11 ∷ []) (negsuc 8)) []
+    -- [x,u] = [y,"a"], x and y merged by a9: Propagate u "a", a9
+    ∷ case (var "x" ∷ var "u" ∷ var "y" ∷ con "a" ∷ by 1 3 9 1 ∷ []) (1 ∷ 2 ∷ []) (3 ∷ 4 ∷ []) (propagate 2 4 false) ((1, 9) ∷ [])
+    -- the same with i4 handed in
+    ∷ caseAfter ((2, 4) ∷ []) (var "x" ∷ var "u" ∷ var "y" ∷ con "a" ∷ by 1 3 9 1 ∷ []) (1 ∷ 2 ∷ []) (3 ∷ 4 ∷ []) (propagate 2 4 false) ((2, 4) ∷ (1, 9) ∷ [])
+    -- [x,u,w] = [y,"a",z], same merge: Saturated
+    ∷ case (var "x" ∷ var "u" ∷ var "w" ∷ var "y" ∷ con "a" ∷ var "z" ∷ by 1 4 9 1 ∷ []) (1 ∷ 2 ∷ 3 ∷ []) (4 ∷ 5 ∷ 6 ∷ []) saturated []
+    ∷ []
+
+pub starred-hold : T (all holds starred)
+unfolding starred holds samePairs build line merged codes all any firstOf keep joined table sameWord isIn firsts seconds upTo allBelow firstBelow termIn cellIn within textIn chainBy climb aboveBy nearestIn pathIn isChar isNumber reasonRule keyRule cellRule textRule named nameRule partRule concatRule lengthRule isEquatable equationRule termRule recordsRule parentsRule endsRule alikeRule aloneRule labelRule classesRule pairsOf fallsRule congruenceRule congruencesRule auditStore addReason samePair isKey addKey addText chainFrom addChain addTerm lookup lowest constantOf concatOf lengthOf equationOf makeConstant makeVariable makeConcat makeLength makeEquation decimalBy nameOf isTaken takeNameBy takeName wasSeen each edge highest walk explain atomsBy flatten same fixed lettersOf letters explainMatch stripHeads strip isFull occurrence occurs unequal short absent constants isPlain alias empties assigns filled lead firstSpan fits explainAll tileBy tile differ clashes freshVariable splitCharacter splitHeads splits after steps resolve
+starred-hold = tt

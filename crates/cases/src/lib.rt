@@ -1,0 +1,4 @@
+// The starred label cases: see specs/Cases.antt.
+pub struct Starred {
+    pub cases: u32,
+}

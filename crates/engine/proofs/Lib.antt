@@ -1,0 +1,4 @@
+pub mod Paths
+pub mod Fits
+pub mod Cites
+pub mod Run

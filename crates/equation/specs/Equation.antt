@@ -1,0 +1,45 @@
+-- Document 01, 'One equation'.
+use mathlib.Core.Bool.{Bool, true, false, _&&_}
+use mathlib.Core.List.{List}
+use mathlib.Core.Option.{Option, none, some}
+use Prim.Native.Nat.{ℕ}
+use lib.IntN.{ℤ}
+use Rattle.records.specs.Store.{Store, Out, ok, stop, Work, _>>=_, give, store, term, isEquation, isString}
+use Rattle.records.specs.Make.{withReasons}
+use Rattle.normalize.specs.Normalize.{deepForm, isList}
+use Rattle.wordeq.specs.Wordeq.{Answer, done, saturated, conflict, propagate, split, resolve, isGuard}
+use Rattle.wordeq.specs.Meaning.{Worth}
+
+pub data Stepped : Type 0 where
+  unexpanded : Stepped
+  answered : Answer → Stepped
+
+-- 'Split and Saturated carry the normal forms' reasons; Done returns the incoming count'
+abbrev pub returned : List (ℕ × ℕ) → Answer → Work Stepped
+returned rs done = λ s. ok (withReasons s rs) (answered done)
+returned rs saturated = give (answered saturated)
+returned rs conflict = give (answered conflict)
+returned rs (propagate v w k) = give (answered (propagate v w k))
+returned rs (split l g) = give (answered (split l g))
+
+-- 'None gives Unexpanded and the incoming reason count'
+abbrev pub orUnexpanded : List (ℕ × ℕ) → (List ℕ → Work Stepped) → Option (List ℕ) → Work Stepped
+orUnexpanded rs f none = λ s. ok (withReasons s rs) unexpanded
+orUnexpanded rs f (some l) = f l
+
+-- 'deep form of left, then right, then wordeq with both lists' reasons incoming'; 'after a left None the right isn't tried'
+unfoldable pub step : List ℕ → ℕ → ℤ → Work Stepped
+step known e g = do
+  s ← store
+  deepForm known (term s e .first) >>= orUnexpanded (s .reasons) (λ l.
+      deepForm known (term s e .second) >>= orUnexpanded (s .reasons) (λ r.
+      resolve l r g >>= returned (s .reasons)))
+
+-- 'From an equation of two string terms (one of lengths is refusal 5), the known list and a guard'
+abbrev pub stepArguments : List ℕ → ℕ → ℤ → Store → Bool
+stepArguments known e g s = isList s known && isEquation s e && isString s (term s e .first) && isGuard g
+
+-- demand 3, the sides being 'the two terms of the equation'
+abbrev pub StepSound : Store → Store → ℕ → Stepped → Type 0
+StepSound s s′ e unexpanded = Unit {0}
+StepSound s s′ e (answered x) = Worth s s′ (λ w. w (term s e .first)) (λ w. w (term s e .second)) x

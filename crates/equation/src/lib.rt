@@ -1,0 +1,4 @@
+// The step over one equation.
+pub struct Step {
+    pub case: u32,
+}

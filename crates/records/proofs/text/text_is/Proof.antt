@@ -1,0 +1,33 @@
+use Rattle.records.proofs.Texts.{Agreed, agreed-none, agreed-one, agreed-all, disagree}
+use lib.ListN.{length}
+use Prim.Native.Nat.{_-_}
+use borrow.Author.Needs.{needs}
+use Rattle.records.proofs.text.text_is.Statement.{statement}
+use Rattle.records.proofs.text.text_is.Tie as tie
+
+abbrev Inv-loop : tie.InvT-loop
+Inv-loop chars p w at i₀ i = Agreed chars w p i
+
+abbrev μ-loop : tie.MeasureT-loop
+μ-loop chars p w at i₀ i = length w - i
+
+pub text-is-spec : {M : Type 1} → statement M
+text-is-spec =
+    tie.close
+    (tie.spec
+    Inv-loop
+    μ-loop
+    (λ c. search needs)
+    (λ c κs. search needs)
+    (λ c. search needs)
+    (λ c. agreed-none _ _ _)
+    (λ c. search needs)
+    (λ c. search needs)
+    (λ c. search needs)
+    (λ c. search needs)
+    (λ c. search needs)
+    (λ c. disagree _ _ _ _ (c .before .before .before .before .loop .inv) (c .before .before .before .loop-test .taken) (c .if2 .taken))
+    (λ c. search needs)
+    (λ c. search needs)
+    (λ c. agreed-one _ _ _ _ (c .before .before .before .before .loop .inv) (c .before .before .before .loop-test .taken) (c .if2 .left))
+    (λ c. agreed-all _ _ _ _ (c .before .loop .inv) (c .loop-test .left)))

@@ -1,0 +1,30 @@
+use Rattle.records.proofs.Texts.{Agreed, agreed-none, agreed-one, agreed-all, disagree}
+use mathlib.Core.Path.{sym, _∙_}
+use lib.ListN.{length}
+use Prim.Native.Nat.{_-_}
+use borrow.Author.Needs.{needs}
+use Rattle.records.proofs.text.text_past.Statement.{statement}
+use Rattle.records.proofs.text.text_past.Tie as tie
+
+abbrev Inv-loop : tie.InvT-loop
+Inv-loop chars at w i₀ i = Agreed chars w at i
+
+abbrev μ-loop : tie.MeasureT-loop
+μ-loop chars at w i₀ i = length w - i
+
+pub text-past-spec : {M : Type 1} → statement M
+text-past-spec =
+    tie.close
+    (tie.spec
+    Inv-loop
+    μ-loop
+    (λ c. agreed-none _ _ _)
+    (λ c. search needs)
+    (λ c κs. search needs)
+    (λ c. search needs)
+    (λ c. search needs)
+    (λ c. disagree _ _ _ _ (c .before .before .before .before .loop .inv) (c .before .before .before .loop-test .taken) (λ e. c .if1 .taken (c .before .before .word .ensures ∙ e)))
+    (λ c. search needs)
+    (λ c. search needs)
+    (λ c. agreed-one _ _ _ _ (c .before .before .before .before .loop .inv) (c .before .before .before .loop-test .taken) (sym (c .before .before .word .ensures) ∙ c .if1 .left))
+    (λ c. agreed-all _ _ _ _ (c .before .loop .inv) (c .loop-test .left)))

@@ -1,0 +1,41 @@
+-- What writing a record above the count does to the records that are seen.
+use mathlib.Core.Path.{_≡_}
+use mathlib.Core.Bool.{Bool, true, false}
+use mathlib.Core.List.{List, [], _∷_, _++_}
+use Prim.Native.Nat.{ℕ, suc, _+_, _≤_}
+use lib.ListN.{length}
+use lib.Dec.{ltb}
+use Rattle.records.specs.Store.{Cell}
+use Rattle.records.specs.View.{termsView, cellsView, charsView, pairsView, reasonRoom}
+use Rattle.records.specs.Make.{own, chainFrom}
+
+-- record n + 1 of terms is now one that is its own class
+pub record TermPut (l l′ : List ℕ) (n kind first second : ℕ) : Type 0 where
+  pub grown : termsView l′ (suc n) ≡ termsView l n ++ (own (suc n) kind first second ∷ [])
+  pub kept : termsView l′ n ≡ termsView l n
+
+-- the characters from place n on are now w
+pub record CharsPut (l l′ : List ℕ) (n : ℕ) (w : List ℕ) : Type 0 where
+  pub grown : charsView l′ (n + length w) ≡ charsView l n ++ w
+  pub kept : charsView l′ n ≡ charsView l n
+
+-- record n + 1 of cells is now one with second value 0
+pub record CellPut (l l′ : List ℕ) (n value next : ℕ) : Type 0 where
+  pub grown : cellsView l′ (suc n) ≡ cellsView l n ++ (record { value = value; other = 0; next = next } ∷ [])
+  pub kept : (i : ℕ) → i ≤ n → cellsView l′ i ≡ cellsView l i
+
+-- the cells from record n + 1 on are now a chain of these values
+pub record ChainPut (l l′ : List ℕ) (n : ℕ) (w : List ℕ) : Type 0 where
+  pub grown : cellsView l′ (n + length w) ≡ cellsView l n ++ chainFrom (suc n) w
+  pub kept : cellsView l′ n ≡ cellsView l n
+
+-- pair n of reasons or of keys is now this one
+pub record PairPut (l l′ : List ℕ) (n a b : ℕ) : Type 0 where
+  pub grown : pairsView l′ (suc n) ≡ pairsView l n ++ ((a, b) ∷ [])
+  pub kept : pairsView l′ n ≡ pairsView l n
+
+-- a reason is put where it fits, and nothing that is counted changes
+pub record Pushed (l l′ : List ℕ) (n kind value : ℕ) (r : Bool) : Type 0 where
+  pub fits : r ≡ ltb n (reasonRoom l)
+  pub grown : r ≡ true → pairsView l′ (suc n) ≡ pairsView l n ++ ((kind, value) ∷ [])
+  pub kept : pairsView l′ n ≡ pairsView l n

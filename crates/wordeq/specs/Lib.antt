@@ -1,0 +1,2 @@
+pub mod Wordeq
+pub mod Meaning

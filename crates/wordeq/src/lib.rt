@@ -1,0 +1,5 @@
+// Word equations, steps 1 to 8.
+pub struct Sides {
+    pub left: usize,
+    pub right: usize,
+}
