@@ -80,6 +80,14 @@ pub record Recorded (s : Store) : Type 0 where
 pub record Closed (up : ℕ → ℕ) (n : ℕ) : Type 0 where
   pub stays : (t : ℕ) → within n t ≡ true → within n (up t) ≡ true
 
+-- r is the root of t's class and q the root of its tree, in a store of n terms whose parents are terms
+pub record Rooted (s : Store) (n t r q : ℕ) : Type 0 where
+  pub here : within n t ≡ true
+  pub roots : Closed (λ x. term s x .classParent) n
+  pub tops : Closed (λ x. term s x .forestParent) n
+  pub root-is : r ≡ root s t
+  pub top-is : q ≡ top s t
+
 -- what refusal 3 asks
 pub record Classed (s : Store) : Type 0 where
   pub classParents : (t : ℕ) → isTerm s t ≡ true → isTerm s (term s t .classParent) ≡ true
