@@ -2,8 +2,15 @@
 
 pub mod audit;
 pub mod call;
+pub mod claim;
+pub mod compare;
+pub mod damage;
 pub mod draft;
 pub mod generate;
 pub mod lent;
+pub mod model;
 pub mod oracle;
+#[cfg(feature = "port")]
+pub mod port;
 pub mod random;
+pub mod shrink;

@@ -3,6 +3,7 @@
 use differential::{
     audit::audit,
     call::NAMES,
+    damage,
     draft::lay_out,
     generate,
     oracle::{self, Mode},
@@ -35,5 +36,25 @@ fn stores_at_their_limits_pass() {
         let r = if random.one_in(3) { generate::long_request(&mut random, &s, kind) } else { generate::request(&mut random, &s, kind) };
         let a = oracle::run(&s, &r, Mode::Departing);
         assert_eq!(audit(&a.outcome.exit), 0, "after {r:?}: {d:?}\n{s}");
+    }
+}
+
+// every rule can be broken alone, and the audit says which refusal is due
+#[test]
+fn damaged_stores_fail() {
+    let mut random = Random::new(6);
+    let rules = damage::rules();
+    let mut broken = vec![0; rules.len()];
+    for _ in 0..2_000 {
+        let p = generate::profile(&mut random);
+        let s = lay_out(&generate::draft(&mut random, p));
+        for (i, rule) in rules.iter().enumerate() {
+            broken[i] += damage::broken(&s, rule, &mut random).is_some() as u32;
+        }
+        audit(&damage::scrambled(&s, &mut random));
+        audit(&damage::noise(&mut random));
+    }
+    for (i, rule) in rules.iter().enumerate() {
+        assert!(broken[i] > 20, "{}: {} broken", rule.name, broken[i]);
     }
 }
