@@ -117,7 +117,7 @@ module _ (s : Store) (ds : List Cell) (hs : List ℕ) (k a b : ℕ) (audited : A
             ∙ sym (joined-but w n u (parts s t) (every-map (λ p l. omega arith) (parts-lower s (audited .recorded) t e)))
             ∙ ap (joined v) (sym (old-parts s ds hs k a b (audited .recorded) more t e)))
             (λ i. but-same w n u ∙ is-parts i
-            ∙ sym (joined-but w n u (firsts (chainIn ds a)) (every-firsts (λ p l. let h = string-here s (p .0) l in omega arith) (new .strings i)))
+            ∙ sym (joined-but w n u (firsts (chainIn ds a)) (every-firsts (λ p l. let h = string-here s (p .0) l in omega arith) (new .concat i .strings)))
             ∙ ap (λ (x : Term). joined v (firsts (chainIn ds (x .first)))) (sym (Append.new-term s ds hs k a b)));
       }
 

@@ -208,18 +208,10 @@ constant-new w s a h f = record {
   kinds = refl;
   constant = λ e. simp length-append (omega arith);
   variable = λ e. absurd (omega arith);
-  long = λ e. absurd (omega arith);
-  unique = λ e. absurd (omega arith);
-  two = λ e. absurd (omega arith);
-  strings = λ e. absurd (omega arith);
-  plain = λ e. absurd (omega arith);
-  concatSecond = λ e. absurd (omega arith);
-  string = λ e. absurd (omega arith);
-  lengthSecond = λ e. absurd (omega arith);
-  sides = λ e. absurd (omega arith);
-  termRoom = h;
-  cellRoom = a .roomy .cells;
-  charRoom = simp length-append (omega arith);
+  concat = λ e. absurd (omega arith);
+  length-of = λ e. absurd (omega arith);
+  equation = λ e. absurd (omega arith);
+  room = record { terms = h; cells = a .roomy .cells; chars = simp length-append (omega arith) };
 }
 
 constant-added : (w : List ℕ) (s s′ : Store) (t : ℕ) → Audited s → all isChar w ≡ true → TextAdded 1 w s s′ t → ConstantMade w s s′ t
@@ -264,19 +256,11 @@ unfolding within
 variable-new w s a filled q h f = record {
   kinds = refl;
   constant = λ e. absurd (omega arith);
-  variable = λ e. simp length-append (omega arith);
-  long = λ e. filled;
-  unique = λ e t d i. absent-name w s q t d (i ∙ text-read s 2 w);
-  two = λ e. absurd (omega arith);
-  strings = λ e. absurd (omega arith);
-  plain = λ e. absurd (omega arith);
-  concatSecond = λ e. absurd (omega arith);
-  string = λ e. absurd (omega arith);
-  lengthSecond = λ e. absurd (omega arith);
-  sides = λ e. absurd (omega arith);
-  termRoom = h;
-  cellRoom = a .roomy .cells;
-  charRoom = simp length-append (omega arith);
+  variable = λ e. record { fits = simp length-append (omega arith); long = filled; unique = λ t d i. absent-name w s q t d (i ∙ text-read s 2 w) };
+  concat = λ e. absurd (omega arith);
+  length-of = λ e. absurd (omega arith);
+  equation = λ e. absurd (omega arith);
+  room = record { terms = h; cells = a .roomy .cells; chars = simp length-append (omega arith) };
 }
 
 module _ (w : List ℕ) (s s′ : Store) (t : ℕ) (audited : Audited s) (good : all isChar w ≡ true) (filled : 1 ≤ length w) where
@@ -381,18 +365,15 @@ module _ (l : List ℕ) (s s′ : Store) (t : ℕ) (audited : Audited s) (two : 
     kinds = refl;
     constant = λ e. absurd (omega arith);
     variable = λ e. absurd (omega arith);
-    long = λ e. absurd (omega arith);
-    unique = λ e. absurd (omega arith);
-    two = λ e. subst (λ (m : List (ℕ × ℕ)). 2 ≤ length m) (sym (chain-made (s .cells) l)) (let p = plain-length l in omega arith);
-    strings = λ e. subst (Every (λ p. isString s (p .0) ≡ true)) (sym (chain-made (s .cells) l)) (plain-strings s l (all-every (isString s) l strings));
-    plain = λ e. subst (Every (λ p. p .1 ≡ 0)) (sym (chain-made (s .cells) l)) (plain-plain l);
-    concatSecond = λ e. refl;
-    string = λ e. absurd (omega arith);
-    lengthSecond = λ e. absurd (omega arith);
-    sides = λ e. absurd (omega arith);
-    termRoom = h;
-    cellRoom = (let p = length-append (s .cells) (chainFrom (suc (length (s .cells))) l) in let q = from-length (suc (length (s .cells))) l in omega arith);
-    charRoom = audited .roomy .chars;
+    concat = λ e. record {
+      two = subst (λ (m : List (ℕ × ℕ)). 2 ≤ length m) (sym (chain-made (s .cells) l)) (let p = plain-length l in omega arith);
+      strings = subst (Every (λ p. isString s (p .0) ≡ true)) (sym (chain-made (s .cells) l)) (plain-strings s l (all-every (isString s) l strings));
+      plain = subst (Every (λ p. p .1 ≡ 0)) (sym (chain-made (s .cells) l)) (plain-plain l);
+      second = refl;
+    };
+    length-of = λ e. absurd (omega arith);
+    equation = λ e. absurd (omega arith);
+    room = record { terms = h; cells = (let p = length-append (s .cells) (chainFrom (suc (length (s .cells))) l) in let q = from-length (suc (length (s .cells))) l in omega arith); chars = audited .roomy .chars };
   }
 
   concat-added : ChainAdded l s s′ t → ConcatMade l s s′ t
@@ -437,18 +418,10 @@ module _ (a : ℕ) (s s′ : Store) (t : ℕ) (audited : Audited s) (string : is
     kinds = refl;
     constant = λ e. absurd (omega arith);
     variable = λ e. absurd (omega arith);
-    long = λ e. absurd (omega arith);
-    unique = λ e. absurd (omega arith);
-    two = λ e. absurd (omega arith);
-    strings = λ e. absurd (omega arith);
-    plain = λ e. absurd (omega arith);
-    concatSecond = λ e. absurd (omega arith);
-    string = λ e. string;
-    lengthSecond = λ e. refl;
-    sides = λ e. absurd (omega arith);
-    termRoom = h;
-    cellRoom = audited .roomy .cells;
-    charRoom = audited .roomy .chars;
+    concat = λ e. absurd (omega arith);
+    length-of = λ e. record { string = string; second = refl };
+    equation = λ e. absurd (omega arith);
+    room = record { terms = h; cells = audited .roomy .cells; chars = audited .roomy .chars };
   }
 
   length-added : TermAdded 4 a 0 s s′ t → LengthMade a s s′ t
@@ -479,18 +452,10 @@ module _ (a b : ℕ) (s s′ : Store) (t : ℕ) (audited : Audited s) (sides : i
     kinds = refl;
     constant = λ e. absurd (omega arith);
     variable = λ e. absurd (omega arith);
-    long = λ e. absurd (omega arith);
-    unique = λ e. absurd (omega arith);
-    two = λ e. absurd (omega arith);
-    strings = λ e. absurd (omega arith);
-    plain = λ e. absurd (omega arith);
-    concatSecond = λ e. absurd (omega arith);
-    string = λ e. absurd (omega arith);
-    lengthSecond = λ e. absurd (omega arith);
-    sides = λ e. sides;
-    termRoom = h;
-    cellRoom = audited .roomy .cells;
-    charRoom = audited .roomy .chars;
+    concat = λ e. absurd (omega arith);
+    length-of = λ e. absurd (omega arith);
+    equation = λ e. sides;
+    room = record { terms = h; cells = audited .roomy .cells; chars = audited .roomy .chars };
   }
 
   equation-added : TermAdded 5 a b s s′ t → EquationMade a b s s′ t
