@@ -1,28 +1,28 @@
 -- One term appended that is its own class, with cells and characters at the end of theirs: what the old terms read is what they read
 -- before, and the store stays audited.
 use mathlib.Core.Path.{_≡_, refl, sym, ap, subst, _∙_}
-use mathlib.Core.Bool.{Bool, true, false, not, _&&_, _||_}
+use mathlib.Core.Bool.{Bool, true, false, not, _&&_}
 use mathlib.Core.List.{List, [], _∷_, _++_}
 use mathlib.Core.Logic.{_⊎_, inl, inr, ⊎-elim}
 use Prim.Native.Nat.{ℕ, zero, suc, _+_, _≤_, _<_}
 use native.Mathlib.Omega.{arith}
 use native.Mathlib.Decide.{decLe}
-use lib.ListN.{length, getD, take, drop, length-append, length-drop, List·getD-append}
-use lib.Seq.{getD-append-seam, take-append-le, drop-append-le}
-use lib.Dec.{eqb, ltb, leb}
-use borrow.Author.Tests.{eqb-true, eqb-false, eq-eqb, ne-eqb}
-use Rattle.records.specs.Lists.{if_then_else_, all, firstOf, isIn, firsts, seconds, upTo, Every, none-left, and}
-use Rattle.records.specs.Store.{Term, noTerm, Cell, Store, Room, termIn, term, count, kind, within, isTerm, isString, isLength, textIn, text, chainIn, chain, parts, climb, classUp, forestUp, root, top, sameClass, sameTree, aboveBy, aboveIn, orNone, nearestIn, pathIn, path, isEdge}
+use lib.ListN.{length, length-append, List·getD-append}
+use lib.Seq.{getD-append-seam}
+use lib.Dec.{eqb, ltb}
+use borrow.Author.Tests.{eqb-true, eq-eqb, ne-eqb}
+use Rattle.records.specs.Lists.{all, firstOf, isIn, firsts, seconds, upTo, Every, none-left, and}
+use Rattle.records.specs.Store.{Term, noTerm, Cell, Store, termIn, term, count, kind, within, isTerm, isString, isLength, textIn, text, chainIn, chain, parts, climb, classUp, forestUp, root, top, sameClass, sameTree, aboveBy, aboveIn, orNone, nearestIn, pathIn, path, isEdge}
 use Rattle.records.specs.Make.{own}
 use Rattle.records.specs.Rules.{isChar, isNumber, keyRule, isEquatable}
 use Rattle.records.specs.Audited
-use Rattle.records.specs.Audited.{Part, Ascends, Closed, Label, Unlabelled, Falls, Pairs, Congruent, Recorded, Classed, Congruences, Roomy, Audited}
-use Rattle.records.proofs.Lists.{both-left, both-right, both-true, either, or-left, or-right, within-low, within-high, within-is, within-past, decide, clash, every-map, all-every, every-all}
+use Rattle.records.specs.Audited.{Part, Ascends, Closed, Label, Unlabelled, Falls, Pairs, Congruent, Recorded, Classed, Congruences, Audited}
+use Rattle.records.proofs.Lists.{both-left, both-right, both-true, either, or-left, or-right, within-low, within-high, within-is, decide, clash, every-map, all-every, every-all}
 use Rattle.records.proofs.Climbs.{climb-last, classed-roots, classed-tops, root-self, top-self, root-term, top-term}
 use Rattle.records.proofs.Chains
 use Rattle.records.proofs.Chains.{chain-extends, chain-none}
 use Rattle.records.proofs.Readings.{parts-strings}
-use Rattle.records.proofs.Grown.{term-past, used, present, kind-term, string-term, string-here}
+use Rattle.records.proofs.Grown.{term-past, used, present, string-term, string-here}
 
 -- WALKS
 
@@ -64,7 +64,7 @@ chain-here cs c h =
     decide (within (length cs) c) (within-high (length cs) c) (λ e. let z = ap length (chain-none cs c e) in absurd (omega arith))
 
 -- the arguments of an equation are terms
-equatable-here : (s : Store) (t u : ℕ) → isEquatable s t u ≡ true → (t ≤ count s) × (u ≤ count s)
+pub equatable-here : (s : Store) (t u : ℕ) → isEquatable s t u ≡ true → (t ≤ count s) × (u ≤ count s)
 unfolding isEquatable
 equatable-here s t u e =
     ⊎-elim (λ h. (string-here s t (both-left _ _ h), string-here s u (both-right (isString s t) _ h)))
