@@ -19,3 +19,4 @@ pub mod Extend
 pub mod Beside
 pub mod Kept
 pub mod Meant
+pub mod Builds
