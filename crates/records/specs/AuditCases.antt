@@ -8,7 +8,7 @@ use Rattle.records.specs.declared.State.{State}
 use Rattle.records.specs.Lists.{all, any, firstOf, table, sameWord, isIn, firsts, seconds, upTo, allBelow}
 use Rattle.records.specs.Store.{termIn, cellIn, within, textIn, chainBy, climb, aboveBy, nearestIn, pathIn}
 use Rattle.records.specs.View.{Lent, lent, sizes}
-use Rattle.records.specs.Rules.{isChar, isNumber, reasonRule, keyRule, cellRule, textRule, named, nameRule, partRule, concatRule, lengthRule, isEquatable, equationRule, termRule, recordsRule, parentsRule, endsRule, alikeRule, aloneRule, labelRule, classesRule, pairsOf, fallsRule, congruenceRule, congruencesRule, auditStore, audit}
+use Rattle.records.specs.Rules.{isChar, isNumber, reasonRule, keyRule, cellRule, textRule, named, nameRule, partRule, concatRule, lengthRule, isEquatable, equationRule, termRule, recordsRule, parentsRule, endsRule, alikeRule, aloneRule, edgeLabel, labelRule, classesRule, pairsOf, fallsRule, congruenceRule, congruencesRule, auditStore, audit}
 
 -- variables x and y, merged by a7; x ++ y and y ++ x, joined by congruence; the length of x; x = y
 unfoldable pub goodTerms : List ℕ
@@ -172,5 +172,5 @@ cases =
     ∷ []
 
 pub cases-answered : T (all answered cases)
-unfolding goodTerms goodCells damage answered cases audit sizes auditStore recordsRule classesRule congruencesRule termRule cellRule textRule nameRule named concatRule partRule lengthRule equationRule isEquatable isChar isNumber reasonRule keyRule parentsRule endsRule alikeRule aloneRule labelRule congruenceRule pairsOf fallsRule all any firstOf table sameWord isIn firsts seconds upTo allBelow termIn cellIn within textIn chainBy climb aboveBy nearestIn pathIn
+unfolding goodTerms goodCells damage answered cases audit sizes auditStore recordsRule classesRule congruencesRule termRule cellRule textRule nameRule named concatRule partRule lengthRule equationRule isEquatable isChar isNumber reasonRule keyRule parentsRule endsRule alikeRule aloneRule edgeLabel labelRule congruenceRule pairsOf fallsRule all any firstOf table sameWord isIn firsts seconds upTo allBelow termIn cellIn within textIn chainBy climb aboveBy nearestIn pathIn
 cases-answered = tt
