@@ -2,7 +2,7 @@
 use mathlib.Core.Path.{_≡_, refl, sym, ap, subst, _∙_}
 use mathlib.Core.Bool.{Bool, true, false, _&&_, false≢true}
 use mathlib.Core.List.{List, [], _∷_, _++_}
-use mathlib.Core.Logic.{_⊎_, ⊎-elim}
+use mathlib.Core.Logic.{_⊎_, inl, inr, ⊎-elim}
 use mathlib.Core.Option.{Option, none, some}
 use Prim.Native.Nat.{ℕ, zero, suc, _+_, _-_, _/_, _%_, _≤_, _<_, min, max}
 use native.Mathlib.Nat.{min-eq-left, min-eq-right, max-eq-left, max-eq-right, eq-or-lt-of-le, mod-lt}
@@ -11,13 +11,13 @@ use lib.ListN.{length, take, drop, length-append, length-drop}
 use lib.Seq.{take-append-le, drop-append-le, drop-append-seam, take-length}
 use lib.Dec.{eqb, ltb, leb}
 use borrow.Author.Tests.{eqb-true, eq-eqb, ltb-true, leb-true, leb-false, lt-ltb}
-use Rattle.records.specs.Lists.{if_then_else_, all, firsts, sameWord, firstBelow, Every, none-left, and}
+use Rattle.records.specs.Lists.{if_then_else_, all, firsts, firstBelow, Every, none-left, and}
 use Rattle.records.specs.Store.{Term, Cell, Store, Out, ok, stop, Work, andThen, _>>=_, _>>_, give, refuse, put, term, count, kind, within, isTerm, isString, isConstant, isVariable, isConcat, isLength, isEquation, textIn, text, chainIn, parts}
 use Rattle.records.specs.Rules.{isChar, reasonRule, keyRule, named, isEquatable}
 use Rattle.records.specs.Make.{withReasons, withKeys, withChars, withCells, withNames, own, addReason, addKey, addText, addChain, chainFrom, addTerm, lookup, orMake, lowest, constantOf, concatOf, lengthOf, equationOf, makeConstant, makeVariable, makeConcat, makeLength, makeEquation, ordered, strk, decimalBy, nameOf, isSome, isTaken, takeNameBy, nameLimit, takeName}
-use Rattle.records.specs.Meaning.{Words, Reading, Holds}
+use Rattle.records.specs.Meaning.{Words, Reading}
 use Rattle.records.specs.Audited.{Recorded, Audited}
-use Rattle.records.proofs.Lists.{both-left, both-right, both-true, or-left, decide, clash, all-append, all-every, within-low, within-high, word-is, word-same, Found, first-some, first-none}
+use Rattle.records.proofs.Lists.{both-left, both-right, both-true, or-left, decide, clash, all-append, all-every, within-low, within-high, word-is, word-same, first-some, first-none}
 use Rattle.records.proofs.Works.{stop-not, via, branch}
 use Rattle.records.proofs.Chains.{extends-refl, extends-append, ascends-made, chain-made, from-length, plain, plain-firsts, plain-length}
 use Rattle.records.proofs.Grown.{kind-term, Grown, grown-none, grown-then}
@@ -71,6 +71,10 @@ pub record MadeIn (s s′ : Store) (t k : ℕ) : Type 0 where
   pub reasons : s′ .reasons ≡ s .reasons
   pub keys : s′ .keys ≡ s .keys
   pub room : s′ .room ≡ s .room
+
+-- a term of kinds 1 to 3 is a string term
+pub made-string : {s s′ : Store} {t k : ℕ} → MadeIn s s′ t k → within 3 k ≡ true → isString s′ t ≡ true
+made-string m e = ap (within 3) (m .kind-is) ∙ e
 
 -- a term found is in the store as it is
 found-in : (s s′ : Store) (t k : ℕ) → Audited s → s′ ≡ s → kind s t ≡ k → MadeIn s s′ t k
@@ -146,6 +150,10 @@ term-stops : (k a b : ℕ) (s : Store) (n : ℕ) → addTerm k a b s ≡ stop n 
 unfolding addTerm
 term-stops k a b s n e = put-stops (ltb (count s) (s .room .terms)) (grow s (s .cells) (s .chars) k a b) s (suc (count s)) n e
 
+-- what holds of the store that was built and of the new number holds of those answered
+at-made : (P : Store → ℕ → Type 0) {s₁ s′ : Store} {n t : ℕ} → s′ ≡ s₁ → t ≡ n → P s₁ n → P s′ t
+at-made P {s₁} {t = t} p q h = subst (λ (y : Store). P y t) (sym p) (subst (P s₁) (sym q) h)
+
 -- TEXTS
 
 record TextAdded (k : ℕ) (w : List ℕ) (s s′ : Store) (t : ℕ) : Type 0 where
@@ -208,26 +216,18 @@ constant-new w s a h f = record {
   kinds = refl;
   constant = λ e. simp length-append (omega arith);
   variable = λ e. absurd (omega arith);
-  long = λ e. absurd (omega arith);
-  unique = λ e. absurd (omega arith);
-  two = λ e. absurd (omega arith);
-  strings = λ e. absurd (omega arith);
-  plain = λ e. absurd (omega arith);
-  concatSecond = λ e. absurd (omega arith);
-  string = λ e. absurd (omega arith);
-  lengthSecond = λ e. absurd (omega arith);
-  sides = λ e. absurd (omega arith);
-  termRoom = h;
-  cellRoom = a .roomy .cells;
-  charRoom = simp length-append (omega arith);
+  concat = λ e. absurd (omega arith);
+  length-of = λ e. absurd (omega arith);
+  equation = λ e. absurd (omega arith);
+  room = record { terms = h; cells = a .roomy .cells; chars = simp length-append (omega arith) };
 }
 
 constant-added : (w : List ℕ) (s s′ : Store) (t : ℕ) → Audited s → all isChar w ≡ true → TextAdded 1 w s s′ t → ConstantMade w s s′ t
 constant-added w s s′ t a good x =
-    subst (λ (y : Store). ConstantMade w s y t) (sym (x .is)) (subst (λ (i : ℕ). ConstantMade w s (grow s (s .cells) (s .chars ++ w) 1 (length (s .chars)) (length w)) i) (sym (x .number)) (record {
+    at-made (ConstantMade w s) (x .is) (x .number) (record {
       made = grow-in s (s .cells) (s .chars ++ w) 1 (length (s .chars)) (length w) a (text-more s w (a .recorded) good) (constant-new w s a (x .room) (x .fits));
       text-is = ap (textIn (s .chars ++ w)) (new-term s (s .cells) (s .chars ++ w) 1 (length (s .chars)) (length w)) ∙ text-read s 1 w;
-    }))
+    })
 
 pub constant-kept : (w : List ℕ) (s s′ : Store) (t : ℕ) → Audited s → all isChar w ≡ true → makeConstant w s ≡ ok s′ t → ConstantMade w s s′ t
 unfolding makeConstant constantOf
@@ -264,33 +264,25 @@ unfolding within
 variable-new w s a filled q h f = record {
   kinds = refl;
   constant = λ e. absurd (omega arith);
-  variable = λ e. simp length-append (omega arith);
-  long = λ e. filled;
-  unique = λ e t d i. absent-name w s q t d (i ∙ text-read s 2 w);
-  two = λ e. absurd (omega arith);
-  strings = λ e. absurd (omega arith);
-  plain = λ e. absurd (omega arith);
-  concatSecond = λ e. absurd (omega arith);
-  string = λ e. absurd (omega arith);
-  lengthSecond = λ e. absurd (omega arith);
-  sides = λ e. absurd (omega arith);
-  termRoom = h;
-  cellRoom = a .roomy .cells;
-  charRoom = simp length-append (omega arith);
+  variable = λ e. record { fits = simp length-append (omega arith); long = filled; unique = λ t d i. absent-name w s q t d (i ∙ text-read s 2 w) };
+  concat = λ e. absurd (omega arith);
+  length-of = λ e. absurd (omega arith);
+  equation = λ e. absurd (omega arith);
+  room = record { terms = h; cells = a .roomy .cells; chars = simp length-append (omega arith) };
 }
 
 module _ (w : List ℕ) (s s′ : Store) (t : ℕ) (audited : Audited s) (good : all isChar w ≡ true) (filled : 1 ≤ length w) where
   variable-added : Absent (named w) s → TextAdded 2 w s s′ t → VariableMade w s s′ t
   variable-added q x =
-      subst (λ (y : Store). VariableMade w s y t) (sym (x .is)) (subst (λ (i : ℕ). VariableMade w s (grow s (s .cells) (s .chars ++ w) 2 (length (s .chars)) (length w)) i) (sym (x .number)) (record {
+      at-made (VariableMade w s) (x .is) (x .number) (record {
         made = grow-in s (s .cells) (s .chars ++ w) 2 (length (s .chars)) (length w) audited (text-more s w (audited .recorded) good) (variable-new w s audited filled q (x .room) (x .fits));
         text-is = ap (textIn (s .chars ++ w)) (new-term s (s .cells) (s .chars ++ w) 2 (length (s .chars)) (length w)) ∙ text-read s 2 w;
-      }))
+      })
 
   chosen-added : Absent (named w) s → TextAdded 2 w s s′ t → (v : Words) → Reading s v → (u : List ℕ) → all isChar u ≡ true → Chosen s s′ v t u
   chosen-added q x v r u h =
-      subst (λ (y : Store). Chosen s y v t u) (sym (x .is)) (subst (λ (i : ℕ). Chosen s (grow s (s .cells) (s .chars ++ w) 2 (length (s .chars)) (length w)) v i u) (sym (x .number))
-      (choose s (s .cells) (s .chars ++ w) 2 (length (s .chars)) (length w) audited (text-more s w (audited .recorded) good) (variable-new w s audited filled q (x .room) (x .fits)) refl v r u h))
+      at-made (λ y i. Chosen s y v i u) (x .is) (x .number)
+      (choose s (s .cells) (s .chars ++ w) 2 (length (s .chars)) (length w) audited (text-more s w (audited .recorded) good) (variable-new w s audited filled q (x .room) (x .fits)) refl v r u h)
 
   pub variable-kept : makeVariable w s ≡ ok s′ t → VariableMade w s s′ t
   unfolding makeVariable named
@@ -381,26 +373,23 @@ module _ (l : List ℕ) (s s′ : Store) (t : ℕ) (audited : Audited s) (two : 
     kinds = refl;
     constant = λ e. absurd (omega arith);
     variable = λ e. absurd (omega arith);
-    long = λ e. absurd (omega arith);
-    unique = λ e. absurd (omega arith);
-    two = λ e. subst (λ (m : List (ℕ × ℕ)). 2 ≤ length m) (sym (chain-made (s .cells) l)) (let p = plain-length l in omega arith);
-    strings = λ e. subst (Every (λ p. isString s (p .0) ≡ true)) (sym (chain-made (s .cells) l)) (plain-strings s l (all-every (isString s) l strings));
-    plain = λ e. subst (Every (λ p. p .1 ≡ 0)) (sym (chain-made (s .cells) l)) (plain-plain l);
-    concatSecond = λ e. refl;
-    string = λ e. absurd (omega arith);
-    lengthSecond = λ e. absurd (omega arith);
-    sides = λ e. absurd (omega arith);
-    termRoom = h;
-    cellRoom = (let p = length-append (s .cells) (chainFrom (suc (length (s .cells))) l) in let q = from-length (suc (length (s .cells))) l in omega arith);
-    charRoom = audited .roomy .chars;
+    concat = λ e. record {
+      two = subst (λ (m : List (ℕ × ℕ)). 2 ≤ length m) (sym (chain-made (s .cells) l)) (let p = plain-length l in omega arith);
+      strings = subst (Every (λ p. isString s (p .0) ≡ true)) (sym (chain-made (s .cells) l)) (plain-strings s l (all-every (isString s) l strings));
+      plain = subst (Every (λ p. p .1 ≡ 0)) (sym (chain-made (s .cells) l)) (plain-plain l);
+      second = refl;
+    };
+    length-of = λ e. absurd (omega arith);
+    equation = λ e. absurd (omega arith);
+    room = record { terms = h; cells = (let p = length-append (s .cells) (chainFrom (suc (length (s .cells))) l) in let q = from-length (suc (length (s .cells))) l in omega arith); chars = audited .roomy .chars };
   }
 
   concat-added : ChainAdded l s s′ t → ConcatMade l s s′ t
   concat-added x =
-      subst (λ (y : Store). ConcatMade l s y t) (sym (x .is)) (subst (λ (i : ℕ). ConcatMade l s (grow s (chained s l) (s .chars) 3 (suc (length (s .cells))) 0) i) (sym (x .number)) (record {
+      at-made (ConcatMade l s) (x .is) (x .number) (record {
         made = grow-in s (chained s l) (s .chars) 3 (suc (length (s .cells))) 0 audited (chain-more s l (audited .recorded)) (concat-new (x .room) (x .fits));
         parts-is = ap (λ (y : Term). firsts (chainIn (chained s l) (y .first))) (new-term s (chained s l) (s .chars) 3 (suc (length (s .cells))) 0) ∙ ap firsts (chain-made (s .cells) l) ∙ plain-firsts l;
-      }))
+      })
 
   pub concat-kept : makeConcat l s ≡ ok s′ t → ConcatMade l s s′ t
   unfolding makeConcat concatOf
@@ -437,26 +426,18 @@ module _ (a : ℕ) (s s′ : Store) (t : ℕ) (audited : Audited s) (string : is
     kinds = refl;
     constant = λ e. absurd (omega arith);
     variable = λ e. absurd (omega arith);
-    long = λ e. absurd (omega arith);
-    unique = λ e. absurd (omega arith);
-    two = λ e. absurd (omega arith);
-    strings = λ e. absurd (omega arith);
-    plain = λ e. absurd (omega arith);
-    concatSecond = λ e. absurd (omega arith);
-    string = λ e. string;
-    lengthSecond = λ e. refl;
-    sides = λ e. absurd (omega arith);
-    termRoom = h;
-    cellRoom = audited .roomy .cells;
-    charRoom = audited .roomy .chars;
+    concat = λ e. absurd (omega arith);
+    length-of = λ e. record { string = string; second = refl };
+    equation = λ e. absurd (omega arith);
+    room = record { terms = h; cells = audited .roomy .cells; chars = audited .roomy .chars };
   }
 
   length-added : TermAdded 4 a 0 s s′ t → LengthMade a s s′ t
   length-added x =
-      subst (λ (y : Store). LengthMade a s y t) (sym (x .is)) (subst (λ (i : ℕ). LengthMade a s (grow s (s .cells) (s .chars) 4 a 0) i) (sym (x .number)) (record {
+      at-made (LengthMade a s) (x .is) (x .number) (record {
         made = grow-in s (s .cells) (s .chars) 4 a 0 audited (same-more s (audited .recorded)) (length-new (x .room));
         first-is = ap (λ (y : Term). y .first) (new-term s (s .cells) (s .chars) 4 a 0);
-      }))
+      })
 
   pub length-kept : makeLength a s ≡ ok s′ t → LengthMade a s s′ t
   unfolding makeLength lengthOf
@@ -479,27 +460,19 @@ module _ (a b : ℕ) (s s′ : Store) (t : ℕ) (audited : Audited s) (sides : i
     kinds = refl;
     constant = λ e. absurd (omega arith);
     variable = λ e. absurd (omega arith);
-    long = λ e. absurd (omega arith);
-    unique = λ e. absurd (omega arith);
-    two = λ e. absurd (omega arith);
-    strings = λ e. absurd (omega arith);
-    plain = λ e. absurd (omega arith);
-    concatSecond = λ e. absurd (omega arith);
-    string = λ e. absurd (omega arith);
-    lengthSecond = λ e. absurd (omega arith);
-    sides = λ e. sides;
-    termRoom = h;
-    cellRoom = audited .roomy .cells;
-    charRoom = audited .roomy .chars;
+    concat = λ e. absurd (omega arith);
+    length-of = λ e. absurd (omega arith);
+    equation = λ e. sides;
+    room = record { terms = h; cells = audited .roomy .cells; chars = audited .roomy .chars };
   }
 
   equation-added : TermAdded 5 a b s s′ t → EquationMade a b s s′ t
   equation-added x =
-      subst (λ (y : Store). EquationMade a b s y t) (sym (x .is)) (subst (λ (i : ℕ). EquationMade a b s (grow s (s .cells) (s .chars) 5 a b) i) (sym (x .number)) (record {
+      at-made (EquationMade a b s) (x .is) (x .number) (record {
         made = grow-in s (s .cells) (s .chars) 5 a b audited (same-more s (audited .recorded)) (equation-new (x .room));
         first-is = ap (λ (y : Term). y .first) (new-term s (s .cells) (s .chars) 5 a b);
         second-is = ap (λ (y : Term). y .second) (new-term s (s .cells) (s .chars) 5 a b);
-      }))
+      })
 
   pub equation-kept : makeEquation a b s ≡ ok s′ t → EquationMade a b s s′ t
   unfolding makeEquation equationOf
@@ -694,3 +667,10 @@ fresh-kept s s′ z a e =
     go : (s₁ : Store) (w : List ℕ) (m : ℕ) → s₁ ≡ withNames s m → Absent (named w) s₁ → all isChar w ≡ true → 1 ≤ length w → makeVariable w s₁ ≡ ok s′ z → Fresh s s′ z
     go s₁ w m i absent good filled d =
         here w m (variable-fresh w (withNames s m) s′ z (names-audited s m a) good filled (subst (λ (x : Store). Absent (named w) x) i absent) (subst (λ (x : Store). makeVariable w x ≡ ok s′ z) i d))
+
+pub fresh-stops : (s : Store) (n : ℕ) → (takeName >>= makeVariable) s ≡ stop n → (n ≡ 8) ⊎ (n ≡ 9)
+fresh-stops s n e = go (takeName s) refl e
+  where
+    go : (o : Out (List ℕ)) → takeName s ≡ o → andThen makeVariable o ≡ stop n → (n ≡ 8) ⊎ (n ≡ 9)
+    go (ok s₁ w) q r = inl (variable-stops w s₁ n r)
+    go (stop m) q r = let j : m ≡ n = cc in inr (sym j ∙ name-stops s m q)

@@ -18,4 +18,5 @@ pub mod Append
 pub mod Extend
 pub mod Beside
 pub mod Kept
+pub mod Meant
 pub mod Builds

@@ -249,7 +249,7 @@ module _ (s : Store) (t : ℕ) where
       (λ k. congruence (eqb-true _ _ k)) (either _ _ r)) (λ p. let z = both _ _ p in definitional (eqb-true _ _ (z .0)) (eqb-true _ _ (z .1))) (either _ _ (rw q at e))
 
   unlabelled-of : labelRule s t ≡ true → isEdge s t ≡ false → Unlabelled s t
-  unfolding labelRule
+  unfolding labelRule edgeLabel
   unlabelled-of e q = let z = each _ _ _ (rw q at e) in record { kind-is = eqb-true _ _ (z .0); value-is = eqb-true _ _ (z .1); stamp-is = eqb-true _ _ (z .2) }
 
   of-label : (isEdge s t ≡ true → Label s t) → (isEdge s t ≡ false → Unlabelled s t) → labelRule s t ≡ true
