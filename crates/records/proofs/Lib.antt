@@ -7,6 +7,7 @@ pub mod Rooms
 pub mod Puts
 pub mod Texts
 pub mod Making
+pub mod Joins
 pub mod Readings
 pub mod Grown
 pub mod Works
