@@ -217,6 +217,15 @@ first-none p (suc n) h k l = go (first-none p n) (firstBelow p n) (p n) refl ref
     go ih none true e q z = let y : _≡_ {A = ℕ} 0 1 = cc in absurd (omega arith)
     go ih none false e q z = ⊎-elim (λ d. ap p d ∙ q) (λ lt. ih e k lt) (eq-or-lt-of-le (le-of-suc-le-suc l))
 
+pub first-same : (p q : ℕ → Bool) (n : ℕ) → ((k : ℕ) → k < n → p k ≡ q k) → firstBelow p n ≡ firstBelow q n
+unfolding firstBelow
+first-same p q zero f = refl
+first-same p q (suc n) f =
+    ap (λ (o : Option ℕ). or-next o (p n)) (first-same p q n (λ k l. f k (omega arith))) ∙ ap (or-next (firstBelow q n)) (f n (omega arith))
+  where
+    or-next : Option ℕ → Bool → Option ℕ
+    or-next o b = elim o [ some i ↦ some i | none ↦ (if b then some n else none) ]
+
 pub record Found (p : ℕ → Bool) (n i : ℕ) : Type 0 where
   pub below : i < n
   pub passes : p i ≡ true
@@ -300,6 +309,46 @@ module _ {A : Type 0} where
 pub each-turn : (q : ℕ → Bool) (i : ℕ) (b : Bool) → b ≡ q (i + 1) → not b ≡ false → allBelow (λ j. q (suc j)) i ≡ true → allBelow (λ j. q (suc j)) (i + 1) ≡ true
 each-turn q i b e h g = below-turn (λ j. q (suc j)) i b (rw add-one at e) h g
 
+-- SOME ELEMENT
+
+module _ {A : Type 0} (p : A → Bool) where
+  pub any-append : (l m : List A) → any p (l ++ m) ≡ (any p l || any p m)
+  unfolding any
+  any-append [] m = refl
+  any-append (x ∷ l) m = go (p x) (any-append l m)
+    where
+      go : (b : Bool) → any p (l ++ m) ≡ (any p l || any p m) → (b || any p (l ++ m)) ≡ ((b || any p l) || any p m)
+      go true e = refl
+      go false e = e
+
+  -- the loop `while i < n { if test(.., i) { return true; } i += 1; } false` over a table
+  pub any-zero : (f : ℕ → A) → any p (table f 0) ≡ false
+  unfolding any table
+  any-zero f = refl
+
+  any-step : (f : ℕ → A) (i : ℕ) → any p (table f (suc i)) ≡ (any p (table f i) || p (f i))
+  unfolding any table
+  any-step f i = any-append (table f i) (f i ∷ []) ∙ ap (λ (b : Bool). any p (table f i) || b) (go (p (f i)))
+    where
+      go : (b : Bool) → (b || false) ≡ b
+      go true = refl
+      go false = refl
+
+  pub any-turn : (f : ℕ → A) (i : ℕ) (b : Bool) → b ≡ p (f i) → b ≡ false → any p (table f i) ≡ false → any p (table f (i + 1)) ≡ false
+  any-turn f i b e h q = rw (add-one, any-step, q) (sym e ∙ h)
+
+  pub any-stays : (f : ℕ → A) (n i : ℕ) → i < n → p (f i) ≡ true → any p (table f n) ≡ true
+  any-stays f zero i l h = absurd (not-suc-le-zero l)
+  any-stays f (suc n) i l h =
+      any-step f n
+      ∙ ⊎-elim (λ e. or-right (any p (table f n)) (p (f n)) (ap (λ (j : ℕ). p (f j)) (sym e) ∙ h)) (λ lt. or-left _ (p (f n)) (any-stays f n i lt h)) (eq-or-lt-of-le (le-of-suc-le-suc l))
+
+  pub any-stop : (f : ℕ → A) (n i : ℕ) (b : Bool) → b ≡ p (f i) → b ≡ true → i < n → true ≡ any p (table f n)
+  any-stop f n i b e h l = sym (any-stays f n i l (sym e ∙ h))
+
+  pub any-done : (f : ℕ → A) (n i : ℕ) → i ≤ n → n ≤ i → any p (table f i) ≡ false → false ≡ any p (table f n)
+  any-done f n i a b h = let e : i ≡ n = le-antisymm a b in sym (rw e at h)
+
 -- WORDS
 
 pub word-is : (v w : List ℕ) → sameWord v w ≡ true → v ≡ w
@@ -322,6 +371,18 @@ word-same v w e = rw e (word-refl w)
 pub word-differs : (v w : List ℕ) → (v ≡ w → ⊥) → sameWord v w ≡ false
 word-differs v w d = decide (sameWord v w) (λ e. absurd (d (word-is v w e))) (λ e. e)
 
+-- word by word, where the first two have one length
+pub word-append : (v w v′ w′ : List ℕ) → length v ≡ length w → sameWord (v ++ v′) (w ++ w′) ≡ (sameWord v w && sameWord v′ w′)
+unfolding sameWord
+word-append [] [] v′ w′ e = refl
+word-append [] (y ∷ w) v′ w′ e = absurd (omega arith)
+word-append (x ∷ v) [] v′ w′ e = absurd (omega arith)
+word-append (x ∷ v) (y ∷ w) v′ w′ e = go (eqb x y) (word-append v w v′ w′ (omega arith))
+  where
+    go : (b : Bool) → sameWord (v ++ v′) (w ++ w′) ≡ (sameWord v w && sameWord v′ w′) → (b && sameWord (v ++ v′) (w ++ w′)) ≡ ((b && sameWord v w) && sameWord v′ w′)
+    go true q = q
+    go false q = refl
+
 module _ {A B : Type 0} (f : A → List B) where
   pub joined-append : (l m : List A) → joined f (l ++ m) ≡ joined f l ++ joined f m
   unfolding joined
@@ -338,6 +399,11 @@ module _ {A : Type 0} where
   pub every-append : {P : A → Type 0} {l m : List A} → Every P l → Every P m → Every P (l ++ m)
   every-append none-left k = k
   every-append (and p h) k = and p (every-append h k)
+
+  pub every-at : {P : A → Type 0} (l : List A) (i : ℕ) (d : A) → Every P l → i < length l → P (getD l i d)
+  every-at (x ∷ l) zero d (and p k) h = p
+  every-at (x ∷ l) (suc i) d (and p k) h = every-at l i d k (le-of-suc-le-suc h)
+  every-at [] i d none-left h = absurd (not-suc-le-zero h)
 
   pub all-every : (p : A → Bool) (l : List A) → all p l ≡ true → Every (λ a. p a ≡ true) l
   unfolding all
