@@ -13,7 +13,7 @@ use Rattle.records.specs.View.{Lent, termAt, pairAt, termsView, sizes, t
 use Rattle.records.specs.declared.State.{State}
 use Rattle.records.specs.Audited.{Sized}
 use Rattle.records.specs.Rules.{isChar, isNumber, reasonRule, keyRule, cellRule, textRule, partRule, concatRule, lengthRule, isEquatable, equationRule}
-use Rattle.records.proofs.Lists.{within-zero, within-is, within-past, within-high, and-stop, and-next, or-stop, or-next, failed, passed, left-false, right-false, right-true, right-falsum, three-1, three-2, three-3, three-first, three-last, five-1, five-2, five-3, five-4, five-last, decide, both-left, both-right, both-true}
+use Rattle.records.proofs.Lists.{within-zero, within-is, within-past, within-high, and-stop, and-next, or-stop, or-next, failed, passed, left-false, right-false, right-true, or-none, three-1, three-2, three-3, three-first, three-last, five-1, five-2, five-3, five-4, five-last, decide, both-left, both-right, both-true}
 use Rattle.records.proofs.Views.{term-is, term-none, term-past}
 
 pub char-low : (c : ℕ) → c < 0xD800 → true ≡ isChar c
@@ -136,7 +136,7 @@ module _ (s : Store) where
   unfolding isEquatable
   equatable-strings a b x r e h q =
       let w = within-high 3 (term s a .kind) (sym e ∙ h) in
-      rw (sym e ∙ h, ne-eqb (term s a .kind) 4 (λ z. omega arith)) (q ∙ sym (right-falsum _ _ refl))
+      rw (sym e ∙ h, ne-eqb (term s a .kind) 4 (λ z. omega arith)) (q ∙ sym (or-none (isString s b)))
 
   pub equatable-none : (a b k : ℕ) (x : Bool) → x ≡ isString s a → x ≡ false → k ≡ term s a .kind → (k ≡ 4 → ⊥) → false ≡ isEquatable s a b
   unfolding isEquatable

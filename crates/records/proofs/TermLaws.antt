@@ -17,41 +17,24 @@ use Rattle.records.specs.Store.{Store, term, termIn, isVariable}
 use Rattle.records.specs.View.{Lent, lent, storeOf, charsView, pairsView}
 use Rattle.records.specs.Rules.{textRule, named, nameRule, partRule, concatRule, lengthRule, isEquatable, equationRule, termRule, cellRule, isChar, reasonRule, keyRule, recordsRule, eachTerm, eachCell}
 use Rattle.records.specs.Marks.{mark, Lower, Marking}
-use Rattle.records.proofs.Lists.{both-left, left-false, and-stop, and-next, clash, failed, passed, right-falsum, five-1, five-2, five-3, five-4, five-last, table-length}
-
--- one of five outcomes
-only-1 : (a : Bool) → a ≡ (a || false || false || false || false)
-only-1 true = refl
-only-1 false = refl
-
-only-2 : (a : Bool) → a ≡ (a || false || false || false)
-only-2 true = refl
-only-2 false = refl
-
-only-3 : (a : Bool) → a ≡ (a || false || false)
-only-3 true = refl
-only-3 false = refl
-
-only-4 : (a : Bool) → a ≡ (a || false)
-only-4 true = refl
-only-4 false = refl
+use Rattle.records.proofs.Lists.{both-left, left-false, and-stop, and-next, clash, failed, passed, or-none, five-1, five-2, five-3, five-4, five-last, table-length}
 
 module _ (s : Store) (t k : ℕ) (r : Bool) (e : k ≡ term s t .kind) where
   pub term-constant : k ≡ 1 → r ≡ textRule s t → r ≡ termRule s t
   unfolding termRule
-  term-constant z q = rw (sym e ∙ z) (q ∙ only-1 (textRule s t))
+  term-constant z q = rw (sym e ∙ z) (simp or-none q)
 
   pub term-variable : k ≡ 2 → r ≡ (textRule s t && nameRule s t) → r ≡ termRule s t
   unfolding termRule
-  term-variable z q = rw (sym e ∙ z) (q ∙ only-2 (textRule s t && nameRule s t))
+  term-variable z q = rw (sym e ∙ z) (simp or-none q)
 
   pub term-concat : k ≡ 3 → r ≡ concatRule s t → r ≡ termRule s t
   unfolding termRule
-  term-concat z q = rw (sym e ∙ z) (q ∙ only-3 (concatRule s t))
+  term-concat z q = rw (sym e ∙ z) (simp or-none q)
 
   pub term-length : k ≡ 4 → r ≡ lengthRule s t → r ≡ termRule s t
   unfolding termRule
-  term-length z q = rw (sym e ∙ z) (q ∙ only-4 (lengthRule s t))
+  term-length z q = rw (sym e ∙ z) (simp or-none q)
 
   pub term-equation : k ≡ 5 → r ≡ equationRule s t → r ≡ termRule s t
   unfolding termRule

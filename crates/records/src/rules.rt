@@ -9,13 +9,13 @@ ghost use Rattle.records.specs.Lists.{all};
 ghost use Rattle.records.specs.Store.{termIn, within, term, cell, chain, isVariable, text};
 ghost use Rattle.records.specs.View.{lent, storeOf, termsView, charsView, pairsView, span, termLimit, cellLimit, charLimit, reasonLimit, keyLimit, sizes};
 ghost use Rattle.records.specs.Rules.{isChar, isNumber, reasonRule, keyRule, cellRule, textRule, named, nameRule, partRule, concatRule, lengthRule, isEquatable, equationRule, termRule, recordsRule, eachTerm, eachCell};
+ghost use Rattle.records.specs.Marks.{markFrom, mark, Marking, Naming};
+ghost use Rattle.records.specs.Audited.{Sized};
 use crate::CELL_LIMIT;
 use crate::CHAR_LIMIT;
 use crate::REASON_LIMIT;
 use crate::State;
 use crate::TERM_LIMIT;
-ghost use Rattle.records.specs.Marks.{markFrom, mark, Marking, Naming};
-ghost use Rattle.records.specs.Audited.{Sized};
 use crate::fields;
 use crate::make::has_text;
 
@@ -445,6 +445,7 @@ fn terms_ok(terms: &[u32], cells: &[u32], chars: &[u32], c: State) -> bool
       let s = storeOf (lent (now (terms .entry)) (now (cells .entry)) (now (chars .entry)) [] []) c
       ⌜ r ≡ eachTerm s (termRule s) ⌝ }
 {
+    // by number: 512 terms, and number 0, which names none
     let mut marks: [u32; 513] = [0; 513];
     let mut i: usize = 0;
     while i < c.terms {

@@ -23,16 +23,16 @@ second-requires : tie.Need-second-requires Inv-loop μ-loop
 second-requires c κs = search needs
 
 returns : tie.Need-returns Inv-loop μ-loop
-returns c = name-empty (c .before .before .before .before .before .args .terms .now) (c .before .before .before .before .before .args .chars .now) (c .before .before .before .before .before .args .c) (c .before .before .before .before .before .args .marks .now) (c .before .before .before .before .before .args .m) (c .before .before .before .before .before .args .t) (c .before .before .before .before .before .pre) _ (c .before .second .ensures) (c .if1 .taken)
+returns c = let a = c .before .before .before .before .before .args in name-empty (a .terms .now) (a .chars .now) (a .c) (a .marks .now) (a .m) (a .t) (c .before .before .before .before .before .pre) _ (c .before .second .ensures) (c .if1 .taken)
 
 loop-holds : tie.Need-loop-holds Inv-loop μ-loop
-loop-holds c = (let w = within-low _ _ (variable-within (c .before .before .before .before .before .args .terms .now) (c .before .before .before .before .before .args .chars .now) (c .before .before .before .before .before .args .c) (c .before .before .before .before .before .args .t) (c .before .before .before .before .before .pre .variable)) in (omega arith, omega arith, others-start (c .before .before .before .before .before .args .terms .now) (c .before .before .before .before .before .args .chars .now) (c .before .before .before .before .before .args .c) (c .before .before .before .before .before .args .marks .now) (c .before .before .before .before .before .args .m) (c .before .before .before .before .before .args .t) (c .before .before .before .before .before .pre)))
+loop-holds c = let a = c .before .before .before .before .before .args in let r = c .before .before .before .before .before .pre in (let w = within-low _ _ (variable-within (a .terms .now) (a .chars .now) (a .c) (a .t) (r .variable)) in (omega arith, omega arith, others-start (a .terms .now) (a .chars .now) (a .c) (a .marks .now) (a .m) (a .t) r))
 
 is-named-requires : tie.Need-is-named-requires Inv-loop μ-loop
 is-named-requires c κs = (c .before .before .before .before .before .before .before .pre, c .before .loop .inv .0, c .loop-test .taken)
 
 returns-2 : tie.Need-returns-2 Inv-loop μ-loop
-returns-2 c = name-taken (c .before .before .before .before .before .before .before .before .before .args .terms .now) (c .before .before .before .before .before .before .before .before .before .args .chars .now) (c .before .before .before .before .before .before .before .before .before .args .c) (c .before .before .before .before .before .before .before .before .before .args .marks .now) (c .before .before .before .before .before .before .before .before .before .args .m) (c .before .before .before .before .before .before .before .before .before .args .t) (c .before .before .before .before .before .before .before .before .before .pre) (c .before .before .before .loop .u) _ (c .before .before .loop-test .taken) (c .before .is-named .ensures) (c .if2 .taken)
+returns-2 c = let a = c .before .before .before .before .before .before .before .before .before .args in name-taken (a .terms .now) (a .chars .now) (a .c) (a .marks .now) (a .m) (a .t) (c .before .before .before .before .before .before .before .before .before .pre) (c .before .before .before .loop .u) _ (c .before .before .loop-test .taken) (c .before .is-named .ensures) (c .if2 .taken)
 
 add-u : tie.Need-add-u Inv-loop μ-loop
 add-u c = search needs
@@ -41,10 +41,10 @@ loop-less : tie.Need-loop-less Inv-loop μ-loop
 loop-less c = omega arith
 
 loop-again : tie.Need-loop-again Inv-loop μ-loop
-loop-again c = (omega arith, omega arith, others-turn (c .before .before .before .before .before .before .before .before .before .args .terms .now) (c .before .before .before .before .before .before .before .before .before .args .chars .now) (c .before .before .before .before .before .before .before .before .before .args .c) (c .before .before .before .before .before .before .before .before .before .args .marks .now) (c .before .before .before .before .before .before .before .before .before .args .m) (c .before .before .before .before .before .before .before .before .before .args .t) (c .before .before .before .before .before .before .before .before .before .pre) (c .before .before .before .loop .u) _ (c .before .is-named .ensures) (c .if2 .left) (c .before .before .before .loop .inv .2))
+loop-again c = let a = c .before .before .before .before .before .before .before .before .before .args in let o = c .before .before .before .loop in (omega arith, omega arith, others-turn (a .terms .now) (a .chars .now) (a .c) (a .marks .now) (a .m) (a .t) (c .before .before .before .before .before .before .before .before .before .pre) (o .u) _ (c .before .is-named .ensures) (c .if2 .left) (o .inv .2))
 
 returns-3 : tie.Need-returns-3 Inv-loop μ-loop
-returns-3 c = name-free (c .before .before .before .before .before .before .before .args .terms .now) (c .before .before .before .before .before .before .before .args .chars .now) (c .before .before .before .before .before .before .before .args .c) (c .before .before .before .before .before .before .before .args .marks .now) (c .before .before .before .before .before .before .before .args .m) (c .before .before .before .before .before .before .before .args .t) (c .before .before .before .before .before .before .before .pre) _ (c .before .loop .u) (c .before .before .before .second .ensures) (c .before .before .if1 .left) (c .before .loop .inv .1) (c .loop-test .left) (c .before .loop .inv .2)
+returns-3 c = let a = c .before .before .before .before .before .before .before .args in let o = c .before .loop in name-free (a .terms .now) (a .chars .now) (a .c) (a .marks .now) (a .m) (a .t) (c .before .before .before .before .before .before .before .pre) _ (o .u) (c .before .before .before .second .ensures) (c .before .before .if1 .left) (o .inv .1) (c .loop-test .left) (o .inv .2)
 
 pub name-ok-spec : {M : Type 1} → statement M
 name-ok-spec =

@@ -22,7 +22,7 @@ abbrev μ-loop : tie.MeasureT-loop
 μ-loop terms cells chars c marks₀ i₀ marks i = c .terms - i
 
 loop-holds : tie.Need-loop-holds Inv-loop μ-loop
-loop-holds c = (omega arith, refl, below-zero _, lower-start (c .before .before .before .args .terms .now) (c .before .before .before .args .cells .now) (c .before .before .before .args .chars .now) (c .before .before .before .args .c) _ refl)
+loop-holds c = let a = c .before .before .before .args in (omega arith, refl, below-zero _, lower-start (a .terms .now) (a .cells .now) (a .chars .now) (a .c) _ refl)
 
 add-t : tie.Need-add-t Inv-loop μ-loop
 add-t c = search needs
@@ -37,10 +37,10 @@ slice-aggregate-term-ok : tie.Need-slice-aggregate-term-ok Inv-loop μ-loop
 slice-aggregate-term-ok c = sym (c .before .before .before .before .loop .inv .1)
 
 term-ok-requires : tie.Need-term-ok-requires Inv-loop μ-loop
-term-ok-requires c κs = (within-is _ _ (omega arith) (omega arith), record { room = (let k = table-length (λ j. getD (c .before .before .before .before .before .before .before .before .args .chars .now) j 0) (c .before .before .before .before .before .before .before .before .args .c .chars) in omega (arith, c .before .before .before .before .before .before .before .before .pre .1)); table = omega arith; marked = c .before .name-mark .ensures; lower = c .before .before .before .before .loop .inv .3 })
+term-ok-requires c κs = let a = c .before .before .before .before .before .before .before .before .args in (within-is _ _ (omega arith) (omega arith), record { room = (let k = table-length (λ j. getD (a .chars .now) j 0) (a .c .chars) in omega (arith, c .before .before .before .before .before .before .before .before .pre .1)); table = omega arith; marked = c .before .name-mark .ensures; lower = c .before .before .before .before .loop .inv .3 })
 
 returns : tie.Need-returns Inv-loop μ-loop
-returns c = each-stop (termRule (storeOf (lent (c .before .before .before .before .before .before .before .before .before .before .args .terms .now) (c .before .before .before .before .before .before .before .before .before .before .args .cells .now) (c .before .before .before .before .before .before .before .before .before .before .args .chars .now) [] []) (c .before .before .before .before .before .before .before .before .before .before .args .c))) (λ j. termAt (c .before .before .before .before .before .before .before .before .before .before .args .terms .now) (suc j)) (c .before .before .before .before .before .before .before .before .before .before .args .c .terms) (c .before .before .before .before .before .before .loop .i) _ (c .before .term-ok .ensures) (c .if2 .taken) (c .before .before .before .before .if1 .taken)
+returns c = let a = c .before .before .before .before .before .before .before .before .before .before .args in each-stop (termRule (storeOf (lent (a .terms .now) (a .cells .now) (a .chars .now) [] []) (a .c))) (λ j. termAt (a .terms .now) (suc j)) (a .c .terms) (c .before .before .before .before .before .before .loop .i) _ (c .before .term-ok .ensures) (c .if2 .taken) (c .before .before .before .before .if1 .taken)
 
 add-marks : tie.Need-add-marks Inv-loop μ-loop
 add-marks c = search needs
@@ -58,10 +58,10 @@ loop-less : tie.Need-loop-less Inv-loop μ-loop
 loop-less c = search needs
 
 loop-again : tie.Need-loop-again Inv-loop μ-loop
-loop-again c = (omega arith, simp length-set (c .before .before .before .before .before .before .loop .inv .1), each-turn (termRule (storeOf (lent (c .before .before .before .before .before .before .before .before .before .before .args .terms .now) (c .before .before .before .before .before .before .before .before .before .before .args .cells .now) (c .before .before .before .before .before .before .before .before .before .before .args .chars .now) [] []) (c .before .before .before .before .before .before .before .before .before .before .args .c))) (c .before .before .before .before .before .before .loop .i) _ (c .before .term-ok .ensures) (c .if2 .left) (c .before .before .before .before .before .before .loop .inv .2), lower-turn (c .before .before .before .before .before .before .before .before .before .before .args .terms .now) (c .before .before .before .before .before .before .before .before .before .before .args .cells .now) (c .before .before .before .before .before .before .before .before .before .before .args .chars .now) (c .before .before .before .before .before .before .before .before .before .before .args .c) _ _ _ _ (c .before .before .before .before .before .before .loop .inv .3) (omega arith) (c .before .before .before .name-mark .ensures) (c .before .term-ok .ensures) (c .if2 .left))
+loop-again c = let a = c .before .before .before .before .before .before .before .before .before .before .args in let o = c .before .before .before .before .before .before .loop in (omega arith, simp length-set (o .inv .1), each-turn (termRule (storeOf (lent (a .terms .now) (a .cells .now) (a .chars .now) [] []) (a .c))) (o .i) _ (c .before .term-ok .ensures) (c .if2 .left) (o .inv .2), lower-turn (a .terms .now) (a .cells .now) (a .chars .now) (a .c) _ _ _ _ (o .inv .3) (omega arith) (c .before .before .before .name-mark .ensures) (c .before .term-ok .ensures) (c .if2 .left))
 
 returns-2 : tie.Need-returns-2 Inv-loop μ-loop
-returns-2 c = each-done (termRule (storeOf (lent (c .before .before .before .before .before .before .args .terms .now) (c .before .before .before .before .before .before .args .cells .now) (c .before .before .before .before .before .before .args .chars .now) [] []) (c .before .before .before .before .before .before .args .c))) (λ j. termAt (c .before .before .before .before .before .before .args .terms .now) (suc j)) (c .before .before .before .before .before .before .args .c .terms) (c .before .before .loop .i) (c .before .before .loop .inv .0) (c .if1 .left) (c .before .before .loop .inv .2)
+returns-2 c = let a = c .before .before .before .before .before .before .args in let o = c .before .before .loop in each-done (termRule (storeOf (lent (a .terms .now) (a .cells .now) (a .chars .now) [] []) (a .c))) (λ j. termAt (a .terms .now) (suc j)) (a .c .terms) (o .i) (o .inv .0) (c .if1 .left) (o .inv .2)
 
 pub terms-ok-spec : {M : Type 1} → statement M
 terms-ok-spec =

@@ -16,7 +16,7 @@ abbrev μ-loop : tie.MeasureT-loop
 μ-loop chars p n h₀ i₀ h i = n - i
 
 loop-holds : tie.Need-loop-holds Inv-loop μ-loop
-loop-holds c = (omega arith, omega arith, mark-none (c .before .args .chars .now) (c .before .args .p))
+loop-holds c = let a = c .before .args in (omega arith, omega arith, mark-none (a .chars .now) (a .p))
 
 mul-h : tie.Need-mul-h Inv-loop μ-loop
 mul-h c = search needs
@@ -46,13 +46,13 @@ loop-less : tie.Need-loop-less Inv-loop μ-loop
 loop-less c = search needs
 
 loop-again : tie.Need-loop-again Inv-loop μ-loop
-loop-again c = (omega arith, omega arith, mark-turn (c .before .before .before .before .before .args .chars .now) (c .before .before .before .before .before .args .p) (c .before .before .before .loop .i) (c .before .before .before .loop .h) (c .wide .result) (c .before .before .before .loop .inv .2) (c .wide .ensures))
+loop-again c = let a = c .before .before .before .before .before .args in let o = c .before .before .before .loop in (omega arith, omega arith, mark-turn (a .chars .now) (a .p) (o .i) (o .h) (c .wide .result) (o .inv .2) (c .wide .ensures))
 
 cast-result : tie.Need-cast-result Inv-loop μ-loop
 cast-result c = search needs
 
 returns : tie.Need-returns Inv-loop μ-loop
-returns c = mark-done (c .before .before .before .args .chars .now) (c .before .before .before .args .p) (c .before .before .before .args .n) (c .before .loop .i) (c .before .loop .h) (c .before .loop .inv .2) (c .before .loop .inv .0) (c .loop-test .left)
+returns c = let a = c .before .before .before .args in let o = c .before .loop in mark-done (a .chars .now) (a .p) (a .n) (o .i) (o .h) (o .inv .2) (o .inv .0) (c .loop-test .left)
 
 pub text-mark-spec : {M : Type 1} → statement M
 text-mark-spec =
