@@ -1,23 +1,23 @@
 -- Names are unique (src/rules.rt): marks of texts, and names compared where their marks agree.
 use mathlib.Core.Path.{_≡_, refl, sym, ap, _∙_}
 use mathlib.Core.Bool.{Bool, true, false, not, _&&_}
-use mathlib.Core.List.{List, [], _∷_, _++_}
-use Prim.Native.Nat.{ℕ, zero, suc, _+_, _-_, _*_, _/_, _%_, _<_, _≤_}
+use mathlib.Core.List.{List, _∷_, _++_, []}
+use Prim.Native.Nat.{ℕ, suc, _+_, _-_, _*_, _/_, _%_, _<_, _≤_}
 use native.Mathlib.Numerals.{add-one}
 use native.Mathlib.Omega.{arith}
-use lib.ListN.{length, getD, set, take, drop, length-take, length-drop}
-use lib.Seq.{ext-getD, getD-take, getD-drop, getD-set-same, getD-set-other}
-use lib.Dec.{eqb, ltb, leb}
-use borrow.Author.Tests.{not-true, not-false, eqb-true, eq-eqb, ne-eqb, leb-true, lt-ltb, le-ltb}
+use lib.ListN.{length, getD, take, drop, length-take, length-drop}
+use lib.Seq.{ext-getD, getD-take, getD-drop}
+use lib.Dec.{eqb, ltb}
+use borrow.Author.Tests.{eqb-true, eq-eqb, ne-eqb, leb-true, lt-ltb, le-ltb}
 use Rattle.records.specs.declared.State.{State}
 use Rattle.records.specs.Lists.{allBelow, table, sameWord}
 use Rattle.records.specs.Store.{Term, Store, term, kind, within, isVariable, text, termIn}
-use Rattle.records.specs.View.{lent, storeOf, termAt, termsView, charsView, span}
+use Rattle.records.specs.View.{lent, storeOf, termAt, charsView, span}
 use Rattle.records.specs.Make.{hasText}
-use Rattle.records.specs.Rules.{textRule, named, nameRule, termRule}
-use Rattle.records.specs.Marks.{mixed, markFrom, mark, Lower, Naming}
-use Rattle.records.proofs.Lists.{both-left, both-right, both-true, left-false, right-false, and-stop, and-next, decide, clash, failed, passed, within-is, within-low, within-high, below-false, below-suc, below-zero, below-done, table-length, table-at, word-is}
-use Rattle.records.proofs.Views.{term-is, text-span, first-at, second-at}
+use Rattle.records.specs.Rules.{textRule, named, nameRule}
+use Rattle.records.specs.Marks.{mixed, markFrom, mark, Naming}
+use Rattle.records.proofs.Lists.{both-left, both-right, right-false, and-stop, and-next, decide, failed, passed, within-high, below-false, below-suc, below-zero, below-done, table-length, table-at, word-is}
+use Rattle.records.proofs.Views.{term-is, text-span, kind-at, first-at, second-at}
 use Rattle.records.proofs.Grown.{kind-term}
 
 -- MARKS
@@ -47,6 +47,11 @@ part-span l p n h =
     let r : i < n = omega arith in
     getD-take n (drop p l) i 0 r ∙ getD-drop p l i 0 ∙ sym (table-at (λ j. getD l (p + j) 0) n i 0 r))
 
+-- whether a text is within the count is read from the terms and the count alone
+pub text-anywhere : (l e h e′ h′ : List ℕ) (c : State) (t : ℕ) → textRule (storeOf (lent l e h [] []) c) t ≡ textRule (storeOf (lent l e′ h′ [] []) c) t
+unfolding textRule
+text-anywhere l e h e′ h′ c t = rw (table-length (λ i. getD h i 0) (c .chars), table-length (λ i. getD h′ i 0) (c .chars))
+
 guarded : (k : ℕ) (v x w : List ℕ) → (eqb k 2 ≡ true → x ≡ v) → (eqb k 2 && sameWord v w) ≡ (eqb k 2 && sameWord x w)
 guarded k v x w f = decide (eqb k 2) (λ e. rw (f e)) (λ e. rw e)
 
@@ -59,11 +64,6 @@ module _ (l h : List ℕ) (c : State) where
   unfolding textRule
   text-ends t e = rw (table-length (λ i. getD h i 0) (c .chars)) at (leb-true (term here t .first + term here t .second) (length (charsView h (c .chars))) e)
 
-  -- it reads no more of the characters than their count
-  pub text-anywhere : (g : List ℕ) (t : ℕ) → textRule (storeOf (lent l [] g [] []) c) t ≡ textRule here t
-  unfolding textRule
-  text-anywhere g t = rw (table-length (λ i. getD g i 0) (c .chars), table-length (λ i. getD h i 0) (c .chars))
-
   pub text-is : (t : ℕ) → textRule here t ≡ true → text here t ≡ span h (term here t .first) (term here t .second)
   text-is t e = text-span h (c .chars) (term here t) (text-ends t e)
 
@@ -72,22 +72,33 @@ module _ (l h : List ℕ) (c : State) where
 
   -- THE MARK OF A TERM
 
-  pub mark-other : (t k : ℕ) → k ≡ term here t .kind → (k ≡ 2 → ⊥) → 0 ≡ mark here t
-  unfolding mark
-  mark-other t k e z = rw (ne-eqb (term here t .kind) 2 (λ q. z (e ∙ q)))
-
-  pub mark-past : (t : ℕ) (x : Bool) → x ≡ textRule (storeOf (lent l [] [] [] []) c) t → not x ≡ true → 0 ≡ mark here t
-  unfolding mark
-  mark-past t x e z = rw (right-false (isVariable here t) _ (failed _ x (e ∙ text-anywhere [] t) z))
-
-  pub mark-text : (t : ℕ) → isVariable here t ≡ true → textRule here t ≡ true → mark here t ≡ markFrom 1 (text here t)
+  mark-text : (t : ℕ) → isVariable here t ≡ true → textRule here t ≡ true → mark here t ≡ markFrom 1 (text here t)
   unfolding mark
   mark-text t e f = rw (e, f)
 
-  pub mark-is : (t k p n r : ℕ) (x : Bool) → k ≡ term here t .kind → k ≡ 2 → x ≡ textRule (storeOf (lent l [] [] [] []) c) t → not x ≡ false → p ≡ term here t .first → n ≡ term here t .second → r ≡ markFrom 1 (span h p n) → r ≡ mark here t
-  mark-is t k p n r x e z f g a b q =
-      let fit = passed _ x (f ∙ text-anywhere [] t) g in
-      rw (mark-text t (eq-eqb _ 2 (sym e ∙ z)) fit, text-is t fit, ← a, ← b) q
+  module _ (t : ℕ) (w : within (c .terms) t ≡ true) where
+    pub mark-other : (k : ℕ) → k ≡ getD l (8 * t + 0) 0 → (k ≡ 2 → ⊥) → 0 ≡ mark here t
+    unfolding mark
+    mark-other k e z = rw (ne-eqb (term here t .kind) 2 (λ q. z (kind-at l (c .terms) t k w e ∙ q)))
+
+    module _ (x : Bool) (f : x ≡ textRule (storeOf (lent l [] [] [] []) c) t) where
+      pub mark-past : not x ≡ true → 0 ≡ mark here t
+      unfolding mark
+      mark-past z = rw (right-false (isVariable here t) _ (failed _ x (f ∙ text-anywhere l [] [] [] h c t) z))
+
+      module _ (g : not x ≡ false) (p n : ℕ) (ep : p ≡ getD l (8 * t + 1) 0) (en : n ≡ getD l (8 * t + 2) 0) where
+        fit : textRule here t ≡ true
+        fit = passed _ x (f ∙ text-anywhere l [] [] [] h c t) g
+
+        pub mark-ends : c .chars ≤ length h → p + n ≤ length h
+        mark-ends r =
+            let i = first-at l (c .terms) t p w ep in
+            let j = second-at l (c .terms) t n w en in
+            let e = text-ends t fit in omega arith
+
+        pub mark-is : (k r : ℕ) → k ≡ getD l (8 * t + 0) 0 → k ≡ 2 → r ≡ markFrom 1 (span h p n) → r ≡ mark here t
+        mark-is k r e z q =
+            rw (mark-text t (eq-eqb _ 2 (sym (kind-at l (c .terms) t k w e) ∙ z)) fit, text-is t fit, ← first-at l (c .terms) t p w ep, ← second-at l (c .terms) t n w en) q
 
   -- THE NAME OF A VARIABLE
 

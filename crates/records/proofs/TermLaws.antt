@@ -1,23 +1,22 @@
 -- The rule of a term by its kind, of every term, and of every record (src/rules.rt).
-use mathlib.Core.Path.{_≡_, refl, sym, ap, _∙_}
-use mathlib.Core.Bool.{Bool, true, false, not, _&&_, _||_}
-use mathlib.Core.List.{List, [], _∷_}
+use mathlib.Core.Path.{_≡_, refl, sym, _∙_}
+use mathlib.Core.Bool.{Bool, true, false, not, _&&_}
+use mathlib.Core.List.{List, []}
 use mathlib.Core.Logic.{⊎-elim}
-use Prim.Native.Nat.{ℕ, suc, _+_, _<_, _≤_}
+use Prim.Native.Nat.{ℕ, _+_, _<_}
 use native.Mathlib.Numerals.{add-one}
 use native.Mathlib.Nat.{eq-or-lt-of-le, le-of-suc-le-suc}
 use native.Mathlib.Omega.{arith}
 use lib.ListN.{length, getD, set}
 use lib.Seq.{getD-set-same, getD-set-other}
-use lib.Dec.{eqb}
 use borrow.Author.Tests.{eqb-true, ne-eqb}
 use Rattle.records.specs.declared.State.{State}
-use Rattle.records.specs.Lists.{all, allBelow}
+use Rattle.records.specs.Lists.{all}
 use Rattle.records.specs.Store.{Store, term, termIn, isVariable}
-use Rattle.records.specs.View.{Lent, lent, storeOf, charsView, pairsView}
+use Rattle.records.specs.View.{lent, storeOf, charsView, pairsView}
 use Rattle.records.specs.Rules.{textRule, named, nameRule, partRule, concatRule, lengthRule, isEquatable, equationRule, termRule, cellRule, isChar, reasonRule, keyRule, recordsRule, eachTerm, eachCell}
-use Rattle.records.specs.Marks.{mark, Lower, Marking}
-use Rattle.records.proofs.Lists.{both-left, left-false, and-stop, and-next, clash, failed, passed, or-none, five-1, five-2, five-3, five-4, five-last, table-length}
+use Rattle.records.specs.Marks.{mark, Lower}
+use Rattle.records.proofs.Lists.{both-left, clash, failed, passed, or-none, five-1, five-2, five-3, five-4, five-last}
 
 module _ (s : Store) (t k : ℕ) (r : Bool) (e : k ≡ term s t .kind) where
   pub term-constant : k ≡ 1 → r ≡ textRule s t → r ≡ termRule s t
@@ -56,10 +55,6 @@ module _ (l e h : List ℕ) (c : State) where
 
   abbrev three : Store
   three = storeOf (lent l e h [] []) c
-
-  pub text-of : (t : ℕ) → textRule (storeOf (lent l [] [] [] []) c) t ≡ textRule three t
-  unfolding textRule
-  text-of t = rw (table-length {A = ℕ} (λ i. getD [] i 0) (c .chars), table-length (λ i. getD h i 0) (c .chars))
 
   pub variable-of : (t : ℕ) → (textRule two t && nameRule two t) ≡ (textRule three t && nameRule three t)
   unfolding textRule nameRule named

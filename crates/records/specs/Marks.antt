@@ -1,7 +1,7 @@
 -- An aid of the audit: a mark of each name, so that only names of equal marks are compared character by character. No rule speaks of marks.
 use mathlib.Core.Path.{_≡_}
-use mathlib.Core.Bool.{Bool, true, false, _&&_}
-use mathlib.Core.List.{List, [], _∷_}
+use mathlib.Core.Bool.{true, _&&_}
+use mathlib.Core.List.{List, _∷_, []}
 use Prim.Native.Nat.{ℕ, _+_, _*_, _/_, _%_, _<_, _≤_}
 use lib.ListN.{length, getD}
 use Rattle.records.specs.Lists.{if_then_else_}

@@ -1,9 +1,9 @@
+use mathlib.Core.List.{[]}
 use Rattle.records.proofs.Lists.{within-is, below-zero, each-stop, each-turn, each-done}
 use Rattle.records.specs.Rules.{cellRule}
 use Rattle.records.specs.View.{lent, storeOf, cellAt}
 use Rattle.records.specs.Lists.{allBelow}
 use Prim.Native.Nat.{suc, _-_, _≤_}
-use mathlib.Core.List.{[]}
 use mathlib.Core.Bool.{true}
 use mathlib.Core.Path.{_≡_}
 use native.Mathlib.Omega.{arith}

@@ -1,8 +1,5 @@
-use Rattle.records.proofs.NameLaws.{named-other, named-test, variable-within, name-ends, name-part}
-use Rattle.records.proofs.Views.{first-at, second-at}
-use Prim.Native.Nat.{ℕ}
-use mathlib.Core.List.{List}
-use mathlib.Core.Path.{_≡_, _∙_, sym, ap}
+use Rattle.records.proofs.NameLaws.{named-other, named-test, name-ends, name-part}
+use mathlib.Core.Path.{_∙_}
 use native.Mathlib.Omega.{arith}
 use borrow.Author.Needs.{needs}
 use Rattle.records.proofs.rules.is_named.Statement.{statement}

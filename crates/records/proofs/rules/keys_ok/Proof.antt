@@ -1,10 +1,10 @@
+use mathlib.Core.List.{[]}
 use Rattle.records.proofs.RuleLaws.{pair-test}
 use Rattle.records.proofs.Lists.{below-zero, table-stop, below-turn, table-done}
 use Rattle.records.specs.Rules.{keyRule}
 use Rattle.records.specs.View.{lent, storeOf, pairAt}
 use Rattle.records.specs.Lists.{allBelow}
 use Prim.Native.Nat.{_-_, _≤_}
-use mathlib.Core.List.{[]}
 use mathlib.Core.Bool.{true}
 use mathlib.Core.Path.{_≡_}
 use native.Mathlib.Omega.{arith}

@@ -1,10 +1,10 @@
+use mathlib.Core.List.{[]}
 use Rattle.records.proofs.NameLaws.{variable-within, name-empty, others-start, others-turn, name-taken, name-free}
 use Rattle.records.proofs.Lists.{within-low}
 use Rattle.records.specs.Rules.{named}
 use Rattle.records.specs.View.{lent, storeOf}
 use Rattle.records.specs.Store.{text}
 use Rattle.records.specs.Lists.{allBelow}
-use mathlib.Core.List.{[]}
 use Prim.Native.Nat.{_-_, _≤_}
 use mathlib.Core.Bool.{true, not}
 use mathlib.Core.Path.{_≡_}

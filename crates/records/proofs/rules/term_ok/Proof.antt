@@ -1,8 +1,9 @@
-use Rattle.records.proofs.TermLaws.{term-constant, term-variable, term-concat, term-length, term-equation, term-other, text-of, variable-of, concat-of, length-of, equation-of}
+use mathlib.Core.List.{[]}
+use Rattle.records.proofs.NameLaws.{text-anywhere}
+use Rattle.records.proofs.TermLaws.{term-constant, term-variable, term-concat, term-length, term-equation, term-other, variable-of, concat-of, length-of, equation-of}
 use Rattle.records.proofs.Views.{kind-at}
 use Rattle.records.specs.View.{lent, storeOf}
 use borrow.Author.Tests.{eq-eqb}
-use mathlib.Core.List.{[]}
 use mathlib.Core.Path.{_∙_, sym}
 use borrow.Author.Needs.{needs}
 use Rattle.records.proofs.rules.term_ok.Statement.{statement}
@@ -27,7 +28,7 @@ equation-ok-requires : tie.Need-equation-ok-requires
 equation-ok-requires c κs = search needs
 
 returns : tie.Need-returns
-returns c = let a = c .before .before .before .before .before .before .before .args in term-constant _ _ _ _ (kind-at (a .terms .now) _ _ _ (c .before .before .before .before .before .before .before .pre .0) (c .before .before .kind .ensures)) (c .before .match .keys1) (c .text-ok .ensures ∙ text-of (a .terms .now) (a .cells .now) (a .chars .now) (a .c) (a .t))
+returns c = let a = c .before .before .before .before .before .before .before .args in term-constant _ _ _ _ (kind-at (a .terms .now) _ _ _ (c .before .before .before .before .before .before .before .pre .0) (c .before .before .kind .ensures)) (c .before .match .keys1) (c .text-ok .ensures ∙ text-anywhere (a .terms .now) [] [] (a .cells .now) (a .chars .now) (a .c) (a .t))
 
 returns-2 : tie.Need-returns-2
 returns-2 c = let a = c .before .before .before .before .before .before .before .args in term-variable _ _ _ _ (kind-at (a .terms .now) _ _ _ (c .before .before .before .before .before .before .before .pre .0) (c .before .before .kind .ensures)) (c .before .match .keys2) (c .variable-ok .ensures ∙ variable-of (a .terms .now) (a .cells .now) (a .chars .now) (a .c) (a .t))

@@ -1,3 +1,4 @@
+use mathlib.Core.List.{[]}
 use mathlib.Core.Path.{sym}
 use Rattle.records.proofs.TermLaws.{lower-start, lower-turn}
 use Rattle.records.proofs.Lists.{within-is, below-zero, table-length, each-stop, each-turn, each-done}
@@ -7,7 +8,6 @@ use Rattle.records.specs.View.{lent, storeOf, termAt}
 use Rattle.records.specs.Lists.{allBelow}
 use lib.ListN.{length, getD, length-set}
 use Prim.Native.Nat.{suc, _+_, _-_, _≤_}
-use mathlib.Core.List.{[]}
 use mathlib.Core.Bool.{true}
 use mathlib.Core.Path.{_≡_, refl}
 use native.Mathlib.Omega.{arith}
