@@ -8,7 +8,7 @@ use Rattle.records.specs.Lists.{if_then_else_}
 use Rattle.records.specs.Store.{Store, isVariable, text}
 use Rattle.records.specs.Rules.{textRule}
 
--- The division keeps the mark from being a sum over the characters: such sums agree for texts that are shifts of one another.
+-- Without the division a mark would be linear in the characters, and two characters that cancel out would go unseen wherever they stand.
 unfoldable pub mixed : ℕ → ℕ → ℕ
 mixed h x = (69069 * h + h / 65536 + x) % 4294967291
 
