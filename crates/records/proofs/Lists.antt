@@ -292,6 +292,23 @@ module _ {A : Type 0} where
       go true e = e
       go false e = e
 
+  -- such a loop over a table, by places
+  pub table-stop : (p : A → Bool) (f : ℕ → A) (n i : ℕ) (b : Bool) → b ≡ p (f i) → not b ≡ true → i < n → false ≡ all p (table f n)
+  table-stop p f n i b e h l = below-stop (λ j. p (f j)) n i b e h l ∙ sym (all-table p f n)
+
+  pub table-done : (p : A → Bool) (f : ℕ → A) (n i : ℕ) → i ≤ n → n ≤ i → allBelow (λ j. p (f j)) i ≡ true → true ≡ all p (table f n)
+  table-done p f n i a b h = below-done (λ j. p (f j)) n i a b h ∙ sym (all-table p f n)
+
+  -- and by numbers from 1
+  pub each-stop : (q : ℕ → Bool) (f : ℕ → A) (n i : ℕ) (b : Bool) → b ≡ q (i + 1) → not b ≡ true → i < n → false ≡ allBelow (λ j. q (suc j)) (length (table f n))
+  each-stop q f n i b e h l = rw (table-length f n) (below-stop (λ j. q (suc j)) n i b (rw add-one at e) h l)
+
+  pub each-done : (q : ℕ → Bool) (f : ℕ → A) (n i : ℕ) → i ≤ n → n ≤ i → allBelow (λ j. q (suc j)) i ≡ true → true ≡ allBelow (λ j. q (suc j)) (length (table f n))
+  each-done q f n i a b h = rw (table-length f n) (below-done (λ j. q (suc j)) n i a b h)
+
+pub each-turn : (q : ℕ → Bool) (i : ℕ) (b : Bool) → b ≡ q (i + 1) → not b ≡ false → allBelow (λ j. q (suc j)) i ≡ true → allBelow (λ j. q (suc j)) (i + 1) ≡ true
+each-turn q i b e h g = below-turn (λ j. q (suc j)) i b (rw add-one at e) h g
+
 -- SOME ELEMENT
 
 module _ {A : Type 0} (p : A → Bool) where

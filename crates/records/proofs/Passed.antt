@@ -12,7 +12,7 @@ use Rattle.records.specs.declared.State.{State}
 use Rattle.records.specs.Lists.{if_then_else_, all, allBelow}
 use Rattle.records.specs.Store.{Term, noTerm, Store, term, cell, count, kind, within, isTerm, isString, text, chain, root, sameClass, isEdge}
 use Rattle.records.specs.View.{Lent, storeOf, sizes}
-use Rattle.records.specs.Rules.{eachTerm, isNumber, cellRule, textRule, named, nameRule, partRule, concatRule, lengthRule, isEquatable, equationRule, termRule, recordsRule, parentsRule, endsRule, alikeRule, aloneRule, labelRule, classesRule, pairsOf, fallsRule, congruenceRule, isCongruence, congruencesRule, auditStore, audit}
+use Rattle.records.specs.Rules.{eachTerm, isNumber, cellRule, textRule, named, nameRule, partRule, concatRule, lengthRule, isEquatable, equationRule, termRule, recordsRule, parentsRule, endsRule, alikeRule, aloneRule, edgeLabel, labelRule, classesRule, pairsOf, fallsRule, congruenceRule, isCongruence, congruencesRule, auditStore, audit}
 use Rattle.records.specs.Audited.{Part, Next, last, later, Label, asserted, interface, congruence, definitional, Unlabelled, Falls, Pairs, Congruent, Recorded, Classed, Congruences, Roomy, Audited, Sized, Ready}
 use Rattle.records.proofs.Lists.{both-left, both-right, both-true, either, or-left, or-right, clash, decide, within-low, within-high, within-is, below-at, below-all, table-length, word-is, word-same, every-map, all-every, every-all}
 use Rattle.records.proofs.Grown.{term-past, term-zero, kind-term}
@@ -276,7 +276,7 @@ module _ (s : Store) (t : ℕ) where
       (λ n. decide (sameClass s t u) (λ p. or-left _ _ (or-right (isString s t) _ (eq-eqb _ _ (f n (eqb-true _ _ p))))) (λ p. or-right (isString s t || eqb t u) _ (rw p)))
 
   label-of : labelRule s t ≡ true → isEdge s t ≡ true → Label s t
-  unfolding labelRule
+  unfolding labelRule edgeLabel
   label-of e q = ⊎-elim (λ r. ⊎-elim (λ p. let z = both _ _ p in ⊎-elim (λ k. asserted (eqb-true _ _ k) (z .1)) (λ k. interface (eqb-true _ _ k) (z .1)) (either _ _ (z .0)))
       (λ k. congruence (eqb-true _ _ k)) (either _ _ r)) (λ p. let z = both _ _ p in definitional (eqb-true _ _ (z .0)) (eqb-true _ _ (z .1))) (either _ _ (rw q at e))
 
@@ -285,7 +285,7 @@ module _ (s : Store) (t : ℕ) where
   unlabelled-of e q = let z = each _ _ _ (rw q at e) in record { kind-is = eqb-true _ _ (z .0); value-is = eqb-true _ _ (z .1); stamp-is = eqb-true _ _ (z .2) }
 
   of-label : (isEdge s t ≡ true → Label s t) → (isEdge s t ≡ false → Unlabelled s t) → labelRule s t ≡ true
-  unfolding labelRule
+  unfolding labelRule edgeLabel
   of-label f g = decide (isEdge s t) (λ q. rw q (some (f q))) (λ q. rw q (none (g q)))
     where
       some : Label s t → (((eqb (term s t .labelKind) 1 || eqb (term s t .labelKind) 2) && isNumber (term s t .labelValue)) || eqb (term s t .labelKind) 3 || (eqb (term s t .labelKind) 4 && eqb (term s t .labelValue) 0)) ≡ true
