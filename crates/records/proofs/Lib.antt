@@ -18,3 +18,4 @@ pub mod Append
 pub mod Extend
 pub mod Beside
 pub mod Kept
+pub mod PairLaws

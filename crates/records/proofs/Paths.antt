@@ -10,13 +10,14 @@ use native.Mathlib.Omega.{arith}
 use lib.ListN.{length, getD, set, length-set}
 use lib.Seq.{getD-set-same, getD-set-other}
 use lib.Dec.{eqb, ltb}
-use borrow.Author.Tests.{eqb-true, eqb-false, eq-eqb, ne-eqb}
+use borrow.Author.Tests.{eqb-true, eqb-false, eq-eqb, ne-eqb, lt-ltb, le-ltb}
 use Rattle.records.specs.Lists.{if_then_else_, all, any, firstOf, isIn, upTo, marked, isMarked, Every, none-left, and}
 use Rattle.records.specs.Store.{Term, Store, term, termIn, count, isTerm, within, climb, forestUp, topIn, aboveBy, aboveIn, orNone, nearestIn, pathIn}
 use Rattle.records.specs.View.{termAt, termsView}
+use Rattle.records.specs.Rules.{stampBelow}
 use Rattle.records.specs.Audited.{Closed, Classed}
 use Rattle.records.proofs.Lists.{both-left, both-right, or-right, right-falsum, every-map, every-both, all-append, either, or-left, decide, clash, within-low, within-high}
-use Rattle.records.proofs.Climbs.{climb-stays, climb-up, above-step, view-forest, view-count}
+use Rattle.records.proofs.Climbs.{climb-stays, climb-up, above-step, view-term, view-forest, view-count}
 
 -- THE LOOP
 
@@ -143,6 +144,13 @@ module _ (q : ℕ → Bool) (y x : ℕ) (r : List ℕ) where
 pub upto-none : (q : ℕ → Bool) (y : ℕ) → all q (upTo y []) ≡ true
 unfolding upTo all
 upto-none q y = refl
+
+module _ (l : List ℕ) (n z m v : ℕ) (w : within n z ≡ true) (e : v ≡ getD l (8 * z + 7) 0) where
+  pub stamp-high : m ≤ v → stampBelow (termsView l n) m z ≡ false
+  stamp-high h = rw (view-term l n z w) (le-ltb (getD l (8 * z + 7) 0) m (omega arith))
+
+  pub stamp-low : v < m → stampBelow (termsView l n) m z ≡ true
+  stamp-low h = rw (view-term l n z w) (lt-ltb (getD l (8 * z + 7) 0) m (omega arith))
 
 -- a path's stamps are those of its two sides
 pub path-sides : (q : ℕ → Bool) (ts : List Term) (a b : ℕ) → all q (pathIn ts a b) ≡ (all q (upTo (nearestIn ts a b) (aboveIn ts a)) && all q (upTo (nearestIn ts a b) (aboveIn ts b)))

@@ -88,6 +88,12 @@ pub record Rooted (s : Store) (n t r q : ℕ) : Type 0 where
   pub root-is : r ≡ root s t
   pub top-is : q ≡ top s t
 
+-- n terms whose forest parents are terms and lead to a root
+pub record Pathed (s : Store) (n : ℕ) : Type 0 where
+  pub limited : n ≤ termLimit
+  pub tops : Closed (λ x. term s x .forestParent) n
+  pub ends : (t : ℕ) → within n t ≡ true → term s (top s t) .forestParent ≡ top s t
+
 -- what refusal 3 asks
 pub record Classed (s : Store) : Type 0 where
   pub classParents : (t : ℕ) → isTerm s t ≡ true → isTerm s (term s t .classParent) ≡ true

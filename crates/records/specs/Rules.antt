@@ -6,7 +6,7 @@ use lib.ListN.{length}
 use lib.Dec.{eqb, ltb, leb}
 use Rattle.records.specs.declared.State.{State}
 use Rattle.records.specs.Lists.{if_then_else_, all, sameWord, firsts, seconds, allBelow}
-use Rattle.records.specs.Store.{Term, Cell, Store, term, cell, count, kind, within, isTerm, isConstant, isVariable, isConcat, isLength, isEquation, isString, text, chain, parts, root, top, sameClass, sameTree, path, isEdge}
+use Rattle.records.specs.Store.{Term, Cell, Store, termIn, term, cell, count, kind, within, isTerm, isConstant, isVariable, isConcat, isLength, isEquation, isString, text, chain, parts, root, top, sameClass, sameTree, path, isEdge}
 use Rattle.records.specs.View.{Lent, storeOf, sizes}
 
 -- a rule of every term, of every cell
@@ -131,8 +131,11 @@ unfoldable pub pairsOf : Store → List (ℕ × ℕ) → ℕ → ℕ → Bool
 pairsOf s l t u = sameWord (firsts l) (parts s t) && sameWord (seconds l) (parts s u)
 
 -- 'each pair's forest path has only stamps below the edge's'
+abbrev pub stampBelow : List Term → ℕ → ℕ → Bool
+stampBelow ts m e = ltb (termIn ts e .stamp) m
+
 unfoldable pub fallsRule : Store → ℕ → ℕ × ℕ → Bool
-fallsRule s m p = sameTree s (p .0) (p .1) && all (λ e. ltb (term s e .stamp) m) (path s (p .0) (p .1))
+fallsRule s m p = sameTree s (p .0) (p .1) && all (stampBelow (s .terms) m) (path s (p .0) (p .1))
 
 -- 'A congruence edge joins concatenations of n arguments and has n pairs, the i-th of the two i-th arguments, all the same way round'
 unfoldable pub congruenceRule : Store → ℕ → Bool

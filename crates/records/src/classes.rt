@@ -3,11 +3,11 @@ ghost use mathlib.Core.Path.{_≡_};
 ghost use mathlib.Core.Bool.{true};
 ghost use mathlib.Core.List.{[]};
 ghost use Prim.Native.Nat.{ℕ, _≤_};
-ghost use Rattle.records.specs.Lists.{firstOf, marked, isMarked};
+ghost use Rattle.records.specs.Lists.{all, firstOf, upTo, marked, isMarked};
 ghost use Rattle.records.specs.Store.{within, classUp, forestUp, rootIn, topIn, aboveIn, orNone, nearestIn};
 ghost use Rattle.records.specs.View.{lent, storeOf, termLimit, termsView};
-ghost use Rattle.records.specs.Rules.{eachTerm, parentsRule, endsRule, edgeLabel, labelRule, alikeAt, aloneAt, classTest, classesRule};
-ghost use Rattle.records.specs.Audited.{Closed, Rooted};
+ghost use Rattle.records.specs.Rules.{eachTerm, parentsRule, endsRule, edgeLabel, labelRule, alikeAt, aloneAt, classTest, classesRule, stampBelow, fallsRule};
+ghost use Rattle.records.specs.Audited.{Closed, Rooted, Pathed};
 use crate::State;
 use crate::fields;
 use crate::rules;
@@ -244,4 +244,44 @@ pub fn classes_ok(terms: &[u32], c: State) -> bool
         return false;
     }
     classes_hold(terms, c)
+}
+
+// THE AUDIT OF CONGRUENCE EDGES
+
+// The stamps from y up to x, x left out, are below m.
+fn stamps_below(terms: &[u32], n: usize, y: u32, x: u32, m: u32) -> bool
+    requires { ⌜ (n ≤ termLimit) × (within n y ≡ true) × Closed (forestUp (termsView (now terms) n)) n ⌝ }
+    ensures { λ r. ⌜ r ≡ all (stampBelow (termsView (now (terms .entry)) n) m) (upTo x (aboveIn (termsView (now (terms .entry)) n) y)) ⌝ }
+{
+    let mut z = y;
+    let mut i: usize = 0;
+    while i <= n {
+        if z == x {
+            return true;
+        }
+        if m <= fields::stamp(terms, z) {
+            return false;
+        }
+        let u = fields::forest_parent(terms, z);
+        if u == z {
+            return true;
+        }
+        z = u;
+        i += 1;
+    }
+    true
+}
+
+fn falls_ok(terms: &[u32], c: State, m: u32, a: u32, b: u32) -> bool
+    requires { ⌜ Pathed (storeOf (lent (now terms) [] [] [] []) c) (c .terms) × (within (c .terms) a ≡ true) × (within (c .terms) b ≡ true) ⌝ }
+    ensures { λ r. ⌜ r ≡ fallsRule (storeOf (lent (now (terms .entry)) [] [] [] []) c) m (a, b) ⌝ }
+{
+    let x = nearest_unchecked(terms, c.terms, a, b);
+    if x == 0 {
+        return false;
+    }
+    if !stamps_below(terms, c.terms, a, x, m) {
+        return false;
+    }
+    stamps_below(terms, c.terms, b, x, m)
 }
