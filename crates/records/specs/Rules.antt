@@ -6,7 +6,7 @@ use lib.ListN.{length}
 use lib.Dec.{eqb, ltb, leb}
 use Rattle.records.specs.declared.State.{State}
 use Rattle.records.specs.Lists.{if_then_else_, all, sameWord, firsts, seconds, allBelow}
-use Rattle.records.specs.Store.{Term, Cell, Store, termIn, term, cell, count, kind, within, isTerm, isConstant, isVariable, isConcat, isLength, isEquation, isString, text, chain, parts, root, top, sameClass, sameTree, path, isEdge}
+use Rattle.records.specs.Store.{Term, Cell, Store, termIn, cellIn, term, cell, count, kind, within, isTerm, isConstant, isVariable, isConcat, isLength, isEquation, isString, text, chain, parts, root, top, sameClass, sameTree, path, isEdge}
 use Rattle.records.specs.View.{Lent, storeOf, sizes}
 
 -- a rule of every term, of every cell
@@ -129,6 +129,15 @@ classesRule s =
 -- the pairs are those of the arguments of t and of u in order, n of each, t's argument first
 unfoldable pub pairsOf : Store → List (ℕ × ℕ) → ℕ → ℕ → Bool
 pairsOf s l t u = sameWord (firsts l) (parts s t) && sameWord (seconds l) (parts s u)
+
+-- the same of three chains
+unfoldable pub pairWords : List (ℕ × ℕ) → List (ℕ × ℕ) → List (ℕ × ℕ) → Bool
+pairWords l p q = sameWord (firsts l) (firsts p) && sameWord (seconds l) (firsts q)
+
+-- the cells y and z, and the cell x of their values
+unfoldable pub pairMeets : List Cell → ℕ → ℕ → ℕ → Bool
+pairMeets cs x y z =
+    within (length cs) y && within (length cs) z && eqb (cellIn cs x .value) (cellIn cs y .value) && eqb (cellIn cs x .other) (cellIn cs z .value)
 
 -- 'each pair's forest path has only stamps below the edge's'
 abbrev pub stampBelow : List Term → ℕ → ℕ → Bool

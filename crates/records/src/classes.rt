@@ -1,12 +1,12 @@
 // Class roots and forest paths, and the audit of classes and congruence edges (refusals 3 and 4).
 ghost use mathlib.Core.Path.{_≡_};
-ghost use mathlib.Core.Bool.{true};
+ghost use mathlib.Core.Bool.{true, not, _&&_};
 ghost use mathlib.Core.List.{[]};
 ghost use Prim.Native.Nat.{ℕ, _≤_};
 ghost use Rattle.records.specs.Lists.{all, firstOf, upTo, marked, isMarked};
-ghost use Rattle.records.specs.Store.{within, classUp, forestUp, rootIn, topIn, aboveIn, orNone, nearestIn};
-ghost use Rattle.records.specs.View.{lent, storeOf, termLimit, termsView};
-ghost use Rattle.records.specs.Rules.{eachTerm, parentsRule, endsRule, edgeLabel, labelRule, alikeAt, aloneAt, classTest, classesRule, stampBelow, fallsRule};
+ghost use Rattle.records.specs.Store.{within, chainIn, classUp, forestUp, rootIn, topIn, aboveIn, orNone, nearestIn};
+ghost use Rattle.records.specs.View.{lent, storeOf, termLimit, termsView, cellsView};
+ghost use Rattle.records.specs.Rules.{eachTerm, parentsRule, endsRule, edgeLabel, labelRule, alikeAt, aloneAt, classTest, classesRule, stampBelow, fallsRule, pairWords, pairMeets};
 ghost use Rattle.records.specs.Audited.{Closed, Rooted, Pathed};
 use crate::State;
 use crate::fields;
@@ -284,4 +284,58 @@ fn falls_ok(terms: &[u32], c: State, m: u32, a: u32, b: u32) -> bool
         return false;
     }
     stamps_below(terms, c.terms, b, x, m)
+}
+
+fn both_ended(n: usize, y: u32, z: u32) -> bool
+    ensures { λ r. ⌜ r ≡ (not (within n y) && not (within n z)) ⌝ }
+{
+    if rules::is_within(n, y) {
+        return false;
+    }
+    !rules::is_within(n, z)
+}
+
+fn pair_meets(cells: &[u32], n: usize, x: u32, y: u32, z: u32) -> bool
+    requires { ⌜ within n x ≡ true ⌝ }
+    ensures { λ r. ⌜ r ≡ pairMeets (cellsView (now (cells .entry)) n) x y z ⌝ }
+{
+    if !rules::is_within(n, y) {
+        return false;
+    }
+    if !rules::is_within(n, z) {
+        return false;
+    }
+    let v = fields::value(cells, x);
+    let a = fields::value(cells, y);
+    if v != a {
+        return false;
+    }
+    let o = fields::other(cells, x);
+    let b = fields::value(cells, z);
+    o == b
+}
+
+// The pair chain from p against the chains from a and b. A chain has at most as many cells as there are, so the walk ends.
+fn pairs_ok(cells: &[u32], n: usize, p: u32, a: u32, b: u32) -> bool
+    ensures { λ r. do
+      let cs = cellsView (now (cells .entry)) n
+      ⌜ r ≡ pairWords (chainIn cs p) (chainIn cs a) (chainIn cs b) ⌝ }
+{
+    let mut x = p;
+    let mut y = a;
+    let mut z = b;
+    let mut i: usize = 0;
+    while i < n {
+        if !rules::is_within(n, x) {
+            return both_ended(n, y, z);
+        }
+        if !pair_meets(cells, n, x, y, z) {
+            return false;
+        }
+        x = fields::next(cells, x);
+        y = fields::next(cells, y);
+        z = fields::next(cells, z);
+        i += 1;
+    }
+    true
 }
