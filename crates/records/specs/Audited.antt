@@ -105,6 +105,16 @@ pub record Classed (s : Store) : Type 0 where
   pub labels : (t : ℕ) → isTerm s t ≡ true → isEdge s t ≡ true → Label s t
   pub roots : (t : ℕ) → isTerm s t ≡ true → isEdge s t ≡ false → Unlabelled s t
 
+-- two of n terms
+pub record TermPair (n : ℕ) (p : ℕ × ℕ) : Type 0 where
+  pub one : within n (p .0) ≡ true
+  pub other : within n (p .1) ≡ true
+
+-- what the audit of congruence edges may rely on: paths lead to a root, and the parts of concatenations are terms
+pub record Congruable (s : Store) (n : ℕ) : Type 0 where
+  pub pathed : Pathed s n
+  pub parted : (t : ℕ) → kind s t ≡ 3 → Every (λ x. within n x ≡ true) (parts s t)
+
 -- what refusal 4 asks
 abbrev pub Congruences : Store → Type 0
 Congruences s = (t : ℕ) → isEdge s t ≡ true → term s t .labelKind ≡ 3 → Congruent s t

@@ -156,8 +156,11 @@ congruenceRule s t =
 abbrev pub isCongruence : Store → ℕ → Bool
 isCongruence s t = isEdge s t && eqb (term s t .labelKind) 3
 
+abbrev pub edgeRule : Store → ℕ → Bool
+edgeRule s t = not (isCongruence s t) || congruenceRule s t
+
 unfoldable pub congruencesRule : Store → Bool
-congruencesRule s = eachTerm s (λ t. not (isCongruence s t) || congruenceRule s t)
+congruencesRule s = eachTerm s (edgeRule s)
 
 -- THE AUDIT: 0, or the first refusal of 1 to 4 that is due
 

@@ -1,13 +1,13 @@
 // Class roots and forest paths, and the audit of classes and congruence edges (refusals 3 and 4).
 ghost use mathlib.Core.Path.{_≡_};
-ghost use mathlib.Core.Bool.{true, not, _&&_};
+ghost use mathlib.Core.Bool.{true, not, _&&_, _||_};
 ghost use mathlib.Core.List.{[]};
 ghost use Prim.Native.Nat.{ℕ, _≤_};
-ghost use Rattle.records.specs.Lists.{all, firstOf, upTo, marked, isMarked};
+ghost use Rattle.records.specs.Lists.{all, firstOf, upTo, marked, isMarked, Every};
 ghost use Rattle.records.specs.Store.{within, chainIn, classUp, forestUp, rootIn, topIn, aboveIn, orNone, nearestIn};
 ghost use Rattle.records.specs.View.{lent, storeOf, termLimit, termsView, cellsView};
-ghost use Rattle.records.specs.Rules.{eachTerm, parentsRule, endsRule, edgeLabel, labelRule, alikeAt, aloneAt, classTest, classesRule, stampBelow, fallsRule, pairWords, pairMeets};
-ghost use Rattle.records.specs.Audited.{Closed, Rooted, Pathed};
+ghost use Rattle.records.specs.Rules.{eachTerm, parentsRule, endsRule, edgeLabel, labelRule, alikeAt, aloneAt, classTest, classesRule, stampBelow, fallsRule, pairWords, pairMeets, congruenceRule, edgeRule, congruencesRule};
+ghost use Rattle.records.specs.Audited.{Closed, Rooted, Pathed, TermPair, Congruable};
 use crate::State;
 use crate::fields;
 use crate::rules;
@@ -335,6 +335,94 @@ fn pairs_ok(cells: &[u32], n: usize, p: u32, a: u32, b: u32) -> bool
         x = fields::next(cells, x);
         y = fields::next(cells, y);
         z = fields::next(cells, z);
+        i += 1;
+    }
+    true
+}
+
+// Every pair of the chain from p has a path whose stamps are below m.
+fn falls_hold(terms: &[u32], cells: &[u32], c: State, m: u32, p: u32) -> bool
+    requires { ⌜ Pathed (storeOf (lent (now terms) [] [] [] []) c) (c .terms) × Every (TermPair (c .terms)) (chainIn (cellsView (now cells) (c .cells)) p) ⌝ }
+    ensures { λ r. ⌜ r ≡ all (fallsRule (storeOf (lent (now (terms .entry)) [] [] [] []) c) m) (chainIn (cellsView (now (cells .entry)) (c .cells)) p) ⌝ }
+{
+    let mut x = p;
+    let mut i: usize = 0;
+    while i < c.cells {
+        if !rules::is_within(c.cells, x) {
+            return true;
+        }
+        let a = fields::value(cells, x);
+        let b = fields::other(cells, x);
+        if !falls_ok(terms, c, m, a, b) {
+            return false;
+        }
+        x = fields::next(cells, x);
+        i += 1;
+    }
+    true
+}
+
+fn pairs_either_ok(cells: &[u32], n: usize, p: u32, a: u32, b: u32) -> bool
+    ensures { λ r. do
+      let cs = cellsView (now (cells .entry)) n
+      ⌜ r ≡ (pairWords (chainIn cs p) (chainIn cs a) (chainIn cs b) || pairWords (chainIn cs p) (chainIn cs b) (chainIn cs a)) ⌝ }
+{
+    if pairs_ok(cells, n, p, a, b) {
+        return true;
+    }
+    pairs_ok(cells, n, p, b, a)
+}
+
+fn congruence_ok(terms: &[u32], cells: &[u32], c: State, t: u32) -> bool
+    requires { ⌜ Congruable (storeOf (lent (now terms) (now cells) [] [] []) c) (c .terms) × (within (c .terms) t ≡ true) ⌝ }
+    ensures { λ r. ⌜ r ≡ congruenceRule (storeOf (lent (now (terms .entry)) (now (cells .entry)) [] [] []) c) t ⌝ }
+{
+    let u = fields::forest_parent(terms, t);
+    let j = fields::kind(terms, t);
+    if j != 3 {
+        return false;
+    }
+    let k = fields::kind(terms, u);
+    if k != 3 {
+        return false;
+    }
+    let p = fields::label_value(terms, t);
+    let a = fields::first(terms, t);
+    let b = fields::first(terms, u);
+    if !pairs_either_ok(cells, c.cells, p, a, b) {
+        return false;
+    }
+    let m = fields::stamp(terms, t);
+    falls_hold(terms, cells, c, m, p)
+}
+
+fn edge_ok(terms: &[u32], cells: &[u32], c: State, t: u32) -> bool
+    requires { ⌜ Congruable (storeOf (lent (now terms) (now cells) [] [] []) c) (c .terms) × (within (c .terms) t ≡ true) ⌝ }
+    ensures { λ r. do
+      let s = storeOf (lent (now (terms .entry)) (now (cells .entry)) [] [] []) c
+      ⌜ r ≡ edgeRule s t ⌝ }
+{
+    let u = fields::forest_parent(terms, t);
+    if u == t {
+        return true;
+    }
+    let k = fields::label_kind(terms, t);
+    if k != 3 {
+        return true;
+    }
+    congruence_ok(terms, cells, c, t)
+}
+
+// Refusal 4 is not due, where refusals 1 to 3 are not.
+pub fn congruences_ok(terms: &[u32], cells: &[u32], c: State) -> bool
+    requires { ⌜ Congruable (storeOf (lent (now terms) (now cells) [] [] []) c) (c .terms) ⌝ }
+    ensures { λ r. ⌜ r ≡ congruencesRule (storeOf (lent (now (terms .entry)) (now (cells .entry)) [] [] []) c) ⌝ }
+{
+    let mut i: u32 = 0;
+    while (i as usize) < c.terms {
+        if !edge_ok(terms, cells, c, i + 1) {
+            return false;
+        }
         i += 1;
     }
     true

@@ -11,7 +11,9 @@ returns c =
     falls-none (s .terms .now) (s .c) _ _ _ _ (c .before .before .before .pre .0) (c .before .before .before .pre .1) (c .before .before .before .pre .2) (c .before .nearest-unchecked .ensures) (c .if1 .taken)
 
 stamps-below-requires : tie.Need-stamps-below-requires
-stamps-below-requires c κs = (c .before .before .before .pre .0 .limited, c .before .before .before .pre .1, c .before .before .before .pre .0 .tops)
+stamps-below-requires c κs =
+    let s = c .before .before .before in
+    (s .pre .0 .limited, s .pre .1, s .pre .0 .tops)
 
 returns-2 : tie.Need-returns-2
 returns-2 c =
@@ -19,7 +21,9 @@ returns-2 c =
     falls-stop (s .terms .now) (s .c) _ _ _ _ (c .before .before .before .before .before .pre .0) (c .before .before .before .before .before .pre .1) (c .before .before .before .before .before .pre .2) (c .before .before .before .nearest-unchecked .ensures) _ (c .before .stamps-below .ensures) (c .if2 .taken)
 
 stamps-below-requires-2 : tie.Need-stamps-below-requires-2
-stamps-below-requires-2 c κs = (c .before .before .before .before .before .pre .0 .limited, c .before .before .before .before .before .pre .2, c .before .before .before .before .before .pre .0 .tops)
+stamps-below-requires-2 c κs =
+    let s = c .before .before .before .before .before in
+    (s .pre .0 .limited, s .pre .2, s .pre .0 .tops)
 
 returns-3 : tie.Need-returns-3
 returns-3 c =
