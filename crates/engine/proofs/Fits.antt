@@ -1,13 +1,13 @@
 -- Pairs that explain walks: two terms of one tree, the stamps of their path below a number.
-use mathlib.Core.Path.{_≡_, refl, sym, ap, _∙_}
-use mathlib.Core.Bool.{Bool, true, false}
+use mathlib.Core.Path.{_≡_}
+use mathlib.Core.Bool.{true}
 use mathlib.Core.List.{List, [], _∷_}
-use mathlib.Core.Logic.{_⊎_, inl, inr, ⊎-elim}
-use Prim.Native.Nat.{ℕ, zero, suc, max, _≤_, _<_}
+use mathlib.Core.Logic.{⊎-elim}
+use Prim.Native.Nat.{ℕ, _≤_, _<_}
 use native.Mathlib.Omega.{arith}
 use Rattle.records.specs.Lists.{firsts, seconds, Every, none-left, and}
-use Rattle.records.specs.Store.{Store, term, kind, isTerm, isString, chain, parts, path, isEdge}
-use Rattle.records.specs.Audited.{Audited, Part, Falls, Pairs, Congruent}
+use Rattle.records.specs.Store.{Store, term, kind, isTerm, chain, parts, path}
+use Rattle.records.specs.Audited.{Audited, Pairs, Congruent}
 use Rattle.records.proofs.Lists.{every-map}
 use Rattle.records.proofs.Grown.{string-term}
 use Rattle.engine.specs.Explain.{highest, height}
@@ -19,12 +19,12 @@ pub record Fit (s : Store) (m : ℕ) (p : ℕ × ℕ) : Type 0 where
 
 -- HEIGHTS
 
-highest-low : (s : Store) (m : ℕ) {l : List ℕ} → Every (λ e. term s e .stamp < m) l → highest s l ≤ m
+highest-low : (s : Store) (m : ℕ) {l : List ℕ} → Every (λ e. term s e .stamp < m) l → highest (s .terms) l ≤ m
 unfolding highest
 highest-low s m none-left = omega arith
 highest-low s m (and h k) = let i = highest-low s m k in omega arith
 
-highest-high : (s : Store) (m : ℕ) (l : List ℕ) → highest s l ≤ m → Every (λ e. term s e .stamp < m) l
+pub highest-high : (s : Store) (m : ℕ) (l : List ℕ) → highest (s .terms) l ≤ m → Every (λ e. term s e .stamp < m) l
 unfolding highest
 highest-high s m [] h = none-left
 highest-high s m (e ∷ l) h = let i : term s e .stamp < m = omega arith in and i (highest-high s m l (omega arith))

@@ -1,21 +1,20 @@
 -- A run of walk: the reasons that it gives, and the pairs that it marks, each accounted for.
-use mathlib.Core.Path.{_≡_, refl, sym, ap, _∙_}
+use mathlib.Core.Path.{_≡_, refl, ap, _∙_}
 use mathlib.Core.Bool.{Bool, true, false, _||_}
 use mathlib.Core.List.{List, [], _∷_, _++_, List·Memᴰ, List·Memᴰ·head, List·Memᴰ·tail, List·Memᴰ·cases-cons, Memᴰ·append-left, Memᴰ·append-right}
 use mathlib.Core.Logic.{_⊎_, inl, inr, ⊎-elim}
-use Prim.Native.Nat.{ℕ, zero, suc, min, max, _≤_, _<_}
+use Prim.Native.Nat.{ℕ, zero, suc, min, _≤_, _<_}
 use native.Mathlib.Omega.{arith}
-use lib.ListN.{length}
 use lib.Dec.{eqb}
 use borrow.Author.Tests.{eqb-true}
-use Rattle.records.specs.Lists.{if_then_else_, any, Every, none-left, and}
+use Rattle.records.specs.Lists.{any, Every, none-left, and}
 use Rattle.records.specs.Store.{Store, Out, ok, stop, Work, andThen, _>>=_, give, term, isTerm, chain, path, isEdge}
-use Rattle.records.specs.Rules.{reasonRule, isNumber}
+use Rattle.records.specs.Rules.{reasonRule}
 use Rattle.records.specs.Make.{addReason, withReasons, ordered, samePair}
 use Rattle.records.specs.Audited.{Audited, Label, asserted, interface, congruence, definitional}
 use Rattle.records.proofs.Lists.{every-map, every-append, either, both-left, both-right, clash}
 use Rattle.engine.specs.Explain.{Seen, wasSeen, each, edge, walk}
-use Rattle.engine.proofs.Paths.{every-both, Together, path-edges}
+use Rattle.engine.proofs.Paths.{every-both, path-edges}
 use Rattle.engine.proofs.Fits.{Fit, fit-zero, fit-more, pairs-fit}
 use Rattle.engine.proofs.Cites.{cites, citing, citing-then}
 
@@ -126,7 +125,7 @@ reason-then (ok s u) seen = refl
 reason-then (stop n) seen = refl
 
 module _ (s : Store) (d : Audited s) where
-  abbrev Walks : ℕ → Type 0
+  abbrev pub Walks : ℕ → Type 0
   Walks h = (p : ℕ × ℕ) → Fit s h p → (seen : Seen) → Run s (walk h p seen) seen (λ l v. Joined v p)
 
   reason-run : (h t : ℕ) (seen : Seen) → isEdge s t ≡ true → reasonRule (term s t .labelKind, term s t .labelValue) ≡ true
@@ -143,7 +142,7 @@ module _ (s : Store) (d : Audited s) where
     ends = by-reason (List·Memᴰ·head refl);
   }
 
-  edge-run : (h : ℕ) → Walks h → (t : ℕ) → isTerm s t ≡ true → isEdge s t ≡ true → term s t .stamp ≤ h → (seen : Seen)
+  pub edge-run : (h : ℕ) → Walks h → (t : ℕ) → isTerm s t ≡ true → isEdge s t ≡ true → term s t .stamp ≤ h → (seen : Seen)
       → Run s (edge (walk h) t seen) seen (λ l v. Accounted s l v t)
   unfolding edge reasonRule
   edge-run h ih t i e b seen = go (d .classed .labels t i e)

@@ -8,6 +8,7 @@ pub mod Puts
 pub mod Adds
 pub mod Texts
 pub mod Making
+pub mod Joins
 pub mod Readings
 pub mod Grown
 pub mod Works
@@ -19,3 +20,5 @@ pub mod Extend
 pub mod Beside
 pub mod Kept
 pub mod PairLaws
+pub mod Meant
+pub mod Builds

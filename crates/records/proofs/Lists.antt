@@ -371,6 +371,18 @@ word-same v w e = rw e (word-refl w)
 pub word-differs : (v w : List ℕ) → (v ≡ w → ⊥) → sameWord v w ≡ false
 word-differs v w d = decide (sameWord v w) (λ e. absurd (d (word-is v w e))) (λ e. e)
 
+-- word by word, where the first two have one length
+pub word-append : (v w v′ w′ : List ℕ) → length v ≡ length w → sameWord (v ++ v′) (w ++ w′) ≡ (sameWord v w && sameWord v′ w′)
+unfolding sameWord
+word-append [] [] v′ w′ e = refl
+word-append [] (y ∷ w) v′ w′ e = absurd (omega arith)
+word-append (x ∷ v) [] v′ w′ e = absurd (omega arith)
+word-append (x ∷ v) (y ∷ w) v′ w′ e = go (eqb x y) (word-append v w v′ w′ (omega arith))
+  where
+    go : (b : Bool) → sameWord (v ++ v′) (w ++ w′) ≡ (sameWord v w && sameWord v′ w′) → (b && sameWord (v ++ v′) (w ++ w′)) ≡ ((b && sameWord v w) && sameWord v′ w′)
+    go true q = q
+    go false q = refl
+
 module _ {A B : Type 0} (f : A → List B) where
   pub joined-append : (l m : List A) → joined f (l ++ m) ≡ joined f l ++ joined f m
   unfolding joined
@@ -391,6 +403,11 @@ module _ {A : Type 0} where
   pub every-append : {P : A → Type 0} {l m : List A} → Every P l → Every P m → Every P (l ++ m)
   every-append none-left k = k
   every-append (and p h) k = and p (every-append h k)
+
+  pub every-at : {P : A → Type 0} (l : List A) (i : ℕ) (d : A) → Every P l → i < length l → P (getD l i d)
+  every-at (x ∷ l) zero d (and p k) h = p
+  every-at (x ∷ l) (suc i) d (and p k) h = every-at l i d k (le-of-suc-le-suc h)
+  every-at [] i d none-left h = absurd (not-suc-le-zero h)
 
   pub all-every : (p : A → Bool) (l : List A) → all p l ≡ true → Every (λ a. p a ≡ true) l
   unfolding all

@@ -150,3 +150,11 @@ pub record Sized (m : Lent) (c : State) : Type 0 where
 pub record Ready (m : Lent) (c : State) : Type 0 where
   pub sized : Sized m c
   pub audited : Audited (storeOf m c)
+
+-- what the audit's answer says: 0 where all the facts hold, else the first place whose facts do not
+pub data Verdict (m : Lent) (c : State) : ℕ → Type 0 where
+  ready : Ready m c → Verdict m c 0
+  short : (Sized m c → ⊥) → Verdict m c 1
+  unrecorded : Sized m c → (Recorded (storeOf m c) → ⊥) → Verdict m c 2
+  unclassed : Sized m c → Recorded (storeOf m c) → (Classed (storeOf m c) → ⊥) → Verdict m c 3
+  incongruent : Sized m c → Recorded (storeOf m c) → Classed (storeOf m c) → (Congruences (storeOf m c) → ⊥) → Verdict m c 4
