@@ -2,23 +2,23 @@
 use mathlib.Core.Path.{_≡_, refl, sym, ap, _∙_}
 use mathlib.Core.Bool.{Bool, true, false, not, _&&_, _||_}
 use mathlib.Core.List.{List, [], _∷_}
-use mathlib.Core.Logic.{_⊎_, inl, inr, ⊎-elim}
-use Prim.Native.Nat.{ℕ, zero, suc, _+_, _-_, _*_, _≤_, _<_}
+use mathlib.Core.Logic.{_⊎_, ⊎-elim}
+use Prim.Native.Nat.{ℕ, suc, _+_, _-_, _*_, _≤_, _<_}
 use native.Mathlib.Omega.{arith}
 use lib.ListN.{length, getD}
 use lib.Dec.{eqb}
-use borrow.Author.Tests.{eqb-true, eqb-false, eq-eqb, ne-eqb, not-false}
+use borrow.Author.Tests.{eq-eqb, ne-eqb, not-false}
 use Rattle.records.specs.declared.State.{State}
 use Rattle.records.specs.Lists.{all, upTo, sameWord, firsts, seconds, Every, none-left, and}
-use Rattle.records.specs.Store.{Store, Cell, cellIn, term, count, kind, isTerm, within, chainBy, chainIn, chain, parts, forestUp, topIn, aboveIn, nearestIn, pathIn, sameTree}
+use Rattle.records.specs.Store.{Store, Cell, cellIn, term, kind, within, chainBy, chainIn, chain, aboveIn, nearestIn, pathIn, sameTree}
 use Rattle.records.specs.View.{Lent, lent, storeOf, termLimit, termsView, cellAt, cellsView}
-use Rattle.records.specs.Rules.{stampBelow, fallsRule, pairsOf, pairWords, pairMeets, congruenceRule, edgeRule, congruencesRule, eachTerm}
-use Rattle.records.specs.Audited.{Closed, Classed, Recorded, Part, Pathed, TermPair, Congruable}
-use Rattle.records.proofs.Lists.{both-left, both-right, both-true, either, every-map, word-is, and-stop, and-next, or-stop, or-next, left-false, right-false, failed, passed, decide, clash, table-length}
+use Rattle.records.specs.Rules.{stampBelow, fallsRule, pairsOf, pairWords, pairMeets, congruenceRule, edgeRule, congruencesRule}
+use Rattle.records.specs.Audited.{Classed, Recorded, Part, Pathed, TermPair, Congruable}
+use Rattle.records.proofs.Lists.{both-left, both-right, both-true, either, every-map, word-is, and-stop, and-next, or-stop, or-next, left-false, right-false, failed, passed, decide, table-length}
 use Rattle.records.proofs.Views.{kind-at, first-at, value-at, other-at, next-at}
 use Rattle.records.proofs.Climbs.{view-count, view-term, view-forest, ready-tops, within-term, term-within}
 use Rattle.records.proofs.Paths.{nearest-tree, path-sides}
-use Rattle.records.proofs.ClassLaws.{seen, Four, four-of}
+use Rattle.records.proofs.ClassLaws.{seen, four-of}
 use Rattle.records.proofs.Chains.{none-by, one-by}
 use Rattle.records.proofs.Grown.{string-term}
 

@@ -1,22 +1,21 @@
 -- Walking what stands above a term in the lent words: marks, the nearest shared ancestor, and the stamps of a path.
 use mathlib.Core.Path.{_≡_, refl, sym, ap, _∙_}
 use mathlib.Core.Bool.{Bool, true, false, not, _&&_, _||_, false≢true}
-use mathlib.Core.List.{List, [], _∷_, _++_}
-use mathlib.Core.Logic.{_⊎_, inl, inr, ⊎-elim}
+use mathlib.Core.List.{List, [], _∷_}
+use mathlib.Core.Logic.{_⊎_, ⊎-elim}
 use mathlib.Core.Option.{Option, none, some}
 use Prim.Native.Nat.{ℕ, zero, suc, _+_, _-_, _*_, _≤_, _<_}
-use native.Mathlib.Numerals.{add-one}
 use native.Mathlib.Omega.{arith}
 use lib.ListN.{length, getD, set, length-set}
 use lib.Seq.{getD-set-same, getD-set-other}
-use lib.Dec.{eqb, ltb}
+use lib.Dec.{eqb}
 use borrow.Author.Tests.{eqb-true, eqb-false, eq-eqb, ne-eqb, lt-ltb, le-ltb}
-use Rattle.records.specs.Lists.{if_then_else_, all, any, firstOf, isIn, upTo, marked, isMarked, Every, none-left, and}
-use Rattle.records.specs.Store.{Term, Store, term, termIn, count, isTerm, within, climb, forestUp, topIn, aboveBy, aboveIn, orNone, nearestIn, pathIn}
-use Rattle.records.specs.View.{termAt, termsView}
+use Rattle.records.specs.Lists.{all, any, firstOf, isIn, upTo, marked, isMarked, Every, none-left, and}
+use Rattle.records.specs.Store.{Term, within, climb, forestUp, topIn, aboveBy, aboveIn, orNone, nearestIn, pathIn}
+use Rattle.records.specs.View.{termsView}
 use Rattle.records.specs.Rules.{stampBelow}
-use Rattle.records.specs.Audited.{Closed, Classed}
-use Rattle.records.proofs.Lists.{both-left, both-right, or-right, right-falsum, every-map, every-both, all-append, either, or-left, decide, clash, within-low, within-high}
+use Rattle.records.specs.Audited.{Closed}
+use Rattle.records.proofs.Lists.{or-right, right-falsum, every-map, every-both, all-append, either, or-left, decide, clash, within-low, within-high}
 use Rattle.records.proofs.Climbs.{climb-stays, climb-up, above-step, view-term, view-forest, view-count}
 
 -- THE LOOP

@@ -236,7 +236,7 @@ fn classes_hold(terms: &[u32], c: State) -> bool
 }
 
 // Refusal 3 is not due.
-pub fn classes_ok(terms: &[u32], c: State) -> bool
+pub(crate) fn classes_ok(terms: &[u32], c: State) -> bool
     requires { ⌜ c .terms ≤ termLimit ⌝ }
     ensures { λ r. ⌜ r ≡ classesRule (storeOf (lent (now (terms .entry)) [] [] [] []) c) ⌝ }
 {
@@ -414,7 +414,7 @@ fn edge_ok(terms: &[u32], cells: &[u32], c: State, t: u32) -> bool
 }
 
 // Refusal 4 is not due, where refusals 1 to 3 are not.
-pub fn congruences_ok(terms: &[u32], cells: &[u32], c: State) -> bool
+pub(crate) fn congruences_ok(terms: &[u32], cells: &[u32], c: State) -> bool
     requires { ⌜ Congruable (storeOf (lent (now terms) (now cells) [] [] []) c) (c .terms) ⌝ }
     ensures { λ r. ⌜ r ≡ congruencesRule (storeOf (lent (now (terms .entry)) (now (cells .entry)) [] [] []) c) ⌝ }
 {

@@ -3,7 +3,7 @@ use Rattle.records.proofs.Lists.{below-zero, within-is, each-stop, each
 use Rattle.records.specs.Rules.{edgeRule, congruencesRule}
 use Rattle.records.specs.View.{termAt}
 use Rattle.records.specs.Lists.{allBelow}
-use Prim.Native.Nat.{ℕ, suc, _-_, _≤_}
+use Prim.Native.Nat.{suc, _-_, _≤_}
 use mathlib.Core.Path.{_≡_}
 use mathlib.Core.Bool.{true}
 use native.Mathlib.Omega.{arith}

@@ -2,7 +2,7 @@ use Rattle.records.proofs.PairLaws.{Chaining, chaining-begin, chaining-
 use Rattle.records.proofs.ClassLaws.{seen}
 use Rattle.records.specs.Audited.{TermPair}
 use Rattle.records.specs.Rules.{fallsRule}
-use Prim.Native.Nat.{ℕ, _-_}
+use Prim.Native.Nat.{_-_}
 use borrow.Author.Needs.{needs}
 use Rattle.records.proofs.classes.falls_hold.Statement.{statement}
 use Rattle.records.proofs.classes.falls_hold.Tie as tie

@@ -4,7 +4,7 @@ use Rattle.records.proofs.ClassLaws.{seen}
 use Rattle.records.proofs.Lists.{below-zero, within-is}
 use Rattle.records.specs.Rules.{parentsRule}
 use Rattle.records.specs.Lists.{allBelow}
-use Prim.Native.Nat.{ℕ, suc, _-_, _≤_}
+use Prim.Native.Nat.{suc, _-_, _≤_}
 use mathlib.Core.Path.{_≡_}
 use mathlib.Core.Bool.{true}
 use native.Mathlib.Omega.{arith}

@@ -1,7 +1,7 @@
 use Rattle.records.proofs.Climbs.{Climbing, climbing-begin, climbing-turn, climbing-here, climbing-done, view-forest, top-counted}
 use Rattle.records.specs.View.{termsView}
 use Rattle.records.specs.Store.{forestUp}
-use Prim.Native.Nat.{ℕ, _-_}
+use Prim.Native.Nat.{_-_}
 use borrow.Author.Needs.{needs}
 use Rattle.records.proofs.classes.top_unchecked.Statement.{statement}
 use Rattle.records.proofs.classes.top_unchecked.Tie as tie
