@@ -8,6 +8,7 @@ pub mod Puts
 pub mod Texts
 pub mod Making
 pub mod Joins
+pub mod Joining
 pub mod Readings
 pub mod Grown
 pub mod Works
