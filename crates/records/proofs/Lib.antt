@@ -5,6 +5,7 @@ pub mod Paths
 pub mod RuleLaws
 pub mod Rooms
 pub mod Puts
+pub mod Adds
 pub mod Texts
 pub mod Making
 pub mod Joins
@@ -14,3 +15,10 @@ pub mod Grown
 pub mod Works
 pub mod Chains
 pub mod ClassLaws
+pub mod Passed
+pub mod Append
+pub mod Extend
+pub mod Beside
+pub mod Kept
+pub mod Meant
+pub mod Builds

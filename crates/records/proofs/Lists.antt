@@ -292,6 +292,63 @@ module _ {A : Type 0} where
       go true e = e
       go false e = e
 
+  -- such a loop over a table, by places
+  pub table-stop : (p : A → Bool) (f : ℕ → A) (n i : ℕ) (b : Bool) → b ≡ p (f i) → not b ≡ true → i < n → false ≡ all p (table f n)
+  table-stop p f n i b e h l = below-stop (λ j. p (f j)) n i b e h l ∙ sym (all-table p f n)
+
+  pub table-done : (p : A → Bool) (f : ℕ → A) (n i : ℕ) → i ≤ n → n ≤ i → allBelow (λ j. p (f j)) i ≡ true → true ≡ all p (table f n)
+  table-done p f n i a b h = below-done (λ j. p (f j)) n i a b h ∙ sym (all-table p f n)
+
+  -- and by numbers from 1
+  pub each-stop : (q : ℕ → Bool) (f : ℕ → A) (n i : ℕ) (b : Bool) → b ≡ q (i + 1) → not b ≡ true → i < n → false ≡ allBelow (λ j. q (suc j)) (length (table f n))
+  each-stop q f n i b e h l = rw (table-length f n) (below-stop (λ j. q (suc j)) n i b (rw add-one at e) h l)
+
+  pub each-done : (q : ℕ → Bool) (f : ℕ → A) (n i : ℕ) → i ≤ n → n ≤ i → allBelow (λ j. q (suc j)) i ≡ true → true ≡ allBelow (λ j. q (suc j)) (length (table f n))
+  each-done q f n i a b h = rw (table-length f n) (below-done (λ j. q (suc j)) n i a b h)
+
+pub each-turn : (q : ℕ → Bool) (i : ℕ) (b : Bool) → b ≡ q (i + 1) → not b ≡ false → allBelow (λ j. q (suc j)) i ≡ true → allBelow (λ j. q (suc j)) (i + 1) ≡ true
+each-turn q i b e h g = below-turn (λ j. q (suc j)) i b (rw add-one at e) h g
+
+-- SOME ELEMENT
+
+module _ {A : Type 0} (p : A → Bool) where
+  pub any-append : (l m : List A) → any p (l ++ m) ≡ (any p l || any p m)
+  unfolding any
+  any-append [] m = refl
+  any-append (x ∷ l) m = go (p x) (any-append l m)
+    where
+      go : (b : Bool) → any p (l ++ m) ≡ (any p l || any p m) → (b || any p (l ++ m)) ≡ ((b || any p l) || any p m)
+      go true e = refl
+      go false e = e
+
+  -- the loop `while i < n { if test(.., i) { return true; } i += 1; } false` over a table
+  pub any-zero : (f : ℕ → A) → any p (table f 0) ≡ false
+  unfolding any table
+  any-zero f = refl
+
+  any-step : (f : ℕ → A) (i : ℕ) → any p (table f (suc i)) ≡ (any p (table f i) || p (f i))
+  unfolding any table
+  any-step f i = any-append (table f i) (f i ∷ []) ∙ ap (λ (b : Bool). any p (table f i) || b) (go (p (f i)))
+    where
+      go : (b : Bool) → (b || false) ≡ b
+      go true = refl
+      go false = refl
+
+  pub any-turn : (f : ℕ → A) (i : ℕ) (b : Bool) → b ≡ p (f i) → b ≡ false → any p (table f i) ≡ false → any p (table f (i + 1)) ≡ false
+  any-turn f i b e h q = rw (add-one, any-step, q) (sym e ∙ h)
+
+  pub any-stays : (f : ℕ → A) (n i : ℕ) → i < n → p (f i) ≡ true → any p (table f n) ≡ true
+  any-stays f zero i l h = absurd (not-suc-le-zero l)
+  any-stays f (suc n) i l h =
+      any-step f n
+      ∙ ⊎-elim (λ e. or-right (any p (table f n)) (p (f n)) (ap (λ (j : ℕ). p (f j)) (sym e) ∙ h)) (λ lt. or-left _ (p (f n)) (any-stays f n i lt h)) (eq-or-lt-of-le (le-of-suc-le-suc l))
+
+  pub any-stop : (f : ℕ → A) (n i : ℕ) (b : Bool) → b ≡ p (f i) → b ≡ true → i < n → true ≡ any p (table f n)
+  any-stop f n i b e h l = sym (any-stays f n i l (sym e ∙ h))
+
+  pub any-done : (f : ℕ → A) (n i : ℕ) → i ≤ n → n ≤ i → any p (table f i) ≡ false → false ≡ any p (table f n)
+  any-done f n i a b h = let e : i ≡ n = le-antisymm a b in sym (rw e at h)
+
 -- WORDS
 
 pub word-is : (v w : List ℕ) → sameWord v w ≡ true → v ≡ w

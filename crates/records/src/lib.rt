@@ -4,6 +4,7 @@ ghost use Prim.Native.Nat.{ℕ, _+_, _<_, _≤_};
 ghost use Rattle.records.specs.View.{termLimit, cellLimit, charLimit, reasonLimit, keyLimit, oneTerm, moreCells, moreChars, oneReason, oneKey, oneName};
 ghost use Rattle.records.specs.Make.{nameLimit};
 
+pub mod build;
 pub mod classes;
 pub mod fields;
 pub mod make;
@@ -37,6 +38,12 @@ pub struct State {
 // What a making call answers: the term with the new counts, or the refusal.
 pub enum Made {
     Term(u32, State),
+    Refused(u32),
+}
+
+// What adding a reason or a key answers: the new counts, or the refusal.
+pub enum Added {
+    Counts(State),
     Refused(u32),
 }
 
