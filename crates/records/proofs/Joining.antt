@@ -15,9 +15,9 @@ use Rattle.records.specs.Make.{hasText, makeText, makeConstant}
 use Rattle.records.specs.Puts.{TextsWithin}
 use Rattle.records.specs.Audited.{Ready}
 use Rattle.records.specs.Calls.{Working}
-use Rattle.records.proofs.Lists.{all-every, every-map, joined-same, table-length}
+use Rattle.records.proofs.Lists.{within-low, within-high, all-every, every-map, joined-same, table-length}
 use Rattle.records.proofs.Views.{term-is, text-span}
-use Rattle.records.proofs.Grown.{present, not-zero}
+use Rattle.records.proofs.Grown.{kind-term}
 use Rattle.records.proofs.Joins.{lengths-joined}
 use Rattle.records.proofs.Making.{other-length, same-kind, constant-made, long-room}
 
@@ -49,8 +49,9 @@ module _ {t e h r ks : List ℕ} {c : State} (ready : Ready (lent t e h r ks) c)
       is : termIn (termsView t (c .terms)) x ≡ termAt t x
       is =
           let n = table-length (λ i. termAt t (suc i)) (c .terms) in
-          let p = present (storeOf (lent t e h r ks) c) x 0 k in
-          term-is t (c .terms) x (not-zero (storeOf (lent t e h r ks) c) x 0 k) (omega arith)
+          let p = kind-term (storeOf (lent t e h r ks) c) x 0 k in
+          let q = within-high _ x p in
+          term-is t (c .terms) x (within-low _ x p) (omega arith)
 
       fits : termAt t x .first + termAt t x .second ≤ c .chars
       fits = rw table-length at (rw is at (ready .audited .recorded .constants x k))

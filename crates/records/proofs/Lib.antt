@@ -10,6 +10,7 @@ pub mod Texts
 pub mod Making
 pub mod Joins
 pub mod Joining
+pub mod Public
 pub mod Readings
 pub mod Grown
 pub mod Works
