@@ -25,7 +25,7 @@ use crate::text::put_text_unchecked;
 use crate::text::text_is;
 
 // Whether term t is of kind k and its text is w. Only texts of one length are compared.
-pub fn has_text(terms: &[u32], chars: &[u32], t: u32, k: u32, w: &[u32]) -> bool
+pub(crate) fn has_text(terms: &[u32], chars: &[u32], t: u32, k: u32, w: &[u32]) -> bool
     ensures { λ r. ⌜ r ≡ hasText (now (terms .entry)) (now (chars .entry)) k (now (w .entry)) t ⌝ }
 {
     if kind(terms, t) != k {
@@ -39,7 +39,7 @@ pub fn has_text(terms: &[u32], chars: &[u32], t: u32, k: u32, w: &[u32]) -> bool
 }
 
 // The lowest-numbered of n terms that is of kind k and whose text is w; 0 where there is none.
-pub fn find_text_unchecked(terms: &[u32], chars: &[u32], n: usize, k: u32, w: &[u32]) -> u32
+pub(crate) fn find_text_unchecked(terms: &[u32], chars: &[u32], n: usize, k: u32, w: &[u32]) -> u32
     requires { ⌜ n ≤ termLimit ⌝ }
     ensures { λ r. ⌜ r ≡ numberOf (firstBelow (λ i. hasText (now (terms .entry)) (now (chars .entry)) k (now (w .entry)) (suc i)) n) ⌝ }
 {
