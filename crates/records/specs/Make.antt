@@ -7,7 +7,7 @@ use lib.ListN.{length}
 use lib.Dec.{eqb, ltb, leb}
 use Rattle.records.specs.Lists.{if_then_else_, any, sameWord, firsts, firstBelow}
 use Rattle.records.specs.Store.{Term, Cell, Store, Out, ok, stop, Work, _>>=_, _>>_, give, refuse, store, put, term, count, kind, isConstant, isConcat, isLength, isEquation, text, chainIn, parts}
-use Rattle.records.specs.View.{termAt, span}
+use Rattle.records.specs.View.{termAt, span, textAt}
 use Rattle.records.specs.Rules.{named}
 
 abbrev pub withReasons : Store → List (ℕ × ℕ) → Store
@@ -118,7 +118,7 @@ unfoldable pub textOf : ℕ → List ℕ → Store → ℕ → Bool
 textOf k w s t = eqb (kind s t) k && sameWord (text s t) w
 
 unfoldable pub hasText : List ℕ → List ℕ → ℕ → List ℕ → ℕ → Bool
-hasText l h k w t = eqb (termAt l t .kind) k && sameWord (span h (termAt l t .first) (termAt l t .second)) w
+hasText l h k w t = eqb (termAt l t .kind) k && sameWord (textAt l h t) w
 
 unfoldable pub concatOf : List ℕ → Store → ℕ → Bool
 concatOf l s t = isConcat s t && sameWord (parts s t) l

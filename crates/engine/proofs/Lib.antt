@@ -1,0 +1,8 @@
+pub mod Paths
+pub mod Fits
+pub mod Cites
+pub mod Run
+pub mod Added
+pub mod Walk
+pub mod Equal
+pub mod Sound
