@@ -21,3 +21,4 @@ pub mod Beside
 pub mod Kept
 pub mod Meant
 pub mod Builds
+pub mod Naming
