@@ -11,14 +11,15 @@ use native.Mathlib.Decide.{decLt}
 use lib.ListN.{length, take, set, length-append, length-set}
 use lib.Dec.{eqb, ltb, leb}
 use lib.Seq.{sets, sets-eq, take-suc-set, length-take-le}
-use borrow.Author.Tests.{lt-ltb, le-ltb, ne-eqb}
+use borrow.Author.Tests.{lt-ltb, le-ltb, ne-eqb, not-true, not-false}
 use Rattle.records.specs.declared.State.{State}
 use Rattle.records.specs.Lists.{firstBelow}
 use Rattle.records.specs.Store.{Store, Out, ok, stop, count, within}
-use Rattle.records.specs.View.{Lent, lent, storeOf}
+use Rattle.records.specs.View.{Lent, lent, storeOf, namesAt}
 use Rattle.records.specs.Rules.{named}
-use Rattle.records.specs.Make.{strk, decimalBy, nameOf, isTaken, numberOf, lookup, isSome, textOf, hasText}
+use Rattle.records.specs.Make.{strk, decimalBy, nameOf, isTaken, withNames, nameLimit, takeNameBy, takeName, numberOf, lookup, isSome, textOf, hasText}
 use Rattle.records.specs.Audited.{Ready}
+use Rattle.records.specs.Calls.{Free, Taken}
 use Rattle.records.specs.Puts.{Written}
 use Rattle.records.proofs.Lists.{first-same}
 use Rattle.records.proofs.Making.{texts-within, found-text}
@@ -109,3 +110,56 @@ taken-is t e h r ks c l l′ x n f good w look =
     let a : f ≡ numberOf (lookup (named (nameOf x)) (storeOf m c))
     = look ∙ rw g (ap numberOf (found-text m c 2 (nameOf x) (texts-within m c 2 good refl) ∙ variable-found (nameOf x) (storeOf m c))) in
     rw a (found-is (lookup (named (nameOf x)) (storeOf m c)))
+
+-- TAKING A NAME
+
+by-next : (n : ℕ) (s : Store) → isTaken s (s .names) ≡ true → takeNameBy (suc n) s ≡ takeNameBy n (withNames s (suc (s .names)))
+unfolding takeNameBy
+by-next n s e = rw (e, takeNameBy)
+
+by-free : (n : ℕ) (s : Store) → isTaken s (s .names) ≡ false → takeNameBy (suc n) s ≡ ok (withNames s (suc (s .names))) (nameOf (s .names))
+unfolding takeNameBy
+by-free n s e = rw (e, takeNameBy)
+
+-- the names from the store's counter up to x are taken
+pub record Passed (s : Store) (x : ℕ) : Type 0 where
+  pub rest : takeNameBy (nameLimit - x) (withNames s x) ≡ takeName s
+
+pub passed-none : (s : Store) → Passed s (s .names)
+unfolding takeName
+passed-none s = record { rest = refl }
+
+module _ (s : Store) (x : ℕ) (h : Passed s x) where
+  pub free-none : nameLimit ≤ x → Free s x
+  unfolding takeNameBy
+  free-none p =
+      let e : nameLimit - x ≡ 0 = omega arith in
+      record { free = λ q. absurd (omega arith); spent = λ q. sym (h .rest) ∙ rw e }
+
+  module _ (b : Bool) (is : b ≡ isTaken s x) (p : x < nameLimit) where
+    next-by : nameLimit - x ≡ suc (nameLimit - (x + 1))
+    next-by = omega arith
+
+    same : isTaken (withNames s x) x ≡ isTaken s x
+    unfolding isTaken lookup named
+    same = refl
+
+    pub passed-one : not b ≡ false → Passed s (x + 1)
+    passed-one f = record { rest = sym (rw (next-by, add-one x) (by-next (nameLimit - suc x) (withNames s x) (same ∙ sym is ∙ not-false b f))) ∙ h .rest }
+
+    pub free-here : not b ≡ true → Free s x
+    free-here f = record {
+      free = λ q. sym (h .rest) ∙ rw next-by (by-free (nameLimit - (x + 1)) (withNames s x) (same ∙ sym is ∙ not-true b f));
+      spent = λ q. absurd (omega arith);
+    }
+
+module _ (t e h r ks : List ℕ) (c : State) (x : ℕ) (f : Free (storeOf (lent t e h r ks) c) x) where
+  pub name-taken : (l l′ : List ℕ) (n : ℕ) (d : State) → x < nameLimit → length l ≡ 15 → length l′ ≡ length l → Written l l′ 0 (nameOf x) n → d ≡ namesAt c (x + 1)
+      → Taken (lent t e h r ks) c (record { code = 0; state = d; name = l′; len = n })
+  name-taken l l′ n d p k s w q =
+      let g : take n l′ ≡ nameOf x = w .words in
+      let b = name-here l l′ x n k s w in
+      record { says = f .free p ∙ rw (q, add-one x, g); fits = omega arith }
+
+  pub name-spent : (l : List ℕ) → nameLimit ≤ x → Taken (lent t e h r ks) c (record { code = 9; state = c; name = l; len = 0 })
+  name-spent l p = record { says = f .spent p; fits = omega arith }

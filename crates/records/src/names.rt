@@ -6,6 +6,8 @@ ghost use Rattle.records.specs.View.{lent, storeOf};
 ghost use Rattle.records.specs.Make.{decimalBy, nameOf, isTaken};
 ghost use Rattle.records.specs.Puts.{Written};
 ghost use Rattle.records.specs.Audited.{Ready};
+ghost use Rattle.records.specs.Calls.{Free, Taken};
+use crate::Named;
 use crate::State;
 use crate::make::find_text_unchecked;
 
@@ -55,4 +57,57 @@ fn is_taken(
     let mut name: [u32; 15] = [0; 15];
     let len = put_name(&mut name, x);
     find_text_unchecked(terms, chars, c.terms, 2, &name[..len]) != 0
+}
+
+// The first counter from c's on whose name no variable has; the limit where there is none below it.
+fn free_name(
+    terms: &[u32],
+    cells: &[u32],
+    chars: &[u32],
+    reasons: &[u32],
+    keys: &[u32],
+    c: State,
+) -> u32
+    requires { ⌜ Ready (lent (now terms) (now cells) (now chars) (now reasons) (now keys)) c ⌝ }
+    ensures { λ r. ⌜ Free (storeOf (lent (now (terms .entry)) (now (cells .entry)) (now (chars .entry)) (now (reasons .entry)) (now (keys .entry))) c) r ⌝ }
+{
+    let mut x = c.names;
+    while x < crate::NAME_LIMIT {
+        if !is_taken(terms, cells, chars, reasons, keys, c, x) {
+            return x;
+        }
+        x += 1;
+    }
+    x
+}
+
+// The next free name, with the counter past it.
+pub fn take_name_unchecked(
+    terms: &[u32],
+    cells: &[u32],
+    chars: &[u32],
+    reasons: &[u32],
+    keys: &[u32],
+    c: State,
+) -> Named
+    requires { ⌜ Ready (lent (now terms) (now cells) (now chars) (now reasons) (now keys)) c ⌝ }
+    ensures { λ r. ⌜ Taken (lent (now (terms .entry)) (now (cells .entry)) (now (chars .entry)) (now (reasons .entry)) (now (keys .entry))) c r ⌝ }
+{
+    let mut name: [u32; 15] = [0; 15];
+    let x = free_name(terms, cells, chars, reasons, keys, c);
+    if x < crate::NAME_LIMIT {
+        let len = put_name(&mut name, x);
+        return Named {
+            code: 0,
+            state: c.with_names(x + 1),
+            name: name,
+            len: len,
+        };
+    }
+    Named {
+        code: 9,
+        state: c,
+        name: name,
+        len: 0,
+    }
 }
