@@ -25,3 +25,4 @@ pub mod Kept
 pub mod Meant
 pub mod Builds
 pub mod Naming
+pub mod BuildCalls

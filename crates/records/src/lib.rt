@@ -22,6 +22,8 @@ pub const REASON_LIMIT: usize = 4096;
 
 pub const KEY_LIMIT: usize = 4096;
 
+pub const LIST_LIMIT: usize = 1024;
+
 pub const NAME_LIMIT: u32 = 4294967295;
 
 // How many records of each slice are counted, and the name counter. Record 0 of terms and of cells is not counted.
