@@ -27,3 +27,5 @@ pub mod Kept
 pub mod PairLaws
 pub mod Meant
 pub mod Builds
+pub mod Naming
+pub mod BuildCalls

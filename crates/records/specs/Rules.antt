@@ -66,6 +66,13 @@ lengthRule s t = isString s (term s t .first) && ltb (term s t .first) t && eqb 
 unfoldable pub isEquatable : Store → ℕ → ℕ → Bool
 isEquatable s a b = (isString s a && isString s b) || (isLength s a && isLength s b)
 
+-- refusal 5: 'a list above 1,024', 'term absent or of the wrong kind': a list of string terms
+abbrev pub listLimit : ℕ
+listLimit = 1024
+
+abbrev pub isList : Store → List ℕ → Bool
+isList s l = leb (length l) listLimit && all (isString s) l
+
 unfoldable pub equationRule : Store → ℕ → Bool
 equationRule s t = isEquatable s (term s t .first) (term s t .second) && ltb (term s t .first) t && ltb (term s t .second) t
 

@@ -8,7 +8,7 @@ ghost use lib.Dec.{leb};
 ghost use Rattle.records.specs.Lists.{all};
 ghost use Rattle.records.specs.Store.{termIn, within, term, cell, chain, isVariable, text};
 ghost use Rattle.records.specs.View.{lent, storeOf, termsView, charsView, pairsView, span, termLimit, cellLimit, charLimit, reasonLimit, keyLimit, sizes};
-ghost use Rattle.records.specs.Rules.{isChar, isNumber, reasonRule, keyRule, cellRule, textRule, named, nameRule, partRule, concatRule, lengthRule, isEquatable, equationRule, termRule, recordsRule, eachTerm, eachCell};
+ghost use Rattle.records.specs.Rules.{isChar, isNumber, reasonRule, keyRule, cellRule, textRule, named, nameRule, partRule, concatRule, lengthRule, isEquatable, equationRule, termRule, recordsRule, eachTerm, eachCell, isList};
 ghost use Rattle.records.specs.Marks.{markFrom, mark, Marking, Naming};
 ghost use Rattle.records.specs.Audited.{Sized};
 use crate::CELL_LIMIT;
@@ -222,6 +222,23 @@ pub fn is_equatable(terms: &[u32], c: State, a: u32, b: u32) -> bool
         return false;
     }
     kind_of(terms, c.terms, b) == 4
+}
+
+// A list of string terms that is not too long.
+pub fn is_list(terms: &[u32], c: State, l: &[u32]) -> bool
+    ensures { λ r. ⌜ r ≡ isList (storeOf (lent (now (terms .entry)) [] [] [] []) c) (now (l .entry)) ⌝ }
+{
+    if l.len() > crate::LIST_LIMIT {
+        return false;
+    }
+    let mut i: usize = 0;
+    while i < l.len() {
+        if !is_string(terms, c.terms, l[i]) {
+            return false;
+        }
+        i += 1;
+    }
+    true
 }
 
 fn equation_ok(terms: &[u32], c: State, t: u32) -> bool
