@@ -1,1 +1,4 @@
 pub mod Words
+pub mod Ends
+pub mod Cited
+pub mod Good
