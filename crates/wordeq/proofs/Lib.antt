@@ -3,3 +3,5 @@ pub mod Ends
 pub mod Cited
 pub mod Good
 pub mod Strip
+pub mod Occurs
+pub mod Tile
