@@ -5,3 +5,4 @@ pub mod Good
 pub mod Strip
 pub mod Occurs
 pub mod Tile
+pub mod Constants
