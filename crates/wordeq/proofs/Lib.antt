@@ -6,3 +6,4 @@ pub mod Strip
 pub mod Occurs
 pub mod Tile
 pub mod Constants
+pub mod Split
