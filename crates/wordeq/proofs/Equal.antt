@@ -5,19 +5,21 @@ use mathlib.Core.List.{List, [], _∷_, _++_}
 use Prim.Native.Nat.{ℕ}
 use lib.ListN.{length, drop}
 use lib.Seq.{drop-append-seam}
+use native.Mathlib.Omega.{arith}
 use lib.Dec.{eqb}
 use borrow.Author.Tests.{not-false}
-use Rattle.records.specs.Lists.{if_then_else_, all, joined, sameWord, Every, and}
-use Rattle.records.specs.Store.{Store, Out, ok, stop, Work, _>>_, give, isConstant, isString, text, sameClass}
+use Rattle.records.specs.Lists.{if_then_else_, all, joined, sameWord, and}
+use Rattle.records.specs.Store.{Store, Out, ok, stop, andThen, give, isConstant, isString, text, sameClass}
 use Rattle.records.specs.Make.{withReasons}
-use Rattle.records.specs.Meaning.{Words, Reading, Holds}
+use Rattle.records.specs.Meaning.{Words}
 use Rattle.records.specs.Audited.{Audited}
 use Rattle.records.proofs.Lists.{both-left, both-right, decide, clash, all-every}
-use Rattle.records.proofs.Grown.{Grown}
+use Rattle.engine.specs.Explain.{explain}
 use Rattle.engine.proofs.Added.{Added}
+use Rattle.engine.proofs.Sound.{explain-stops}
 use Rattle.wordeq.specs.Wordeq.{same, nfEqual, explainPair, nfExplain}
 use Rattle.wordeq.specs.Meaning.{ExplainsEqual}
-use Rattle.wordeq.proofs.Ends.{Working, Ends, ends-give, ends-map, ends-if, ends-then}
+use Rattle.wordeq.proofs.Ends.{Ends, ends-give, ends-map, ends-if, ends-then}
 use Rattle.wordeq.proofs.Cited.{Strings, strings-later, Cited, cited-none, cited-map, cited-then, added-reasons, explain-ends}
 use Rattle.wordeq.proofs.Strip.{plainly, same-word, same-class}
 
@@ -73,6 +75,26 @@ explain-equal-ends (a ∷ l) (b ∷ r) s d (and p hl) (and q hr) =
     both : (w : Words) → w a ≡ w b → joined w l ≡ joined w r → w a ++ joined w l ≡ w b ++ joined w r
     both w e f = cc
 
+pair-stops : (a b : ℕ) (s : Store) → Audited s → isString s a ≡ true → isString s b ≡ true → (n : ℕ) → explainPair a b s ≡ stop n → n ≡ 7
+unfolding explainPair
+pair-stops a b s d p q n e = go (skips s a b) refl e
+  where
+    go : (x : Bool) → skips s a b ≡ x → (if x then give tt else explain a b) s ≡ stop n → n ≡ 7
+    go true f i = let z : _≡_ {A = ℕ} 0 1 = cc in absurd (omega arith)
+    go false f i = explain-stops s d a b p q (of-class s a b f) n i
+
+stops-seven : (l r : List ℕ) (s : Store) → Audited s → Strings s l → Strings s r → (n : ℕ) → nfExplain l r s ≡ stop n → n ≡ 7
+unfolding nfExplain
+stops-seven [] r s d hl hr n e = let z : _≡_ {A = ℕ} 0 1 = cc in absurd (omega arith)
+stops-seven (a ∷ l) [] s d hl hr n e = let z : _≡_ {A = ℕ} 0 1 = cc in absurd (omega arith)
+stops-seven (a ∷ l) (b ∷ r) s d (and p hl) (and q hr) n e = go (stops-seven l r) (explainPair a b s) refl e
+  where
+    go : ((s₁ : Store) → Audited s₁ → Strings s₁ l → Strings s₁ r → (n : ℕ) → nfExplain l r s₁ ≡ stop n → n ≡ 7) → (o : Out (Unit {0})) → explainPair a b s ≡ o → andThen (λ u. nfExplain l r) o ≡ stop n → n ≡ 7
+    go ih (ok s₁ u) f i =
+        let m = pair-ends a b s d p q .given s₁ u f in
+        ih s₁ (m .audited) (strings-later (m .grown) hl) (strings-later (m .grown) hr) n i
+    go ih (stop k) f i = let j : k ≡ n = cc in sym j ∙ pair-stops a b s d p q k f
+
 module _ (l r : List ℕ) (s : Store) (audited : Audited s) (left : all (isString s) l ≡ true) (right : all (isString s) r ≡ true) where
   ends : Ends (λ s′ u. Cited (λ w. nfEqual s l r ≡ true → joined w l ≡ joined w r) s s′) (nfExplain l r s)
   ends = explain-equal-ends l r s audited (all-every _ l left) (all-every _ r right)
@@ -92,5 +114,6 @@ module _ (l r : List ℕ) (s : Store) (audited : Audited s) (left : all (isStrin
   pub explain-equal-kept : (s′ : Store) (u : Unit {0}) → nfExplain l r s ≡ ok s′ u → Audited s′
   explain-equal-kept s′ u e = explain-equal-gives s′ u e .audited
 
-  pub explain-equal-stops : (n : ℕ) → nfExplain l r s ≡ stop n → Working n
-  explain-equal-stops n e = ends .stopped n e
+  -- it stops only with 7
+  pub explain-equal-stops : (n : ℕ) → nfExplain l r s ≡ stop n → n ≡ 7
+  explain-equal-stops n e = stops-seven l r s audited (all-every _ l left) (all-every _ r right) n e
