@@ -1,1 +1,4 @@
 pub mod Atoms
+pub mod Stops
+pub mod Rewritten
+pub mod Formed
