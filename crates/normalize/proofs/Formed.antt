@@ -2,32 +2,29 @@
 use mathlib.Core.Path.{_≡_, refl, sym, ap, subst, _∙_}
 use mathlib.Core.Bool.{Bool, true, false, _&&_}
 use mathlib.Core.List.{List, [], _∷_, _++_, reverse, append-nil, append-assoc, reverse-cons}
-use mathlib.Core.Logic.{_⊎_, inl, inr, ⊎-elim}
 use mathlib.Core.Option.{Option, none, some}
-use Prim.Native.Nat.{ℕ, zero, suc, _+_, _≤_, _<_}
+use Prim.Native.Nat.{ℕ, _+_, _≤_}
 use native.Mathlib.Omega.{arith}
 use lib.ListN.{length, length-append, length-reverse}
 use lib.Dec.{eqb, leb}
-use borrow.Author.Tests.{eqb-true, eq-eqb, leb-true}
+use borrow.Author.Tests.{eqb-true, eq-eqb}
 use Rattle.records.specs.Lists.{if_then_else_, all, firstOf, joined, Every, none-left, and}
-use Rattle.records.specs.Store.{Store, Out, ok, stop, Work, andThen, _>>=_, _>>_, give, refuse, kind, within, isString, isConstant, text, root, sameClass}
+use Rattle.records.specs.Store.{Store, ok, stop, Work, _>>=_, give, within, isString, isConstant, text, root, sameClass}
 use Rattle.records.specs.Rules.{isChar}
 use Rattle.records.specs.Make.{makeConstant}
 use Rattle.records.specs.Meaning.{Words, Reading, Holds}
 use Rattle.records.specs.Audited.{Audited}
 use Rattle.records.proofs.Lists.{both-left, both-right, both-true, every-map, every-append, all-every, all-append}
-use Rattle.records.proofs.Works.{stop-not, via, branch}
-use Rattle.records.proofs.Grown.{Grown, grown-string}
 use Rattle.records.proofs.Readings.{text-characters}
 use Rattle.records.proofs.Kept.{made-string, constant-kept, constant-stops}
 use Rattle.records.proofs.Meant.{constant-word}
 use Rattle.engine.specs.Explain.{explain}
 use Rattle.engine.proofs.Sound.{explain-gives, explain-stops}
-use Rattle.normalize.specs.Normalize.{atoms, flatten, listLimit, orFirst, representative, substitute, join, push, pushAll, pushForms, normalForm, isList, formArguments}
+use Rattle.normalize.specs.Normalize.{flatten, listLimit, orFirst, representative, substitute, join, push, pushAll, pushForms, normalForm, isList, formArguments}
 use Rattle.normalize.specs.Meaning.{Forms}
-use Rattle.normalize.proofs.Atoms.{flatten-flat, flatten-atoms, flatten-stops}
-use Rattle.normalize.proofs.Stops.{ok-not, via-stop, branch-stop}
-use Rattle.normalize.proofs.Rewritten.{Later, later-none, later-added, later-explained, later-made, Strings, strings-later, Rewritten, rewritten-none, rewritten-then, rewritten-after, rewritten-before, rewritten-from, rewritten-explained, rewritten-as}
+use Rattle.normalize.proofs.Atoms.{Flat, flatten-flat, flatten-atoms, flatten-stops}
+use Rattle.normalize.proofs.Ends.{FormStop, Ends, ends-give, ends-by, ends-if, ends-map, ends-then}
+use Rattle.normalize.proofs.Rewritten.{Later, later-none, later-added, later-made, Strings, strings-later, Rewritten, rewritten-none, rewritten-then, rewritten-after, rewritten-before, rewritten-explained, rewritten-as}
 
 -- THE REPRESENTATIVE
 
@@ -65,38 +62,19 @@ pub record Pushed (s s′ : Store) (l out out′ : List ℕ) : Type 0 where
   pub list : Rewritten s s′ (reverse out ++ l) (reverse out′)
   pub long : length out′ ≤ length out + length l
 
-substitute-does : (cs : List ℕ) (a r : ℕ) (s s′ : Store) → Audited s → Strings s cs → isString s a ≡ true → substitute cs a s ≡ ok s′ r → Rewritten s s′ (a ∷ []) (r ∷ [])
-unfolding substitute joined
-substitute-does cs a r s s′ audited k i e =
-    via _ ((if eqb (representative s cs a) a then give tt else explain a (representative s cs a)) s) e (λ s₁ u d e₁.
-    let p : s₁ ≡ s′ = cc in
-    let q : representative s cs a ≡ r = cc in
-    subst (λ (x : Store). Rewritten s x (a ∷ []) (r ∷ [])) p
-    (subst (λ (x : ℕ). Rewritten s s₁ (a ∷ []) (x ∷ [])) q
-    (branch (eqb (representative s cs a) a) (give tt) (explain a (representative s cs a)) {s = s} {s′ = s₁} {y = u}
-    (λ b j. let z : representative s cs a ≡ a = eqb-true _ _ b in let x : s ≡ s₁ = cc in same z x)
-    (λ b j. other u j) d)))
-  where
-    stands : Stands s a (representative s cs a)
-    stands = representative-stands s cs a k i
+-- explained where they differ
+replace-ends : (a r : ℕ) (s : Store) → Audited s → isString s a ≡ true → Stands s a r → Ends (λ s′ u. Rewritten s s′ (a ∷ []) (r ∷ [])) ((if eqb r a then give tt else explain a r) s)
+replace-ends a r s audited i x =
+    ends-if (eqb r a) (give tt) (explain a r)
+    (λ b. ends-give (rewritten-as refl (ap (λ (y : ℕ). y ∷ []) (sym (eqb-true r a b))) (rewritten-none s (a ∷ []) audited (and i none-left))))
+    (λ b. ends-by 7 (omega arith) (omega arith)
+    (λ s′ u e. rewritten-explained (explain-gives s audited a r i (x .string) (x .class) s′ u e) (x .string)) (explain-stops s audited a r i (x .string) (x .class)))
 
-    same : {s₁ : Store} → representative s cs a ≡ a → s ≡ s₁ → Rewritten s s₁ (a ∷ []) (representative s cs a ∷ [])
-    same z x = subst (λ (y : Store). Rewritten s y (a ∷ []) (representative s cs a ∷ [])) x (subst (λ (y : ℕ). Rewritten s s (a ∷ []) (y ∷ [])) (sym z) (rewritten-none s (a ∷ []) audited (and i none-left)))
-
-    other : {s₁ : Store} (u : Unit {0}) → explain a (representative s cs a) s ≡ ok s₁ u → Rewritten s s₁ (a ∷ []) (representative s cs a ∷ [])
-    other {s₁} u j =
-        rewritten-explained (explain-gives s audited a (representative s cs a) i (stands .string) (stands .class) s₁ u j) (stands .string)
-
-lone : {P : ℕ → Type 0} {a : ℕ} → Every P (a ∷ []) → P a
-lone (and p k) = p
-
-every-left : {P : ℕ → Type 0} (l m : List ℕ) → Every P (l ++ m) → Every P l
-every-left [] m k = none-left
-every-left (a ∷ l) m (and p k) = and p (every-left l m k)
-
-every-right : {P : ℕ → Type 0} (l m : List ℕ) → Every P (l ++ m) → Every P m
-every-right [] m k = k
-every-right (a ∷ l) m (and p k) = every-right l m k
+substitute-ends : (cs : List ℕ) (a : ℕ) (s : Store) → Audited s → Strings s cs → isString s a ≡ true → Ends (λ s′ r. Rewritten s s′ (a ∷ []) (r ∷ [])) (substitute cs a s)
+unfolding substitute
+substitute-ends cs a s audited k i =
+    ends-then (λ u. give (representative s cs a)) ((if eqb (representative s cs a) a then give tt else explain a (representative s cs a)) s)
+    (replace-ends a (representative s cs a) s audited i (representative-stands s cs a k i)) (λ s′ u x. ends-give x)
 
 -- two constants joined
 joined-pair : (t u c : ℕ) (s s′ : Store) → Audited s → isConstant s t ≡ true → isConstant s u ≡ true → makeConstant (text s u ++ text s t) s ≡ ok s′ c → Rewritten s s′ (u ∷ t ∷ []) (c ∷ [])
@@ -113,32 +91,31 @@ joined-pair t u c s s′ audited p q e =
           ∙ sym (append-assoc (text s u) (text s t) []) ∙ ap (λ (x : List ℕ). x ++ []) (sym (constant-word m r));
     }
 
-join-does : (t : ℕ) (out out′ : List ℕ) (s s′ : Store) → Audited s → isString s t ≡ true → Strings s (reverse out) → join t out s ≡ ok s′ out′ → Pushed s s′ (t ∷ []) out out′
+every-left : {P : ℕ → Type 0} (l m : List ℕ) → Every P (l ++ m) → Every P l
+every-left [] m k = none-left
+every-left (a ∷ l) m (and p k) = and p (every-left l m k)
+
+join-ends : (t : ℕ) (out : List ℕ) (s : Store) → Audited s → isString s t ≡ true → Strings s (reverse out) → Ends (λ s′ out′. Pushed s s′ (t ∷ []) out out′) (join t out s)
 unfolding join
-join-does t [] out′ s s′ audited i k e =
-    let p : s ≡ s′ = cc in let q : t ∷ [] ≡ out′ = cc in
-    subst (λ (x : Store). Pushed s x (t ∷ []) [] out′) p (subst (λ (x : List ℕ). Pushed s s (t ∷ []) [] x) q
-    (record { list = rewritten-none s (t ∷ []) audited (and i none-left); long = omega arith }))
-join-does t (u ∷ out) out′ s s′ audited i k e =
-    branch (isConstant s t && isConstant s u) _ _ {s = s}
-    (λ b d. via _ (makeConstant (text s u ++ text s t) s) d (λ s₁ c j d₁.
-    let p : s₁ ≡ s′ = cc in let q : c ∷ out ≡ out′ = cc in
-    subst (λ (x : Store). Pushed s x (t ∷ []) (u ∷ out) out′) p (subst (λ (x : List ℕ). Pushed s s₁ (t ∷ []) (u ∷ out) x) q (made s₁ c b j))))
-    (λ b d. let p : s ≡ s′ = cc in let q : t ∷ u ∷ out ≡ out′ = cc in
-    subst (λ (x : Store). Pushed s x (t ∷ []) (u ∷ out) out′) p (subst (λ (x : List ℕ). Pushed s s (t ∷ []) (u ∷ out) x) q
-    (record {
+join-ends t [] s audited i k = ends-give (record { list = rewritten-none s (t ∷ []) audited (and i none-left); long = omega arith })
+join-ends t (u ∷ out) s audited i k =
+    ends-if (isConstant s t && isConstant s u) _ _
+    (λ b. ends-then _ (makeConstant (text s u ++ text s t) s)
+    (ends-by {P = λ s′ c. Pushed s s′ (t ∷ []) (u ∷ out) (c ∷ out)} 8 (omega arith) (omega arith) (λ s′ c e. made s′ c b e) (constant-stops (text s u ++ text s t) s))
+    (λ s′ c x. ends-give x))
+    (λ b. ends-give (record {
       list = rewritten-as refl (sym (reverse-cons t (u ∷ out))) (rewritten-none s (reverse (u ∷ out) ++ (t ∷ [])) audited (every-append k (and i none-left)));
       long = omega arith;
-    }))) e
+    }))
   where
     before : Strings s (reverse out)
     before = every-left (reverse out) (u ∷ []) (subst (Strings s) (reverse-cons u out) k)
 
-    made : (s₁ : Store) (c : ℕ) → isConstant s t && isConstant s u ≡ true → makeConstant (text s u ++ text s t) s ≡ ok s₁ c → Pushed s s₁ (t ∷ []) (u ∷ out) (c ∷ out)
-    made s₁ c b j =
+    made : (s′ : Store) (c : ℕ) → isConstant s t && isConstant s u ≡ true → makeConstant (text s u ++ text s t) s ≡ ok s′ c → Pushed s s′ (t ∷ []) (u ∷ out) (c ∷ out)
+    made s′ c b e =
         record {
           list = rewritten-as (sym (ap (λ (x : List ℕ). x ++ (t ∷ [])) (reverse-cons u out) ∙ append-assoc (reverse out) (u ∷ []) (t ∷ []))) (sym (reverse-cons c out))
-              (rewritten-after (reverse out) before (joined-pair t u c s s₁ audited (both-left (isConstant s t) _ b) (both-right (isConstant s t) _ b) j));
+              (rewritten-after (reverse out) before (joined-pair t u c s s′ audited (both-left (isConstant s t) _ b) (both-right (isConstant s t) _ b) e));
           long = omega arith;
         }
 
@@ -146,17 +123,15 @@ empty : (l : List ℕ) → length l ≡ 0 → l ≡ []
 empty [] e = refl
 empty (x ∷ l) e = absurd (omega arith)
 
-push-does : (t : ℕ) (out out′ : List ℕ) (s s′ : Store) → Audited s → isString s t ≡ true → Strings s (reverse out) → push t out s ≡ ok s′ out′ → Pushed s s′ (t ∷ []) out out′
+push-ends : (t : ℕ) (out : List ℕ) (s : Store) → Audited s → isString s t ≡ true → Strings s (reverse out) → Ends (λ s′ out′. Pushed s s′ (t ∷ []) out out′) (push t out s)
 unfolding push joined
-push-does t out out′ s s′ audited i k e =
-    branch (isConstant s t && eqb (length (text s t)) 0) _ _ {s = s}
-    (λ b d. let p : s ≡ s′ = cc in let q : out ≡ out′ = cc in
-    subst (λ (x : Store). Pushed s x (t ∷ []) out out′) p (subst (λ (x : List ℕ). Pushed s s (t ∷ []) out x) q
-    (record {
+push-ends t out s audited i k =
+    ends-if (isConstant s t && eqb (length (text s t)) 0) _ _
+    (λ b. ends-give (record {
       list = rewritten-as refl (append-nil (reverse out)) (rewritten-after (reverse out) k (dropped (both-left (isConstant s t) _ b) (both-right (isConstant s t) _ b)));
       long = omega arith;
-    })))
-    (λ b d. join-does t out out′ s s′ audited i k d) e
+    }))
+    (λ b. join-ends t out s audited i k)
   where
     dropped : isConstant s t ≡ true → eqb (length (text s t)) 0 ≡ true → Rewritten s s (t ∷ []) []
     dropped c z = record {
@@ -165,11 +140,8 @@ push-does t out out′ s s′ audited i k e =
       words = λ w r h. ap (λ (x : List ℕ). x ++ []) (r .constants t (eqb-true _ _ c) ∙ empty (text s t) (eqb-true _ _ z));
     }
 
-nothing : (s s′ : Store) (out out′ : List ℕ) → Audited s → Strings s (reverse out) → _≡_ {A = Out (List ℕ)} (ok s out) (ok s′ out′) → Pushed s s′ [] out out′
-nothing s s′ out out′ audited k e =
-    let p : s ≡ s′ = cc in let q : out ≡ out′ = cc in
-    subst (λ (x : Store). Pushed s x [] out out′) p (subst (λ (x : List ℕ). Pushed s s [] out x) q
-    (record { list = rewritten-as (sym (append-nil (reverse out))) refl (rewritten-none s (reverse out) audited k); long = omega arith }))
+nothing : (s : Store) (out : List ℕ) → Audited s → Strings s (reverse out) → Pushed s s [] out out
+nothing s out audited k = record { list = rewritten-as (sym (append-nil (reverse out))) refl (rewritten-none s (reverse out) audited k); long = omega arith }
 
 push-then : {s s₁ s₂ : Store} (l m out out₁ out₂ : List ℕ) → Strings s m → Pushed s s₁ l out out₁ → Pushed s₁ s₂ m out₁ out₂ → Pushed s s₂ (l ++ m) out out₂
 push-then l m out out₁ out₂ k p q = record {
@@ -177,127 +149,84 @@ push-then l m out out₁ out₂ k p q = record {
   long = (let i = p .long in let j = q .long in let n = length-append l m in omega arith);
 }
 
-pub all-does : (l out out′ : List ℕ) (s s′ : Store) → Audited s → Strings s l → Strings s (reverse out) → pushAll l out s ≡ ok s′ out′ → Pushed s s′ l out out′
+-- one atom, then the others
+push-on : (a : ℕ) (l out : List ℕ) (s : Store) (m : Work (List ℕ)) (f : List ℕ → Work (List ℕ)) → Strings s l → Ends (λ s′ out′. Pushed s s′ (a ∷ []) out out′) (m s)
+    → ((s₁ : Store) (out₁ : List ℕ) → Pushed s s₁ (a ∷ []) out out₁ → Ends (λ s′ out′. Pushed s₁ s′ l out₁ out′) (f out₁ s₁)) → Ends (λ s′ out′. Pushed s s′ (a ∷ l) out out′) ((m >>= f) s)
+push-on a l out s m f j e k = ends-then f (m s) e (λ s₁ out₁ p. ends-map (λ s′ out′ q. push-then (a ∷ []) l out out₁ out′ j p q) (k s₁ out₁ p))
+
+pub all-ends : (l out : List ℕ) (s : Store) → Audited s → Strings s l → Strings s (reverse out) → Ends (λ s′ out′. Pushed s s′ l out out′) (pushAll l out s)
 unfolding pushAll
-all-does [] out out′ s s′ audited none-left k e = nothing s s′ out out′ audited k e
-all-does (t ∷ l) out out′ s s′ audited (and i j) k e =
-    via (pushAll l) (push t out s) e (λ s₁ out₁ d d₁.
-    let p = push-does t out out₁ s s₁ audited i k d in
-    push-then (t ∷ []) l out out₁ out′ j p
-    (all-does l out₁ out′ s₁ s′ (p .list .later .audited) (strings-later (p .list .later .grown) j) (p .list .strings) d₁))
+all-ends [] out s audited none-left k = ends-give (nothing s out audited k)
+all-ends (t ∷ l) out s audited (and i j) k =
+    push-on t l out s (push t out) (pushAll l) j (push-ends t out s audited i k)
+    (λ s₁ out₁ p. all-ends l out₁ s₁ (p .list .later .audited) (strings-later (p .list .later .grown) j) (p .list .strings))
 
--- one atom: replaced, then pushed
-form-pushed : (cs : List ℕ) (a : ℕ) (out out′ : List ℕ) (s s′ : Store) → Audited s → Strings s cs → isString s a ≡ true → Strings s (reverse out) → andThen (λ r. push r out) (substitute cs a s) ≡ ok s′ out′ → Pushed s s′ (a ∷ []) out out′
-form-pushed cs a out out′ s s′ audited h i k e =
-    via (λ r. push r out) (substitute cs a s) e (λ s₁ r d d₁.
-    let x = substitute-does cs a r s s₁ audited h i d in
-    let y = push-does r out out′ s₁ s′ (x .later .audited) (lone (x .strings)) (strings-later (x .later .grown) k) d₁ in
-    record { list = rewritten-then (rewritten-after (reverse out) k x) (y .list); long = y .long })
+lone : {P : ℕ → Type 0} {a : ℕ} → Every P (a ∷ []) → P a
+lone (and p k) = p
 
-pub forms-do : (cs l out out′ : List ℕ) (s s′ : Store) → Audited s → Strings s cs → Strings s l → Strings s (reverse out) → pushForms cs l out s ≡ ok s′ out′ → Pushed s s′ l out out′
+-- one atom replaced, then pushed
+atom-ends : (cs : List ℕ) (a : ℕ) (out : List ℕ) (s : Store) → Audited s → Strings s cs → isString s a ≡ true → Strings s (reverse out) → Ends (λ s′ out′. Pushed s s′ (a ∷ []) out out′) ((substitute cs a >>= (λ r. push r out)) s)
+atom-ends cs a out s audited h i k =
+    ends-then (λ r. push r out) (substitute cs a s) (substitute-ends cs a s audited h i) (λ s₁ r x.
+    ends-map (λ s′ out′ y. record { list = rewritten-then (rewritten-after (reverse out) k x) (y .list); long = y .long })
+    (push-ends r out s₁ (x .later .audited) (lone (x .strings)) (strings-later (x .later .grown) k)))
+
+pub forms-end : (cs l out : List ℕ) (s : Store) → Audited s → Strings s cs → Strings s l → Strings s (reverse out) → Ends (λ s′ out′. Pushed s s′ l out out′) (pushForms cs l out s)
 unfolding pushForms
-forms-do cs [] out out′ s s′ audited h none-left k e = nothing s s′ out out′ audited k e
-forms-do cs (a ∷ l) out out′ s s′ audited h (and i j) k e =
-    via (pushForms cs l) (andThen (λ r. push r out) (substitute cs a s)) e (λ s₂ out₂ d₂ e₂.
-    let p = form-pushed cs a out out₂ s s₂ audited h i k d₂ in
-    push-then (a ∷ []) l out out₂ out′ j p
-    (forms-do cs l out₂ out′ s₂ s′ (p .list .later .audited) (strings-later (p .list .later .grown) h) (strings-later (p .list .later .grown) j) (p .list .strings) e₂))
+forms-end cs [] out s audited h none-left k = ends-give (nothing s out audited k)
+forms-end cs (a ∷ l) out s audited h (and i j) k =
+    push-on a l out s (substitute cs a >>= (λ r. push r out)) (pushForms cs l) j (atom-ends cs a out s audited h i k)
+    (λ s₁ out₁ p. let g = p .list .later .grown in forms-end cs l out₁ s₁ (p .list .later .audited) (strings-later g h) (strings-later g j) (p .list .strings))
 
 -- THE NORMAL FORM
 
--- a normal form answered: w is any reading of the store after under which the definitional merges and the reasons added hold
+-- a normal form answered: a reading of the store after, under which the definitional merges and the reasons added hold, gives the list
+-- the term's word
 pub record Formed (s s′ : Store) (t : ℕ) (l : List ℕ) : Type 0 where
   pub later : Later s s′
-  pub strings : Every (λ a. isString s′ a ≡ true) l
+  pub strings : Strings s′ l
   pub long : length l ≤ listLimit
   pub word : (w : Words) → Reading s′ w → Holds s (later .more) w → w t ≡ joined w l
 
--- what the arguments are
-strings-of : (known : List ℕ) (t : ℕ) (s : Store) → formArguments known t s ≡ true → Strings s known
-strings-of known t s good = all-every _ known (both-right (leb (length known) listLimit) _ (both-left (isList s known) _ good))
+form-of : (cs m : List ℕ) (t : ℕ) (s : Store) → Audited s → Strings s cs → Strings s m → length m ≤ listLimit → ((w : Words) → Reading s w → joined w (t ∷ []) ≡ joined w m)
+    → Ends (λ s′ l. Formed s s′ t l) ((pushForms cs m [] >>= (λ out. give (reverse out))) s)
+unfolding joined
+form-of cs m t s audited h k n f =
+    ends-then (λ out. give (reverse out)) (pushForms cs m [] s) (forms-end cs m [] s audited h k none-left) (λ s′ out x.
+    ends-give (record {
+      later = x .list .later;
+      strings = x .list .strings;
+      long = (let i = x .long in let o = length-reverse out in omega arith);
+      word = λ w r j. sym (append-nil (w t)) ∙ f w (x .list .later .grown .down w r) ∙ x .list .words w r j;
+    }))
 
-string-of : (known : List ℕ) (t : ℕ) (s : Store) → formArguments known t s ≡ true → isString s t ≡ true
-string-of known t s good = both-right (isList s known) _ good
-
-module _ (known : List ℕ) (t : ℕ) (s s′ : Store) (l : List ℕ) (audited : Audited s) (good : formArguments known t s ≡ true)
-    (e : normalForm known t s ≡ ok s′ l) where
-  pub form-gives : Formed s s′ t l
-  unfolding normalForm joined all
-  form-gives =
-      via _ (flatten (t ∷ []) s) e (λ s₁ m d e₁.
-      let f = flatten-flat (t ∷ []) s s₁ m d in
-      let k : Strings s m = every-map (λ a i. i .string) (flatten-atoms (t ∷ []) s s₁ m audited (both-true _ _ (string-of known t s good) refl) d) in
-      via _ (pushForms (known ++ m) m [] s) (subst (λ (x : Store). andThen (λ out. give (reverse out)) (pushForms (known ++ m) m [] x) ≡ ok s′ l) (f .same-store) e₁) (λ s₂ out j e₂.
-      let x = forms-do (known ++ m) m [] out s s₂ audited (every-append (strings-of known t s good) k) k none-left j in
-      let p : s₂ ≡ s′ = cc in
-      let q : reverse out ≡ l = cc in
-      let n = x .long in let i = f .long in let o = length-reverse out in
-      subst (λ (y : Store). Formed s y t l) p (subst (λ (y : List ℕ). Formed s s₂ t y) q
-      (record {
-        later = x .list .later;
-        strings = x .list .strings;
-        long = omega arith;
-        word = λ w r h. sym (append-nil (w t)) ∙ f .words w (x .list .later .grown .down w r) ∙ x .list .words w r h;
-      }))))
-
-  -- 'for every assignment under which the definitional merges and the reasons added hold' the list has the term's word
-  pub form-sound : Forms s s′ t l
-  form-sound w r h = form-gives .word w r (subst (λ (x : List (ℕ × ℕ)). Holds s x w) (later-added (form-gives .later)) h)
-
-  pub form-kept : Later s s′
-  form-kept = form-gives .later
-
--- STOPS
-
-join-stops : (t : ℕ) (out : List ℕ) (s : Store) (n : ℕ) → join t out s ≡ stop n → n ≡ 8
-unfolding join
-join-stops t [] s n e = ok-not e
-join-stops t (u ∷ out) s n e =
-    branch-stop (isConstant s t && isConstant s u) _ _ {s = s}
-    (λ b d. via-stop _ (makeConstant (text s u ++ text s t) s) d (λ f. constant-stops (text s u ++ text s t) s n f) (λ s₁ c j f. ok-not f))
-    (λ b d. ok-not d) e
-
-push-stops : (t : ℕ) (out : List ℕ) (s : Store) (n : ℕ) → push t out s ≡ stop n → n ≡ 8
-unfolding push
-push-stops t out s n e = branch-stop (isConstant s t && eqb (length (text s t)) 0) _ _ {s = s} (λ b d. ok-not d) (λ b d. join-stops t out s n d) e
-
-pub all-stop : (l out : List ℕ) (s : Store) (n : ℕ) → pushAll l out s ≡ stop n → n ≡ 8
-unfolding pushAll
-all-stop [] out s n e = ok-not e
-all-stop (t ∷ l) out s n e = via-stop (pushAll l) (push t out s) e (push-stops t out s n) (λ s₁ out₁ d d₁. all-stop l out₁ s₁ n d₁)
-
-substitute-stops : (cs : List ℕ) (a : ℕ) (s : Store) (n : ℕ) → Audited s → Strings s cs → isString s a ≡ true → substitute cs a s ≡ stop n → n ≡ 7
-unfolding substitute
-substitute-stops cs a s n audited k i e =
-    via-stop _ ((if eqb (representative s cs a) a then give tt else explain a (representative s cs a)) s) e
-    (λ d. branch-stop (eqb (representative s cs a) a) (give tt) (explain a (representative s cs a)) {s = s} (λ b j. ok-not j)
-    (λ b j. let x = representative-stands s cs a k i in explain-stops s audited a (representative s cs a) i (x .string) (x .class) n j) d)
-    (λ s₁ u d d₁. ok-not d₁)
-
--- 6, 7 or 8
-pub record FormStop (n : ℕ) : Type 0 where
-  pub low : 6 ≤ n
-  pub high : n ≤ 8
-
-form-stop : (n k : ℕ) → n ≡ k → 6 ≤ k → k ≤ 8 → FormStop n
-form-stop n k e p q = record { low = omega arith; high = omega arith }
-
-forms-stop : (cs l out : List ℕ) (s : Store) (n : ℕ) → Audited s → Strings s cs → Strings s l → Strings s (reverse out) → pushForms cs l out s ≡ stop n → FormStop n
-unfolding pushForms
-forms-stop cs [] out s n audited h none-left k e = ok-not e
-forms-stop cs (a ∷ l) out s n audited h (and i j) k e =
-    via-stop (pushForms cs l) (andThen (λ r. push r out) (substitute cs a s)) e
-    (λ f. via-stop (λ r. push r out) (substitute cs a s) f (λ d. form-stop n 7 (substitute-stops cs a s n audited h i d) (omega arith) (omega arith))
-    (λ s₁ r d d₁. form-stop n 8 (push-stops r out s₁ n d₁) (omega arith) (omega arith)))
-    (λ s₂ out₂ d₂ e₂. let p = form-pushed cs a out out₂ s s₂ audited h i k d₂ in
-    forms-stop cs l out₂ s₂ n (p .list .later .audited) (strings-later (p .list .later .grown) h) (strings-later (p .list .later .grown) j) (p .list .strings) e₂)
-
-pub form-stops : (known : List ℕ) (t : ℕ) (s : Store) (n : ℕ) → Audited s → formArguments known t s ≡ true → normalForm known t s ≡ stop n → FormStop n
+pub form-ends : (known : List ℕ) (t : ℕ) (s : Store) → Audited s → Strings s known → isString s t ≡ true → Ends (λ s′ l. Formed s s′ t l) (normalForm known t s)
 unfolding normalForm all
-form-stops known t s n audited good e =
-    via-stop _ (flatten (t ∷ []) s) e (λ d. form-stop n 6 (flatten-stops (t ∷ []) s n d .0) (omega arith) (omega arith)) (λ s₁ m d e₁.
-    let f = flatten-flat (t ∷ []) s s₁ m d in
-    let k : Strings s m = every-map (λ a i. i .string) (flatten-atoms (t ∷ []) s s₁ m audited (both-true _ _ (string-of known t s good) refl) d) in
-    via-stop _ (pushForms (known ++ m) m [] s) (subst (λ (x : Store). andThen (λ out. give (reverse out)) (pushForms (known ++ m) m [] x) ≡ stop n) (f .same-store) e₁)
-    (λ j. forms-stop (known ++ m) m [] s n audited (every-append (strings-of known t s good) k) k none-left j)
-    (λ s₂ out j e₂. ok-not e₂))
+form-ends known t s audited h i =
+    ends-then (λ m. pushForms (known ++ m) m [] >>= (λ out. give (reverse out))) (flatten (t ∷ []) s)
+    (ends-by {P = λ s₁ m. Flat s s₁ (t ∷ []) m × Strings s m} 6 (omega arith) (omega arith)
+    (λ s₁ m e. (flatten-flat (t ∷ []) s s₁ m e, every-map (λ a x. x .string) (flatten-atoms (t ∷ []) s s₁ m audited (both-true _ _ i refl) e)))
+    (λ n e. flatten-stops (t ∷ []) s n e .0))
+    (λ s₁ m x. subst (λ (y : Store). Ends (λ s′ l. Formed s s′ t l) ((pushForms (known ++ m) m [] >>= (λ out. give (reverse out))) y)) (sym (x .0 .same-store))
+    (form-of (known ++ m) m t s audited (every-append h (x .1)) (x .1) (x .0 .long) (x .0 .words)))
+
+-- what the arguments are
+pub known-strings : (s : Store) (known : List ℕ) → isList s known ≡ true → Strings s known
+known-strings s known e = all-every _ known (both-right (leb (length known) listLimit) _ e)
+
+module _ (known : List ℕ) (t : ℕ) (s : Store) (audited : Audited s) (good : formArguments known t s ≡ true) where
+  ends : Ends (λ s′ l. Formed s s′ t l) (normalForm known t s)
+  ends = form-ends known t s audited (known-strings s known (both-left (isList s known) _ good)) (both-right (isList s known) _ good)
+
+  pub form-gives : (s′ : Store) (l : List ℕ) → normalForm known t s ≡ ok s′ l → Formed s s′ t l
+  form-gives s′ l e = ends .given s′ l e
+
+  -- it stops only with 6, 7 or 8
+  pub form-stops : (n : ℕ) → normalForm known t s ≡ stop n → FormStop n
+  form-stops n e = ends .stopped n e
+
+  pub form-sound : (s′ : Store) (l : List ℕ) → normalForm known t s ≡ ok s′ l → Forms s s′ t l
+  form-sound s′ l e w r h = let f = form-gives s′ l e in f .word w r (subst (λ (x : List (ℕ × ℕ)). Holds s x w) (later-added (f .later)) h)
+
+  pub form-kept : (s′ : Store) (l : List ℕ) → normalForm known t s ≡ ok s′ l → Later s s′
+  form-kept s′ l e = form-gives s′ l e .later

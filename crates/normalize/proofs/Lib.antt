@@ -1,4 +1,4 @@
 pub mod Atoms
-pub mod Stops
+pub mod Ends
 pub mod Rewritten
 pub mod Formed

@@ -2,14 +2,14 @@
 -- before.
 use mathlib.Core.Path.{_≡_, refl, sym, ap, subst, _∙_}
 use mathlib.Core.Bool.{Bool, true, false}
-use mathlib.Core.List.{List, [], _∷_, _++_, append-nil, append-assoc, List·Memᴰ, Memᴰ·append-left, Memᴰ·append-right}
+use mathlib.Core.List.{List, [], _∷_, _++_, append-nil, append-assoc, Memᴰ·append-left, Memᴰ·append-right}
 use mathlib.Core.Option.{Option, none, some}
 use Prim.Native.Nat.{ℕ, suc, _+_}
 use lib.ListN.{length, drop}
 use lib.Dec.{ltb, leb}
 use lib.Seq.{drop-append-seam}
 use Rattle.records.specs.Lists.{if_then_else_, all, joined, Every, none-left, and}
-use Rattle.records.specs.Store.{Store, Out, ok, stop, Work, andThen, _>>_, give, refuse, put, count, isString, sameClass}
+use Rattle.records.specs.Store.{Store, ok, Work, andThen, _>>_, give, refuse, put, count, isString}
 use Rattle.records.specs.Rules.{isChar}
 use Rattle.records.specs.Make.{withChars, withTerms, own, addText, addTerm, lookup, orMake, lowest, constantOf, makeConstant}
 use Rattle.records.specs.Meaning.{Words, Reading, Holds}
@@ -17,7 +17,7 @@ use Rattle.records.specs.Audited.{Audited}
 use Rattle.records.proofs.Lists.{every-map, every-append, joined-append}
 use Rattle.records.proofs.Works.{stop-not, via}
 use Rattle.records.proofs.Grown.{Grown, grown-none, grown-then, grown-string}
-use Rattle.records.proofs.Kept.{ConstantMade, constant-kept}
+use Rattle.records.proofs.Kept.{constant-kept}
 use Rattle.engine.proofs.Sound.{Gave}
 
 -- REASONS THAT HOLD
