@@ -2,3 +2,4 @@ pub mod Atoms
 pub mod Ends
 pub mod Rewritten
 pub mod Formed
+pub mod Deep
