@@ -7,3 +7,4 @@ pub mod Occurs
 pub mod Tile
 pub mod Constants
 pub mod Split
+pub mod Resolve
