@@ -149,7 +149,7 @@ pub record Resolved (l r : List ℕ) (s s′ : Store) (x : Answer) : Type 0 wher
   pub incoming : Incoming s s′ x
 
 -- reasons cut back to those that came in
-later-cut : {s s₁ : Store} → Audited s → Later s s₁ → Later s (withReasons s₁ (s .reasons))
+pub later-cut : {s s₁ : Store} → Audited s → Later s s₁ → Later s (withReasons s₁ (s .reasons))
 later-cut {s} {s₁} d k =
     let e = ap (λ (x : _). x .reasons) (k .room) in
     let h = d .roomy .reasons in
