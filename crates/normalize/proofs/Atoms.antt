@@ -8,7 +8,7 @@ use lib.ListN.{length}
 use lib.Dec.{eqb, leb}
 use borrow.Author.Tests.{eqb-true, leb-true, leb-false, le-leb, lt-leb}
 use Rattle.records.specs.Lists.{if_then_else_, all, joined, Every, none-left, and}
-use Rattle.records.specs.Store.{Term, Store, Out, ok, stop, Work, give, refuse, kind, isString, isConcat, parts}
+use Rattle.records.specs.Store.{Term, Store, ok, stop, give, refuse, kind, isString, isConcat, parts}
 use Rattle.records.specs.Meaning.{Words, Reading}
 use Rattle.records.specs.Audited.{Audited}
 use Rattle.records.proofs.Lists.{decide, clash, joined-append, joined-same, every-map, every-append, all-every}

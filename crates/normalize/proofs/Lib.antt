@@ -1,1 +1,5 @@
 pub mod Atoms
+pub mod Ends
+pub mod Rewritten
+pub mod Formed
+pub mod Deep
