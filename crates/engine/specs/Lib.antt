@@ -1,2 +1,3 @@
 pub mod Explain
+pub mod Marks
 pub mod Meaning
