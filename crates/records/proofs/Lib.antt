@@ -3,6 +3,7 @@ pub mod Views
 pub mod RuleLaws
 pub mod Rooms
 pub mod Puts
+pub mod Adds
 pub mod Texts
 pub mod Readings
 pub mod Grown

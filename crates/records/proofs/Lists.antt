@@ -223,6 +223,46 @@ module _ {A : Type 0} where
       go true e = e
       go false e = e
 
+-- SOME ELEMENT
+
+module _ {A : Type 0} (p : A → Bool) where
+  pub any-append : (l m : List A) → any p (l ++ m) ≡ (any p l || any p m)
+  unfolding any
+  any-append [] m = refl
+  any-append (x ∷ l) m = go (p x) (any-append l m)
+    where
+      go : (b : Bool) → any p (l ++ m) ≡ (any p l || any p m) → (b || any p (l ++ m)) ≡ ((b || any p l) || any p m)
+      go true e = refl
+      go false e = e
+
+  -- the loop `while i < n { if test(.., i) { return true; } i += 1; } false` over a table
+  pub any-zero : (f : ℕ → A) → any p (table f 0) ≡ false
+  unfolding any table
+  any-zero f = refl
+
+  any-step : (f : ℕ → A) (i : ℕ) → any p (table f (suc i)) ≡ (any p (table f i) || p (f i))
+  unfolding any table
+  any-step f i = any-append (table f i) (f i ∷ []) ∙ ap (λ (b : Bool). any p (table f i) || b) (go (p (f i)))
+    where
+      go : (b : Bool) → (b || false) ≡ b
+      go true = refl
+      go false = refl
+
+  pub any-turn : (f : ℕ → A) (i : ℕ) (b : Bool) → b ≡ p (f i) → b ≡ false → any p (table f i) ≡ false → any p (table f (i + 1)) ≡ false
+  any-turn f i b e h q = rw (add-one, any-step, q) (sym e ∙ h)
+
+  pub any-stays : (f : ℕ → A) (n i : ℕ) → i < n → p (f i) ≡ true → any p (table f n) ≡ true
+  any-stays f zero i l h = absurd (not-suc-le-zero l)
+  any-stays f (suc n) i l h =
+      any-step f n
+      ∙ ⊎-elim (λ e. or-right (any p (table f n)) (p (f n)) (ap (λ (j : ℕ). p (f j)) (sym e) ∙ h)) (λ lt. or-left _ (p (f n)) (any-stays f n i lt h)) (eq-or-lt-of-le (le-of-suc-le-suc l))
+
+  pub any-stop : (f : ℕ → A) (n i : ℕ) (b : Bool) → b ≡ p (f i) → b ≡ true → i < n → true ≡ any p (table f n)
+  any-stop f n i b e h l = sym (any-stays f n i l (sym e ∙ h))
+
+  pub any-done : (f : ℕ → A) (n i : ℕ) → i ≤ n → n ≤ i → any p (table f i) ≡ false → false ≡ any p (table f n)
+  any-done f n i a b h = let e : i ≡ n = le-antisymm a b in sym (rw e at h)
+
 -- WORDS
 
 pub word-is : (v w : List ℕ) → sameWord v w ≡ true → v ≡ w

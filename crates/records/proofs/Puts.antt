@@ -1,16 +1,17 @@
 -- The views after records were written above the count.
 use mathlib.Core.Path.{_≡_, refl, sym, ap, _∙_}
-use mathlib.Core.Bool.{Bool, true, false}
+use mathlib.Core.Bool.{Bool, true, false, false≢true}
 use mathlib.Core.List.{List, [], _∷_, _++_}
-use Prim.Native.Nat.{ℕ, zero, suc, _+_, _*_, _≤_, _<_}
+use Prim.Native.Nat.{ℕ, zero, suc, _+_, _*_, _/_, _≤_, _<_, min}
 use native.Mathlib.Numerals.{add-one}
 use native.Mathlib.Omega.{arith}
 use lib.ListN.{length, getD, set, take, drop, length-set, length-take, List·getD-append}
+use lib.Dec.{ltb, leb}
 use lib.Seq.{sets, sets-eq, getD-append-add, getD-take, length-take-le}
 use Rattle.records.specs.Lists.{table}
-use Rattle.records.specs.View.{termLimit, termAt, cellAt, pairAt, termsView, cellsView, pairsView}
+use Rattle.records.specs.View.{reasonRoom, termAt, cellAt, pairAt, termsView, cellsView, pairsView}
 use Rattle.records.specs.Make.{own, chainFrom}
-use Rattle.records.specs.Puts.{TermPut}
+use Rattle.records.specs.Puts.{TermPut, PairPut, Pushed}
 use Rattle.records.proofs.Lists.{table-same, table-suc}
 
 -- A RUN OF STORES
@@ -41,6 +42,11 @@ terms-agree l l′ n h = table-same (λ i. termAt l′ (suc i)) (λ i. termAt l 
     let a5 = h (8 * suc i + 5) (omega arith) in
     let a6 = h (8 * suc i + 6) (omega arith) in
     let a7 = h (8 * suc i + 7) (omega arith) in cc)
+
+pub pairs-agree : (l l′ : List ℕ) (n : ℕ) → ((j : ℕ) → j < 2 * n → getD l′ j 0 ≡ getD l j 0) → pairsView l′ n ≡ pairsView l n
+pairs-agree l l′ n h = table-same (pairAt l′) (pairAt l) n (λ i b.
+    let a0 = h (2 * i + 0) (omega arith) in
+    let a1 = h (2 * i + 1) (omega arith) in cc)
 
 -- ONE TERM
 
@@ -84,3 +90,34 @@ module _ (l : List ℕ) (n k a b : ℕ) (room : 8 * (n + 2) ≤ length l) where
       let e6 : 8 * (n + 1) + 6 ≡ suc (suc (suc (suc (suc (suc (8 * (n + 1))))))) = omega arith in
       let e7 : 8 * (n + 1) + 7 ≡ suc (suc (suc (suc (suc (suc (suc (8 * (n + 1)))))))) = omega arith in
       rw (e1, e2, e3, e4, e5, e6, e7) term-put-sets
+
+-- ONE PAIR
+
+module _ (l : List ℕ) (n a b : ℕ) where
+  pub pair-put : n < length l / 2 → PairPut l (set (set l (2 * n) a) (2 * n + 1) b) n a b
+  pair-put room = record { grown = table-suc _ n ∙ (let p = kept-is in let q = last-is in cc); kept = kept-is }
+    where
+      vs : List ℕ
+      vs = a ∷ b ∷ []
+
+      l′ : List ℕ
+      l′ = set (set l (2 * n) a) (2 * n + 1) b
+
+      same : l′ ≡ sets l (2 * n) vs
+      same = let e : 2 * n + 1 ≡ suc (2 * n) = omega arith in rw e
+
+      fits : 2 * n + length vs ≤ length l
+      fits = omega arith
+
+      kept-is : pairsView l′ n ≡ pairsView l n
+      kept-is = rw same (pairs-agree l (sets l (2 * n) vs) n (sets-below l (2 * n) vs fits))
+
+      last-is : pairAt l′ n ≡ (a, b)
+      last-is = rw same (let a0 = sets-at l (2 * n) vs fits 0 (omega arith) in let a1 = sets-at l (2 * n) vs fits 1 (omega arith) in cc)
+
+module _ (l l′ : List ℕ) (n k v : ℕ) (r : Bool) (e : r ≡ ltb n (reasonRoom l)) where
+  pub pushed : r ≡ true → PairPut l l′ n k v → Pushed l l′ n k v true
+  pushed h p = record { fits = sym h ∙ e; grown = λ q. p .grown; kept = p .kept }
+
+  pub not-pushed : r ≡ false → Pushed l l n k v false
+  not-pushed h = record { fits = sym h ∙ e; grown = λ q. absurd (false≢true q); kept = refl }

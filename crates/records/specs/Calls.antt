@@ -6,6 +6,8 @@ use Prim.Native.Nat.{ℕ, zero, suc, _≤_}
 use Rattle.records.specs.declared.State.{State}
 use Rattle.records.specs.declared.Made.{Made}
 use Rattle.records.specs.declared.Made.the-variants.{Term, Refused}
+use Rattle.records.specs.declared.Added.{Added}
+use Rattle.records.specs.declared.Added.the-variants as adding
 use Rattle.records.specs.Lists.{if_then_else_}
 use Rattle.records.specs.Store.{Store, Out, ok, stop, Work}
 use Rattle.records.specs.View.{Lent, storeOf}
@@ -38,3 +40,8 @@ module _ {A : Type 0} where
 abbrev pub made : Made → Lent → Out ℕ
 made (Term t c) m = ok (storeOf m c) t
 made (Refused k) m = stop k
+
+-- the answer of adding a reason or a key
+abbrev pub added : Added → Lent → Out (Unit {0})
+added (adding.Counts c) m = ok (storeOf m c) tt
+added (adding.Refused k) m = stop k

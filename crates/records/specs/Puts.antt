@@ -4,7 +4,8 @@ use mathlib.Core.Bool.{Bool, true, false}
 use mathlib.Core.List.{List, [], _∷_, _++_}
 use Prim.Native.Nat.{ℕ, suc, _+_}
 use lib.ListN.{length}
-use Rattle.records.specs.View.{termsView, cellsView, charsView, pairsView}
+use lib.Dec.{ltb}
+use Rattle.records.specs.View.{termsView, cellsView, charsView, pairsView, reasonRoom}
 use Rattle.records.specs.Make.{own, chainFrom}
 
 -- record n + 1 of terms is now one that is its own class
@@ -16,3 +17,14 @@ pub record TermPut (l l′ : List ℕ) (n kind first second : ℕ) : Type 0 wher
 pub record CharsPut (l l′ : List ℕ) (n : ℕ) (w : List ℕ) : Type 0 where
   pub grown : charsView l′ (n + length w) ≡ charsView l n ++ w
   pub kept : charsView l′ n ≡ charsView l n
+
+-- pair n of reasons or of keys is now this one
+pub record PairPut (l l′ : List ℕ) (n a b : ℕ) : Type 0 where
+  pub grown : pairsView l′ (suc n) ≡ pairsView l n ++ ((a, b) ∷ [])
+  pub kept : pairsView l′ n ≡ pairsView l n
+
+-- a reason is put where it fits, and nothing that is counted changes
+pub record Pushed (l l′ : List ℕ) (n kind value : ℕ) (r : Bool) : Type 0 where
+  pub fits : r ≡ ltb n (reasonRoom l)
+  pub grown : r ≡ true → pairsView l′ (suc n) ≡ pairsView l n ++ ((kind, value) ∷ [])
+  pub kept : pairsView l′ n ≡ pairsView l n

@@ -40,6 +40,12 @@ pub enum Made {
     Refused(u32),
 }
 
+// What adding a reason or a key answers: the new counts, or the refusal.
+pub enum Added {
+    Counts(State),
+    Refused(u32),
+}
+
 // One record more, or the next name: the counts go in by value and the new ones come back.
 impl State {
     fn with_term(self) -> State

@@ -1,10 +1,14 @@
 // Writing records above the counts: terms, cells, reasons and keys.
 ghost use mathlib.Core.Path.{_≡_};
-ghost use Prim.Native.Nat.{ℕ, suc, _+_, _*_, _<_, _≤_};
+ghost use Prim.Native.Nat.{ℕ, suc, _+_, _*_, _/_, _<_, _≤_, min, max};
 ghost use lib.Dec.{ltb, leb};
 ghost use lib.ListN.{length};
-ghost use Rattle.records.specs.View.{termLimit, termRoom};
-ghost use Rattle.records.specs.Puts.{TermPut};
+ghost use Rattle.records.specs.Lists.{any};
+ghost use Rattle.records.specs.View.{termLimit, termRoom, pairAt, pairsView, lent};
+ghost use Rattle.records.specs.Make.{addReason, addKey, ordered, samePair};
+ghost use Rattle.records.specs.Puts.{TermPut, PairPut, Pushed};
+ghost use Rattle.records.specs.Audited.{Sized};
+ghost use Rattle.records.specs.Calls.{Working, added};
 
 // One term more fits.
 pub fn term_fits(terms: &[u32], n: usize) -> bool
@@ -31,4 +35,119 @@ pub fn put_term_unchecked(terms: &mut [u32], n: usize, kind: u32, first: u32, se
     terms[at + 5] = 0;
     terms[at + 6] = 0;
     terms[at + 7] = 0;
+}
+
+// One pair more fits a slice and a limit.
+fn pair_fits(pairs: &[u32], limit: usize, n: usize) -> bool
+    ensures { λ r. ⌜ r ≡ ltb n (min limit (length (now (pairs .entry)) / 2)) ⌝ }
+{
+    if n < limit {
+        return n < pairs.len() / 2;
+    }
+    false
+}
+
+fn push_pair(pairs: &mut [u32], n: usize, a: u32, b: u32)
+    requires { ⌜ n < length (now pairs) / 2 ⌝ }
+    ensures { λ _. ⌜ PairPut (now (pairs .entry)) (now (pairs .exit)) n a b ⌝ }
+{
+    pairs[2 * n] = a;
+    pairs[2 * n + 1] = b;
+}
+
+// A reason at the count, where one fits.
+pub fn push_reason_unchecked(reasons: &mut [u32], n: usize, kind: u32, value: u32) -> bool
+    ensures { λ r. ⌜ Pushed (now (reasons .entry)) (now (reasons .exit)) n kind value r ⌝ }
+{
+    if pair_fits(reasons, crate::REASON_LIMIT, n) {
+        push_pair(reasons, n, kind, value);
+        return true;
+    }
+    false
+}
+
+pub fn add_reason_unchecked(
+    terms: &[u32],
+    cells: &[u32],
+    chars: &[u32],
+    reasons: &mut [u32],
+    keys: &[u32],
+    c: crate::State,
+    kind: u32,
+    value: u32,
+) -> crate::Added
+    ensures { λ r. ⌜ Working (addReason kind value) (lent (now (terms .entry)) (now (cells .entry)) (now (chars .entry)) (now (reasons .entry)) (now (keys .entry))) (lent (now (terms .entry)) (now (cells .entry)) (now (chars .entry)) (now (reasons .exit)) (now (keys .entry))) c (added r (lent (now (terms .entry)) (now (cells .entry)) (now (chars .entry)) (now (reasons .exit)) (now (keys .entry)))) ⌝ }
+{
+    if push_reason_unchecked(reasons, c.reasons, kind, value) {
+        return crate::Added::Counts(c.with_reason());
+    }
+    crate::Added::Refused(7)
+}
+
+fn lower(a: u32, b: u32) -> u32
+    ensures { λ r. ⌜ r ≡ min a b ⌝ }
+{
+    if a < b {
+        return a;
+    }
+    b
+}
+
+fn higher(a: u32, b: u32) -> u32
+    ensures { λ r. ⌜ r ≡ max a b ⌝ }
+{
+    if a < b {
+        return b;
+    }
+    a
+}
+
+pub fn add_key_unchecked(
+    terms: &[u32],
+    cells: &[u32],
+    chars: &[u32],
+    reasons: &[u32],
+    keys: &mut [u32],
+    c: crate::State,
+    a: u32,
+    b: u32,
+) -> crate::Added
+    ensures { λ r. ⌜ Working (addKey a b) (lent (now (terms .entry)) (now (cells .entry)) (now (chars .entry)) (now (reasons .entry)) (now (keys .entry))) (lent (now (terms .entry)) (now (cells .entry)) (now (chars .entry)) (now (reasons .entry)) (now (keys .exit))) c (added r (lent (now (terms .entry)) (now (cells .entry)) (now (chars .entry)) (now (reasons .entry)) (now (keys .exit)))) ⌝ }
+{
+    if pair_fits(keys, crate::KEY_LIMIT, c.keys) {
+        push_pair(keys, c.keys, lower(a, b), higher(a, b));
+        return crate::Added::Counts(c.with_key());
+    }
+    crate::Added::Refused(8)
+}
+
+fn pair_is(pairs: &[u32], i: usize, a: u32, b: u32) -> bool
+    requires { ⌜ 2 * i + 2 ≤ length (now pairs) ⌝ }
+    ensures { λ r. ⌜ r ≡ samePair (a, b) (pairAt (now (pairs .entry)) i) ⌝ }
+{
+    if a == pairs[2 * i] {
+        return b == pairs[2 * i + 1];
+    }
+    false
+}
+
+fn has_pair(pairs: &[u32], n: usize, a: u32, b: u32) -> bool
+    requires { ⌜ 2 * n ≤ length (now pairs) ⌝ }
+    ensures { λ r. ⌜ r ≡ any (samePair (a, b)) (pairsView (now (pairs .entry)) n) ⌝ }
+{
+    let mut i: usize = 0;
+    while i < n {
+        if pair_is(pairs, i, a, b) {
+            return true;
+        }
+        i += 1;
+    }
+    false
+}
+
+pub fn is_key_unchecked(keys: &[u32], n: usize, a: u32, b: u32) -> bool
+    requires { ⌜ 2 * n ≤ length (now keys) ⌝ }
+    ensures { λ r. ⌜ r ≡ any (samePair (ordered a b)) (pairsView (now (keys .entry)) n) ⌝ }
+{
+    has_pair(keys, n, lower(a, b), higher(a, b))
 }

@@ -1,0 +1,64 @@
+-- Adding a reason or a key, and a term: the ways through, over the store that is seen.
+use mathlib.Core.Path.{_≡_, refl, sym, ap, _∙_}
+use mathlib.Core.Bool.{Bool, true, false}
+use mathlib.Core.List.{List, [], _∷_, _++_}
+use Prim.Native.Nat.{ℕ, zero, suc, _+_, _*_, _/_, _≤_, _<_, min, max}
+use native.Mathlib.Numerals.{add-one}
+use native.Mathlib.Omega.{arith}
+use lib.ListN.{length, getD}
+use lib.Dec.{eqb, ltb, leb}
+use borrow.Author.Tests.{eq-eqb, ne-eqb}
+use Rattle.records.specs.declared.State.{State}
+use Rattle.records.specs.Lists.{table, any}
+use Rattle.records.specs.Store.{Store, Out, ok, stop, Work}
+use Rattle.records.specs.View.{reasonLimit, keyLimit, Lent, lent, storeOf, pairAt, pairsView, reasonRoom, keyRoom, oneReason, oneKey}
+use Rattle.records.specs.Make.{addReason, addKey, withReasons, withKeys, ordered, samePair}
+use Rattle.records.specs.Puts.{PairPut, Pushed}
+use Rattle.records.specs.Calls.{Working}
+use Rattle.records.proofs.Lists.{table-length}
+use Rattle.records.proofs.Rooms.{pair-limit}
+
+-- REASONS
+
+module _ (t e h r k : List ℕ) (c : State) (a b : ℕ) (r′ : List ℕ) (fits : Bool) (p : Pushed r r′ (c .reasons) a b fits) (n : length r′ ≡ length r) where
+  pub reason-limit : fits ≡ true → c .reasons < reasonLimit
+  reason-limit f = pair-limit r reasonLimit (c .reasons) fits (p .fits) f
+
+  pub reason-added : (d : State) → fits ≡ true → d ≡ oneReason c
+      → Working (addReason a b) (lent t e h r k) (lent t e h r′ k) c (ok (storeOf (lent t e h r′ k) d) tt)
+  unfolding addReason
+  reason-added d f q =
+      let g : pairsView r′ (c .reasons + 1) ≡ pairsView r (c .reasons) ++ ((a, b) ∷ []) = rw add-one (p .grown f) in
+      record { says = rw (table-length (pairAt r) (c .reasons), ← p .fits, f, q, n, g); kept = rw (p .kept, n) }
+
+  pub reason-refused : fits ≡ false → Working (addReason a b) (lent t e h r k) (lent t e h r′ k) c (stop 7)
+  unfolding addReason
+  reason-refused f = record { says = rw (table-length (pairAt r) (c .reasons), ← p .fits, f); kept = rw (p .kept, n) }
+
+-- KEYS
+
+module _ (t e h r k : List ℕ) (c : State) (a b : ℕ) (fits : Bool) (p : fits ≡ ltb (c .keys) (keyRoom k)) where
+  pub key-added : (k′ : List ℕ) (x y : ℕ) (d : State) → x ≡ min a b → y ≡ max a b → PairPut k k′ (c .keys) x y → length k′ ≡ length k → fits ≡ true → d ≡ oneKey c
+      → Working (addKey a b) (lent t e h r k) (lent t e h r k′) c (ok (storeOf (lent t e h r k′) d) tt)
+  unfolding addKey
+  key-added k′ x y d o u w n f q =
+      let g : pairsView k′ (c .keys + 1) ≡ pairsView k (c .keys) ++ ((x, y) ∷ []) = rw add-one (w .grown) in
+      record { says = rw (table-length (pairAt k) (c .keys), ← p, f, q, n, g, o, u); kept = rw (w .kept, n) }
+
+  pub key-refused : fits ≡ false → Working (addKey a b) (lent t e h r k) (lent t e h r k) c (stop 8)
+  unfolding addKey
+  key-refused f = record { says = rw (table-length (pairAt k) (c .keys), ← p, f); kept = refl }
+
+-- the pair that is looked for, by its two numbers in order
+pub key-known : (l : List ℕ) (n a b x y : ℕ) (r : Bool) → x ≡ min a b → y ≡ max a b → r ≡ any (samePair (x, y)) (pairsView l n) → r ≡ any (samePair (ordered a b)) (pairsView l n)
+key-known l n a b x y r p q e = rw (p, q) at e
+
+-- the test of one pair
+module _ (l : List ℕ) (i a b : ℕ) where
+  pub pair-same : a ≡ getD l (2 * i) 0 → eqb b (getD l (2 * i + 1) 0) ≡ samePair (a, b) (pairAt l i)
+  unfolding samePair
+  pair-same e = let z : 2 * i + 0 ≡ 2 * i = omega arith in rw (z, eq-eqb a (getD l (2 * i) 0) e)
+
+  pub pair-other : (a ≡ getD l (2 * i) 0 → ⊥) → samePair (a, b) (pairAt l i) ≡ false
+  unfolding samePair
+  pair-other d = let z : 2 * i + 0 ≡ 2 * i = omega arith in rw (z, ne-eqb a (getD l (2 * i) 0) d)

@@ -1,0 +1,7 @@
+use Rattle.records.proofs.Rooms.{pair-test, pair-over}
+use borrow.Author.Needs.{needs}
+use Rattle.records.proofs.put.pair_fits.Statement.{statement}
+use Rattle.records.proofs.put.pair_fits.Tie as tie
+
+pub pair-fits-spec : {M : Type 1} → statement M
+pair-fits-spec = tie.close (tie.spec (λ c. search pair-test) (λ c. search pair-over))
