@@ -1,5 +1,7 @@
 pub mod Lists
 pub mod Views
+pub mod Climbs
+pub mod Paths
 pub mod RuleLaws
 pub mod Rooms
 pub mod Puts

@@ -49,6 +49,14 @@ pub or-right : (a b : Bool) → b ≡ true → a || b ≡ true
 or-right true b e = refl
 or-right false b e = e
 
+pub or-true : (a : Bool) → a || true ≡ true
+or-true true = refl
+or-true false = refl
+
+pub or-none : (a : Bool) → a || false ≡ a
+or-none true = refl
+or-none false = refl
+
 pub clash : {a : Bool} {X : Type 0} → a ≡ true → a ≡ false → X
 clash p q = absurd (false≢true (sym q ∙ p))
 

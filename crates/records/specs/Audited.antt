@@ -76,6 +76,10 @@ pub record Recorded (s : Store) : Type 0 where
   pub reasons : all reasonRule (s .reasons) ≡ true
   pub keys : all (keyRule s) (s .keys) ≡ true
 
+-- a step up from a number from 1 to n leads to one again
+pub record Closed (up : ℕ → ℕ) (n : ℕ) : Type 0 where
+  pub stays : (t : ℕ) → within n t ≡ true → within n (up t) ≡ true
+
 -- what refusal 3 asks
 pub record Classed (s : Store) : Type 0 where
   pub classParents : (t : ℕ) → isTerm s t ≡ true → isTerm s (term s t .classParent) ≡ true

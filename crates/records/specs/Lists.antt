@@ -3,6 +3,7 @@ use mathlib.Core.Bool.{Bool, true, false, not, _&&_, _||_}
 use mathlib.Core.List.{List, [], _∷_, _++_}
 use mathlib.Core.Option.{Option, none, some}
 use Prim.Native.Nat.{ℕ, zero, suc}
+use lib.ListN.{getD, set}
 use lib.Dec.{eqb}
 
 module _ {A : Type 0} where
@@ -60,6 +61,14 @@ seconds (p ∷ l) = p .1 ∷ seconds l
 unfoldable pub upTo : ℕ → List ℕ → List ℕ
 upTo x [] = []
 upTo x (y ∷ l) = elim (eqb y x) [ true ↦ [] | false ↦ y ∷ upTo x l ]
+
+-- a table with 1 at each number of l
+unfoldable pub marked : List ℕ → List ℕ → List ℕ
+marked [] s = s
+marked (x ∷ l) s = marked l (set s x 1)
+
+unfoldable pub isMarked : List ℕ → ℕ → Bool
+isMarked s x = eqb (getD s x 0) 1
 
 -- each number below n passes
 unfoldable pub allBelow : (ℕ → Bool) → ℕ → Bool

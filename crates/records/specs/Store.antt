@@ -189,13 +189,13 @@ sameClass s a b = eqb (root s a) (root s b)
 abbrev pub sameTree : Store → ℕ → ℕ → Bool
 sameTree s a b = eqb (top s a) (top s b)
 
--- t and what stands above it in the forest, up to the root
+-- t and what stands above it in the forest, up to the root: as many steps as there are terms, so one term more
 unfoldable pub aboveBy : ℕ → List Term → ℕ → List ℕ
 aboveBy zero ts t = []
 aboveBy (suc n) ts t = t ∷ elim (eqb (forestUp ts t) t) [ true ↦ [] | false ↦ aboveBy n ts (forestUp ts t) ]
 
 abbrev pub aboveIn : List Term → ℕ → List ℕ
-aboveIn ts t = aboveBy (length ts) ts t
+aboveIn ts t = aboveBy (suc (length ts)) ts t
 
 -- a term, or 0, which names none
 abbrev pub orNone : Option ℕ → ℕ

@@ -1,0 +1,181 @@
+-- Following parents: roots, what stands above a term, and that the steps counted in the definitions are enough where the walk ends.
+use mathlib.Core.Path.{_≡_, refl, sym, ap, _∙_}
+use mathlib.Core.Bool.{Bool, true, false, not, _&&_}
+use mathlib.Core.List.{List, [], _∷_, _++_}
+use Prim.Native.Nat.{ℕ, zero, suc, _+_, _-_, _*_, _≤_, _<_}
+use native.Mathlib.Numerals.{add-one}
+use native.Mathlib.Omega.{arith}
+use lib.ListN.{length, getD}
+use lib.Dec.{eqb}
+use borrow.Author.Tests.{eqb-true, eq-eqb, ne-eqb}
+use Rattle.records.specs.declared.State.{State}
+use Rattle.records.specs.Lists.{if_then_else_, allBelow}
+use Rattle.records.specs.Store.{Term, Store, term, termIn, count, isTerm, within, climb, classUp, forestUp, rootIn, topIn, aboveBy, aboveIn}
+use Rattle.records.specs.View.{Lent, termAt, termsView, storeOf}
+use Rattle.records.specs.Rules.{parentsRule, eachTerm}
+use Rattle.records.specs.Audited.{Closed, Classed, Ready}
+use Rattle.records.proofs.Lists.{both-left, both-right, decide, clash, below-at, within-low, within-high, within-zero, table-length}
+use Rattle.records.proofs.Views.{term-is}
+
+-- STEPS
+
+module _ (up : ℕ → ℕ) where
+  -- the first step apart, and the last
+  pub climb-suc : (n t : ℕ) → climb up (suc n) t ≡ climb up n (up t)
+  unfolding climb
+  climb-suc n t = refl
+
+  pub climb-last : (n t : ℕ) → climb up (suc n) t ≡ up (climb up n t)
+  unfolding climb
+  climb-last zero t = refl
+  climb-last (suc n) t = climb-last n (up t)
+
+  pub climb-stays : (n t : ℕ) → up t ≡ t → climb up n t ≡ t
+  unfolding climb
+  climb-stays zero t e = refl
+  climb-stays (suc n) t e = rw e (climb-stays n t e)
+
+  -- where the walk ends within n steps, one step first makes no difference
+  pub climb-up : (n t : ℕ) → up (climb up n t) ≡ climb up n t → climb up n (up t) ≡ climb up n t
+  climb-up n t e = sym (climb-suc n t) ∙ climb-last n t ∙ e
+
+  pub climb-within : (n k t : ℕ) → Closed up n → within n t ≡ true → within n (climb up k t) ≡ true
+  unfolding climb
+  climb-within n zero t h w = w
+  climb-within n (suc k) t h w = climb-within n k (up t) h (h .stays t w)
+
+-- the loop: with i of n steps made, t has led to x
+pub record Climbing (up : ℕ → ℕ) (n t x i : ℕ) : Type 0 where
+  pub counted : i ≤ n
+  pub here : within n x ≡ true
+  pub left : climb up (n - i) x ≡ climb up n t
+
+module _ (up : ℕ → ℕ) (n t : ℕ) where
+  pub climbing-begin : within n t ≡ true → Climbing up n t t 0
+  climbing-begin w = record { counted = omega arith; here = w; left = (let e : n - 0 ≡ n = omega arith in rw e) }
+
+  module _ (x i y : ℕ) (p : Climbing up n t x i) (e : y ≡ up x) where
+    pub climbing-turn : Closed up n → i < n → Climbing up n t y (i + 1)
+    unfolding climb
+    climbing-turn h l = record {
+      counted = omega arith;
+      here = rw e (h .stays x (p .here));
+      left = (let f : n - i ≡ suc (n - (i + 1)) = omega arith in rw e (rw f at (p .left)));
+    }
+
+    pub climbing-here : y ≡ x → x ≡ climb up n t
+    climbing-here f = sym (climb-stays up (n - i) x (sym e ∙ f)) ∙ p .left
+
+  pub climbing-done : (x i : ℕ) → Climbing up n t x i → n ≤ i → x ≡ climb up n t
+  unfolding climb
+  climbing-done x i p l = let f : n - i ≡ 0 = omega arith in rw f at (p .left)
+
+-- WALKS THAT END
+
+-- where the audit holds, a step leads from a term to a term
+pub classed-roots : (s : Store) → Classed s → Closed (classUp (s .terms)) (count s)
+classed-roots s a = record { stays = a .classParents }
+
+pub classed-tops : (s : Store) → Classed s → Closed (forestUp (s .terms)) (count s)
+classed-tops s a = record { stays = a .forestParents }
+
+rule-at : (s : Store) (rule : ℕ → Bool) → eachTerm s rule ≡ true → (t : ℕ) → isTerm s t ≡ true → rule t ≡ true
+rule-at s rule h zero w = clash w (within-zero (count s) 0 refl)
+rule-at s rule h (suc t) w = below-at (λ i. rule (suc i)) (count s) h t (within-high (count s) (suc t) w)
+
+pub parents-roots : (s : Store) → eachTerm s (parentsRule s) ≡ true → Closed (classUp (s .terms)) (count s)
+unfolding parentsRule
+parents-roots s h = record { stays = λ t w. both-left _ _ (rule-at s (parentsRule s) h t w) }
+
+pub parents-tops : (s : Store) → eachTerm s (parentsRule s) ≡ true → Closed (forestUp (s .terms)) (count s)
+unfolding parentsRule
+parents-tops s h = record { stays = λ t w. both-right (isTerm s (term s t .classParent)) _ (rule-at s (parentsRule s) h t w) }
+
+module _ (s : Store) (a : Classed s) (t : ℕ) (w : isTerm s t ≡ true) where
+  -- a step up changes neither root
+  pub root-up : rootIn (s .terms) (classUp (s .terms) t) ≡ rootIn (s .terms) t
+  root-up = climb-up (classUp (s .terms)) (count s) t (a .classEnds t w)
+
+  pub top-up : topIn (s .terms) (forestUp (s .terms) t) ≡ topIn (s .terms) t
+  top-up = climb-up (forestUp (s .terms)) (count s) t (a .forestEnds t w)
+
+  -- and the root's root is itself
+  pub root-root : rootIn (s .terms) (rootIn (s .terms) t) ≡ rootIn (s .terms) t
+  root-root = climb-stays (classUp (s .terms)) (count s) (rootIn (s .terms) t) (a .classEnds t w)
+
+  pub top-top : topIn (s .terms) (topIn (s .terms) t) ≡ topIn (s .terms) t
+  top-top = climb-stays (forestUp (s .terms)) (count s) (topIn (s .terms) t) (a .forestEnds t w)
+
+  pub root-term : isTerm s (rootIn (s .terms) t) ≡ true
+  root-term = climb-within (classUp (s .terms)) (count s) (count s) t (classed-roots s a) w
+
+  pub top-term : isTerm s (topIn (s .terms) t) ≡ true
+  top-term = climb-within (forestUp (s .terms)) (count s) (count s) t (classed-tops s a) w
+
+-- a self-parent is its own root
+pub root-self : (ts : List Term) (t : ℕ) → classUp ts t ≡ t → rootIn ts t ≡ t
+root-self ts t e = climb-stays (classUp ts) (length ts) t e
+
+pub top-self : (ts : List Term) (t : ℕ) → forestUp ts t ≡ t → topIn ts t ≡ t
+top-self ts t e = climb-stays (forestUp ts) (length ts) t e
+
+-- WHAT STANDS ABOVE
+
+module _ (ts : List Term) where
+  -- where k steps reach a self-parent, one term more than k steps is all there is
+  above-enough : (k t : ℕ) → forestUp ts (climb (forestUp ts) k t) ≡ climb (forestUp ts) k t → aboveBy (suc (suc k)) ts t ≡ aboveBy (suc k) ts t
+  unfolding aboveBy climb
+  above-enough zero t e = rw (eq-eqb (forestUp ts t) t e)
+  above-enough (suc k) t e = go (eqb (forestUp ts t) t) (above-enough k (forestUp ts t) e)
+    where
+      go : (b : Bool) → aboveBy (suc (suc k)) ts (forestUp ts t) ≡ aboveBy (suc k) ts (forestUp ts t)
+          → _≡_ {A = List ℕ} (t ∷ elim b [ true ↦ [] | false ↦ aboveBy (suc (suc k)) ts (forestUp ts t) ]) (t ∷ elim b [ true ↦ [] | false ↦ aboveBy (suc k) ts (forestUp ts t) ])
+      go true h = refl
+      go false h = ap (λ (l : List ℕ). t ∷ l) h
+
+  pub above-step : (k t : ℕ) → (forestUp ts t ≡ t → ⊥) → aboveBy (suc k) ts t ≡ t ∷ aboveBy k ts (forestUp ts t)
+  unfolding aboveBy
+  above-step k t d = rw (ne-eqb (forestUp ts t) t d)
+
+  -- a tree's root has nothing above it; any other term has its parent and what is above that
+  pub above-root : (t : ℕ) → forestUp ts t ≡ t → aboveIn ts t ≡ t ∷ []
+  unfolding aboveBy
+  above-root t e = rw (eq-eqb (forestUp ts t) t e)
+
+  pub above-is : (t : ℕ) → forestUp ts (topIn ts t) ≡ topIn ts t → (forestUp ts t ≡ t → ⊥) → aboveIn ts t ≡ t ∷ aboveIn ts (forestUp ts t)
+  above-is t e d = sym (above-enough (length ts) t e) ∙ above-step (suc (length ts)) t d
+
+-- THE LENT WORDS
+
+module _ (l : List ℕ) (n : ℕ) where
+  pub view-term : (t : ℕ) → within n t ≡ true → termIn (termsView l n) t ≡ termAt l t
+  view-term t w = term-is l n t (within-low n t w) (within-high n t w)
+
+  pub view-count : length (termsView l n) ≡ n
+  view-count = table-length (λ i. termAt l (suc i)) n
+
+  pub view-class : (t y : ℕ) → within n t ≡ true → y ≡ getD l (8 * t + 3) 0 → y ≡ classUp (termsView l n) t
+  view-class t y w e = e ∙ ap (λ (x : Term). x .classParent) (sym (view-term t w))
+
+  pub view-forest : (t y : ℕ) → within n t ≡ true → y ≡ getD l (8 * t + 4) 0 → y ≡ forestUp (termsView l n) t
+  view-forest t y w e = e ∙ ap (λ (x : Term). x .forestParent) (sym (view-term t w))
+
+  pub root-counted : (t x : ℕ) → x ≡ climb (classUp (termsView l n)) n t → x ≡ rootIn (termsView l n) t
+  root-counted t x e = rw view-count e
+
+  pub top-counted : (t x : ℕ) → x ≡ climb (forestUp (termsView l n)) n t → x ≡ topIn (termsView l n) t
+  top-counted t x e = rw view-count e
+
+-- what the climbs require, of a store that passes the audit
+module _ (m : Lent) (c : State) where
+  pub term-within : (t : ℕ) → isTerm (storeOf m c) t ≡ true → within (c .terms) t ≡ true
+  term-within t w = rw (view-count (m .terms) (c .terms)) at w
+
+  pub within-term : (t : ℕ) → within (c .terms) t ≡ true → isTerm (storeOf m c) t ≡ true
+  within-term t w = rw (view-count (m .terms) (c .terms)) w
+
+  pub ready-roots : Classed (storeOf m c) → Closed (classUp (termsView (m .terms) (c .terms))) (c .terms)
+  ready-roots a = rw (view-count (m .terms) (c .terms)) at (classed-roots (storeOf m c) a)
+
+  pub ready-tops : Classed (storeOf m c) → Closed (forestUp (termsView (m .terms) (c .terms))) (c .terms)
+  ready-tops a = rw (view-count (m .terms) (c .terms)) at (classed-tops (storeOf m c) a)

@@ -1,0 +1,69 @@
+use Rattle.records.proofs.Paths.{Rising, rising-begin, rising-stop, rising-root, rising-turn, rising-done, seek-here, seek-past, seek-none}
+use Rattle.records.proofs.Lists.{within-high}
+use Rattle.records.specs.View.{termsView}
+use Rattle.records.specs.Store.{aboveIn, orNone}
+use Rattle.records.specs.Lists.{firstOf, isMarked}
+use Prim.Native.Nat.{ℕ, suc, _-_}
+use mathlib.Core.List.{List}
+use mathlib.Core.Path.{sym, _∙_}
+use native.Mathlib.Omega.{arith}
+use borrow.Author.Needs.{needs}
+use Rattle.records.proofs.classes.first_marked.Statement.{statement}
+use Rattle.records.proofs.classes.first_marked.Tie as tie
+
+abbrev Inv-loop : tie.InvT-loop
+Inv-loop terms n a seen x₀ i₀ x i = Rising terms n (λ (r : List ℕ). orNone (firstOf (isMarked seen) r)) (orNone (firstOf (isMarked seen) (aboveIn (termsView terms n) a))) x i
+
+abbrev μ-loop : tie.MeasureT-loop
+μ-loop terms n a seen x₀ i₀ x i = suc n - i
+
+loop-holds : tie.Need-loop-holds Inv-loop μ-loop
+loop-holds c = rising-begin _ _ (λ (r : List ℕ). orNone (firstOf (isMarked (c .before .args .seen .now)) r)) _ (c .before .pre .1)
+
+cast-if1 : tie.Need-cast-if1 Inv-loop μ-loop
+cast-if1 c = omega (arith, within-high _ _ (c .before .loop .inv .here))
+
+element-copy-out-if1 : tie.Need-element-copy-out-if1 Inv-loop μ-loop
+element-copy-out-if1 c = omega (arith, within-high _ _ (c .before .loop .inv .here))
+
+returns : tie.Need-returns Inv-loop μ-loop
+returns c = rising-stop (c .before .before .before .loop .inv) _ (c .before .before .loop-test .taken) (λ r. seek-here (c .before .before .before .before .before .args .seen .now) (c .before .before .before .loop .x) r (c .if1 .taken))
+
+forest-parent-requires : tie.Need-forest-parent-requires Inv-loop μ-loop
+forest-parent-requires c κs = search needs
+
+returns-2 : tie.Need-returns-2 Inv-loop μ-loop
+returns-2 c =
+    let s = c .before .before .before .before .before .before .before .args .seen .now in
+    sym (seek-none s) ∙ sym (seek-past s (c .before .before .before .before .before .loop .x) _ (c .before .before .if1 .left)) ∙ rising-root (c .before .before .before .before .before .loop .inv) _ (c .before .before .before .before .loop-test .taken) (c .before .forest-parent .ensures) (c .if2 .taken)
+
+add-i : tie.Need-add-i Inv-loop μ-loop
+add-i c = search needs
+
+loop-less : tie.Need-loop-less Inv-loop μ-loop
+loop-less c = search needs
+
+loop-again : tie.Need-loop-again Inv-loop μ-loop
+loop-again c =
+    let s = c .before .before .before .before .before .before .before .args .seen .now in
+    rising-turn (c .before .before .before .before .before .loop .inv) (λ (r : List ℕ). orNone (firstOf (isMarked s) r)) _ (c .before .before .before .before .before .before .before .pre .2) (c .before .before .before .before .loop-test .taken) (c .before .forest-parent .ensures) (c .if2 .left) (λ r. seek-past s (c .before .before .before .before .before .loop .x) r (c .before .before .if1 .left))
+
+returns-3 : tie.Need-returns-3 Inv-loop μ-loop
+returns-3 c = sym (seek-none (c .before .before .before .args .seen .now)) ∙ rising-done (c .before .loop .inv) (c .loop-test .left)
+
+pub first-marked-spec : {M : Type 1} → statement M
+first-marked-spec =
+    tie.close
+    (tie.spec
+    Inv-loop
+    μ-loop
+    loop-holds
+    cast-if1
+    element-copy-out-if1
+    returns
+    forest-parent-requires
+    returns-2
+    add-i
+    loop-less
+    loop-again
+    returns-3)

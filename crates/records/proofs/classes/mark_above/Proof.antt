@@ -1,0 +1,65 @@
+use Rattle.records.proofs.Paths.{Rising, rising-begin, rising-root, rising-turn, rising-done}
+use Rattle.records.proofs.Lists.{within-high}
+use Rattle.records.specs.View.{termsView}
+use Rattle.records.specs.Store.{aboveIn}
+use Rattle.records.specs.Lists.{marked}
+use lib.ListN.{set}
+use Prim.Native.Nat.{ℕ, suc, _-_}
+use mathlib.Core.List.{List}
+use mathlib.Core.Path.{refl}
+use native.Mathlib.Omega.{arith}
+use borrow.Author.Needs.{needs}
+use Rattle.records.proofs.classes.mark_above.Statement.{statement}
+use Rattle.records.proofs.classes.mark_above.Tie as tie
+
+abbrev Inv-loop : tie.InvT-loop
+Inv-loop terms n b seen₀ x₀ i₀ seen x i = Rising terms n (λ (r : List ℕ). marked r seen) (marked (aboveIn (termsView terms n) b) seen₀) x i
+
+abbrev μ-loop : tie.MeasureT-loop
+μ-loop terms n b seen₀ x₀ i₀ seen x i = suc n - i
+
+loop-holds : tie.Need-loop-holds Inv-loop μ-loop
+loop-holds c = rising-begin _ _ (λ (r : List ℕ). marked r (c .before .args .seen .now)) _ (c .before .pre .1)
+
+cast-seen : tie.Need-cast-seen Inv-loop μ-loop
+cast-seen c = omega (arith, within-high _ _ (c .before .loop .inv .here))
+
+element-write-seen : tie.Need-element-write-seen Inv-loop μ-loop
+element-write-seen c = omega (arith, within-high _ _ (c .before .loop .inv .here))
+
+forest-parent-requires : tie.Need-forest-parent-requires Inv-loop μ-loop
+forest-parent-requires c κs = search needs
+
+returns : tie.Need-returns Inv-loop μ-loop
+unfolding marked
+returns c = rising-root (c .before .before .before .loop .inv) _ (c .before .before .loop-test .taken) (c .before .forest-parent .ensures) (c .if1 .taken)
+
+add-i : tie.Need-add-i Inv-loop μ-loop
+add-i c = search needs
+
+loop-less : tie.Need-loop-less Inv-loop μ-loop
+loop-less c = search needs
+
+loop-again : tie.Need-loop-again Inv-loop μ-loop
+unfolding marked
+loop-again c = rising-turn (c .before .before .before .loop .inv) (λ (r : List ℕ). marked r (set (c .before .before .before .loop .seen) (c .before .before .before .loop .x) 1)) _ (c .before .before .before .before .before .pre .2) (c .before .before .loop-test .taken) (c .before .forest-parent .ensures) (c .if1 .left) (λ r. refl)
+
+returns-2 : tie.Need-returns-2 Inv-loop μ-loop
+unfolding marked
+returns-2 c = rising-done (c .before .loop .inv) (c .loop-test .left)
+
+pub mark-above-spec : {M : Type 1} → statement M
+mark-above-spec =
+    tie.close
+    (tie.spec
+    Inv-loop
+    μ-loop
+    loop-holds
+    cast-seen
+    element-write-seen
+    forest-parent-requires
+    returns
+    add-i
+    loop-less
+    loop-again
+    returns-2)

@@ -1,0 +1,53 @@
+use Rattle.records.proofs.Climbs.{Climbing, climbing-begin, climbing-turn, climbing-here, climbing-done, view-class, root-counted}
+use Rattle.records.specs.View.{termsView}
+use Rattle.records.specs.Store.{classUp}
+use Prim.Native.Nat.{ℕ, _-_}
+use borrow.Author.Needs.{needs}
+use Rattle.records.proofs.classes.root_unchecked.Statement.{statement}
+use Rattle.records.proofs.classes.root_unchecked.Tie as tie
+
+abbrev Inv-loop : tie.InvT-loop
+Inv-loop terms n t x₀ i₀ x i = Climbing (classUp (termsView terms n)) n t x i
+
+abbrev μ-loop : tie.MeasureT-loop
+μ-loop terms n t x₀ i₀ x i = n - i
+
+loop-holds : tie.Need-loop-holds Inv-loop μ-loop
+loop-holds c = climbing-begin _ _ _ (c .before .pre .0)
+
+class-parent-requires : tie.Need-class-parent-requires Inv-loop μ-loop
+class-parent-requires c κs = search needs
+
+returns : tie.Need-returns Inv-loop μ-loop
+returns c =
+    let l = c .before .before .before .before .before .args .terms .now in
+    let n = c .before .before .before .before .before .args .n in
+    root-counted l n _ _ (climbing-here _ _ _ _ _ _ (c .before .before .before .loop .inv) (view-class l n _ _ (c .before .before .before .loop .inv .here) (c .before .class-parent .ensures)) (c .if1 .taken))
+
+add-i : tie.Need-add-i Inv-loop μ-loop
+add-i c = search needs
+
+loop-less : tie.Need-loop-less Inv-loop μ-loop
+loop-less c = search needs
+
+loop-again : tie.Need-loop-again Inv-loop μ-loop
+loop-again c =
+    let e = view-class (c .before .before .before .before .before .args .terms .now) (c .before .before .before .before .before .args .n) _ _ (c .before .before .before .loop .inv .here) (c .before .class-parent .ensures) in
+    climbing-turn _ _ _ _ _ _ (c .before .before .before .loop .inv) e (c .before .before .before .before .before .pre .1) (c .before .before .loop-test .taken)
+
+returns-2 : tie.Need-returns-2 Inv-loop μ-loop
+returns-2 c = root-counted (c .before .before .before .args .terms .now) (c .before .before .before .args .n) _ _ (climbing-done _ _ _ _ _ (c .before .loop .inv) (c .loop-test .left))
+
+pub root-unchecked-spec : {M : Type 1} → statement M
+root-unchecked-spec =
+    tie.close
+    (tie.spec
+    Inv-loop
+    μ-loop
+    loop-holds
+    class-parent-requires
+    returns
+    add-i
+    loop-less
+    loop-again
+    returns-2)
