@@ -1,1 +1,4 @@
 pub mod Bits
+pub mod Paths
+pub mod Fits
+pub mod Cites

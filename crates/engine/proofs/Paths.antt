@@ -1,0 +1,242 @@
+-- The forest: what stands above a term, and the path between two terms of one tree.
+use mathlib.Core.Path.{_≡_, refl, sym, ap, _∙_}
+use mathlib.Core.Bool.{Bool, true, false, not}
+use mathlib.Core.List.{List, [], _∷_, _++_, List·Memᴰ, List·Memᴰ·head, List·Memᴰ·tail, List·Memᴰ·cases-cons, List·Memᴰ·not-nil}
+use mathlib.Core.Logic.{_⊎_, inl, inr, ⊎-elim}
+use mathlib.Core.Option.{Option, none, some}
+use Prim.Native.Nat.{ℕ, zero, suc, _≤_, _<_}
+use native.Mathlib.Omega.{arith}
+use lib.ListN.{length}
+use lib.Dec.{eqb}
+use borrow.Author.Tests.{eqb-true, eqb-false, eq-eqb, ne-eqb}
+use Rattle.records.specs.Lists.{any, firstOf, isIn, upTo, Every, none-left, and}
+use Rattle.records.specs.Store.{Term, Store, term, isTerm, climb, forestUp, top, aboveBy, aboveIn, orNone, nearestIn, pathIn, path, isEdge}
+use Rattle.records.specs.Audited.{Audited}
+use Rattle.records.proofs.Lists.{every-append, either, or-left, or-right, clash}
+use Rattle.records.proofs.Climbs.{climb-stays}
+
+-- LISTS
+
+pub every-left : {A : Type 0} {P : A → Type 0} (l m : List A) → Every P (l ++ m) → Every P l
+every-left [] m e = none-left
+every-left (x ∷ l) m (and p e) = and p (every-left l m e)
+
+pub every-right : {A : Type 0} {P : A → Type 0} (l m : List A) → Every P (l ++ m) → Every P m
+every-right [] m e = e
+every-right (x ∷ l) m (and p e) = every-right l m e
+
+pub every-both : {A : Type 0} {P Q : A → Type 0} {l : List A} → Every P l → Every Q l → Every (λ a. P a × Q a) l
+every-both none-left none-left = none-left
+every-both (and p h) (and q k) = and (p, q) (every-both h k)
+
+pub is-in : (x : ℕ) (l : List ℕ) → isIn x l ≡ true → List·Memᴰ x l
+unfolding isIn any
+is-in x [] e = clash e refl
+is-in x (y ∷ l) e = ⊎-elim (λ h. List·Memᴰ·head (eqb-true x y h)) (λ h. List·Memᴰ·tail (is-in x l h)) (either (eqb x y) _ e)
+
+pub in-is : {x : ℕ} {l : List ℕ} → List·Memᴰ x l → isIn x l ≡ true
+unfolding isIn any
+in-is (List·Memᴰ·head e) = or-left _ _ (eq-eqb _ _ e)
+in-is {x} (List·Memᴰ·tail {x = y} m) = or-right (eqb x y) _ (in-is m)
+
+-- WHAT STANDS ABOVE
+
+-- the list is t and what stands above it, up to the root
+pub data Rise (ts : List Term) : ℕ → List ℕ → Type 0 where
+  ends : {t : ℕ} → forestUp ts t ≡ t → Rise ts t (t ∷ [])
+  goes : {t : ℕ} {l : List ℕ} → (forestUp ts t ≡ t → ⊥) → Rise ts (forestUp ts t) l → Rise ts t (t ∷ l)
+
+-- where n steps up end at a root
+module _ (ts : List Term) where
+  abbrev Ended : ℕ → ℕ → Type 0
+  Ended n t = forestUp ts (climb (forestUp ts) n t) ≡ climb (forestUp ts) n t
+
+  pub rise-by : (n t : ℕ) → Ended n t → Rise ts t (aboveBy (suc n) ts t)
+  unfolding climb aboveBy
+  rise-by zero t e = rw (eq-eqb _ _ e) (ends e)
+  rise-by (suc n) t e = go (rise-by n (forestUp ts t) e) (eqb (forestUp ts t) t) refl
+    where
+      go : Rise ts (forestUp ts t) (aboveBy (suc n) ts (forestUp ts t)) → (b : Bool) → eqb (forestUp ts t) t ≡ b
+          → Rise ts t (t ∷ elim b [ true ↦ [] | false ↦ aboveBy (suc n) ts (forestUp ts t) ])
+      go r true q = ends (eqb-true _ _ q)
+      go r false q = goes (eqb-false _ _ q) r
+
+  pub top-by : (n t : ℕ) → Ended n t → List·Memᴰ (climb (forestUp ts) n t) (aboveBy (suc n) ts t)
+  unfolding climb aboveBy
+  top-by zero t e = List·Memᴰ·head refl
+  top-by (suc n) t e = go (top-by n (forestUp ts t) e) (eqb (forestUp ts t) t) refl
+    where
+      go : List·Memᴰ (climb (forestUp ts) n (forestUp ts t)) (aboveBy (suc n) ts (forestUp ts t)) → (b : Bool) → eqb (forestUp ts t) t ≡ b
+          → List·Memᴰ (climb (forestUp ts) n (forestUp ts t)) (t ∷ elim b [ true ↦ [] | false ↦ aboveBy (suc n) ts (forestUp ts t) ])
+      go m true q = List·Memᴰ·head (climb-stays (forestUp ts) (suc n) t (eqb-true _ _ q))
+      go m false q = List·Memᴰ·tail m
+
+  pub rise-one : {t : ℕ} {l m : List ℕ} → Rise ts t l → Rise ts t m → l ≡ m
+  rise-one (ends e) (ends f) = refl
+  rise-one (ends e) (goes d r) = absurd (d e)
+  rise-one (goes d r) (ends e) = absurd (d e)
+  rise-one {t} (goes d r) (goes f q) = ap (λ (l : List ℕ). t ∷ l) (rise-one r q)
+
+  -- from a later one on the list is shorter
+  pub record Later (t : ℕ) (l : List ℕ) (x : ℕ) : Type 0 where
+    pub from : List ℕ
+    pub rise : Rise ts x from
+    pub shorter : (x ≡ t) ⊎ (length from < length l)
+
+  pub rise-from : {t x : ℕ} {l : List ℕ} → Rise ts t l → List·Memᴰ x l → Later t l x
+  rise-from {t} {x} (ends e) m = go (List·Memᴰ·cases-cons m)
+    where
+      go : (x ≡ t) ⊎ List·Memᴰ x [] → Later t (t ∷ []) x
+      go (inl e′) = record { from = x ∷ []; rise = ends {t = x} (rw e′ e); shorter = inl e′ }
+      go (inr n) = absurd (List·Memᴰ·not-nil n)
+  rise-from {t} {x} (goes {l = l} d r) m = go (rise-from r) (List·Memᴰ·cases-cons m)
+    where
+      go : (List·Memᴰ x l → Later (forestUp ts t) l x) → (x ≡ t) ⊎ List·Memᴰ x l → Later t (t ∷ l) x
+      go ih (inl e) = record { from = t ∷ l; rise = rw e (goes d r); shorter = inl e }
+      go ih (inr m) =
+          let k = ih m in
+          let same : x ≡ forestUp ts t → length (k .from) ≡ length l = λ e. ap length (rise-one {m = l} (k .rise) (rw e r)) in
+          record { from = k .from; rise = k .rise; shorter = inr (⊎-elim (λ e. omega (arith, same e)) (λ h. omega arith) (k .shorter)) }
+
+  -- THE FIRST THAT PASSES
+
+  pub record First (p : ℕ → Bool) (l : List ℕ) : Type 0 where
+    pub at : ℕ
+    pub is : firstOf p l ≡ some at
+    pub mem : List·Memᴰ at l
+    pub passes : p at ≡ true
+
+  pub first-of : (p : ℕ → Bool) {l : List ℕ} {x : ℕ} → List·Memᴰ x l → p x ≡ true → First p l
+  unfolding firstOf
+  first-of p (List·Memᴰ·head {x = y} {xs = l} e) q = record { at = y; is = rw (ap p (sym e) ∙ q, firstOf); mem = List·Memᴰ·head refl; passes = ap p (sym e) ∙ q }
+  first-of p (List·Memᴰ·tail {x = y} {xs = l} m) q = go (first-of p m q) (p y) refl
+    where
+      go : First p l → (b : Bool) → p y ≡ b → First p (y ∷ l)
+      go f true e = record { at = y; is = rw (e, firstOf); mem = List·Memᴰ·head refl; passes = e }
+      go f false e = record { at = f .at; is = rw (e, firstOf) (f .is); mem = List·Memᴰ·tail (f .mem); passes = f .passes }
+
+  -- each that passes stands above the first
+  pub record Above (x y : ℕ) : Type 0 where
+    pub list : List ℕ
+    pub rise : Rise ts x list
+    pub mem : List·Memᴰ y list
+
+  pub first-below : (p : ℕ → Bool) {t : ℕ} {l : List ℕ} {x y : ℕ} → Rise ts t l → firstOf p l ≡ some x → List·Memᴰ y l → p y ≡ true → Above x y
+  unfolding firstOf
+  first-below p {t} {l} {x} {y} (ends e) q m h = go (p t) q
+    where
+      go : (b : Bool) → _≡_ {A = Option ℕ} (elim b [ true ↦ some t | false ↦ none ]) (some x) → Above x y
+      go true i = let k : t ≡ x = cc in record { list = t ∷ []; rise = rw (sym k) (ends e); mem = m }
+      go false i = let z : _≡_ {A = ℕ} 0 1 = cc in absurd (omega arith)
+  first-below p {t} {l} {x} {y} (goes {l = k} d r) q m h = go (first-below p r) (p t) refl q (List·Memᴰ·cases-cons m)
+    where
+      go : (firstOf p k ≡ some x → List·Memᴰ y k → p y ≡ true → Above x y) → (b : Bool) → p t ≡ b
+          → _≡_ {A = Option ℕ} (elim b [ true ↦ some t | false ↦ firstOf p k ]) (some x) → (y ≡ t) ⊎ List·Memᴰ y k → Above x y
+      go ih true e i n = let j : x ≡ t = cc in record { list = t ∷ k; rise = rw j (goes d r); mem = m }
+      go ih false e i (inl n) = clash h (ap p n ∙ e)
+      go ih false e i (inr n) = ih i n h
+
+  -- two that stand above each other are one
+  pub above-each : {x y : ℕ} → Above x y → Above y x → x ≡ y
+  above-each {x} {y} a b = go (rise-from (a .rise) (a .mem)) (rise-from (b .rise) (b .mem))
+    where
+      go : Later x (a .list) y → Later y (b .list) x → x ≡ y
+      go f g =
+          let p = ap length (rise-one (f .rise) (b .rise)) in
+          let q = ap length (rise-one (g .rise) (a .rise)) in
+          ⊎-elim sym (λ h. ⊎-elim (λ e. e) (λ k. absurd (omega arith)) (g .shorter)) (f .shorter)
+
+-- PATHS
+
+-- the elements before x are edges, and they lead from t to x
+up-to-edges : (s : Store) → Audited s → (x : ℕ) {t : ℕ} {l : List ℕ} → Rise (s .terms) t l → isTerm s t ≡ true → List·Memᴰ x l
+    → Every (λ e. (isTerm s e ≡ true) × (isEdge s e ≡ true)) (upTo x l)
+unfolding upTo
+up-to-edges s a x {t} (ends e) h m = go (List·Memᴰ·cases-cons m)
+  where
+    go : (x ≡ t) ⊎ List·Memᴰ x [] → Every (λ e. (isTerm s e ≡ true) × (isEdge s e ≡ true)) (elim (eqb t x) [ true ↦ [] | false ↦ t ∷ [] ])
+    go (inl q) = rw (eq-eqb t x (sym q)) none-left
+    go (inr n) = absurd (List·Memᴰ·not-nil n)
+up-to-edges s a x {t} (goes {l = l} d r) h m = go (up-to-edges s a x r (a .classed .forestParents t h)) (eqb t x) refl (List·Memᴰ·cases-cons m)
+  where
+    go : (List·Memᴰ x l → Every (λ e. (isTerm s e ≡ true) × (isEdge s e ≡ true)) (upTo x l)) → (b : Bool) → eqb t x ≡ b → (x ≡ t) ⊎ List·Memᴰ x l
+        → Every (λ e. (isTerm s e ≡ true) × (isEdge s e ≡ true)) (elim b [ true ↦ [] | false ↦ t ∷ upTo x l ])
+    go ih true e n = none-left
+    go ih false e (inl n) = absurd (eqb-false _ _ e (sym n))
+    go ih false e (inr n) = and (h, ap not (ne-eqb _ _ d)) (ih n)
+
+up-to-joins : {B : Type 0} (w : ℕ → B) (ts : List Term) (x : ℕ) {t : ℕ} {l : List ℕ} → Rise ts t l → List·Memᴰ x l
+    → Every (λ e. w e ≡ w (forestUp ts e)) (upTo x l) → w t ≡ w x
+unfolding upTo
+up-to-joins w ts x {t} (ends e) m k = ⊎-elim (λ q. ap w (sym q)) (λ n. absurd (List·Memᴰ·not-nil n)) (List·Memᴰ·cases-cons m)
+up-to-joins w ts x {t} (goes {l = l} d r) m k = go (up-to-joins w ts x r) (eqb t x) refl (List·Memᴰ·cases-cons m) k
+  where
+    go : (List·Memᴰ x l → Every (λ e. w e ≡ w (forestUp ts e)) (upTo x l) → w (forestUp ts t) ≡ w x) → (b : Bool) → eqb t x ≡ b → (x ≡ t) ⊎ List·Memᴰ x l
+        → Every (λ e. w e ≡ w (forestUp ts e)) (elim b [ true ↦ [] | false ↦ t ∷ upTo x l ]) → w t ≡ w x
+    go ih true e n k = ap w (eqb-true _ _ e)
+    go ih false e (inl n) k = absurd (eqb-false _ _ e (sym n))
+    go ih false e (inr n) (and p k) = p ∙ ih n k
+
+-- two terms of one tree
+pub record Together (s : Store) (p : ℕ × ℕ) : Type 0 where
+  pub left : isTerm s (p .0) ≡ true
+  pub right : isTerm s (p .1) ≡ true
+  pub tree : top s (p .0) ≡ top s (p .1)
+
+pub together-turned : {s : Store} {a b : ℕ} → Together s (a, b) → Together s (b, a)
+together-turned t = record { left = t .right; right = t .left; tree = sym (t .tree) }
+
+module _ (s : Store) (a : Audited s) where
+  pub above-rise : (t : ℕ) → isTerm s t ≡ true → Rise (s .terms) t (aboveIn (s .terms) t)
+  above-rise t h = rise-by (s .terms) (length (s .terms)) t (a .classed .forestEnds t h)
+
+  pub above-top : (t : ℕ) → isTerm s t ≡ true → List·Memᴰ (top s t) (aboveIn (s .terms) t)
+  above-top t h = top-by (s .terms) (length (s .terms)) t (a .classed .forestEnds t h)
+
+  -- the nearest shared ancestor stands above both
+  pub record Nearest (p : ℕ × ℕ) : Type 0 where
+    pub at : ℕ
+    pub is : nearestIn (s .terms) (p .0) (p .1) ≡ at
+    pub first : firstOf (λ x. isIn x (aboveIn (s .terms) (p .1))) (aboveIn (s .terms) (p .0)) ≡ some at
+    pub left : List·Memᴰ at (aboveIn (s .terms) (p .0))
+    pub right : List·Memᴰ at (aboveIn (s .terms) (p .1))
+
+  pub nearest : (p : ℕ × ℕ) → Together s p → Nearest p
+  unfolding nearestIn
+  nearest p t =
+      let f = first-of (s .terms) (λ x. isIn x (aboveIn (s .terms) (p .1))) (above-top (p .0) (t .left)) (rw (t .tree) (in-is (above-top (p .1) (t .right)))) in
+      record { at = f .at; is = ap orNone (f .is); first = f .is; left = f .mem; right = is-in _ _ (f .passes) }
+
+  pub nearest-turned : (p : ℕ × ℕ) → Together s p → nearestIn (s .terms) (p .0) (p .1) ≡ nearestIn (s .terms) (p .1) (p .0)
+  nearest-turned p t =
+      let f = nearest p t in
+      let g = nearest (p .1, p .0) (together-turned t) in
+      f .is ∙ above-each (s .terms)
+      (first-below (s .terms) (λ x. isIn x (aboveIn (s .terms) (p .1))) (above-rise (p .0) (t .left)) (f .first) (g .right) (in-is (g .left)))
+      (first-below (s .terms) (λ x. isIn x (aboveIn (s .terms) (p .0))) (above-rise (p .1) (t .right)) (g .first) (f .right) (in-is (f .left)))
+      ∙ sym (g .is)
+
+  -- what holds of each edge of a path holds the other way round
+  pub path-turned : {P : ℕ → Type 0} (p : ℕ × ℕ) → Together s p → Every P (path s (p .0) (p .1)) → Every P (path s (p .1) (p .0))
+  unfolding pathIn
+  path-turned p t k =
+      rw (sym (nearest-turned p t)) (every-append (every-right (upTo _ (aboveIn (s .terms) (p .0))) _ k) (every-left (upTo _ (aboveIn (s .terms) (p .0))) _ k))
+
+  pub path-edges : (p : ℕ × ℕ) → Together s p → Every (λ e. (isTerm s e ≡ true) × (isEdge s e ≡ true)) (path s (p .0) (p .1))
+  unfolding pathIn
+  path-edges p t =
+      let f = nearest p t in
+      rw (f .is) (every-append (up-to-edges s a (f .at) (above-rise (p .0) (t .left)) (t .left) (f .left))
+      (up-to-edges s a (f .at) (above-rise (p .1) (t .right)) (t .right) (f .right)))
+
+  -- where each edge of the path joins equals, its two ends are equal
+  pub path-joins : {B : Type 0} (w : ℕ → B) (p : ℕ × ℕ) → Together s p → Every (λ e. w e ≡ w (term s e .forestParent)) (path s (p .0) (p .1)) → w (p .0) ≡ w (p .1)
+  unfolding pathIn
+  path-joins w p t k = go (rw (f .is) at k)
+    where
+      f : Nearest p
+      f = nearest p t
+
+      go : Every (λ e. w e ≡ w (term s e .forestParent)) (upTo (f .at) (aboveIn (s .terms) (p .0)) ++ upTo (f .at) (aboveIn (s .terms) (p .1))) → w (p .0) ≡ w (p .1)
+      go k = up-to-joins w (s .terms) (f .at) (above-rise (p .0) (t .left)) (f .left) (every-left _ _ k)
+          ∙ sym (up-to-joins w (s .terms) (f .at) (above-rise (p .1) (t .right)) (f .right) (every-right (upTo (f .at) (aboveIn (s .terms) (p .0))) _ k))
