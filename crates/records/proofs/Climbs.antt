@@ -14,7 +14,7 @@ use Rattle.records.specs.Store.{Term, Store, term, termIn, count, isTerm
 use Rattle.records.specs.View.{Lent, termAt, termsView, storeOf}
 use Rattle.records.specs.Rules.{parentsRule, eachTerm}
 use Rattle.records.specs.Audited.{Closed, Classed, Ready}
-use Rattle.records.proofs.Lists.{both-left, both-right, decide, clash, below-at, within-low, within-high, within-zero, table-length}
+use Rattle.records.proofs.Lists.{both-left, both-right, decide, clash, below-at, below-all, within-is, within-low, within-high, within-zero, table-length}
 use Rattle.records.proofs.Views.{term-is}
 
 -- STEPS
@@ -79,9 +79,12 @@ classed-roots s a = record { stays = a .classParents }
 pub classed-tops : (s : Store) → Classed s → Closed (forestUp (s .terms)) (count s)
 classed-tops s a = record { stays = a .forestParents }
 
-rule-at : (s : Store) (rule : ℕ → Bool) → eachTerm s rule ≡ true → (t : ℕ) → isTerm s t ≡ true → rule t ≡ true
+pub rule-at : (s : Store) (rule : ℕ → Bool) → eachTerm s rule ≡ true → (t : ℕ) → isTerm s t ≡ true → rule t ≡ true
 rule-at s rule h zero w = clash w (within-zero (count s) 0 refl)
 rule-at s rule h (suc t) w = below-at (λ i. rule (suc i)) (count s) h t (within-high (count s) (suc t) w)
+
+pub rule-all : (s : Store) (rule : ℕ → Bool) → ((t : ℕ) → isTerm s t ≡ true → rule t ≡ true) → eachTerm s rule ≡ true
+rule-all s rule f = below-all (λ i. rule (suc i)) (count s) (λ k l. f (suc k) (within-is (count s) (suc k) (omega arith) l))
 
 pub parents-roots : (s : Store) → eachTerm s (parentsRule s) ≡ true → Closed (classUp (s .terms)) (count s)
 unfolding parentsRule

@@ -22,22 +22,22 @@ pub term-zero : (s : Store) → term s 0 ≡ noTerm
 unfolding termIn
 term-zero s = refl
 
--- what has a kind is a term
-pub present : (s : Store) (t k : ℕ) → kind s t ≡ suc k → t ≤ count s
-present s t k e = go (decLe t (count s))
+-- a number whose record has a word that is not 0 names a term
+pub used : (f : Term → ℕ) → f noTerm ≡ 0 → (s : Store) (t k : ℕ) → f (term s t) ≡ suc k → isTerm s t ≡ true
+used f z s zero k e = let q : _≡_ {A = ℕ} 0 (suc k) = sym z ∙ ap f (sym (term-zero s)) ∙ e in absurd (omega arith)
+used f z s (suc t) k e = go (decLe (suc t) (count s))
   where
-    go : Dec (t ≤ count s) → t ≤ count s
-    go (yes h) = h
+    go : Dec (suc t ≤ count s) → isTerm s (suc t) ≡ true
+    go (yes h) = within-is (count s) (suc t) (omega arith) h
     go (no h) =
-        let p = term-past s t (omega arith) in
-        let q : _≡_ {A = ℕ} 0 (suc k) = ap (λ (x : Term). x .kind) (sym p) ∙ e in absurd (omega arith)
-
-pub not-zero : (s : Store) (t k : ℕ) → kind s t ≡ suc k → 0 < t
-not-zero s zero k e = let q : _≡_ {A = ℕ} 0 (suc k) = ap (λ (x : Term). x .kind) (sym (term-zero s)) ∙ e in absurd (omega arith)
-not-zero s (suc t) k e = omega arith
+        let p = term-past s (suc t) (omega arith) in
+        let q : _≡_ {A = ℕ} 0 (suc k) = sym z ∙ ap f (sym p) ∙ e in absurd (omega arith)
 
 pub kind-term : (s : Store) (t k : ℕ) → kind s t ≡ suc k → isTerm s t ≡ true
-kind-term s t k e = within-is (count s) t (not-zero s t k e) (present s t k e)
+kind-term = used (λ x. x .kind) refl
+
+pub present : (s : Store) (t k : ℕ) → kind s t ≡ suc k → t ≤ count s
+present s t k e = within-high (count s) t (kind-term s t k e)
 
 pub string-term : (s : Store) (t : ℕ) → isString s t ≡ true → isTerm s t ≡ true
 string-term s t e = go (kind s t) refl (within-low 3 (kind s t) e)

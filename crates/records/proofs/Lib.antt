@@ -7,7 +7,14 @@ pub mod Rooms
 pub mod Puts
 pub mod Adds
 pub mod Texts
+pub mod Making
 pub mod Readings
 pub mod Grown
 pub mod Works
 pub mod Chains
+pub mod ClassLaws
+pub mod Passed
+pub mod Append
+pub mod Extend
+pub mod Beside
+pub mod Kept

@@ -49,13 +49,65 @@ pub or-right : (a b : Bool) → b ≡ true → a || b ≡ true
 or-right true b e = refl
 or-right false b e = e
 
-pub or-true : (a : Bool) → a || true ≡ true
-or-true true = refl
-or-true false = refl
+-- a chain of `if`s that return early meets a chain of tests
+pub and-stop : (a b : Bool) → a ≡ false → false ≡ (a && b)
+and-stop a b e = sym (left-false a b e)
 
-pub or-none : (a : Bool) → a || false ≡ a
-or-none true = refl
-or-none false = refl
+pub and-next : (a b r : Bool) → a ≡ true → r ≡ b → r ≡ (a && b)
+and-next a b r e q = rw e q
+
+pub or-stop : (a b : Bool) → a ≡ true → true ≡ (a || b)
+or-stop a b e = sym (or-left a b e)
+
+pub or-next : (a b r : Bool) → a ≡ false → r ≡ b → r ≡ (a || b)
+or-next a b r e q = rw e q
+
+pub right-true : (a b : Bool) → b ≡ true → a && b ≡ a
+right-true true b e = e
+right-true false b e = refl
+
+pub right-falsum : (a b : Bool) → b ≡ false → a || b ≡ a
+right-falsum true b e = refl
+right-falsum false b e = e
+
+-- one test of several fails, and one decides where the others pass
+pub three-1 : (a b c : Bool) → a ≡ false → false ≡ (a && b && c)
+three-1 a b c e = rw e
+
+pub three-2 : (a b c : Bool) → b ≡ false → false ≡ (a && b && c)
+three-2 a b c e = sym (left-false (a && b) c (right-false a b e))
+
+pub three-3 : (a b c : Bool) → c ≡ false → false ≡ (a && b && c)
+three-3 a b c e = sym (right-false (a && b) c e)
+
+pub three-first : (a b c r : Bool) → r ≡ a → b ≡ true → c ≡ true → r ≡ (a && b && c)
+three-first a b c r e p q = e ∙ sym (right-true (a && b) c q ∙ right-true a b p)
+
+pub three-last : (a b c r : Bool) → a ≡ true → b ≡ true → r ≡ c → r ≡ (a && b && c)
+three-last a b c r p q e = rw (p, q) e
+
+module _ (a b c d e : Bool) where
+  pub five-1 : a ≡ false → false ≡ (a && b && c && d && e)
+  five-1 h = rw h
+
+  pub five-2 : b ≡ false → false ≡ (a && b && c && d && e)
+  five-2 h = rw (right-false a b h)
+
+  pub five-3 : c ≡ false → false ≡ (a && b && c && d && e)
+  five-3 h = rw (right-false (a && b) c h)
+
+  pub five-4 : d ≡ false → false ≡ (a && b && c && d && e)
+  five-4 h = rw (right-false (a && b && c) d h)
+
+  pub five-last : (r : Bool) → a ≡ true → b ≡ true → c ≡ true → d ≡ true → r ≡ e → r ≡ (a && b && c && d && e)
+  five-last r p q f g h = rw (p, q, f, g) h
+
+-- a test that a call made
+pub failed : (a x : Bool) → x ≡ a → not x ≡ true → a ≡ false
+failed a x e h = sym e ∙ not-true x h
+
+pub passed : (a x : Bool) → x ≡ a → not x ≡ false → a ≡ true
+passed a x e h = sym e ∙ not-false x h
 
 pub clash : {a : Bool} {X : Type 0} → a ≡ true → a ≡ false → X
 clash p q = absurd (false≢true (sym q ∙ p))
@@ -164,6 +216,15 @@ first-none p (suc n) h k l = go (first-none p n) (firstBelow p n) (p n) refl ref
     go ih (some i) b e q z = let y : _≡_ {A = ℕ} 0 1 = cc in absurd (omega arith)
     go ih none true e q z = let y : _≡_ {A = ℕ} 0 1 = cc in absurd (omega arith)
     go ih none false e q z = ⊎-elim (λ d. ap p d ∙ q) (λ lt. ih e k lt) (eq-or-lt-of-le (le-of-suc-le-suc l))
+
+pub first-same : (p q : ℕ → Bool) (n : ℕ) → ((k : ℕ) → k < n → p k ≡ q k) → firstBelow p n ≡ firstBelow q n
+unfolding firstBelow
+first-same p q zero f = refl
+first-same p q (suc n) f =
+    ap (λ (o : Option ℕ). or-next o (p n)) (first-same p q n (λ k l. f k (omega arith))) ∙ ap (or-next (firstBelow q n)) (f n (omega arith))
+  where
+    or-next : Option ℕ → Bool → Option ℕ
+    or-next o b = elim o [ some i ↦ some i | none ↦ (if b then some n else none) ]
 
 pub record Found (p : ℕ → Bool) (n i : ℕ) : Type 0 where
   pub below : i < n

@@ -15,7 +15,7 @@ use Rattle.records.specs.Lists.{if_then_else_, all, any, firstOf, isIn, 
 use Rattle.records.specs.Store.{Term, Store, term, termIn, count, isTerm, within, climb, forestUp, topIn, aboveBy, aboveIn, orNone, nearestIn, pathIn}
 use Rattle.records.specs.View.{termAt, termsView}
 use Rattle.records.specs.Audited.{Closed, Classed}
-use Rattle.records.proofs.Lists.{both-left, both-right, or-true, or-none, every-map, decide, clash, within-low, within-high}
+use Rattle.records.proofs.Lists.{both-left, both-right, or-right, right-falsum, every-map, decide, clash, within-low, within-high}
 use Rattle.records.proofs.Climbs.{above-step, view-forest, view-count}
 
 -- THE LOOP
@@ -93,7 +93,7 @@ marked-is (y ∷ l) s x h =
     (λ e.
     let d : x ≡ y = eqb-true x y e in
     let m : getD (set s y 1) x 0 ≡ 1 = rw d (getD-set-same s y 1 0 (omega arith)) in
-    rw (e, m) (or-true (any (eqb x) l)))
+    rw (e, m) (or-right (any (eqb x) l) true refl))
     (λ e. rw (e, getD-set-other s y x 1 0 (eqb-false x y e)))
 
 module _ {A : Type 0} (p q : A → Bool) where
@@ -123,4 +123,4 @@ nearest-is ts n a b s z r k w h f e d =
         let l : x < length z = omega arith in
         let m = marked-is (aboveIn ts b) z x l in
         let u = unmarked z x (f x l) in
-        let o = or-none (isIn x (aboveIn ts b)) in cc
+        let o = right-falsum (isIn x (aboveIn ts b)) false refl in cc

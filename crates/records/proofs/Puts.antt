@@ -1,17 +1,17 @@
 -- The views after records were written above the count.
 use mathlib.Core.Path.{_≡_, refl, sym, ap, _∙_}
 use mathlib.Core.Bool.{Bool, true, false, false≢true}
-use mathlib.Core.List.{List, [], _∷_, _++_}
+use mathlib.Core.List.{List, [], _∷_, _++_, append-assoc, append-nil}
 use Prim.Native.Nat.{ℕ, zero, suc, _+_, _*_, _/_, _≤_, _<_, min}
 use native.Mathlib.Numerals.{add-one}
 use native.Mathlib.Omega.{arith}
-use lib.ListN.{length, getD, set, take, drop, length-set, length-take, List·getD-append}
+use lib.ListN.{length, getD, set, take, drop, length-set, length-take, drop-of-length-le, List·getD-append}
 use lib.Dec.{ltb, leb}
-use lib.Seq.{sets, sets-eq, getD-append-add, getD-take, length-take-le}
+use lib.Seq.{sets, sets-eq, getD-append-add, getD-take, length-take-le, drop-cons}
 use Rattle.records.specs.Lists.{table}
 use Rattle.records.specs.View.{reasonRoom, termAt, cellAt, pairAt, termsView, cellsView, pairsView}
 use Rattle.records.specs.Make.{own, chainFrom}
-use Rattle.records.specs.Puts.{TermPut, PairPut, Pushed}
+use Rattle.records.specs.Puts.{TermPut, CellPut, ChainPut, PairPut, Pushed}
 use Rattle.records.proofs.Lists.{table-same, table-suc}
 
 -- A RUN OF STORES
@@ -20,14 +20,14 @@ module _ (l : List ℕ) (i : ℕ) (vs : List ℕ) (fits : i + length vs ≤ leng
   pub sets-below : (j : ℕ) → j < i → getD (sets l i vs) j 0 ≡ getD l j 0
   sets-below j h =
       let n : length (take i l) ≡ i = length-take-le i l (omega arith) in
-      rw (sets-eq vs l i fits, mathlib.Core.List.append-assoc) (List·getD-append (take i l) (vs ++ drop (i + length vs) l) 0 j (omega arith) ∙ getD-take i l j 0 h)
+      rw (sets-eq vs l i fits, append-assoc) (List·getD-append (take i l) (vs ++ drop (i + length vs) l) 0 j (omega arith) ∙ getD-take i l j 0 h)
 
   pub sets-at : (k : ℕ) → k < length vs → getD (sets l i vs) (i + k) 0 ≡ getD vs k 0
   sets-at k h =
       let n : length (take i l) ≡ i = length-take-le i l (omega arith) in
       let e : getD (take i l ++ (vs ++ drop (i + length vs) l)) (length (take i l) + k) 0 ≡ getD (vs ++ drop (i + length vs) l) k 0
       = getD-append-add (take i l) (vs ++ drop (i + length vs) l) k 0 in
-      rw (sets-eq vs l i fits, mathlib.Core.List.append-assoc) ((rw n at e) ∙ List·getD-append vs (drop (i + length vs) l) 0 k h)
+      rw (sets-eq vs l i fits, append-assoc) ((rw n at e) ∙ List·getD-append vs (drop (i + length vs) l) 0 k h)
 
 -- VIEWS THAT AGREE
 
@@ -47,6 +47,12 @@ pub pairs-agree : (l l′ : List ℕ) (n : ℕ) → ((j : ℕ) → j < 2 * n →
 pairs-agree l l′ n h = table-same (pairAt l′) (pairAt l) n (λ i b.
     let a0 = h (2 * i + 0) (omega arith) in
     let a1 = h (2 * i + 1) (omega arith) in cc)
+
+pub cells-agree : (l l′ : List ℕ) (n : ℕ) → ((j : ℕ) → j < 3 * (n + 1) → getD l′ j 0 ≡ getD l j 0) → cellsView l′ n ≡ cellsView l n
+cells-agree l l′ n h = table-same (λ i. cellAt l′ (suc i)) (λ i. cellAt l (suc i)) n (λ i b.
+    let a0 = h (3 * suc i + 0) (omega arith) in
+    let a1 = h (3 * suc i + 1) (omega arith) in
+    let a2 = h (3 * suc i + 2) (omega arith) in cc)
 
 -- ONE TERM
 
@@ -121,3 +127,84 @@ module _ (l l′ : List ℕ) (n k v : ℕ) (r : Bool) (e : r ≡ ltb n (reasonRo
 
   pub not-pushed : r ≡ false → Pushed l l n k v false
   not-pushed h = record { fits = sym h ∙ e; grown = λ q. absurd (false≢true q); kept = refl }
+
+-- ONE CELL, AND A CHAIN OF THEM
+
+module _ (l : List ℕ) (n v x : ℕ) where
+  pub cell-put : 3 * (n + 2) ≤ length l → CellPut l (set (set (set l (3 * (n + 1)) v) (3 * (n + 1) + 1) 0) (3 * (n + 1) + 2) x) n v x
+  cell-put room = record { grown = table-suc _ n ∙ (let p = kept-is n (omega arith) in let q = last-is in cc); kept = kept-is }
+    where
+      vs : List ℕ
+      vs = v ∷ 0 ∷ x ∷ []
+
+      l′ : List ℕ
+      l′ = set (set (set l (3 * (n + 1)) v) (3 * (n + 1) + 1) 0) (3 * (n + 1) + 2) x
+
+      same : l′ ≡ sets l (3 * (n + 1)) vs
+      same =
+          let e : 3 * (n + 1) + 1 ≡ suc (3 * (n + 1)) = omega arith in
+          let f : 3 * (n + 1) + 2 ≡ suc (suc (3 * (n + 1))) = omega arith in rw (e, f)
+
+      fits : 3 * (n + 1) + length vs ≤ length l
+      fits = omega arith
+
+      kept-is : (i : ℕ) → i ≤ n → cellsView l′ i ≡ cellsView l i
+      kept-is i h = rw same (cells-agree l (sets l (3 * (n + 1)) vs) i (λ j k. sets-below l (3 * (n + 1)) vs fits j (omega arith)))
+
+      at : (j w : ℕ) → j < 3 → getD vs j 0 ≡ w → getD l′ (3 * suc n + j) 0 ≡ w
+      at j w h e = ap (λ (i : ℕ). getD l′ (3 * i + j) 0) (sym (add-one n)) ∙ rw same (sets-at l (3 * (n + 1)) vs fits j h ∙ e)
+
+      last-is : cellAt l′ (suc n) ≡ record { value = v; other = 0; next = x }
+      last-is = let a0 = at 0 v (omega arith) refl in let a1 = at 1 0 (omega arith) refl in let a2 = at 2 x (omega arith) refl in cc
+
+-- the cell of a place that is not the last, and of the last
+module _ (w : List ℕ) (c i : ℕ) where
+  from-next : suc i < length w → chainFrom c (drop i w) ≡ record { value = getD w i 0; other = 0; next = suc c } ∷ chainFrom (suc c) (drop (suc i) w)
+  unfolding chainFrom
+  from-next h = rw (drop-cons w i 0 (omega arith), drop-cons w (suc i) 0 h)
+
+  from-last : suc i ≡ length w → chainFrom c (drop i w) ≡ record { value = getD w i 0; other = 0; next = 0 } ∷ []
+  unfolding chainFrom
+  from-last h = rw (drop-cons w i 0 (omega arith), drop-of-length-le w {i = suc i} (omega arith))
+
+-- i cells of the chain are written
+pub record Chained (l l′ : List ℕ) (n : ℕ) (w : List ℕ) (i : ℕ) : Type 0 where
+  pub long : length l′ ≡ length l
+  pub kept : cellsView l′ n ≡ cellsView l n
+  pub rest : cellsView l′ (n + i) ++ chainFrom (suc (n + i)) (drop i w) ≡ cellsView l n ++ chainFrom (suc n) w
+
+pub chained-none : (l : List ℕ) (n : ℕ) (w : List ℕ) → Chained l l n w 0
+chained-none l n w = record { long = refl; kept = refl; rest = rw (native.Mathlib.Nat.add-zero n) }
+
+module _ (l l′ : List ℕ) (n : ℕ) (w : List ℕ) (i : ℕ) (h : Chained l l′ n w i) (l″ : List ℕ) (v x : ℕ) (p : CellPut l′ l″ (n + i) v x) (e : v ≡ getD w i 0) where
+  pub chained-one : i + 1 < length w → x ≡ n + i + 2 → length l″ ≡ length l′ → Chained l l″ n w (i + 1)
+  chained-one b f g = record { long = g ∙ h .long; kept = p .kept n (omega arith) ∙ h .kept; rest = rest-is ∙ h .rest }
+    where
+      rest-is : cellsView l″ (n + (i + 1)) ++ chainFrom (suc (n + (i + 1))) (drop (i + 1) w) ≡ cellsView l′ (n + i) ++ chainFrom (suc (n + i)) (drop i w)
+      rest-is =
+          let a : i + 1 ≡ suc i = add-one i in
+          let s : n + suc i ≡ suc (n + i) = omega arith in
+          let y : n + i + 2 ≡ suc (suc (n + i)) = omega arith in
+          rw (a, s, p .grown, from-next w (suc (n + i)) i (omega arith), append-assoc, e, f, y)
+
+  pub chained-last : suc i ≡ length w → x ≡ 0 → ChainPut l l″ n w
+  chained-last b f = record { grown = grown-is ∙ h .rest; kept = p .kept n (omega arith) ∙ h .kept }
+    where
+      grown-is : cellsView l″ (n + length w) ≡ cellsView l′ (n + i) ++ chainFrom (suc (n + i)) (drop i w)
+      grown-is =
+          let s : n + length w ≡ suc (n + i) = omega arith in
+          rw (s, p .grown, from-last w (suc (n + i)) i b, e, f)
+
+-- the loop's turn, and its last cell
+pub chained-turn : (l l′ : List ℕ) (n : ℕ) (w : List ℕ) (i last : ℕ) (l″ : List ℕ) → Chained l l′ n w i → i < last → last + 1 ≡ length w
+    → CellPut l′ l″ (n + i) (getD w i 0) (n + i + 2) → length l″ ≡ length l′ → Chained l l″ n w (i + 1)
+chained-turn l l′ n w i last l″ h b e p g = chained-one l l′ n w i h l″ _ _ p refl (omega arith) refl g
+
+pub chained-end : (l l′ : List ℕ) (n : ℕ) (w : List ℕ) (i last : ℕ) (l″ : List ℕ) → Chained l l′ n w i → i ≤ last → last ≤ i → last + 1 ≡ length w
+    → CellPut l′ l″ (n + last) (getD w last 0) 0 → ChainPut l l″ n w
+chained-end l l′ n w i last l″ h a b e p = let q : i ≡ last = omega arith in chained-last l l′ n w last (rw q at h) l″ _ _ p refl (omega arith) refl
+
+pub chain-empty : (l : List ℕ) (n : ℕ) (w : List ℕ) → length w ≡ 0 → ChainPut l l n w
+unfolding chainFrom
+chain-empty l n [] e = record { grown = rw (native.Mathlib.Nat.add-zero n) (sym (append-nil (cellsView l n))); kept = refl }
+chain-empty l n (x ∷ w) e = absurd (omega arith)

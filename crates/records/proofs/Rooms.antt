@@ -15,11 +15,11 @@ module _ (l : List ℕ) (n : ℕ) where
   pub term-fits : n < termLimit → 8 * (n + 2) ≤ length l → ltb n (termRoom l) ≡ true
   term-fits a b = lt-ltb n (termRoom l) (omega arith)
 
-  pub term-limit : (r : Bool) → r ≡ ltb n (termRoom l) → r ≡ true → n < termLimit
-  term-limit r e h = let k : n < termRoom l = ltb-true n (termRoom l) (sym e ∙ h) in omega arith
+  pub term-limit : ltb n (termRoom l) ≡ true → n < termLimit
+  term-limit e = let k : n < termRoom l = ltb-true n (termRoom l) e in omega arith
 
-  pub term-room : (r : Bool) → r ≡ ltb n (termRoom l) → r ≡ true → 8 * (n + 2) ≤ length l
-  term-room r e h = let k : n < termRoom l = ltb-true n (termRoom l) (sym e ∙ h) in omega arith
+  pub term-room : ltb n (termRoom l) ≡ true → 8 * (n + 2) ≤ length l
+  term-room e = let k : n < termRoom l = ltb-true n (termRoom l) e in omega arith
 
   pub term-over : termLimit ≤ n → ltb n (termRoom l) ≡ false
   term-over h = le-ltb n (termRoom l) (omega arith)
@@ -29,18 +29,18 @@ module _ (l : List ℕ) (n : ℕ) where
 
   -- the code's test, once the limit is known to leave room
   pub term-test : n < termLimit → leb (8 * (n + 2)) (length l) ≡ ltb n (termRoom l)
-  term-test h = same-test _ _ (λ e. term-fits h (leb-true (8 * (n + 2)) (length l) e)) (λ e. le-leb (8 * (n + 2)) (length l) (term-room true (sym e) refl))
+  term-test h = same-test _ _ (λ e. term-fits h (leb-true (8 * (n + 2)) (length l) e)) (λ e. le-leb (8 * (n + 2)) (length l) (term-room e))
 
 -- k cells more, where the n that are counted fit
 module _ (l : List ℕ) (n k : ℕ) (room : 3 * (n + 1) ≤ length l) where
   pub cells-fit : n + k ≤ cellLimit → 3 * (n + k + 1) ≤ length l → leb (n + k) (cellRoom l) ≡ true
   cells-fit a b = le-leb (n + k) (cellRoom l) (omega arith)
 
-  pub cells-limit : (r : Bool) → r ≡ leb (n + k) (cellRoom l) → r ≡ true → n + k ≤ cellLimit
-  cells-limit r e h = let q : n + k ≤ cellRoom l = leb-true (n + k) (cellRoom l) (sym e ∙ h) in omega arith
+  pub cells-limit : leb (n + k) (cellRoom l) ≡ true → n + k ≤ cellLimit
+  cells-limit e = let q : n + k ≤ cellRoom l = leb-true (n + k) (cellRoom l) e in omega arith
 
-  pub cells-room : (r : Bool) → r ≡ leb (n + k) (cellRoom l) → r ≡ true → 3 * (n + k + 1) ≤ length l
-  cells-room r e h = let q : n + k ≤ cellRoom l = leb-true (n + k) (cellRoom l) (sym e ∙ h) in omega arith
+  pub cells-room : leb (n + k) (cellRoom l) ≡ true → 3 * (n + k + 1) ≤ length l
+  cells-room e = let q : n + k ≤ cellRoom l = leb-true (n + k) (cellRoom l) e in omega arith
 
   pub cells-over : cellLimit < n + k → leb (n + k) (cellRoom l) ≡ false
   cells-over h = lt-leb (n + k) (cellRoom l) (omega arith)
@@ -48,16 +48,24 @@ module _ (l : List ℕ) (n k : ℕ) (room : 3 * (n + 1) ≤ length l) where
   pub cells-short : length l < 3 * (n + k + 1) → leb (n + k) (cellRoom l) ≡ false
   cells-short h = lt-leb (n + k) (cellRoom l) (omega arith)
 
+  pub cells-test : k ≤ cellLimit - n → n ≤ cellLimit → leb (3 * (n + k + 1)) (length l) ≡ leb (n + k) (cellRoom l)
+  cells-test h g =
+      same-test _ _ (λ e. cells-fit (omega arith) (leb-true (3 * (n + k + 1)) (length l) e))
+      (λ e. le-leb (3 * (n + k + 1)) (length l) (cells-room e))
+
+  pub cells-none : cellLimit - n < k → leb (n + k) (cellRoom l) ≡ false
+  cells-none h = cells-over (omega arith)
+
 -- k characters more
 module _ (l : List ℕ) (n k : ℕ) where
   pub chars-fit : n + k ≤ charLimit → n + k ≤ length l → leb (n + k) (charRoom l) ≡ true
   chars-fit a b = le-leb (n + k) (charRoom l) (omega arith)
 
-  pub chars-limit : (r : Bool) → r ≡ leb (n + k) (charRoom l) → r ≡ true → n + k ≤ charLimit
-  chars-limit r e h = let q : n + k ≤ charRoom l = leb-true (n + k) (charRoom l) (sym e ∙ h) in omega arith
+  pub chars-limit : leb (n + k) (charRoom l) ≡ true → n + k ≤ charLimit
+  chars-limit e = let q : n + k ≤ charRoom l = leb-true (n + k) (charRoom l) e in omega arith
 
-  pub chars-room : (r : Bool) → r ≡ leb (n + k) (charRoom l) → r ≡ true → n + k ≤ length l
-  chars-room r e h = let q : n + k ≤ charRoom l = leb-true (n + k) (charRoom l) (sym e ∙ h) in omega arith
+  pub chars-room : leb (n + k) (charRoom l) ≡ true → n + k ≤ length l
+  chars-room e = let q : n + k ≤ charRoom l = leb-true (n + k) (charRoom l) e in omega arith
 
   pub chars-over : charLimit < n + k → leb (n + k) (charRoom l) ≡ false
   chars-over h = lt-leb (n + k) (charRoom l) (omega arith)

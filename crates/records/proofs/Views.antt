@@ -2,14 +2,16 @@
 use mathlib.Core.Path.{_≡_, refl, sym, ap, _∙_}
 use mathlib.Core.Bool.{Bool, true, false}
 use mathlib.Core.List.{List, [], _∷_, _++_}
-use Prim.Native.Nat.{ℕ, zero, suc, _+_, _*_, _<_, _≤_}
+use Prim.Native.Nat.{ℕ, zero, suc, _+_, _*_, _/_, _%_, _<_, _≤_}
+use native.Mathlib.Nat.{mod-lt, mul-div-le, lt-mul-div-succ, lt-of-mul-lt-mul-left, div-add-mod}
 use native.Mathlib.Omega.{arith}
 use lib.ListN.{length, getD, take, drop, length-take, length-drop}
 use lib.Seq.{ext-getD, getD-take, getD-drop}
+use Rattle.records.specs.declared.State.{State}
 use Rattle.records.specs.Lists.{table}
-use Rattle.records.specs.Store.{Term, Cell, noTerm, noCell, termIn, cellIn, textIn}
-use Rattle.records.specs.View.{termAt, cellAt, termsView, cellsView, charsView, pairsView, span}
-use Rattle.records.proofs.Lists.{table-at, table-past, table-length}
+use Rattle.records.specs.Store.{Term, Cell, noTerm, noCell, termIn, cellIn, textIn, within, Store}
+use Rattle.records.specs.View.{termAt, cellAt, termsView, cellsView, charsView, pairsView, span, Lent, storeOf, pairAt}
+use Rattle.records.proofs.Lists.{table-at, table-past, table-length, within-low, within-high}
 
 -- a counted term is read from its words, and no other number names one
 pub term-is : (l : List ℕ) (n t : ℕ) → 0 < t → t ≤ n → termIn (termsView l n) t ≡ termAt l t
@@ -36,6 +38,32 @@ unfolding cellIn
 cell-past l n zero q = absurd (omega arith)
 cell-past l n (suc c) q = table-past (λ i. cellAt l (suc i)) n c noCell (omega arith)
 
+-- the fields of a counted record, as the readers of src/fields.rt give them
+module _ (l : List ℕ) (n t x : ℕ) (h : within n t ≡ true) where
+  term-at : termIn (termsView l n) t ≡ termAt l t
+  term-at = term-is l n t (within-low n t h) (within-high n t h)
+
+  pub kind-at : x ≡ getD l (8 * t + 0) 0 → x ≡ termIn (termsView l n) t .kind
+  kind-at e = rw term-at e
+
+  pub first-at : x ≡ getD l (8 * t + 1) 0 → x ≡ termIn (termsView l n) t .first
+  first-at e = rw term-at e
+
+  pub second-at : x ≡ getD l (8 * t + 2) 0 → x ≡ termIn (termsView l n) t .second
+  second-at e = rw term-at e
+
+  cell-at : cellIn (cellsView l n) t ≡ cellAt l t
+  cell-at = cell-is l n t (within-low n t h) (within-high n t h)
+
+  pub value-at : x ≡ getD l (3 * t + 0) 0 → x ≡ cellIn (cellsView l n) t .value
+  value-at e = rw cell-at e
+
+  pub other-at : x ≡ getD l (3 * t + 1) 0 → x ≡ cellIn (cellsView l n) t .other
+  other-at e = rw cell-at e
+
+  pub next-at : x ≡ getD l (3 * t + 2) 0 → x ≡ cellIn (cellsView l n) t .next
+  next-at e = rw cell-at e
+
 -- a text within the count is read from its words
 pub text-span : (l : List ℕ) (n : ℕ) (t : Term) → t .first + t .second ≤ n → textIn (charsView l n) t ≡ span l (t .first) (t .second)
 unfolding textIn
@@ -48,3 +76,99 @@ text-span l n t h =
     let r : i < t .second = omega arith in
     getD-take (t .second) (drop (t .first) (charsView l n)) i 0 r ∙ getD-drop (t .first) (charsView l n) i 0
     ∙ table-at (λ j. getD l j 0) n (t .first + i) 0 (omega arith) ∙ sym (table-at (λ j. getD l (t .first + j) 0) (t .second) i 0 r))
+
+-- FAITHFUL: equal views are equal words up to the counts
+
+module _ {A : Type 0} where
+  pub table-is : (f g : ℕ → A) (n i : ℕ) → table f n ≡ table g n → i < n → f i ≡ g i
+  table-is f g n i e h = sym (table-at f n i (f i) h) ∙ ap (λ (l : List A). getD l i (f i)) e ∙ table-at g n i (f i) h
+
+-- records of w words, each word read from its place: equal records are equal words
+module _ {R : Type 0} (w : ℕ) (read : List ℕ → ℕ → R) (word : ℕ → R → ℕ) (is : (l : List ℕ) (t k : ℕ) → k < w → word k (read l t) ≡ getD l (w * t + k) 0) where
+  words-same : (l l′ : List ℕ) (lo hi : ℕ) → 0 < w → ((t : ℕ) → lo ≤ t → t < hi → read l t ≡ read l′ t) → (i : ℕ) → w * lo ≤ i → i < w * hi → getD l i 0 ≡ getD l′ i 0
+  words-same l l′ lo hi p f i a b =
+      let q : i % w < w = mod-lt i p in
+      let over = lt-mul-div-succ i p in
+      let under = mul-div-le i w in
+      let c : lo < i / w + 1 = lt-of-mul-lt-mul-left w (omega arith) in
+      let d : i / w < hi = lt-of-mul-lt-mul-left w (omega arith) in
+      let e = sym (is l (i / w) (i % w) q) ∙ ap (word (i % w)) (f (i / w) (omega arith) d) ∙ is l′ (i / w) (i % w) q in rw (div-add-mod i w) at e
+
+termWord : ℕ → Term → ℕ
+termWord zero r = r .kind
+termWord (suc zero) r = r .first
+termWord (suc (suc zero)) r = r .second
+termWord (suc (suc (suc zero))) r = r .classParent
+termWord (suc (suc (suc (suc zero)))) r = r .forestParent
+termWord (suc (suc (suc (suc (suc zero))))) r = r .labelKind
+termWord (suc (suc (suc (suc (suc (suc zero)))))) r = r .labelValue
+termWord (suc (suc (suc (suc (suc (suc (suc k))))))) r = r .stamp
+
+termWord-is : (l : List ℕ) (t k : ℕ) → k < 8 → termWord k (termAt l t) ≡ getD l (8 * t + k) 0
+unfolding termWord
+termWord-is l t zero h = refl
+termWord-is l t (suc zero) h = refl
+termWord-is l t (suc (suc zero)) h = refl
+termWord-is l t (suc (suc (suc zero))) h = refl
+termWord-is l t (suc (suc (suc (suc zero)))) h = refl
+termWord-is l t (suc (suc (suc (suc (suc zero))))) h = refl
+termWord-is l t (suc (suc (suc (suc (suc (suc zero)))))) h = refl
+termWord-is l t (suc (suc (suc (suc (suc (suc (suc zero))))))) h = refl
+termWord-is l t (suc (suc (suc (suc (suc (suc (suc (suc k)))))))) h = absurd (omega arith)
+
+cellWord : ℕ → Cell → ℕ
+cellWord zero r = r .value
+cellWord (suc zero) r = r .other
+cellWord (suc (suc k)) r = r .next
+
+cellWord-is : (l : List ℕ) (c k : ℕ) → k < 3 → cellWord k (cellAt l c) ≡ getD l (3 * c + k) 0
+unfolding cellWord
+cellWord-is l c zero h = refl
+cellWord-is l c (suc zero) h = refl
+cellWord-is l c (suc (suc zero)) h = refl
+cellWord-is l c (suc (suc (suc k))) h = absurd (omega arith)
+
+pairWord : ℕ → ℕ × ℕ → ℕ
+pairWord zero p = p .0
+pairWord (suc k) p = p .1
+
+pairWord-is : (l : List ℕ) (i k : ℕ) → k < 2 → pairWord k (pairAt l i) ≡ getD l (2 * i + k) 0
+unfolding pairWord
+pairWord-is l i zero h = refl
+pairWord-is l i (suc zero) h = refl
+pairWord-is l i (suc (suc k)) h = absurd (omega arith)
+
+-- a table from record 1 on
+from-one : {A : Type 0} (f g : ℕ → A) (n : ℕ) → table (λ i. f (suc i)) n ≡ table (λ i. g (suc i)) n → (t : ℕ) → 1 ≤ t → t < n + 1 → f t ≡ g t
+from-one f g n e zero a b = absurd (omega arith)
+from-one f g n e (suc t) a b = table-is (λ i. f (suc i)) (λ i. g (suc i)) n t e (omega arith)
+
+module _ (l l′ : List ℕ) (n : ℕ) where
+  pub terms-words : termsView l n ≡ termsView l′ n → (i : ℕ) → 8 ≤ i → i < 8 * (n + 1) → getD l i 0 ≡ getD l′ i 0
+  terms-words e i a b = words-same 8 termAt termWord termWord-is l l′ 1 (n + 1) (omega arith) (from-one (termAt l) (termAt l′) n e) i a b
+
+  pub cells-words : cellsView l n ≡ cellsView l′ n → (i : ℕ) → 3 ≤ i → i < 3 * (n + 1) → getD l i 0 ≡ getD l′ i 0
+  cells-words e i a b = words-same 3 cellAt cellWord cellWord-is l l′ 1 (n + 1) (omega arith) (from-one (cellAt l) (cellAt l′) n e) i a b
+
+  pub chars-words : charsView l n ≡ charsView l′ n → (i : ℕ) → i < n → getD l i 0 ≡ getD l′ i 0
+  chars-words e i h = table-is (λ j. getD l j 0) (λ j. getD l′ j 0) n i e h
+
+  pub pairs-words : pairsView l n ≡ pairsView l′ n → (i : ℕ) → i < 2 * n → getD l i 0 ≡ getD l′ i 0
+  pairs-words e i h = words-same 2 pairAt pairWord pairWord-is l l′ 0 n (omega arith) (λ t a b. table-is (pairAt l) (pairAt l′) n t e b) i (omega arith) h
+
+-- slices that keep what is counted keep each word of it
+pub record SameWords (m m′ : Lent) (c : State) : Type 0 where
+  pub terms : (i : ℕ) → 8 ≤ i → i < 8 * (c .terms + 1) → getD (m′ .terms) i 0 ≡ getD (m .terms) i 0
+  pub cells : (i : ℕ) → 3 ≤ i → i < 3 * (c .cells + 1) → getD (m′ .cells) i 0 ≡ getD (m .cells) i 0
+  pub chars : (i : ℕ) → i < c .chars → getD (m′ .chars) i 0 ≡ getD (m .chars) i 0
+  pub reasons : (i : ℕ) → i < 2 * c .reasons → getD (m′ .reasons) i 0 ≡ getD (m .reasons) i 0
+  pub keys : (i : ℕ) → i < 2 * c .keys → getD (m′ .keys) i 0 ≡ getD (m .keys) i 0
+
+pub view-faithful : (m m′ : Lent) (c : State) → storeOf m′ c ≡ storeOf m c → SameWords m m′ c
+view-faithful m m′ c e = record {
+  terms = terms-words (m′ .terms) (m .terms) (c .terms) (ap (λ (s : Store). s .terms) e);
+  cells = cells-words (m′ .cells) (m .cells) (c .cells) (ap (λ (s : Store). s .cells) e);
+  chars = chars-words (m′ .chars) (m .chars) (c .chars) (ap (λ (s : Store). s .chars) e);
+  reasons = pairs-words (m′ .reasons) (m .reasons) (c .reasons) (ap (λ (s : Store). s .reasons) e);
+  keys = pairs-words (m′ .keys) (m .keys) (c .keys) (ap (λ (s : Store). s .keys) e);
+}

@@ -7,6 +7,7 @@ use lib.ListN.{length}
 use lib.Dec.{eqb, ltb, leb}
 use Rattle.records.specs.Lists.{if_then_else_, any, sameWord, firstBelow}
 use Rattle.records.specs.Store.{Term, Cell, Store, Out, ok, stop, Work, _>>=_, _>>_, give, refuse, store, put, term, count, kind, isConstant, isConcat, isLength, isEquation, text, parts}
+use Rattle.records.specs.View.{termAt, span}
 use Rattle.records.specs.Rules.{named}
 
 abbrev pub withReasons : Store → List (ℕ × ℕ) → Store
@@ -94,6 +95,11 @@ isSome (some i) = true
 unfoldable pub lookup : (Store → ℕ → Bool) → Store → Option ℕ
 lookup equal s = firstBelow (λ i. equal s (suc i)) (count s)
 
+-- the number of the record found; 0, which names none, where there is none
+abbrev pub numberOf : Option ℕ → ℕ
+numberOf none = 0
+numberOf (some i) = suc i
+
 abbrev pub orMake : Work ℕ → Option ℕ → Work ℕ
 orMake make none = make
 orMake make (some i) = give (suc i)
@@ -106,6 +112,13 @@ lowest equal make = do
 -- equal records: same kind, same characters or same part numbers in order
 unfoldable pub constantOf : List ℕ → Store → ℕ → Bool
 constantOf w s t = isConstant s t && sameWord (text s t) w
+
+-- a constant or a variable by its text, in the store and in the lent words: kind k, characters w
+unfoldable pub textOf : ℕ → List ℕ → Store → ℕ → Bool
+textOf k w s t = eqb (kind s t) k && sameWord (text s t) w
+
+unfoldable pub hasText : List ℕ → List ℕ → ℕ → List ℕ → ℕ → Bool
+hasText l h k w t = eqb (termAt l t .kind) k && sameWord (span h (termAt l t .first) (termAt l t .second)) w
 
 unfoldable pub concatOf : List ℕ → Store → ℕ → Bool
 concatOf l s t = isConcat s t && sameWord (parts s t) l
@@ -125,6 +138,12 @@ unfoldable pub makeVariable : List ℕ → Work ℕ
 makeVariable w = lowest (named w) (do
   p ← addText w
   addTerm 2 p (length w))
+
+-- the two in one
+unfoldable pub makeText : ℕ → List ℕ → Work ℕ
+makeText k w = lowest (textOf k w) (do
+  p ← addText w
+  addTerm k p (length w))
 
 unfoldable pub makeConcat : List ℕ → Work ℕ
 makeConcat l = lowest (concatOf l) (do

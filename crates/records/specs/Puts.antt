@@ -2,9 +2,10 @@
 use mathlib.Core.Path.{_≡_}
 use mathlib.Core.Bool.{Bool, true, false}
 use mathlib.Core.List.{List, [], _∷_, _++_}
-use Prim.Native.Nat.{ℕ, suc, _+_}
+use Prim.Native.Nat.{ℕ, suc, _+_, _≤_}
 use lib.ListN.{length}
 use lib.Dec.{ltb}
+use Rattle.records.specs.Store.{Cell}
 use Rattle.records.specs.View.{termsView, cellsView, charsView, pairsView, reasonRoom}
 use Rattle.records.specs.Make.{own, chainFrom}
 
@@ -17,6 +18,16 @@ pub record TermPut (l l′ : List ℕ) (n kind first second : ℕ) : Type 0 wher
 pub record CharsPut (l l′ : List ℕ) (n : ℕ) (w : List ℕ) : Type 0 where
   pub grown : charsView l′ (n + length w) ≡ charsView l n ++ w
   pub kept : charsView l′ n ≡ charsView l n
+
+-- record n + 1 of cells is now one with second value 0
+pub record CellPut (l l′ : List ℕ) (n value next : ℕ) : Type 0 where
+  pub grown : cellsView l′ (suc n) ≡ cellsView l n ++ (record { value = value; other = 0; next = next } ∷ [])
+  pub kept : (i : ℕ) → i ≤ n → cellsView l′ i ≡ cellsView l i
+
+-- the cells from record n + 1 on are now a chain of these values
+pub record ChainPut (l l′ : List ℕ) (n : ℕ) (w : List ℕ) : Type 0 where
+  pub grown : cellsView l′ (n + length w) ≡ cellsView l n ++ chainFrom (suc n) w
+  pub kept : cellsView l′ n ≡ cellsView l n
 
 -- pair n of reasons or of keys is now this one
 pub record PairPut (l l′ : List ℕ) (n a b : ℕ) : Type 0 where

@@ -108,6 +108,16 @@ labelRule s t = if isEdge s t
     || (eqb (term s t .labelKind) 4 && eqb (term s t .labelValue) 0)
     else eqb (term s t .labelKind) 0 && eqb (term s t .labelValue) 0 && eqb (term s t .stamp) 0
 
+-- where parents are terms and walks end, these of one term at a time say the same as the rules of two (proofs/ClassLaws.antt)
+unfoldable pub alikeAt : Store → ℕ → Bool
+alikeAt s t = eqb (root s (top s t)) (root s t) && eqb (top s (root s t)) (top s t)
+
+unfoldable pub aloneAt : Store → ℕ → Bool
+aloneAt s t = eqb (term s t .classParent) t || (isString s t && isString s (term s t .classParent))
+
+unfoldable pub classTest : Store → ℕ → Bool
+classTest s t = endsRule s t && alikeAt s t && labelRule s t && aloneAt s t
+
 unfoldable pub classesRule : Store → Bool
 classesRule s =
     eachTerm s (parentsRule s) && eachTerm s (endsRule s) && eachTerm s (λ t. eachTerm s (alikeRule s t)) && eachTerm s (labelRule s)

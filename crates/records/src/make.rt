@@ -1,1 +1,122 @@
 // Making terms: the lowest-numbered equal record, else one appended.
+ghost use mathlib.Core.Bool.{true};
+ghost use mathlib.Core.Path.{_≡_};
+ghost use Prim.Native.Nat.{suc, _+_, _≤_};
+ghost use lib.Dec.{leb};
+ghost use lib.ListN.{length};
+ghost use Rattle.records.specs.Lists.{firstBelow};
+ghost use Rattle.records.specs.Store.{within};
+ghost use Rattle.records.specs.View.{termLimit, charLimit, charRoom, lent};
+ghost use Rattle.records.specs.Make.{numberOf, hasText, makeText, makeConstant, makeVariable};
+ghost use Rattle.records.specs.Audited.{Ready};
+ghost use Rattle.records.specs.Calls.{Working, made};
+use crate::Made;
+use crate::State;
+use crate::fields::first;
+use crate::fields::kind;
+use crate::fields::second;
+use crate::put::put_term_unchecked;
+use crate::put::term_fits;
+use crate::text::put_text_unchecked;
+use crate::text::text_is;
+
+// Whether term t is of kind k and its text is w. Only texts of one length are compared.
+pub fn has_text(terms: &[u32], chars: &[u32], t: u32, k: u32, w: &[u32]) -> bool
+    ensures { λ r. ⌜ r ≡ hasText (now (terms .entry)) (now (chars .entry)) k (now (w .entry)) t ⌝ }
+{
+    if kind(terms, t) != k {
+        return false;
+    }
+    let n = second(terms, t) as usize;
+    if n != w.len() {
+        return false;
+    }
+    text_is(chars, first(terms, t), w)
+}
+
+// The lowest-numbered of n terms that is of kind k and whose text is w; 0 where there is none.
+pub fn find_text_unchecked(terms: &[u32], chars: &[u32], n: usize, k: u32, w: &[u32]) -> u32
+    requires { ⌜ n ≤ termLimit ⌝ }
+    ensures { λ r. ⌜ r ≡ numberOf (firstBelow (λ i. hasText (now (terms .entry)) (now (chars .entry)) k (now (w .entry)) (suc i)) n) ⌝ }
+{
+    let mut t: u32 = 0;
+    while (t as usize) < n {
+        t += 1;
+        if has_text(terms, chars, t, k, w) {
+            return t;
+        }
+    }
+    0
+}
+
+// k characters more fit.
+fn text_fits(chars: &[u32], n: usize, k: usize) -> bool
+    requires { ⌜ n ≤ charLimit ⌝ }
+    ensures { λ r. ⌜ r ≡ leb (n + k) (charRoom (now (chars .entry))) ⌝ }
+{
+    if crate::CHAR_LIMIT - n < k {
+        return false;
+    }
+    n + k <= chars.len()
+}
+
+// The constant (kind 1) or variable (kind 2) whose text is w. Both rooms are tested before a word is written.
+fn make_text(
+    terms: &mut [u32],
+    cells: &[u32],
+    chars: &mut [u32],
+    reasons: &[u32],
+    keys: &[u32],
+    c: State,
+    k: u32,
+    w: &[u32],
+) -> Made
+    requires { ⌜ Ready (lent (now terms) (now cells) (now chars) (now reasons) (now keys)) c ⌝ ∗ ⌜ within 2 k ≡ true ⌝ }
+    ensures { λ r. ⌜ Working (makeText k (now (w .entry))) (lent (now (terms .entry)) (now (cells .entry)) (now (chars .entry)) (now (reasons .entry)) (now (keys .entry))) (lent (now (terms .exit)) (now (cells .entry)) (now (chars .exit)) (now (reasons .entry)) (now (keys .entry))) c (made r (lent (now (terms .exit)) (now (cells .entry)) (now (chars .exit)) (now (reasons .entry)) (now (keys .entry)))) ⌝ }
+{
+    let t = find_text_unchecked(terms, chars, c.terms, k, w);
+    if t != 0 {
+        return Made::Term(t, c);
+    }
+    if !text_fits(chars, c.chars, w.len()) {
+        return Made::Refused(8);
+    }
+    if !term_fits(terms, c.terms) {
+        return Made::Refused(8);
+    }
+    let n = c.terms;
+    put_text_unchecked(chars, c.chars, w);
+    put_term_unchecked(terms, n, k, c.chars as u32, w.len() as u32);
+    let d = c.with_chars(w.len());
+    Made::Term((n + 1) as u32, d.with_term())
+}
+
+pub fn make_constant_unchecked(
+    terms: &mut [u32],
+    cells: &[u32],
+    chars: &mut [u32],
+    reasons: &[u32],
+    keys: &[u32],
+    c: State,
+    w: &[u32],
+) -> Made
+    requires { ⌜ Ready (lent (now terms) (now cells) (now chars) (now reasons) (now keys)) c ⌝ }
+    ensures { λ r. ⌜ Working (makeConstant (now (w .entry))) (lent (now (terms .entry)) (now (cells .entry)) (now (chars .entry)) (now (reasons .entry)) (now (keys .entry))) (lent (now (terms .exit)) (now (cells .entry)) (now (chars .exit)) (now (reasons .entry)) (now (keys .entry))) c (made r (lent (now (terms .exit)) (now (cells .entry)) (now (chars .exit)) (now (reasons .entry)) (now (keys .entry)))) ⌝ }
+{
+    make_text(terms, cells, chars, reasons, keys, c, 1, w)
+}
+
+pub fn make_variable_unchecked(
+    terms: &mut [u32],
+    cells: &[u32],
+    chars: &mut [u32],
+    reasons: &[u32],
+    keys: &[u32],
+    c: State,
+    w: &[u32],
+) -> Made
+    requires { ⌜ Ready (lent (now terms) (now cells) (now chars) (now reasons) (now keys)) c ⌝ }
+    ensures { λ r. ⌜ Working (makeVariable (now (w .entry))) (lent (now (terms .entry)) (now (cells .entry)) (now (chars .entry)) (now (reasons .entry)) (now (keys .entry))) (lent (now (terms .exit)) (now (cells .entry)) (now (chars .exit)) (now (reasons .entry)) (now (keys .entry))) c (made r (lent (now (terms .exit)) (now (cells .entry)) (now (chars .exit)) (now (reasons .entry)) (now (keys .entry)))) ⌝ }
+{
+    make_text(terms, cells, chars, reasons, keys, c, 2, w)
+}

@@ -4,9 +4,9 @@ ghost use Prim.Native.Nat.{ℕ, suc, _+_, _*_, _/_, _<_, _≤_, min, max};
 ghost use lib.Dec.{ltb, leb};
 ghost use lib.ListN.{length};
 ghost use Rattle.records.specs.Lists.{any};
-ghost use Rattle.records.specs.View.{termLimit, termRoom, pairAt, pairsView, lent};
+ghost use Rattle.records.specs.View.{termLimit, cellLimit, termRoom, cellRoom, pairAt, pairsView, lent};
 ghost use Rattle.records.specs.Make.{addReason, addKey, ordered, samePair};
-ghost use Rattle.records.specs.Puts.{TermPut, PairPut, Pushed};
+ghost use Rattle.records.specs.Puts.{TermPut, CellPut, ChainPut, PairPut, Pushed};
 ghost use Rattle.records.specs.Audited.{Sized};
 ghost use Rattle.records.specs.Calls.{Working, added};
 
@@ -35,6 +35,44 @@ pub fn put_term_unchecked(terms: &mut [u32], n: usize, kind: u32, first: u32, se
     terms[at + 5] = 0;
     terms[at + 6] = 0;
     terms[at + 7] = 0;
+}
+
+// k cells more fit.
+pub fn cells_fit(cells: &[u32], n: usize, k: usize) -> bool
+    requires { ⌜ n ≤ cellLimit ⌝ ∗ ⌜ 3 * (n + 1) ≤ length (now cells) ⌝ }
+    ensures { λ r. ⌜ r ≡ leb (n + k) (cellRoom (now (cells .entry))) ⌝ }
+{
+    if k <= crate::CELL_LIMIT - n {
+        return 3 * (n + k + 1) <= cells.len();
+    }
+    false
+}
+
+fn put_cell(cells: &mut [u32], n: usize, value: u32, next: u32)
+    requires { ⌜ n < cellLimit ⌝ ∗ ⌜ 3 * (n + 2) ≤ length (now cells) ⌝ }
+    ensures { λ _. ⌜ CellPut (now (cells .entry)) (now (cells .exit)) n value next ⌝ }
+{
+    let at = 3 * (n + 1);
+    cells[at] = value;
+    cells[at + 1] = 0;
+    cells[at + 2] = next;
+}
+
+// A chain of the values of l, from record n + 1 on: each cell names the one after it, and the last names none.
+pub fn put_chain_unchecked(cells: &mut [u32], n: usize, l: &[u32])
+    requires { ⌜ n + length (now l) ≤ cellLimit ⌝ ∗ ⌜ 3 * (n + length (now l) + 1) ≤ length (now cells) ⌝ }
+    ensures { λ _. ⌜ ChainPut (now (cells .entry)) (now (cells .exit)) n (now (l .entry)) ⌝ }
+{
+    if l.len() == 0 {
+        return;
+    }
+    let last = l.len() - 1;
+    let mut i: usize = 0;
+    while i < last {
+        put_cell(cells, n + i, l[i], (n + i + 2) as u32);
+        i += 1;
+    }
+    put_cell(cells, n + last, l[last], 0);
 }
 
 // One pair more fits a slice and a limit.

@@ -1,9 +1,19 @@
 // The audit of sizes and records (refusals 1 and 2).
 ghost use mathlib.Core.Path.{_≡_};
+ghost use mathlib.Core.Bool.{Bool, true, not, _&&_};
+ghost use mathlib.Core.List.{[]};
 ghost use Prim.Native.Nat.{ℕ, _+_, _*_, _<_, _≤_};
-ghost use Rattle.records.specs.Store.{termIn, within};
-ghost use Rattle.records.specs.View.{termsView};
-ghost use Rattle.records.specs.Rules.{isChar, isNumber};
+ghost use lib.ListN.{length};
+ghost use lib.Dec.{leb};
+ghost use Rattle.records.specs.Lists.{all};
+ghost use Rattle.records.specs.Store.{termIn, within, term, cell, chain};
+ghost use Rattle.records.specs.View.{lent, storeOf, termsView, termLimit, cellLimit, charLimit, reasonLimit, sizes};
+ghost use Rattle.records.specs.Rules.{isChar, isNumber, reasonRule, keyRule, cellRule, textRule, partRule, concatRule, lengthRule, isEquatable, equationRule, eachCell};
+use crate::CELL_LIMIT;
+use crate::CHAR_LIMIT;
+use crate::REASON_LIMIT;
+use crate::State;
+use crate::TERM_LIMIT;
 use crate::fields;
 
 pub fn is_char(c: u32) -> bool
@@ -45,4 +55,183 @@ pub fn is_string(terms: &[u32], n: usize, t: u32) -> bool
         return false;
     }
     k <= 3
+}
+
+// A number from 1 to n.
+pub fn is_within(n: usize, t: u32) -> bool
+    ensures { λ r. ⌜ r ≡ within n t ⌝ }
+{
+    if t == 0 {
+        return false;
+    }
+    fields::wide(t) <= n
+}
+
+// SIZES
+
+fn terms_fit(terms: &[u32], n: usize) -> bool
+    ensures { λ r. ⌜ r ≡ (leb n termLimit && leb (8 * (n + 1)) (length (now (terms .entry)))) ⌝ }
+{
+    if TERM_LIMIT < n {
+        return false;
+    }
+    8 * (n + 1) <= terms.len()
+}
+
+fn cells_fit(cells: &[u32], n: usize) -> bool
+    ensures { λ r. ⌜ r ≡ (leb n cellLimit && leb (3 * (n + 1)) (length (now (cells .entry)))) ⌝ }
+{
+    if CELL_LIMIT < n {
+        return false;
+    }
+    3 * (n + 1) <= cells.len()
+}
+
+fn chars_fit(chars: &[u32], n: usize) -> bool
+    ensures { λ r. ⌜ r ≡ (leb n charLimit && leb n (length (now (chars .entry)))) ⌝ }
+{
+    if CHAR_LIMIT < n {
+        return false;
+    }
+    n <= chars.len()
+}
+
+// Reasons, and keys too: their limits are the same.
+fn pairs_fit(pairs: &[u32], n: usize) -> bool
+    ensures { λ r. ⌜ r ≡ (leb n reasonLimit && leb (2 * n) (length (now (pairs .entry)))) ⌝ }
+{
+    if REASON_LIMIT < n {
+        return false;
+    }
+    2 * n <= pairs.len()
+}
+
+pub(crate) fn sizes(
+    terms: &[u32],
+    cells: &[u32],
+    chars: &[u32],
+    reasons: &[u32],
+    keys: &[u32],
+    c: State,
+) -> bool
+    ensures { λ r. ⌜ r ≡ sizes (lent (now (terms .entry)) (now (cells .entry)) (now (chars .entry)) (now (reasons .entry)) (now (keys .entry))) c ⌝ }
+{
+    if !terms_fit(terms, c.terms) {
+        return false;
+    }
+    if !cells_fit(cells, c.cells) {
+        return false;
+    }
+    if !chars_fit(chars, c.chars) {
+        return false;
+    }
+    if !pairs_fit(reasons, c.reasons) {
+        return false;
+    }
+    pairs_fit(keys, c.keys)
+}
+
+// RULES OF A RECORD
+
+fn reason_ok(k: u32, v: u32) -> bool
+    ensures { λ r. ⌜ r ≡ reasonRule (k, v) ⌝ }
+{
+    match k {
+        1 | 2 => is_number(v),
+        _ => false,
+    }
+}
+
+fn key_ok(terms: &[u32], c: State, a: u32, b: u32) -> bool
+    ensures { λ r. ⌜ r ≡ keyRule (storeOf (lent (now (terms .entry)) [] [] [] []) c) (a, b) ⌝ }
+{
+    if b <= a {
+        return false;
+    }
+    if !is_string(terms, c.terms, a) {
+        return false;
+    }
+    is_string(terms, c.terms, b)
+}
+
+fn cell_ok(cells: &[u32], c: State, i: u32) -> bool
+    requires { ⌜ within (c .cells) i ≡ true ⌝ }
+    ensures { λ r. ⌜ r ≡ cellRule (storeOf (lent [] (now (cells .entry)) [] [] []) c) i ⌝ }
+{
+    let next = fields::next(cells, i);
+    if next == 0 {
+        return true;
+    }
+    if next <= i {
+        return false;
+    }
+    fields::wide(next) <= c.cells
+}
+
+fn text_ok(terms: &[u32], c: State, t: u32) -> bool
+    requires { ⌜ within (c .terms) t ≡ true ⌝ }
+    ensures { λ r. ⌜ r ≡ textRule (storeOf (lent (now (terms .entry)) [] [] [] []) c) t ⌝ }
+{
+    let p = fields::first(terms, t);
+    let n = fields::second(terms, t);
+    fields::wide(p) + fields::wide(n) <= c.chars
+}
+
+fn part_ok(terms: &[u32], cells: &[u32], c: State, t: u32, i: u32) -> bool
+    requires { ⌜ within (c .cells) i ≡ true ⌝ }
+    ensures { λ r. do
+      let s = storeOf (lent (now (terms .entry)) (now (cells .entry)) [] [] []) c
+      ⌜ r ≡ partRule s t (cell s i .value, cell s i .other) ⌝ }
+{
+    let o = fields::other(cells, i);
+    if o != 0 {
+        return false;
+    }
+    let u = fields::value(cells, i);
+    if t <= u {
+        return false;
+    }
+    is_string(terms, c.terms, u)
+}
+
+fn length_ok(terms: &[u32], c: State, t: u32) -> bool
+    requires { ⌜ within (c .terms) t ≡ true ⌝ }
+    ensures { λ r. ⌜ r ≡ lengthRule (storeOf (lent (now (terms .entry)) [] [] [] []) c) t ⌝ }
+{
+    let o = fields::second(terms, t);
+    if o != 0 {
+        return false;
+    }
+    let u = fields::first(terms, t);
+    if t <= u {
+        return false;
+    }
+    is_string(terms, c.terms, u)
+}
+
+pub fn is_equatable(terms: &[u32], c: State, a: u32, b: u32) -> bool
+    ensures { λ r. ⌜ r ≡ isEquatable (storeOf (lent (now (terms .entry)) [] [] [] []) c) a b ⌝ }
+{
+    if is_string(terms, c.terms, a) {
+        return is_string(terms, c.terms, b);
+    }
+    if kind_of(terms, c.terms, a) != 4 {
+        return false;
+    }
+    kind_of(terms, c.terms, b) == 4
+}
+
+fn equation_ok(terms: &[u32], c: State, t: u32) -> bool
+    requires { ⌜ within (c .terms) t ≡ true ⌝ }
+    ensures { λ r. ⌜ r ≡ equationRule (storeOf (lent (now (terms .entry)) [] [] [] []) c) t ⌝ }
+{
+    let a = fields::first(terms, t);
+    let b = fields::second(terms, t);
+    if t <= a {
+        return false;
+    }
+    if t <= b {
+        return false;
+    }
+    is_equatable(terms, c, a, b)
 }

@@ -1,0 +1,17 @@
+use Rattle.records.proofs.Making.{other-kind, other-length, same-kind}
+use borrow.Author.Needs.{needs}
+use Rattle.records.proofs.make.has_text.Statement.{statement}
+use Rattle.records.proofs.make.has_text.Tie as tie
+
+pub has-text-spec : {M : Type 1} → statement M
+has-text-spec =
+    tie.close
+    (tie.spec
+    (λ c κs. search needs)
+    (λ c. other-kind _ _ _ _ _ _ (c .before .kind .ensures) (c .if1 .taken))
+    (λ c κs. search needs)
+    (λ c. search needs)
+    (λ c. other-length _ _ _ _ _ _ (c .before .before .before .kind .ensures) _ (c .before .second .ensures) (c .if2 .taken))
+    (λ c κs. search needs)
+    (λ c κs. search needs)
+    (λ c. same-kind _ _ _ _ _ _ (c .before .before .before .before .before .kind .ensures) _ (c .before .before .before .second .ensures) _ _ (c .before .before .before .before .if1 .left) (c .before .before .if2 .left) (c .before .first .ensures) (c .text-is .ensures)))

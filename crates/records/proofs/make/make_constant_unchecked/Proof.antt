@@ -1,0 +1,14 @@
+use Rattle.records.proofs.Making.{constant-made}
+use Rattle.records.specs.Store.{within}
+use mathlib.Core.Path.{refl}
+use borrow.Author.Needs.{needs}
+use Rattle.records.proofs.make.make_constant_unchecked.Statement.{statement}
+use Rattle.records.proofs.make.make_constant_unchecked.Tie as tie
+
+make-text-requires : tie.Need-make-text-requires
+unfolding within
+make-text-requires c κs = (c .before .before .before .before .before .before .before .before .pre, refl)
+
+pub make-constant-unchecked-spec : {M : Type 1} → statement M
+make-constant-unchecked-spec =
+    tie.close (tie.spec make-text-requires (λ c. search needs) (λ c. search needs) (λ c. constant-made _ (c .before .before .before .before .make-text .ensures)))

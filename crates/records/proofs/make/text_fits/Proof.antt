@@ -1,0 +1,7 @@
+use Rattle.records.proofs.Making.{text-over, text-test}
+use borrow.Author.Needs.{needs}
+use Rattle.records.proofs.make.text_fits.Statement.{statement}
+use Rattle.records.proofs.make.text_fits.Tie as tie
+
+pub text-fits-spec : {M : Type 1} → statement M
+text-fits-spec = tie.close (tie.spec (λ c. search needs) (λ c. text-over (c .before .args .chars .now) _ _ (c .before .pre) (c .if1 .taken)) (λ c. search needs) (λ c. text-test (c .before .args .chars .now) _ _ (c .before .pre) (c .if1 .left)))
