@@ -19,12 +19,12 @@ pub record Fit (s : Store) (m : ℕ) (p : ℕ × ℕ) : Type 0 where
 
 -- HEIGHTS
 
-highest-low : (s : Store) (m : ℕ) {l : List ℕ} → Every (λ e. term s e .stamp < m) l → highest s l ≤ m
+highest-low : (s : Store) (m : ℕ) {l : List ℕ} → Every (λ e. term s e .stamp < m) l → highest (s .terms) l ≤ m
 unfolding highest
 highest-low s m none-left = omega arith
 highest-low s m (and h k) = let i = highest-low s m k in omega arith
 
-highest-high : (s : Store) (m : ℕ) (l : List ℕ) → highest s l ≤ m → Every (λ e. term s e .stamp < m) l
+pub highest-high : (s : Store) (m : ℕ) (l : List ℕ) → highest (s .terms) l ≤ m → Every (λ e. term s e .stamp < m) l
 unfolding highest
 highest-high s m [] h = none-left
 highest-high s m (e ∷ l) h = let i : term s e .stamp < m = omega arith in and i (highest-high s m l (omega arith))

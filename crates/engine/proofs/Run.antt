@@ -126,7 +126,7 @@ reason-then (ok s u) seen = refl
 reason-then (stop n) seen = refl
 
 module _ (s : Store) (d : Audited s) where
-  abbrev Walks : ℕ → Type 0
+  abbrev pub Walks : ℕ → Type 0
   Walks h = (p : ℕ × ℕ) → Fit s h p → (seen : Seen) → Run s (walk h p seen) seen (λ l v. Joined v p)
 
   reason-run : (h t : ℕ) (seen : Seen) → isEdge s t ≡ true → reasonRule (term s t .labelKind, term s t .labelValue) ≡ true
@@ -143,7 +143,7 @@ module _ (s : Store) (d : Audited s) where
     ends = by-reason (List·Memᴰ·head refl);
   }
 
-  edge-run : (h : ℕ) → Walks h → (t : ℕ) → isTerm s t ≡ true → isEdge s t ≡ true → term s t .stamp ≤ h → (seen : Seen)
+  pub edge-run : (h : ℕ) → Walks h → (t : ℕ) → isTerm s t ≡ true → isEdge s t ≡ true → term s t .stamp ≤ h → (seen : Seen)
       → Run s (edge (walk h) t seen) seen (λ l v. Accounted s l v t)
   unfolding edge reasonRule
   edge-run h ih t i e b seen = go (d .classed .labels t i e)

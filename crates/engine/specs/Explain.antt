@@ -4,7 +4,7 @@ use mathlib.Core.List.{List, [], _∷_}
 use Prim.Native.Nat.{ℕ, zero, suc, max}
 use lib.Dec.{eqb}
 use Rattle.records.specs.Lists.{if_then_else_, any}
-use Rattle.records.specs.Store.{Store, Out, ok, Work, _>>=_, _>>_, give, refuse, store, term, isString, chain, root, sameClass, path}
+use Rattle.records.specs.Store.{Term, Store, Out, ok, Work, _>>=_, _>>_, give, refuse, store, termIn, term, isString, chain, root, sameClass, path}
 use Rattle.records.specs.Make.{addReason, ordered, samePair}
 
 -- find: the class root
@@ -44,12 +44,12 @@ edge walk t seen = do
       else refuse 3
 
 -- 'the stamp falling': one more than the highest stamp on the path, 0 where it is empty
-unfoldable pub highest : Store → List ℕ → ℕ
-highest s [] = 0
-highest s (e ∷ l) = max (suc (term s e .stamp)) (highest s l)
+unfoldable pub highest : List Term → List ℕ → ℕ
+highest ts [] = 0
+highest ts (e ∷ l) = max (suc (termIn ts e .stamp)) (highest ts l)
 
 abbrev pub height : Store → ℕ × ℕ → ℕ
-height s p = highest s (path s (p .0) (p .1))
+height s p = highest (s .terms) (path s (p .0) (p .1))
 
 -- 'explain walks a to the nearest shared forest ancestor, then b to it, giving each edge's reasons in that order. Walking a pair and
 -- expanding an edge call each other, the stamp falling': h is no lower than the pair's height (proofs/Walk.antt has the equation without it)
@@ -60,8 +60,13 @@ walk (suc h) p seen = do
   if eqb (p .0) (p .1) || wasSeen p seen then give seen
       else each (edge (walk h)) (path s (p .0) (p .1)) (ordered (p .0) (p .1) ∷ seen)
 
+-- with the pair's own height
+unfoldable pub walked : ℕ × ℕ → Seen → Work Seen
+walked p seen = do
+  s ← store
+  walk (height s p) p seen
+
 unfoldable pub explain : ℕ → ℕ → Work (Unit {0})
 explain a b = do
-  s ← store
-  walk (height s (a, b)) (a, b) []
+  walked (a, b) []
   give tt
