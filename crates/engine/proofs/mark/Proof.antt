@@ -4,10 +4,10 @@ use Rattle.engine.specs.Marks.{marked}
 use Rattle.engine.proofs.Bits.{bit-fits, mark-set}
 use native.Mathlib.Omega.{arith}
 use borrow.Author.Needs.{needs}
-use Rattle.engine.proofs.marks.mark.Statement.{statement}
-use Rattle.engine.proofs.marks.mark.Tie as tie
-use Rattle.engine.proofs.marks.mark.Reads as reads
-use Rattle.engine.proofs.marks.mark.Lts as lts
+use Rattle.engine.proofs.mark.Statement.{statement}
+use Rattle.engine.proofs.mark.Tie as tie
+use Rattle.engine.proofs.mark.Reads as reads
+use Rattle.engine.proofs.mark.Lts as lts
 
 -- src/marks.rt:36:13
 mul-w : tie.Need-mul-w

@@ -1,10 +1,10 @@
 use Rattle.engine.proofs.Bits.{product-fits, place-first, place-second}
 use native.Mathlib.Omega.{arith}
 use borrow.Author.Needs.{needs}
-use Rattle.engine.proofs.marks.place.Statement.{statement}
-use Rattle.engine.proofs.marks.place.Tie as tie
-use Rattle.engine.proofs.marks.place.Reads as reads
-use Rattle.engine.proofs.marks.place.Lts as lts
+use Rattle.engine.proofs.place.Statement.{statement}
+use Rattle.engine.proofs.place.Tie as tie
+use Rattle.engine.proofs.place.Reads as reads
+use Rattle.engine.proofs.place.Lts as lts
 
 -- src/marks.rt:14:32
 add-result : tie.Need-add-result
