@@ -1,13 +1,13 @@
 -- Pairs that explain walks: two terms of one tree, the stamps of their path below a number.
-use mathlib.Core.Path.{_≡_, refl, sym, ap, _∙_}
-use mathlib.Core.Bool.{Bool, true, false}
+use mathlib.Core.Path.{_≡_}
+use mathlib.Core.Bool.{true}
 use mathlib.Core.List.{List, [], _∷_}
-use mathlib.Core.Logic.{_⊎_, inl, inr, ⊎-elim}
-use Prim.Native.Nat.{ℕ, zero, suc, max, _≤_, _<_}
+use mathlib.Core.Logic.{⊎-elim}
+use Prim.Native.Nat.{ℕ, _≤_, _<_}
 use native.Mathlib.Omega.{arith}
 use Rattle.records.specs.Lists.{firsts, seconds, Every, none-left, and}
-use Rattle.records.specs.Store.{Store, term, kind, isTerm, isString, chain, parts, path, isEdge}
-use Rattle.records.specs.Audited.{Audited, Part, Falls, Pairs, Congruent}
+use Rattle.records.specs.Store.{Store, term, kind, isTerm, chain, parts, path}
+use Rattle.records.specs.Audited.{Audited, Pairs, Congruent}
 use Rattle.records.proofs.Lists.{every-map}
 use Rattle.records.proofs.Grown.{string-term}
 use Rattle.engine.specs.Explain.{highest, height}

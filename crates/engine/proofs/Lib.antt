@@ -5,4 +5,5 @@ pub mod Cites
 pub mod Run
 pub mod Added
 pub mod Walk
+pub mod Equal
 pub mod Sound

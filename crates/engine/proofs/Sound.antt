@@ -1,81 +1,123 @@
--- What explain gives explains: for all words under which the definitional merges and the reasons given hold, the two terms have equal words.
-use mathlib.Core.Path.{_≡_, refl, sym, ap, _∙_}
+-- explain over an audited store: it gives reasons of the store's edges in turn, stops only where the next finds the room full, and what
+-- it gives explains.
+use mathlib.Core.Path.{_≡_, refl, sym, ap, subst, _∙_}
 use mathlib.Core.Bool.{true}
-use mathlib.Core.List.{List, List·Memᴰ}
-use mathlib.Core.Logic.{_⊎_, inl, inr, ⊎-elim}
-use Prim.Native.Nat.{ℕ, zero, suc, min, max, _≤_, _<_}
-use native.Mathlib.Decide.{decLe}
+use mathlib.Core.List.{List, [], _∷_, _++_, List·Memᴰ·not-nil}
+use mathlib.Core.Logic.{⊎-elim}
+use Prim.Native.Nat.{ℕ, _+_, _≤_, _<_}
 use native.Mathlib.Omega.{arith}
-use Rattle.records.specs.Lists.{joined, firsts, seconds, Every, none-left, and}
-use Rattle.records.specs.Store.{Store, term, isTerm, chain, parts, path, isEdge}
-use Rattle.records.specs.Make.{ordered}
-use Rattle.records.specs.Meaning.{Words, Reading, Joins, Holds}
-use Rattle.records.specs.Audited.{Audited, Pairs, Congruent}
-use Rattle.records.proofs.Lists.{every-map}
-use Rattle.engine.specs.Explain.{Seen}
-use Rattle.engine.proofs.Paths.{every-both, Together, path-edges, path-joins}
-use Rattle.engine.proofs.Fits.{Fit, fit-turned, pairs-fit}
-use Rattle.engine.proofs.Run.{Joined, Accounted, by-reason, by-pairs, by-definition, Settled}
+use native.Mathlib.Decide.{decLe}
+use lib.ListN.{length, drop, length-append}
+use lib.Seq.{drop-append-seam}
+use borrow.Author.Tests.{eqb-true}
+use Rattle.records.specs.Lists.{all, Every}
+use Rattle.records.specs.Store.{Store, Out, ok, stop, andThen, give, isString, sameClass}
+use Rattle.records.specs.Rules.{reasonRule}
+use Rattle.records.specs.Make.{withReasons}
+use Rattle.records.specs.Meaning.{Words, Reading, Holds}
+use Rattle.records.specs.Audited.{Audited}
+use Rattle.records.proofs.Lists.{every-map, every-all, all-append, both-true}
+use Rattle.records.proofs.Works.{stop-not}
+use Rattle.records.proofs.Grown.{Grown, string-term}
+use Rattle.records.proofs.Beside.{audited-beside, grown-beside}
+use Rattle.engine.specs.Explain.{Seen, walked, height, explain}
+use Rattle.engine.specs.Meaning.{Explains}
+use Rattle.engine.proofs.Paths.{Together}
+use Rattle.engine.proofs.Fits.{height-fit}
+use Rattle.engine.proofs.Cites.{cites, cites-ok, cites-full}
+use Rattle.engine.proofs.Added.{Added}
+use Rattle.engine.proofs.Run.{Cause, walk-run}
+use Rattle.engine.proofs.Equal.{words-equal}
 
--- pairs of equal words join to equal words
-pairs-joined : (w : Words) {l : List (ℕ × ℕ)} → Every (λ p. w (p .0) ≡ w (p .1)) l → joined w (firsts l) ≡ joined w (seconds l)
-unfolding joined firsts seconds
-pairs-joined w none-left = refl
-pairs-joined w (and e k) = let i = pairs-joined w k in cc
+-- string terms of one class are in one tree
+pub class-together : (s : Store) → Audited s → (a b : ℕ) → isString s a ≡ true → isString s b ≡ true → sameClass s a b ≡ true → Together s (a, b)
+class-together s d a b p q c =
+    let i = string-term s a p in
+    let j = string-term s b q in
+    record { left = i; right = j; tree = eqb-true _ _ (sym (d .classed .alike a b i j) ∙ c) }
 
-same-pair : (a b c d : ℕ) → min a b ≡ min c d → max a b ≡ max c d → ((a ≡ c) × (b ≡ d)) ⊎ ((a ≡ d) × (b ≡ c))
-same-pair a b c d p q = go (decLe a b) (decLe c d)
-  where
-    go : Dec (a ≤ b) → Dec (c ≤ d) → ((a ≡ c) × (b ≡ d)) ⊎ ((a ≡ d) × (b ≡ c))
-    go (yes h) (yes k) = inl (omega arith)
-    go (yes h) (no k) = inr (omega arith)
-    go (no h) (yes k) = inr (omega arith)
-    go (no h) (no k) = inl (omega arith)
+-- what explain gives: the same reasons, whatever reasons the store has already
+pub record Explained (s : Store) (a b : ℕ) : Type 0 where
+  pub cited : List (ℕ × ℕ)
+  pub is : (rs : List (ℕ × ℕ)) → explain a b (withReasons s rs) ≡ cites cited (withReasons s rs)
+  pub causes : Every (Cause s) cited
+  pub equal : (w : Words) → Reading s w → Holds s cited w → w a ≡ w b
 
--- where each marked pair is settled, and the reasons hold
-module _ (s : Store) (d : Audited s) (l : List (ℕ × ℕ)) (seen : Seen) (settled : (q : ℕ × ℕ) → List·Memᴰ q seen → Settled s l seen q)
-    (w : Words) (reading : Reading s w) (holds : Holds s l w) where
-  -- a joined pair has equal words where the stamps of its path are below m
-  abbrev Claim : ℕ → Type 0
-  Claim m = (p : ℕ × ℕ) → Fit s m p → Joined seen p → w (p .0) ≡ w (p .1)
+answer-none : (o : Out (Unit {0})) (seen : Seen) → andThen (λ (v : Seen). give tt) (andThen (λ (u : Unit {0}). give seen) o) ≡ o
+answer-none (ok s u) seen = refl
+answer-none (stop n) seen = refl
 
-  congruent : (t : ℕ) → Congruent s t → Every (λ p. w (p .0) ≡ w (p .1)) (chain s (term s t .labelValue)) → Joins s w t
-  congruent t c k = reading .concats t (c .child) ∙ ⊎-elim one other (c .pairs) ∙ sym (reading .concats _ (c .parent))
+pub explained : (s : Store) → Audited s → (a b : ℕ) → Together s (a, b) → Explained s a b
+unfolding explain walked
+explained s d a b t =
+    let f = height-fit (height s (a, b)) t (omega arith) in
+    let x = walk-run s d (height s (a, b)) (a, b) f [] in
+    record {
+      cited = x .cited;
+      is = λ rs. ap (andThen (λ (v : Seen). give tt)) (x .is rs) ∙ answer-none (cites (x .cited) (withReasons s rs)) (x .after);
+      causes = x .causes;
+      equal = λ w r h.
+          words-equal s d (x .cited) (x .after) (λ q m. ⊎-elim (λ n. absurd (List·Memᴰ·not-nil n)) (λ k. k) (x .fresh q m)) w r h (height s (a, b)) (a, b) f (x .ends);
+    }
+
+module _ {s : Store} {a b : ℕ} (x : Explained s a b) where
+  -- it ends well exactly where all that it gives has room
+  pub explain-room : length (s .reasons) + length (x .cited) ≤ s .room .reasons → explain a b s ≡ ok (withReasons s (s .reasons ++ x .cited)) tt
+  explain-room h = x .is (s .reasons) ∙ cites-ok s (x .cited) (s .reasons) h
+
+  pub explain-full : length (s .reasons) ≤ s .room .reasons → s .room .reasons < length (s .reasons) + length (x .cited) → explain a b s ≡ stop 7
+  explain-full h k = x .is (s .reasons) ∙ cites-full s (x .cited) (s .reasons) h k
+
+-- an explanation given
+pub record Gave (s s′ : Store) (a b : ℕ) : Type 0 where
+  pub added : Added s s′
+  pub causes : Every (Cause s) (added .more)
+  pub audited : Audited s′
+  pub grown : Grown s s′
+  pub equal : (w : Words) → Reading s w → Holds s (added .more) w → w a ≡ w b
+
+-- string terms of one class in an audited store
+module _ (s : Store) (d : Audited s) (a b : ℕ) (p : isString s a ≡ true) (q : isString s b ≡ true) (c : sameClass s a b ≡ true) where
+  abbrev here : Explained s a b
+  here = explained s d a b (class-together s d a b p q c)
+
+  gave : (x : Explained s a b) (s′ : Store) → length (s .reasons) + length (x .cited) ≤ s .room .reasons → s′ ≡ withReasons s (s .reasons ++ x .cited) → Gave s s′ a b
+  gave x s′ h e =
+      let l : List (ℕ × ℕ) = s .reasons ++ x .cited in
+      let n = length-append (s .reasons) (x .cited) in
+      let good : all reasonRule l ≡ true =
+      all-append reasonRule (s .reasons) (x .cited) ∙ both-true _ _ (d .recorded .reasons) (every-all (every-map (λ r k. k .good) (x .causes))) in
+      record {
+        added = record { more = x .cited; is = e };
+        causes = x .causes;
+        audited = subst Audited (sym e) (audited-beside s l (s .keys) (s .names) d good (d .recorded .keys) (omega arith) (d .roomy .keys));
+        grown = subst (Grown s) (sym e) (grown-beside s l (s .keys) (s .names));
+        equal = x .equal;
+      }
+
+  pub explain-gives : (s′ : Store) (u : Unit {0}) → explain a b s ≡ ok s′ u → Gave s s′ a b
+  explain-gives s′ u e = go here (decLe (length (s .reasons) + length (here .cited)) (s .room .reasons))
     where
-      one : Pairs s (chain s (term s t .labelValue)) t (term s t .forestParent) → joined w (parts s t) ≡ joined w (parts s (term s t .forestParent))
-      one p = ap (joined w) (sym (p .one)) ∙ pairs-joined w k ∙ ap (joined w) (p .other)
+      go : (x : Explained s a b) → Dec (length (s .reasons) + length (x .cited) ≤ s .room .reasons) → Gave s s′ a b
+      go x (yes h) = let k = explain-room x h in gave x s′ h (cc)
+      go x (no h) = let r = d .roomy .reasons in let k = explain-full x r (omega arith) in stop-not (sym k ∙ e)
 
-      other : Pairs s (chain s (term s t .labelValue)) (term s t .forestParent) t → joined w (parts s t) ≡ joined w (parts s (term s t .forestParent))
-      other p = ap (joined w) (sym (p .other)) ∙ sym (pairs-joined w k) ∙ ap (joined w) (p .one)
-
-  edge-equal : (m : ℕ) → ((j : ℕ) → j < m → Claim j) → (t : ℕ) → isEdge s t ≡ true → term s t .stamp < m → Accounted s l seen t → Joins s w t
-  edge-equal m ih t e b (by-reason k) = holds .reasons t e k
-  edge-equal m ih t e b (by-pairs k j) =
-      let c = d .congruences t e k in
-      congruent t c (every-map (λ p q. ih (term s t .stamp) b p (q .0) (q .1)) (every-both (pairs-fit s d t c) j))
-  edge-equal m ih t e b (by-definition k) = holds .merges t e k
-
-  path-equal : (m : ℕ) → ((j : ℕ) → j < m → Claim j) → (p : ℕ × ℕ) → Fit s m p → Every (Accounted s l seen) (path s (p .0) (p .1)) → w (p .0) ≡ w (p .1)
-  path-equal m ih p f k =
-      path-joins s d w p (f .together)
-      (every-map (λ t q. edge-equal m ih t (q .0 .0 .1) (q .0 .1) (q .1)) (every-both (every-both (path-edges s d p (f .together)) (f .stamps)) k))
-
-  claim : (m : ℕ) → ((j : ℕ) → j < m → Claim j) → Claim m
-  claim m ih p f (inl e) = ap w e
-  claim m ih p f (inr k) = go (settled _ k)
+  -- it stops only with 7
+  pub explain-stops : (n : ℕ) → explain a b s ≡ stop n → n ≡ 7
+  explain-stops n e = go here (decLe (length (s .reasons) + length (here .cited)) (s .room .reasons))
     where
-      go : Settled s l seen (ordered (p .0) (p .1)) → w (p .0) ≡ w (p .1)
-      go x = ⊎-elim one other (same-pair (p .0) (p .1) (x .one) (x .other) (ap (λ (q : ℕ × ℕ). q .0) (x .is)) (ap (λ (q : ℕ × ℕ). q .1) (x .is)))
-        where
-          one : (p .0 ≡ x .one) × (p .1 ≡ x .other) → w (p .0) ≡ w (p .1)
-          one e = path-equal m ih p f (rw (e .0, e .1) (x .edges))
+      go : (x : Explained s a b) → Dec (length (s .reasons) + length (x .cited) ≤ s .room .reasons) → n ≡ 7
+      go x (yes h) = stop-not (sym e ∙ explain-room x h)
+      go x (no h) = let r = d .roomy .reasons in let k = explain-full x r (omega arith) in cc
 
-          other : (p .0 ≡ x .other) × (p .1 ≡ x .one) → w (p .0) ≡ w (p .1)
-          other e = sym (path-equal m ih (p .1, p .0) (fit-turned d f) (rw (e .0, e .1) (x .edges)))
+  pub explain-sound : (s′ : Store) (u : Unit {0}) → explain a b s ≡ ok s′ u → Explains s s′ a b
+  explain-sound s′ u e w r h = go (explain-gives s′ u e)
+    where
+      go : Gave s s′ a b → w a ≡ w b
+      go g =
+          let k : drop (length (s .reasons)) (s′ .reasons) ≡ g .added .more =
+          ap (λ (y : Store). drop (length (s .reasons)) (y .reasons)) (g .added .is) ∙ drop-append-seam (s .reasons) (g .added .more) in
+          g .equal w r (rw k at h)
 
-  lower : (m j : ℕ) → j < m → Claim j
-  lower zero j h = absurd (omega arith)
-  lower (suc m) j h = claim j (λ i lt. lower m i (omega arith))
-
-  pub words-equal : (m : ℕ) → Claim m
-  words-equal m = claim m (lower m)
+  pub explain-kept : (s′ : Store) (u : Unit {0}) → explain a b s ≡ ok s′ u → Audited s′
+  explain-kept s′ u e = explain-gives s′ u e .audited

@@ -1,21 +1,20 @@
 -- The equation of walk without its height: a height beyond the pair's changes nothing.
 use mathlib.Core.Path.{_≡_, refl, sym, ap, _∙_}
 use mathlib.Core.Bool.{Bool, true, false, _||_}
-use mathlib.Core.List.{List, [], _∷_, _++_, append-nil, append-assoc}
+use mathlib.Core.List.{List, _∷_, _++_}
 use Prim.Native.Nat.{ℕ, zero, suc, _≤_, _<_}
 use native.Mathlib.Omega.{arith}
 use lib.Dec.{eqb}
 use borrow.Author.Tests.{eq-eqb}
 use Rattle.records.specs.Lists.{if_then_else_, Every, none-left, and}
-use Rattle.records.specs.Store.{Store, Out, ok, Work, andThen, give, term, isTerm, chain, path, isEdge}
+use Rattle.records.specs.Store.{Store, Work, andThen, give, term, isTerm, path, isEdge}
 use Rattle.records.specs.Make.{withReasons, ordered}
 use Rattle.records.specs.Audited.{Audited, Label, asserted, interface, congruence, definitional}
-use Rattle.records.proofs.Lists.{every-map}
 use Rattle.engine.specs.Explain.{Seen, wasSeen, each, edge, walk, walked, height}
 use Rattle.engine.proofs.Paths.{every-both, Together, path-edges}
 use Rattle.engine.proofs.Fits.{Fit, fit-zero, fit-more, fit-height, height-fit, highest-high, pairs-fit}
 use Rattle.engine.proofs.Cites.{citing-same}
-use Rattle.engine.proofs.Added.{Added, added-none}
+use Rattle.engine.proofs.Added.{Added}
 use Rattle.engine.proofs.Run.{Run, Joined, Accounted, edge-run, walk-run}
 
 module _ (s : Store) where

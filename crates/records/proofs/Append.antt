@@ -1,58 +1,43 @@
 -- One term appended that is its own class, with cells and characters at the end of theirs: what the old terms read is what they read
 -- before, and the store stays audited.
 use mathlib.Core.Path.{_≡_, refl, sym, ap, subst, _∙_}
-use mathlib.Core.Bool.{Bool, true, false, not, _&&_, _||_}
+use mathlib.Core.Bool.{Bool, true, false, not, _&&_}
 use mathlib.Core.List.{List, [], _∷_, _++_}
 use mathlib.Core.Logic.{_⊎_, inl, inr, ⊎-elim}
 use Prim.Native.Nat.{ℕ, zero, suc, _+_, _≤_, _<_}
 use native.Mathlib.Omega.{arith}
 use native.Mathlib.Decide.{decLe}
-use lib.ListN.{length, getD, take, drop, length-append, length-drop, List·getD-append}
-use lib.Seq.{getD-append-seam, take-append-le, drop-append-le}
-use lib.Dec.{eqb, ltb, leb}
-use borrow.Author.Tests.{eqb-true, eqb-false, eq-eqb, ne-eqb}
-use Rattle.records.specs.Lists.{if_then_else_, all, firstOf, isIn, firsts, seconds, upTo, Every, none-left, and}
-use Rattle.records.specs.Store.{Term, noTerm, Cell, Store, Room, termIn, term, count, kind, within, isTerm, isString, isLength, textIn, text, chainIn, chain, parts, climb, classUp, forestUp, root, top, sameClass, sameTree, aboveBy, aboveIn, orNone, nearestIn, pathIn, path, isEdge}
+use lib.ListN.{length, length-append, List·getD-append}
+use lib.Seq.{getD-append-seam}
+use lib.Dec.{eqb, ltb}
+use borrow.Author.Tests.{eqb-true, eq-eqb, ne-eqb}
+use Rattle.records.specs.Lists.{all, firstOf, isIn, firsts, seconds, upTo, Every, none-left, and}
+use Rattle.records.specs.Store.{Term, noTerm, Cell, Store, termIn, term, count, kind, within, isTerm, isString, isLength, textIn, text, chainIn, chain, parts, climb, classUp, forestUp, root, top, sameClass, sameTree, aboveBy, aboveIn, orNone, nearestIn, pathIn, path, isEdge}
 use Rattle.records.specs.Make.{own}
 use Rattle.records.specs.Rules.{isChar, isNumber, keyRule, isEquatable}
 use Rattle.records.specs.Audited
-use Rattle.records.specs.Audited.{Part, Ascends, Label, Unlabelled, Falls, Pairs, Congruent, Recorded, Classed, Congruences, Roomy, Audited}
-use Rattle.records.proofs.Lists.{both-left, both-right, both-true, either, or-left, or-right, within-low, within-high, within-is, within-past, decide, clash, every-map, all-every, every-all}
+use Rattle.records.specs.Audited.{Part, Ascends, Closed, Label, Unlabelled, Falls, Pairs, Congruent, Recorded, Classed, Congruences, Audited}
+use Rattle.records.proofs.Lists.{both-left, both-right, both-true, either, or-left, or-right, within-low, within-high, within-is, decide, clash, every-map, all-every, every-all}
+use Rattle.records.proofs.Climbs.{climb-last, classed-roots, classed-tops, root-self, top-self, root-term, top-term}
 use Rattle.records.proofs.Chains
 use Rattle.records.proofs.Chains.{chain-extends, chain-none}
 use Rattle.records.proofs.Readings.{parts-strings}
-use Rattle.records.proofs.Grown.{term-past, used, present, kind-term, string-term, string-here}
+use Rattle.records.proofs.Grown.{term-past, used, present, string-term, string-here}
 
 -- WALKS
 
-climb-last : (f : ℕ → ℕ) (n t : ℕ) → climb f (suc n) t ≡ f (climb f n t)
-unfolding climb
-climb-last f zero t = refl
-climb-last f (suc n) t = climb-last f n (f t)
-
-climb-fixed : (f : ℕ → ℕ) (n t : ℕ) → f t ≡ t → climb f n t ≡ t
-unfolding climb
-climb-fixed f zero t e = refl
-climb-fixed f (suc n) t e = rw e (climb-fixed f n t e)
-
 -- two ways up that agree where one of them stays
-module _ (n : ℕ) (f g : ℕ → ℕ) (stays : (t : ℕ) → within n t ≡ true → within n (g t) ≡ true) (agree : (t : ℕ) → within n t ≡ true → f t ≡ g t) where
-  climb-in : (m t : ℕ) → within n t ≡ true → within n (climb g m t) ≡ true
-  unfolding climb
-  climb-in zero t h = h
-  climb-in (suc m) t h = climb-in m (g t) (stays t h)
-
+module _ (n : ℕ) (f g : ℕ → ℕ) (closed : Closed g n) (agree : (t : ℕ) → within n t ≡ true → f t ≡ g t) where
   climb-same : (m t : ℕ) → within n t ≡ true → climb f m t ≡ climb g m t
   unfolding climb
   climb-same zero t h = refl
-  climb-same (suc m) t h = rw (agree t h) (climb-same m (g t) (stays t h))
+  climb-same (suc m) t h = rw (agree t h) (climb-same m (g t) (closed .stays t h))
 
   -- one step more does not matter where the walk has ended
   climb-more : (m t : ℕ) → within n t ≡ true → g (climb g m t) ≡ climb g m t → climb f (suc m) t ≡ climb g m t
   climb-more m t h e = climb-same (suc m) t h ∙ climb-last g m t ∙ e
 
-module _ (ts ts′ : List Term) (n : ℕ) (stays : (t : ℕ) → within n t ≡ true → within n (forestUp ts t) ≡ true)
-    (agree : (t : ℕ) → within n t ≡ true → forestUp ts′ t ≡ forestUp ts t) where
+module _ (ts ts′ : List Term) (n : ℕ) (closed : Closed (forestUp ts) n) (agree : (t : ℕ) → within n t ≡ true → forestUp ts′ t ≡ forestUp ts t) where
   -- enough steps give the same, however many there are
   above-same : (m i j t : ℕ) → within n t ≡ true → forestUp ts (climb (forestUp ts) m t) ≡ climb (forestUp ts) m t → m ≤ i → m ≤ j → aboveBy (suc i) ts′ t ≡ aboveBy (suc j) ts t
   unfolding aboveBy climb
@@ -60,7 +45,7 @@ module _ (ts ts′ : List Term) (n : ℕ) (stays : (t : ℕ) → within n t ≡ 
   above-same (suc m) zero j t h e p q = absurd (omega arith)
   above-same (suc m) (suc i) zero t h e p q = absurd (omega arith)
   above-same (suc m) (suc i) (suc j) t h e p q =
-      ap (λ (l : List ℕ). t ∷ l) (step (forestUp ts′ t) (forestUp ts t) (agree t h) (above-same m i j (forestUp ts t) (stays t h) e (omega arith) (omega arith)))
+      ap (λ (l : List ℕ). t ∷ l) (step (forestUp ts′ t) (forestUp ts t) (agree t h) (above-same m i j (forestUp ts t) (closed .stays t h) e (omega arith) (omega arith)))
     where
       go : (u : ℕ) (b : Bool) → aboveBy (suc i) ts′ u ≡ aboveBy (suc j) ts u → _≡_ {A = List ℕ} (elim b [ true ↦ [] | false ↦ aboveBy (suc i) ts′ u ]) (elim b [ true ↦ [] | false ↦ aboveBy (suc j) ts u ])
       go u true l = refl
@@ -79,7 +64,7 @@ chain-here cs c h =
     decide (within (length cs) c) (within-high (length cs) c) (λ e. let z = ap length (chain-none cs c e) in absurd (omega arith))
 
 -- the arguments of an equation are terms
-equatable-here : (s : Store) (t u : ℕ) → isEquatable s t u ≡ true → (t ≤ count s) × (u ≤ count s)
+pub equatable-here : (s : Store) (t u : ℕ) → isEquatable s t u ≡ true → (t ≤ count s) × (u ≤ count s)
 unfolding isEquatable
 equatable-here s t u e =
     ⊎-elim (λ h. (string-here s t (both-left _ _ h), string-here s u (both-right (isString s t) _ h)))
@@ -121,22 +106,34 @@ pub record More (s : Store) (ds : List Cell) (hs : List ℕ) : Type 0 where
   pub characters : all isChar hs ≡ true
 
 -- what the rules ask of the new term, by its kind, and the room for it
+pub record NewVariable (s : Store) (hs : List ℕ) (a b : ℕ) : Type 0 where
+  pub fits : a + b ≤ length hs
+  pub long : 1 ≤ b
+  pub unique : (t : ℕ) → kind s t ≡ 2 → text s t ≡ textIn hs (own (suc (count s)) 2 a b) → ⊥
+
+pub record NewConcat (s : Store) (ds : List Cell) (a b : ℕ) : Type 0 where
+  pub two : 2 ≤ length (chainIn ds a)
+  pub strings : Every (λ p. isString s (p .0) ≡ true) (chainIn ds a)
+  pub plain : Every (λ p. p .1 ≡ 0) (chainIn ds a)
+  pub second : b ≡ 0
+
+pub record NewLength (s : Store) (a b : ℕ) : Type 0 where
+  pub string : isString s a ≡ true
+  pub second : b ≡ 0
+
+pub record NewRoom (s : Store) (ds : List Cell) (hs : List ℕ) : Type 0 where
+  pub terms : count s < s .room .terms
+  pub cells : length ds ≤ s .room .cells
+  pub chars : length hs ≤ s .room .chars
+
 pub record New (s : Store) (ds : List Cell) (hs : List ℕ) (k a b : ℕ) : Type 0 where
   pub kinds : within 5 k ≡ true
   pub constant : k ≡ 1 → a + b ≤ length hs
-  pub variable : k ≡ 2 → a + b ≤ length hs
-  pub long : k ≡ 2 → 1 ≤ b
-  pub unique : k ≡ 2 → (t : ℕ) → kind s t ≡ 2 → text s t ≡ textIn hs (own (suc (count s)) k a b) → ⊥
-  pub two : k ≡ 3 → 2 ≤ length (chainIn ds a)
-  pub strings : k ≡ 3 → Every (λ p. isString s (p .0) ≡ true) (chainIn ds a)
-  pub plain : k ≡ 3 → Every (λ p. p .1 ≡ 0) (chainIn ds a)
-  pub concatSecond : k ≡ 3 → b ≡ 0
-  pub string : k ≡ 4 → isString s a ≡ true
-  pub lengthSecond : k ≡ 4 → b ≡ 0
-  pub sides : k ≡ 5 → isEquatable s a b ≡ true
-  pub termRoom : count s < s .room .terms
-  pub cellRoom : length ds ≤ s .room .cells
-  pub charRoom : length hs ≤ s .room .chars
+  pub variable : k ≡ 2 → NewVariable s hs a b
+  pub concat : k ≡ 3 → NewConcat s ds a b
+  pub length-of : k ≡ 4 → NewLength s a b
+  pub equation : k ≡ 5 → isEquatable s a b ≡ true
+  pub room : NewRoom s ds hs
 
 module _ (s : Store) (ds : List Cell) (hs : List ℕ) (k a b : ℕ) where
   abbrev n : ℕ
@@ -227,28 +224,22 @@ module _ (s : Store) (ds : List Cell) (hs : List ℕ) (k a b : ℕ) where
     pub old-root : (t : ℕ) → isTerm s t ≡ true → root s′ t ≡ root s t
     old-root t e =
         ap (λ (m : ℕ). climb (classUp (s′ .terms)) m t) longer
-        ∙ climb-more (count s) (classUp (s′ .terms)) (classUp (s .terms)) (classed .classParents) class-agree (count s) t e (classed .classEnds t e)
+        ∙ climb-more (count s) (classUp (s′ .terms)) (classUp (s .terms)) (classed-roots s classed) class-agree (count s) t e (classed .classEnds t e)
 
     pub old-top : (t : ℕ) → isTerm s t ≡ true → top s′ t ≡ top s t
     old-top t e =
         ap (λ (m : ℕ). climb (forestUp (s′ .terms)) m t) longer
-        ∙ climb-more (count s) (forestUp (s′ .terms)) (forestUp (s .terms)) (classed .forestParents) forest-agree (count s) t e (classed .forestEnds t e)
+        ∙ climb-more (count s) (forestUp (s′ .terms)) (forestUp (s .terms)) (classed-tops s classed) forest-agree (count s) t e (classed .forestEnds t e)
 
     pub new-root : root s′ n ≡ n
-    new-root = climb-fixed (classUp (s′ .terms)) (count s′) n (ap (λ (x : Term). x .classParent) new-term)
+    new-root = root-self (s′ .terms) n (ap (λ (x : Term). x .classParent) new-term)
 
     pub new-top : top s′ n ≡ n
-    new-top = climb-fixed (forestUp (s′ .terms)) (count s′) n (ap (λ (x : Term). x .forestParent) new-term)
-
-    root-in : (t : ℕ) → isTerm s t ≡ true → isTerm s (root s t) ≡ true
-    root-in t e = climb-in (count s) (classUp (s′ .terms)) (classUp (s .terms)) (classed .classParents) class-agree (count s) t e
-
-    top-in : (t : ℕ) → isTerm s t ≡ true → isTerm s (top s t) ≡ true
-    top-in t e = climb-in (count s) (forestUp (s′ .terms)) (forestUp (s .terms)) (classed .forestParents) forest-agree (count s) t e
+    new-top = top-self (s′ .terms) n (ap (λ (x : Term). x .forestParent) new-term)
 
     pub old-above : (t : ℕ) → isTerm s t ≡ true → aboveIn (s′ .terms) t ≡ aboveIn (s .terms) t
     old-above t e =
-        above-same (s .terms) (s′ .terms) (count s) (classed .forestParents) forest-agree (count s) (count s′) (count s) t e (classed .forestEnds t e) (let l = longer in omega arith) (omega arith)
+        above-same (s .terms) (s′ .terms) (count s) (classed-tops s classed) forest-agree (count s) (count s′) (count s) t e (classed .forestEnds t e) (let l = longer in omega arith) (omega arith)
 
     pub old-path : (t u : ℕ) → isTerm s t ≡ true → isTerm s u ≡ true → path s′ t u ≡ path s t u
     unfolding pathIn nearestIn
@@ -263,13 +254,13 @@ module _ (s : Store) (ds : List Cell) (hs : List ℕ) (k a b : ℕ) where
     -- the new term is alone
     root-apart : (t : ℕ) → isTerm s t ≡ true → root s′ t ≡ root s′ n → ⊥
     root-apart t e q =
-        let i = within-high (count s) (root s t) (root-in t e) in
+        let i = within-high (count s) (root s t) (root-term s classed t e) in
         let j : root s t ≡ n = sym (old-root t e) ∙ q ∙ new-root in
         omega arith
 
     top-apart : (t : ℕ) → isTerm s t ≡ true → top s′ t ≡ top s′ n → ⊥
     top-apart t e q =
-        let i = within-high (count s) (top s t) (top-in t e) in
+        let i = within-high (count s) (top s t) (top-term s classed t e) in
         let j : top s t ≡ n = sym (old-top t e) ∙ q ∙ new-top in
         omega arith
 
@@ -295,21 +286,21 @@ module _ (s : Store) (ds : List Cell) (hs : List ℕ) (k a b : ℕ) where
       (old-string (p .1) (both-right (ltb (p .0) (p .1) && isString s (p .0)) _ e))
 
   module _ (recorded : Recorded s) (more : More s ds hs) (new : New s ds hs k a b) where
-    new-text : text s′ n ≡ textIn hs (own n k a b)
-    new-text = ap (textIn hs) new-term
+    new-text : k ≡ 2 → text s′ n ≡ textIn hs (own n 2 a b)
+    new-text i = ap (textIn hs) new-term ∙ ap (λ (j : ℕ). textIn hs (own n j a b)) i
 
     kept-unique : (t u : ℕ) → kind s′ t ≡ 2 → kind s′ u ≡ 2 → text s′ t ≡ text s′ u → t ≡ u
     kept-unique t u e f =
         each-kind {P = λ t. (u : ℕ) → kind s′ u ≡ 2 → text s′ t ≡ text s′ u → t ≡ u} 1
         (λ t e. each-kind {P = λ u. text s′ t ≡ text s′ u → t ≡ u} 1
         (λ u f q. recorded .uniqueNames t u e f (sym (old-variable recorded more t e) ∙ q ∙ old-variable recorded more u f))
-        (λ i q. absurd (new .unique i t e (sym (old-variable recorded more t e) ∙ q ∙ new-text))))
+        (λ i q. absurd (new .variable i .unique t e (sym (old-variable recorded more t e) ∙ q ∙ new-text i))))
         (λ i. each-kind {P = λ u. text s′ n ≡ text s′ u → n ≡ u} 1
-        (λ u f q. absurd (new .unique i u f (sym (old-variable recorded more u f) ∙ sym q ∙ new-text))) (λ j q. refl)) t e u f
+        (λ u f q. absurd (new .variable i .unique u f (sym (old-variable recorded more u f) ∙ sym q ∙ new-text i))) (λ j q. refl)) t e u f
 
     new-parts : k ≡ 3 → Every (Part s′ n) (chainIn ds a)
     new-parts i =
-        every-both (λ p q r. record { string = old-string (p .0) q; lower = (let h = string-here s (p .0) q in omega arith); plain = r }) (new .strings i) (new .plain i)
+        every-both (λ p q r. record { string = old-string (p .0) q; lower = (let h = string-here s (p .0) q in omega arith); plain = r }) (new .concat i .strings) (new .concat i .plain)
 
     pub kept-recorded : Recorded s′
     kept-recorded = record {
@@ -317,25 +308,25 @@ module _ (s : Store) (ds : List Cell) (hs : List ℕ) (k a b : ℕ) where
       constants = each-kind 0 (λ t e. at-old (λ x. x .first + x .second ≤ length hs) t (present s t 0 e) (let p = recorded .constants t e in let c = more .chars in omega arith))
           (λ i. at-new (λ x. x .first + x .second ≤ length hs) (new .constant i));
       variables = each-kind 1 (λ t e. at-old (λ x. x .first + x .second ≤ length hs) t (present s t 1 e) (let p = recorded .variables t e in let c = more .chars in omega arith))
-          (λ i. at-new (λ x. x .first + x .second ≤ length hs) (new .variable i));
-      longNames = each-kind 1 (λ t e. at-old (λ x. 1 ≤ x .second) t (present s t 1 e) (recorded .longNames t e)) (λ i. at-new (λ x. 1 ≤ x .second) (new .long i));
+          (λ i. at-new (λ x. x .first + x .second ≤ length hs) (new .variable i .fits));
+      longNames = each-kind 1 (λ t e. at-old (λ x. 1 ≤ x .second) t (present s t 1 e) (recorded .longNames t e)) (λ i. at-new (λ x. 1 ≤ x .second) (new .variable i .long));
       uniqueNames = kept-unique;
       twoParts = each-kind 2 (λ t e. subst (λ (l : List (ℕ × ℕ)). 2 ≤ length l) (sym (concat-chain recorded more t e)) (recorded .twoParts t e))
-          (λ i. at-new (λ x. 2 ≤ length (chainIn ds (x .first))) (new .two i));
+          (λ i. at-new (λ x. 2 ≤ length (chainIn ds (x .first))) (new .concat i .two));
       partsGood = each-kind 2 (λ t e. subst (λ (l : List (ℕ × ℕ)). Every (Part s′ t) l) (sym (concat-chain recorded more t e)) (every-map (part-kept t) (recorded .partsGood t e)))
           (λ i. at-new (λ x. Every (Part s′ n) (chainIn ds (x .first))) (new-parts i));
-      concatSecond = each-kind 2 (λ t e. at-old (λ x. x .second ≡ 0) t (present s t 2 e) (recorded .concatSecond t e)) (λ i. at-new (λ x. x .second ≡ 0) (new .concatSecond i));
+      concatSecond = each-kind 2 (λ t e. at-old (λ x. x .second ≡ 0) t (present s t 2 e) (recorded .concatSecond t e)) (λ i. at-new (λ x. x .second ≡ 0) (new .concat i .second));
       lengthFirst = each-kind 3 (λ t e. at-old (λ x. isString s′ (x .first) ≡ true) t (present s t 3 e) (old-string _ (recorded .lengthFirst t e)))
-          (λ i. at-new (λ x. isString s′ (x .first) ≡ true) (old-string a (new .string i)));
+          (λ i. at-new (λ x. isString s′ (x .first) ≡ true) (old-string a (new .length-of i .string)));
       lengthLower = each-kind 3 (λ t e. at-old (λ x. x .first < t) t (present s t 3 e) (recorded .lengthLower t e))
-          (λ i. at-new (λ x. x .first < n) (let h = string-here s a (new .string i) in omega arith));
-      lengthSecond = each-kind 3 (λ t e. at-old (λ x. x .second ≡ 0) t (present s t 3 e) (recorded .lengthSecond t e)) (λ i. at-new (λ x. x .second ≡ 0) (new .lengthSecond i));
+          (λ i. at-new (λ x. x .first < n) (let h = string-here s a (new .length-of i .string) in omega arith));
+      lengthSecond = each-kind 3 (λ t e. at-old (λ x. x .second ≡ 0) t (present s t 3 e) (recorded .lengthSecond t e)) (λ i. at-new (λ x. x .second ≡ 0) (new .length-of i .second));
       equationSides = each-kind 4 (λ t e. at-old (λ x. isEquatable s′ (x .first) (x .second) ≡ true) t (present s t 4 e) (old-equatable _ _ (recorded .equationSides t e)))
-          (λ i. at-new (λ x. isEquatable s′ (x .first) (x .second) ≡ true) (old-equatable a b (new .sides i)));
+          (λ i. at-new (λ x. isEquatable s′ (x .first) (x .second) ≡ true) (old-equatable a b (new .equation i)));
       equationFirst = each-kind 4 (λ t e. at-old (λ x. x .first < t) t (present s t 4 e) (recorded .equationFirst t e))
-          (λ i. at-new (λ x. x .first < n) (let h = equatable-here s a b (new .sides i) .0 in omega arith));
+          (λ i. at-new (λ x. x .first < n) (let h = equatable-here s a b (new .equation i) .0 in omega arith));
       equationSecond = each-kind 4 (λ t e. at-old (λ x. x .second < t) t (present s t 4 e) (recorded .equationSecond t e))
-          (λ i. at-new (λ x. x .second < n) (let h = equatable-here s a b (new .sides i) .1 in omega arith));
+          (λ i. at-new (λ x. x .second < n) (let h = equatable-here s a b (new .equation i) .1 in omega arith));
       nexts = more .ascends;
       characters = more .characters;
       reasons = recorded .reasons;
@@ -377,9 +368,9 @@ module _ (s : Store) (ds : List Cell) (hs : List ℕ) (k a b : ℕ) where
           (at-new (λ x. isTerm s′ (x .classParent) ≡ true) new-is-term);
       forestParents = each-term (λ t e. at-old (λ x. isTerm s′ (x .forestParent) ≡ true) t (within-high _ t e) (old-is-term _ (classed .forestParents t e)))
           (at-new (λ x. isTerm s′ (x .forestParent) ≡ true) new-is-term);
-      classEnds = each-term (λ t e. subst (λ (r : ℕ). term s′ r .classParent ≡ r) (sym (old-root classed t e)) (class-agree classed _ (root-in classed t e) ∙ classed .classEnds t e))
+      classEnds = each-term (λ t e. subst (λ (r : ℕ). term s′ r .classParent ≡ r) (sym (old-root classed t e)) (class-agree classed _ (root-term s classed t e) ∙ classed .classEnds t e))
           (subst (λ (r : ℕ). term s′ r .classParent ≡ r) (sym (new-root classed)) (ap (λ (x : Term). x .classParent) new-term));
-      forestEnds = each-term (λ t e. subst (λ (r : ℕ). term s′ r .forestParent ≡ r) (sym (old-top classed t e)) (forest-agree classed _ (top-in classed t e) ∙ classed .forestEnds t e))
+      forestEnds = each-term (λ t e. subst (λ (r : ℕ). term s′ r .forestParent ≡ r) (sym (old-top classed t e)) (forest-agree classed _ (top-term s classed t e) ∙ classed .forestEnds t e))
           (subst (λ (r : ℕ). term s′ r .forestParent ≡ r) (sym (new-top classed)) (ap (λ (x : Term). x .forestParent) new-term));
       alike = each-two {P = λ t u. sameClass s′ t u ≡ sameTree s′ t u} (λ t u e f. old-classes classed t u e f ∙ classed .alike t u e f ∙ sym (old-trees classed t u e f))
           (λ t e. ne-eqb _ _ (root-apart classed t e) ∙ sym (ne-eqb _ _ (top-apart classed t e)))
@@ -456,9 +447,9 @@ module _ (s : Store) (ds : List Cell) (hs : List ℕ) (k a b : ℕ) where
   pub kept-audited : Audited s → More s ds hs → New s ds hs k a b → Audited s′
   kept-audited audited more new = record {
     roomy = record {
-      terms = (let l = longer in let h = new .termRoom in omega arith);
-      cells = new .cellRoom;
-      chars = new .charRoom;
+      terms = (let l = longer in let h = new .room .terms in omega arith);
+      cells = new .room .cells;
+      chars = new .room .chars;
       reasons = audited .roomy .reasons;
       keys = audited .roomy .keys;
     };

@@ -1,20 +1,20 @@
 -- Reasons, keys and the name counter stand beside the terms: with others in their place a store is audited as it was, and has the same
 -- words.
-use mathlib.Core.Path.{_≡_, refl, sym, ap, _∙_}
-use mathlib.Core.Bool.{Bool, true, false}
-use mathlib.Core.List.{List, [], _∷_, _++_}
-use mathlib.Core.Logic.{_⊎_, inl, inr, ⊎-elim}
-use Prim.Native.Nat.{ℕ, zero, suc, _+_, _≤_, _<_}
+use mathlib.Core.Path.{_≡_, refl}
+use mathlib.Core.Bool.{true}
+use mathlib.Core.List.{List}
+use mathlib.Core.Logic.{inl, inr, ⊎-elim}
+use Prim.Native.Nat.{ℕ, _≤_}
 use native.Mathlib.Omega.{arith}
 use lib.ListN.{length}
-use Rattle.records.specs.Lists.{all, Every}
-use Rattle.records.specs.Store.{Store, term, count, chain}
+use Rattle.records.specs.Lists.{all}
+use Rattle.records.specs.Store.{Store, term}
 use Rattle.records.specs.Rules.{reasonRule, keyRule, isEquatable}
 use Rattle.records.specs.Meaning.{Words, Reading, Holds}
 use Rattle.records.specs.Audited
-use Rattle.records.specs.Audited.{Part, Label, Unlabelled, Falls, Pairs, Congruent, Recorded, Classed, Congruences, Roomy, Audited}
+use Rattle.records.specs.Audited.{Part, Label, Unlabelled, Falls, Pairs, Congruent, Recorded, Classed, Audited}
 use Rattle.records.proofs.Lists.{every-map}
-use Rattle.records.proofs.Grown.{Extends, Grown}
+use Rattle.records.proofs.Grown.{Grown}
 
 -- other reasons, keys and counter
 abbrev pub beside : Store → List (ℕ × ℕ) → List (ℕ × ℕ) → ℕ → Store
@@ -93,10 +93,10 @@ module _ (s : Store) (rs ks : List (ℕ × ℕ)) (m : ℕ) where
     congruences = λ t q e. congruent-beside t (a .congruences t q e);
   }
 
-  reading-beside : (w : Words) → Reading s w → Reading s′ w
+  pub reading-beside : (w : Words) → Reading s w → Reading s′ w
   reading-beside w r = record { characters = r .characters; constants = r .constants; concats = r .concats }
 
-  holds-beside : (w : Words) (l : List (ℕ × ℕ)) → Holds s l w → Holds s′ l w
+  pub holds-beside : (w : Words) (l : List (ℕ × ℕ)) → Holds s l w → Holds s′ l w
   holds-beside w l h = record { merges = h .merges; reasons = h .reasons }
 
   pub grown-beside : Grown s s′

@@ -3,27 +3,31 @@ use mathlib.Core.Path.{_≡_, refl, sym, ap, _∙_}
 use mathlib.Core.Bool.{Bool, true, false, not, _&&_, _||_}
 use mathlib.Core.List.{List, [], _∷_}
 use mathlib.Core.Logic.{_⊎_, inl, inr, ⊎-elim}
-use Prim.Native.Nat.{ℕ, zero, suc}
+use Prim.Native.Nat.{ℕ, zero, suc, _+_, _*_, _≤_, _<_}
+use native.Mathlib.Numerals.{add-one}
 use native.Mathlib.Omega.{arith}
+use lib.ListN.{length, getD}
 use lib.Dec.{eqb}
 use borrow.Author.Tests.{eqb-true, eqb-false, eq-eqb, ne-eqb}
-use Rattle.records.specs.Lists.{if_then_else_}
+use Rattle.records.specs.declared.State.{State}
+use Rattle.records.specs.Lists.{if_then_else_, allBelow}
 use Rattle.records.specs.Store.{Store, term, count, isTerm, isString, within, climb, classUp, forestUp, root, top, sameClass, sameTree}
-use Rattle.records.specs.Rules.{eachTerm, parentsRule, endsRule, alikeRule, aloneRule, labelRule, alikeAt, aloneAt, classTest, classesRule}
-use Rattle.records.specs.Audited.{Closed}
-use Rattle.records.proofs.Lists.{both-left, both-right, both-true, left-false, either, or-left, or-right, decide, clash, same-test}
-use Rattle.records.proofs.Climbs.{climb-up, climb-stays, climb-within, rule-at, rule-all, parents-roots, parents-tops}
+use Rattle.records.specs.Rules.{eachTerm, parentsRule, endsRule, alikeRule, aloneRule, isNumber, edgeLabel, labelRule, alikeAt, aloneAt, classTest, classesRule}
+use Rattle.records.specs.View.{Lent, lent, storeOf, termsView}
+use Rattle.records.specs.Audited.{Closed, Rooted}
+use Rattle.records.proofs.Lists.{both-left, both-right, both-true, left-false, right-false, right-falsum, or-stop, or-next, either, or-left, or-right, decide, clash, same-test, and-stop, and-next, failed, passed, below-stop, below-turn, below-done}
+use Rattle.records.proofs.Climbs.{climb-up, climb-stays, climb-within, rule-at, rule-all, parents-roots, parents-tops, view-count, view-term, view-class, view-forest}
 
 pub not-eqb : (x y : ℕ) → not (eqb x y) ≡ true → x ≡ y → ⊥
 not-eqb x y h e = clash h (ap not (eq-eqb x y e))
 
 module _ (s : Store) (roots : Closed (classUp (s .terms)) (count s)) (tops : Closed (forestUp (s .terms)) (count s))
     (ends : (t : ℕ) → isTerm s t ≡ true → endsRule s t ≡ true) where
-  class-end : (t : ℕ) → isTerm s t ≡ true → term s (root s t) .classParent ≡ root s t
+  pub class-end : (t : ℕ) → isTerm s t ≡ true → term s (root s t) .classParent ≡ root s t
   unfolding endsRule
   class-end t w = eqb-true _ _ (both-left _ _ (ends t w))
 
-  forest-end : (t : ℕ) → isTerm s t ≡ true → term s (top s t) .forestParent ≡ top s t
+  pub forest-end : (t : ℕ) → isTerm s t ≡ true → term s (top s t) .forestParent ≡ top s t
   unfolding endsRule
   forest-end t w = eqb-true _ _ (both-right (eqb (term s (root s t) .classParent) (root s t)) _ (ends t w))
 
@@ -41,7 +45,7 @@ module _ (s : Store) (roots : Closed (classUp (s .terms)) (count s)) (tops : Clo
 
   -- THE DIVISION
 
-  alike-fact : (t u : ℕ) → alikeRule s t u ≡ true → sameClass s t u ≡ sameTree s t u
+  pub alike-fact : (t u : ℕ) → alikeRule s t u ≡ true → sameClass s t u ≡ sameTree s t u
   unfolding alikeRule
   alike-fact t u h = go (sameClass s t u) (sameTree s t u) h
     where
@@ -82,7 +86,7 @@ module _ (s : Store) (roots : Closed (classUp (s .terms)) (count s)) (tops : Clo
 
   -- ALONE
 
-  alone-fact : (t u : ℕ) → aloneRule s t u ≡ true → (t ≡ u → ⊥) → root s t ≡ root s u → isString s t ≡ true
+  pub alone-fact : (t u : ℕ) → aloneRule s t u ≡ true → (t ≡ u → ⊥) → root s t ≡ root s u → isString s t ≡ true
   unfolding aloneRule
   alone-fact t u h d e = decide (isString s t) (λ k. k)
       (λ k. let f : aloneRule s t u ≡ false = rw (k, ne-eqb t u d, eq-eqb (root s t) (root s u) e) in clash h f)
@@ -179,3 +183,156 @@ module _ (s : Store) (h : eachTerm s (parentsRule s) ≡ true) where
 pub classes-not : (s : Store) → eachTerm s (parentsRule s) ≡ false → false ≡ classesRule s
 unfolding classesRule
 classes-not s h = rw h
+
+-- EACH WAY THROUGH THE CODE
+
+-- the store as a test that reads the terms alone sees it
+abbrev pub seen : List ℕ → State → Store
+seen l c = storeOf (lent l [] [] [] []) c
+
+pub seen-term : (l : List ℕ) (c : State) (t : ℕ) → isTerm (seen l c) t ≡ within (c .terms) t
+seen-term l c t = ap (λ n. within n t) (view-count l (c .terms))
+
+-- the loop over the terms
+module _ (l : List ℕ) (n : ℕ) (rule : ℕ → Bool) (i : ℕ) where
+  pub each-stop : (b : Bool) → b ≡ rule (i + 1) → not b ≡ true → i < n → false ≡ allBelow (λ j. rule (suc j)) (length (termsView l n))
+  each-stop b e h k = rw (view-count l n) (below-stop (λ j. rule (suc j)) n i b (e ∙ ap rule (add-one i)) h k)
+
+  pub each-turn : (b : Bool) → b ≡ rule (i + 1) → not b ≡ false → allBelow (λ j. rule (suc j)) i ≡ true → allBelow (λ j. rule (suc j)) (i + 1) ≡ true
+  each-turn b e h q = below-turn (λ j. rule (suc j)) i b (e ∙ ap rule (add-one i)) h q
+
+  pub each-done : i ≤ n → n ≤ i → allBelow (λ j. rule (suc j)) i ≡ true → true ≡ allBelow (λ j. rule (suc j)) (length (termsView l n))
+  each-done a b q = rw (view-count l n) (below-done (λ j. rule (suc j)) n i a b q)
+
+module _ (l : List ℕ) (c : State) (t : ℕ) (w : within (c .terms) t ≡ true) where
+  -- a parent that was read names a term where the number read does
+  class-term : (p : ℕ) → p ≡ getD l (8 * t + 3) 0 → isTerm (seen l c) (term (seen l c) t .classParent) ≡ within (c .terms) p
+  class-term p e = ap (isTerm (seen l c)) (sym (view-class l (c .terms) t p w e)) ∙ seen-term l c p
+
+  forest-term : (p : ℕ) → p ≡ getD l (8 * t + 4) 0 → isTerm (seen l c) (term (seen l c) t .forestParent) ≡ within (c .terms) p
+  forest-term p e = ap (isTerm (seen l c)) (sym (view-forest l (c .terms) t p w e)) ∙ seen-term l c p
+
+  pub parents-stop : (p : ℕ) (b : Bool) → p ≡ getD l (8 * t + 3) 0 → b ≡ within (c .terms) p → not b ≡ true → false ≡ parentsRule (seen l c) t
+  unfolding parentsRule
+  parents-stop p b e f h = and-stop _ _ (class-term p e ∙ failed _ b f h)
+
+  pub parents-last : (p q : ℕ) (b r : Bool) → p ≡ getD l (8 * t + 3) 0 → b ≡ within (c .terms) p → not b ≡ false → q ≡ getD l (8 * t + 4) 0 → r ≡ within (c .terms) q → r ≡ parentsRule (seen l c) t
+  unfolding parentsRule
+  parents-last p q b r e f h d g = and-next _ _ r (class-term p e ∙ passed _ b f h) (g ∙ sym (forest-term q d))
+
+  pub label-edge : (p k v : ℕ) (r : Bool) → p ≡ getD l (8 * t + 4) 0 → k ≡ getD l (8 * t + 5) 0 → v ≡ getD l (8 * t + 6) 0 → (p ≡ t → ⊥) → r ≡ edgeLabel k v → r ≡ labelRule (seen l c) t
+  unfolding labelRule
+  label-edge p k v r ep ek ev d e = rw (view-term l (c .terms) t w, ne-eqb (getD l (8 * t + 4) 0) t (λ z. d (ep ∙ z)), ← ek, ← ev) e
+
+  module _ (p k v : ℕ) (ep : p ≡ getD l (8 * t + 4) 0) (ek : k ≡ getD l (8 * t + 5) 0) (ev : v ≡ getD l (8 * t + 6) 0) (d : p ≡ t) where
+    pub root-kind : (k ≡ 0 → ⊥) → false ≡ labelRule (seen l c) t
+    unfolding labelRule
+    root-kind z = rw (view-term l (c .terms) t w, eq-eqb (getD l (8 * t + 4) 0) t (sym ep ∙ d), ne-eqb (getD l (8 * t + 5) 0) 0 (λ y. z (ek ∙ y)))
+
+    pub root-value : k ≡ 0 → (v ≡ 0 → ⊥) → false ≡ labelRule (seen l c) t
+    unfolding labelRule
+    root-value y z = rw (view-term l (c .terms) t w, eq-eqb (getD l (8 * t + 4) 0) t (sym ep ∙ d), eq-eqb (getD l (8 * t + 5) 0) 0 (sym ek ∙ y), ne-eqb (getD l (8 * t + 6) 0) 0 (λ x. z (ev ∙ x)))
+
+    pub root-stamp : (m : ℕ) → k ≡ 0 → v ≡ 0 → m ≡ getD l (8 * t + 7) 0 → eqb m 0 ≡ labelRule (seen l c) t
+    unfolding labelRule
+    root-stamp m y z em = rw (view-term l (c .terms) t w, eq-eqb (getD l (8 * t + 4) 0) t (sym ep ∙ d), eq-eqb (getD l (8 * t + 5) 0) 0 (sym ek ∙ y), eq-eqb (getD l (8 * t + 6) 0) 0 (sym ev ∙ z), ← em)
+
+  module _ (p : ℕ) (e : p ≡ getD l (8 * t + 3) 0) where
+    pub alone-root : p ≡ t → true ≡ aloneAt (seen l c) t
+    unfolding aloneAt
+    alone-root d = or-stop _ _ (eq-eqb _ _ (sym (view-class l (c .terms) t p w e) ∙ d))
+
+    not-root : (p ≡ t → ⊥) → eqb (term (seen l c) t .classParent) t ≡ false
+    not-root d = ne-eqb _ _ (λ z. d (view-class l (c .terms) t p w e ∙ z))
+
+    pub alone-child : (b : Bool) → (p ≡ t → ⊥) → b ≡ isString (seen l c) t → not b ≡ true → false ≡ aloneAt (seen l c) t
+    unfolding aloneAt
+    alone-child b d f h = or-next _ _ _ (not-root d) (and-stop _ _ (failed _ b f h))
+
+    pub alone-parent : (b r : Bool) → (p ≡ t → ⊥) → b ≡ isString (seen l c) t → not b ≡ false → r ≡ isString (seen l c) p → r ≡ aloneAt (seen l c) t
+    unfolding aloneAt
+    alone-parent b r d f h g = or-next _ _ _ (not-root d) (and-next _ _ r (passed _ b f h) (g ∙ ap (isString (seen l c)) (view-class l (c .terms) t p w e)))
+
+-- the label of an edge
+module _ (k v : ℕ) where
+  pub label-reason : (r : Bool) → 1 ≤ k → k < 3 → r ≡ isNumber v → r ≡ edgeLabel k v
+  unfolding edgeLabel
+  label-reason r l h e =
+      let b : (eqb k 1 || eqb k 2) ≡ true = decide (eqb k 1) (λ q. rw q) (λ q. let z = eqb-false k 1 q in rw (q, eq-eqb k 2 (omega arith))) in
+      let f : _≡_ {A = Bool} (isNumber v || false || false) (isNumber v) = right-falsum (isNumber v || false) false refl ∙ right-falsum (isNumber v) false refl in
+      rw (b, ne-eqb k 3 (λ z. omega arith), ne-eqb k 4 (λ z. omega arith)) (e ∙ sym f)
+
+  pub label-congruence : k ≡ 3 → true ≡ edgeLabel k v
+  unfolding edgeLabel
+  label-congruence e = rw e
+
+  pub label-definitional : k ≡ 4 → eqb v 0 ≡ edgeLabel k v
+  unfolding edgeLabel
+  label-definitional e = rw e
+
+  pub label-low : k < 1 → false ≡ edgeLabel k v
+  unfolding edgeLabel
+  label-low h = let e : k ≡ 0 = omega arith in rw e
+
+  pub label-high : 2 < k → (k ≡ 3 → ⊥) → (k ≡ 4 → ⊥) → false ≡ edgeLabel k v
+  unfolding edgeLabel
+  label-high h x y = rw (ne-eqb k 1 (λ e. omega arith), ne-eqb k 2 (λ e. omega arith), ne-eqb k 3 x, ne-eqb k 4 y)
+
+-- roots at hand
+module _ (l : List ℕ) (c : State) (t r q : ℕ) (h : Rooted (seen l c) (c .terms) t r q) where
+  pub root-here : within (c .terms) r ≡ true
+  root-here = rw (h .root-is) (climb-within (classUp (termsView l (c .terms))) (c .terms) (length (termsView l (c .terms))) t (h .roots) (h .here))
+
+  pub top-here : within (c .terms) q ≡ true
+  top-here = rw (h .top-is) (climb-within (forestUp (termsView l (c .terms))) (c .terms) (length (termsView l (c .terms))) t (h .tops) (h .here))
+
+  pub ends-stop : (p : ℕ) → p ≡ getD l (8 * r + 3) 0 → (p ≡ r → ⊥) → false ≡ endsRule (seen l c) t
+  unfolding endsRule
+  ends-stop p e d = rw (← h .root-is) (and-stop _ _ (ne-eqb _ _ (λ z. d (view-class l (c .terms) r p root-here e ∙ z))))
+
+  pub ends-last : (p u : ℕ) → p ≡ getD l (8 * r + 3) 0 → p ≡ r → u ≡ getD l (8 * q + 4) 0 → eqb u q ≡ endsRule (seen l c) t
+  unfolding endsRule
+  ends-last p u e d f = rw (← h .root-is, ← h .top-is)
+      (and-next _ _ _ (eq-eqb _ _ (sym (view-class l (c .terms) r p root-here e) ∙ d)) (ap (λ x. eqb x q) (view-forest l (c .terms) q u top-here f)))
+
+  pub alike-stop : (p : ℕ) → p ≡ root (seen l c) q → (p ≡ r → ⊥) → false ≡ alikeAt (seen l c) t
+  unfolding alikeAt
+  alike-stop p e d = rw (← h .root-is, ← h .top-is) (and-stop _ _ (ne-eqb _ _ (λ z. d (e ∙ z))))
+
+  pub alike-last : (p u : ℕ) → p ≡ root (seen l c) q → p ≡ r → u ≡ top (seen l c) r → eqb u q ≡ alikeAt (seen l c) t
+  unfolding alikeAt
+  alike-last p u e d f = rw (← h .root-is, ← h .top-is) (and-next _ _ _ (eq-eqb _ _ (sym e ∙ d)) (ap (λ x. eqb x q) f))
+
+-- what the parents' rule gives the climbs
+module _ (l : List ℕ) (c : State) (h : eachTerm (seen l c) (parentsRule (seen l c)) ≡ true) where
+  pub seen-roots : Closed (classUp (termsView l (c .terms))) (c .terms)
+  seen-roots = rw (view-count l (c .terms)) at (parents-roots (seen l c) h)
+
+  pub seen-tops : Closed (forestUp (termsView l (c .terms))) (c .terms)
+  seen-tops = rw (view-count l (c .terms)) at (parents-tops (seen l c) h)
+
+  pub seen-rooted : (t r q : ℕ) → within (c .terms) t ≡ true → r ≡ root (seen l c) t → q ≡ top (seen l c) t → Rooted (seen l c) (c .terms) t r q
+  seen-rooted t r q w e f = record { here = w; roots = seen-roots; tops = seen-tops; root-is = e; top-is = f }
+
+-- one term's tests, and the rule
+module _ (s : Store) (t : ℕ) where
+  pub test-ends : (b : Bool) → b ≡ endsRule s t → not b ≡ true → false ≡ classTest s t
+  unfolding classTest
+  test-ends b e h = rw (failed _ b e h)
+
+  pub test-alike : (b : Bool) → b ≡ alikeAt s t → not b ≡ true → false ≡ classTest s t
+  unfolding classTest
+  test-alike b e h = rw (right-false (endsRule s t) (alikeAt s t) (failed _ b e h))
+
+  pub test-label : (b : Bool) → b ≡ labelRule s t → not b ≡ true → false ≡ classTest s t
+  unfolding classTest
+  test-label b e h = rw (right-false (endsRule s t && alikeAt s t) (labelRule s t) (failed _ b e h))
+
+  pub test-alone : (x y z r : Bool) → x ≡ endsRule s t → not x ≡ false → y ≡ alikeAt s t → not y ≡ false → z ≡ labelRule s t → not z ≡ false → r ≡ aloneAt s t → r ≡ classTest s t
+  unfolding classTest
+  test-alone x y z r ex hx ey hy ez hz e = rw (passed _ x ex hx, passed _ y ey hy, passed _ z ez hz) e
+
+-- the rule reads the terms alone
+pub classes-seen : (m : Lent) (c : State) → classesRule (seen (m .terms) c) ≡ classesRule (storeOf m c)
+unfolding classesRule parentsRule endsRule alikeRule labelRule aloneRule
+classes-seen m c = refl

@@ -1,19 +1,18 @@
 -- A term appended: words for the store extend to it, and for a variable any word can be chosen.
 use mathlib.Core.Path.{_≡_, refl, sym, ap, subst, _∙_}
 use mathlib.Core.Bool.{Bool, true, false, not}
-use mathlib.Core.List.{List, [], _∷_, _++_, List·Memᴰ}
-use Prim.Native.Nat.{ℕ, zero, suc, _+_, _≤_, _<_}
+use mathlib.Core.List.{List, [], List·Memᴰ}
+use Prim.Native.Nat.{ℕ, zero, suc, _≤_, _<_}
 use native.Mathlib.Omega.{arith}
 use native.Mathlib.Decide.{decLe}
-use lib.ListN.{length}
 use lib.Dec.{eqb}
 use borrow.Author.Tests.{eq-eqb, ne-eqb}
 use Rattle.records.specs.Lists.{if_then_else_, all, joined, firsts, Every}
-use Rattle.records.specs.Store.{Term, noTerm, Cell, Store, term, count, kind, isTerm, isString, textIn, text, chainIn, chain, parts, isEdge}
+use Rattle.records.specs.Store.{Term, Cell, Store, term, count, kind, textIn, text, chainIn, parts, isEdge}
 use Rattle.records.specs.Rules.{isChar}
 use Rattle.records.specs.Make.{own}
 use Rattle.records.specs.Meaning.{Words, Reading, Joins, Holds}
-use Rattle.records.specs.Audited.{Recorded, Classed, Audited}
+use Rattle.records.specs.Audited.{Audited}
 use Rattle.records.proofs.Lists.{clash, every-map, every-firsts, all-take, all-drop, all-joined, joined-same, within-is, within-high}
 use Rattle.records.proofs.Readings.{parts-lower}
 use Rattle.records.proofs.Grown.{term-past, term-zero, present, string-here, Extends, Grown}
@@ -117,7 +116,7 @@ module _ (s : Store) (ds : List Cell) (hs : List ℕ) (k a b : ℕ) (audited : A
             ∙ sym (joined-but w n u (parts s t) (every-map (λ p l. omega arith) (parts-lower s (audited .recorded) t e)))
             ∙ ap (joined v) (sym (old-parts s ds hs k a b (audited .recorded) more t e)))
             (λ i. but-same w n u ∙ is-parts i
-            ∙ sym (joined-but w n u (firsts (chainIn ds a)) (every-firsts (λ p l. let h = string-here s (p .0) l in omega arith) (new .strings i)))
+            ∙ sym (joined-but w n u (firsts (chainIn ds a)) (every-firsts (λ p l. let h = string-here s (p .0) l in omega arith) (new .concat i .strings)))
             ∙ ap (λ (x : Term). joined v (firsts (chainIn ds (x .first)))) (sym (Append.new-term s ds hs k a b)));
       }
 

@@ -1,13 +1,12 @@
 -- A store that grew keeps its terms with their texts, parts and classes; words for the larger store are words for the smaller, and words
 -- for the smaller extend to the larger.
 use mathlib.Core.Path.{_≡_, refl, sym, ap, _∙_}
-use mathlib.Core.Bool.{Bool, true, false}
-use mathlib.Core.List.{List, [], _∷_, _++_}
+use mathlib.Core.Bool.{true}
+use mathlib.Core.List.{List, _∷_}
 use Prim.Native.Nat.{ℕ, zero, suc, _≤_, _<_}
 use native.Mathlib.Omega.{arith}
 use native.Mathlib.Decide.{decLe}
-use lib.ListN.{length, List·getD-eq-default}
-use borrow.Author.Tests.{eqb-true}
+use lib.ListN.{List·getD-eq-default}
 use Rattle.records.specs.Store.{Term, noTerm, Store, termIn, term, count, kind, within, isTerm, isString, text, parts, root}
 use Rattle.records.specs.Meaning.{Words, Reading, Holds}
 use Rattle.records.proofs.Lists.{within-low, within-high, within-is}

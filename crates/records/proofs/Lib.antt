@@ -8,6 +8,7 @@ pub mod Puts
 pub mod Adds
 pub mod Texts
 pub mod Making
+pub mod Joins
 pub mod Readings
 pub mod Grown
 pub mod Works
@@ -18,3 +19,5 @@ pub mod Append
 pub mod Extend
 pub mod Beside
 pub mod Kept
+pub mod Meant
+pub mod Builds

@@ -292,6 +292,23 @@ module _ {A : Type 0} where
       go true e = e
       go false e = e
 
+  -- such a loop over a table, by places
+  pub table-stop : (p : A → Bool) (f : ℕ → A) (n i : ℕ) (b : Bool) → b ≡ p (f i) → not b ≡ true → i < n → false ≡ all p (table f n)
+  table-stop p f n i b e h l = below-stop (λ j. p (f j)) n i b e h l ∙ sym (all-table p f n)
+
+  pub table-done : (p : A → Bool) (f : ℕ → A) (n i : ℕ) → i ≤ n → n ≤ i → allBelow (λ j. p (f j)) i ≡ true → true ≡ all p (table f n)
+  table-done p f n i a b h = below-done (λ j. p (f j)) n i a b h ∙ sym (all-table p f n)
+
+  -- and by numbers from 1
+  pub each-stop : (q : ℕ → Bool) (f : ℕ → A) (n i : ℕ) (b : Bool) → b ≡ q (i + 1) → not b ≡ true → i < n → false ≡ allBelow (λ j. q (suc j)) (length (table f n))
+  each-stop q f n i b e h l = rw (table-length f n) (below-stop (λ j. q (suc j)) n i b (rw add-one at e) h l)
+
+  pub each-done : (q : ℕ → Bool) (f : ℕ → A) (n i : ℕ) → i ≤ n → n ≤ i → allBelow (λ j. q (suc j)) i ≡ true → true ≡ allBelow (λ j. q (suc j)) (length (table f n))
+  each-done q f n i a b h = rw (table-length f n) (below-done (λ j. q (suc j)) n i a b h)
+
+pub each-turn : (q : ℕ → Bool) (i : ℕ) (b : Bool) → b ≡ q (i + 1) → not b ≡ false → allBelow (λ j. q (suc j)) i ≡ true → allBelow (λ j. q (suc j)) (i + 1) ≡ true
+each-turn q i b e h g = below-turn (λ j. q (suc j)) i b (rw add-one at e) h g
+
 -- SOME ELEMENT
 
 module _ {A : Type 0} (p : A → Bool) where
@@ -354,6 +371,18 @@ word-same v w e = rw e (word-refl w)
 pub word-differs : (v w : List ℕ) → (v ≡ w → ⊥) → sameWord v w ≡ false
 word-differs v w d = decide (sameWord v w) (λ e. absurd (d (word-is v w e))) (λ e. e)
 
+-- word by word, where the first two have one length
+pub word-append : (v w v′ w′ : List ℕ) → length v ≡ length w → sameWord (v ++ v′) (w ++ w′) ≡ (sameWord v w && sameWord v′ w′)
+unfolding sameWord
+word-append [] [] v′ w′ e = refl
+word-append [] (y ∷ w) v′ w′ e = absurd (omega arith)
+word-append (x ∷ v) [] v′ w′ e = absurd (omega arith)
+word-append (x ∷ v) (y ∷ w) v′ w′ e = go (eqb x y) (word-append v w v′ w′ (omega arith))
+  where
+    go : (b : Bool) → sameWord (v ++ v′) (w ++ w′) ≡ (sameWord v w && sameWord v′ w′) → (b && sameWord (v ++ v′) (w ++ w′)) ≡ ((b && sameWord v w) && sameWord v′ w′)
+    go true q = q
+    go false q = refl
+
 module _ {A B : Type 0} (f : A → List B) where
   pub joined-append : (l m : List A) → joined f (l ++ m) ≡ joined f l ++ joined f m
   unfolding joined
@@ -370,6 +399,11 @@ module _ {A : Type 0} where
   pub every-append : {P : A → Type 0} {l m : List A} → Every P l → Every P m → Every P (l ++ m)
   every-append none-left k = k
   every-append (and p h) k = and p (every-append h k)
+
+  pub every-at : {P : A → Type 0} (l : List A) (i : ℕ) (d : A) → Every P l → i < length l → P (getD l i d)
+  every-at (x ∷ l) zero d (and p k) h = p
+  every-at (x ∷ l) (suc i) d (and p k) h = every-at l i d k (le-of-suc-le-suc h)
+  every-at [] i d none-left h = absurd (not-suc-le-zero h)
 
   pub all-every : (p : A → Bool) (l : List A) → all p l ≡ true → Every (λ a. p a ≡ true) l
   unfolding all

@@ -12,9 +12,10 @@ use Rattle.records.specs.declared.State.{State}
 use Rattle.records.specs.Lists.{if_then_else_, all, allBelow}
 use Rattle.records.specs.Store.{Term, noTerm, Store, term, cell, count, kind, within, isTerm, isString, text, chain, root, sameClass, isEdge}
 use Rattle.records.specs.View.{Lent, storeOf, sizes}
-use Rattle.records.specs.Rules.{eachTerm, isNumber, cellRule, textRule, named, nameRule, partRule, concatRule, lengthRule, isEquatable, equationRule, termRule, recordsRule, parentsRule, endsRule, alikeRule, aloneRule, labelRule, classesRule, pairsOf, fallsRule, congruenceRule, isCongruence, congruencesRule, auditStore, audit}
-use Rattle.records.specs.Audited.{Part, Next, last, later, Label, asserted, interface, congruence, definitional, Unlabelled, Falls, Pairs, Congruent, Recorded, Classed, Congruences, Roomy, Audited, Sized, Ready}
+use Rattle.records.specs.Rules.{eachTerm, isNumber, cellRule, textRule, named, nameRule, partRule, concatRule, lengthRule, isEquatable, equationRule, termRule, recordsRule, parentsRule, endsRule, alikeRule, aloneRule, edgeLabel, labelRule, classesRule, pairsOf, fallsRule, congruenceRule, isCongruence, congruencesRule, auditStore, audit}
+use Rattle.records.specs.Audited.{Part, Next, last, later, Label, asserted, interface, congruence, definitional, Unlabelled, Falls, Pairs, Congruent, Recorded, Classed, Congruences, Roomy, Audited, Sized, Ready, Verdict, ready, short, unrecorded, unclassed, incongruent}
 use Rattle.records.proofs.Lists.{both-left, both-right, both-true, either, or-left, or-right, clash, decide, within-low, within-high, within-is, below-at, below-all, table-length, word-is, word-same, every-map, all-every, every-all}
+use Rattle.records.proofs.RuleLaws.{sized-of, sizes-of}
 use Rattle.records.proofs.Grown.{term-past, term-zero, kind-term}
 
 -- TESTS
@@ -36,6 +37,10 @@ only : (a : Bool) → a || false ≡ true → a ≡ true
 only true e = refl
 only false e = e
 
+refuted : {X : Type 0} (a : Bool) → (a ≡ true → X) → (X → ⊥) → a ≡ false
+refuted true f n = absurd (n (f refl))
+refuted false f n = refl
+
 -- a rule of every number from 1 to n
 each-at : (rule : ℕ → Bool) (n t : ℕ) → allBelow (λ i. rule (suc i)) n ≡ true → within n t ≡ true → rule t ≡ true
 each-at rule n zero e w = let l = within-low n 0 w in absurd (omega arith)
@@ -44,44 +49,7 @@ each-at rule n (suc t) e w = below-at (λ i. rule (suc i)) n e t (within-high n 
 each-all : (rule : ℕ → Bool) (n : ℕ) → ((t : ℕ) → within n t ≡ true → rule t ≡ true) → allBelow (λ i. rule (suc i)) n ≡ true
 each-all rule n f = below-all (λ i. rule (suc i)) n (λ k l. f (suc k) (within-is n (suc k) (omega arith) l))
 
--- SIZES
-
-limits : (a b x y : ℕ) → leb a b && leb x y ≡ true → (a ≤ b) × (x ≤ y)
-limits a b x y e = (leb-true a b (both-left _ _ e), leb-true x y (both-right (leb a b) _ e))
-
-limited : (a b x y : ℕ) → a ≤ b → x ≤ y → leb a b && leb x y ≡ true
-limited a b x y p q = both-true _ _ (le-leb a b p) (le-leb x y q)
-
-pub sized-of : (m : Lent) (c : State) → sizes m c ≡ true → Sized m c
-unfolding sizes
-sized-of m c e =
-    let p = both _ _ e in
-    let q = both _ _ (p .0) in
-    let r = both _ _ (q .0) in
-    let s = both _ _ (r .0) in
-    let t = limits _ _ _ _ (s .0) in
-    let l = limits _ _ _ _ (s .1) in
-    let h = limits _ _ _ _ (r .1) in
-    let g = limits _ _ _ _ (q .1) in
-    let k = limits _ _ _ _ (p .1) in
-    record {
-      termLimited = t .0;
-      termRoom = t .1;
-      cellLimited = l .0;
-      cellRoom = l .1;
-      charLimited = h .0;
-      charRoom = h .1;
-      reasonLimited = g .0;
-      reasonRoom = g .1;
-      keyLimited = k .0;
-      keyRoom = k .1;
-    }
-
-pub sizes-of : (m : Lent) (c : State) → Sized m c → sizes m c ≡ true
-unfolding sizes
-sizes-of m c z =
-    both-true _ _ (both-true _ _ (both-true _ _ (both-true _ _ (limited _ _ _ _ (z .termLimited) (z .termRoom)) (limited _ _ _ _ (z .cellLimited) (z .cellRoom)))
-    (limited _ _ _ _ (z .charLimited) (z .charRoom))) (limited _ _ _ _ (z .reasonLimited) (z .reasonRoom))) (limited _ _ _ _ (z .keyLimited) (z .keyRoom))
+-- SIZES: that the test is the facts stands in RuleLaws
 
 pub roomy-of : (m : Lent) (c : State) → Sized m c → Roomy (storeOf m c)
 roomy-of m c z = record {
@@ -276,16 +244,16 @@ module _ (s : Store) (t : ℕ) where
       (λ n. decide (sameClass s t u) (λ p. or-left _ _ (or-right (isString s t) _ (eq-eqb _ _ (f n (eqb-true _ _ p))))) (λ p. or-right (isString s t || eqb t u) _ (rw p)))
 
   label-of : labelRule s t ≡ true → isEdge s t ≡ true → Label s t
-  unfolding labelRule
+  unfolding labelRule edgeLabel
   label-of e q = ⊎-elim (λ r. ⊎-elim (λ p. let z = both _ _ p in ⊎-elim (λ k. asserted (eqb-true _ _ k) (z .1)) (λ k. interface (eqb-true _ _ k) (z .1)) (either _ _ (z .0)))
       (λ k. congruence (eqb-true _ _ k)) (either _ _ r)) (λ p. let z = both _ _ p in definitional (eqb-true _ _ (z .0)) (eqb-true _ _ (z .1))) (either _ _ (rw q at e))
 
   unlabelled-of : labelRule s t ≡ true → isEdge s t ≡ false → Unlabelled s t
-  unfolding labelRule
+  unfolding labelRule edgeLabel
   unlabelled-of e q = let z = each _ _ _ (rw q at e) in record { kind-is = eqb-true _ _ (z .0); value-is = eqb-true _ _ (z .1); stamp-is = eqb-true _ _ (z .2) }
 
   of-label : (isEdge s t ≡ true → Label s t) → (isEdge s t ≡ false → Unlabelled s t) → labelRule s t ≡ true
-  unfolding labelRule
+  unfolding labelRule edgeLabel
   of-label f g = decide (isEdge s t) (λ q. rw q (some (f q))) (λ q. rw q (none (g q)))
     where
       some : Label s t → (((eqb (term s t .labelKind) 1 || eqb (term s t .labelKind) 2) && isNumber (term s t .labelValue)) || eqb (term s t .labelKind) 3 || (eqb (term s t .labelKind) 4 && eqb (term s t .labelValue) 0)) ≡ true
@@ -394,3 +362,27 @@ ready-of m c e = decide (sizes m c) (λ z. record { sized = sized-of m c z; audi
 pub audit-of : (m : Lent) (c : State) → Ready m c → audit m c ≡ 0
 unfolding audit
 audit-of m c r = rw (sizes-of m c (r .sized)) (passes (storeOf m c) (r .audited))
+
+-- the answer is the first place whose facts do not hold, and no other
+pub verdict : (m : Lent) (c : State) → Verdict m c (audit m c)
+unfolding audit auditStore
+verdict m c = decide (sizes m c) (λ z. decide (recordsRule s) (λ p. decide (classesRule s) (λ q. decide (congruencesRule s)
+    (λ e. rw (z, p, q, e) (ready (ready-of m c (audit-zero z p q e))))
+    (λ e. rw (z, p, q, e) (incongruent (sized-of m c z) (recorded-of s p) (classed-of s q) (λ h. clash (congruent-of s h) e))))
+    (λ q. rw (z, p, q) (unclassed (sized-of m c z) (recorded-of s p) (λ h. clash (classes-of s h) q))))
+    (λ p. rw (z, p) (unrecorded (sized-of m c z) (λ h. clash (records-of s h) p))))
+    (λ z. rw z (short (λ h. clash (sizes-of m c h) z)))
+  where
+    s : Store
+    s = storeOf m c
+
+    audit-zero : sizes m c ≡ true → recordsRule s ≡ true → classesRule s ≡ true → congruencesRule s ≡ true → audit m c ≡ 0
+    audit-zero z p q e = rw (z, p, q, e)
+
+pub verdict-is : (m : Lent) (c : State) {k : ℕ} → Verdict m c k → audit m c ≡ k
+unfolding audit auditStore
+verdict-is m c (ready r) = audit-of m c r
+verdict-is m c (short f) = rw (refuted (sizes m c) (sized-of m c) f)
+verdict-is m c (unrecorded z f) = rw (sizes-of m c z, refuted (recordsRule (storeOf m c)) (recorded-of _) f)
+verdict-is m c (unclassed z r f) = rw (sizes-of m c z, records-of _ r, refuted (classesRule (storeOf m c)) (classed-of _) f)
+verdict-is m c (incongruent z r q f) = rw (sizes-of m c z, records-of _ r, classes-of _ q, refuted (congruencesRule (storeOf m c)) (congruences-of _) f)

@@ -2,17 +2,16 @@
 -- variables agree on every string term.
 use mathlib.Core.Path.{_≡_, refl, sym, ap, _∙_}
 use mathlib.Core.Bool.{Bool, true, false}
-use mathlib.Core.List.{List, [], _∷_, _++_}
-use Prim.Native.Nat.{ℕ, zero, suc, _+_, _≤_, _<_}
+use mathlib.Core.List.{List, []}
+use Prim.Native.Nat.{ℕ, zero, suc, _≤_, _<_}
 use native.Mathlib.Omega.{arith}
-use lib.ListN.{length, take, drop}
 use lib.Dec.{eqb}
-use borrow.Author.Tests.{eqb-true, eq-eqb, eqb-false}
-use Rattle.records.specs.Lists.{if_then_else_, all, joined, firsts, Every, none-left, and}
-use Rattle.records.specs.Store.{Store, term, kind, isString, isConstant, isVariable, isConcat, textIn, text, chain, parts}
+use borrow.Author.Tests.{eqb-true, eq-eqb}
+use Rattle.records.specs.Lists.{if_then_else_, all, joined, Every, none-left, and}
+use Rattle.records.specs.Store.{Store, term, kind, isString, isConstant, isConcat, textIn, text, parts}
 use Rattle.records.specs.Rules.{isChar}
 use Rattle.records.specs.Meaning.{Words, Reading}
-use Rattle.records.specs.Audited.{Part, Recorded}
+use Rattle.records.specs.Audited.{Recorded}
 use Rattle.records.proofs.Lists.{within-low, within-high, every-map, every-firsts, all-take, all-drop, all-joined, joined-same}
 
 -- the characters of a constant

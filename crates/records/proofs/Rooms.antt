@@ -31,6 +31,13 @@ module _ (l : List ℕ) (n : ℕ) where
   pub term-test : n < termLimit → leb (8 * (n + 2)) (length l) ≡ ltb n (termRoom l)
   term-test h = same-test _ _ (λ e. term-fits h (leb-true (8 * (n + 2)) (length l) e)) (λ e. le-leb (8 * (n + 2)) (length l) (term-room e))
 
+  -- what a test that passed says
+  pub fits-limit : (r : Bool) → r ≡ ltb n (termRoom l) → r ≡ true → n < termLimit
+  fits-limit r e h = term-limit (sym e ∙ h)
+
+  pub fits-words : (r : Bool) → r ≡ ltb n (termRoom l) → r ≡ true → 8 * (n + 2) ≤ length l
+  fits-words r e h = term-room (sym e ∙ h)
+
 -- k cells more, where the n that are counted fit
 module _ (l : List ℕ) (n k : ℕ) (room : 3 * (n + 1) ≤ length l) where
   pub cells-fit : n + k ≤ cellLimit → 3 * (n + k + 1) ≤ length l → leb (n + k) (cellRoom l) ≡ true

@@ -2,17 +2,18 @@
 use mathlib.Core.Path.{_≡_, refl, sym, ap, _∙_}
 use mathlib.Core.Bool.{Bool, true, false, not, _&&_, _||_}
 use mathlib.Core.List.{List, [], _∷_}
-use Prim.Native.Nat.{ℕ, zero, suc, _+_, _*_, _<_, _≤_}
+use Prim.Native.Nat.{ℕ, zero, suc, _+_, _-_, _*_, _<_, _≤_}
 use native.Mathlib.Omega.{arith}
 use lib.ListN.{length, getD}
 use lib.Dec.{eqb, ltb, leb}
 use borrow.Author.Tests.{lt-ltb, le-ltb, le-leb, lt-leb, eq-eqb, ne-eqb, eqb-false, ltb-true, leb-true}
-use Rattle.records.specs.Store.{Term, Store, noTerm, termIn, within, term, cell, isString, isLength}
-use Rattle.records.specs.View.{Lent, termAt, termsView, sizes, termLimit, cellLimit, charLimit, reasonLimit, keyLimit}
+use Rattle.records.specs.Lists.{all}
+use Rattle.records.specs.Store.{Term, Store, noTerm, termIn, within, term, cell, chain, chainBy, isString, isLength}
+use Rattle.records.specs.View.{Lent, termAt, pairAt, termsView, sizes, termLimit, cellLimit, charLimit, reasonLimit, keyLimit}
 use Rattle.records.specs.declared.State.{State}
 use Rattle.records.specs.Audited.{Sized}
-use Rattle.records.specs.Rules.{isChar, isNumber, reasonRule, keyRule, cellRule, textRule, partRule, lengthRule, isEquatable, equationRule}
-use Rattle.records.proofs.Lists.{within-zero, within-is, within-past, within-high, and-stop, and-next, or-stop, or-next, failed, passed, left-false, right-false, right-falsum, three-1, three-2, three-3, three-first, three-last, five-1, five-2, five-3, five-4, five-last, decide, both-left, both-right, both-true}
+use Rattle.records.specs.Rules.{isChar, isNumber, reasonRule, keyRule, cellRule, textRule, partRule, concatRule, lengthRule, isEquatable, equationRule}
+use Rattle.records.proofs.Lists.{within-zero, within-is, within-past, within-high, and-stop, and-next, or-stop, or-next, failed, passed, left-false, right-false, right-true, right-falsum, three-1, three-2, three-3, three-first, three-last, five-1, five-2, five-3, five-4, five-last, decide, both-left, both-right, both-true}
 use Rattle.records.proofs.Views.{term-is, term-none, term-past}
 
 pub char-low : (c : ℕ) → c < 0xD800 → true ≡ isChar c
@@ -70,6 +71,10 @@ reason-low k v h = rw (ne-eqb k 1 (λ e. omega arith), ne-eqb k 2 (λ e. omega a
 pub reason-high : (k v : ℕ) → 2 < k → false ≡ reasonRule (k, v)
 unfolding reasonRule
 reason-high k v h = rw (ne-eqb k 1 (λ e. omega arith), ne-eqb k 2 (λ e. omega arith))
+
+-- a rule of the pair at a place
+pub pair-test : (p : ℕ × ℕ → Bool) (l : List ℕ) (i x y : ℕ) (b : Bool) → b ≡ p (x, y) → x ≡ getD l (2 * i + 0) 0 → y ≡ getD l (2 * i + 1) 0 → b ≡ p (pairAt l i)
+pair-test p l i x y b e f g = e ∙ ap (λ z. p (z, y)) f ∙ ap (λ z. p (getD l (2 * i + 0) 0, z)) g
 
 module _ (s : Store) where
   pub key-order : (a b : ℕ) → b ≤ a → false ≡ keyRule s (a, b)
@@ -228,3 +233,62 @@ module _ (m : Lent) (c : State) where
       (both-true _ _ (le-leb _ _ (z .charLimited)) (le-leb _ _ (z .charRoom))))
       (both-true _ _ (le-leb _ _ (z .reasonLimited)) (le-leb _ _ (z .reasonRoom))))
       (both-true _ _ (le-leb _ _ (z .keyLimited)) (le-leb _ _ (z .keyRoom)))
+
+-- CHAINS
+
+module _ (s : Store) (t : ℕ) where
+  -- the test of a chain of which i cells were passed, and at most k are left from cell c on
+  abbrev pub rest : ℕ → ℕ → ℕ → Bool
+  rest k i c = leb 2 (i + length (chainBy k (s .cells) c)) && all (partRule s t) (chainBy k (s .cells) c)
+
+  abbrev pub whole : ℕ → Bool
+  whole f = leb 2 (length (chain s f)) && all (partRule s t) (chain s f)
+
+  pub parts-start : (n f : ℕ) → length (s .cells) ≡ n → rest (n - 0) 0 f ≡ whole f
+  parts-start n f h = let e : n - 0 ≡ length (s .cells) = omega arith in rw (e, native.Mathlib.Nat.zero-add (length (chain s f)))
+
+  chain-none : (k c : ℕ) → within (length (s .cells)) c ≡ false → chainBy k (s .cells) c ≡ []
+  unfolding chainBy
+  chain-none zero c h = refl
+  chain-none (suc k) c h = rw (chainBy, h)
+
+  pub parts-end : (k i c f : ℕ) (x : Bool) → x ≡ within (length (s .cells)) c → not x ≡ true → rest k i c ≡ whole f → leb 2 i ≡ whole f
+  unfolding all
+  parts-end k i c f x e h g =
+      let z = chain-none k c (failed _ x e h) in
+      let q : rest k i c ≡ leb 2 i = rw (z, native.Mathlib.Nat.add-zero i) (right-true (leb 2 i) true refl) in
+      sym q ∙ g
+
+  pub parts-over : (n i c f : ℕ) → n ≤ i → rest (n - i) i c ≡ whole f → leb 2 i ≡ whole f
+  unfolding all chainBy
+  parts-over n i c f h g =
+      let z : n - i ≡ 0 = omega arith in
+      let q : rest (n - i) i c ≡ leb 2 i = rw (z, native.Mathlib.Nat.add-zero i) (right-true (leb 2 i) true refl) in
+      sym q ∙ g
+
+  chain-more : (k c : ℕ) → within (length (s .cells)) c ≡ true → chainBy (suc k) (s .cells) c ≡ (cell s c .value, cell s c .other) ∷ chainBy k (s .cells) (cell s c .next)
+  unfolding chainBy
+  chain-more k c h = rw (chainBy, h)
+
+  pub parts-stop : (n i c f : ℕ) (x : Bool) → i < n → within (length (s .cells)) c ≡ true → x ≡ partRule s t (cell s c .value, cell s c .other) → not x ≡ true → rest (n - i) i c ≡ whole f → false ≡ whole f
+  unfolding all
+  parts-stop n i c f x l w e h g =
+      let z : n - i ≡ suc (n - (i + 1)) = omega arith in
+      let q : rest (n - i) i c ≡ false = rw (z, chain-more (n - (i + 1)) c w, failed _ x e h) (right-false (leb 2 (i + suc (length (chainBy (n - (i + 1)) (s .cells) (cell s c .next))))) false refl) in
+      sym q ∙ g
+
+  pub parts-turn : (n i c f d : ℕ) (x : Bool) → i < n → within (length (s .cells)) c ≡ true → x ≡ partRule s t (cell s c .value, cell s c .other) → not x ≡ false → d ≡ cell s c .next → rest (n - i) i c ≡ whole f → rest (n - (i + 1)) (i + 1) d ≡ whole f
+  unfolding all
+  parts-turn n i c f d x l w e h q g =
+      let z : n - i ≡ suc (n - (i + 1)) = omega arith in
+      let m : i + suc (length (chainBy (n - (i + 1)) (s .cells) (cell s c .next))) ≡ (i + 1) + length (chainBy (n - (i + 1)) (s .cells) (cell s c .next)) = omega arith in
+      let y : rest (n - i) i c ≡ rest (n - (i + 1)) (i + 1) (cell s c .next) = rw (z, chain-more (n - (i + 1)) c w, passed _ x e h, m) in
+      rw q (sym y ∙ g)
+
+  pub concat-second : (x : ℕ) → (x ≡ 0 → ⊥) → x ≡ term s t .second → false ≡ concatRule s t
+  unfolding concatRule
+  concat-second x z e = three-3 (leb 2 (length (chain s (term s t .first)))) (all (partRule s t) (chain s (term s t .first))) _ (ne-eqb _ 0 (λ q. z (e ∙ q)))
+
+  pub concat-is : (x f : ℕ) (r : Bool) → x ≡ term s t .second → x ≡ 0 → f ≡ term s t .first → r ≡ whole f → r ≡ concatRule s t
+  unfolding concatRule
+  concat-is x f r e z q g = (rw q at g) ∙ sym (right-true (whole (term s t .first)) _ (eq-eqb _ 0 (sym e ∙ z)))

@@ -80,6 +80,14 @@ pub record Recorded (s : Store) : Type 0 where
 pub record Closed (up : ℕ → ℕ) (n : ℕ) : Type 0 where
   pub stays : (t : ℕ) → within n t ≡ true → within n (up t) ≡ true
 
+-- r is the root of t's class and q the root of its tree, in a store of n terms whose parents are terms
+pub record Rooted (s : Store) (n t r q : ℕ) : Type 0 where
+  pub here : within n t ≡ true
+  pub roots : Closed (λ x. term s x .classParent) n
+  pub tops : Closed (λ x. term s x .forestParent) n
+  pub root-is : r ≡ root s t
+  pub top-is : q ≡ top s t
+
 -- what refusal 3 asks
 pub record Classed (s : Store) : Type 0 where
   pub classParents : (t : ℕ) → isTerm s t ≡ true → isTerm s (term s t .classParent) ≡ true
@@ -126,3 +134,11 @@ pub record Sized (m : Lent) (c : State) : Type 0 where
 pub record Ready (m : Lent) (c : State) : Type 0 where
   pub sized : Sized m c
   pub audited : Audited (storeOf m c)
+
+-- what the audit's answer says: 0 where all the facts hold, else the first place whose facts do not
+pub data Verdict (m : Lent) (c : State) : ℕ → Type 0 where
+  ready : Ready m c → Verdict m c 0
+  short : (Sized m c → ⊥) → Verdict m c 1
+  unrecorded : Sized m c → (Recorded (storeOf m c) → ⊥) → Verdict m c 2
+  unclassed : Sized m c → Recorded (storeOf m c) → (Classed (storeOf m c) → ⊥) → Verdict m c 3
+  incongruent : Sized m c → Recorded (storeOf m c) → Classed (storeOf m c) → (Congruences (storeOf m c) → ⊥) → Verdict m c 4

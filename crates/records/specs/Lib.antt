@@ -7,3 +7,4 @@ pub mod Puts
 pub mod Meaning
 pub mod Audited
 pub mod Calls
+pub mod AuditCases

@@ -5,9 +5,9 @@ use mathlib.Core.Option.{Option, none, some}
 use Prim.Native.Nat.{ℕ, zero, suc, _+_, _-_, _/_, _%_, min, max}
 use lib.ListN.{length}
 use lib.Dec.{eqb, ltb, leb}
-use Rattle.records.specs.Lists.{if_then_else_, any, sameWord, firstBelow}
-use Rattle.records.specs.Store.{Term, Cell, Store, Out, ok, stop, Work, _>>=_, _>>_, give, refuse, store, put, term, count, kind, isConstant, isConcat, isLength, isEquation, text, parts}
-use Rattle.records.specs.View.{termAt, span}
+use Rattle.records.specs.Lists.{if_then_else_, any, sameWord, firsts, firstBelow}
+use Rattle.records.specs.Store.{Term, Cell, Store, Out, ok, stop, Work, _>>=_, _>>_, give, refuse, store, put, term, count, kind, isConstant, isConcat, isLength, isEquation, text, chainIn, parts}
+use Rattle.records.specs.View.{termAt, span, textAt}
 use Rattle.records.specs.Rules.{named}
 
 abbrev pub withReasons : Store → List (ℕ × ℕ) → Store
@@ -118,7 +118,7 @@ unfoldable pub textOf : ℕ → List ℕ → Store → ℕ → Bool
 textOf k w s t = eqb (kind s t) k && sameWord (text s t) w
 
 unfoldable pub hasText : List ℕ → List ℕ → ℕ → List ℕ → ℕ → Bool
-hasText l h k w t = eqb (termAt l t .kind) k && sameWord (span h (termAt l t .first) (termAt l t .second)) w
+hasText l h k w t = eqb (termAt l t .kind) k && sameWord (textAt l h t) w
 
 unfoldable pub concatOf : List ℕ → Store → ℕ → Bool
 concatOf l s t = isConcat s t && sameWord (parts s t) l
@@ -128,6 +128,17 @@ lengthOf a s t = isLength s t && eqb (term s t .first) a
 
 unfoldable pub equationOf : ℕ → ℕ → Store → ℕ → Bool
 equationOf a b s t = isEquation s t && eqb (term s t .first) a && eqb (term s t .second) b
+
+-- a length or an equation by its kind and its two words, in the store and in the lent words: a length's second word is 0
+unfoldable pub sidesOf : ℕ → ℕ → ℕ → Store → ℕ → Bool
+sidesOf k a b s t = eqb (kind s t) k && eqb (term s t .first) a && eqb (term s t .second) b
+
+unfoldable pub hasSides : List ℕ → ℕ → ℕ → ℕ → ℕ → Bool
+hasSides l k a b t = eqb (termAt l t .kind) k && eqb (termAt l t .first) a && eqb (termAt l t .second) b
+
+-- a concatenation by its parts, in the lent words of terms
+unfoldable pub hasParts : List ℕ → List Cell → List ℕ → ℕ → Bool
+hasParts l cs w t = eqb (termAt l t .kind) 3 && sameWord (firsts (chainIn cs (termAt l t .first))) w
 
 unfoldable pub makeConstant : List ℕ → Work ℕ
 makeConstant w = lowest (constantOf w) (do
@@ -155,6 +166,10 @@ makeLength a = lowest (lengthOf a) (addTerm 4 a 0)
 
 unfoldable pub makeEquation : ℕ → ℕ → Work ℕ
 makeEquation a b = lowest (equationOf a b) (addTerm 5 a b)
+
+-- the two in one, where a length's second word is 0
+unfoldable pub makeSides : ℕ → ℕ → ℕ → Work ℕ
+makeSides k a b = lowest (sidesOf k a b) (addTerm k a b)
 
 -- NAMES: 'z names are `!strk` with the counter in decimal'
 

@@ -6,7 +6,8 @@ use Prim.Native.Nat.{ℕ, suc, _+_, _≤_}
 use lib.ListN.{length}
 use lib.Dec.{ltb}
 use Rattle.records.specs.Store.{Cell}
-use Rattle.records.specs.View.{termsView, cellsView, charsView, pairsView, reasonRoom}
+use Rattle.records.specs.View.{termsView, cellsView, charsView, pairsView, reasonRoom, termAt}
+use Rattle.records.specs.Lists.{Every}
 use Rattle.records.specs.Make.{own, chainFrom}
 
 -- record n + 1 of terms is now one that is its own class
@@ -39,3 +40,7 @@ pub record Pushed (l l′ : List ℕ) (n kind value : ℕ) (r : Bool) : Type 0 w
   pub fits : r ≡ ltb n (reasonRoom l)
   pub grown : r ≡ true → pairsView l′ (suc n) ≡ pairsView l n ++ ((kind, value) ∷ [])
   pub kept : pairsView l′ n ≡ pairsView l n
+
+-- each text of a list of terms is within the first n characters
+abbrev pub TextsWithin : List ℕ → ℕ → List ℕ → Type 0
+TextsWithin l n ts = Every (λ t. termAt l t .first + termAt l t .second ≤ n) ts

@@ -99,13 +99,14 @@ alikeRule s t u = if sameClass s t u then sameTree s t u else not (sameTree s t 
 unfoldable pub aloneRule : Store → ℕ → ℕ → Bool
 aloneRule s t u = isString s t || eqb t u || not (sameClass s t u)
 
--- 'An edge's label stands on the child: 1 asserted, 2 interface, 3 congruence (value = a pair chain), 4 definitional (value 0)';
+-- 'An edge's label stands on the child: 1 asserted, 2 interface, 3 congruence (value = a pair chain), 4 definitional (value 0)'
+unfoldable pub edgeLabel : ℕ → ℕ → Bool
+edgeLabel k v = ((eqb k 1 || eqb k 2) && isNumber v) || eqb k 3 || (eqb k 4 && eqb v 0)
+
 -- 'Unused words, labels of roots included, are 0'
 unfoldable pub labelRule : Store → ℕ → Bool
 labelRule s t = if isEdge s t
-    then ((eqb (term s t .labelKind) 1 || eqb (term s t .labelKind) 2) && isNumber (term s t .labelValue))
-    || eqb (term s t .labelKind) 3
-    || (eqb (term s t .labelKind) 4 && eqb (term s t .labelValue) 0)
+    then edgeLabel (term s t .labelKind) (term s t .labelValue)
     else eqb (term s t .labelKind) 0 && eqb (term s t .labelValue) 0 && eqb (term s t .stamp) 0
 
 -- where parents are terms and walks end, these of one term at a time say the same as the rules of two (proofs/ClassLaws.antt)

@@ -1,6 +1,6 @@
 -- What of the lent slices is counted, and whether the slices are long enough for it.
 use mathlib.Core.Bool.{Bool, _&&_}
-use mathlib.Core.List.{List}
+use mathlib.Core.List.{List, [], _∷_}
 use Prim.Native.Nat.{ℕ, suc, _+_, _-_, _*_, _/_, min}
 use lib.ListN.{length, getD}
 use lib.Dec.{leb}
@@ -70,6 +70,15 @@ pairsView l n = table (pairAt l) n
 -- n words of a slice from a place on: a text, where it is within what is counted (proofs/Views.antt, `text-span`)
 abbrev pub span : List ℕ → ℕ → ℕ → List ℕ
 span l p n = table (λ i. getD l (p + i) 0) n
+
+-- the text of a term in the lent words
+abbrev pub textAt : List ℕ → List ℕ → ℕ → List ℕ
+textAt l h t = span h (termAt l t .first) (termAt l t .second)
+
+-- the characters of a list of terms, counted
+unfoldable pub lengths : List ℕ → List ℕ → ℕ
+lengths l [] = 0
+lengths l (t ∷ ts) = termAt l t .second + lengths l ts
 
 -- how many records fit a slice and its limit
 abbrev pub termRoom : List ℕ → ℕ

@@ -4,6 +4,7 @@ ghost use Prim.Native.Nat.{ℕ, _+_, _<_, _≤_};
 ghost use Rattle.records.specs.View.{termLimit, cellLimit, charLimit, reasonLimit, keyLimit, oneTerm, moreCells, moreChars, oneReason, oneKey, oneName};
 ghost use Rattle.records.specs.Make.{nameLimit};
 
+pub mod build;
 pub mod classes;
 pub mod fields;
 pub mod make;

@@ -7,7 +7,7 @@ ghost use lib.ListN.{length};
 ghost use lib.Dec.{leb};
 ghost use Rattle.records.specs.Lists.{all};
 ghost use Rattle.records.specs.Store.{termIn, within, term, cell, chain};
-ghost use Rattle.records.specs.View.{lent, storeOf, termsView, termLimit, cellLimit, charLimit, reasonLimit, sizes};
+ghost use Rattle.records.specs.View.{lent, storeOf, termsView, charsView, pairsView, termLimit, cellLimit, charLimit, reasonLimit, keyLimit, sizes};
 ghost use Rattle.records.specs.Rules.{isChar, isNumber, reasonRule, keyRule, cellRule, textRule, partRule, concatRule, lengthRule, isEquatable, equationRule, eachCell};
 use crate::CELL_LIMIT;
 use crate::CHAR_LIMIT;
@@ -234,4 +234,104 @@ fn equation_ok(terms: &[u32], c: State, t: u32) -> bool
         return false;
     }
     is_equatable(terms, c, a, b)
+}
+
+// The chain from cell f as the parts of term t. A chain has at most as many cells as there are, so the walk ends.
+fn parts_ok(terms: &[u32], cells: &[u32], c: State, t: u32, f: u32) -> bool
+    ensures { λ r. do
+      let s = storeOf (lent (now (terms .entry)) (now (cells .entry)) [] [] []) c
+      ⌜ r ≡ (leb 2 (length (chain s f)) && all (partRule s t) (chain s f)) ⌝ }
+{
+    let mut at = f;
+    let mut i: usize = 0;
+    while i < c.cells {
+        if !is_within(c.cells, at) {
+            return 2 <= i;
+        }
+        if !part_ok(terms, cells, c, t, at) {
+            return false;
+        }
+        at = fields::next(cells, at);
+        i += 1;
+    }
+    2 <= i
+}
+
+fn concat_ok(terms: &[u32], cells: &[u32], c: State, t: u32) -> bool
+    requires { ⌜ within (c .terms) t ≡ true ⌝ }
+    ensures { λ r. ⌜ r ≡ concatRule (storeOf (lent (now (terms .entry)) (now (cells .entry)) [] [] []) c) t ⌝ }
+{
+    let o = fields::second(terms, t);
+    if o != 0 {
+        return false;
+    }
+    let f = fields::first(terms, t);
+    parts_ok(terms, cells, c, t, f)
+}
+
+// RULES OF EVERY RECORD
+
+fn cells_ok(cells: &[u32], c: State) -> bool
+    requires { ⌜ c .cells ≤ cellLimit ⌝ }
+    ensures { λ r. do
+      let s = storeOf (lent [] (now (cells .entry)) [] [] []) c
+      ⌜ r ≡ eachCell s (cellRule s) ⌝ }
+{
+    let mut i: usize = 0;
+    while i < c.cells {
+        if !cell_ok(cells, c, (i + 1) as u32) {
+            return false;
+        }
+        i += 1;
+    }
+    true
+}
+
+fn chars_ok(chars: &[u32], n: usize) -> bool
+    ensures { λ r. ⌜ r ≡ all isChar (charsView (now (chars .entry)) n) ⌝ }
+{
+    let mut i: usize = 0;
+    while i < n {
+        if !is_char(fields::word(chars, i)) {
+            return false;
+        }
+        i += 1;
+    }
+    true
+}
+
+fn reasons_ok(reasons: &[u32], n: usize) -> bool
+    requires { ⌜ n ≤ reasonLimit ⌝ }
+    ensures { λ r. ⌜ r ≡ all reasonRule (pairsView (now (reasons .entry)) n) ⌝ }
+{
+    let mut i: usize = 0;
+    while i < n {
+        if !reason_ok(
+            fields::word(reasons, 2 * i + 0),
+            fields::word(reasons, 2 * i + 1),
+        ) {
+            return false;
+        }
+        i += 1;
+    }
+    true
+}
+
+fn keys_ok(terms: &[u32], keys: &[u32], c: State) -> bool
+    requires { ⌜ c .keys ≤ keyLimit ⌝ }
+    ensures { λ r. ⌜ r ≡ all (keyRule (storeOf (lent (now (terms .entry)) [] [] [] []) c)) (pairsView (now (keys .entry)) (c .keys)) ⌝ }
+{
+    let mut i: usize = 0;
+    while i < c.keys {
+        if !key_ok(
+            terms,
+            c,
+            fields::word(keys, 2 * i + 0),
+            fields::word(keys, 2 * i + 1),
+        ) {
+            return false;
+        }
+        i += 1;
+    }
+    true
 }

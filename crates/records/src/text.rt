@@ -1,17 +1,25 @@
 // Texts: characters compared and copied.
 ghost use mathlib.Core.Path.{_≡_};
-ghost use Prim.Native.Nat.{ℕ, _+_, _≤_};
+ghost use Prim.Native.Nat.{_+_, _≤_};
 ghost use lib.ListN.{length};
-ghost use Rattle.records.specs.Lists.{sameWord};
-ghost use Rattle.records.specs.View.{span};
-ghost use Rattle.records.specs.Puts.{CharsPut};
+ghost use Rattle.records.specs.Lists.{sameWord, joined};
+ghost use Rattle.records.specs.View.{span, textAt, lengths};
+ghost use Rattle.records.specs.Puts.{CharsPut, TextsWithin};
+use crate::fields::first;
+use crate::fields::second;
 use crate::fields::word;
 
 // Whether the characters from place p on are w. A place past the end of the slice reads as 0.
 pub fn text_is(chars: &[u32], p: u32, w: &[u32]) -> bool
     ensures { λ r. ⌜ r ≡ sameWord (span (now (chars .entry)) p (length (now (w .entry)))) (now (w .entry)) ⌝ }
 {
-    let at = p as usize;
+    text_from(chars, p as usize, w)
+}
+
+fn text_from(chars: &[u32], at: usize, w: &[u32]) -> bool
+    requires { ⌜ at + length (now w) ≤ 0x7FFF_FFFF_FFFF_FFFF ⌝ }
+    ensures { λ r. ⌜ r ≡ sameWord (span (now (chars .entry)) at (length (now (w .entry)))) (now (w .entry)) ⌝ }
+{
     if chars.len() < at + w.len() {
         return text_past(chars, at, w);
     }
@@ -48,6 +56,78 @@ pub fn put_text_unchecked(chars: &mut [u32], at: usize, w: &[u32])
     let mut i: usize = 0;
     while i < w.len() {
         chars[at + i] = w[i];
+        i += 1;
+    }
+}
+
+// The characters of a list of terms, counted.
+pub fn joined_length_unchecked(terms: &[u32], list: &[u32]) -> usize
+    requires { ⌜ length (now list) ≤ 1024 ⌝ }
+    ensures { λ r. ⌜ r ≡ lengths (now (terms .entry)) (now (list .entry)) ⌝ }
+{
+    let mut total: usize = 0;
+    let mut i: usize = 0;
+    while i < list.len() {
+        let n = second(terms, list[i]) as usize;
+        total += n;
+        i += 1;
+    }
+    total
+}
+
+// Whether n characters from place `at` on are those from place `from` on.
+fn spans_agree(chars: &[u32], at: usize, from: usize, n: usize) -> bool
+    requires { ⌜ at + n ≤ 0x7FFF_FFFF_FFFF_FFFF ⌝ ∗ ⌜ from + n ≤ length (now chars) ⌝ }
+    ensures { λ r. ⌜ r ≡ sameWord (span (now (chars .entry)) at n) (span (now (chars .entry)) from n) ⌝ }
+{
+    text_from(chars, at, &chars[from..from + n])
+}
+
+// Whether the characters from place p on are the joined texts of a list of terms.
+pub fn joined_is_unchecked(terms: &[u32], chars: &[u32], p: u32, list: &[u32]) -> bool
+    requires { ⌜ length (now list) ≤ 1024 ⌝ ∗ ⌜ TextsWithin (now terms) (length (now chars)) (now list) ⌝ }
+    ensures { λ r. ⌜ r ≡ sameWord (span (now (chars .entry)) p (lengths (now (terms .entry)) (now (list .entry)))) (joined (textAt (now (terms .entry)) (now (chars .entry))) (now (list .entry))) ⌝ }
+{
+    let mut at = p as usize;
+    let mut i: usize = 0;
+    while i < list.len() {
+        let t = list[i];
+        let from = first(terms, t) as usize;
+        let n = second(terms, t) as usize;
+        if !spans_agree(chars, at, from, n) {
+            return false;
+        }
+        at += n;
+        i += 1;
+    }
+    true
+}
+
+// n characters from place `from` on, copied to place `at`, which is above them.
+fn copy_text(chars: &mut [u32], from: usize, n: usize, at: usize)
+    requires { ⌜ from + n ≤ at ⌝ ∗ ⌜ at + n ≤ length (now chars) ⌝ }
+    ensures { λ _. ⌜ CharsPut (now (chars .entry)) (now (chars .exit)) at (span (now (chars .entry)) from n) ⌝ }
+{
+    let mut i: usize = 0;
+    while i < n {
+        chars[at + i] = chars[from + i];
+        i += 1;
+    }
+}
+
+// The joined texts of a list of terms, copied to place `to`, which is above them all.
+pub fn put_joined_unchecked(terms: &[u32], chars: &mut [u32], list: &[u32], to: usize)
+    requires { ⌜ TextsWithin (now terms) to (now list) ⌝ ∗ ⌜ to + lengths (now terms) (now list) ≤ length (now chars) ⌝ }
+    ensures { λ _. ⌜ CharsPut (now (chars .entry)) (now (chars .exit)) to (joined (textAt (now (terms .entry)) (now (chars .entry))) (now (list .entry))) ⌝ }
+{
+    let mut at = to;
+    let mut i: usize = 0;
+    while i < list.len() {
+        let t = list[i];
+        let from = first(terms, t) as usize;
+        let n = second(terms, t) as usize;
+        copy_text(chars, from, n, at);
+        at += n;
         i += 1;
     }
 }

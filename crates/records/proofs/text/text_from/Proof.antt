@@ -2,17 +2,17 @@ use Rattle.records.proofs.Texts.{Agreed, agreed-none, agreed-one, agree
 use lib.ListN.{length}
 use Prim.Native.Nat.{_-_}
 use borrow.Author.Needs.{needs}
-use Rattle.records.proofs.text.text_is.Statement.{statement}
-use Rattle.records.proofs.text.text_is.Tie as tie
+use Rattle.records.proofs.text.text_from.Statement.{statement}
+use Rattle.records.proofs.text.text_from.Tie as tie
 
 abbrev Inv-loop : tie.InvT-loop
-Inv-loop chars p w at i₀ i = Agreed chars w p i
+Inv-loop chars p w i₀ i = Agreed chars w p i
 
 abbrev μ-loop : tie.MeasureT-loop
-μ-loop chars p w at i₀ i = length w - i
+μ-loop chars p w i₀ i = length w - i
 
-pub text-is-spec : {M : Type 1} → statement M
-text-is-spec =
+pub text-from-spec : {M : Type 1} → statement M
+text-from-spec =
     tie.close
     (tie.spec
     Inv-loop

@@ -1,0 +1,65 @@
+-- What the terms made mean: their words, and when a made equation is true.
+use mathlib.Core.Path.{_≡_, sym, ap, _∙_}
+use mathlib.Core.Bool.{true}
+use mathlib.Core.List.{List}
+use Prim.Native.Nat.{ℕ}
+use native.Mathlib.Omega.{arith}
+use lib.ListN.{length}
+use Rattle.records.specs.Lists.{joined}
+use Rattle.records.specs.Store.{Term, Store, term, kind, isString}
+use Rattle.records.specs.Meaning
+use Rattle.records.specs.Meaning.{Words, Reading, True}
+use Rattle.records.specs.Audited.{Recorded}
+use Rattle.records.proofs.Lists.{within-high}
+use Rattle.records.proofs.Grown.{present, Grown, grown-kind, grown-string}
+use Rattle.records.proofs.Append.{equatable-here}
+use Rattle.records.proofs.Kept.{ConstantMade, ConcatMade, EquationMade}
+
+-- WORDS
+
+pub constant-word : {c : List ℕ} {s s′ : Store} {t : ℕ} {w : Words} → ConstantMade c s s′ t → Reading s′ w → w t ≡ c
+constant-word m r = r .constants _ (m .made .kind-is) ∙ m .text-is
+
+pub concat-word : {l : List ℕ} {s s′ : Store} {t : ℕ} {w : Words} → ConcatMade l s s′ t → Reading s′ w → w t ≡ joined w l
+concat-word {w = w} m r = r .concats _ (m .made .kind-is) ∙ ap (joined w) (m .parts-is)
+
+-- EQUATIONS
+
+-- a string term is no length
+string-not : (s : Store) (t : ℕ) → isString s t ≡ true → kind s t ≡ 4 → ⊥
+string-not s t e q = let h = within-high 3 (kind s t) e in omega arith
+
+-- between string terms
+pub equation-true : (a b : ℕ) {s s′ : Store} {t : ℕ} {w : Words} → EquationMade a b s s′ t → isString s a ≡ true → w a ≡ w b → True s′ w t
+equation-true a b {s} {s′} {t} {w} m e q =
+    Meaning.True.equal
+    (λ k. string-not s′ a (grown-string (m .made .grown) a e) (sym (ap (kind s′) (m .first-is)) ∙ k))
+    (ap w (m .first-is) ∙ q ∙ sym (ap w (m .second-is)))
+
+-- between the lengths a of x and b of y
+pub lengths-true : (a b x y : ℕ) {s s′ : Store} {t : ℕ} {w : Words} → EquationMade a b s s′ t → kind s a ≡ 4 → kind s b ≡ 4 → term s a .first ≡ x → term s b .first ≡ y → length (w x) ≡ length (w y) → True s′ w t
+lengths-true a b x y {s} {s′} {t} {w} m e f p q h =
+    Meaning.True.long (ap (kind s′) (m .first-is) ∙ grown-kind (m .made .grown) a 3 e)
+    (ap (λ (i : ℕ). length (w i)) (side a x (term s′ t .first) e p (m .first-is)) ∙ h ∙ sym (ap (λ (i : ℕ). length (w i)) (side b y (term s′ t .second) f q (m .second-is))))
+  where
+    side : (a x i : ℕ) → kind s a ≡ 4 → term s a .first ≡ x → i ≡ a → term s′ i .first ≡ x
+    side a x i e p j = ap (λ (u : ℕ). term s′ u .first) j ∙ ap (λ (u : Term). u .first) (m .made .grown .old a (present s a 3 e)) ∙ p
+
+-- an equation that is true stays so while the store grows
+pub grown-true : {s s′ : Store} {w : Words} → Grown s s′ → Recorded s → (e : ℕ) → kind s e ≡ 5 → True s w e → True s′ w e
+grown-true {s} {s′} {w} g r e k = go
+  where
+    self : term s′ e ≡ term s e
+    self = g .old e (present s e 4 k)
+
+    first-is : term s′ (term s′ e .first) ≡ term s (term s e .first)
+    first-is = ap (λ (x : Term). term s′ (x .first)) self ∙ g .old (term s e .first) (equatable-here s _ _ (r .equationSides e k) .0)
+
+    second-is : term s′ (term s′ e .second) ≡ term s (term s e .second)
+    second-is = ap (λ (x : Term). term s′ (x .second)) self ∙ g .old (term s e .second) (equatable-here s _ _ (r .equationSides e k) .1)
+
+    go : True s w e → True s′ w e
+    go (Meaning.True.equal d q) =
+        Meaning.True.equal (λ i. d (ap (λ (x : Term). x .kind) (sym first-is) ∙ i)) (ap (λ (x : Term). w (x .first)) self ∙ q ∙ ap (λ (x : Term). w (x .second)) (sym self))
+    go (Meaning.True.long i q) =
+        Meaning.True.long (ap (λ (x : Term). x .kind) first-is ∙ i) (ap (λ (x : Term). length (w (x .first))) first-is ∙ q ∙ ap (λ (x : Term). length (w (x .first))) (sym second-is))

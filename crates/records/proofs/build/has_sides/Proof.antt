@@ -1,0 +1,8 @@
+use Rattle.records.proofs.Builds.{sides-kind, sides-first, sides-second}
+use borrow.Author.Needs.{needs}
+use Rattle.records.proofs.build.has_sides.Statement.{statement}
+use Rattle.records.proofs.build.has_sides.Tie as tie
+
+pub has-sides-spec : {M : Type 1} → statement M
+has-sides-spec =
+    tie.close (tie.spec (λ c κs. search needs) (λ c. search sides-kind) (λ c κs. search needs) (λ c. search sides-first) (λ c κs. search needs) (λ c. search sides-second))

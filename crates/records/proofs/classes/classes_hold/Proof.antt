@@ -1,0 +1,60 @@
+use Rattle.records.proofs.ClassLaws.{seen, each-stop, each-turn, each-done}
+use Rattle.records.proofs.Lists.{below-zero, within-is}
+use Rattle.records.specs.Rules.{classTest}
+use Rattle.records.specs.Lists.{allBelow}
+use Prim.Native.Nat.{ℕ, suc, _-_, _≤_}
+use mathlib.Core.Path.{_≡_}
+use mathlib.Core.Bool.{true}
+use native.Mathlib.Omega.{arith}
+use borrow.Author.Needs.{needs}
+use Rattle.records.proofs.classes.classes_hold.Statement.{statement}
+use Rattle.records.proofs.classes.classes_hold.Tie as tie
+
+abbrev Inv-loop : tie.InvT-loop
+Inv-loop terms c i₀ i = (i ≤ c .terms) × (allBelow (λ j. classTest (seen terms c) (suc j)) i ≡ true)
+
+abbrev μ-loop : tie.MeasureT-loop
+μ-loop terms c i₀ i = c .terms - i
+
+loop-holds : tie.Need-loop-holds Inv-loop μ-loop
+loop-holds c = (omega arith, below-zero _)
+
+cast-if1 : tie.Need-cast-if1 Inv-loop μ-loop
+cast-if1 c = search needs
+
+add-class-ok : tie.Need-add-class-ok Inv-loop μ-loop
+add-class-ok c = omega (arith, c .before .before .before .before .pre .0)
+
+class-ok-requires : tie.Need-class-ok-requires Inv-loop μ-loop
+class-ok-requires c κs = (within-is _ _ (omega arith) (omega arith), c .before .before .before .before .pre .1)
+
+returns : tie.Need-returns Inv-loop μ-loop
+returns c = each-stop (c .before .before .before .before .before .before .args .terms .now) (c .before .before .before .before .before .before .args .c .terms) (classTest (seen (c .before .before .before .before .before .before .args .terms .now) (c .before .before .before .before .before .before .args .c))) (c .before .before .before .before .loop .i) _ (c .before .class-ok .ensures) (c .if2 .taken) (c .before .before .if1 .taken)
+
+add-i : tie.Need-add-i Inv-loop μ-loop
+add-i c = omega (arith, c .before .before .before .before .before .before .pre .0)
+
+loop-less : tie.Need-loop-less Inv-loop μ-loop
+loop-less c = search needs
+
+loop-again : tie.Need-loop-again Inv-loop μ-loop
+loop-again c = (omega arith, each-turn (c .before .before .before .before .before .before .args .terms .now) (c .before .before .before .before .before .before .args .c .terms) (classTest (seen (c .before .before .before .before .before .before .args .terms .now) (c .before .before .before .before .before .before .args .c))) (c .before .before .before .before .loop .i) _ (c .before .class-ok .ensures) (c .if2 .left) (c .before .before .before .before .loop .inv .1))
+
+returns-2 : tie.Need-returns-2 Inv-loop μ-loop
+returns-2 c = each-done (c .before .before .before .before .args .terms .now) (c .before .before .before .before .args .c .terms) (classTest (seen (c .before .before .before .before .args .terms .now) (c .before .before .before .before .args .c))) (c .before .before .loop .i) (c .before .before .loop .inv .0) (c .if1 .left) (c .before .before .loop .inv .1)
+
+pub classes-hold-spec : {M : Type 1} → statement M
+classes-hold-spec =
+    tie.close
+    (tie.spec
+    Inv-loop
+    μ-loop
+    loop-holds
+    cast-if1
+    add-class-ok
+    class-ok-requires
+    returns
+    add-i
+    loop-less
+    loop-again
+    returns-2)

@@ -1,0 +1,22 @@
+use Rattle.records.proofs.ClassLaws.{seen, classes-is, classes-not}
+use Rattle.records.proofs.Lists.{failed, passed}
+use mathlib.Core.Path.{_∙_}
+use borrow.Author.Needs.{needs}
+use Rattle.records.proofs.classes.classes_ok.Statement.{statement}
+use Rattle.records.proofs.classes.classes_ok.Tie as tie
+
+parents-hold-requires : tie.Need-parents-hold-requires
+parents-hold-requires c κs = search needs
+
+returns : tie.Need-returns
+returns c = classes-not (seen (c .before .before .before .args .terms .now) (c .before .before .before .args .c)) (failed _ _ (c .before .parents-hold .ensures) (c .if1 .taken))
+
+classes-hold-requires : tie.Need-classes-hold-requires
+classes-hold-requires c κs = (c .before .before .before .pre, passed _ _ (c .before .parents-hold .ensures) (c .if1 .left))
+
+returns-2 : tie.Need-returns-2
+returns-2 c = c .classes-hold .ensures ∙ classes-is (seen (c .before .before .before .before .args .terms .now) (c .before .before .before .before .args .c)) (passed _ _ (c .before .before .parents-hold .ensures) (c .before .if1 .left))
+
+pub classes-ok-spec : {M : Type 1} → statement M
+classes-ok-spec =
+    tie.close (tie.spec parents-hold-requires returns classes-hold-requires returns-2)

@@ -1,0 +1,77 @@
+use Rattle.records.proofs.RuleLaws.{pair-test}
+use Rattle.records.proofs.Lists.{below-zero, table-stop, below-turn, table-done}
+use Rattle.records.specs.Rules.{reasonRule}
+use Rattle.records.specs.View.{pairAt}
+use Rattle.records.specs.Lists.{allBelow}
+use Prim.Native.Nat.{_-_, _≤_}
+use mathlib.Core.Bool.{true}
+use mathlib.Core.Path.{_≡_}
+use native.Mathlib.Omega.{arith}
+use borrow.Author.Needs.{needs}
+use Rattle.records.proofs.rules.reasons_ok.Statement.{statement}
+use Rattle.records.proofs.rules.reasons_ok.Tie as tie
+
+abbrev Inv-loop : tie.InvT-loop
+Inv-loop reasons n i₀ i = (i ≤ n) × (allBelow (λ j. reasonRule (pairAt reasons j)) i ≡ true)
+
+abbrev μ-loop : tie.MeasureT-loop
+μ-loop reasons n i₀ i = n - i
+
+loop-holds : tie.Need-loop-holds Inv-loop μ-loop
+loop-holds c = (omega arith, below-zero _)
+
+mul-word : tie.Need-mul-word Inv-loop μ-loop
+mul-word c = search needs
+
+add-word : tie.Need-add-word Inv-loop μ-loop
+add-word c = search needs
+
+word-requires : tie.Need-word-requires Inv-loop μ-loop
+word-requires c κs = search needs
+
+mul-word-2 : tie.Need-mul-word-2 Inv-loop μ-loop
+mul-word-2 c = search needs
+
+add-word-2 : tie.Need-add-word-2 Inv-loop μ-loop
+add-word-2 c = search needs
+
+word-requires-2 : tie.Need-word-requires-2 Inv-loop μ-loop
+word-requires-2 c κs = search needs
+
+reason-ok-requires : tie.Need-reason-ok-requires Inv-loop μ-loop
+reason-ok-requires c κs = search needs
+
+returns : tie.Need-returns Inv-loop μ-loop
+returns c = table-stop reasonRule (pairAt (c .before .before .before .before .before .before .before .args .reasons .now)) (c .before .before .before .before .before .before .before .args .n) (c .before .before .before .before .before .loop .i) _ (pair-test reasonRule (c .before .before .before .before .before .before .before .args .reasons .now) (c .before .before .before .before .before .loop .i) _ _ _ (c .before .reason-ok .ensures) (c .before .before .before .word .ensures) (c .before .before .word2 .ensures)) (c .if1 .taken) (c .before .before .before .before .loop-test .taken)
+
+add-i : tie.Need-add-i Inv-loop μ-loop
+add-i c = search needs
+
+loop-less : tie.Need-loop-less Inv-loop μ-loop
+loop-less c = search needs
+
+loop-again : tie.Need-loop-again Inv-loop μ-loop
+loop-again c = (omega arith, below-turn (λ j. reasonRule (pairAt (c .before .before .before .before .before .before .before .args .reasons .now) j)) (c .before .before .before .before .before .loop .i) _ (pair-test reasonRule (c .before .before .before .before .before .before .before .args .reasons .now) (c .before .before .before .before .before .loop .i) _ _ _ (c .before .reason-ok .ensures) (c .before .before .before .word .ensures) (c .before .before .word2 .ensures)) (c .if1 .left) (c .before .before .before .before .before .loop .inv .1))
+
+returns-2 : tie.Need-returns-2 Inv-loop μ-loop
+returns-2 c = table-done reasonRule (pairAt (c .before .before .before .args .reasons .now)) (c .before .before .before .args .n) (c .before .loop .i) (c .before .loop .inv .0) (c .loop-test .left) (c .before .loop .inv .1)
+
+pub reasons-ok-spec : {M : Type 1} → statement M
+reasons-ok-spec =
+    tie.close
+    (tie.spec
+    Inv-loop
+    μ-loop
+    loop-holds
+    mul-word
+    add-word
+    word-requires
+    mul-word-2
+    add-word-2
+    word-requires-2
+    reason-ok-requires
+    returns
+    add-i
+    loop-less
+    loop-again
+    returns-2)

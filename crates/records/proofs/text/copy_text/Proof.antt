@@ -1,0 +1,32 @@
+use Rattle.records.proofs.Joins.{moved-one, moved-all}
+use Rattle.records.proofs.Texts.{Copied, copied-none}
+use Rattle.records.specs.View.{span}
+use Prim.Native.Nat.{_-_}
+use borrow.Author.Needs.{needs}
+use Rattle.records.proofs.text.copy_text.Statement.{statement}
+use Rattle.records.proofs.text.copy_text.Tie as tie
+
+abbrev Inv-loop : tie.InvT-loop
+Inv-loop chars₀ from n at i₀ chars i = Copied chars₀ chars at (span chars₀ from n) i
+
+abbrev μ-loop : tie.MeasureT-loop
+μ-loop chars₀ from n at i₀ chars i = n - i
+
+pub copy-text-spec : {M : Type 1} → statement M
+copy-text-spec =
+    tie.close
+    (tie.spec
+    Inv-loop
+    μ-loop
+    (λ c. copied-none _ _ _)
+    (λ c. search needs)
+    (λ c. search needs)
+    (λ c. search needs)
+    (λ c. search needs)
+    (λ c. search needs)
+    (λ c. search needs)
+    (λ c. search needs)
+    (λ c. search needs)
+    (λ c. moved-one _ _ _ _ _ _ (c .before .before .loop .inv) (c .before .loop-test .taken) (c .before .before .before .pre .0) (c .before .before .before .pre .1))
+    (λ c. search needs)
+    (λ c. moved-all _ _ _ _ _ _ (c .before .loop .inv) (c .loop-test .left)))

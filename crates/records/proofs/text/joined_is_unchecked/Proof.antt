@@ -1,0 +1,34 @@
+use Rattle.records.proofs.Joins.{Matched, matched-none, matched-one, matched-stop, matched-all, within-at}
+use lib.ListN.{length}
+use Prim.Native.Nat.{_-_}
+use native.Mathlib.Omega.{arith}
+use borrow.Author.Needs.{needs}
+use Rattle.records.proofs.text.joined_is_unchecked.Statement.{statement}
+use Rattle.records.proofs.text.joined_is_unchecked.Tie as tie
+
+abbrev Inv-loop : tie.InvT-loop
+Inv-loop terms chars p list at₀ i₀ at i = Matched terms chars list p at i
+
+abbrev μ-loop : tie.MeasureT-loop
+μ-loop terms chars p list at₀ i₀ at i = length list - i
+
+pub joined-is-unchecked-spec : {M : Type 1} → statement M
+joined-is-unchecked-spec =
+    tie.close
+    (tie.spec
+    Inv-loop
+    μ-loop
+    (λ c. matched-none _ _ _ _)
+    (λ c. search needs)
+    (λ c. search needs)
+    (λ c κs. search needs)
+    (λ c. search needs)
+    (λ c κs. search needs)
+    (λ c. search needs)
+    (λ c κs. (omega arith, within-at (c .before .before .before .before .before .before .before .before .args .terms .now) _ _ _ _ _ (c .before .before .before .before .before .before .before .before .pre .1) (c .before .before .before .loop-test .taken) (c .before .first .ensures) (c .second .ensures)))
+    (λ c. matched-stop _ _ _ _ _ _ (c .before .before .before .before .before .before .loop .inv) (c .before .before .before .before .before .loop-test .taken) _ _ (c .before .before .before .first .ensures) (c .before .before .second .ensures) _ (c .before .spans-agree .ensures) (c .if1 .taken))
+    (λ c. search needs)
+    (λ c. search needs)
+    (λ c. search needs)
+    (λ c. matched-one _ _ _ _ _ _ (c .before .before .before .before .before .before .loop .inv) (c .before .before .before .before .before .loop-test .taken) _ _ (c .before .before .before .first .ensures) (c .before .before .second .ensures) _ (c .before .spans-agree .ensures) (c .if1 .left) (omega arith))
+    (λ c. matched-all _ _ _ _ _ _ (c .before .loop .inv) (c .loop-test .left)))

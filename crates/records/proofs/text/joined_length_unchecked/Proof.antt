@@ -1,0 +1,30 @@
+use Rattle.records.proofs.Joins.{Summed, summed-none, summed-one, summed-all}
+use lib.ListN.{length}
+use Prim.Native.Nat.{_-_}
+use native.Mathlib.Omega.{arith}
+use borrow.Author.Needs.{needs}
+use Rattle.records.proofs.text.joined_length_unchecked.Statement.{statement}
+use Rattle.records.proofs.text.joined_length_unchecked.Tie as tie
+
+abbrev Inv-loop : tie.InvT-loop
+Inv-loop terms list total₀ i₀ total i = Summed terms list total i
+
+abbrev μ-loop : tie.MeasureT-loop
+μ-loop terms list total₀ i₀ total i = length list - i
+
+pub joined-length-unchecked-spec : {M : Type 1} → statement M
+joined-length-unchecked-spec =
+    tie.close
+    (tie.spec
+    Inv-loop
+    μ-loop
+    (λ c. summed-none _ _)
+    (λ c. search needs)
+    (λ c. search needs)
+    (λ c κs. search needs)
+    (λ c. search needs)
+    (λ c. search needs)
+    (λ c. search needs)
+    (λ c. search needs)
+    (λ c. summed-one _ _ _ _ _ (c .before .before .before .loop .inv) (c .before .before .loop-test .taken) (c .second .ensures) (omega arith))
+    (λ c. summed-all _ _ _ _ (c .before .loop .inv) (c .loop-test .left)))

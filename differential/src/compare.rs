@@ -1,0 +1,44 @@
+//! Two outcomes of one call, compared as far as document 01 says what they are.
+
+use crate::{
+    call::{Outcome, Request},
+    lent::Lent,
+};
+
+/// What differs, if anything.
+pub fn difference(entry: &Lent, request: &Request, expected: &Outcome, got: &Outcome) -> Option<String> {
+    if expected.code != got.code {
+        return Some(format!("result {} expected, {} given", expected.code, got.code));
+    }
+    match expected.code {
+        0 => answered(request, expected, got),
+        // 'Refusals 1 to 5 write nothing'
+        1..=5 => {
+            let idle = Outcome::idle(entry, request, expected.code);
+            (*got != idle).then(|| "a refused call wrote a word".into())
+        }
+        // 'return the counts and the name counter of entry; records below those counts keep their contents'
+        _ => {
+            if got.exit.state != entry.state {
+                return Some("counts changed by a refused call".into());
+            }
+            (got.exit.counted() != entry.counted()).then(|| "counted words changed by a refused call".into())
+        }
+    }
+}
+
+fn answered(request: &Request, expected: &Outcome, got: &Outcome) -> Option<String> {
+    let (words, list) = expected.meant(&request.call);
+    if expected.answer[..words] != got.answer[..words] {
+        return Some(format!("answer {:?} expected, {:?} given", &expected.answer[..words], &got.answer[..words]));
+    }
+    if expected.list[..list] != got.list[..list] {
+        return Some(format!("list {:?} expected, {:?} given", &expected.list[..list], &got.list[..list]));
+    }
+    if expected.exit.state != got.exit.state {
+        return Some(format!("state {:?} expected, {:?} given", expected.exit.state, got.exit.state));
+    }
+    let names = ["state", "terms", "cells", "characters", "reasons", "keys"];
+    let (a, b) = (expected.exit.counted(), got.exit.counted());
+    (0..6).find(|&i| a[i] != b[i]).map(|i| format!("{} differ: {:?} expected, {:?} given", names[i], a[i], b[i]))
+}

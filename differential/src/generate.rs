@@ -1,0 +1,525 @@
+//! Random stores and requests, from a seed.
+
+use crate::{
+    call::{Call, Request},
+    draft::*,
+    lent::*,
+    random::Random,
+};
+use std::collections::HashSet;
+
+/// How large a draft is and what it leans to.
+#[derive(Clone, Copy, Debug)]
+pub struct Profile {
+    pub terms: usize,
+    /// merges tried, as a share of the terms in 16ths
+    pub merges: usize,
+    /// letters of constants
+    pub letters: usize,
+    /// longest constant
+    pub longest: usize,
+}
+
+const ALPHABETS: [&[char]; 6] = [
+    &['a', 'b', 'c'],
+    &['a', 'b', 'c'],
+    &['é', '漢', 'a'],
+    &['\u{1F600}', '\u{10FFFF}', 'a'],
+    &['\u{D7FF}', '\u{E000}', '\u{0}'],
+    &['!', 's', '0'],
+];
+
+pub fn profile(random: &mut Random) -> Profile {
+    let terms = *random.pick(&[3, 5, 8, 8, 12, 12, 16, 24, 40]);
+    Profile { terms, merges: random.below(14), letters: random.between(1, 3), longest: *random.pick(&[1, 2, 3, 5]) }
+}
+
+fn word(random: &mut Random, letters: &[char], longest: usize) -> Vec<u32> {
+    let n = random.below(longest + 1);
+    (0..n).map(|_| u32::from(*random.pick(letters))).collect()
+}
+
+fn name(random: &mut Random, i: usize, letters: &[char]) -> Vec<u32> {
+    match random.below(12) {
+        0 | 1 => text(&format!("!strk{}", random.below(4))),
+        2 => text(*random.pick(&["!strk", "!strkx", "!str", "!strk00", "strk0", "!strk4294967295", "!strk4294967294", "!Strk1"])),
+        3 => word(random, letters, 4),
+        4 => text(&format!("名{i}\u{1F600}")),
+        _ => text(&format!("x{i}")),
+    }
+}
+
+/// A random draft whose store passes the audit.
+pub fn draft(random: &mut Random, p: Profile) -> Draft {
+    let mut d = Draft { layout: if random.one_in(8) { 0 } else { random.next() }, ..Draft::default() };
+    let letters = &random.pick(&ALPHABETS)[..p.letters];
+    let mut names = HashSet::new();
+    let kinds = random.below(3);
+    for i in 0..p.terms {
+        let strings = d.strings();
+        let roll = random.below(100);
+        let bounds = [[25, 60, 82, 88], [40, 60, 90, 94], [10, 60, 75, 85]][kinds];
+        if strings.is_empty() || roll < bounds[1] {
+            if roll < bounds[0] {
+                d.add(Spec::Constant(word(random, letters, p.longest)));
+                continue;
+            }
+            let mut w = name(random, i, letters);
+            if w.is_empty() || !names.insert(w.clone()) {
+                w = text(&format!("v{i}"));
+                names.insert(w.clone());
+            }
+            d.add(Spec::Variable(w));
+        } else if roll < bounds[2] {
+            let parts = concatenation(random, &d, &strings);
+            d.add(Spec::Concat(parts));
+        } else if roll < bounds[3] {
+            d.add(Spec::Length(*random.pick(&strings)));
+        } else {
+            equation(random, &mut d, &strings);
+        }
+    }
+    merges(random, &mut d, p.terms * p.merges / 16);
+    loose_ends(random, &mut d);
+    d
+}
+
+// often another with some parts exchanged, so that congruences come about
+fn concatenation(random: &mut Random, d: &Draft, strings: &[u32]) -> Vec<u32> {
+    let earlier: Vec<u32> = strings.iter().copied().filter(|&t| d.parts(t).is_some()).collect();
+    if !earlier.is_empty() && random.one_in(2) {
+        let mut parts = d.parts(*random.pick(&earlier)).unwrap().to_vec();
+        for p in &mut parts {
+            if random.one_in(2) {
+                *p = *random.pick(strings);
+            }
+        }
+        return parts;
+    }
+    let n = *random.pick(&[2, 2, 2, 3, 4]);
+    (0..n).map(|_| *random.pick(strings)).collect()
+}
+
+fn equation(random: &mut Random, d: &mut Draft, strings: &[u32]) {
+    let lengths: Vec<u32> = (1..=d.count()).filter(|&t| matches!(d.spec(t), Spec::Length(_))).collect();
+    let from = if !lengths.is_empty() && random.one_in(4) { &lengths[..] } else { strings };
+    let (a, b) = (*random.pick(from), *random.pick(from));
+    d.add(Spec::Equation(a, b));
+}
+
+fn merges(random: &mut Random, d: &mut Draft, tries: usize) {
+    let strings = d.strings();
+    if strings.is_empty() {
+        return;
+    }
+    let mut class = d.classes();
+    let small = random.one_in(2);
+    for _ in 0..tries {
+        let (a, b) = (*random.pick(&strings), *random.pick(&strings));
+        if class[a as usize] != class[b as usize] {
+            let number = if random.one_in(20) { (1 << 31) - 1 - random.below(2) as u32 } else { random.below(10) as u32 };
+            let label = match random.below(5) {
+                0 | 1 => Label::Asserted(number),
+                2 | 3 => Label::Interface(number),
+                _ => Label::Definitional,
+            };
+            let stamp = if small { random.below(3) as u32 } else { random.word() >> random.below(32) };
+            d.edges.push(Edge { a, b, label, stamp });
+            join(&mut class, a, b);
+        }
+        if random.one_in(2) {
+            congruences(random, d, &mut class);
+        }
+    }
+    congruences(random, d, &mut class);
+}
+
+/// Joins concatenations whose arguments are pairwise in one class.
+fn congruences(random: &mut Random, d: &mut Draft, class: &mut [u32]) {
+    let concats: Vec<u32> = d.strings().into_iter().filter(|&t| d.parts(t).is_some()).collect();
+    for &a in &concats {
+        for &b in &concats {
+            if class[a as usize] == class[b as usize] || random.one_in(4) {
+                continue;
+            }
+            let (x, y) = (d.parts(a).unwrap(), d.parts(b).unwrap());
+            if x.len() != y.len() || x.iter().zip(y).any(|(&p, &q)| class[p as usize] != class[q as usize]) {
+                continue;
+            }
+            let highest = x.iter().zip(y).map(|(&p, &q)| highest_stamp(d, p, q)).max().unwrap_or(None);
+            let Some(stamp) = highest.map_or(Some(0), |h| h.checked_add(1)) else { continue };
+            // a congruence over equal arguments alone may have stamp 0
+            let stamp = stamp.saturating_add(random.below(2) as u32);
+            d.edges.push(Edge { a, b, label: Label::Congruence, stamp });
+            join(class, a, b);
+        }
+    }
+}
+
+// the highest stamp on the path between two terms of one class
+fn highest_stamp(d: &Draft, a: u32, b: u32) -> Option<u32> {
+    fn walk(d: &Draft, at: u32, to: u32, from: u32, over: Option<u32>) -> Option<Option<u32>> {
+        if at == to {
+            return Some(over);
+        }
+        d.edges.iter().find_map(|e| {
+            let next = if e.a == at { e.b } else if e.b == at { e.a } else { return None };
+            if next == from { None } else { walk(d, next, to, at, over.max(Some(e.stamp))) }
+        })
+    }
+    walk(d, a, b, 0, None).expect("one class")
+}
+
+fn loose_ends(random: &mut Random, d: &mut Draft) {
+    let strings = d.strings();
+    for _ in 0..*random.pick(&[0, 0, 1, 3]) {
+        d.reasons.push((random.between(1, 2) as u32, random.below(10) as u32));
+    }
+    if strings.len() >= 2 {
+        for _ in 0..*random.pick(&[0, 0, 1, 4]) {
+            let (a, b) = (*random.pick(&strings), *random.pick(&strings));
+            if a != b {
+                d.keys.push((a.min(b), a.max(b)));
+            }
+        }
+    }
+    d.names = match random.below(12) {
+        0 => u32::MAX - random.below(3) as u32,
+        1 => random.word(),
+        _ => random.below(4) as u32,
+    };
+    if random.one_in(3) {
+        for spare in &mut d.spare {
+            if random.one_in(2) {
+                let most = *random.pick(&[1, 2, 4, 8]);
+                *spare = random.below(most + 1);
+            }
+        }
+    }
+    // the limits hold where the slices are longer
+    if random.one_in(40) {
+        d.spare = [600, 2100, 16500, 4200, 4200];
+    }
+}
+
+/// A tower of congruences: at each level two concatenations over the two of the level below, twice each. Without the pairs seen
+/// explaining its top takes 2^height walks.
+pub fn tower(random: &mut Random, height: usize, base: Label) -> Draft {
+    let mut d = Draft { layout: random.next(), ..Draft::default() };
+    let mut a = d.variable("a");
+    let mut b = d.variable("b");
+    d.edges.push(Edge { a, b, label: base, stamp: 0 });
+    for level in 0..height {
+        let twice = if height < 150 { random.between(2, 3) } else { 2 };
+        let (x, y) = (d.concat(&vec![a; twice]), d.concat(&vec![b; twice]));
+        d.edges.push(Edge { a: x, b: y, label: Label::Congruence, stamp: level as u32 + 1 });
+        (a, b) = (x, y);
+    }
+    d
+}
+
+/// Variables x0, x1, .. each merged with a concatenation of a constant and the next: n expansions in a row.
+pub fn chained(random: &mut Random, n: usize, label: Label) -> Draft {
+    let mut d = Draft { layout: random.next(), spare: [60, 60, 6000, 400, 4], ..Draft::default() };
+    let a = d.constant("a");
+    let mut last = d.variable("x0");
+    for i in 0..n {
+        let c = d.concat(&[a, last]);
+        let x = d.variable(&format!("x{}", i + 1));
+        d.edges.push(Edge { a: x, b: c, label, stamp: random.below(3) as u32 });
+        last = x;
+    }
+    let other = d.variable("other");
+    d.add(Spec::Equation(last, other));
+    d
+}
+
+/// Concatenations that double at each level, so that the flattened list has 2^height atoms, and one with `more` atoms behind it.
+pub fn doubled(random: &mut Random, height: usize, more: usize) -> Draft {
+    let mut d = Draft { layout: random.next(), ..Draft::default() };
+    let x = d.variable("x");
+    let mut t = if random.one_in(2) { x } else { d.constant("a") };
+    for _ in 0..height {
+        t = d.concat(&[t, t]);
+    }
+    let mut parts = vec![t];
+    parts.extend(vec![x; more.max(1)]);
+    let whole = d.concat(&parts);
+    let y = d.variable("y");
+    if random.one_in(2) {
+        d.merge(y, whole, Label::Asserted(3));
+    }
+    d.add(Spec::Equation(y, whole));
+    d.add(Spec::Equation(whole, t));
+    d
+}
+
+/// As many terms as there can be, in few classes.
+pub fn crowded(random: &mut Random, terms: usize) -> Draft {
+    let p = Profile { terms, merges: random.between(4, 15), letters: 2, longest: 3 };
+    let mut d = draft(random, p);
+    d.spare = [0, 0, 0, 0, 0].map(|_: usize| *random.pick(&[0, 1, 2, 5, 50]));
+    d
+}
+
+/// A store at one of its limits, or with a shape that costs time.
+pub fn at_limits(random: &mut Random) -> Draft {
+    let label = *random.pick(&[Label::Asserted(5), Label::Interface(7), Label::Definitional]);
+    match random.below(6) {
+        0 => {
+            let height = random.between(1, 250);
+            tower(random, height, label)
+        }
+        1 => {
+            let n = random.between(60, 68);
+            chained(random, n, label)
+        }
+        2 => {
+            let height = random.between(6, 11);
+            let more = random.below(4);
+            doubled(random, height, more)
+        }
+        3 => {
+            let terms = random.between(100, 512);
+            crowded(random, terms)
+        }
+        4 => wide(random),
+        _ => full(random),
+    }
+}
+
+// one concatenation whose deep form has about 256 or about 1,024 atoms
+fn wide(random: &mut Random) -> Draft {
+    let mut d = Draft { layout: random.next(), spare: [40, 40, 5000, 600, 4], ..Draft::default() };
+    let vars: Vec<u32> = (0..random.between(1, 4)).map(|i| d.variable(&format!("x{i}"))).collect();
+    let c = d.constant("ab");
+    let e = d.constant("");
+    let n = *random.pick(&[254usize, 255, 256, 257, 258, 1022, 1023, 1024, 1025, 1026]);
+    let parts: Vec<u32> = (0..n).map(|_| if random.one_in(200) { *random.pick(&[c, e]) } else { *random.pick(&vars) }).collect();
+    let whole = d.concat(&parts);
+    let y = d.variable("y");
+    d.merge(y, whole, Label::Asserted(1));
+    if random.one_in(2) {
+        d.merge(vars[0], if random.one_in(2) { c } else { e }, Label::Interface(2));
+    }
+    let z = d.concat(&[y, vars[0]]);
+    d.add(Spec::Equation(y, z));
+    d.add(Spec::Equation(whole, y));
+    d.add(Spec::Equation(z, whole));
+    d
+}
+
+// slices that end where the counts do, or at the limit
+fn full(random: &mut Random) -> Draft {
+    let p = profile(random);
+    let mut d = draft(random, p);
+    for i in 0..5 {
+        d.spare[i] = random.below(3);
+    }
+    match random.below(3) {
+        0 => {
+            let n = REASONS - random.below(3);
+            d.reasons = (0..n).map(|_| (random.between(1, 2) as u32, random.below(10) as u32)).collect();
+            d.spare[3] = 5;
+        }
+        1 => {
+            let strings = d.strings();
+            let (a, b) = (strings[0], *strings.last().unwrap());
+            if a != b {
+                d.keys = vec![(a.min(b), a.max(b)); KEYS - random.below(2)];
+                d.spare[4] = 5;
+            }
+        }
+        _ => {
+            let used: usize = d.specs.iter().map(|s| if let Spec::Constant(w) | Spec::Variable(w) = s { w.len() } else { 0 }).sum();
+            if used + 20 < CHARS {
+                let n = CHARS - used - random.below(20);
+                d.layout = 0;
+                d.add(Spec::Constant(vec!['q' as u32; n]));
+                d.spare[2] = 30;
+            }
+        }
+    }
+    d
+}
+
+fn list(random: &mut Random, strings: &[u32], longest: usize) -> Vec<u32> {
+    let n = random.below(longest + 1);
+    (0..n).map(|_| *random.pick(strings)).collect()
+}
+
+fn mixed(random: &mut Random, from: &[&[u32]], n: usize) -> Vec<u32> {
+    (0..n)
+        .map(|_| {
+            let group = random.below(from.len());
+            *random.pick(from[group])
+        })
+        .collect()
+}
+
+// two lists, often alike up to members of one class
+fn two_lists(random: &mut Random, s: &Lent, strings: &[u32]) -> (Vec<u32>, Vec<u32>) {
+    let longest = *random.pick(&[1, 2, 3, 4, 6]);
+    let lhs = list(random, strings, longest);
+    let mut rhs = match random.below(3) {
+        0 => list(random, strings, longest),
+        _ => lhs.clone(),
+    };
+    for t in &mut rhs {
+        if random.one_in(3) {
+            let members: Vec<u32> = strings.iter().copied().filter(|&u| s.class_root(u) == s.class_root(*t)).collect();
+            *t = *random.pick(&members);
+        } else if random.one_in(4) {
+            *t = *random.pick(strings);
+        }
+    }
+    if random.one_in(3) && !rhs.is_empty() {
+        let at = random.below(rhs.len());
+        rhs.remove(at);
+    }
+    if random.one_in(4) {
+        let at = random.below(rhs.len() + 1);
+        rhs.insert(at, *random.pick(strings));
+    }
+    if random.one_in(2) { (lhs, rhs) } else { (rhs, lhs) }
+}
+
+/// Atoms of the shapes that steps 2 to 5 look for.
+fn shaped_lists(random: &mut Random, s: &Lent, strings: &[u32]) -> (Vec<u32>, Vec<u32>) {
+    let of_kind = |k: u32| strings.iter().copied().filter(|&t| s.kind(t) == k).collect::<Vec<_>>();
+    let (variables, constants) = (of_kind(VARIABLE), of_kind(CONSTANT));
+    if variables.is_empty() || constants.is_empty() {
+        return two_lists(random, s, strings);
+    }
+    let v = *random.pick(&variables);
+    let near: Vec<u32> = strings.iter().copied().filter(|&u| s.class_root(u) == s.class_root(v)).collect();
+    let n = random.between(1, 5);
+    let (lhs, rhs) = match random.below(4) {
+        // a lone variable and a list with its class
+        0 => (vec![v], mixed(random, &[&near, &constants, &variables], n)),
+        // constants against one class and constants
+        1 => {
+            let side = mixed(random, &[&near, &constants], n);
+            (list(random, &constants, 3), side)
+        }
+        // nothing against variables
+        2 => (vec![], (0..n).map(|_| *random.pick(&variables)).collect()),
+        // constants alone
+        _ => (list(random, &constants, 3), list(random, &constants, 3)),
+    };
+    if random.one_in(2) { (lhs, rhs) } else { (rhs, lhs) }
+}
+
+fn guard(random: &mut Random) -> i32 {
+    match random.below(30) {
+        0 => 0,
+        1 => i32::MIN,
+        2 => i32::MIN + 1,
+        3 => i32::MAX,
+        4..=8 => -(random.between(1, 9) as i32),
+        _ => random.between(1, 9) as i32,
+    }
+}
+
+fn known(random: &mut Random, strings: &[u32]) -> Vec<u32> {
+    match random.below(4) {
+        0 => vec![],
+        1 => list(random, strings, 4),
+        2 => {
+            let mut all = strings.to_vec();
+            random.shuffle(&mut all);
+            all
+        }
+        _ => strings.to_vec(),
+    }
+}
+
+/// A call of the kind numbered so (call::NAMES), over a store that passes the audit.
+pub fn call(random: &mut Random, s: &Lent, kind: usize) -> Call {
+    let strings: Vec<u32> = (1..=s.count()).filter(|&t| s.is_string(t)).collect();
+    if strings.is_empty() {
+        return Call::MakeConstant { text: text("ab") };
+    }
+    let one = |random: &mut Random| *random.pick(&strings);
+    match kind {
+        0 => Call::Audit,
+        1 => Call::MakeConstant { text: word(random, &['a', 'b', '漢', '\u{10FFFF}'], 3) },
+        2 => Call::MakeVariable { name: name(random, 90, &['a', 'b']) },
+        3 => Call::MakeConcatenation { parts: list(random, &strings, 4) },
+        4 => Call::MakeLength { t: one(random) },
+        5 => {
+            let lengths: Vec<u32> = (1..=s.count()).filter(|&t| s.kind(t) == LENGTH).collect();
+            let from = if !lengths.is_empty() && random.one_in(3) { &lengths } else { &strings };
+            Call::MakeEquation { t: *random.pick(from), u: *random.pick(from) }
+        }
+        6 => Call::Find { t: one(random) },
+        7 => {
+            let a = one(random);
+            let members: Vec<u32> = strings.iter().copied().filter(|&u| s.class_root(u) == s.class_root(a)).collect();
+            Call::Explain { a, b: *random.pick(&members) }
+        }
+        8 => Call::NormalForm { known: known(random, &strings), t: one(random) },
+        9 => Call::DeepNormalForm { known: known(random, &strings), t: one(random) },
+        10 => {
+            let (lhs, rhs) = if random.one_in(2) { two_lists(random, s, &strings) } else { shaped_lists(random, s, &strings) };
+            Call::ResolveEquation { lhs, rhs, guard: guard(random) }
+        }
+        11 => {
+            let equations: Vec<u32> = (1..=s.count()).filter(|&t| s.kind(t) == EQUATION).collect();
+            match equations.is_empty() {
+                true => Call::DeepNormalForm { known: known(random, &strings), t: one(random) },
+                false => Call::Step { known: known(random, &strings), equation: *random.pick(&equations), guard: guard(random) },
+            }
+        }
+        12 | 13 => {
+            let (lhs, mut rhs) = two_lists(random, s, &strings);
+            if !random.one_in(4) {
+                rhs.resize(lhs.len(), strings[0]);
+            }
+            if kind == 12 { Call::NfEqual { lhs, rhs } } else { Call::NfEqualExplain { lhs, rhs } }
+        }
+        _ => unreachable!(),
+    }
+}
+
+/// A request, now and then with an argument or a slice that is refused.
+pub fn request(random: &mut Random, s: &Lent, kind: usize) -> Request {
+    let mut r = Request::new(call(random, s, kind));
+    if random.one_in(25) {
+        let any = 1 + random.below(s.count() as usize + 1) as u32;
+        let odd = *random.pick(&[0, s.count() + 1, u32::MAX, any]);
+        for t in r.call.terms_mut() {
+            if random.one_in(2) {
+                *t = odd;
+            }
+        }
+        for l in r.call.lists_mut() {
+            if random.one_in(2) {
+                l.push(odd);
+            }
+        }
+    }
+    if random.one_in(100) {
+        r.list_room = *random.pick(&[0, LIST - 1, LIST + 1]);
+    }
+    if random.one_in(200) {
+        r.answer_room = *random.pick(&[0, 7, 9]);
+    }
+    r
+}
+
+/// A request with lists of about 1,024 terms.
+pub fn long_request(random: &mut Random, s: &Lent, kind: usize) -> Request {
+    let mut r = Request::new(call(random, s, kind));
+    let strings: Vec<u32> = (1..=s.count()).filter(|&t| s.is_string(t)).collect();
+    if strings.is_empty() {
+        return r;
+    }
+    let n = *random.pick(&[LIST - 1, LIST, LIST, LIST + 1]);
+    let from: Vec<u32> = if random.one_in(2) { vec![*random.pick(&strings)] } else { strings };
+    for l in r.call.lists_mut() {
+        let mut m: Vec<u32> = (0..n).map(|_| *random.pick(&from)).collect();
+        std::mem::swap(l, &mut m);
+    }
+    r
+}

@@ -1,0 +1,251 @@
+//! A lent store: the state's six words and five slices, laid out as document 01's 'The records' says.
+
+use std::fmt;
+
+pub const TERMS: usize = 512;
+pub const CELLS: usize = 2048;
+pub const CHARS: usize = 16384;
+pub const REASONS: usize = 4096;
+pub const KEYS: usize = 4096;
+pub const LIST: usize = 1024;
+
+pub const CONSTANT: u32 = 1;
+pub const VARIABLE: u32 = 2;
+pub const CONCATENATION: u32 = 3;
+pub const LENGTH: u32 = 4;
+pub const EQUATION: u32 = 5;
+
+/// A reason or a split key.
+pub type Pair = (u32, u32);
+
+#[derive(Clone, PartialEq, Eq, Debug, Default)]
+pub struct Lent {
+    /// counts of terms, cells, characters, reasons and keys, and the name counter
+    pub state: Vec<u32>,
+    pub terms: Vec<u32>,
+    pub cells: Vec<u32>,
+    pub chars: Vec<u32>,
+    pub reasons: Vec<u32>,
+    pub keys: Vec<u32>,
+}
+
+#[derive(Clone, Copy, PartialEq, Eq, Debug, Default)]
+pub struct Term {
+    pub kind: u32,
+    pub first: u32,
+    pub second: u32,
+    pub class_parent: u32,
+    pub forest_parent: u32,
+    pub label_kind: u32,
+    pub label_value: u32,
+    pub stamp: u32,
+}
+
+impl Lent {
+    pub fn count(&self) -> u32 {
+        self.state[0]
+    }
+
+    pub fn is_term(&self, t: u32) -> bool {
+        1 <= t && t <= self.count()
+    }
+
+    pub fn term(&self, t: u32) -> Term {
+        let w = &self.terms[8 * t as usize..8 * t as usize + 8];
+        Term {
+            kind: w[0],
+            first: w[1],
+            second: w[2],
+            class_parent: w[3],
+            forest_parent: w[4],
+            label_kind: w[5],
+            label_value: w[6],
+            stamp: w[7],
+        }
+    }
+
+    pub fn kind(&self, t: u32) -> u32 {
+        if self.is_term(t) {
+            self.term(t).kind
+        } else {
+            0
+        }
+    }
+
+    pub fn is_string(&self, t: u32) -> bool {
+        matches!(self.kind(t), CONSTANT | VARIABLE | CONCATENATION)
+    }
+
+    /// value, second value, next
+    pub fn cell(&self, c: u32) -> (u32, u32, u32) {
+        let w = &self.cells[3 * c as usize..3 * c as usize + 3];
+        (w[0], w[1], w[2])
+    }
+
+    /// The values of a chain, of a store whose cells keep their rule.
+    pub fn chain(&self, first: u32) -> Vec<Pair> {
+        let mut values = Vec::new();
+        let mut c = first;
+        while c != 0 && c <= self.state[1] {
+            let (value, other, next) = self.cell(c);
+            values.push((value, other));
+            c = next;
+        }
+        values
+    }
+
+    pub fn parts(&self, t: u32) -> Vec<u32> {
+        self.chain(self.term(t).first).into_iter().map(|p| p.0).collect()
+    }
+
+    /// A constant's characters or a variable's name.
+    pub fn text(&self, t: u32) -> &[u32] {
+        let r = self.term(t);
+        &self.chars[r.first as usize..r.first as usize + r.second as usize]
+    }
+
+    pub fn class_root(&self, mut t: u32) -> u32 {
+        while self.term(t).class_parent != t {
+            t = self.term(t).class_parent;
+        }
+        t
+    }
+
+    pub fn is_edge(&self, t: u32) -> bool {
+        self.term(t).forest_parent != t
+    }
+
+    /// t, its forest parent and so on up to the tree's root
+    pub fn ancestors(&self, t: u32) -> Vec<u32> {
+        let mut list = vec![t];
+        while self.is_edge(*list.last().unwrap()) {
+            list.push(self.term(*list.last().unwrap()).forest_parent);
+        }
+        list
+    }
+
+    /// The children of the edges from a, then from b, to their nearest shared ancestor.
+    pub fn path(&self, a: u32, b: u32) -> Option<Vec<u32>> {
+        let from_a = self.ancestors(a);
+        let from_b = self.ancestors(b);
+        let at = from_a.iter().position(|x| from_b.contains(x))?;
+        let shared = from_a[at];
+        let mut path = from_a[..at].to_vec();
+        path.extend(from_b.iter().take_while(|&&x| x != shared));
+        Some(path)
+    }
+
+    fn pairs(words: &[u32], count: u32) -> Vec<Pair> {
+        words[..2 * count as usize].chunks(2).map(|p| (p[0], p[1])).collect()
+    }
+
+    pub fn reason_list(&self) -> Vec<Pair> {
+        Lent::pairs(&self.reasons, self.state[3])
+    }
+
+    pub fn key_list(&self) -> Vec<Pair> {
+        Lent::pairs(&self.keys, self.state[4])
+    }
+
+    /// How many records each slice and its limit hold, in the state's order.
+    pub fn room(&self) -> [usize; 5] {
+        [
+            TERMS.min((self.terms.len() / 8).saturating_sub(1)),
+            CELLS.min((self.cells.len() / 3).saturating_sub(1)),
+            CHARS.min(self.chars.len()),
+            REASONS.min(self.reasons.len() / 2),
+            KEYS.min(self.keys.len() / 2),
+        ]
+    }
+
+    /// What is counted, words above the counts and record 0 left out.
+    pub fn counted(&self) -> [&[u32]; 6] {
+        let n: Vec<usize> = self.state.iter().map(|&x| x as usize).collect();
+        [
+            &self.state,
+            &self.terms[8..8 * (n[0] + 1)],
+            &self.cells[3..3 * (n[1] + 1)],
+            &self.chars[..n[2]],
+            &self.reasons[..2 * n[3]],
+            &self.keys[..2 * n[4]],
+        ]
+    }
+
+    fn put(slice: &mut Vec<u32>, at: usize, words: &[u32]) {
+        if slice.len() < at + words.len() {
+            slice.resize(at + words.len(), 0);
+        }
+        slice[at..at + words.len()].copy_from_slice(words);
+    }
+
+    // -- appending, with no look at the room --
+
+    /// A term of its own class.
+    pub fn add_term(&mut self, kind: u32, first: u32, second: u32) -> u32 {
+        self.state[0] += 1;
+        let t = self.state[0];
+        Lent::put(&mut self.terms, 8 * t as usize, &[kind, first, second, t, t, 0, 0, 0]);
+        t
+    }
+
+    pub fn add_text(&mut self, text: &[u32]) -> u32 {
+        let place = self.state[2];
+        Lent::put(&mut self.chars, place as usize, text);
+        self.state[2] += text.len() as u32;
+        place
+    }
+
+    pub fn add_chain(&mut self, values: &[Pair]) -> u32 {
+        let first = self.state[1] + 1;
+        for (i, &(value, other)) in values.iter().enumerate() {
+            self.state[1] += 1;
+            let c = self.state[1];
+            let next = if i + 1 < values.len() { c + 1 } else { 0 };
+            Lent::put(&mut self.cells, 3 * c as usize, &[value, other, next]);
+        }
+        first
+    }
+
+    pub fn add_reason(&mut self, r: Pair) {
+        Lent::put(&mut self.reasons, 2 * self.state[3] as usize, &[r.0, r.1]);
+        self.state[3] += 1;
+    }
+
+    pub fn add_key(&mut self, k: Pair) {
+        Lent::put(&mut self.keys, 2 * self.state[4] as usize, &[k.0, k.1]);
+        self.state[4] += 1;
+    }
+}
+
+pub fn spelled(text: &[u32]) -> String {
+    text.iter().map(|&c| char::from_u32(c).map_or_else(|| format!("<{c:x}>"), String::from)).collect()
+}
+
+/// One record a line, as far as they can be read.
+impl fmt::Display for Lent {
+    fn fmt(&self, f: &mut fmt::Formatter) -> fmt::Result {
+        writeln!(f, "state {:?} room {:?}", self.state, self.room())?;
+        if crate::audit::audit(self) == 1 {
+            return Ok(());
+        }
+        for t in 1..=self.count() {
+            let r = self.term(t);
+            let place = r.first as usize;
+            let end = place + r.second as usize;
+            let what = match r.kind {
+                CONSTANT | VARIABLE if end <= self.chars.len() => format!("{:?}", spelled(&self.chars[place..end])),
+                CONCATENATION => format!("{:?}", self.parts(t)),
+                _ => format!("{} {}", r.first, r.second),
+            };
+            let kind = ["", "constant", "variable", "concatenation", "length", "equation"].get(r.kind as usize).unwrap_or(&"?");
+            write!(f, "{t}: {kind} {what}  class {} forest {}", r.class_parent, r.forest_parent)?;
+            if r.label_kind == 3 {
+                write!(f, " label 3 {:?}", self.chain(r.label_value))?;
+            } else if r.label_kind != 0 {
+                write!(f, " label {} {}", r.label_kind, r.label_value)?;
+            }
+            writeln!(f, " stamp {}", r.stamp)?;
+        }
+        write!(f, "reasons {:?} keys {:?}", self.reason_list(), self.key_list())
+    }
+}

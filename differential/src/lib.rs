@@ -1,0 +1,16 @@
+//! The unchanged resolver in Rust beside the port, on the same lent stores.
+
+pub mod audit;
+pub mod call;
+pub mod claim;
+pub mod compare;
+pub mod damage;
+pub mod draft;
+pub mod generate;
+pub mod lent;
+pub mod model;
+pub mod oracle;
+#[cfg(feature = "port")]
+pub mod port;
+pub mod random;
+pub mod shrink;

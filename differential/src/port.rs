@@ -1,0 +1,125 @@
+//! The port's static library, called as a C caller would. Every slice stands between fences, so that a word written beside it shows.
+
+use crate::{call::*, lent::Lent};
+
+macro_rules! interface {
+    ($($name:ident($($arg:ident: $ty:ty),*);)*) => {
+        extern "C" {
+            $(fn $name(
+                state: *mut u32, state_len: usize,
+                terms: *mut u32, terms_len: usize,
+                cells: *mut u32, cells_len: usize,
+                chars: *mut u32, chars_len: usize,
+                reasons: *mut u32, reasons_len: usize,
+                keys: *mut u32, keys_len: usize,
+                $($arg: $ty),*
+            ) -> u32;)*
+        }
+    };
+}
+
+interface! {
+    labels_audit();
+    labels_make_constant(text: *const u32, text_len: usize, answer: *mut u32, answer_len: usize);
+    labels_make_variable(name: *const u32, name_len: usize, answer: *mut u32, answer_len: usize);
+    labels_make_concatenation(parts: *const u32, parts_len: usize, answer: *mut u32, answer_len: usize);
+    labels_make_length(t: u32, answer: *mut u32, answer_len: usize);
+    labels_make_equation(t: u32, u: u32, answer: *mut u32, answer_len: usize);
+    labels_find(t: u32, answer: *mut u32, answer_len: usize);
+    labels_explain(a: u32, b: u32);
+    labels_normal_form(known: *const u32, known_len: usize, t: u32, list: *mut u32, list_len: usize, answer: *mut u32, answer_len: usize);
+    labels_deep_normal_form(known: *const u32, known_len: usize, t: u32, list: *mut u32, list_len: usize, answer: *mut u32, answer_len: usize);
+    labels_resolve_equation(lhs: *const u32, lhs_len: usize, rhs: *const u32, rhs_len: usize, guard: i32, list: *mut u32, list_len: usize, answer: *mut u32, answer_len: usize);
+    labels_step(known: *const u32, known_len: usize, equation: u32, guard: i32, list: *mut u32, list_len: usize, answer: *mut u32, answer_len: usize);
+    labels_nf_equal(lhs: *const u32, lhs_len: usize, rhs: *const u32, rhs_len: usize, answer: *mut u32, answer_len: usize);
+    labels_nf_equal_explain(lhs: *const u32, lhs_len: usize, rhs: *const u32, rhs_len: usize);
+}
+
+const FENCE: u32 = 0xFEFE_FEFE;
+const WIDTH: usize = 16;
+
+struct Fenced(Vec<u32>);
+
+impl Fenced {
+    fn new(words: &[u32]) -> Self {
+        let mut all = vec![FENCE; WIDTH];
+        all.extend_from_slice(words);
+        all.extend([FENCE; WIDTH]);
+        Fenced(all)
+    }
+
+    fn slice(&mut self) -> &mut [u32] {
+        let n = self.0.len() - WIDTH;
+        &mut self.0[WIDTH..n]
+    }
+
+    fn taken(self) -> Vec<u32> {
+        let n = self.0.len() - WIDTH;
+        let fences = self.0[..WIDTH].iter().chain(&self.0[n..]);
+        assert!(fences.copied().all(|w| w == FENCE), "a word was written outside its slice");
+        self.0[WIDTH..n].to_vec()
+    }
+}
+
+/// The lent slices and the answer's, for calls that are timed: nothing is copied by a call.
+pub struct Lending<'a> {
+    pub store: &'a mut Lent,
+    pub list: &'a mut [u32],
+    pub answer: &'a mut [u32],
+}
+
+pub fn call(l: &mut Lending, call: &Call) -> u32 {
+    let s = &mut *l.store;
+    raw([&mut s.state, &mut s.terms, &mut s.cells, &mut s.chars, &mut s.reasons, &mut s.keys], l.list, l.answer, call)
+}
+
+fn raw(store: [&mut [u32]; 6], list: &mut [u32], answer: &mut [u32], call: &Call) -> u32 {
+    let [state, terms, cells, chars, reasons, keys] = store;
+    macro_rules! with_store {
+        ($f:ident $(, $arg:expr)*) => {
+            unsafe {
+                $f(
+                    state.as_mut_ptr(), state.len(),
+                    terms.as_mut_ptr(), terms.len(),
+                    cells.as_mut_ptr(), cells.len(),
+                    chars.as_mut_ptr(), chars.len(),
+                    reasons.as_mut_ptr(), reasons.len(),
+                    keys.as_mut_ptr(), keys.len(),
+                    $($arg),*
+                )
+            }
+        };
+    }
+    let (a, n) = (answer.as_mut_ptr(), answer.len());
+    let (l, m) = (list.as_mut_ptr(), list.len());
+    match call {
+        Call::Audit => with_store!(labels_audit),
+        Call::MakeConstant { text } => with_store!(labels_make_constant, text.as_ptr(), text.len(), a, n),
+        Call::MakeVariable { name } => with_store!(labels_make_variable, name.as_ptr(), name.len(), a, n),
+        Call::MakeConcatenation { parts } => with_store!(labels_make_concatenation, parts.as_ptr(), parts.len(), a, n),
+        Call::MakeLength { t } => with_store!(labels_make_length, *t, a, n),
+        Call::MakeEquation { t, u } => with_store!(labels_make_equation, *t, *u, a, n),
+        Call::Find { t } => with_store!(labels_find, *t, a, n),
+        Call::Explain { a, b } => with_store!(labels_explain, *a, *b),
+        Call::NormalForm { known, t } => with_store!(labels_normal_form, known.as_ptr(), known.len(), *t, l, m, a, n),
+        Call::DeepNormalForm { known, t } => with_store!(labels_deep_normal_form, known.as_ptr(), known.len(), *t, l, m, a, n),
+        Call::ResolveEquation { lhs, rhs, guard } => {
+            with_store!(labels_resolve_equation, lhs.as_ptr(), lhs.len(), rhs.as_ptr(), rhs.len(), *guard, l, m, a, n)
+        }
+        Call::Step { known, equation, guard } => {
+            with_store!(labels_step, known.as_ptr(), known.len(), *equation, *guard, l, m, a, n)
+        }
+        Call::NfEqual { lhs, rhs } => with_store!(labels_nf_equal, lhs.as_ptr(), lhs.len(), rhs.as_ptr(), rhs.len(), a, n),
+        Call::NfEqualExplain { lhs, rhs } => with_store!(labels_nf_equal_explain, lhs.as_ptr(), lhs.len(), rhs.as_ptr(), rhs.len()),
+    }
+}
+
+pub fn run(s: &Lent, request: &Request) -> Outcome {
+    let mut store = [&s.state, &s.terms, &s.cells, &s.chars, &s.reasons, &s.keys].map(|w| Fenced::new(w));
+    let mut list = Fenced::new(&vec![BLANK; request.list_room]);
+    let mut answer = Fenced::new(&vec![BLANK; request.answer_room]);
+    let code = raw(store.each_mut().map(|f| f.slice()), list.slice(), answer.slice(), &request.call);
+    let [state, terms, cells, chars, reasons, keys] = store.map(Fenced::taken);
+    let exit = Lent { state, terms, cells, chars, reasons, keys };
+    Outcome { code, answer: answer.taken(), list: list.taken(), exit }
+}
