@@ -7,3 +7,4 @@ pub mod Added
 pub mod Walk
 pub mod Equal
 pub mod Sound
+pub mod Turns

@@ -53,12 +53,12 @@ pub record Walks (work : Seen → Work Seen) (P : Store → Type 0) (terms cells
   pub kept : pairsView reasons′ count ≡ pairsView reasons count
   pub more : count ≤ r .count
   pub shows : (e : Standing terms cells reasons n k) → P (e .store) → (seen : Seen) → Marks n table seen
-    → Shows (e .store) n table′ reasons′ r (work seen (withReasons (e .store) (pairsView reasons count)))
+      → Shows (e .store) n table′ reasons′ r (work seen (withReasons (e .store) (pairsView reasons count)))
 
--- the edges left of a path: from x up to m, and then from b up to m
-abbrev pub left : List Term → ℕ → ℕ → Bool → ℕ → List ℕ
-left ts m b true x = upTo m (aboveIn ts x)
-left ts m b false x = upTo m (aboveIn ts x) ++ upTo m (aboveIn ts b)
+-- the edges ahead on a path: from x up to m, and then from b up to m unless x is on b's side
+abbrev pub ahead : List Term → ℕ → ℕ → Bool → ℕ → List ℕ
+ahead ts m b true x = upTo m (aboveIn ts x)
+ahead ts m b false x = upTo m (aboveIn ts x) ++ upTo m (aboveIn ts b)
 
 -- one reason more, where it fits
 pub record Gives (l l′ : List ℕ) (n kind value : ℕ) (r : Walked) : Type 0 where

@@ -1,3 +1,4 @@
+use Rattle.engine.proofs.Turns.{gives-yes, gives-no, pushed-fits}
 use native.Mathlib.Omega.{arith}
 use borrow.Author.Needs.{needs}
 use Rattle.engine.proofs.give.Statement.{statement}
@@ -12,7 +13,7 @@ push-reason-unchecked-requires c κs = search needs
 
 -- src/lib.rt:59:20
 add-t8 : tie.Need-add-t8
-add-t8 c = search needs
+add-t8 c = record { fits = search pushed-fits }
 
 -- src/lib.rt:57:9
 same-length : tie.Need-same-length
@@ -20,7 +21,7 @@ same-length c = search needs
 
 -- src/lib.rt:57:9
 returns : tie.Need-returns
-returns c = search needs
+returns c = search gives-yes
 
 -- src/lib.rt:53:1
 same-length-2 : tie.Need-same-length-2
@@ -28,7 +29,7 @@ same-length-2 c = search needs
 
 -- src/lib.rt:53:1
 returns-2 : tie.Need-returns-2
-returns-2 c = search needs
+returns-2 c = search gives-no
 
 pub give-spec : {M : Type 1} → statement M
 give-spec =
