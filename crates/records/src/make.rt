@@ -7,7 +7,7 @@ ghost use lib.ListN.{length};
 ghost use Rattle.records.specs.Lists.{all, joined, firstBelow};
 ghost use Rattle.records.specs.Store.{within, isConstant, text};
 ghost use Rattle.records.specs.View.{termLimit, charLimit, charRoom, lent, storeOf, textAt, lengths};
-ghost use Rattle.records.specs.Rules.{isChar};
+ghost use Rattle.records.specs.Rules.{isChar, listLimit};
 ghost use Rattle.records.specs.Make.{numberOf, hasText, makeText, makeConstant, makeVariable};
 ghost use Rattle.records.specs.Puts.{TextsWithin};
 ghost use Rattle.records.specs.Audited.{Ready};
@@ -129,7 +129,7 @@ pub fn make_variable_unchecked(
 
 // Whether term t is the constant of the joined texts of a list, of `total` characters. Only texts of one length are compared.
 fn has_joined(terms: &[u32], chars: &[u32], t: u32, list: &[u32], total: usize) -> bool
-    requires { ⌜ length (now list) ≤ 1024 ⌝ ∗ ⌜ TextsWithin (now terms) (length (now chars)) (now list) ⌝ ∗ ⌜ total ≡ lengths (now terms) (now list) ⌝ }
+    requires { ⌜ length (now list) ≤ listLimit ⌝ ∗ ⌜ TextsWithin (now terms) (length (now chars)) (now list) ⌝ ∗ ⌜ total ≡ lengths (now terms) (now list) ⌝ }
     ensures { λ r. ⌜ r ≡ hasText (now (terms .entry)) (now (chars .entry)) 1 (joined (textAt (now (terms .entry)) (now (chars .entry))) (now (list .entry))) t ⌝ }
 {
     if kind(terms, t) != 1 {
@@ -144,7 +144,7 @@ fn has_joined(terms: &[u32], chars: &[u32], t: u32, list: &[u32], total: usize) 
 
 // The lowest-numbered of n terms that is the constant of the joined texts of a list; 0 where there is none.
 fn find_joined(terms: &[u32], chars: &[u32], n: usize, list: &[u32], total: usize) -> u32
-    requires { ⌜ n ≤ termLimit ⌝ ∗ ⌜ length (now list) ≤ 1024 ⌝ ∗ ⌜ TextsWithin (now terms) (length (now chars)) (now list) ⌝ ∗ ⌜ total ≡ lengths (now terms) (now list) ⌝ }
+    requires { ⌜ n ≤ termLimit ⌝ ∗ ⌜ length (now list) ≤ listLimit ⌝ ∗ ⌜ TextsWithin (now terms) (length (now chars)) (now list) ⌝ ∗ ⌜ total ≡ lengths (now terms) (now list) ⌝ }
     ensures { λ r. ⌜ r ≡ numberOf (firstBelow (λ i. hasText (now (terms .entry)) (now (chars .entry)) 1 (joined (textAt (now (terms .entry)) (now (chars .entry))) (now (list .entry))) (suc i)) n) ⌝ }
 {
     let mut t: u32 = 0;
@@ -167,7 +167,7 @@ pub fn join_constants_unchecked(
     c: State,
     list: &[u32],
 ) -> Made
-    requires { ⌜ Ready (lent (now terms) (now cells) (now chars) (now reasons) (now keys)) c ⌝ ∗ ⌜ length (now list) ≤ 1024 ⌝ ∗ ⌜ all (isConstant (storeOf (lent (now terms) (now cells) (now chars) (now reasons) (now keys)) c)) (now list) ≡ true ⌝ }
+    requires { ⌜ Ready (lent (now terms) (now cells) (now chars) (now reasons) (now keys)) c ⌝ ∗ ⌜ length (now list) ≤ listLimit ⌝ ∗ ⌜ all (isConstant (storeOf (lent (now terms) (now cells) (now chars) (now reasons) (now keys)) c)) (now list) ≡ true ⌝ }
     ensures { λ r. ⌜ Working (λ s. makeConstant (joined (text s) (now (list .entry))) s) (lent (now (terms .entry)) (now (cells .entry)) (now (chars .entry)) (now (reasons .entry)) (now (keys .entry))) (lent (now (terms .exit)) (now (cells .entry)) (now (chars .exit)) (now (reasons .entry)) (now (keys .entry))) c (made r (lent (now (terms .exit)) (now (cells .entry)) (now (chars .exit)) (now (reasons .entry)) (now (keys .entry)))) ⌝ }
 {
     let total = joined_length_unchecked(terms, list);
