@@ -407,7 +407,7 @@ fn cells_ok(cells: &[u32], c: State) -> bool
     true
 }
 
-fn chars_ok(chars: &[u32], n: usize) -> bool
+pub(crate) fn chars_ok(chars: &[u32], n: usize) -> bool
     ensures { λ r. ⌜ r ≡ all isChar (charsView (now (chars .entry)) n) ⌝ }
 {
     let mut i: usize = 0;
