@@ -3,6 +3,8 @@ pub mod Views
 pub mod Climbs
 pub mod Paths
 pub mod RuleLaws
+pub mod NameLaws
+pub mod TermLaws
 pub mod Rooms
 pub mod Puts
 pub mod Adds

@@ -70,6 +70,9 @@ pub right-falsum : (a b : Bool) → b ≡ false → a || b ≡ a
 right-falsum true b e = refl
 right-falsum false b e = e
 
+pub or-none : (a : Bool) → a || false ≡ a
+or-none a = right-falsum a false refl
+
 -- one test of several fails, and one decides where the others pass
 pub three-1 : (a b c : Bool) → a ≡ false → false ≡ (a && b && c)
 three-1 a b c e = rw e
