@@ -24,6 +24,7 @@ pub mod Append
 pub mod Extend
 pub mod Beside
 pub mod Kept
+pub mod PairLaws
 pub mod Meant
 pub mod Builds
 pub mod Naming

@@ -399,6 +399,10 @@ module _ {A : Type 0} where
   every-map f none-left = none-left
   every-map f (and p k) = and (f _ p) (every-map f k)
 
+  pub every-both : {P Q : A → Type 0} {l : List A} → Every P l → Every Q l → Every (λ a. P a × Q a) l
+  every-both none-left none-left = none-left
+  every-both (and p h) (and q k) = and (p, q) (every-both h k)
+
   pub every-append : {P : A → Type 0} {l m : List A} → Every P l → Every P m → Every P (l ++ m)
   every-append none-left k = k
   every-append (and p h) k = and p (every-append h k)
