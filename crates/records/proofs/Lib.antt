@@ -29,3 +29,4 @@ pub mod Meant
 pub mod Builds
 pub mod Naming
 pub mod BuildCalls
+pub mod Auditing
