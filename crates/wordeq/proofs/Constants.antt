@@ -7,10 +7,9 @@ use mathlib.Core.Option.{Option, none, some}
 use Prim.Native.Nat.{ℕ, _≤_}
 use native.Mathlib.Omega.{arith}
 use lib.ListN.{length}
-use lib.Dec.{ltb}
 use borrow.Author.Tests.{eqb-true, ltb-true, not-true}
-use Rattle.records.specs.Lists.{if_then_else_, all, any, firstOf, joined, sameWord, isIn, Every}
-use Rattle.records.specs.Store.{Store, Out, ok, isConstant, isVariable, text}
+use Rattle.records.specs.Lists.{if_then_else_, all, firstOf, joined, isIn}
+use Rattle.records.specs.Store.{Store, isConstant, isVariable, text}
 use Rattle.records.specs.Rules.{isChar}
 use Rattle.records.specs.Make.{makeConstant}
 use Rattle.records.specs.Meaning.{Words, Reading}
@@ -19,11 +18,11 @@ use Rattle.records.proofs.Lists.{both-left, both-right, either, clash, all-join
 use Rattle.records.proofs.Readings.{text-characters}
 use Rattle.records.proofs.Kept.{ConstantMade, constant-kept, constant-stops}
 use Rattle.records.proofs.Meant.{constant-word}
-use Rattle.wordeq.specs.Wordeq.{Answer, conflict, propagate, answer, same, fixed, lettersOf, letters, unequal, short, absent, constants, isPlain, alias, emptiesAt, empties, assigns, differ, clashes}
+use Rattle.wordeq.specs.Wordeq.{conflict, answer, same, fixed, lettersOf, letters, unequal, short, absent, constants, isPlain, alias, emptiesAt, empties, assigns, differ, clashes}
 use Rattle.wordeq.proofs.Words.{fill-within, fill-in, any-in, differ-apart, empty-each, first-passing}
 use Rattle.wordeq.proofs.Ends.{Ends, ends-give, ends-by, ends-if, ends-then}
-use Rattle.wordeq.proofs.Cited.{Strings, Cited, cited-none}
-use Rattle.wordeq.proofs.Good.{Good, passes, answers, later-none, later-made, Step, step-pass, step-conflict, step-propagate}
+use Rattle.wordeq.proofs.Cited.{cited-none}
+use Rattle.wordeq.proofs.Good.{Good, passes, later-none, later-made, Step, step-pass, step-conflict, step-propagate}
 use Rattle.wordeq.proofs.Tile.{fixed-word}
 
 -- no words make the sides equal

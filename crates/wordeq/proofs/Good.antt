@@ -1,19 +1,18 @@
 -- What is shown of each step, and of steps in sequence.
 use mathlib.Core.Path.{_≡_, refl, sym, ap, _∙_}
-use mathlib.Core.Bool.{Bool, true, false}
-use mathlib.Core.List.{List, [], _∷_, _++_, append-assoc, append-nil}
+use mathlib.Core.Bool.{Bool, false}
+use mathlib.Core.List.{List, [], _++_, append-assoc, append-nil}
 use mathlib.Core.Option.{Option, none, some}
-use lib.IntN.{ℤ}
 use Prim.Native.Nat.{ℕ, _≤_}
-use Rattle.records.specs.Lists.{joined, Every, none-left, and}
-use Rattle.records.specs.Store.{Store, Out, ok, count, kind, isString}
-use Rattle.records.specs.Meaning.{Words, Reading, Holds}
+use Rattle.records.specs.Lists.{joined, and}
+use Rattle.records.specs.Store.{Store, count}
+use Rattle.records.specs.Meaning.{Words}
 use Rattle.records.specs.Audited.{Audited}
 use Rattle.records.proofs.Lists.{joined-same, every-map}
 use Rattle.records.proofs.Grown.{Grown, grown-none, grown-then, grown-kind, present, string-here}
 use Rattle.records.proofs.Kept.{MadeIn, KeyAdded}
 use Rattle.wordeq.specs.Wordeq.{Answer, done, saturated, conflict, propagate, split, Tried, answer, pass, settled, _orElse_}
-use Rattle.wordeq.specs.Meaning.{Chosen, Worth, Sound}
+use Rattle.wordeq.specs.Meaning.{Worth, Sound}
 use Rattle.wordeq.proofs.Ends.{Ends, ends-give, ends-map, ends-then}
 use Rattle.wordeq.proofs.Cited.{Strings, strings-later, Under, Cited, cited-all}
 

@@ -8,3 +8,4 @@ pub mod Tile
 pub mod Constants
 pub mod Split
 pub mod Resolve
+pub mod Equal

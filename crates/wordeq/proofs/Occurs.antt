@@ -6,15 +6,12 @@ use mathlib.Core.Option.{Option, none, some}
 use Prim.Native.Nat.{ℕ, _<_}
 use native.Mathlib.Omega.{arith}
 use lib.ListN.{length}
-use lib.Dec.{ltb}
 use borrow.Author.Tests.{eqb-true, ltb-true}
 use Rattle.records.specs.Lists.{any, joined, Every, and}
-use Rattle.records.specs.Store.{Store, Out, ok, isConstant, isString, text, sameClass}
+use Rattle.records.specs.Store.{Store, isConstant, text, sameClass}
 use Rattle.records.specs.Meaning.{Words, Reading}
-use Rattle.records.specs.Audited.{Audited}
 use Rattle.records.proofs.Lists.{both-left, both-right}
-use Rattle.engine.specs.Explain.{explain}
-use Rattle.wordeq.specs.Wordeq.{Answer, isFull, occurrence, occursAt, occurs}
+use Rattle.wordeq.specs.Wordeq.{isFull, occurrence, occursAt, occurs}
 use Rattle.wordeq.proofs.Words.{inside-longer, some-long}
 use Rattle.wordeq.proofs.Ends.{Ends, ends-if, ends-then}
 use Rattle.wordeq.proofs.Cited.{Strings, Cited, explain-ends}

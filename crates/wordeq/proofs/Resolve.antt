@@ -1,16 +1,16 @@
 -- Demand 3 of wordeq: the steps in sequence.
 use mathlib.Core.Path.{_≡_, refl, sym, ap, subst, _∙_}
-use mathlib.Core.Bool.{Bool, true, false, _&&_, _||_}
+use mathlib.Core.Bool.{Bool, true, false}
 use mathlib.Core.List.{List, [], _∷_, _++_, append-nil, List·Memᴰ, Memᴰ·append-left, Memᴰ·append-right}
 use mathlib.Core.Option.{Option, none, some}
-use Prim.Native.Nat.{ℕ, _+_, _<_, _≤_}
+use Prim.Native.Nat.{ℕ}
 use native.Mathlib.Omega.{arith}
 use lib.ListN.{length, length-append}
 use lib.IntN.{ℤ}
 use lib.Dec.{ltb}
 use borrow.Author.Tests.{ltb-false}
-use Rattle.records.specs.Lists.{if_then_else_, all, any, joined, Every}
-use Rattle.records.specs.Store.{Store, Out, ok, stop, Work, _>>=_, give, isConcat, isString}
+use Rattle.records.specs.Lists.{if_then_else_, all, any, joined}
+use Rattle.records.specs.Store.{Store, ok, stop, _>>=_, give, isConcat, isString}
 use Rattle.records.specs.Make.{withReasons}
 use Rattle.records.specs.Meaning
 use Rattle.records.specs.Meaning.{Words, Reading, Holds, True}
@@ -20,10 +20,10 @@ use Rattle.records.proofs.Grown.{Grown, grown-none, grown-then}
 use Rattle.records.proofs.Beside.{audited-beside, grown-beside, reading-beside}
 use Rattle.normalize.specs.Normalize.{flatten}
 use Rattle.normalize.proofs.Atoms.{Flat, flatten-flat, flatten-stops, flatten-atoms}
-use Rattle.wordeq.specs.Wordeq.{Answer, done, saturated, conflict, propagate, split, Tried, answer, after, strip, isBare, orDone, steps, softened, closed, resolve}
-use Rattle.wordeq.specs.Meaning.{Chosen, Worth, Sound}
+use Rattle.wordeq.specs.Wordeq.{Answer, done, saturated, conflict, propagate, split, answer, after, isBare, orDone, steps, softened, closed, resolve}
+use Rattle.wordeq.specs.Meaning.{Chosen, Sound}
 use Rattle.wordeq.proofs.Ends.{Working, Ends, ends-give, ends-map, ends-by, ends-if, ends-then}
-use Rattle.wordeq.proofs.Cited.{Strings, Under, Cited, holds-fewer, holds-back, added-reasons}
+use Rattle.wordeq.proofs.Cited.{Strings, Under, holds-fewer, holds-back, added-reasons}
 use Rattle.wordeq.proofs.Good.{More, more-none, Later, later-then, later-cited, joined-local, worth-back, Calm, Good, passes, answers, Step, step-else, step-flip}
 use Rattle.wordeq.proofs.Strip.{Apart, Stripped, strip-ends}
 use Rattle.wordeq.proofs.Occurs.{occurs-step}

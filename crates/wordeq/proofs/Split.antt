@@ -1,31 +1,29 @@
 -- Step 7: both splits.
-use mathlib.Core.Path.{_≡_, refl, sym, ap, subst, _∙_}
+use mathlib.Core.Path.{_≡_, refl, sym, ap, _∙_}
 use mathlib.Core.Bool.{Bool, true, false, _&&_, _||_}
 use mathlib.Core.List.{List, [], _∷_, _++_, append-nil, List·Memᴰ, List·Memᴰ·head, List·Memᴰ·tail}
 use mathlib.Core.Logic.{⊎-elim}
-use Prim.Native.Nat.{ℕ, suc, _≤_}
+use Prim.Native.Nat.{ℕ, _≤_}
 use native.Mathlib.Omega.{arith}
 use native.Mathlib.Decide.{decLe, ℕ-discrete}
 use lib.ListN.{length, drop}
 use lib.IntN.{ℤ, negℤ}
-use lib.Dec.{eqb}
 use borrow.Author.Tests.{eqb-true, eq-eqb}
-use Rattle.records.specs.Lists.{if_then_else_, all, joined, Every, none-left, and}
-use Rattle.records.specs.Store.{Store, Term, Out, ok, count, term, kind, within, isConstant, isString, isLength, text}
+use Rattle.records.specs.Lists.{if_then_else_, all, joined, none-left, and}
+use Rattle.records.specs.Store.{Store, Term, count, term, kind, within, isConstant, isString, text}
 use Rattle.records.specs.Rules.{isChar, isEquatable}
 use Rattle.records.specs.Make.{addKey, isKey, makeConcat, makeLength, makeEquation}
 use Rattle.records.specs.Meaning.{Words, Reading, True}
 use Rattle.records.specs.Audited.{Audited}
 use Rattle.records.proofs.Lists.{both-left, both-right, both-true, or-left, or-right, every-all, all-drop}
 use Rattle.records.proofs.Readings.{text-characters}
-use Rattle.records.proofs.Grown.{Grown, grown-none, grown-then, grown-kind, grown-string, present, string-here}
+use Rattle.records.proofs.Grown.{Grown, grown-then, grown-kind, grown-string, present, string-here}
 use Rattle.records.proofs.Kept.{made-string, ConcatMade, concat-kept, concat-stops, LengthMade, length-kept, length-stops, EquationMade, equation-kept, equation-stops, KeyAdded, key-kept, key-stops, Fresh, fresh-kept, fresh-stops}
 use Rattle.records.proofs.Meant.{constant-word, concat-word, equation-true, lengths-true, grown-true}
-use Rattle.wordeq.specs.Wordeq.{Answer, saturated, split, Tried, answer, freshVariable, splitCharacter, splitHeads, splitBy, splits}
+use Rattle.wordeq.specs.Wordeq.{split, Tried, answer, freshVariable, splitCharacter, splitHeads, splitBy, splits}
 use Rattle.wordeq.specs.Meaning.{Chosen, Sound}
 use Rattle.wordeq.proofs.Words.{longer-is, first-is}
 use Rattle.wordeq.proofs.Ends.{Ends, ends-give, ends-map, ends-by, ends-if, ends-then}
-use Rattle.wordeq.proofs.Cited.{Strings}
 use Rattle.wordeq.proofs.Good.{Later, later-none, later-then, later-made, later-key, Good, answers, good-after, good-flip, Step, step-pass}
 use Rattle.wordeq.proofs.Strip.{Apart}
 use Rattle.wordeq.proofs.Constants.{constant-ends}

@@ -1,12 +1,12 @@
 -- Step 1: what is stripped from one side has the words of what is stripped from the other, and the heads left are two terms.
 use mathlib.Core.Path.{_≡_, refl, sym, ap, subst, _∙_}
 use mathlib.Core.Bool.{Bool, true, false, _&&_, _||_}
-use mathlib.Core.List.{List, [], _∷_, _++_, reverse}
+use mathlib.Core.List.{List, [], _∷_, _++_, reverse, reverse-cons}
 use Prim.Native.Nat.{ℕ}
 use lib.Dec.{eqb}
-use borrow.Author.Tests.{eqb-true, eqb-false}
+use borrow.Author.Tests.{eqb-true, eq-eqb}
 use Rattle.records.specs.Lists.{if_then_else_, joined, sameWord, Every, none-left, and}
-use Rattle.records.specs.Store.{Store, Out, ok, Work, _>>_, give, kind, isConstant, isString, text, sameClass}
+use Rattle.records.specs.Store.{Store, ok, isConstant, isString, text, sameClass}
 use Rattle.records.specs.Meaning.{Words, Reading}
 use Rattle.records.specs.Audited.{Audited}
 use Rattle.records.proofs.Lists.{word-is, clash, every-append}
@@ -14,7 +14,7 @@ use Rattle.wordeq.specs.Wordeq.{same, explainMatch, stripHeads, strip}
 use Rattle.wordeq.proofs.Words
 use Rattle.wordeq.proofs.Words.{Alike, alike-reverse, cancel-front, cancel-back, unturn}
 use Rattle.wordeq.proofs.Ends.{Ends, ends-give, ends-map, ends-if, ends-then}
-use Rattle.wordeq.proofs.Cited.{Strings, strings-later, Cited, cited-none, cited-map, cited-then, explain-ends}
+use Rattle.wordeq.proofs.Cited.{Strings, strings-later, Cited, cited-none, cited-then, explain-ends}
 
 -- SAME
 
@@ -46,11 +46,8 @@ module _ (s : Store) (a b : ℕ) where
   -- a number is the same as itself
   pub same-self : a ≡ b → same s a b ≡ true
   unfolding same
-  same-self e = rw e (go (eqb b b) (eq-self b))
+  same-self e = rw e (go (eqb b b) (eq-eqb b b refl))
     where
-      eq-self : (x : ℕ) → eqb x x ≡ true
-      eq-self x = borrow.Author.Tests.eq-eqb x x refl
-
       go : (x : Bool) → x ≡ true → x || (if isConstant s b && isConstant s b then sameWord (text s b) (text s b) else sameClass s b b) ≡ true
       go true q = refl
       go false q = clash q refl
@@ -127,7 +124,7 @@ every-left (x ∷ l) m (and p k) = and p (every-left l m k)
 
 every-reverse : {A : Type 0} {P : A → Type 0} {l : List A} → Every P l → Every P (reverse l)
 every-reverse none-left = none-left
-every-reverse (and {a} {l} p k) = rw (mathlib.Core.List.reverse-cons a l) (every-append (every-reverse k) (and p none-left))
+every-reverse (and {a} {l} p k) = rw (reverse-cons a l) (every-append (every-reverse k) (and p none-left))
 
 both-off : (l r l₁ r₁ : List ℕ) (s s₁ : Store) → Strings s l → Strings s r → Off l r s s₁ (l₁, r₁) → (s′ : Store) (v : List ℕ × List ℕ) → Off (reverse l₁) (reverse r₁) s₁ s′ v → Stripped l r s s′ (reverse (v .0), reverse (v .1))
 both-off l r l₁ r₁ s s₁ hl hr o s′ v o₂ =

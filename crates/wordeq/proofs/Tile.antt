@@ -1,24 +1,24 @@
 -- Step 5: no word for the one variable class fits.
 use mathlib.Core.Path.{_≡_, refl, sym, ap, subst, _∙_}
-use mathlib.Core.Bool.{Bool, true, false, not, _&&_, _||_}
+use mathlib.Core.Bool.{Bool, true, false, not, _&&_}
 use mathlib.Core.List.{List, [], _∷_, _++_, append-assoc}
-use Prim.Native.Nat.{ℕ, suc, _+_, _-_, _*_, _/_}
+use Prim.Native.Nat.{ℕ, suc, _+_, _*_}
 use native.Mathlib.Omega.{arith}
-use lib.ListN.{length, take, drop}
+use lib.ListN.{length}
 use lib.Dec.{eqb}
 use borrow.Author.Tests.{eqb-true, eq-eqb, not-true}
 use Rattle.records.specs.Lists.{if_then_else_, all, keep, joined, sameWord, Every, none-left, and}
-use Rattle.records.specs.Store.{Store, Out, ok, isConstant, isString, text, root, sameClass}
+use Rattle.records.specs.Store.{Store, isConstant, isString, text, root, sameClass}
 use Rattle.records.specs.Meaning.{Words, Reading}
 use Rattle.records.specs.Audited.{Audited}
 use Rattle.records.proofs.Lists.{both-left, both-right, both-true, clash, all-every, word-refl}
 use Rattle.records.proofs.Grown.{grown-string}
-use Rattle.wordeq.specs.Wordeq.{Answer, conflict, answer, same, fixed, lettersOf, letters, filled, lead, forced, firstSpan, fits, explainAll, variables, tileBy, tile}
-use Rattle.wordeq.proofs.Words.{fill, fill-is, fill-all, fill-length, span-is, span-forced}
+use Rattle.wordeq.specs.Wordeq.{same, fixed, lettersOf, letters, filled, lead, firstSpan, fits, explainAll, variables, tileBy, tile}
+use Rattle.wordeq.proofs.Words.{fill-is, fill-all, fill-length, span-is, span-forced}
 use Rattle.wordeq.proofs.Ends.{Ends, ends-give, ends-map, ends-if, ends-then}
 use Rattle.wordeq.proofs.Cited.{Strings, strings-later, Cited, cited-none, cited-then, explain-ends}
 use Rattle.wordeq.proofs.Good.{Good, Step, step-pass, step-conflict}
-use Rattle.wordeq.proofs.Strip.{plainly, same-class}
+use Rattle.wordeq.proofs.Strip.{same-class}
 
 -- WORDS OF A SIDE
 

@@ -1,9 +1,9 @@
 -- The algebra of words, with nothing of a store: words joined, cancelled, filled in and compared.
 use mathlib.Core.Path.{_≡_, refl, sym, ap, _∙_}
 use mathlib.Core.Bool.{Bool, true, false, not, _&&_, _||_}
-use mathlib.Core.List.{List, [], _∷_, _++_, reverse, append-nil, append-cancel-left, append-cancel-right, reverse-append, reverse-reverse, reverse-cons}
-use mathlib.Core.Logic.{_⊎_, inl, inr, ⊎-elim}
-use mathlib.Core.Option.{Option, none, some}
+use mathlib.Core.List.{List, [], _∷_, _++_, reverse, append-cancel-left, append-cancel-right, reverse-append, reverse-reverse, reverse-cons}
+use mathlib.Core.Logic.{⊎-elim}
+use mathlib.Core.Option.{Option, some}
 use Prim.Native.Nat.{ℕ, suc, _+_, _-_, _*_, _/_, _≤_, _<_}
 use native.Mathlib.Nat.{suc-mul, div-eq-of-eq-mul-right}
 use native.Mathlib.Omega.{arith}
@@ -12,7 +12,7 @@ use lib.Seq.{take-append-le, take-at, drop-at}
 use lib.Dec.{eqb}
 use borrow.Author.Tests.{not-true, eq-eqb}
 use Rattle.records.specs.Lists.{if_then_else_, all, any, keep, firstOf, joined, isIn, Every, none-left, and}
-use Rattle.records.proofs.Lists.{either, or-left, or-right, clash, decide, any-append, joined-append}
+use Rattle.records.proofs.Lists.{either, or-left, or-right, clash, any-append, joined-append}
 use Rattle.wordeq.specs.Wordeq.{differ}
 
 -- LISTS OF ONE LENGTH WITH EQUAL WORDS
