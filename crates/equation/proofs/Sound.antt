@@ -21,12 +21,12 @@ use Rattle.records.proofs.Grown.{term-past, string-here, Grown, grown-then, gro
 use Rattle.normalize.specs.Normalize.{deepForm, isList}
 use Rattle.normalize.proofs.Formed.{known-strings}
 use Rattle.normalize.proofs.Rewritten
-use Rattle.normalize.proofs.Rewritten.{holds-left, holds-right}
+use Rattle.normalize.proofs.Rewritten.{holds-left, holds-right, Strings, strings-later}
 use Rattle.normalize.proofs.Deep.{DeepFormed, Deepened, deep-ends}
 use Rattle.wordeq.specs.Wordeq.{Answer, done, saturated, conflict, propagate, split, resolve}
 use Rattle.wordeq.specs.Meaning.{Worth}
-use Rattle.wordeq.proofs.Ends.{Working, Ends, ends-give, ends-then}
-use Rattle.wordeq.proofs.Cited.{Strings, strings-later}
+use Rattle.normalize.proofs.Ends.{ends-give, ends-wider, ends-then}
+use Rattle.wordeq.proofs.Ends.{Working, Ends}
 use Rattle.wordeq.proofs.Good.{Later, later-then, more-none, worth-back}
 use Rattle.wordeq.proofs.Resolve.{Resolved, resolve-ends, later-cut}
 use Rattle.equation.specs.Equation.{Stepped, unexpanded, returned, orUnexpanded, step, stepArguments, StepSound}
@@ -75,9 +75,7 @@ later-form : {s s′ : Store} → Rewritten.Later s s′ → Later s s′
 later-form l = record { audited = l .audited; grown = l .grown; reasons = record { more = l .more; is = l .reasons }; keys = more-none (l .keys); room = l .room }
 
 form-ends : (known : List ℕ) (t : ℕ) (s : Store) → Audited s → Strings s known → isString s t ≡ true → Ends (Deepened s t) (deepForm known t s)
-form-ends known t s d h i =
-    let e = deep-ends known t s d h i in
-    record { given = e .given; stopped = λ n q. let k = e .stopped n q in record { from = k .low; to = (let j = k .high in omega arith) } }
+form-ends known t s d h i = ends-wider (omega arith) (deep-ends known t s d h i)
 
 -- reasons added at the end are reasons
 added-good : {s s′ : Store} (l : Rewritten.Later s s′) → all reasonRule (l .more) ≡ true

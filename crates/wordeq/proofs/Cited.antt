@@ -4,32 +4,21 @@ use mathlib.Core.Bool.{true}
 use mathlib.Core.List.{List, _++_, append-assoc, List·Memᴰ, Memᴰ·append-left, Memᴰ·append-right}
 use Prim.Native.Nat.{ℕ}
 use native.Mathlib.Omega.{arith}
-use Rattle.records.specs.Lists.{Every}
 use Rattle.records.specs.Store.{Store, isString, sameClass}
 use Rattle.records.specs.Make.{withReasons}
 use Rattle.records.specs.Meaning.{Words, Reading, Holds}
 use Rattle.records.specs.Audited.{Audited}
-use Rattle.records.proofs.Lists.{every-map}
-use Rattle.records.proofs.Grown.{Grown, grown-none, grown-then, grown-string}
+use Rattle.records.proofs.Grown.{Grown, grown-none, grown-then}
 use Rattle.records.proofs.Beside.{reading-beside, holds-beside}
 use Rattle.engine.specs.Explain.{explain}
 use Rattle.engine.proofs.Added.{Added, added-none}
 use Rattle.engine.proofs.Sound.{Gave, explain-gives, explain-stops}
-use Rattle.wordeq.proofs.Ends.{Ends, ends-by}
-
--- a list of string terms
-abbrev pub Strings : Store → List ℕ → Type 0
-Strings s l = Every (λ t. isString s t ≡ true) l
-
-pub strings-later : {s s′ : Store} {l : List ℕ} → Grown s s′ → Strings s l → Strings s′ l
-strings-later g k = every-map (grown-string g) k
+use Rattle.normalize.proofs.Ends.{ends-by}
+use Rattle.normalize.proofs.Rewritten.{holds-fewer}
+use Rattle.wordeq.proofs.Ends.{Ends}
 
 abbrev pub Under : Store → List (ℕ × ℕ) → (Words → Type 0) → Type 0
 Under s rs P = (w : Words) → Reading s w → Holds s rs w → P w
-
--- fewer reasons hold
-pub holds-fewer : {s : Store} {w : Words} {l m : List (ℕ × ℕ)} → ((r : ℕ × ℕ) → List·Memᴰ r l → List·Memᴰ r m) → Holds s m w → Holds s l w
-holds-fewer f h = record { merges = h .merges; reasons = λ t e k. h .reasons t e (f _ k) }
 
 -- s′ has more reasons than s, and P holds of all words under them
 pub record Cited (P : Words → Type 0) (s s′ : Store) : Type 0 where

@@ -18,9 +18,10 @@ use Rattle.records.proofs.Lists.{both-left, both-right, either, clash, all-join
 use Rattle.records.proofs.Readings.{text-characters}
 use Rattle.records.proofs.Kept.{ConstantMade, constant-kept, constant-stops}
 use Rattle.records.proofs.Meant.{constant-word}
+use Rattle.normalize.proofs.Ends.{ends-give, ends-by, ends-if, ends-then}
 use Rattle.wordeq.specs.Wordeq.{conflict, answer, same, fixed, lettersOf, letters, unequal, short, absent, constants, isPlain, alias, emptiesAt, empties, assigns, differ, clashes}
 use Rattle.wordeq.proofs.Words.{fill-within, fill-in, any-in, differ-apart, empty-each, first-passing}
-use Rattle.wordeq.proofs.Ends.{Ends, ends-give, ends-by, ends-if, ends-then}
+use Rattle.wordeq.proofs.Ends.{Ends}
 use Rattle.wordeq.proofs.Cited.{cited-none}
 use Rattle.wordeq.proofs.Good.{Good, passes, later-none, later-made, Step, step-pass, step-conflict, step-propagate}
 use Rattle.wordeq.proofs.Tile.{fixed-word}

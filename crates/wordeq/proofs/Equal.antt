@@ -17,10 +17,12 @@ use Rattle.records.proofs.Lists.{both-left, both-right, decide, clash, all-ever
 use Rattle.engine.specs.Explain.{explain}
 use Rattle.engine.proofs.Added.{Added}
 use Rattle.engine.proofs.Sound.{explain-stops}
+use Rattle.normalize.proofs.Ends.{ends-give, ends-map, ends-if, ends-then}
+use Rattle.normalize.proofs.Rewritten.{Strings, strings-later}
 use Rattle.wordeq.specs.Wordeq.{same, nfEqual, explainPair, nfExplain}
 use Rattle.wordeq.specs.Meaning.{ExplainsEqual}
-use Rattle.wordeq.proofs.Ends.{Ends, ends-give, ends-map, ends-if, ends-then}
-use Rattle.wordeq.proofs.Cited.{Strings, strings-later, Cited, cited-none, cited-map, cited-then, added-reasons, explain-ends}
+use Rattle.wordeq.proofs.Ends.{Ends}
+use Rattle.wordeq.proofs.Cited.{Cited, cited-none, cited-map, cited-then, added-reasons, explain-ends}
 use Rattle.wordeq.proofs.Strip.{plainly, same-word, same-class}
 
 -- a pair that needs no reason, or is not of one class

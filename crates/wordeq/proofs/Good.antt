@@ -11,10 +11,12 @@ use Rattle.records.specs.Audited.{Audited}
 use Rattle.records.proofs.Lists.{joined-same, every-map}
 use Rattle.records.proofs.Grown.{Grown, grown-none, grown-then, grown-kind, present, string-here}
 use Rattle.records.proofs.Kept.{MadeIn, KeyAdded}
+use Rattle.normalize.proofs.Ends.{ends-give, ends-map, ends-then}
+use Rattle.normalize.proofs.Rewritten.{Strings, strings-later}
 use Rattle.wordeq.specs.Wordeq.{Answer, done, saturated, conflict, propagate, split, Tried, answer, pass, settled, _orElse_}
 use Rattle.wordeq.specs.Meaning.{Worth, Sound}
-use Rattle.wordeq.proofs.Ends.{Ends, ends-give, ends-map, ends-then}
-use Rattle.wordeq.proofs.Cited.{Strings, strings-later, Under, Cited, cited-all}
+use Rattle.wordeq.proofs.Ends.{Ends}
+use Rattle.wordeq.proofs.Cited.{Under, Cited, cited-all}
 
 -- LATER STORES
 

@@ -11,10 +11,12 @@ use Rattle.records.specs.Lists.{any, joined, Every, and}
 use Rattle.records.specs.Store.{Store, isConstant, text, sameClass}
 use Rattle.records.specs.Meaning.{Words, Reading}
 use Rattle.records.proofs.Lists.{both-left, both-right}
+use Rattle.normalize.proofs.Ends.{ends-if, ends-then}
+use Rattle.normalize.proofs.Rewritten.{Strings}
 use Rattle.wordeq.specs.Wordeq.{isFull, occurrence, occursAt, occurs}
 use Rattle.wordeq.proofs.Words.{inside-longer, some-long}
-use Rattle.wordeq.proofs.Ends.{Ends, ends-if, ends-then}
-use Rattle.wordeq.proofs.Cited.{Strings, Cited, explain-ends}
+use Rattle.wordeq.proofs.Ends.{Ends}
+use Rattle.wordeq.proofs.Cited.{Cited, explain-ends}
 use Rattle.wordeq.proofs.Good.{Good, Step, step-pass, step-conflict}
 
 -- y stands in l between past and rest, is of x's class, and a non-empty constant stands elsewhere

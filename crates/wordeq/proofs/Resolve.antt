@@ -20,10 +20,12 @@ use Rattle.records.proofs.Grown.{Grown, grown-none, grown-then}
 use Rattle.records.proofs.Beside.{audited-beside, grown-beside, reading-beside}
 use Rattle.normalize.specs.Normalize.{flatten}
 use Rattle.normalize.proofs.Atoms.{Flat, flatten-flat, flatten-stops, flatten-atoms}
+use Rattle.normalize.proofs.Ends.{ends-give, ends-map, ends-by, ends-if, ends-then}
+use Rattle.normalize.proofs.Rewritten.{Strings, holds-fewer}
 use Rattle.wordeq.specs.Wordeq.{Answer, done, saturated, conflict, propagate, split, answer, after, isBare, orDone, steps, softened, closed, resolve}
 use Rattle.wordeq.specs.Meaning.{Chosen, Sound}
-use Rattle.wordeq.proofs.Ends.{Working, Ends, ends-give, ends-map, ends-by, ends-if, ends-then}
-use Rattle.wordeq.proofs.Cited.{Strings, Under, holds-fewer, holds-back, added-reasons}
+use Rattle.wordeq.proofs.Ends.{Working, Ends}
+use Rattle.wordeq.proofs.Cited.{Under, holds-back, added-reasons}
 use Rattle.wordeq.proofs.Good.{More, more-none, Later, later-then, later-cited, joined-local, worth-back, Calm, Good, passes, answers, Step, step-else, step-flip}
 use Rattle.wordeq.proofs.Strip.{Apart, Stripped, strip-ends}
 use Rattle.wordeq.proofs.Occurs.{occurs-step}

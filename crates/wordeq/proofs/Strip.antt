@@ -10,11 +10,13 @@ use Rattle.records.specs.Store.{Store, ok, isConstant, isString, text, sameClas
 use Rattle.records.specs.Meaning.{Words, Reading}
 use Rattle.records.specs.Audited.{Audited}
 use Rattle.records.proofs.Lists.{word-is, clash, every-append}
+use Rattle.normalize.proofs.Ends.{ends-give, ends-map, ends-if, ends-then}
+use Rattle.normalize.proofs.Rewritten.{Strings, strings-later}
 use Rattle.wordeq.specs.Wordeq.{same, explainMatch, stripHeads, strip}
 use Rattle.wordeq.proofs.Words
 use Rattle.wordeq.proofs.Words.{Alike, alike-reverse, cancel-front, cancel-back, unturn}
-use Rattle.wordeq.proofs.Ends.{Ends, ends-give, ends-map, ends-if, ends-then}
-use Rattle.wordeq.proofs.Cited.{Strings, strings-later, Cited, cited-none, cited-then, explain-ends}
+use Rattle.wordeq.proofs.Ends.{Ends}
+use Rattle.wordeq.proofs.Cited.{Cited, cited-none, cited-then, explain-ends}
 
 -- SAME
 

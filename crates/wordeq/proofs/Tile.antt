@@ -13,10 +13,12 @@ use Rattle.records.specs.Meaning.{Words, Reading}
 use Rattle.records.specs.Audited.{Audited}
 use Rattle.records.proofs.Lists.{both-left, both-right, both-true, clash, all-every, word-refl}
 use Rattle.records.proofs.Grown.{grown-string}
+use Rattle.normalize.proofs.Ends.{ends-give, ends-map, ends-if, ends-then}
+use Rattle.normalize.proofs.Rewritten.{Strings, strings-later}
 use Rattle.wordeq.specs.Wordeq.{same, fixed, lettersOf, letters, filled, lead, firstSpan, fits, explainAll, variables, tileBy, tile}
 use Rattle.wordeq.proofs.Words.{fill-is, fill-all, fill-length, span-is, span-forced}
-use Rattle.wordeq.proofs.Ends.{Ends, ends-give, ends-map, ends-if, ends-then}
-use Rattle.wordeq.proofs.Cited.{Strings, strings-later, Cited, cited-none, cited-then, explain-ends}
+use Rattle.wordeq.proofs.Ends.{Ends}
+use Rattle.wordeq.proofs.Cited.{Cited, cited-none, cited-then, explain-ends}
 use Rattle.wordeq.proofs.Good.{Good, Step, step-pass, step-conflict}
 use Rattle.wordeq.proofs.Strip.{same-class}
 
