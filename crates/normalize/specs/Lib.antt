@@ -1,1 +1,2 @@
 pub mod Normalize
+pub mod Flat
