@@ -1,2 +1,3 @@
 pub mod Normalize
 pub mod Flat
+pub mod Nodes

@@ -1,5 +1,6 @@
 // Cited normal forms.
 pub mod flat;
+pub mod nodes;
 
 pub const LIST_LIMIT: usize = 1024;
 
