@@ -1,2 +1,7 @@
 pub mod Flats
 pub mod Represents
+pub mod Atoms
+pub mod Ends
+pub mod Rewritten
+pub mod Formed
+pub mod Deep

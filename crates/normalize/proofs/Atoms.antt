@@ -1,0 +1,162 @@
+-- The atoms of a term: their equation without fuel, what they are, and that they have the term's word.
+use mathlib.Core.Path.{_≡_, refl, sym, ap, subst, _∙_}
+use mathlib.Core.Bool.{Bool, true, false}
+use mathlib.Core.List.{List, [], _∷_, _++_, append-nil}
+use Prim.Native.Nat.{ℕ, zero, suc, _≤_, _<_}
+use native.Mathlib.Omega.{arith}
+use lib.ListN.{length}
+use lib.Dec.{eqb, leb}
+use borrow.Author.Tests.{eqb-true, leb-true, leb-false, le-leb, lt-leb}
+use Rattle.records.specs.Lists.{if_then_else_, all, joined, Every, none-left, and}
+use Rattle.records.specs.Store.{Term, Store, ok, stop, give, refuse, kind, isString, isConcat, parts}
+use Rattle.records.specs.Meaning.{Words, Reading}
+use Rattle.records.specs.Audited.{Audited}
+use Rattle.records.proofs.Lists.{decide, clash, joined-append, joined-same, every-map, every-append, all-every}
+use Rattle.records.proofs.Works.{stop-not, branch}
+use Rattle.records.proofs.Grown.{term-zero}
+use Rattle.records.proofs.Readings.{parts-lower, parts-strings}
+use Rattle.engine.proofs.Paths.{every-both}
+use Rattle.normalize.specs.Normalize.{atomsBy, atoms, flatten, listLimit}
+
+-- LISTS
+
+-- joined words of joined lists
+pub joined-joined : {A B C : Type 0} (w : B → List C) (f : A → List B) (l : List A) → joined w (joined f l) ≡ joined (λ a. joined w (f a)) l
+unfolding joined
+joined-joined w f [] = refl
+joined-joined w f (a ∷ l) = joined-append w (f a) (joined f l) ∙ ap (λ (x : List _). joined w (f a) ++ x) (joined-joined w f l)
+
+-- each element of each list
+pub every-joined : {A B : Type 0} {P : B → Type 0} (f : A → List B) {l : List A} → Every (λ a. Every P (f a)) l → Every P (joined f l)
+unfolding joined
+every-joined f none-left = none-left
+every-joined f (and p k) = every-append p (every-joined f k)
+
+-- what all have each element has
+pub every-of : {A : Type 0} {P : A → Type 0} (l : List A) → ((a : A) → P a) → Every P l
+every-of [] f = none-left
+every-of (a ∷ l) f = and (f a) (every-of l f)
+
+-- ATOMS
+
+-- no term is no concatenation
+zero-plain : (s : Store) → isConcat s 0 ≡ false
+zero-plain s = ap (λ (x : Term). eqb (x .kind) 3) (term-zero s)
+
+module _ (s : Store) where
+  atomsBy-plain : (n t : ℕ) → isConcat s t ≡ false → atomsBy n s t ≡ t ∷ []
+  unfolding atomsBy
+  atomsBy-plain zero t e = refl
+  atomsBy-plain (suc n) t e = rw (atomsBy, e)
+
+  atomsBy-concat : (n t : ℕ) → isConcat s t ≡ true → atomsBy (suc n) s t ≡ joined (atomsBy n s) (parts s t)
+  unfolding atomsBy
+  atomsBy-concat n t e = rw (atomsBy, e)
+
+  -- a term that is no concatenation is its own atom
+  pub atoms-plain : (t : ℕ) → isConcat s t ≡ false → atoms s t ≡ t ∷ []
+  atoms-plain t e = atomsBy-plain t t e
+
+  -- the atoms have the word of the whole
+  words-by : (w : Words) → Reading s w → (n t : ℕ) → w t ≡ joined w (atomsBy n s t)
+  unfolding atomsBy joined
+  words-by w r zero t = sym (append-nil (w t))
+  words-by w r (suc n) t =
+      decide (isConcat s t)
+      (λ e. r .concats t (eqb-true _ _ e) ∙ joined-same w (λ p. joined w (atomsBy n s p)) (every-of (parts s t) (words-by w r n))
+      ∙ sym (joined-joined w (atomsBy n s) (parts s t)) ∙ ap (joined w) (sym (atomsBy-concat n t e)))
+      (λ e. sym (append-nil (w t)) ∙ ap (joined w) (sym (atomsBy-plain (suc n) t e)))
+
+  pub atoms-word : (w : Words) → Reading s w → (t : ℕ) → w t ≡ joined w (atoms s t)
+  atoms-word w r t = words-by w r t t
+
+  pub atoms-words : (w : Words) → Reading s w → (l : List ℕ) → joined w l ≡ joined w (joined (atoms s) l)
+  atoms-words w r l = joined-same w (λ t. joined w (atoms s t)) (every-of l (atoms-word w r)) ∙ sym (joined-joined w (λ t. atoms s t) l)
+
+  none-plain : (n m t : ℕ) → t ≡ 0 → atomsBy n s t ≡ atomsBy m s t
+  none-plain n m t z = let e : isConcat s t ≡ false = ap (λ (x : ℕ). isConcat s x) z ∙ zero-plain s in atomsBy-plain n t e ∙ sym (atomsBy-plain m t e)
+
+-- a string term that is no concatenation
+pub record Atom (s : Store) (a : ℕ) : Type 0 where
+  pub string : isString s a ≡ true
+  pub plain : isConcat s a ≡ false
+
+module _ (s : Store) (audited : Audited s) where
+  -- fuel no lower than the term's number is enough
+  enough : (n m t : ℕ) → t ≤ n → t ≤ m → atomsBy n s t ≡ atomsBy m s t
+  enough zero m t h k = none-plain s zero m t (omega arith)
+  enough (suc n) zero t h k = none-plain s (suc n) zero t (omega arith)
+  enough (suc n) (suc m) t h k =
+      decide (isConcat s t)
+      (λ e. atomsBy-concat s n t e
+      ∙ joined-same (atomsBy n s) (atomsBy m s) (every-map (λ p i. enough n m p (omega arith) (omega arith)) (parts-lower s (audited .recorded) t (eqb-true _ _ e)))
+      ∙ sym (atomsBy-concat s m t e))
+      (λ e. atomsBy-plain s (suc n) t e ∙ sym (atomsBy-plain s (suc m) t e))
+
+  concat-atoms : (n t : ℕ) → t ≡ suc n → isConcat s t ≡ true → atomsBy t s t ≡ joined (atoms s) (parts s t)
+  concat-atoms n t i e =
+      ap (λ (f : ℕ). atomsBy f s t) i ∙ atomsBy-concat s n t e
+      ∙ joined-same (atomsBy n s) (λ p. atoms s p) (every-map (λ p h. enough n p p (omega arith) (omega arith)) (parts-lower s (audited .recorded) t (eqb-true _ _ e)))
+
+  -- a concatenation's atoms are those of its parts in order
+  pub atoms-is : (t : ℕ) → isConcat s t ≡ true → atoms s t ≡ joined (atoms s) (parts s t)
+  atoms-is zero e = clash e (zero-plain s)
+  atoms-is (suc n) e = concat-atoms n (suc n) refl e
+
+  atoms-below : (n t : ℕ) → t < n → isString s t ≡ true → Every (Atom s) (atoms s t)
+  atoms-below zero t h e = absurd (omega arith)
+  atoms-below (suc n) t h e =
+      decide (isConcat s t)
+      (λ q. let k = eqb-true _ _ q in
+      subst (Every (Atom s)) (sym (atoms-is t q)) (every-joined (λ p. atoms s p)
+      (every-map (λ p i. let j = i .0 in atoms-below n p (omega arith) (i .1)) (every-both (parts-lower s (audited .recorded) t k) (parts-strings s (audited .recorded) t k)))))
+      (λ q. subst (Every (Atom s)) (sym (atoms-plain s t q)) (and (record { string = e; plain = q }) none-left))
+
+  pub atoms-strings : (t : ℕ) → isString s t ≡ true → Every (Atom s) (atoms s t)
+  atoms-strings t e = atoms-below (suc t) t (omega arith) e
+
+  pub all-strings : (l : List ℕ) → all (isString s) l ≡ true → Every (Atom s) (joined (atoms s) l)
+  all-strings l e = every-joined (λ t. atoms s t) (every-map (λ t i. atoms-strings t i) (all-every _ l e))
+
+-- FLATTEN
+
+-- a list flattened: the store as it is, at most 1,024 atoms, and the list's word
+pub record Flat (s s′ : Store) (l m : List ℕ) : Type 0 where
+  pub same-store : s′ ≡ s
+  pub is : m ≡ joined (atoms s) l
+  pub long : length m ≤ listLimit
+  pub words : (w : Words) → Reading s w → joined w l ≡ joined w m
+
+module _ (l : List ℕ) (s : Store) where
+  pub flatten-fits : length (joined (atoms s) l) ≤ listLimit → flatten l s ≡ ok s (joined (atoms s) l)
+  unfolding flatten
+  flatten-fits h = rw (flatten, le-leb _ _ h)
+
+  pub flatten-full : listLimit < length (joined (atoms s) l) → flatten l s ≡ stop 6
+  unfolding flatten
+  flatten-full h = rw (flatten, lt-leb _ _ h)
+
+  -- it stops only with 6, where the list passes 1,024
+  pub flatten-stops : (n : ℕ) → flatten l s ≡ stop n → (n ≡ 6) × (listLimit < length (joined (atoms s) l))
+  unfolding flatten
+  flatten-stops n e = go (leb (length (joined (atoms s) l)) listLimit) refl e
+    where
+      go : (b : Bool) → leb (length (joined (atoms s) l)) listLimit ≡ b → (if b then give (joined (atoms s) l) else refuse 6) s ≡ stop n → (n ≡ 6) × (listLimit < length (joined (atoms s) l))
+      go true q d = let z : _≡_ {A = ℕ} 0 1 = cc in absurd (omega arith)
+      go false q d = (cc, leb-false _ _ q)
+
+  pub flatten-flat : (s′ : Store) (m : List ℕ) → flatten l s ≡ ok s′ m → Flat s s′ l m
+  unfolding flatten
+  flatten-flat s′ m e =
+      branch (leb (length (joined (atoms s) l)) listLimit) _ _ {s = s}
+      (λ b d. let p : s′ ≡ s = cc in let q : m ≡ joined (atoms s) l = cc in record {
+        same-store = p;
+        is = q;
+        long = subst (λ (x : List ℕ). length x ≤ listLimit) (sym q) (leb-true _ _ b);
+        words = λ w r. atoms-words s w r l ∙ ap (joined w) (sym q);
+      })
+      (λ b d. stop-not d) e
+
+-- and each of its atoms is a string term that is no concatenation
+pub flatten-atoms : (l : List ℕ) (s s′ : Store) (m : List ℕ) → Audited s → all (isString s) l ≡ true → flatten l s ≡ ok s′ m → Every (Atom s) m
+flatten-atoms l s s′ m audited e q = subst (Every (Atom s)) (sym (flatten-flat l s s′ m q .is)) (all-strings s audited l e)
