@@ -9,6 +9,9 @@ pub mod Adds
 pub mod Texts
 pub mod Making
 pub mod Joins
+pub mod Joining
+pub mod Public
+pub mod MakeCalls
 pub mod Readings
 pub mod Grown
 pub mod Works

@@ -69,7 +69,7 @@ module _ (p : ℕ → Bool) where
         let g = rw add-one at e in
         add-one t ∙ sym (ap numberOf (first-stays (λ i. p (suc i)) (suc t) n t (first-hit (λ i. p (suc i)) t (a .none-yet) (sym g ∙ f)) (omega arith)))
 
--- THE SAME in the store
+-- THE LOWEST-NUMBERED in the store
 
 -- each text of kind k is within the characters
 abbrev pub Texts : Lent → State → ℕ → Type 0
@@ -106,7 +106,7 @@ module _ (m : Lent) (c : State) (k : ℕ) (w : List ℕ) where
       rw (table-length (λ i. termAt (m .terms) (suc i)) (c .terms))
       (first-same (λ i. hasText (m .terms) (m .chars) k w (suc i)) (λ i. textOf k w (storeOf m c) (suc i)) (c .terms) (has-text texts))
 
--- THE WAYS OF MAKING
+-- THE WAYS OF MAKING in the store
 
 module _ (k : ℕ) (w : List ℕ) (s : Store) where
   pub make-old : (i : ℕ) → lookup (textOf k w) s ≡ some i → makeText k w s ≡ ok s (suc i)
@@ -128,7 +128,7 @@ module _ (k : ℕ) (w : List ℕ) (s : Store) where
     unfolding makeText lowest addText addTerm
     make-new e f = rw (new, e, f)
 
--- THE SAME in the words: t₀ is what the search of the words found
+-- ROOM for k characters more
 
 module _ (l : List ℕ) (n k : ℕ) (limit : n ≤ charLimit) where
   pub text-over : charLimit - n < k → false ≡ leb (n + k) (charRoom l)
@@ -137,6 +137,8 @@ module _ (l : List ℕ) (n k : ℕ) (limit : n ≤ charLimit) where
   pub text-test : k ≤ charLimit - n → leb (n + k) (length l) ≡ leb (n + k) (charRoom l)
   text-test h =
       same-test _ _ (λ e. chars-fit l n k (omega arith) (leb-true (n + k) (length l) e)) (λ e. le-leb (n + k) (length l) (chars-room l n k e))
+
+-- THE WAYS OF MAKING in the words: t₀ is what the search of the words found
 
 module _ {t e h r ks : List ℕ} {c : State} (ready : Ready (lent t e h r ks) c) (k : ℕ) (text : within 2 k ≡ true) (w : List ℕ) (t₀ : ℕ)
     (look : t₀ ≡ numberOf (firstBelow (λ i. hasText t h k w (suc i)) (c .terms))) where

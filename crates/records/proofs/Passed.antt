@@ -359,6 +359,10 @@ unfolding audit
 ready-of m c e = decide (sizes m c) (λ z. record { sized = sized-of m c z; audited = passed (storeOf m c) (rw z at e) (roomy-of m c (sized-of m c z)) })
     (λ z. let w = rw z at e in absurd (omega arith))
 
+-- slices that keep their lengths are ready for new counts where the store is audited
+pub ready-after : {m m′ : Lent} {c c′ : State} → Ready m c → length (m′ .terms) ≡ length (m .terms) → length (m′ .cells) ≡ length (m .cells) → Audited (storeOf m′ c′) → Ready m′ c′
+ready-after {m} {m′} {c} {c′} r e f a = record { sized = sized-after m m′ c c′ (r .sized) e f (a .roomy); audited = a }
+
 pub audit-of : (m : Lent) (c : State) → Ready m c → audit m c ≡ 0
 unfolding audit
 audit-of m c r = rw (sizes-of m c (r .sized)) (passes (storeOf m c) (r .audited))

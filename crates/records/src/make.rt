@@ -4,10 +4,11 @@ ghost use mathlib.Core.Path.{_≡_};
 ghost use Prim.Native.Nat.{suc, _+_, _≤_};
 ghost use lib.Dec.{leb};
 ghost use lib.ListN.{length};
-ghost use Rattle.records.specs.Lists.{firstBelow};
-ghost use Rattle.records.specs.Store.{within};
-ghost use Rattle.records.specs.View.{termLimit, charLimit, charRoom, lent};
+ghost use Rattle.records.specs.Lists.{all, joined, firstBelow};
+ghost use Rattle.records.specs.Store.{within, isConstant, text};
+ghost use Rattle.records.specs.View.{termLimit, charLimit, charRoom, lent, storeOf, textAt, lengths};
 ghost use Rattle.records.specs.Make.{numberOf, hasText, makeText, makeConstant, makeVariable};
+ghost use Rattle.records.specs.Puts.{TextsWithin};
 ghost use Rattle.records.specs.Audited.{Ready};
 ghost use Rattle.records.specs.Calls.{Working, made};
 use crate::Made;
@@ -17,11 +18,14 @@ use crate::fields::kind;
 use crate::fields::second;
 use crate::put::put_term_unchecked;
 use crate::put::term_fits;
+use crate::text::joined_is_unchecked;
+use crate::text::joined_length_unchecked;
+use crate::text::put_joined_unchecked;
 use crate::text::put_text_unchecked;
 use crate::text::text_is;
 
 // Whether term t is of kind k and its text is w. Only texts of one length are compared.
-pub fn has_text(terms: &[u32], chars: &[u32], t: u32, k: u32, w: &[u32]) -> bool
+pub(crate) fn has_text(terms: &[u32], chars: &[u32], t: u32, k: u32, w: &[u32]) -> bool
     ensures { λ r. ⌜ r ≡ hasText (now (terms .entry)) (now (chars .entry)) k (now (w .entry)) t ⌝ }
 {
     if kind(terms, t) != k {
@@ -35,7 +39,7 @@ pub fn has_text(terms: &[u32], chars: &[u32], t: u32, k: u32, w: &[u32]) -> bool
 }
 
 // The lowest-numbered of n terms that is of kind k and whose text is w; 0 where there is none.
-pub fn find_text_unchecked(terms: &[u32], chars: &[u32], n: usize, k: u32, w: &[u32]) -> u32
+pub(crate) fn find_text_unchecked(terms: &[u32], chars: &[u32], n: usize, k: u32, w: &[u32]) -> u32
     requires { ⌜ n ≤ termLimit ⌝ }
     ensures { λ r. ⌜ r ≡ numberOf (firstBelow (λ i. hasText (now (terms .entry)) (now (chars .entry)) k (now (w .entry)) (suc i)) n) ⌝ }
 {
@@ -119,4 +123,65 @@ pub fn make_variable_unchecked(
     ensures { λ r. ⌜ Working (makeVariable (now (w .entry))) (lent (now (terms .entry)) (now (cells .entry)) (now (chars .entry)) (now (reasons .entry)) (now (keys .entry))) (lent (now (terms .exit)) (now (cells .entry)) (now (chars .exit)) (now (reasons .entry)) (now (keys .entry))) c (made r (lent (now (terms .exit)) (now (cells .entry)) (now (chars .exit)) (now (reasons .entry)) (now (keys .entry)))) ⌝ }
 {
     make_text(terms, cells, chars, reasons, keys, c, 2, w)
+}
+
+// Whether term t is the constant of the joined texts of a list, of `total` characters. Only texts of one length are compared.
+fn has_joined(terms: &[u32], chars: &[u32], t: u32, list: &[u32], total: usize) -> bool
+    requires { ⌜ length (now list) ≤ 1024 ⌝ ∗ ⌜ TextsWithin (now terms) (length (now chars)) (now list) ⌝ ∗ ⌜ total ≡ lengths (now terms) (now list) ⌝ }
+    ensures { λ r. ⌜ r ≡ hasText (now (terms .entry)) (now (chars .entry)) 1 (joined (textAt (now (terms .entry)) (now (chars .entry))) (now (list .entry))) t ⌝ }
+{
+    if kind(terms, t) != 1 {
+        return false;
+    }
+    let n = second(terms, t) as usize;
+    if n != total {
+        return false;
+    }
+    joined_is_unchecked(terms, chars, first(terms, t), list)
+}
+
+// The lowest-numbered of n terms that is the constant of the joined texts of a list; 0 where there is none.
+fn find_joined(terms: &[u32], chars: &[u32], n: usize, list: &[u32], total: usize) -> u32
+    requires { ⌜ n ≤ termLimit ⌝ ∗ ⌜ length (now list) ≤ 1024 ⌝ ∗ ⌜ TextsWithin (now terms) (length (now chars)) (now list) ⌝ ∗ ⌜ total ≡ lengths (now terms) (now list) ⌝ }
+    ensures { λ r. ⌜ r ≡ numberOf (firstBelow (λ i. hasText (now (terms .entry)) (now (chars .entry)) 1 (joined (textAt (now (terms .entry)) (now (chars .entry))) (now (list .entry))) (suc i)) n) ⌝ }
+{
+    let mut t: u32 = 0;
+    while (t as usize) < n {
+        t += 1;
+        if has_joined(terms, chars, t, list, total) {
+            return t;
+        }
+    }
+    0
+}
+
+// The constant of the joined texts of a list of constants. A joined word that does not fit is never built.
+pub fn join_constants_unchecked(
+    terms: &mut [u32],
+    cells: &[u32],
+    chars: &mut [u32],
+    reasons: &[u32],
+    keys: &[u32],
+    c: State,
+    list: &[u32],
+) -> Made
+    requires { ⌜ Ready (lent (now terms) (now cells) (now chars) (now reasons) (now keys)) c ⌝ ∗ ⌜ length (now list) ≤ 1024 ⌝ ∗ ⌜ all (isConstant (storeOf (lent (now terms) (now cells) (now chars) (now reasons) (now keys)) c)) (now list) ≡ true ⌝ }
+    ensures { λ r. ⌜ Working (λ s. makeConstant (joined (text s) (now (list .entry))) s) (lent (now (terms .entry)) (now (cells .entry)) (now (chars .entry)) (now (reasons .entry)) (now (keys .entry))) (lent (now (terms .exit)) (now (cells .entry)) (now (chars .exit)) (now (reasons .entry)) (now (keys .entry))) c (made r (lent (now (terms .exit)) (now (cells .entry)) (now (chars .exit)) (now (reasons .entry)) (now (keys .entry)))) ⌝ }
+{
+    let total = joined_length_unchecked(terms, list);
+    let t = find_joined(terms, chars, c.terms, list, total);
+    if t != 0 {
+        return Made::Term(t, c);
+    }
+    if !text_fits(chars, c.chars, total) {
+        return Made::Refused(8);
+    }
+    if !term_fits(terms, c.terms) {
+        return Made::Refused(8);
+    }
+    let n = c.terms;
+    put_joined_unchecked(terms, chars, list, c.chars);
+    put_term_unchecked(terms, n, 1, c.chars as u32, total as u32);
+    let d = c.with_chars(total);
+    Made::Term((n + 1) as u32, d.with_term())
 }

@@ -49,7 +49,7 @@ fn text_past(chars: &[u32], at: usize, w: &[u32]) -> bool
 }
 
 // Characters w from place `at` on.
-pub fn put_text_unchecked(chars: &mut [u32], at: usize, w: &[u32])
+pub(crate) fn put_text_unchecked(chars: &mut [u32], at: usize, w: &[u32])
     requires { ⌜ at + length (now w) ≤ length (now chars) ⌝ }
     ensures { λ _. ⌜ CharsPut (now (chars .entry)) (now (chars .exit)) at (now (w .entry)) ⌝ }
 {
@@ -61,7 +61,7 @@ pub fn put_text_unchecked(chars: &mut [u32], at: usize, w: &[u32])
 }
 
 // The characters of a list of terms, counted.
-pub fn joined_length_unchecked(terms: &[u32], list: &[u32]) -> usize
+pub(crate) fn joined_length_unchecked(terms: &[u32], list: &[u32]) -> usize
     requires { ⌜ length (now list) ≤ 1024 ⌝ }
     ensures { λ r. ⌜ r ≡ lengths (now (terms .entry)) (now (list .entry)) ⌝ }
 {
@@ -84,7 +84,7 @@ fn spans_agree(chars: &[u32], at: usize, from: usize, n: usize) -> bool
 }
 
 // Whether the characters from place p on are the joined texts of a list of terms.
-pub fn joined_is_unchecked(terms: &[u32], chars: &[u32], p: u32, list: &[u32]) -> bool
+pub(crate) fn joined_is_unchecked(terms: &[u32], chars: &[u32], p: u32, list: &[u32]) -> bool
     requires { ⌜ length (now list) ≤ 1024 ⌝ ∗ ⌜ TextsWithin (now terms) (length (now chars)) (now list) ⌝ }
     ensures { λ r. ⌜ r ≡ sameWord (span (now (chars .entry)) p (lengths (now (terms .entry)) (now (list .entry)))) (joined (textAt (now (terms .entry)) (now (chars .entry))) (now (list .entry))) ⌝ }
 {
@@ -116,7 +116,7 @@ fn copy_text(chars: &mut [u32], from: usize, n: usize, at: usize)
 }
 
 // The joined texts of a list of terms, copied to place `to`, which is above them all.
-pub fn put_joined_unchecked(terms: &[u32], chars: &mut [u32], list: &[u32], to: usize)
+pub(crate) fn put_joined_unchecked(terms: &[u32], chars: &mut [u32], list: &[u32], to: usize)
     requires { ⌜ TextsWithin (now terms) to (now list) ⌝ ∗ ⌜ to + lengths (now terms) (now list) ≤ length (now chars) ⌝ }
     ensures { λ _. ⌜ CharsPut (now (chars .entry)) (now (chars .exit)) to (joined (textAt (now (terms .entry)) (now (chars .entry))) (now (list .entry))) ⌝ }
 {

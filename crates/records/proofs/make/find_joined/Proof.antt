@@ -1,0 +1,29 @@
+use Rattle.records.proofs.Making.{Passed, passed-none, passed-one, passed-all, hit}
+use Rattle.records.specs.Make.{hasText}
+use Rattle.records.specs.View.{textAt}
+use Rattle.records.specs.Lists.{joined}
+use Prim.Native.Nat.{_-_}
+use borrow.Author.Needs.{needs}
+use Rattle.records.proofs.make.find_joined.Statement.{statement}
+use Rattle.records.proofs.make.find_joined.Tie as tie
+
+abbrev Inv-loop : tie.InvT-loop
+Inv-loop terms chars n list total t₀ t = Passed (hasText terms chars 1 (joined (textAt terms chars) list)) n t
+
+abbrev μ-loop : tie.MeasureT-loop
+μ-loop terms chars n list total t₀ t = n - t
+
+pub find-joined-spec : {M : Type 1} → statement M
+find-joined-spec =
+    tie.close
+    (tie.spec
+    Inv-loop
+    μ-loop
+    (λ c. passed-none _ _)
+    (λ c. search needs)
+    (λ c. search needs)
+    (λ c κs. search needs)
+    (λ c. hit _ _ _ (c .before .before .before .loop .inv) _ (c .before .before .loop-test .taken) (c .before .has-joined .ensures) (c .if1 .taken))
+    (λ c. search needs)
+    (λ c. passed-one _ _ _ (c .before .before .before .loop .inv) _ (c .before .before .loop-test .taken) (c .before .has-joined .ensures) (c .if1 .left))
+    (λ c. passed-all _ _ _ (c .before .loop .inv) (c .loop-test .left)))
