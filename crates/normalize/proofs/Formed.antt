@@ -39,11 +39,11 @@ first-has {P} p (and {a} {l} i k) v e = go (first-has p k v) (p a) refl e
     go ih false q d = ih d
 
 -- a string term of the atom's class
-record Stands (s : Store) (a r : ℕ) : Type 0 where
-  string : isString s r ≡ true
-  class : sameClass s a r ≡ true
+pub record Stands (s : Store) (a r : ℕ) : Type 0 where
+  pub string : isString s r ≡ true
+  pub class : sameClass s a r ≡ true
 
-representative-stands : (s : Store) (cs : List ℕ) (a : ℕ) → Strings s cs → isString s a ≡ true → Stands s a (representative s cs a)
+pub representative-stands : (s : Store) (cs : List ℕ) (a : ℕ) → Strings s cs → isString s a ≡ true → Stands s a (representative s cs a)
 unfolding representative
 representative-stands s cs a k i = go (firstOf (λ t. sameClass s t a && isConstant s t) cs) refl (firstOf (λ t. sameClass s t a) cs) refl
   where
@@ -63,14 +63,14 @@ pub record Pushed (s s′ : Store) (l out out′ : List ℕ) : Type 0 where
   pub long : length out′ ≤ length out + length l
 
 -- explained where they differ
-replace-ends : (a r : ℕ) (s : Store) → Audited s → isString s a ≡ true → Stands s a r → Ends (λ s′ u. Rewritten s s′ (a ∷ []) (r ∷ [])) ((if eqb r a then give tt else explain a r) s)
+pub replace-ends : (a r : ℕ) (s : Store) → Audited s → isString s a ≡ true → Stands s a r → Ends (λ s′ u. Rewritten s s′ (a ∷ []) (r ∷ [])) ((if eqb r a then give tt else explain a r) s)
 replace-ends a r s audited i x =
     ends-if (eqb r a) (give tt) (explain a r)
     (λ b. ends-give (rewritten-as refl (ap (λ (y : ℕ). y ∷ []) (sym (eqb-true r a b))) (rewritten-none s (a ∷ []) audited (and i none-left))))
     (λ b. ends-by 7 (omega arith) (omega arith)
     (λ s′ u e. rewritten-explained (explain-gives s audited a r i (x .string) (x .class) s′ u e) (x .string)) (explain-stops s audited a r i (x .string) (x .class)))
 
-substitute-ends : (cs : List ℕ) (a : ℕ) (s : Store) → Audited s → Strings s cs → isString s a ≡ true → Ends (λ s′ r. Rewritten s s′ (a ∷ []) (r ∷ [])) (substitute cs a s)
+pub substitute-ends : (cs : List ℕ) (a : ℕ) (s : Store) → Audited s → Strings s cs → isString s a ≡ true → Ends (λ s′ r. Rewritten s s′ (a ∷ []) (r ∷ [])) (substitute cs a s)
 unfolding substitute
 substitute-ends cs a s audited k i =
     ends-then (λ u. give (representative s cs a)) ((if eqb (representative s cs a) a then give tt else explain a (representative s cs a)) s)
@@ -123,7 +123,7 @@ empty : (l : List ℕ) → length l ≡ 0 → l ≡ []
 empty [] e = refl
 empty (x ∷ l) e = absurd (omega arith)
 
-push-ends : (t : ℕ) (out : List ℕ) (s : Store) → Audited s → isString s t ≡ true → Strings s (reverse out) → Ends (λ s′ out′. Pushed s s′ (t ∷ []) out out′) (push t out s)
+pub push-ends : (t : ℕ) (out : List ℕ) (s : Store) → Audited s → isString s t ≡ true → Strings s (reverse out) → Ends (λ s′ out′. Pushed s s′ (t ∷ []) out out′) (push t out s)
 unfolding push joined
 push-ends t out s audited i k =
     ends-if (isConstant s t && eqb (length (text s t)) 0) _ _
@@ -165,7 +165,7 @@ lone : {P : ℕ → Type 0} {a : ℕ} → Every P (a ∷ []) → P a
 lone (and p k) = p
 
 -- one atom replaced, then pushed
-atom-ends : (cs : List ℕ) (a : ℕ) (out : List ℕ) (s : Store) → Audited s → Strings s cs → isString s a ≡ true → Strings s (reverse out) → Ends (λ s′ out′. Pushed s s′ (a ∷ []) out out′) ((substitute cs a >>= (λ r. push r out)) s)
+pub atom-ends : (cs : List ℕ) (a : ℕ) (out : List ℕ) (s : Store) → Audited s → Strings s cs → isString s a ≡ true → Strings s (reverse out) → Ends (λ s′ out′. Pushed s s′ (a ∷ []) out out′) ((substitute cs a >>= (λ r. push r out)) s)
 atom-ends cs a out s audited h i k =
     ends-then (λ r. push r out) (substitute cs a s) (substitute-ends cs a s audited h i) (λ s₁ r x.
     ends-map (λ s′ out′ y. record { list = rewritten-then (rewritten-after (reverse out) k x) (y .list); long = y .long })

@@ -4,8 +4,9 @@ use mathlib.Core.Path.{_≡_, refl, sym, ap, subst, _∙_}
 use mathlib.Core.Bool.{Bool, true, false}
 use mathlib.Core.List.{List, [], _∷_, _++_, append-nil, append-assoc, Memᴰ·append-left, Memᴰ·append-right}
 use mathlib.Core.Option.{Option, none, some}
-use Prim.Native.Nat.{ℕ, suc, _+_}
-use lib.ListN.{length, drop}
+use Prim.Native.Nat.{ℕ, suc, _+_, _≤_}
+use native.Mathlib.Omega.{arith}
+use lib.ListN.{length, drop, length-append}
 use lib.Dec.{ltb, leb}
 use lib.Seq.{drop-append-seam}
 use Rattle.records.specs.Lists.{if_then_else_, all, joined, Every, none-left, and}
@@ -30,10 +31,12 @@ holds-right l m h = record { merges = h .merges; reasons = λ t e k. h .reasons 
 
 -- THE STORE AFTER
 
--- a store later on: terms may have been made and reasons added at the end; keys, name counter and room are as they were
+-- a store later on: constants may have been made and reasons added at the end; cells, keys, name counter and room are as they were
 pub record Later (s s′ : Store) : Type 0 where
   pub audited : Audited s′
   pub grown : Grown s s′
+  pub cells : s′ .cells ≡ s .cells
+  pub chars : length (s .chars) ≤ length (s′ .chars)
   pub more : List (ℕ × ℕ)
   pub reasons : s′ .reasons ≡ s .reasons ++ more
   pub keys : s′ .keys ≡ s .keys
@@ -44,6 +47,8 @@ pub later-none : (s : Store) → Audited s → Later s s
 later-none s a = record {
   audited = a;
   grown = grown-none s;
+  cells = refl;
+  chars = omega arith;
   more = [];
   reasons = sym (append-nil (s .reasons));
   keys = refl;
@@ -55,6 +60,8 @@ pub later-then : {s s₁ s₂ : Store} → Later s s₁ → Later s₁ s₂ → 
 later-then {s} p q = record {
   audited = q .audited;
   grown = grown-then (p .grown) (q .grown);
+  cells = q .cells ∙ p .cells;
+  chars = (let a = p .chars in let b = q .chars in omega arith);
   more = p .more ++ q .more;
   reasons = q .reasons ∙ ap (λ (x : List (ℕ × ℕ)). x ++ q .more) (p .reasons) ∙ append-assoc (s .reasons) (p .more) (q .more);
   keys = q .keys ∙ p .keys;
@@ -70,6 +77,8 @@ pub later-explained : {s s′ : Store} {a b : ℕ} → Gave s s′ a b → Later
 later-explained g = record {
   audited = g .audited;
   grown = g .grown;
+  cells = ap (λ (x : Store). x .cells) (g .added .is);
+  chars = (let e = ap (λ (x : Store). length (x .chars)) (g .added .is) in omega arith);
   more = g .added .more;
   reasons = ap (λ (x : Store). x .reasons) (g .added .is);
   keys = ap (λ (x : Store). x .keys) (g .added .is);
@@ -77,37 +86,47 @@ later-explained g = record {
   room = ap (λ (x : Store). x .room) (g .added .is);
 }
 
--- making a constant leaves the name counter
-names-put : (b : Bool) (s₁ s : Store) (x : ℕ) (s′ : Store) (t : ℕ) → s₁ .names ≡ s .names → ((if b then put s₁ else refuse 8) >> give x) s ≡ ok s′ t → s′ .names ≡ s .names
-names-put true s₁ s x s′ t p e = let q : s₁ ≡ s′ = cc in sym (ap (λ (y : Store). y .names) q) ∙ p
-names-put false s₁ s x s′ t p e = stop-not e
+-- what making a constant leaves: the cells and the name counter, and no fewer characters
+record Leaves (s s′ : Store) : Type 0 where
+  cells : s′ .cells ≡ s .cells
+  chars : length (s .chars) ≤ length (s′ .chars)
+  names : s′ .names ≡ s .names
 
-text-names : (w : List ℕ) (s s′ : Store) (p : ℕ) → addText w s ≡ ok s′ p → s′ .names ≡ s .names
+leaves-put : (Q : Store → Type 0) (b : Bool) (s₁ s : Store) (x : ℕ) (s′ : Store) (t : ℕ) → Q s₁ → ((if b then put s₁ else refuse 8) >> give x) s ≡ ok s′ t → Q s′
+leaves-put Q true s₁ s x s′ t p e = let q : s₁ ≡ s′ = cc in subst Q q p
+leaves-put Q false s₁ s x s′ t p e = stop-not e
+
+text-leaves : (w : List ℕ) (s s′ : Store) (p : ℕ) → addText w s ≡ ok s′ p → Leaves s s′
 unfolding addText
-text-names w s s′ p e = names-put (leb (length (s .chars) + length w) (s .room .chars)) (withChars s (s .chars ++ w)) s (length (s .chars)) s′ p refl e
+text-leaves w s s′ p e =
+    leaves-put (Leaves s) (leb (length (s .chars) + length w) (s .room .chars)) (withChars s (s .chars ++ w)) s (length (s .chars)) s′ p
+    (record { cells = refl; chars = (let n = length-append (s .chars) w in omega arith); names = refl }) e
 
-term-names : (k a b : ℕ) (s s′ : Store) (t : ℕ) → addTerm k a b s ≡ ok s′ t → s′ .names ≡ s .names
+term-leaves : (Q : Store → Type 0) (k a b : ℕ) (s s′ : Store) (t : ℕ) → Q (withTerms s (s .terms ++ (own (suc (count s)) k a b ∷ []))) → addTerm k a b s ≡ ok s′ t → Q s′
 unfolding addTerm
-term-names k a b s s′ t e = names-put (ltb (count s) (s .room .terms)) (withTerms s (s .terms ++ (own (suc (count s)) k a b ∷ []))) s (suc (count s)) s′ t refl e
+term-leaves Q k a b s s′ t q e = leaves-put Q (ltb (count s) (s .room .terms)) (withTerms s (s .terms ++ (own (suc (count s)) k a b ∷ []))) s (suc (count s)) s′ t q e
 
-constant-names : (w : List ℕ) (s s′ : Store) (t : ℕ) → makeConstant w s ≡ ok s′ t → s′ .names ≡ s .names
+constant-leaves : (w : List ℕ) (s s′ : Store) (t : ℕ) → makeConstant w s ≡ ok s′ t → Leaves s s′
 unfolding makeConstant lowest
-constant-names w s s′ t e = go (lookup (constantOf w) s) e
+constant-leaves w s s′ t e = go (lookup (constantOf w) s) e
   where
-    go : (o : Option ℕ) → orMake (λ x. andThen (λ p. addTerm 1 p (length w)) (addText w x)) o s ≡ ok s′ t → s′ .names ≡ s .names
-    go none d = via (λ p. addTerm 1 p (length w)) (addText w s) d (λ s₁ p i j. term-names 1 p (length w) s₁ s′ t j ∙ text-names w s s₁ p i)
-    go (some i) d = let q : s ≡ s′ = cc in sym (ap (λ (y : Store). y .names) q)
+    go : (o : Option ℕ) → orMake (λ x. andThen (λ p. addTerm 1 p (length w)) (addText w x)) o s ≡ ok s′ t → Leaves s s′
+    go none d = via (λ p. addTerm 1 p (length w)) (addText w s) d (λ s₁ p i j. let l = text-leaves w s s₁ p i in term-leaves (Leaves s) 1 p (length w) s₁ s′ t (record { cells = l .cells; chars = l .chars; names = l .names }) j)
+    go (some i) d = let q : s ≡ s′ = cc in subst (Leaves s) q (record { cells = refl; chars = omega arith; names = refl })
 
 pub later-made : (w : List ℕ) (s s′ : Store) (t : ℕ) → Audited s → all isChar w ≡ true → makeConstant w s ≡ ok s′ t → Later s s′
 later-made w s s′ t a good e =
     let m = constant-kept w s s′ t a good e .made in
+    let l = constant-leaves w s s′ t e in
     record {
       audited = m .audited;
       grown = m .grown;
+      cells = l .cells;
+      chars = l .chars;
       more = [];
       reasons = m .reasons ∙ sym (append-nil (s .reasons));
       keys = m .keys;
-      names = constant-names w s s′ t e;
+      names = l .names;
       room = m .room;
     }
 
