@@ -1,3 +1,5 @@
+pub mod Flats
+pub mod Represents
 pub mod Atoms
 pub mod Ends
 pub mod Rewritten

@@ -1,2 +1,4 @@
 pub mod Normalize
+pub mod Flat
+pub mod Nodes
 pub mod Meaning

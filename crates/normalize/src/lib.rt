@@ -1,5 +1,11 @@
 // Cited normal forms.
-pub struct Form {
-    pub code: u32,
-    pub count: usize,
+pub mod flat;
+pub mod nodes;
+
+pub const LIST_LIMIT: usize = 1024;
+
+// The list of a normal form, by its count, with the new counts; or the refusal.
+pub enum Form {
+    List(usize, records::State),
+    Refused(u32),
 }

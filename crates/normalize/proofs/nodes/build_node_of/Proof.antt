@@ -1,0 +1,35 @@
+use lib.ListN.{length, drop}
+use Prim.Native.Nat.{_-_, _≤_}
+use mathlib.Core.Path.{_≡_, refl}
+use Rattle.normalize.specs.Nodes.{withNodes}
+use Rattle.records.specs.View.{termsView}
+use Rattle.records.proofs.Lists.{every-at}
+use Rattle.normalize.proofs.Represents.{nodes-turn, nodes-done}
+use native.Mathlib.Omega.{arith}
+use borrow.Author.Needs.{needs}
+use Rattle.normalize.proofs.nodes.build_node_of.Statement.{statement}
+use Rattle.normalize.proofs.nodes.build_node_of.Tie as tie
+use Rattle.normalize.proofs.nodes.build_node_of.Reads as reads
+use Rattle.normalize.proofs.nodes.build_node_of.Lts as lts
+use Rattle.normalize.proofs.nodes.add_node.Reads as add-node-reads
+
+abbrev Inv-loop : tie.InvT-loop
+Inv-loop terms n known nodes₀ i₀ nodes i = (i ≤ length known) × (withNodes (termsView terms n) (drop i known) nodes ≡ withNodes (termsView terms n) known nodes₀)
+
+abbrev μ-loop : tie.MeasureT-loop
+μ-loop terms n known nodes₀ i₀ nodes i = length known - i
+
+pub build-node-of-spec : {M : Type 1} → statement M
+build-node-of-spec =
+    tie.close
+    (tie.spec
+    Inv-loop
+    μ-loop
+    (λ c. (omega arith, refl))
+    (λ c. search needs)
+    (λ c. search needs)
+    (λ c κs. (c .before .before .before .before .before .before .pre .0, (every-at _ _ 0 (c .before .before .before .before .before .before .pre .1 .0) (c .before .before .loop-test .taken), c .before .before .before .before .before .before .pre .1 .1)))
+    (λ c. search needs)
+    (λ c. search needs)
+    (λ c. (omega arith, nodes-turn _ _ _ _ _ _ _ (c .before .before .before .loop-test .taken) refl (c .add-node .ensures) (c .before .before .before .before .loop .inv .1)))
+    (λ c. nodes-done _ _ _ _ _ (c .loop-test .left) (c .before .loop .inv .1)))

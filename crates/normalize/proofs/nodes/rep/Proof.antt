@@ -1,0 +1,13 @@
+use Rattle.normalize.proofs.Represents.{root-place, at-none, at-some}
+use native.Mathlib.Omega.{arith}
+use borrow.Author.Needs.{needs}
+use Rattle.normalize.proofs.nodes.rep.Statement.{statement}
+use Rattle.normalize.proofs.nodes.rep.Tie as tie
+use Rattle.normalize.proofs.nodes.rep.Reads as reads
+use Rattle.normalize.proofs.nodes.rep.Lts as lts
+use Rattle.records.proofs.classes.root_unchecked.Reads as root-unchecked-reads
+
+pub rep-spec : {M : Type 1} → statement M
+rep-spec =
+    tie.close
+    (tie.spec (λ c κs. search needs) (λ c. search needs) (λ c. search needs) (λ c. root-place (c .before .before .args .terms .now) _ _ _ (c .before .before .pre .0) (c .before .before .pre .1 .0) (c .before .before .pre .1 .1) (c .root-unchecked .ensures)) (λ c. at-none _ _ _ _ (c .before .before .root-unchecked .ensures) (c .if1 .taken)) (λ c. at-some _ _ _ _ (c .before .before .root-unchecked .ensures) (c .if1 .left)))
