@@ -1,33 +1,37 @@
 -- Each way through `explain_rec` and `expand_edge`.
 use mathlib.Core.Path.{_≡_, refl, sym, ap, _∙_}
-use mathlib.Core.Bool.{Bool, true, false, not, _||_}
+use mathlib.Core.Bool.{Bool, true, false, not, _&&_, _||_}
 use mathlib.Core.List.{List, [], _∷_, _++_, List·Memᴰ, List·Memᴰ·cases-cons, List·Memᴰ·not-nil}
 use mathlib.Core.Logic.{_⊎_, inl, inr, ⊎-elim}
-use Prim.Native.Nat.{ℕ, zero, suc, _+_, _*_, _/_, _^_, _≤_, _<_, min, max}
+use Prim.Native.Nat.{ℕ, zero, suc, _+_, _*_, _/_, _%_, _^_, _≤_, _<_, min, max}
 use native.Mathlib.Numerals.{add-one}
 use native.Mathlib.Omega.{arith}
 use native.Mathlib.Decide.{ℕ-discrete}
-use lib.ListN.{length, getD}
+use lib.ListN.{length, getD, replicate, length-replicate}
 use lib.Dec.{eqb, ltb}
 use borrow.Author.Tests.{eqb-true, eqb-false, eq-eqb, ne-eqb, ltb-true}
 use Rattle.records.specs.Lists.{if_then_else_, any, firsts, upTo, table, Every, none-left, and}
-use Rattle.records.specs.Store.{Term, Cell, Store, Out, ok, stop, Work, andThen, store, term, cell, count, isTerm, isEdge, within, kind, parts, chain, chainIn, top, path, pathIn, forestUp, topIn, aboveBy, aboveIn, nearestIn, termIn, cellIn}
-use Rattle.records.specs.View.{termAt, cellAt, termsView, cellsView, pairsView, reasonRoom, reasonLimit}
+use Rattle.records.specs.Store.{Term, Cell, Store, Out, ok, stop, Work, andThen, store, term, cell, count, isTerm, isEdge, isString, sameClass, within, kind, parts, chain, chainIn, top, path, pathIn, forestUp, topIn, aboveBy, aboveIn, nearestIn, termIn, cellIn}
+use Rattle.records.specs.declared.State.{State}
+use Rattle.records.specs.declared.Added.the-variants.{Counts, Refused}
+use Rattle.records.specs.Calls.{Working, added}
+use Rattle.records.specs.View.{Lent, lent, storeOf, termAt, cellAt, termsView, cellsView, pairsView, reasonRoom, reasonLimit}
 use Rattle.records.specs.Make.{withReasons, addReason, ordered, samePair}
-use Rattle.records.specs.Audited.{Audited, Closed, Label, asserted, interface, congruence, definitional, Next, last, later}
+use Rattle.records.specs.Audited.{Audited, Ready, Closed, Label, asserted, interface, congruence, definitional, Next, last, later}
 use Rattle.records.specs.Puts.{Pushed}
 use Rattle.records.proofs.Lists.{either, or-left, or-right, clash, decide, same-test, both-left, both-right, both-true, within-low, within-high, within-is, within-zero, table-length, table-at}
 use Rattle.records.proofs.Views.{term-is, cell-is, table-is}
 use Rattle.records.proofs.Climbs.{above-root, above-is, classed-tops}
 use Rattle.records.proofs.Chains.{chain-none, chain-is}
 use Rattle.engine.specs.declared.Walked.{Walked}
-use Rattle.engine.specs.Explain.{Seen, wasSeen, each, edge, highest, height, walked}
-use Rattle.engine.specs.Marks.{place, marked, Marked, Marks}
-use Rattle.engine.specs.Walks.{Standing, Together, Edge, Wide, Walkable, Shows, came, refused, Walks, Gives, ahead}
+use Rattle.engine.specs.Explain.{Seen, wasSeen, each, edge, highest, height, walked, explain, explainArguments}
+use Rattle.engine.specs.Marks.{place, bit, marked, Marked, Marks}
+use Rattle.engine.specs.Walks.{Standing, Together, Edge, Wide, Walkable, Shows, came, refused, Walks, Gives, ahead, Comes, explained, stopped, Explained, Explainable}
 use Rattle.engine.proofs.Bits.{place-pair, place-small}
 use Rattle.engine.proofs.Fits.{Fit, fit-height, pairs-fit, highest-high}
 use Rattle.engine.proofs.Paths.{nearest, path-edges, every-both}
 use Rattle.engine.proofs.Walk.{walked-same}
+use Rattle.engine.proofs.Sound.{class-together}
 
 -- THE LENT WORDS
 
@@ -617,3 +621,77 @@ module _ (terms cells tab₀ tab tab₁ reasons reasons₁ : List ℕ) (n k a b 
 
   pub rising-low : termIn (termsView terms n) x .stamp < highest (termsView terms n) (pathIn (termsView terms n) a b)
   rising-low = rw (u .standing .terms-are) at (rising-on terms cells tab tab₁ reasons reasons₁ n k a b m x c c₁ late g d (u .standing) (u .fit) .low)
+
+-- FROM NO PAIR SEEN
+
+no-bit : (j : ℕ) → bit 0 j ≡ false
+unfolding bit
+no-bit j = rw (native.Mathlib.Nat.zero-div (2 ^ j)) refl
+
+-- a table of zeros marks nothing
+pub no-marks : (n w : ℕ) → Marks n (replicate w 0) []
+unfolding marked wasSeen any
+no-marks n w = record { says = λ a b ha hb. ap (λ (x : ℕ). bit x (place n a b % 32)) (zero-at w (place n a b / 32)) ∙ no-bit (place n a b % 32) }
+  where
+    zero-at : (w i : ℕ) → _≡_ {A = ℕ} (getD (replicate w 0) i 0) 0
+    zero-at zero i = refl
+    zero-at (suc w) zero = refl
+    zero-at (suc w) (suc i) = zero-at w i
+
+pub explained-by : (terms cells tab′ reasons reasons′ : List ℕ) (n k a b c w : ℕ) (r : Walked)
+    → Walks (walked (a, b)) (λ s. Together s (a, b)) terms cells (replicate w 0) tab′ reasons reasons′ n k c r → Explained terms cells reasons reasons′ n k a b c r
+unfolding explain
+explained-by terms cells tab′ reasons reasons′ n k a b c w r g = record { kept = g .kept; comes = λ e q. go e (g .shows e q [] (no-marks n w)) }
+  where
+    go : (e : Standing terms cells reasons n k) → Shows (e .store) n tab′ reasons′ r (walked (a, b) [] (withReasons (e .store) (pairsView reasons c)))
+        → Comes (e .store) reasons′ r (explain a b (withReasons (e .store) (pairsView reasons c)))
+    go e (came h seen m i) = explained h (ap (andThen (λ v. λ s. ok s tt)) i)
+    go e (refused h i) = stopped h (ap (andThen (λ v. λ s. ok s tt)) i)
+
+pub explainable-walk : (terms cells reasons : List ℕ) (n k a b m w : ℕ) → n ≤ m → m ≤ 512 → (m + 1) * (m + 1) ≤ 32 * w → Explainable terms cells reasons n k a b
+    → Walkable terms cells (replicate w 0) reasons n k (λ s. Together s (a, b))
+explainable-walk terms cells reasons n k a b m w i j h e =
+    let q = native.Mathlib.Nat.mul-le-mul {n₁ = n + 1} {m₁ = n + 1} {n₂ = m + 1} {m₂ = m + 1} (omega arith) (omega arith) in
+    record { standing = e .standing; fit = e .together; wide = record { few = omega arith; long = rw (length-replicate {A = ℕ} w 0) (omega arith) } }
+
+-- THE LENT STORE
+
+module _ (m : Lent) (c : State) where
+  abbrev pub standing-of : Ready m c → Standing (m .terms) (m .cells) (m .reasons) (c .terms) (c .cells)
+  standing-of d = record { store = storeOf m c; audited = d .audited; terms-are = refl; cells-are = refl; room-is = refl }
+
+  abbrev pub explainable-of : (a b : ℕ) → Ready m c → explainArguments a b (storeOf m c) ≡ true → Explainable (m .terms) (m .cells) (m .reasons) (c .terms) (c .cells) a b
+  explainable-of a b d h =
+      let i = both-left (isString (storeOf m c) a && isString (storeOf m c) b) _ h in
+      record {
+        standing = standing-of d;
+        together = class-together (storeOf m c) (d .audited) a b (both-left _ _ i) (both-right (isString (storeOf m c) a) _ i) (both-right (isString (storeOf m c) a && isString (storeOf m c) b) _ h);
+      }
+
+  -- the counts with other reasons
+  abbrev pub reasonsAt : ℕ → State
+  reasonsAt n = record { terms = c .terms; cells = c .cells; chars = c .chars; reasons = n; keys = c .keys; names = c .names }
+
+  module _ (a b : ℕ) (d : Ready m c) (h : explainArguments a b (storeOf m c) ≡ true) (reasons′ : List ℕ) (l : length reasons′ ≡ length (m .reasons)) (r : Walked)
+      (x : Explained (m .terms) (m .cells) (m .reasons) reasons′ (c .terms) (c .cells) a b (c .reasons) r) where
+    store-after : (n : ℕ) → storeOf (lent (m .terms) (m .cells) (m .chars) reasons′ (m .keys)) (reasonsAt n) ≡ withReasons (storeOf m c) (pairsView reasons′ n)
+    store-after n = rw l
+
+    still : storeOf (lent (m .terms) (m .cells) (m .chars) reasons′ (m .keys)) c ≡ storeOf m c
+    still = store-after (c .reasons) ∙ ap (withReasons (storeOf m c)) (x .kept)
+
+    pub explain-came : r .code ≡ 0 → Working (explain a b) m (lent (m .terms) (m .cells) (m .chars) reasons′ (m .keys)) c
+        (added (Counts (reasonsAt (r .count))) (lent (m .terms) (m .cells) (m .chars) reasons′ (m .keys)))
+    explain-came z = record { says = go (x .comes (standing-of d) (explainable-of a b d h .together)); kept = still }
+      where
+        go : Comes (storeOf m c) reasons′ r (explain a b (storeOf m c)) → explain a b (storeOf m c) ≡ ok (storeOf (lent (m .terms) (m .cells) (m .chars) reasons′ (m .keys)) (reasonsAt (r .count))) tt
+        go (explained i e) = e ∙ ap (λ (s : Store). ok s tt) (sym (store-after (r .count)))
+        go (stopped i e) = absurd (i z)
+
+    pub explain-refused : (r .code ≡ 0 → ⊥) → Working (explain a b) m (lent (m .terms) (m .cells) (m .chars) reasons′ (m .keys)) c
+        (added (Refused (r .code)) (lent (m .terms) (m .cells) (m .chars) reasons′ (m .keys)))
+    explain-refused z = record { says = go (x .comes (standing-of d) (explainable-of a b d h .together)); kept = still }
+      where
+        go : Comes (storeOf m c) reasons′ r (explain a b (storeOf m c)) → explain a b (storeOf m c) ≡ stop (r .code)
+        go (explained i e) = absurd (z i)
+        go (stopped i e) = e

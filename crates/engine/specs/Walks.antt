@@ -11,7 +11,7 @@ use Rattle.records.specs.View.{termsView, cellsView, pairsView, reasonRoom}
 use Rattle.records.specs.Make.{withReasons}
 use Rattle.records.specs.Audited.{Audited}
 use Rattle.engine.specs.declared.Walked.{Walked}
-use Rattle.engine.specs.Explain.{Seen, walked, edge}
+use Rattle.engine.specs.Explain.{Seen, walked, edge, explain}
 use Rattle.engine.specs.Marks.{Marks}
 
 -- an audited store with the lent terms and cells and the room of the lent reasons
@@ -66,3 +66,19 @@ pub record Gives (l l′ : List ℕ) (n kind value : ℕ) (r : Walked) : Type 0 
   pub more : n ≤ r .count
   pub given : ltb n (reasonRoom l) ≡ true → (r .code ≡ 0) × (pairsView l′ (r .count) ≡ pairsView l n ++ ((kind, value) ∷ []))
   pub full : ltb n (reasonRoom l) ≡ false → r .code ≡ 7
+
+-- what an explanation came to
+pub data Comes (s : Store) (reasons : List ℕ) (r : Walked) (o : Out (Unit {0})) : Type 0 where
+  explained : r .code ≡ 0 → o ≡ ok (withReasons s (pairsView reasons (r .count))) tt → Comes s reasons r o
+  stopped : (r .code ≡ 0 → ⊥) → o ≡ stop (r .code) → Comes s reasons r o
+
+-- a pair explained from no pair seen
+pub record Explained (terms cells reasons reasons′ : List ℕ) (n k a b count : ℕ) (r : Walked) : Type 0 where
+  pub kept : pairsView reasons′ count ≡ pairsView reasons count
+  pub comes : (e : Standing terms cells reasons n k) → Together (e .store) (a, b)
+      → Comes (e .store) reasons′ r (explain a b (withReasons (e .store) (pairsView reasons count)))
+
+-- terms and cells of which a pair can be explained
+pub record Explainable (terms cells reasons : List ℕ) (n k a b : ℕ) : Type 0 where
+  pub standing : Standing terms cells reasons n k
+  pub together : Together (standing .store) (a, b)

@@ -1,12 +1,18 @@
 // Classes and explanations: find and explain.
 ghost use mathlib.Core.Path.{_≡_};
-ghost use mathlib.Core.Bool.{false};
+ghost use mathlib.Core.Bool.{true, false};
 ghost use Prim.Native.Nat.{ℕ, _+_, _*_, _≤_, _<_};
 ghost use lib.ListN.{length};
 ghost use Rattle.records.specs.View.{pairsView};
 ghost use Rattle.engine.specs.Explain.{walked, edge};
 ghost use Rattle.engine.specs.Marks.{place, marked, Marked};
-ghost use Rattle.engine.specs.Walks.{Walkable, Together, Edge, Walks, Gives};
+ghost use Rattle.engine.specs.Walks.{Walkable, Together, Edge, Walks, Gives, Explainable, Explained};
+ghost use Rattle.engine.specs.Explain.{explain, explainArguments};
+ghost use Rattle.records.specs.View.{lent, storeOf};
+ghost use Rattle.records.specs.Audited.{Ready};
+ghost use Rattle.records.specs.Calls.{Working, added};
+use records::Added;
+use records::State;
 use records::classes;
 use records::fields;
 use records::put;
@@ -150,4 +156,108 @@ fn expand_edge(
         4 => Walked { code: 0, count },
         _ => Walked { code: 3, count },
     }
+}
+
+// The table is cleared at each call, so a store of few terms has a small one.
+fn explain_few(
+    terms: &[u32],
+    cells: &[u32],
+    n: usize,
+    k: usize,
+    a: u32,
+    b: u32,
+    reasons: &mut [u32],
+    count: usize,
+) -> Walked
+    requires { ⌜ (n ≤ 31) × Explainable (now terms) (now cells) (now reasons) n k a b ⌝ }
+    ensures { λ r. ⌜ Explained (now (terms .entry)) (now (cells .entry)) (now (reasons .entry)) (now (reasons .exit)) n k a b count r ⌝ }
+{
+    let mut seen: [u32; 32] = [0; 32];
+    explain_rec(terms, cells, n, k, a, b, &mut seen, reasons, count)
+}
+
+fn explain_some(
+    terms: &[u32],
+    cells: &[u32],
+    n: usize,
+    k: usize,
+    a: u32,
+    b: u32,
+    reasons: &mut [u32],
+    count: usize,
+) -> Walked
+    requires { ⌜ (n ≤ 127) × Explainable (now terms) (now cells) (now reasons) n k a b ⌝ }
+    ensures { λ r. ⌜ Explained (now (terms .entry)) (now (cells .entry)) (now (reasons .entry)) (now (reasons .exit)) n k a b count r ⌝ }
+{
+    let mut seen: [u32; 512] = [0; 512];
+    explain_rec(terms, cells, n, k, a, b, &mut seen, reasons, count)
+}
+
+fn explain_many(
+    terms: &[u32],
+    cells: &[u32],
+    n: usize,
+    k: usize,
+    a: u32,
+    b: u32,
+    reasons: &mut [u32],
+    count: usize,
+) -> Walked
+    requires { ⌜ (n ≤ 512) × Explainable (now terms) (now cells) (now reasons) n k a b ⌝ }
+    ensures { λ r. ⌜ Explained (now (terms .entry)) (now (cells .entry)) (now (reasons .entry)) (now (reasons .exit)) n k a b count r ⌝ }
+{
+    let mut seen: [u32; 8225] = [0; 8225];
+    explain_rec(terms, cells, n, k, a, b, &mut seen, reasons, count)
+}
+
+fn explain_pair(
+    terms: &[u32],
+    cells: &[u32],
+    n: usize,
+    k: usize,
+    a: u32,
+    b: u32,
+    reasons: &mut [u32],
+    count: usize,
+) -> Walked
+    requires { ⌜ (n ≤ 512) × Explainable (now terms) (now cells) (now reasons) n k a b ⌝ }
+    ensures { λ r. ⌜ Explained (now (terms .entry)) (now (cells .entry)) (now (reasons .entry)) (now (reasons .exit)) n k a b count r ⌝ }
+{
+    if n < 32 {
+        return explain_few(terms, cells, n, k, a, b, reasons, count);
+    }
+    if n < 128 {
+        return explain_some(terms, cells, n, k, a, b, reasons, count);
+    }
+    explain_many(terms, cells, n, k, a, b, reasons, count)
+}
+
+// The reasons why a and b, string terms of one class, are equal, after those that are there.
+pub fn explain_unchecked(
+    terms: &[u32],
+    cells: &[u32],
+    chars: &[u32],
+    reasons: &mut [u32],
+    keys: &[u32],
+    c: State,
+    a: u32,
+    b: u32,
+) -> Added
+    requires { ⌜ (Ready (lent (now terms) (now cells) (now chars) (now reasons) (now keys)) c) × (explainArguments a b (storeOf (lent (now terms) (now cells) (now chars) (now reasons) (now keys)) c) ≡ true) ⌝ }
+    ensures { λ r. ⌜ Working (explain a b) (lent (now (terms .entry)) (now (cells .entry)) (now (chars .entry)) (now (reasons .entry)) (now (keys .entry))) (lent (now (terms .entry)) (now (cells .entry)) (now (chars .entry)) (now (reasons .exit)) (now (keys .entry))) c (added r (lent (now (terms .entry)) (now (cells .entry)) (now (chars .entry)) (now (reasons .exit)) (now (keys .entry)))) ⌝ }
+{
+    let n = c.terms;
+    let k = c.cells;
+    let r = explain_pair(terms, cells, n, k, a, b, reasons, c.reasons);
+    if r.code != 0 {
+        return Added::Refused(r.code);
+    }
+    Added::Counts(State {
+        terms: c.terms,
+        cells: c.cells,
+        chars: c.chars,
+        reasons: r.count,
+        keys: c.keys,
+        names: c.names,
+    })
 }
