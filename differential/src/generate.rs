@@ -79,6 +79,10 @@ pub fn draft(random: &mut Random, p: Profile) -> Draft {
             equation(random, &mut d, &strings);
         }
     }
+    if !d.specs.iter().any(|s| matches!(s, Spec::Equation(..))) {
+        let strings = d.strings();
+        equation(random, &mut d, &strings);
+    }
     merges(random, &mut d, p.terms * p.merges / 16);
     loose_ends(random, &mut d);
     d
@@ -215,6 +219,7 @@ pub fn tower(random: &mut Random, height: usize, base: Label) -> Draft {
         d.edges.push(Edge { a: x, b: y, label: Label::Congruence, stamp: level as u32 + 1 });
         (a, b) = (x, y);
     }
+    d.add(Spec::Equation(a, b));
     d
 }
 
@@ -343,6 +348,75 @@ fn full(random: &mut Random) -> Draft {
     d
 }
 
+/// The inputs that cost most time: a name, a store that passes the audit, and a call.
+pub fn worst() -> Vec<(&'static str, Lent, Call)> {
+    let resolve = |lhs: Vec<u32>, rhs: Vec<u32>| Call::ResolveEquation { lhs, rhs, guard: 1 };
+    let mut list = vec![];
+
+    // constants over the same characters; 1 has all but the last, which is 'b'
+    let shared = |lengths: &[(u32, u32)], last: char| {
+        let mut d = Draft { layout: 0, ..Draft::default() };
+        d.add(Spec::Constant([vec!['a' as u32; CHARS - 3], vec![last as u32]].concat()));
+        let (x, y) = (d.variable("x"), d.variable("y"));
+        let mut s = lay_out(&d);
+        let constants: Vec<u32> = lengths.iter().map(|&(place, n)| s.add_term(CONSTANT, place, n)).collect();
+        (s, x, y, constants)
+    };
+    let whole = CHARS as u32 - 2;
+    let (s, x, y, c) = shared(&[(0, whole - 1), (whole - 1, 1)], 'b');
+    let absent = [vec![x], vec![c[0]; 1021], vec![c[1], y]].concat();
+    list.push(("step 3: a character absent from 1,024 constants", s, resolve(vec![c[0]; 1024], absent)));
+    let (s, x, _, c) = shared(&[(0, whole - 1)], 'a');
+    let fitting = [vec![x], vec![c[0]; 1022], vec![x]].concat();
+    list.push(("step 5: every span fits", s, resolve(vec![c[0]; 1024], fitting)));
+    let (s, _, _, c) = shared(&[(0, whole - 2), (0, whole), (0, whole - 1)], 'a');
+    let uneven = [vec![c[0]; 512], vec![c[1]; 512]].concat();
+    list.push(("two constant sides, equal", s, resolve(vec![c[2]; 1024], uneven)));
+
+    // names that differ late
+    let mut d = Draft { layout: 0, ..Draft::default() };
+    d.add(Spec::Constant([vec!['a' as u32; 8000], vec!['b' as u32], vec!['a' as u32; 8000]].concat()));
+    let mut s = lay_out(&d);
+    s.chars.resize(CHARS, 0);
+    for place in 0..511 {
+        s.add_term(VARIABLE, place, 8001);
+    }
+    list.push(("the audit: 511 names of 8,001 shared characters", s, Call::Audit));
+
+    let mut random = Random::new(1);
+    let d = tower(&mut random, 250, Label::Asserted(5));
+    let (a, b) = (d.count() - 2, d.count() - 1);
+    list.push(("explain: a tower of 250 congruences", lay_out(&d), Call::Explain { a, b }));
+
+    // a known list over a class chain of 250, gone through for each of 121 forms
+    let mut d = Draft { layout: 0, spare: [4, 4, 40, 4096, 4], ..Draft::default() };
+    let z = d.variable("z");
+    let ys: Vec<u32> = (0..120).map(|i| d.variable(&format!("y{i}"))).collect();
+    for &y in &ys {
+        let c = d.concat(&[z, z]);
+        d.merge(y, c, Label::Asserted(1));
+    }
+    let ws: Vec<u32> = (0..250).map(|i| d.variable(&format!("w{i}"))).collect();
+    for pair in [&[z][..], &ws].concat().windows(2) {
+        d.merge(pair[1], pair[0], Label::Definitional);
+    }
+    let t = d.concat(&ys);
+    let mut s = lay_out(&d);
+    // a class tree as deep as the forest
+    for pair in [&[z][..], &ws].concat().windows(2) {
+        s.terms[8 * pair[1] as usize + 3] = pair[0];
+    }
+    let concats: Vec<u32> = (1..t).filter(|&c| s.kind(c) == CONCATENATION).collect();
+    let known = [concats, vec![ws[249]; 1024 - 120]].concat();
+    list.push(("deep form: a known list of 1,024 for each of 121 forms", s, Call::DeepNormalForm { known, t }));
+
+    let d = doubled(&mut random, 10, 1);
+    list.push(("normal form: 2^10 atoms and one", lay_out(&d), Call::NormalForm { known: vec![], t: d.count() - 3 }));
+    let d = doubled(&mut random, 200, 1);
+    list.push(("normal form: 2^200 atoms", lay_out(&d), Call::NormalForm { known: vec![], t: d.count() - 3 }));
+    list
+}
+
 fn list(random: &mut Random, strings: &[u32], longest: usize) -> Vec<u32> {
     let n = random.below(longest + 1);
     (0..n).map(|_| *random.pick(strings)).collect()
@@ -394,7 +468,14 @@ fn shaped_lists(random: &mut Random, s: &Lent, strings: &[u32]) -> (Vec<u32>, Ve
     let v = *random.pick(&variables);
     let near: Vec<u32> = strings.iter().copied().filter(|&u| s.class_root(u) == s.class_root(v)).collect();
     let n = random.between(1, 5);
-    let (lhs, rhs) = match random.below(4) {
+    let (lhs, rhs) = match random.below(5) {
+        // a lone variable, and a constant of its class in the middle
+        4 => {
+            let fixed: Vec<u32> = constants.iter().copied().filter(|&c| s.class_root(c) == s.class_root(v)).collect();
+            let fixed = if fixed.is_empty() { &constants } else { &fixed };
+            let (before, after) = (mixed(random, &[&constants, &variables], 1), mixed(random, &[&constants, &variables], 1));
+            (vec![v], [before, vec![*random.pick(fixed)], after].concat())
+        }
         // a lone variable and a list with its class
         0 => (vec![v], mixed(random, &[&near, &constants, &variables], n)),
         // constants against one class and constants

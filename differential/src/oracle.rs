@@ -203,6 +203,22 @@ impl World {
         World { terms, eq, reasons, entry_keys: keys.clone(), keys, names: s.state[5], departures: Departures::default() }
     }
 
+    /// One call of the unchanged Rust, and back to the store as it was lent: for timing. Refusals are not looked for.
+    pub fn timed(&mut self, s: &Lent, call: &Call) {
+        reasons_left(usize::MAX);
+        let ran = catch_unwind(AssertUnwindSafe(|| std::hint::black_box(work(self, s, call, Mode::Unchanged))));
+        drop(ran);
+        let room = s.room();
+        let left = |i: usize| room[i] - s.state[i] as usize;
+        self.terms.back(s.count(), Left { terms: left(0), cells: left(1), chars: left(2) });
+        self.eq.back(s.count());
+        self.reasons.truncate(s.state[3] as usize);
+        if self.keys.len() > self.entry_keys.len() {
+            self.keys = self.entry_keys.clone();
+        }
+        self.names = s.state[5];
+    }
+
     // what was added, written behind what was lent
     fn unload(&self, exit: &mut Lent) {
         for t in exit.count() + 1..=self.terms.count() {
