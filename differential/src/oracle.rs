@@ -117,15 +117,15 @@ fn arguments(s: &Lent, call: &Call) -> bool {
 
 pub fn run(s: &Lent, request: &Request, mode: Mode) -> Answer {
     let code = refused_at_entry(s, request);
-    let idle = |code| Answer { outcome: Outcome::idle(s, request, code), departures: Departures::default() };
+    let idle = |code, departures| Answer { outcome: Outcome::idle(s, request, code), departures };
     if code != 0 || request.call == Call::Audit {
-        return idle(code);
+        return idle(code, Departures::default());
     }
     let mut world = World::load(s);
     let ran = catch_unwind(AssertUnwindSafe(|| work(&mut world, s, &request.call, mode)));
     // a key is added before any term is made, so a key too many was met first
     if world.keys.len() > world.entry_keys.len() && s.state[4] as usize >= s.room()[4] {
-        return idle(8);
+        return idle(8, world.departures);
     }
     match ran {
         Ok((answer, list)) => {
@@ -136,7 +136,7 @@ pub fn run(s: &Lent, request: &Request, mode: Mode) -> Answer {
             Answer { outcome, departures: world.departures }
         }
         Err(payload) => match payload.downcast::<Refusal>() {
-            Ok(refusal) => idle(refusal.0),
+            Ok(refusal) => idle(refusal.0, world.departures),
             Err(other) => resume_unwind(other),
         },
     }
