@@ -225,7 +225,7 @@ pub fn tower(random: &mut Random, height: usize, base: Label) -> Draft {
 
 /// Variables x0, x1, .. each merged with a concatenation of a constant and the next: n expansions in a row.
 pub fn chained(random: &mut Random, n: usize, label: Label) -> Draft {
-    let mut d = Draft { layout: random.next(), spare: [60, 60, 6000, 400, 4], ..Draft::default() };
+    let mut d = Draft { layout: random.next(), spare: [90, 60, 6000, 400, 4], ..Draft::default() };
     let a = d.constant("a");
     let mut last = d.variable("x0");
     for i in 0..n {

@@ -308,7 +308,7 @@ fn small_draft(random: &mut Random) -> Draft {
 fn claims(o: &Options) -> Tally {
     let tally = rounds(o, |i, random, tally| {
         let s = lay_out(&small_draft(random));
-        for kind in [10, 11] {
+        for kind in 7..=11 {
             let r = generate::request(random, &s, kind);
             let Some(got) = o.of.run(&s, &r) else {
                 tally.absent[r.call.number()] += 1;
