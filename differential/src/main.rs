@@ -322,6 +322,10 @@ fn claims(o: &Options) -> Tally {
                 Tried::Untried => tally.untried += 1,
                 Tried::Refuted(words) => {
                     tally.differences += 1;
+                    let met = oracle::run(&s, &r, Mode::Departing).departures;
+                    tally.passed += (met.passed > 0) as u64;
+                    tally.occurrence += (met.occurrence > 0) as u64;
+                    tally.forced += (met.forced > 0) as u64;
                     if tally.differences <= PRINTED {
                         println!("round {i}: refuted by {words:?}\n{r:?}\n{s}\ngiven {got}");
                     }
@@ -331,9 +335,9 @@ fn claims(o: &Options) -> Tally {
     });
     tally.print_calls();
     println!(
-        "{} answers tried: {} stand, {} with no assignment to try; {} differences",
+        "{} answers tried: {} stand, {} with no assignment to try; refuted where a departure applies: {} {} (A: one constant, reasons) {} (B); {} differences",
         tally.stood + tally.untried + tally.differences,
-        tally.stood, tally.untried, tally.differences
+        tally.stood, tally.untried, tally.passed, tally.occurrence, tally.forced, tally.differences
     );
     tally
 }
