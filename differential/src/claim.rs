@@ -7,8 +7,13 @@ use std::collections::HashMap;
 #[derive(Clone, PartialEq, Eq, Debug)]
 pub enum Claim {
     Conflict,
-    Propagate { variable: u32, word: u32 },
-    Split { atoms: Vec<u32> },
+    Propagate {
+        variable: u32,
+        word: u32,
+    },
+    Split {
+        atoms: Vec<u32>,
+    },
     /// of explain and of the normal forms: the two sides have equal words
     Equal,
 }

@@ -42,7 +42,10 @@ fn word(random: &mut Random, letters: &[char], longest: usize) -> Vec<u32> {
 fn name(random: &mut Random, i: usize, letters: &[char]) -> Vec<u32> {
     match random.below(12) {
         0 | 1 => text(&format!("!strk{}", random.below(4))),
-        2 => text(*random.pick(&["!strk", "!strkx", "!str", "!strk00", "strk0", "!strk4294967295", "!strk4294967294", "!Strk1"])),
+        2 => {
+            let odd = *random.pick(&["!strk", "!strkx", "!str", "!strk00", "strk0", "!strk4294967295", "!strk4294967294", "!Strk1"]);
+            text(odd)
+        }
         3 => word(random, letters, 4),
         4 => text(&format!("名{i}\u{1F600}")),
         _ => text(&format!("x{i}")),
@@ -51,7 +54,7 @@ fn name(random: &mut Random, i: usize, letters: &[char]) -> Vec<u32> {
 
 /// A random draft whose store passes the audit.
 pub fn draft(random: &mut Random, p: Profile) -> Draft {
-    let mut d = Draft { layout: if random.one_in(8) { 0 } else { random.next() }, ..Draft::default() };
+    let mut d = Draft { layout: if random.one_in(8) { 0 } else { random.long() }, ..Draft::default() };
     let letters = &random.pick(&ALPHABETS)[..p.letters];
     let mut names = HashSet::new();
     let kinds = random.below(3);
@@ -167,8 +170,18 @@ fn highest_stamp(d: &Draft, a: u32, b: u32) -> Option<u32> {
             return Some(over);
         }
         d.edges.iter().find_map(|e| {
-            let next = if e.a == at { e.b } else if e.b == at { e.a } else { return None };
-            if next == from { None } else { walk(d, next, to, at, over.max(Some(e.stamp))) }
+            let next = if e.a == at {
+                e.b
+            } else if e.b == at {
+                e.a
+            } else {
+                return None;
+            };
+            if next == from {
+                None
+            } else {
+                walk(d, next, to, at, over.max(Some(e.stamp)))
+            }
         })
     }
     walk(d, a, b, 0, None).expect("one class")
@@ -209,7 +222,7 @@ fn loose_ends(random: &mut Random, d: &mut Draft) {
 /// A tower of congruences: at each level two concatenations over the two of the level below, twice each. Without the pairs seen
 /// explaining its top takes 2^height walks.
 pub fn tower(random: &mut Random, height: usize, base: Label) -> Draft {
-    let mut d = Draft { layout: random.next(), ..Draft::default() };
+    let mut d = Draft { layout: random.long(), ..Draft::default() };
     let mut a = d.variable("a");
     let mut b = d.variable("b");
     d.edges.push(Edge { a, b, label: base, stamp: 0 });
@@ -225,7 +238,7 @@ pub fn tower(random: &mut Random, height: usize, base: Label) -> Draft {
 
 /// Variables x0, x1, .. each merged with a concatenation of a constant and the next: n expansions in a row.
 pub fn chained(random: &mut Random, n: usize, label: Label) -> Draft {
-    let mut d = Draft { layout: random.next(), spare: [90, 60, 6000, 400, 4], ..Draft::default() };
+    let mut d = Draft { layout: random.long(), spare: [90, 60, 6000, 400, 4], ..Draft::default() };
     let a = d.constant("a");
     let mut last = d.variable("x0");
     for i in 0..n {
@@ -241,7 +254,7 @@ pub fn chained(random: &mut Random, n: usize, label: Label) -> Draft {
 
 /// Concatenations that double at each level, so that the flattened list has 2^height atoms, and one with `more` atoms behind it.
 pub fn doubled(random: &mut Random, height: usize, more: usize) -> Draft {
-    let mut d = Draft { layout: random.next(), ..Draft::default() };
+    let mut d = Draft { layout: random.long(), ..Draft::default() };
     let x = d.variable("x");
     let mut t = if random.one_in(2) { x } else { d.constant("a") };
     for _ in 0..height {
@@ -295,7 +308,7 @@ pub fn at_limits(random: &mut Random) -> Draft {
 
 // one concatenation whose deep form has about 256 or about 1,024 atoms
 fn wide(random: &mut Random) -> Draft {
-    let mut d = Draft { layout: random.next(), spare: [40, 40, 5000, 600, 4], ..Draft::default() };
+    let mut d = Draft { layout: random.long(), spare: [40, 40, 5000, 600, 4], ..Draft::default() };
     let vars: Vec<u32> = (0..random.between(1, 4)).map(|i| d.variable(&format!("x{i}"))).collect();
     let c = d.constant("ab");
     let e = d.constant("");
@@ -455,7 +468,11 @@ fn two_lists(random: &mut Random, s: &Lent, strings: &[u32]) -> (Vec<u32>, Vec<u
         let at = random.below(rhs.len() + 1);
         rhs.insert(at, *random.pick(strings));
     }
-    if random.one_in(2) { (lhs, rhs) } else { (rhs, lhs) }
+    if random.one_in(2) {
+        (lhs, rhs)
+    } else {
+        (rhs, lhs)
+    }
 }
 
 /// Atoms of the shapes that steps 2 to 5 look for.
@@ -488,7 +505,11 @@ fn shaped_lists(random: &mut Random, s: &Lent, strings: &[u32]) -> (Vec<u32>, Ve
         // constants alone
         _ => (list(random, &constants, 3), list(random, &constants, 3)),
     };
-    if random.one_in(2) { (lhs, rhs) } else { (rhs, lhs) }
+    if random.one_in(2) {
+        (lhs, rhs)
+    } else {
+        (rhs, lhs)
+    }
 }
 
 fn guard(random: &mut Random) -> i32 {
@@ -557,7 +578,11 @@ pub fn call(random: &mut Random, s: &Lent, kind: usize) -> Call {
             if !random.one_in(4) {
                 rhs.resize(lhs.len(), strings[0]);
             }
-            if kind == 12 { Call::NfEqual { lhs, rhs } } else { Call::NfEqualExplain { lhs, rhs } }
+            if kind == 12 {
+                Call::NfEqual { lhs, rhs }
+            } else {
+                Call::NfEqualExplain { lhs, rhs }
+            }
         }
         _ => unreachable!(),
     }

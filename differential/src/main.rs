@@ -68,9 +68,7 @@ fn options(arguments: &[String]) -> Options {
             "--count" => o.count = number(),
             "--from" => o.from = number(),
             "--threads" => o.threads = number().max(1),
-            "--kinds" => {
-                o.kinds = value.split(',').map(|k| NAMES.iter().position(|n| *n == k).unwrap_or_else(|| usage())).collect()
-            }
+            "--kinds" => o.kinds = value.split(',').map(|k| NAMES.iter().position(|n| *n == k).unwrap_or_else(|| usage())).collect(),
             "--of" => {
                 o.of = match value.as_str() {
                     #[cfg(feature = "port")]
@@ -278,7 +276,8 @@ fn damaged(o: &Options) -> Tally {
             };
             let expected = Outcome::idle(bad, &r, due);
             tally.met(&r.call, &expected);
-            let what = if due == 0 { (got != expected).then(|| "the audit wrote a word".into()) } else { difference(bad, &r, &expected, &got) };
+            let what =
+                if due == 0 { (got != expected).then(|| "the audit wrote a word".into()) } else { difference(bad, &r, &expected, &got) };
             if let Some(what) = what {
                 tally.differences += 1;
                 if tally.differences <= PRINTED {
@@ -293,7 +292,12 @@ fn damaged(o: &Options) -> Tally {
         "{} calls on damaged stores compared, {} that the port lacks; answers 0 to 5: {} {} {} {} {} {}; {} differences",
         tally.calls.iter().sum::<u64>(),
         tally.absent.iter().sum::<u64>(),
-        c[0], c[1], c[2], c[3], c[4], c[5],
+        c[0],
+        c[1],
+        c[2],
+        c[3],
+        c[4],
+        c[5],
         tally.differences
     );
     tally

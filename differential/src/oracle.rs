@@ -100,9 +100,7 @@ fn arguments(s: &Lent, call: &Call) -> bool {
         Call::MakeVariable { name } => !name.is_empty() && name.iter().all(|&c| is_char(c)),
         Call::MakeConcatenation { parts } => parts.len() >= 2 && strings(parts),
         Call::MakeLength { t } | Call::Find { t } => s.is_string(*t),
-        Call::MakeEquation { t, u } => {
-            s.is_string(*t) && s.is_string(*u) || s.kind(*t) == LENGTH && s.kind(*u) == LENGTH
-        }
+        Call::MakeEquation { t, u } => s.is_string(*t) && s.is_string(*u) || s.kind(*t) == LENGTH && s.kind(*u) == LENGTH,
         Call::Explain { a, b } => s.is_string(*a) && s.is_string(*b) && s.class_root(*a) == s.class_root(*b),
         Call::NormalForm { known, t } | Call::DeepNormalForm { known, t } => strings(known) && s.is_string(*t),
         Call::ResolveEquation { lhs, rhs, guard } => strings(lhs) && strings(rhs) && guarded(*guard),
@@ -519,11 +517,7 @@ fn passed(w: &mut World, seen: &Look, guard: Lit) -> StepResult {
     for &(a, b) in &seen.stripped {
         assert!(wordeq::strip_pair(&mut w.terms, &mut w.eq, a, b, &mut w.reasons));
     }
-    let [lone, rest] = if seen.lhs.len() == 1 && !w.is_constant(seen.lhs[0]) {
-        [&seen.lhs, &seen.rhs]
-    } else {
-        [&seen.rhs, &seen.lhs]
-    };
+    let [lone, rest] = if seen.lhs.len() == 1 && !w.is_constant(seen.lhs[0]) { [&seen.lhs, &seen.rhs] } else { [&seen.rhs, &seen.lhs] };
     assert!(lone.len() == 1 && rest.len() >= 2);
     // step 7's first test is on what step 1 added
     if w.reasons.len() > before && !rest.iter().all(|&t| w.is_constant(t)) {
@@ -531,8 +525,7 @@ fn passed(w: &mut World, seen: &Look, guard: Lit) -> StepResult {
     }
     let just = w.reasons.clone();
     let mut apart = EqualityEngine::default();
-    let result =
-        wordeq::resolve_stripped(&mut w.terms, &mut apart, &seen.lhs, &seen.rhs, just, guard, &mut w.names, &mut w.keys);
+    let result = wordeq::resolve_stripped(&mut w.terms, &mut apart, &seen.lhs, &seen.rhs, just, guard, &mut w.names, &mut w.keys);
     assert!(!matches!(result, StepResult::Conflict(_)), "a Conflict after step 2");
     result
 }

@@ -11,8 +11,7 @@ use crate::{
 use std::time::{Duration, Instant};
 
 const SIZES: [usize; 4] = [8, 64, 256, 512];
-const KINDS: [(usize, &str); 5] =
-    [(7, "explain"), (8, "normal_form"), (9, "deep_normal_form"), (10, "resolve_equation"), (11, "step")];
+const KINDS: [(usize, &str); 5] = [(7, "explain"), (8, "normal_form"), (9, "deep_normal_form"), (10, "resolve_equation"), (11, "step")];
 const FOR: Duration = Duration::from_millis(300);
 
 // calls a second of a round of calls, repeated

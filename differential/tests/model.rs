@@ -4,8 +4,7 @@ use differential::{
     call::{Call, NAMES},
     compare::difference,
     draft::lay_out,
-    generate,
-    model,
+    generate, model,
     oracle::{self, Mode},
     random::Random,
 };
