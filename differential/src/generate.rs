@@ -121,8 +121,10 @@ fn merges(random: &mut Random, d: &mut Draft, tries: usize) {
     }
     let mut class = d.classes();
     let small = random.one_in(2);
+    let variables: Vec<u32> = strings.iter().copied().filter(|&t| matches!(d.spec(t), Spec::Variable(_))).collect();
     for _ in 0..tries {
-        let (a, b) = (*random.pick(&strings), *random.pick(&strings));
+        let from = if variables.len() >= 2 && random.one_in(2) { &variables } else { &strings };
+        let (a, b) = (*random.pick(from), *random.pick(from));
         if class[a as usize] != class[b as usize] {
             let number = if random.one_in(20) { (1 << 31) - 1 - random.below(2) as u32 } else { random.below(10) as u32 };
             let label = match random.below(5) {
@@ -482,7 +484,11 @@ fn shaped_lists(random: &mut Random, s: &Lent, strings: &[u32]) -> (Vec<u32>, Ve
     if variables.is_empty() || constants.is_empty() {
         return two_lists(random, s, strings);
     }
-    let v = *random.pick(&variables);
+    let class_size = |v: u32| variables.iter().filter(|&&u| s.class_root(u) == s.class_root(v)).count();
+    let v = match random.below(3) {
+        0 => *random.pick(&variables),
+        _ => variables.iter().copied().max_by_key(|&v| class_size(v)).unwrap(),
+    };
     let near: Vec<u32> = strings.iter().copied().filter(|&u| s.class_root(u) == s.class_root(v)).collect();
     let n = random.between(1, 5);
     let (lhs, rhs) = match random.below(5) {
