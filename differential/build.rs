@@ -1,9 +1,27 @@
-//! With the feature `port`: where the port's static library stands.
+//! With the feature `port`: where the port's static library stands, and which calls it has so far.
 
-use std::{env, path::PathBuf};
+use std::{env, fs, path::PathBuf};
+
+const CALLS: [&str; 14] = [
+    "labels_audit",
+    "labels_make_constant",
+    "labels_make_variable",
+    "labels_make_concatenation",
+    "labels_make_length",
+    "labels_make_equation",
+    "labels_find",
+    "labels_explain",
+    "labels_normal_form",
+    "labels_deep_normal_form",
+    "labels_resolve_equation",
+    "labels_step",
+    "labels_nf_equal",
+    "labels_nf_equal_explain",
+];
 
 fn main() {
     println!("cargo:rerun-if-changed=build.rs");
+    println!("cargo:rustc-check-cfg=cfg(exports, values(\"{}\"))", CALLS.join("\", \""));
     if env::var_os("CARGO_FEATURE_PORT").is_none() {
         return;
     }
@@ -11,9 +29,16 @@ fn main() {
     let folder = package.join("../target/staticlib");
     let library = folder.join("libcapi.a");
     println!("cargo:rerun-if-changed={}", library.display());
-    if !library.is_file() {
+    let Ok(archive) = fs::read(&library) else {
         eprintln!("the port's library is not at {}: make it with `rt staticlib capi`", library.display());
         std::process::exit(1);
+    };
+    for call in CALLS {
+        // a symbol's name stands in the archive between zeros
+        let name = [b"\0", call.as_bytes(), b"\0"].concat();
+        if archive.windows(name.len()).any(|w| w == name) {
+            println!("cargo:rustc-cfg=exports=\"{call}\"");
+        }
     }
     println!("cargo:rustc-link-search=native={}", folder.display());
     println!("cargo:rustc-link-lib=static=capi");

@@ -1,5 +1,5 @@
 //! Demand 3 by trying: an answer, given as data, against every assignment of short words under which only the definitional merges and
-//! the reasons named hold.
+//! the reasons named hold. What explain and the normal forms hand up is tried likewise.
 
 use crate::{call::*, lent::*};
 use std::collections::HashMap;
@@ -7,11 +7,18 @@ use std::collections::HashMap;
 #[derive(Clone, PartialEq, Eq, Debug)]
 pub enum Claim {
     Conflict,
-    Propagate { variable: u32, word: u32 },
-    Split { atoms: Vec<u32> },
+    Propagate {
+        variable: u32,
+        word: u32,
+    },
+    Split {
+        atoms: Vec<u32>,
+    },
+    /// of explain and of the normal forms: the two sides have equal words
+    Equal,
 }
 
-/// An answer of wordeq or of the step: the reasons named are those counted at exit.
+/// An answer: the reasons named are those counted at exit.
 #[derive(Clone, Debug)]
 pub struct Answered<'a> {
     pub entry: &'a Lent,
@@ -35,12 +42,17 @@ pub fn answered<'a>(entry: &'a Lent, call: &Call, outcome: &'a Outcome) -> Optio
             let e = entry.term(*equation);
             (vec![e.first], vec![e.second])
         }
+        Call::Explain { a, b } => (vec![*a], vec![*b]),
+        Call::NormalForm { t, .. } | Call::DeepNormalForm { t, .. } if outcome.answer[0] == 1 => {
+            (vec![*t], outcome.list[..outcome.answer[1] as usize].to_vec())
+        }
         _ => return None,
     };
-    let claim = match outcome.answer[0] {
-        CONFLICT => Claim::Conflict,
-        PROPAGATE => Claim::Propagate { variable: outcome.answer[1], word: outcome.answer[2] },
-        SPLIT => Claim::Split { atoms: outcome.list[..outcome.answer[1] as usize].to_vec() },
+    let claim = match (call, outcome.answer.first()) {
+        (Call::Explain { .. } | Call::NormalForm { .. } | Call::DeepNormalForm { .. }, _) => Claim::Equal,
+        (_, Some(&CONFLICT)) => Claim::Conflict,
+        (_, Some(&PROPAGATE)) => Claim::Propagate { variable: outcome.answer[1], word: outcome.answer[2] },
+        (_, Some(&SPLIT)) => Claim::Split { atoms: outcome.list[..outcome.answer[1] as usize].to_vec() },
         _ => return None,
     };
     Some(Answered { entry, exit: &outcome.exit, lhs, rhs, claim })
@@ -170,8 +182,9 @@ pub fn try_out(a: &Answered) -> Tried {
 fn attempt(a: &Answered) -> Option<Tried> {
     let s = a.entry;
     let mut trial = Trial { a, variables: vec![], given: vec![] };
+    let sides = (trial.list(&a.lhs)?, trial.list(&a.rhs)?);
     // what is supposed: equal sides, and the edges under definitional merges and named reasons
-    let mut supposed: Vec<Equal> = vec![(trial.list(&a.lhs)?, trial.list(&a.rhs)?)];
+    let mut supposed: Vec<Equal> = if a.claim == Claim::Equal { vec![] } else { vec![sides.clone()] };
     let named = a.exit.reason_list();
     for t in (1..=s.count()).filter(|&t| s.is_edge(t)) {
         let r = s.term(t);
@@ -183,6 +196,7 @@ fn attempt(a: &Answered) -> Option<Tried> {
     let mut listed: Vec<Listed> = vec![];
     match &a.claim {
         Claim::Conflict => {}
+        Claim::Equal => listed.push(Listed::Words(sides)),
         Claim::Propagate { variable, word } => listed.push(Listed::Words((trial.list(&[*variable])?, trial.list(&[*word])?))),
         Claim::Split { atoms } => {
             for &e in atoms {

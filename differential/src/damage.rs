@@ -306,8 +306,7 @@ fn put(slice: &mut [u32], at: usize, value: u32) {
 /// Nothing but random words.
 pub fn noise(random: &mut Random) -> Lent {
     let small = random.one_in(2);
-    let mut words = |n: usize| -> Vec<u32> {
-        (0..n).map(|_| if small { random.below(6) as u32 } else { random.word() >> random.below(32) }).collect()
-    };
+    let mut words =
+        |n: usize| -> Vec<u32> { (0..n).map(|_| if small { random.below(6) as u32 } else { random.word() >> random.below(32) }).collect() };
     Lent { state: words(6), terms: words(64), cells: words(30), chars: words(20), reasons: words(8), keys: words(8) }
 }

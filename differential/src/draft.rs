@@ -160,12 +160,8 @@ struct Cells {
 impl Cells {
     fn chain(&mut self, values: &[Pair], random: &mut Random, sharing: bool) -> usize {
         let mut next = None;
-        for (i, &(a, b)) in values.iter().enumerate().rev() {
-            let there = if sharing && !random.one_in(4) {
-                self.written.iter().position(|&w| w == (a, b, next))
-            } else {
-                None
-            };
+        for &(a, b) in values.iter().rev() {
+            let there = if sharing && !random.one_in(4) { self.written.iter().position(|&w| w == (a, b, next)) } else { None };
             if there.is_none() && random.one_in(12) {
                 let stray = if self.written.is_empty() || random.one_in(2) { None } else { Some(random.below(self.written.len())) };
                 self.written.push((random.word(), random.word(), stray));
@@ -174,7 +170,6 @@ impl Cells {
                 self.written.push((a, b, next));
                 self.written.len() - 1
             }));
-            debug_assert!(i < values.len());
         }
         next.expect("a chain has a cell")
     }
@@ -184,7 +179,7 @@ impl Cells {
     }
 }
 
-/// The store of a draft. `plain` lays it out as making calls and `M` lines would: nothing shared, a's parent is b.
+/// The store of a draft. Layout 0 shares nothing, hangs a under b at each merge, and each class under its tree's root.
 pub fn lay_out(d: &Draft) -> Lent {
     let mut random = Random::new(d.layout);
     let plain = d.layout == 0;

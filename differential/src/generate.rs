@@ -42,7 +42,10 @@ fn word(random: &mut Random, letters: &[char], longest: usize) -> Vec<u32> {
 fn name(random: &mut Random, i: usize, letters: &[char]) -> Vec<u32> {
     match random.below(12) {
         0 | 1 => text(&format!("!strk{}", random.below(4))),
-        2 => text(*random.pick(&["!strk", "!strkx", "!str", "!strk00", "strk0", "!strk4294967295", "!strk4294967294", "!Strk1"])),
+        2 => {
+            let odd = *random.pick(&["!strk", "!strkx", "!str", "!strk00", "strk0", "!strk4294967295", "!strk4294967294", "!Strk1"]);
+            text(odd)
+        }
         3 => word(random, letters, 4),
         4 => text(&format!("名{i}\u{1F600}")),
         _ => text(&format!("x{i}")),
@@ -51,7 +54,7 @@ fn name(random: &mut Random, i: usize, letters: &[char]) -> Vec<u32> {
 
 /// A random draft whose store passes the audit.
 pub fn draft(random: &mut Random, p: Profile) -> Draft {
-    let mut d = Draft { layout: if random.one_in(8) { 0 } else { random.next() }, ..Draft::default() };
+    let mut d = Draft { layout: if random.one_in(8) { 0 } else { random.long() }, ..Draft::default() };
     let letters = &random.pick(&ALPHABETS)[..p.letters];
     let mut names = HashSet::new();
     let kinds = random.below(3);
@@ -78,6 +81,10 @@ pub fn draft(random: &mut Random, p: Profile) -> Draft {
         } else {
             equation(random, &mut d, &strings);
         }
+    }
+    if !d.specs.iter().any(|s| matches!(s, Spec::Equation(..))) {
+        let strings = d.strings();
+        equation(random, &mut d, &strings);
     }
     merges(random, &mut d, p.terms * p.merges / 16);
     loose_ends(random, &mut d);
@@ -114,8 +121,10 @@ fn merges(random: &mut Random, d: &mut Draft, tries: usize) {
     }
     let mut class = d.classes();
     let small = random.one_in(2);
+    let variables: Vec<u32> = strings.iter().copied().filter(|&t| matches!(d.spec(t), Spec::Variable(_))).collect();
     for _ in 0..tries {
-        let (a, b) = (*random.pick(&strings), *random.pick(&strings));
+        let from = if variables.len() >= 2 && random.one_in(2) { &variables } else { &strings };
+        let (a, b) = (*random.pick(from), *random.pick(from));
         if class[a as usize] != class[b as usize] {
             let number = if random.one_in(20) { (1 << 31) - 1 - random.below(2) as u32 } else { random.below(10) as u32 };
             let label = match random.below(5) {
@@ -163,8 +172,18 @@ fn highest_stamp(d: &Draft, a: u32, b: u32) -> Option<u32> {
             return Some(over);
         }
         d.edges.iter().find_map(|e| {
-            let next = if e.a == at { e.b } else if e.b == at { e.a } else { return None };
-            if next == from { None } else { walk(d, next, to, at, over.max(Some(e.stamp))) }
+            let next = if e.a == at {
+                e.b
+            } else if e.b == at {
+                e.a
+            } else {
+                return None;
+            };
+            if next == from {
+                None
+            } else {
+                walk(d, next, to, at, over.max(Some(e.stamp)))
+            }
         })
     }
     walk(d, a, b, 0, None).expect("one class")
@@ -205,7 +224,7 @@ fn loose_ends(random: &mut Random, d: &mut Draft) {
 /// A tower of congruences: at each level two concatenations over the two of the level below, twice each. Without the pairs seen
 /// explaining its top takes 2^height walks.
 pub fn tower(random: &mut Random, height: usize, base: Label) -> Draft {
-    let mut d = Draft { layout: random.next(), ..Draft::default() };
+    let mut d = Draft { layout: random.long(), ..Draft::default() };
     let mut a = d.variable("a");
     let mut b = d.variable("b");
     d.edges.push(Edge { a, b, label: base, stamp: 0 });
@@ -215,12 +234,13 @@ pub fn tower(random: &mut Random, height: usize, base: Label) -> Draft {
         d.edges.push(Edge { a: x, b: y, label: Label::Congruence, stamp: level as u32 + 1 });
         (a, b) = (x, y);
     }
+    d.add(Spec::Equation(a, b));
     d
 }
 
 /// Variables x0, x1, .. each merged with a concatenation of a constant and the next: n expansions in a row.
 pub fn chained(random: &mut Random, n: usize, label: Label) -> Draft {
-    let mut d = Draft { layout: random.next(), spare: [60, 60, 6000, 400, 4], ..Draft::default() };
+    let mut d = Draft { layout: random.long(), spare: [90, 60, 6000, 400, 4], ..Draft::default() };
     let a = d.constant("a");
     let mut last = d.variable("x0");
     for i in 0..n {
@@ -236,7 +256,7 @@ pub fn chained(random: &mut Random, n: usize, label: Label) -> Draft {
 
 /// Concatenations that double at each level, so that the flattened list has 2^height atoms, and one with `more` atoms behind it.
 pub fn doubled(random: &mut Random, height: usize, more: usize) -> Draft {
-    let mut d = Draft { layout: random.next(), ..Draft::default() };
+    let mut d = Draft { layout: random.long(), ..Draft::default() };
     let x = d.variable("x");
     let mut t = if random.one_in(2) { x } else { d.constant("a") };
     for _ in 0..height {
@@ -290,7 +310,7 @@ pub fn at_limits(random: &mut Random) -> Draft {
 
 // one concatenation whose deep form has about 256 or about 1,024 atoms
 fn wide(random: &mut Random) -> Draft {
-    let mut d = Draft { layout: random.next(), spare: [40, 40, 5000, 600, 4], ..Draft::default() };
+    let mut d = Draft { layout: random.long(), spare: [40, 40, 5000, 600, 4], ..Draft::default() };
     let vars: Vec<u32> = (0..random.between(1, 4)).map(|i| d.variable(&format!("x{i}"))).collect();
     let c = d.constant("ab");
     let e = d.constant("");
@@ -343,6 +363,75 @@ fn full(random: &mut Random) -> Draft {
     d
 }
 
+/// The inputs that cost most time: a name, a store that passes the audit, and a call.
+pub fn worst() -> Vec<(&'static str, Lent, Call)> {
+    let resolve = |lhs: Vec<u32>, rhs: Vec<u32>| Call::ResolveEquation { lhs, rhs, guard: 1 };
+    let mut list = vec![];
+
+    // constants over the same characters; 1 has all but the last, which is 'b'
+    let shared = |lengths: &[(u32, u32)], last: char| {
+        let mut d = Draft { layout: 0, ..Draft::default() };
+        d.add(Spec::Constant([vec!['a' as u32; CHARS - 3], vec![last as u32]].concat()));
+        let (x, y) = (d.variable("x"), d.variable("y"));
+        let mut s = lay_out(&d);
+        let constants: Vec<u32> = lengths.iter().map(|&(place, n)| s.add_term(CONSTANT, place, n)).collect();
+        (s, x, y, constants)
+    };
+    let whole = CHARS as u32 - 2;
+    let (s, x, y, c) = shared(&[(0, whole - 1), (whole - 1, 1)], 'b');
+    let absent = [vec![x], vec![c[0]; 1021], vec![c[1], y]].concat();
+    list.push(("step 3: a character absent from 1,024 constants", s, resolve(vec![c[0]; 1024], absent)));
+    let (s, x, _, c) = shared(&[(0, whole - 1)], 'a');
+    let fitting = [vec![x], vec![c[0]; 1022], vec![x]].concat();
+    list.push(("step 5: every span fits", s, resolve(vec![c[0]; 1024], fitting)));
+    let (s, _, _, c) = shared(&[(0, whole - 2), (0, whole), (0, whole - 1)], 'a');
+    let uneven = [vec![c[0]; 512], vec![c[1]; 512]].concat();
+    list.push(("two constant sides, equal", s, resolve(vec![c[2]; 1024], uneven)));
+
+    // names that differ late
+    let mut d = Draft { layout: 0, ..Draft::default() };
+    d.add(Spec::Constant([vec!['a' as u32; 8000], vec!['b' as u32], vec!['a' as u32; 8000]].concat()));
+    let mut s = lay_out(&d);
+    s.chars.resize(CHARS, 0);
+    for place in 0..511 {
+        s.add_term(VARIABLE, place, 8001);
+    }
+    list.push(("the audit: 511 names of 8,001 shared characters", s, Call::Audit));
+
+    let mut random = Random::new(1);
+    let d = tower(&mut random, 250, Label::Asserted(5));
+    let (a, b) = (d.count() - 2, d.count() - 1);
+    list.push(("explain: a tower of 250 congruences", lay_out(&d), Call::Explain { a, b }));
+
+    // a known list over a class chain of 250, gone through for each of 121 forms
+    let mut d = Draft { layout: 0, spare: [4, 4, 40, 4096, 4], ..Draft::default() };
+    let z = d.variable("z");
+    let ys: Vec<u32> = (0..120).map(|i| d.variable(&format!("y{i}"))).collect();
+    for &y in &ys {
+        let c = d.concat(&[z, z]);
+        d.merge(y, c, Label::Asserted(1));
+    }
+    let ws: Vec<u32> = (0..250).map(|i| d.variable(&format!("w{i}"))).collect();
+    for pair in [&[z][..], &ws].concat().windows(2) {
+        d.merge(pair[1], pair[0], Label::Definitional);
+    }
+    let t = d.concat(&ys);
+    let mut s = lay_out(&d);
+    // a class tree as deep as the forest
+    for pair in [&[z][..], &ws].concat().windows(2) {
+        s.terms[8 * pair[1] as usize + 3] = pair[0];
+    }
+    let concats: Vec<u32> = (1..t).filter(|&c| s.kind(c) == CONCATENATION).collect();
+    let known = [concats, vec![ws[249]; 1024 - 120]].concat();
+    list.push(("deep form: a known list of 1,024 for each of 121 forms", s, Call::DeepNormalForm { known, t }));
+
+    let d = doubled(&mut random, 10, 1);
+    list.push(("normal form: 2^10 atoms and one", lay_out(&d), Call::NormalForm { known: vec![], t: d.count() - 3 }));
+    let d = doubled(&mut random, 200, 1);
+    list.push(("normal form: 2^200 atoms", lay_out(&d), Call::NormalForm { known: vec![], t: d.count() - 3 }));
+    list
+}
+
 fn list(random: &mut Random, strings: &[u32], longest: usize) -> Vec<u32> {
     let n = random.below(longest + 1);
     (0..n).map(|_| *random.pick(strings)).collect()
@@ -381,7 +470,11 @@ fn two_lists(random: &mut Random, s: &Lent, strings: &[u32]) -> (Vec<u32>, Vec<u
         let at = random.below(rhs.len() + 1);
         rhs.insert(at, *random.pick(strings));
     }
-    if random.one_in(2) { (lhs, rhs) } else { (rhs, lhs) }
+    if random.one_in(2) {
+        (lhs, rhs)
+    } else {
+        (rhs, lhs)
+    }
 }
 
 /// Atoms of the shapes that steps 2 to 5 look for.
@@ -391,10 +484,21 @@ fn shaped_lists(random: &mut Random, s: &Lent, strings: &[u32]) -> (Vec<u32>, Ve
     if variables.is_empty() || constants.is_empty() {
         return two_lists(random, s, strings);
     }
-    let v = *random.pick(&variables);
+    let class_size = |v: u32| variables.iter().filter(|&&u| s.class_root(u) == s.class_root(v)).count();
+    let v = match random.below(3) {
+        0 => *random.pick(&variables),
+        _ => variables.iter().copied().max_by_key(|&v| class_size(v)).unwrap(),
+    };
     let near: Vec<u32> = strings.iter().copied().filter(|&u| s.class_root(u) == s.class_root(v)).collect();
     let n = random.between(1, 5);
-    let (lhs, rhs) = match random.below(4) {
+    let (lhs, rhs) = match random.below(5) {
+        // a lone variable, and a constant of its class in the middle
+        4 => {
+            let fixed: Vec<u32> = constants.iter().copied().filter(|&c| s.class_root(c) == s.class_root(v)).collect();
+            let fixed = if fixed.is_empty() { &constants } else { &fixed };
+            let (before, after) = (mixed(random, &[&constants, &variables], 1), mixed(random, &[&constants, &variables], 1));
+            (vec![v], [before, vec![*random.pick(fixed)], after].concat())
+        }
         // a lone variable and a list with its class
         0 => (vec![v], mixed(random, &[&near, &constants, &variables], n)),
         // constants against one class and constants
@@ -407,7 +511,11 @@ fn shaped_lists(random: &mut Random, s: &Lent, strings: &[u32]) -> (Vec<u32>, Ve
         // constants alone
         _ => (list(random, &constants, 3), list(random, &constants, 3)),
     };
-    if random.one_in(2) { (lhs, rhs) } else { (rhs, lhs) }
+    if random.one_in(2) {
+        (lhs, rhs)
+    } else {
+        (rhs, lhs)
+    }
 }
 
 fn guard(random: &mut Random) -> i32 {
@@ -476,7 +584,11 @@ pub fn call(random: &mut Random, s: &Lent, kind: usize) -> Call {
             if !random.one_in(4) {
                 rhs.resize(lhs.len(), strings[0]);
             }
-            if kind == 12 { Call::NfEqual { lhs, rhs } } else { Call::NfEqualExplain { lhs, rhs } }
+            if kind == 12 {
+                Call::NfEqual { lhs, rhs }
+            } else {
+                Call::NfEqualExplain { lhs, rhs }
+            }
         }
         _ => unreachable!(),
     }

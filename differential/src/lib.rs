@@ -14,3 +14,4 @@ pub mod oracle;
 pub mod port;
 pub mod random;
 pub mod shrink;
+pub mod speed;

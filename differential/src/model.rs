@@ -443,9 +443,7 @@ impl Model {
     // departure A: the first occurrence that has a non-empty constant at another place
     fn occurrence(&self, lone: u32, rest: &[u32]) -> Option<u32> {
         let full = |i: usize| self.is_constant(rest[i]) && !self.s.text(rest[i]).is_empty();
-        (0..rest.len())
-            .find(|&i| self.one_class(rest[i], lone) && (0..rest.len()).any(|j| j != i && full(j)))
-            .map(|i| rest[i])
+        (0..rest.len()).find(|&i| self.one_class(rest[i], lone) && (0..rest.len()).any(|j| j != i && full(j))).map(|i| rest[i])
     }
 
     fn propagate(&mut self, l: &[u32], r: &[u32]) -> Work<Option<Case>> {

@@ -100,9 +100,7 @@ fn arguments(s: &Lent, call: &Call) -> bool {
         Call::MakeVariable { name } => !name.is_empty() && name.iter().all(|&c| is_char(c)),
         Call::MakeConcatenation { parts } => parts.len() >= 2 && strings(parts),
         Call::MakeLength { t } | Call::Find { t } => s.is_string(*t),
-        Call::MakeEquation { t, u } => {
-            s.is_string(*t) && s.is_string(*u) || s.kind(*t) == LENGTH && s.kind(*u) == LENGTH
-        }
+        Call::MakeEquation { t, u } => s.is_string(*t) && s.is_string(*u) || s.kind(*t) == LENGTH && s.kind(*u) == LENGTH,
         Call::Explain { a, b } => s.is_string(*a) && s.is_string(*b) && s.class_root(*a) == s.class_root(*b),
         Call::NormalForm { known, t } | Call::DeepNormalForm { known, t } => strings(known) && s.is_string(*t),
         Call::ResolveEquation { lhs, rhs, guard } => strings(lhs) && strings(rhs) && guarded(*guard),
@@ -117,15 +115,15 @@ fn arguments(s: &Lent, call: &Call) -> bool {
 
 pub fn run(s: &Lent, request: &Request, mode: Mode) -> Answer {
     let code = refused_at_entry(s, request);
-    let idle = |code| Answer { outcome: Outcome::idle(s, request, code), departures: Departures::default() };
+    let idle = |code, departures| Answer { outcome: Outcome::idle(s, request, code), departures };
     if code != 0 || request.call == Call::Audit {
-        return idle(code);
+        return idle(code, Departures::default());
     }
     let mut world = World::load(s);
     let ran = catch_unwind(AssertUnwindSafe(|| work(&mut world, s, &request.call, mode)));
     // a key is added before any term is made, so a key too many was met first
     if world.keys.len() > world.entry_keys.len() && s.state[4] as usize >= s.room()[4] {
-        return idle(8);
+        return idle(8, world.departures);
     }
     match ran {
         Ok((answer, list)) => {
@@ -136,7 +134,7 @@ pub fn run(s: &Lent, request: &Request, mode: Mode) -> Answer {
             Answer { outcome, departures: world.departures }
         }
         Err(payload) => match payload.downcast::<Refusal>() {
-            Ok(refusal) => idle(refusal.0),
+            Ok(refusal) => idle(refusal.0, world.departures),
             Err(other) => resume_unwind(other),
         },
     }
@@ -201,6 +199,22 @@ impl World {
         let keys: FxHashSet<_> = s.key_list().into_iter().map(|(a, b)| (id(a), id(b))).collect();
         reasons_left(left(3));
         World { terms, eq, reasons, entry_keys: keys.clone(), keys, names: s.state[5], departures: Departures::default() }
+    }
+
+    /// One call of the unchanged Rust, and back to the store as it was lent: for timing. Refusals are not looked for.
+    pub fn timed(&mut self, s: &Lent, call: &Call) {
+        reasons_left(usize::MAX);
+        let ran = catch_unwind(AssertUnwindSafe(|| std::hint::black_box(work(self, s, call, Mode::Unchanged))));
+        drop(ran);
+        let room = s.room();
+        let left = |i: usize| room[i] - s.state[i] as usize;
+        self.terms.back(s.count(), Left { terms: left(0), cells: left(1), chars: left(2) });
+        self.eq.back(s.count());
+        self.reasons.truncate(s.state[3] as usize);
+        if self.keys.len() > self.entry_keys.len() {
+            self.keys = self.entry_keys.clone();
+        }
+        self.names = s.state[5];
     }
 
     // what was added, written behind what was lent
@@ -503,11 +517,7 @@ fn passed(w: &mut World, seen: &Look, guard: Lit) -> StepResult {
     for &(a, b) in &seen.stripped {
         assert!(wordeq::strip_pair(&mut w.terms, &mut w.eq, a, b, &mut w.reasons));
     }
-    let [lone, rest] = if seen.lhs.len() == 1 && !w.is_constant(seen.lhs[0]) {
-        [&seen.lhs, &seen.rhs]
-    } else {
-        [&seen.rhs, &seen.lhs]
-    };
+    let [lone, rest] = if seen.lhs.len() == 1 && !w.is_constant(seen.lhs[0]) { [&seen.lhs, &seen.rhs] } else { [&seen.rhs, &seen.lhs] };
     assert!(lone.len() == 1 && rest.len() >= 2);
     // step 7's first test is on what step 1 added
     if w.reasons.len() > before && !rest.iter().all(|&t| w.is_constant(t)) {
@@ -515,8 +525,7 @@ fn passed(w: &mut World, seen: &Look, guard: Lit) -> StepResult {
     }
     let just = w.reasons.clone();
     let mut apart = EqualityEngine::default();
-    let result =
-        wordeq::resolve_stripped(&mut w.terms, &mut apart, &seen.lhs, &seen.rhs, just, guard, &mut w.names, &mut w.keys);
+    let result = wordeq::resolve_stripped(&mut w.terms, &mut apart, &seen.lhs, &seen.rhs, just, guard, &mut w.names, &mut w.keys);
     assert!(!matches!(result, StepResult::Conflict(_)), "a Conflict after step 2");
     result
 }

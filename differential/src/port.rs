@@ -3,36 +3,52 @@
 use crate::{call::*, lent::Lent};
 
 macro_rules! interface {
-    ($($name:ident($($arg:ident: $ty:ty),*);)*) => {
-        extern "C" {
-            $(fn $name(
-                state: *mut u32, state_len: usize,
-                terms: *mut u32, terms_len: usize,
-                cells: *mut u32, cells_len: usize,
-                chars: *mut u32, chars_len: usize,
-                reasons: *mut u32, reasons_len: usize,
-                keys: *mut u32, keys_len: usize,
-                $($arg: $ty),*
-            ) -> u32;)*
-        }
+    ($($symbol:tt $name:ident($($arg:ident: $ty:ty),*);)*) => {
+        $(
+            #[cfg(exports = $symbol)]
+            extern "C" {
+                fn $name(
+                    state: *mut u32, state_len: usize,
+                    terms: *mut u32, terms_len: usize,
+                    cells: *mut u32, cells_len: usize,
+                    chars: *mut u32, chars_len: usize,
+                    reasons: *mut u32, reasons_len: usize,
+                    keys: *mut u32, keys_len: usize,
+                    $($arg: $ty),*
+                ) -> u32;
+            }
+
+            #[cfg(not(exports = $symbol))]
+            #[allow(clippy::too_many_arguments)]
+            unsafe fn $name(
+                _: *mut u32, _: usize, _: *mut u32, _: usize, _: *mut u32, _: usize,
+                _: *mut u32, _: usize, _: *mut u32, _: usize, _: *mut u32, _: usize,
+                $(_: $ty),*
+            ) -> u32 {
+                ABSENT
+            }
+        )*
     };
 }
 
+/// The result of a call that the library does not have.
+pub const ABSENT: u32 = 0xABAB_ABAB;
+
 interface! {
-    labels_audit();
-    labels_make_constant(text: *const u32, text_len: usize, answer: *mut u32, answer_len: usize);
-    labels_make_variable(name: *const u32, name_len: usize, answer: *mut u32, answer_len: usize);
-    labels_make_concatenation(parts: *const u32, parts_len: usize, answer: *mut u32, answer_len: usize);
-    labels_make_length(t: u32, answer: *mut u32, answer_len: usize);
-    labels_make_equation(t: u32, u: u32, answer: *mut u32, answer_len: usize);
-    labels_find(t: u32, answer: *mut u32, answer_len: usize);
-    labels_explain(a: u32, b: u32);
-    labels_normal_form(known: *const u32, known_len: usize, t: u32, list: *mut u32, list_len: usize, answer: *mut u32, answer_len: usize);
-    labels_deep_normal_form(known: *const u32, known_len: usize, t: u32, list: *mut u32, list_len: usize, answer: *mut u32, answer_len: usize);
-    labels_resolve_equation(lhs: *const u32, lhs_len: usize, rhs: *const u32, rhs_len: usize, guard: i32, list: *mut u32, list_len: usize, answer: *mut u32, answer_len: usize);
-    labels_step(known: *const u32, known_len: usize, equation: u32, guard: i32, list: *mut u32, list_len: usize, answer: *mut u32, answer_len: usize);
-    labels_nf_equal(lhs: *const u32, lhs_len: usize, rhs: *const u32, rhs_len: usize, answer: *mut u32, answer_len: usize);
-    labels_nf_equal_explain(lhs: *const u32, lhs_len: usize, rhs: *const u32, rhs_len: usize);
+    "labels_audit" labels_audit();
+    "labels_make_constant" labels_make_constant(text: *const u32, text_len: usize, answer: *mut u32, answer_len: usize);
+    "labels_make_variable" labels_make_variable(name: *const u32, name_len: usize, answer: *mut u32, answer_len: usize);
+    "labels_make_concatenation" labels_make_concatenation(parts: *const u32, parts_len: usize, answer: *mut u32, answer_len: usize);
+    "labels_make_length" labels_make_length(t: u32, answer: *mut u32, answer_len: usize);
+    "labels_make_equation" labels_make_equation(t: u32, u: u32, answer: *mut u32, answer_len: usize);
+    "labels_find" labels_find(t: u32, answer: *mut u32, answer_len: usize);
+    "labels_explain" labels_explain(a: u32, b: u32);
+    "labels_normal_form" labels_normal_form(known: *const u32, known_len: usize, t: u32, list: *mut u32, list_len: usize, answer: *mut u32, answer_len: usize);
+    "labels_deep_normal_form" labels_deep_normal_form(known: *const u32, known_len: usize, t: u32, list: *mut u32, list_len: usize, answer: *mut u32, answer_len: usize);
+    "labels_resolve_equation" labels_resolve_equation(lhs: *const u32, lhs_len: usize, rhs: *const u32, rhs_len: usize, guard: i32, list: *mut u32, list_len: usize, answer: *mut u32, answer_len: usize);
+    "labels_step" labels_step(known: *const u32, known_len: usize, equation: u32, guard: i32, list: *mut u32, list_len: usize, answer: *mut u32, answer_len: usize);
+    "labels_nf_equal" labels_nf_equal(lhs: *const u32, lhs_len: usize, rhs: *const u32, rhs_len: usize, answer: *mut u32, answer_len: usize);
+    "labels_nf_equal_explain" labels_nf_equal_explain(lhs: *const u32, lhs_len: usize, rhs: *const u32, rhs_len: usize);
 }
 
 const FENCE: u32 = 0xFEFE_FEFE;
@@ -114,12 +130,13 @@ fn raw(store: [&mut [u32]; 6], list: &mut [u32], answer: &mut [u32], call: &Call
     }
 }
 
-pub fn run(s: &Lent, request: &Request) -> Outcome {
+/// None where the library does not have the call.
+pub fn run(s: &Lent, request: &Request) -> Option<Outcome> {
     let mut store = [&s.state, &s.terms, &s.cells, &s.chars, &s.reasons, &s.keys].map(|w| Fenced::new(w));
     let mut list = Fenced::new(&vec![BLANK; request.list_room]);
     let mut answer = Fenced::new(&vec![BLANK; request.answer_room]);
     let code = raw(store.each_mut().map(|f| f.slice()), list.slice(), answer.slice(), &request.call);
     let [state, terms, cells, chars, reasons, keys] = store.map(Fenced::taken);
     let exit = Lent { state, terms, cells, chars, reasons, keys };
-    Outcome { code, answer: answer.taken(), list: list.taken(), exit }
+    (code != ABSENT).then(|| Outcome { code, answer: answer.taken(), list: list.taken(), exit })
 }

@@ -98,9 +98,10 @@ pub fn shrink(d: Draft, call: Call, found: impl Fn(&Draft, &Call) -> bool) -> (D
 
 // a congruence's pairs must still be joined, and parts be alike in number
 fn sound(d: &Draft) -> bool {
-    d.edges.iter().filter(|e| e.label == Label::Congruence).all(|e| {
-        matches!((d.parts(e.a), d.parts(e.b)), (Some(x), Some(y)) if x.len() == y.len())
-    })
+    d.edges
+        .iter()
+        .filter(|e| e.label == Label::Congruence)
+        .all(|e| matches!((d.parts(e.a), d.parts(e.b)), (Some(x), Some(y)) if x.len() == y.len()))
 }
 
 /// How large: terms, merges, and what the call lists.

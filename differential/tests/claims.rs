@@ -111,6 +111,12 @@ fn wrong_answers_are_refuted() {
     let mut conflict = right;
     conflict.answer[0] = CONFLICT;
     assert!(matches!(tried(&s, &r, &conflict), Some(Tried::Refuted(_))));
+    // an explanation cut short
+    let r = Request::new(Call::Explain { a: x, b: y });
+    let mut short = oracle::run(&s, &r, Mode::Departing).outcome;
+    assert!(matches!(tried(&s, &r, &short), Some(Tried::Stands(n)) if n > 0));
+    short.exit.state[3] -= 1;
+    assert!(matches!(tried(&s, &r, &short), Some(Tried::Refuted(_))));
     // a Split that leaves a case out
     let r = resolve(&[u, x], &[a, u]);
     let split = oracle::run(&s, &r, Mode::Departing).outcome;
@@ -129,11 +135,11 @@ fn wrong_answers_are_refuted() {
 fn random_small_stores() {
     let mut random = Random::new(5);
     let (mut stand, mut faults) = (0, [0; 3]);
-    for _ in 0..6_000 {
+    for i in 0..6_000 {
         let p = generate::Profile { terms: random.between(3, 9), merges: 8, letters: 2, longest: 2 };
         let d = generate::draft(&mut random, p);
         let s = lay_out(&d);
-        for kind in [10, 11] {
+        for kind in if i % 8 == 0 { 7..=11 } else { 10..=11 } {
             let r = generate::request(&mut random, &s, kind);
             let a = oracle::run(&s, &r, Mode::Departing);
             for outcome in [&a.outcome, &model::run(&s, &r)] {
@@ -152,5 +158,5 @@ fn random_small_stores() {
             }
         }
     }
-    assert!(stand > 500 && faults.iter().all(|&n| n > 0), "{stand} {faults:?}");
+    assert!(stand > 1_000 && faults.iter().all(|&n| n > 0), "{stand} {faults:?}");
 }

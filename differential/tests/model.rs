@@ -1,17 +1,25 @@
 //! Document 01, written anew, against the unchanged Rust with the departures laid on top.
 
 use differential::{
-    call::NAMES,
+    call::{Call, NAMES},
     compare::difference,
     draft::lay_out,
-    generate,
-    model,
+    generate, model,
     oracle::{self, Mode},
     random::Random,
 };
 
-fn compare(seed: u64, count: usize, limits: bool) {
+// the results, the cases of wordeq and of the step, and the departures met
+#[derive(Default)]
+struct Met {
+    codes: [u32; 10],
+    cases: [u32; 6],
+    departures: [u32; 3],
+}
+
+fn compare(seed: u64, count: usize, limits: bool) -> Met {
     let mut random = Random::new(seed);
+    let mut met = Met::default();
     for i in 0..count {
         let d = if limits {
             generate::at_limits(&mut random)
@@ -28,19 +36,29 @@ fn compare(seed: u64, count: usize, limits: bool) {
             };
             let a = oracle::run(&s, &r, Mode::Departing);
             let b = model::run(&s, &r);
+            met.codes[a.outcome.code as usize] += 1;
+            if a.outcome.code == 0 && matches!(r.call, Call::ResolveEquation { .. } | Call::Step { .. }) {
+                met.cases[a.outcome.answer[0] as usize] += 1;
+            }
+            let d = a.departures;
+            met.departures.iter_mut().zip([d.passed, d.occurrence, d.forced]).for_each(|(x, y)| *x += y);
             if let Some(what) = difference(&s, &r, &a.outcome, &b) {
                 panic!("{i}: {what}\n{r:?}\n{s}\n{}\n{b}", a.outcome);
             }
         }
     }
+    met
 }
 
 #[test]
 fn random_stores() {
-    compare(3, 4_000, false);
+    let met = compare(3, 4_000, false);
+    let all = [&met.codes[5..6], &met.codes[7..], &met.cases, &met.departures].concat();
+    assert!(met.codes[0] > 0 && all.iter().all(|&n| n > 0), "{:?} {:?} {:?}", met.codes, met.cases, met.departures);
 }
 
 #[test]
 fn stores_at_their_limits() {
-    compare(4, 200, true);
+    let met = compare(4, 200, true);
+    assert!(met.codes[6] > 0 && met.codes[7] > 0 && met.codes[8] > 0, "{:?}", met.codes);
 }

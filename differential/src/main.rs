@@ -1,0 +1,403 @@
+//! The driver: see README.md.
+
+use differential::{
+    audit::audit,
+    call::*,
+    claim::{answered, try_out, Tried},
+    compare::difference,
+    damage,
+    draft::{lay_out, Draft},
+    generate,
+    lent::Lent,
+    model,
+    oracle::{self, Mode},
+    random::Random,
+    shrink, speed,
+};
+use std::{env, process::exit, thread};
+
+/// Who answers.
+#[derive(Clone, Copy, PartialEq, Debug)]
+enum Subject {
+    #[cfg(feature = "port")]
+    Port,
+    Model,
+    Rust,
+}
+
+impl Subject {
+    #[cfg(feature = "port")]
+    const USUAL: Subject = Subject::Port;
+    #[cfg(not(feature = "port"))]
+    const USUAL: Subject = Subject::Model;
+
+    fn run(self, s: &Lent, r: &Request) -> Option<Outcome> {
+        match self {
+            #[cfg(feature = "port")]
+            Subject::Port => differential::port::run(s, r),
+            Subject::Model => Some(model::run(s, r)),
+            Subject::Rust => Some(oracle::run(s, r, Mode::Unchanged).outcome),
+        }
+    }
+}
+
+struct Options {
+    seed: u64,
+    count: u64,
+    from: u64,
+    threads: u64,
+    kinds: Vec<usize>,
+    of: Subject,
+}
+
+fn usage() -> ! {
+    eprintln!(
+        "differential compare|damaged|claims|faults|speed|worst [--seed S] [--count N] [--from ROUND] [--threads T] [--kinds A,B] [--of port|model|rust]"
+    );
+    exit(2);
+}
+
+fn options(arguments: &[String]) -> Options {
+    let mut o = Options { seed: 1, count: 10_000, from: 0, threads: 1, kinds: (0..NAMES.len()).collect(), of: Subject::USUAL };
+    let mut rest = arguments.iter();
+    while let Some(name) = rest.next() {
+        let Some(value) = rest.next() else { usage() };
+        let number = || value.parse().unwrap_or_else(|_| usage());
+        match name.as_str() {
+            "--seed" => o.seed = number(),
+            "--count" => o.count = number(),
+            "--from" => o.from = number(),
+            "--threads" => o.threads = number().max(1),
+            "--kinds" => o.kinds = value.split(',').map(|k| NAMES.iter().position(|n| *n == k).unwrap_or_else(|| usage())).collect(),
+            "--of" => {
+                o.of = match value.as_str() {
+                    #[cfg(feature = "port")]
+                    "port" => Subject::Port,
+                    "model" => Subject::Model,
+                    "rust" => Subject::Rust,
+                    _ => usage(),
+                }
+            }
+            _ => usage(),
+        }
+    }
+    o
+}
+
+/// What was met.
+#[derive(Clone, Default)]
+struct Tally {
+    calls: [u64; NAMES.len()],
+    absent: [u64; NAMES.len()],
+    /// by result
+    codes: [u64; 10],
+    /// by case of wordeq and of the step
+    cases: [u64; 6],
+    none: u64,
+    passed: u64,
+    occurrence: u64,
+    forced: u64,
+    stood: u64,
+    untried: u64,
+    differences: u64,
+}
+
+impl Tally {
+    fn add(&mut self, other: &Tally) {
+        let sum = |a: &mut [u64], b: &[u64]| a.iter_mut().zip(b).for_each(|(x, y)| *x += y);
+        sum(&mut self.calls, &other.calls);
+        sum(&mut self.absent, &other.absent);
+        sum(&mut self.codes, &other.codes);
+        sum(&mut self.cases, &other.cases);
+        self.none += other.none;
+        self.passed += other.passed;
+        self.occurrence += other.occurrence;
+        self.forced += other.forced;
+        self.stood += other.stood;
+        self.untried += other.untried;
+        self.differences += other.differences;
+    }
+
+    fn met(&mut self, call: &Call, outcome: &Outcome) {
+        self.calls[call.number()] += 1;
+        self.codes[outcome.code as usize] += 1;
+        if outcome.code == 0 {
+            match call {
+                Call::ResolveEquation { .. } | Call::Step { .. } => self.cases[outcome.answer[0] as usize] += 1,
+                Call::DeepNormalForm { .. } if outcome.answer[0] == 0 => self.none += 1,
+                _ => {}
+            }
+        }
+    }
+
+    fn print_calls(&self) {
+        for (i, name) in NAMES.iter().enumerate() {
+            match (self.calls[i], self.absent[i]) {
+                (0, 0) => {}
+                (n, 0) => println!("{name}: {n}"),
+                (n, absent) => println!("{name}: {n}, and {absent} that the port does not have yet"),
+            }
+        }
+        let c = &self.cases;
+        println!(
+            "done {} saturated {} conflict {} propagate {} split {} unexpanded {}, deep forms of none {}",
+            c[0], c[1], c[2], c[3], c[4], c[5], self.none
+        );
+    }
+}
+
+/// Rounds shared among threads; each round has its own seed, so that any can be run alone.
+fn rounds(o: &Options, round: impl Fn(u64, &mut Random, &mut Tally) + Sync) -> Tally {
+    let mut total = Tally::default();
+    let parts: Vec<Tally> = thread::scope(|scope| {
+        let running: Vec<_> = (0..o.threads)
+            .map(|k| {
+                let round = &round;
+                scope.spawn(move || {
+                    let mut tally = Tally::default();
+                    let mut i = o.from + k;
+                    while i < o.from + o.count {
+                        round(i, &mut Random::new(o.seed.wrapping_mul(1 << 40) ^ i), &mut tally);
+                        i += o.threads;
+                    }
+                    tally
+                })
+            })
+            .collect();
+        running.into_iter().map(|t| t.join().expect("a round failed")).collect()
+    });
+    parts.iter().for_each(|p| total.add(p));
+    total
+}
+
+fn draft(i: u64, random: &mut Random) -> Draft {
+    if i % 40 == 39 {
+        generate::at_limits(random)
+    } else {
+        let p = generate::profile(random);
+        generate::draft(random, p)
+    }
+}
+
+fn request(i: u64, random: &mut Random, s: &Lent, kind: usize) -> Request {
+    if i % 40 == 39 && random.one_in(3) {
+        generate::long_request(random, s, kind)
+    } else {
+        generate::request(random, s, kind)
+    }
+}
+
+// the subject beside the unchanged Rust with the departures laid on top
+fn differs(of: Subject, s: &Lent, r: &Request) -> Option<String> {
+    let expected = oracle::run(s, r, Mode::Departing).outcome;
+    difference(s, r, &expected, &of.run(s, r)?)
+}
+
+// differences printed at most, by each thread
+const PRINTED: u64 = 5;
+
+fn report(o: &Options, round: u64, d: &Draft, r: &Request, what: &str) {
+    println!("round {round}: {what}");
+    let plain = *r == Request::new(r.call.clone());
+    let (e, call) = if plain {
+        shrink::shrink(d.clone(), r.call.clone(), |d, c| differs(o.of, &lay_out(d), &Request::new(c.clone())).is_some())
+    } else {
+        (d.clone(), r.call.clone())
+    };
+    let s = lay_out(&e);
+    let small = if plain { Request::new(call) } else { r.clone() };
+    println!("{}\n{:?}\n{s}", differs(o.of, &s, &small).unwrap_or_default(), small);
+    println!("expected {}", oracle::run(&s, &small, Mode::Departing).outcome);
+    if let Some(got) = o.of.run(&s, &small) {
+        println!("given {got}");
+    }
+}
+
+fn compare(o: &Options) -> Tally {
+    let tally = rounds(o, |i, random, tally| {
+        let d = draft(i, random);
+        let s = lay_out(&d);
+        assert_eq!(audit(&s), 0, "round {i}: a store that should pass");
+        for &kind in &o.kinds {
+            let r = request(i, random, &s, kind);
+            let a = oracle::run(&s, &r, Mode::Departing);
+            let Some(got) = o.of.run(&s, &r) else {
+                tally.absent[r.call.number()] += 1;
+                continue;
+            };
+            tally.met(&r.call, &a.outcome);
+            tally.passed += a.departures.passed as u64;
+            tally.occurrence += a.departures.occurrence as u64;
+            tally.forced += a.departures.forced as u64;
+            if let Some(what) = difference(&s, &r, &a.outcome, &got) {
+                tally.differences += 1;
+                if tally.differences <= PRINTED {
+                    report(o, i, &d, &r, &what);
+                }
+            }
+        }
+    });
+    tally.print_calls();
+    let c = &tally.codes;
+    println!(
+        "{} calls compared, {} that the port lacks; refused before work: {} {} {} {} {} (1 to 5); departures met: {} (A: {} no Conflict, {} occurrence explained; B: {}); limits met: {} ({} {} {} {}, 6 to 9); {} differences",
+        tally.calls.iter().sum::<u64>(),
+        tally.absent.iter().sum::<u64>(),
+        c[1], c[2], c[3], c[4], c[5],
+        tally.passed + tally.occurrence + tally.forced,
+        tally.passed, tally.occurrence, tally.forced,
+        c[6..].iter().sum::<u64>(),
+        c[6], c[7], c[8], c[9],
+        tally.differences
+    );
+    tally
+}
+
+// damaged stores: the subject alone against the audit written anew
+fn damaged(o: &Options) -> Tally {
+    let rules = damage::rules();
+    let tally = rounds(o, |i, random, tally| {
+        let d = draft(i, random);
+        let s = lay_out(&d);
+        let mut stores: Vec<Lent> = rules.iter().filter_map(|rule| damage::broken(&s, rule, random)).collect();
+        stores.extend((0..20).map(|_| damage::scrambled(&s, random)));
+        stores.push(damage::noise(random));
+        for bad in &stores {
+            let kind = if random.one_in(2) { 0 } else { *random.pick(&o.kinds) };
+            let r = request(i, random, &s, kind);
+            let due = oracle::refused_at_entry(bad, &r);
+            if due == 0 && r.call != Call::Audit {
+                // still a good store
+                continue;
+            }
+            let Some(got) = o.of.run(bad, &r) else {
+                tally.absent[r.call.number()] += 1;
+                continue;
+            };
+            let expected = Outcome::idle(bad, &r, due);
+            tally.met(&r.call, &expected);
+            let what =
+                if due == 0 { (got != expected).then(|| "the audit wrote a word".into()) } else { difference(bad, &r, &expected, &got) };
+            if let Some(what) = what {
+                tally.differences += 1;
+                if tally.differences <= PRINTED {
+                    println!("round {i}: {what}\n{r:?}\n{bad:?}");
+                }
+            }
+        }
+    });
+    tally.print_calls();
+    let c = &tally.codes;
+    println!(
+        "{} calls on damaged stores compared, {} that the port lacks; answers 0 to 5: {} {} {} {} {} {}; {} differences",
+        tally.calls.iter().sum::<u64>(),
+        tally.absent.iter().sum::<u64>(),
+        c[0],
+        c[1],
+        c[2],
+        c[3],
+        c[4],
+        c[5],
+        tally.differences
+    );
+    tally
+}
+
+fn small_draft(random: &mut Random) -> Draft {
+    let p = generate::Profile { terms: random.between(3, 9), merges: random.between(2, 12), letters: 2, longest: 2 };
+    generate::draft(random, p)
+}
+
+// demand 3 by trying
+fn claims(o: &Options) -> Tally {
+    let tally = rounds(o, |i, random, tally| {
+        let s = lay_out(&small_draft(random));
+        for kind in 7..=11 {
+            let r = generate::request(random, &s, kind);
+            let Some(got) = o.of.run(&s, &r) else {
+                tally.absent[r.call.number()] += 1;
+                continue;
+            };
+            tally.met(&r.call, &got);
+            let Some(a) = answered(&s, &r.call, &got) else { continue };
+            match try_out(&a) {
+                Tried::Stands(0) => tally.untried += 1,
+                Tried::Stands(_) => tally.stood += 1,
+                Tried::Untried => tally.untried += 1,
+                Tried::Refuted(words) => {
+                    tally.differences += 1;
+                    let met = oracle::run(&s, &r, Mode::Departing).departures;
+                    tally.passed += (met.passed > 0) as u64;
+                    tally.occurrence += (met.occurrence > 0) as u64;
+                    tally.forced += (met.forced > 0) as u64;
+                    if tally.differences <= PRINTED {
+                        println!("round {i}: refuted by {words:?}\n{r:?}\n{s}\ngiven {got}");
+                    }
+                }
+            }
+        }
+    });
+    tally.print_calls();
+    println!(
+        "{} answers tried: {} stand, {} with no assignment to try; refuted where a departure applies: {} {} (A: one constant, reasons) {} (B); {} differences",
+        tally.stood + tally.untried + tally.differences,
+        tally.stood, tally.untried, tally.passed, tally.occurrence, tally.forced, tally.differences
+    );
+    tally
+}
+
+// the smallest inputs on which the unchanged Rust gives an answer that fails demand 3
+fn faults(o: &Options) {
+    let mut smallest: [Option<(usize, Draft, Call)>; 3] = [None, None, None];
+    for i in o.from..o.from + o.count {
+        let random = &mut Random::new(o.seed.wrapping_mul(1 << 40) ^ i);
+        let d = small_draft(random);
+        let kind = random.between(10, 11);
+        let call = generate::call(random, &lay_out(&d), kind);
+        for which in 0..3 {
+            let found = |d: &Draft, c: &Call| {
+                let (s, r) = (lay_out(d), Request::new(c.clone()));
+                let met = oracle::run(&s, &r, Mode::Departing).departures;
+                let outcome = oracle::run(&s, &r, Mode::Unchanged).outcome;
+                [met.passed, met.occurrence, met.forced][which] > 0
+                    && answered(&s, c, &outcome).is_some_and(|a| matches!(try_out(&a), Tried::Refuted(_)))
+            };
+            if found(&d, &call) {
+                let (e, c) = shrink::shrink(d.clone(), call.clone(), found);
+                let size = shrink::size(&e, &c);
+                if smallest[which].as_ref().is_none_or(|x| size < x.0) {
+                    smallest[which] = Some((size, e, c));
+                }
+            }
+        }
+    }
+    let names = ["A: one constant is both", "A: the occurrence's reasons are missing", "B: the later variables' reasons are missing"];
+    for (name, found) in names.iter().zip(smallest) {
+        println!("{name}");
+        let Some((_, d, call)) = found else { continue };
+        let s = lay_out(&d);
+        let outcome = oracle::run(&s, &Request::new(call.clone()), Mode::Unchanged).outcome;
+        println!("{call:?}\n{s}\nthe Rust answers {:?} with reasons {:?}", &outcome.answer[..1], outcome.exit.reason_list());
+        if let Tried::Refuted(words) = try_out(&answered(&s, &call, &outcome).unwrap()) {
+            println!("refuted by {words:?}");
+        }
+    }
+}
+
+fn main() {
+    let arguments: Vec<String> = env::args().skip(1).collect();
+    let Some((command, rest)) = arguments.split_first() else { usage() };
+    let o = options(rest);
+    let tally = match command.as_str() {
+        "compare" => compare(&o),
+        "damaged" => damaged(&o),
+        "claims" => claims(&o),
+        "faults" => return faults(&o),
+        "speed" => return speed::table(o.seed),
+        "worst" => return speed::worst(),
+        _ => usage(),
+    };
+    if tally.differences > 0 {
+        exit(1);
+    }
+}

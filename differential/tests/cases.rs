@@ -1,0 +1,111 @@
+//! Document 01's label cases and its example of the program, by the unchanged Rust with the departures and by document 01 written anew.
+
+use differential::{
+    call::*,
+    compare::difference,
+    draft::*,
+    generate,
+    lent::{Lent, Pair},
+    model,
+    oracle::{self, Mode},
+    random::Random,
+};
+
+fn run(s: &Lent, call: Call) -> Outcome {
+    let r = Request::new(call);
+    let outcome = oracle::run(s, &r, Mode::Departing).outcome;
+    assert_eq!(difference(s, &r, &outcome, &model::run(s, &r)), None);
+    outcome
+}
+
+fn resolve(d: &Draft, lhs: &[u32], rhs: &[u32]) -> (Vec<u32>, Vec<Pair>) {
+    let o = run(&lay_out(d), Call::ResolveEquation { lhs: lhs.to_vec(), rhs: rhs.to_vec(), guard: 9 });
+    let call = Call::ResolveEquation { lhs: vec![], rhs: vec![], guard: 9 };
+    (o.answer[..o.meant(&call).0].to_vec(), o.exit.reason_list())
+}
+
+#[test]
+fn starred() {
+    let mut d = Draft::default();
+    let [a, ab, b, bzc, z, empty] = ["a", "ab", "b", "bzc", "z", ""].map(|w| d.constant(w));
+    let [u, v, w, x, y, k] = ["u", "v", "w", "x", "y", "!strk0"].map(|n| d.variable(n));
+    let merged = |p: u32, q: u32, n: u32| {
+        let mut d = d.clone();
+        d.merge(p, q, Label::Asserted(n));
+        d
+    };
+    let split = |atoms: u32| (vec![SPLIT, atoms, -9i32 as u32], vec![]);
+    assert_eq!(resolve(&d, &[], &[]), (vec![DONE], vec![]));
+    assert_eq!(resolve(&d, &[a, x], &[ab, y]), (vec![DONE], vec![]));
+    assert_eq!(resolve(&merged(u, v, 5), &[v], &[a, u, b]), (vec![CONFLICT], vec![(1, 5)]));
+    assert_eq!(resolve(&merged(v, a, 5), &[v], &[x, a, y]), split(3));
+    assert_eq!(resolve(&merged(w, u, 7), &[u, z, w], &[bzc]), (vec![CONFLICT], vec![(1, 7)]));
+    assert_eq!(resolve(&merged(x, empty, 7), &[], &[x, y]), (vec![PROPAGATE, y, empty, 1], vec![]));
+    assert_eq!(resolve(&d, &[k], &[x]), split(3));
+    assert_eq!(resolve(&merged(x, y, 9), &[x, u], &[y, a]), (vec![PROPAGATE, u, a, 0], vec![(1, 9)]));
+    assert_eq!(resolve(&merged(x, y, 9), &[x, u, w], &[y, a, v]), (vec![SATURATED], vec![]));
+}
+
+#[test]
+fn unexpanded() {
+    let mut d = Draft::default();
+    let (x, y, z, a) = (d.variable("x"), d.variable("y"), d.variable("z"), d.constant("a"));
+    let az = d.concat(&[a, z]);
+    d.merge(x, az, Label::Asserted(1));
+    let t = d.concat(&[x, y, x]);
+    let e = d.add(Spec::Equation(t, y));
+    let s = lay_out(&d);
+    let o = run(&s, Call::Step { known: vec![az, x, y, z], equation: e, guard: 1 });
+    assert_eq!((o.answer[0], o.exit.reason_list()), (UNEXPANDED, vec![]));
+    let o = run(&s, Call::DeepNormalForm { known: vec![az], t });
+    assert_eq!((&o.answer[..2], o.exit.state[3]), (&[0, 0][..], 2));
+}
+
+#[test]
+fn deep_atoms() {
+    for (n, some) in [(256, 1), (257, 0)] {
+        let mut d = Draft::default();
+        let x = d.variable("x");
+        let t = d.concat(&vec![x; n]);
+        let o = run(&lay_out(&d), Call::DeepNormalForm { known: vec![], t });
+        assert_eq!(o.answer[0], some);
+    }
+}
+
+#[test]
+fn chained_expansions() {
+    for (n, concats) in [(64, 0), (65, 1)] {
+        let d = generate::chained(&mut Random::new(1), n, Label::Asserted(1));
+        let s = lay_out(&d);
+        // a variable's representative is the concatenation merged with it
+        let known: Vec<u32> = d.strings().into_iter().filter(|&t| d.parts(t).is_some()).collect();
+        let o = run(&s, Call::DeepNormalForm { known, t: d.count() - 2 });
+        let list = &o.list[..o.answer[1] as usize];
+        assert_eq!(list.iter().filter(|&&t| s.kind(t) == differential::lent::CONCATENATION).count(), concats, "{n}");
+    }
+}
+
+// the example of `labelstep`: conflict 0, conflict 1 a3, propagate 1 4 0 0
+#[test]
+fn the_program() {
+    let mut d = Draft::default();
+    let (x, a) = (d.variable("x"), d.constant("a"));
+    let xa = d.concat(&[x, a]);
+    let b = d.constant("b");
+    let e = d.add(Spec::Equation(xa, b));
+    let known = vec![x, a, xa, b];
+    let step = |d: &Draft, equation: u32, guard: i32| {
+        let o = run(&lay_out(d), Call::Step { known: known.clone(), equation, guard });
+        (o.answer[..4].to_vec(), o.exit.reason_list())
+    };
+    let (answer, reasons) = step(&d, e, 9);
+    assert_eq!((answer[0], reasons), (CONFLICT, vec![]));
+    let y = d.variable("y");
+    d.merge(y, x, Label::Asserted(3));
+    let by = d.concat(&[b, y]);
+    let e = d.add(Spec::Equation(x, by));
+    let (answer, reasons) = step(&d, e, 10);
+    assert_eq!((answer[0], reasons), (CONFLICT, vec![(1, 3)]));
+    let e = d.add(Spec::Equation(x, b));
+    assert_eq!(step(&d, e, 11), (vec![PROPAGATE, x, b, 0], vec![]));
+}
