@@ -1,3 +1,4 @@
+pub mod Bits
 pub mod Paths
 pub mod Fits
 pub mod Cites
@@ -6,3 +7,4 @@ pub mod Added
 pub mod Walk
 pub mod Equal
 pub mod Sound
+pub mod Turns

@@ -9,6 +9,7 @@ use native.Mathlib.Omega.{arith}
 use lib.ListN.{length}
 use lib.Dec.{eqb}
 use borrow.Author.Tests.{eqb-true, eqb-false, eq-eqb, ne-eqb}
+pub use Rattle.engine.specs.Walks.{Together}
 use Rattle.records.specs.Lists.{any, firstOf, isIn, upTo, Every, none-left, and}
 use Rattle.records.specs.Store.{Term, Store, term, isTerm, climb, forestUp, top, aboveBy, aboveIn, orNone, nearestIn, pathIn, path, isEdge}
 use Rattle.records.specs.Audited.{Audited}
@@ -176,12 +177,6 @@ up-to-joins w ts x {t} (goes {l = l} d r) m k = go (up-to-joins w ts x r) (eqb t
     go ih true e n k = ap w (eqb-true _ _ e)
     go ih false e (inl n) k = absurd (eqb-false _ _ e (sym n))
     go ih false e (inr n) (and p k) = p ∙ ih n k
-
--- two terms of one tree
-pub record Together (s : Store) (p : ℕ × ℕ) : Type 0 where
-  pub left : isTerm s (p .0) ≡ true
-  pub right : isTerm s (p .1) ≡ true
-  pub tree : top s (p .0) ≡ top s (p .1)
 
 pub together-turned : {s : Store} {a b : ℕ} → Together s (a, b) → Together s (b, a)
 together-turned t = record { left = t .right; right = t .left; tree = sym (t .tree) }

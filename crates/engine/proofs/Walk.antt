@@ -89,7 +89,7 @@ module _ (s : Store) (d : Audited s) where
       go true e = refl
       go false e = e
 
-  walked-same : (p : ℕ × ℕ) → Together s p → (seen : Seen) → Same s (walked p seen) (level s p seen)
+  pub walked-same : (p : ℕ × ℕ) → Together s p → (seen : Seen) → Same s (walked p seen) (level s p seen)
   unfolding walked
   walked-same p t seen rs = level-is (height s p) p (height-fit (height s p) t (omega arith)) seen rs
 

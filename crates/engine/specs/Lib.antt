@@ -1,2 +1,4 @@
 pub mod Explain
+pub mod Marks
 pub mod Meaning
+pub mod Walks

@@ -15,7 +15,7 @@ use Rattle.records.specs.Audited.{Audited}
 use Rattle.records.proofs.Lists.{both-left, both-right, every-append}
 use Rattle.normalize.specs.Normalize.{isList, formArguments, normalForm, pushAll, deepLimit, opens, Round, expand, settle, afterExpand, rounds, deepForm}
 use Rattle.normalize.specs.Meaning.{DeepForms}
-use Rattle.normalize.proofs.Ends.{FormStop, Ends, ends-give, ends-if, ends-map, ends-then}
+use Rattle.normalize.proofs.Ends.{Refused, Ends, ends-give, ends-if, ends-map, ends-then}
 use Rattle.normalize.proofs.Rewritten.{Later, later-none, later-then, later-added, Strings, strings-later, Rewritten, rewritten-none, rewritten-then, rewritten-after, rewritten-before, rewritten-as}
 use Rattle.normalize.proofs.Formed.{all-ends, Formed, form-ends, known-strings}
 
@@ -133,7 +133,7 @@ module _ (known : List ℕ) (t : ℕ) (s : Store) (audited : Audited s) (good : 
   deep-kept s′ (some l) e = deep-gives s′ l e .later
 
   -- it stops only with 6, 7 or 8
-  pub deep-stops : (n : ℕ) → deepForm known t s ≡ stop n → FormStop n
+  pub deep-stops : (n : ℕ) → deepForm known t s ≡ stop n → Refused 8 n
   deep-stops n e = ends .stopped n e
 
   pub deep-sound : (s′ : Store) (o : Option (List ℕ)) → deepForm known t s ≡ ok s′ o → DeepForms s s′ t o

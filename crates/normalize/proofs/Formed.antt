@@ -23,7 +23,7 @@ use Rattle.engine.proofs.Sound.{explain-gives, explain-stops}
 use Rattle.normalize.specs.Normalize.{flatten, listLimit, orFirst, representative, substitute, join, push, pushAll, pushForms, normalForm, isList, formArguments}
 use Rattle.normalize.specs.Meaning.{Forms}
 use Rattle.normalize.proofs.Atoms.{Flat, flatten-flat, flatten-atoms, flatten-stops}
-use Rattle.normalize.proofs.Ends.{FormStop, Ends, ends-give, ends-by, ends-if, ends-map, ends-then}
+use Rattle.normalize.proofs.Ends.{Refused, Ends, ends-give, ends-by, ends-if, ends-map, ends-then}
 use Rattle.normalize.proofs.Rewritten.{Later, later-none, later-added, later-made, Strings, strings-later, Rewritten, rewritten-none, rewritten-then, rewritten-after, rewritten-before, rewritten-explained, rewritten-as}
 
 -- THE REPRESENTATIVE
@@ -222,7 +222,7 @@ module _ (known : List ℕ) (t : ℕ) (s : Store) (audited : Audited s) (good : 
   form-gives s′ l e = ends .given s′ l e
 
   -- it stops only with 6, 7 or 8
-  pub form-stops : (n : ℕ) → normalForm known t s ≡ stop n → FormStop n
+  pub form-stops : (n : ℕ) → normalForm known t s ≡ stop n → Refused 8 n
   form-stops n e = ends .stopped n e
 
   pub form-sound : (s′ : Store) (l : List ℕ) → normalForm known t s ≡ ok s′ l → Forms s s′ t l

@@ -2,7 +2,7 @@
 -- before.
 use mathlib.Core.Path.{_≡_, refl, sym, ap, subst, _∙_}
 use mathlib.Core.Bool.{Bool, true, false}
-use mathlib.Core.List.{List, [], _∷_, _++_, append-nil, append-assoc, Memᴰ·append-left, Memᴰ·append-right}
+use mathlib.Core.List.{List, [], _∷_, _++_, append-nil, append-assoc, List·Memᴰ, Memᴰ·append-left, Memᴰ·append-right}
 use mathlib.Core.Option.{Option, none, some}
 use Prim.Native.Nat.{ℕ, suc, _+_, _≤_}
 use native.Mathlib.Omega.{arith}
@@ -23,11 +23,15 @@ use Rattle.engine.proofs.Sound.{Gave}
 
 -- REASONS THAT HOLD
 
+-- fewer reasons hold
+pub holds-fewer : {s : Store} {w : Words} {l m : List (ℕ × ℕ)} → ((r : ℕ × ℕ) → List·Memᴰ r l → List·Memᴰ r m) → Holds s m w → Holds s l w
+holds-fewer f h = record { merges = h .merges; reasons = λ t e k. h .reasons t e (f _ k) }
+
 pub holds-left : {s : Store} {w : Words} (l m : List (ℕ × ℕ)) → Holds s (l ++ m) w → Holds s l w
-holds-left l m h = record { merges = h .merges; reasons = λ t e k. h .reasons t e (Memᴰ·append-left m k) }
+holds-left l m h = holds-fewer (λ r k. Memᴰ·append-left m k) h
 
 pub holds-right : {s : Store} {w : Words} (l m : List (ℕ × ℕ)) → Holds s (l ++ m) w → Holds s m w
-holds-right l m h = record { merges = h .merges; reasons = λ t e k. h .reasons t e (Memᴰ·append-right l k) }
+holds-right l m h = holds-fewer (λ r k. Memᴰ·append-right l k) h
 
 -- THE STORE AFTER
 

@@ -6,21 +6,23 @@ use mathlib.Core.Option.{Option, none, some}
 use Prim.Native.Nat.{ℕ, zero, suc, _+_, _*_, _-_, _<_, _≤_}
 use native.Mathlib.Numerals.{add-one}
 use native.Mathlib.Omega.{arith}
-use lib.ListN.{length, getD}
+use lib.ListN.{length, getD, drop, drop-of-length-le}
+use lib.Seq.{drop-cons}
 use lib.Dec.{eqb, ltb, leb}
-use borrow.Author.Tests.{eqb-true, eq-eqb, ne-eqb}
-use Rattle.records.specs.Lists.{firstBelow}
+use borrow.Author.Tests.{not-true, not-false, eqb-true, eq-eqb, ne-eqb}
+use Rattle.records.specs.Lists.{sameWord, firsts, firstBelow}
 use Rattle.records.specs.declared.State.{State}
 use Rattle.records.specs.declared.Made.the-variants.{Term, Refused}
-use Rattle.records.specs.Store.{Term as Record, Store, Out, ok, stop, Work, term, kind, count, termIn}
-use Rattle.records.specs.View.{Lent, lent, storeOf, termLimit, termRoom, termAt, termsView, oneTerm}
-use Rattle.records.specs.Make.{numberOf, lookup, lowest, orMake, addTerm, sidesOf, hasSides, makeSides, lengthOf, equationOf, makeLength, makeEquation}
-use Rattle.records.specs.Puts.{TermPut}
-use Rattle.records.specs.Audited.{Ready, Sized, Recorded}
+use Rattle.records.specs.Store.{Term as Record, Cell, Store, Out, ok, stop, Work, term, kind, count, within, termIn, cellIn, chainIn}
+use Rattle.records.specs.View.{Lent, lent, storeOf, termLimit, cellLimit, termRoom, cellRoom, termAt, cellAt, termsView, cellsView, oneTerm, moreCells}
+use Rattle.records.specs.Make.{numberOf, lookup, lowest, orMake, addChain, addTerm, appendParts, hasParts, concatOf, makeConcat, sidesOf, hasSides, makeSides, lengthOf, equationOf, makeLength, makeEquation}
+use Rattle.records.specs.Puts.{TermPut, ChainPut}
+use Rattle.records.specs.Audited.{Ready, Sized, Recorded, Ascends}
 use Rattle.records.specs.Calls.{Working, made}
-use Rattle.records.proofs.Lists.{left-false, right-false, decide, table-length, first-same}
-use Rattle.records.proofs.Views.{term-is}
-use Rattle.records.proofs.Rooms.{term-limit, term-room}
+use Rattle.records.proofs.Lists.{left-false, right-false, decide, within-low, within-high, table-length, first-same}
+use Rattle.records.proofs.Views.{term-is, cell-is}
+use Rattle.records.proofs.Chains.{chain-none, chain-is}
+use Rattle.records.proofs.Rooms.{term-limit, term-room, cells-limit, cells-room}
 
 -- THE LOWEST EQUAL RECORD, OR A NEW ONE
 
@@ -42,6 +44,17 @@ module _ (equal : Store → ℕ → Bool) (make : Work ℕ) (s : Store) (t : ℕ
       go (some i) e = absurd (omega arith)
 
 -- ONE TERM MORE
+
+-- what a test of terms that passed says, of counts with as many terms too
+module _ (t : List ℕ) (n : ℕ) (g : Bool) (term-here : g ≡ ltb n (termRoom t)) (p : not g ≡ false) where
+  pub one-limit : n < termLimit
+  one-limit = term-limit t n (sym term-here ∙ not-false g p)
+
+  pub one-words : 8 * (n + 2) ≤ length t
+  one-words = term-room t n (sym term-here ∙ not-false g p)
+
+  pub one-later : (c d : State) (k : ℕ) → d ≡ moreCells c k → c .terms ≡ n → d .terms < termLimit
+  one-later c d k e f = let h = one-limit in let q : d .terms ≡ c .terms = ap (λ (x : State). x .terms) e in omega arith
 
 module _ (t e h r ks : List ℕ) (c : State) (k a b : ℕ) (fits : Bool) (room : fits ≡ ltb (c .terms) (termRoom t)) where
   pub term-added : (t′ : List ℕ) → TermPut t t′ (c .terms) k a b → length t′ ≡ length t → fits ≡ true
@@ -134,3 +147,120 @@ module _ (m m′ : Lent) (c : State) (o : Out ℕ) where
 
   pub equation-made : (a b : ℕ) → Working (makeSides 5 a b) m m′ c o → Working (makeEquation a b) m m′ c o
   equation-made a b w = record { says = equation-is (storeOf m c) a b ∙ w .says; kept = w .kept }
+
+-- CHAINS: `Walked` says that i values are passed, and what is left of the chain decides
+
+pub record Walked (e : List ℕ) (n : ℕ) (w : List ℕ) (c at i : ℕ) : Type 0 where
+  pub upto : i ≤ length w
+  pub rest : sameWord (firsts (chainIn (cellsView e n) at)) (drop i w) ≡ sameWord (firsts (chainIn (cellsView e n) c)) w
+
+pub walked-none : (e : List ℕ) (n : ℕ) (w : List ℕ) (c : ℕ) → Walked e n w c c 0
+walked-none e n w c = record { upto = omega arith; rest = refl }
+
+module _ (e : List ℕ) (n : ℕ) (w : List ℕ) (c at i : ℕ) (up : Ascends (cellsView e n)) (h : Walked e n w c at i) (b : Bool) (in-it : b ≡ within n at) where
+  size : length (cellsView e n) ≡ n
+  size = table-length (λ j. cellAt e (suc j)) n
+
+  none-here : b ≡ false → chainIn (cellsView e n) at ≡ []
+  none-here f = chain-none (cellsView e n) at (rw size (sym in-it ∙ f))
+
+  one-here : b ≡ true → chainIn (cellsView e n) at ≡ (getD e (3 * at + 0) 0, getD e (3 * at + 1) 0) ∷ chainIn (cellsView e n) (getD e (3 * at + 2) 0)
+  one-here f =
+      let q = sym in-it ∙ f in
+      let s = cell-is e n at (within-low n at q) (within-high n at q) in
+      chain-is (cellsView e n) at up (rw size q) ∙ ap (λ (x : Cell). (x .value, x .other) ∷ chainIn (cellsView e n) (x .next)) s
+
+  pub walk-ends : i < length w → not b ≡ true → false ≡ sameWord (firsts (chainIn (cellsView e n) c)) w
+  unfolding firsts sameWord
+  walk-ends l f =
+      let z : sameWord (firsts (chainIn (cellsView e n) at)) (drop i w) ≡ false = rw (none-here (not-true b f), drop-cons w i 0 l) in
+      sym z ∙ h .rest
+
+  pub walk-differs : (v : ℕ) → i < length w → not b ≡ false → v ≡ getD e (3 * at + 0) 0 → (v ≡ getD w i 0 → ⊥) → false ≡ sameWord (firsts (chainIn (cellsView e n) c)) w
+  unfolding firsts sameWord
+  walk-differs v l f q d =
+      let z : sameWord (firsts (chainIn (cellsView e n) at)) (drop i w) ≡ false
+      = rw (one-here (not-false b f), drop-cons w i 0 l) (left-false _ _ (ne-eqb _ _ (λ p. d (q ∙ p)))) in
+      sym z ∙ h .rest
+
+  pub walk-on : (v x : ℕ) → i < length w → not b ≡ false → v ≡ getD e (3 * at + 0) 0 → v ≡ getD w i 0 → x ≡ getD e (3 * at + 2) 0 → Walked e n w c x (i + 1)
+  unfolding firsts sameWord
+  walk-on v x l f q p y =
+      let z : sameWord (firsts (chainIn (cellsView e n) at)) (drop i w) ≡ sameWord (firsts (chainIn (cellsView e n) x)) (drop (i + 1) w)
+      = rw (one-here (not-false b f), drop-cons w i 0 l, ← y, add-one i, ← p, ← q, eq-eqb v v refl) in
+      record { upto = omega arith; rest = sym z ∙ h .rest }
+
+  pub walk-over : length w ≤ i → not b ≡ sameWord (firsts (chainIn (cellsView e n) c)) w
+  unfolding firsts sameWord
+  walk-over l = decide b
+      (λ f. let z : sameWord (firsts (chainIn (cellsView e n) at)) (drop i w) ≡ false = rw (one-here f, drop-of-length-le w {i = i} l) in rw f (sym z ∙ h .rest))
+      (λ f. let z : sameWord (firsts (chainIn (cellsView e n) at)) (drop i w) ≡ true = rw (none-here f, drop-of-length-le w {i = i} l) in rw f (sym z ∙ h .rest))
+
+-- CONCATENATIONS
+
+module _ (l : List ℕ) (cs : List Cell) (w : List ℕ) (t x : ℕ) (ex : x ≡ getD l (8 * t + 0) 0) where
+  pub parts-kind : (x ≡ 3 → ⊥) → false ≡ hasParts l cs w t
+  unfolding hasParts
+  parts-kind d = sym (left-false _ _ (ne-eqb _ _ (λ e. d (ex ∙ e))))
+
+  pub parts-are : (y : ℕ) (b : Bool) → x ≡ 3 → y ≡ getD l (8 * t + 1) 0 → b ≡ sameWord (firsts (chainIn cs y)) w → b ≡ hasParts l cs w t
+  unfolding hasParts
+  parts-are y b e f q =
+      let p : eqb (termAt l t .kind) 3 ≡ true = eq-eqb _ _ (sym ex ∙ e) in
+      rw (p, ← f) q
+
+module _ (m : Lent) (c : State) (w : List ℕ) where
+  parts-found : firstBelow (λ i. hasParts (m .terms) (cellsView (m .cells) (c .cells)) w (suc i)) (c .terms) ≡ lookup (concatOf w) (storeOf m c)
+  unfolding lookup hasParts concatOf
+  parts-found =
+      rw (table-length (λ i. termAt (m .terms) (suc i)) (c .terms))
+      (first-same (λ i. hasParts (m .terms) (cellsView (m .cells) (c .cells)) w (suc i)) (λ i. concatOf w (storeOf m c) (suc i)) (c .terms) (λ i h.
+      ap (λ (y : Record). eqb (y .kind) 3 && sameWord (firsts (chainIn (cellsView (m .cells) (c .cells)) (y .first))) w)
+      (sym (term-is (m .terms) (c .terms) (suc i) (omega arith) h))))
+
+module _ (t e h r ks : List ℕ) (c : State) (w : List ℕ) (f : Bool) (cells-here : f ≡ leb (c .cells + length w) (cellRoom e)) where
+  pub append-long : not f ≡ true → Working (appendParts w) (lent t e h r ks) (lent t e h r ks) c (made (Refused 8) (lent t e h r ks))
+  unfolding addChain
+  append-long q = record { says = rw (table-length (λ i. cellAt e (suc i)) (c .cells), ← cells-here, not-true f q); kept = refl }
+
+  -- what a test of cells that passed says
+  pub append-limit : Sized (lent t e h r ks) c → not f ≡ false → c .cells + length w ≤ cellLimit
+  append-limit z q = cells-limit e (c .cells) (length w) (z .cellRoom) (sym cells-here ∙ not-false f q)
+
+  pub append-words : Sized (lent t e h r ks) c → not f ≡ false → 3 * (c .cells + length w + 1) ≤ length e
+  append-words z q = cells-room e (c .cells) (length w) (z .cellRoom) (sym cells-here ∙ not-false f q)
+
+  module _ (q : not f ≡ false) (g : Bool) (term-here : g ≡ ltb (c .terms) (termRoom t)) where
+    pub append-full : not g ≡ true → Working (appendParts w) (lent t e h r ks) (lent t e h r ks) c (made (Refused 8) (lent t e h r ks))
+    unfolding addChain addTerm
+    append-full p = record {
+      says =
+          rw (table-length (λ i. cellAt e (suc i)) (c .cells), ← cells-here, not-false f q, table-length (λ i. termAt t (suc i)) (c .terms), ← term-here, not-true g p);
+      kept = refl;
+    }
+
+    pub append-made : (t′ e′ : List ℕ) (d d′ : State) → not g ≡ false → ChainPut e e′ (c .cells) w → length e′ ≡ length e
+        → TermPut t t′ (c .terms) 3 (c .cells + 1) 0 → length t′ ≡ length t → d ≡ moreCells c (length w) → d′ ≡ oneTerm d
+        → Working (appendParts w) (lent t e h r ks) (lent t′ e′ h r ks) c (made (Term (c .terms + 1) d′) (lent t′ e′ h r ks))
+    unfolding addChain
+    append-made t′ e′ d d′ p a la b lb x y = record { says = chained ∙ termed; kept = rw (a .kept, b .kept, la, lb) }
+      where
+        chained : appendParts w (storeOf (lent t e h r ks) c) ≡ addTerm 3 (c .cells + 1) 0 (storeOf (lent t e′ h r ks) (moreCells c (length w)))
+        chained =
+            rw (table-length (λ i. cellAt e (suc i)) (c .cells), ← cells-here, not-false f q, add-one (c .cells), a .grown, la)
+
+        termed : addTerm 3 (c .cells + 1) 0 (storeOf (lent t e′ h r ks) (moreCells c (length w))) ≡ ok (storeOf (lent t′ e′ h r ks) d′) (c .terms + 1)
+        termed = rw (y, x) (term-added t e′ h r ks (moreCells c (length w)) 3 (c .cells + 1) 0 g term-here t′ b lb (not-false g p))
+
+module _ (t e h r ks : List ℕ) (c : State) (w : List ℕ) (u : ℕ)
+    (look : u ≡ numberOf (firstBelow (λ i. hasParts t (cellsView e (c .cells)) w (suc i)) (c .terms))) where
+  sought : u ≡ numberOf (lookup (concatOf w) (storeOf (lent t e h r ks) c))
+  sought = look ∙ ap numberOf (parts-found (lent t e h r ks) c w)
+
+  pub concat-old : (u ≡ 0 → ⊥) → Working (makeConcat w) (lent t e h r ks) (lent t e h r ks) c (made (Term u c) (lent t e h r ks))
+  unfolding makeConcat
+  concat-old d = record { says = lowest-old (concatOf w) (appendParts w) (storeOf (lent t e h r ks) c) u sought d; kept = refl }
+
+  pub concat-new : (m′ : Lent) (o : Out ℕ) → u ≡ 0 → Working (appendParts w) (lent t e h r ks) m′ c o → Working (makeConcat w) (lent t e h r ks) m′ c o
+  unfolding makeConcat
+  concat-new m′ o z p = record { says = lowest-new (concatOf w) (appendParts w) (storeOf (lent t e h r ks) c) u sought z ∙ p .says; kept = p .kept }

@@ -21,12 +21,12 @@ use Rattle.records.proofs.Lists.{decide, clash, within-low, within-high
 abbrev pub valuesAt : List Cell → ℕ → ℕ × ℕ
 valuesAt cs c = (cellIn cs c .value, cellIn cs c .other)
 
-none-by : (cs : List Cell) (n c : ℕ) → within (length cs) c ≡ false → chainBy n cs c ≡ []
+pub none-by : (cs : List Cell) (n c : ℕ) → within (length cs) c ≡ false → chainBy n cs c ≡ []
 unfolding chainBy
 none-by cs zero c e = refl
 none-by cs (suc n) c e = rw (e, chainBy)
 
-one-by : (cs : List Cell) (n c : ℕ) → within (length cs) c ≡ true → chainBy (suc n) cs c ≡ valuesAt cs c ∷ chainBy n cs (cellIn cs c .next)
+pub one-by : (cs : List Cell) (n c : ℕ) → within (length cs) c ≡ true → chainBy (suc n) cs c ≡ valuesAt cs c ∷ chainBy n cs (cellIn cs c .next)
 unfolding chainBy
 one-by cs n c e = rw (e, chainBy)
 

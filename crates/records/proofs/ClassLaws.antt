@@ -1,21 +1,20 @@
 -- The audit of classes: tests of one term at a time say what the rules of two terms say.
 use mathlib.Core.Path.{_≡_, refl, sym, ap, _∙_}
 use mathlib.Core.Bool.{Bool, true, false, not, _&&_, _||_}
-use mathlib.Core.List.{List, [], _∷_}
-use mathlib.Core.Logic.{_⊎_, inl, inr, ⊎-elim}
+use mathlib.Core.List.{List, []}
+use mathlib.Core.Logic.{_⊎_, ⊎-elim}
 use Prim.Native.Nat.{ℕ, zero, suc, _+_, _*_, _≤_, _<_}
-use native.Mathlib.Numerals.{add-one}
 use native.Mathlib.Omega.{arith}
 use lib.ListN.{length, getD}
 use lib.Dec.{eqb}
 use borrow.Author.Tests.{eqb-true, eqb-false, eq-eqb, ne-eqb}
 use Rattle.records.specs.declared.State.{State}
-use Rattle.records.specs.Lists.{if_then_else_, allBelow}
+use Rattle.records.specs.Lists.{if_then_else_}
 use Rattle.records.specs.Store.{Store, term, count, isTerm, isString, within, climb, classUp, forestUp, root, top, sameClass, sameTree}
 use Rattle.records.specs.Rules.{eachTerm, parentsRule, endsRule, alikeRule, aloneRule, isNumber, edgeLabel, labelRule, alikeAt, aloneAt, classTest, classesRule}
 use Rattle.records.specs.View.{Lent, lent, storeOf, termsView}
 use Rattle.records.specs.Audited.{Closed, Rooted}
-use Rattle.records.proofs.Lists.{both-left, both-right, both-true, left-false, right-false, right-falsum, or-stop, or-next, either, or-left, or-right, decide, clash, same-test, and-stop, and-next, failed, passed, below-stop, below-turn, below-done}
+use Rattle.records.proofs.Lists.{both-left, both-right, both-true, right-false, right-falsum, or-stop, or-next, either, or-left, or-right, decide, clash, same-test, and-stop, and-next, failed, passed}
 use Rattle.records.proofs.Climbs.{climb-up, climb-stays, climb-within, rule-at, rule-all, parents-roots, parents-tops, view-count, view-term, view-class, view-forest}
 
 pub not-eqb : (x y : ℕ) → not (eqb x y) ≡ true → x ≡ y → ⊥
@@ -192,17 +191,6 @@ seen l c = storeOf (lent l [] [] [] []) c
 
 pub seen-term : (l : List ℕ) (c : State) (t : ℕ) → isTerm (seen l c) t ≡ within (c .terms) t
 seen-term l c t = ap (λ n. within n t) (view-count l (c .terms))
-
--- the loop over the terms
-module _ (l : List ℕ) (n : ℕ) (rule : ℕ → Bool) (i : ℕ) where
-  pub each-stop : (b : Bool) → b ≡ rule (i + 1) → not b ≡ true → i < n → false ≡ allBelow (λ j. rule (suc j)) (length (termsView l n))
-  each-stop b e h k = rw (view-count l n) (below-stop (λ j. rule (suc j)) n i b (e ∙ ap rule (add-one i)) h k)
-
-  pub each-turn : (b : Bool) → b ≡ rule (i + 1) → not b ≡ false → allBelow (λ j. rule (suc j)) i ≡ true → allBelow (λ j. rule (suc j)) (i + 1) ≡ true
-  each-turn b e h q = below-turn (λ j. rule (suc j)) i b (e ∙ ap rule (add-one i)) h q
-
-  pub each-done : i ≤ n → n ≤ i → allBelow (λ j. rule (suc j)) i ≡ true → true ≡ allBelow (λ j. rule (suc j)) (length (termsView l n))
-  each-done a b q = rw (view-count l n) (below-done (λ j. rule (suc j)) n i a b q)
 
 module _ (l : List ℕ) (c : State) (t : ℕ) (w : within (c .terms) t ≡ true) where
   -- a parent that was read names a term where the number read does

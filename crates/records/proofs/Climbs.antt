@@ -1,20 +1,18 @@
 -- Following parents: roots, what stands above a term, and that the steps counted in the definitions are enough where the walk ends.
 use mathlib.Core.Path.{_≡_, refl, sym, ap, _∙_}
-use mathlib.Core.Bool.{Bool, true, false, not, _&&_}
-use mathlib.Core.List.{List, [], _∷_, _++_}
+use mathlib.Core.Bool.{Bool, true, false}
+use mathlib.Core.List.{List, [], _∷_}
 use Prim.Native.Nat.{ℕ, zero, suc, _+_, _-_, _*_, _≤_, _<_}
-use native.Mathlib.Numerals.{add-one}
 use native.Mathlib.Omega.{arith}
 use lib.ListN.{length, getD}
 use lib.Dec.{eqb}
-use borrow.Author.Tests.{eqb-true, eq-eqb, ne-eqb}
+use borrow.Author.Tests.{eq-eqb, ne-eqb}
 use Rattle.records.specs.declared.State.{State}
-use Rattle.records.specs.Lists.{if_then_else_, allBelow}
 use Rattle.records.specs.Store.{Term, Store, term, termIn, count, isTerm, within, climb, classUp, forestUp, rootIn, topIn, aboveBy, aboveIn}
 use Rattle.records.specs.View.{Lent, termAt, termsView, storeOf}
 use Rattle.records.specs.Rules.{parentsRule, eachTerm}
-use Rattle.records.specs.Audited.{Closed, Classed, Ready}
-use Rattle.records.proofs.Lists.{both-left, both-right, decide, clash, below-at, below-all, within-is, within-low, within-high, within-zero, table-length}
+use Rattle.records.specs.Audited.{Closed, Classed}
+use Rattle.records.proofs.Lists.{both-left, both-right, clash, below-at, below-all, within-is, within-low, within-high, within-zero, table-length}
 use Rattle.records.proofs.Views.{term-is}
 
 -- STEPS

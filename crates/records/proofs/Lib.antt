@@ -3,6 +3,8 @@ pub mod Views
 pub mod Climbs
 pub mod Paths
 pub mod RuleLaws
+pub mod NameLaws
+pub mod TermLaws
 pub mod Rooms
 pub mod Puts
 pub mod Adds
@@ -22,5 +24,9 @@ pub mod Append
 pub mod Extend
 pub mod Beside
 pub mod Kept
+pub mod PairLaws
 pub mod Meant
 pub mod Builds
+pub mod Naming
+pub mod BuildCalls
+pub mod Auditing

@@ -70,6 +70,9 @@ pub right-falsum : (a b : Bool) → b ≡ false → a || b ≡ a
 right-falsum true b e = refl
 right-falsum false b e = e
 
+pub or-none : (a : Bool) → a || false ≡ a
+or-none a = right-falsum a false refl
+
 -- one test of several fails, and one decides where the others pass
 pub three-1 : (a b c : Bool) → a ≡ false → false ≡ (a && b && c)
 three-1 a b c e = rw e
@@ -395,6 +398,10 @@ module _ {A : Type 0} where
   pub every-map : {P Q : A → Type 0} {l : List A} → ((a : A) → P a → Q a) → Every P l → Every Q l
   every-map f none-left = none-left
   every-map f (and p k) = and (f _ p) (every-map f k)
+
+  pub every-both : {P Q : A → Type 0} {l : List A} → Every P l → Every Q l → Every (λ a. P a × Q a) l
+  every-both none-left none-left = none-left
+  every-both (and p h) (and q k) = and (p, q) (every-both h k)
 
   pub every-append : {P : A → Type 0} {l m : List A} → Every P l → Every P m → Every P (l ++ m)
   every-append none-left k = k

@@ -1,22 +1,22 @@
 -- Walking what stands above a term in the lent words: marks, the nearest shared ancestor, and the stamps of a path.
 use mathlib.Core.Path.{_≡_, refl, sym, ap, _∙_}
-use mathlib.Core.Bool.{Bool, true, false, not, _&&_, _||_}
-use mathlib.Core.List.{List, [], _∷_, _++_}
-use mathlib.Core.Logic.{_⊎_, inl, inr, ⊎-elim}
+use mathlib.Core.Bool.{Bool, true, false, not, _&&_, _||_, false≢true}
+use mathlib.Core.List.{List, [], _∷_}
+use mathlib.Core.Logic.{_⊎_, ⊎-elim}
 use mathlib.Core.Option.{Option, none, some}
 use Prim.Native.Nat.{ℕ, zero, suc, _+_, _-_, _*_, _≤_, _<_}
-use native.Mathlib.Numerals.{add-one}
 use native.Mathlib.Omega.{arith}
 use lib.ListN.{length, getD, set, length-set}
 use lib.Seq.{getD-set-same, getD-set-other}
-use lib.Dec.{eqb, ltb}
-use borrow.Author.Tests.{eqb-true, eqb-false, eq-eqb, ne-eqb}
-use Rattle.records.specs.Lists.{if_then_else_, all, any, firstOf, isIn, upTo, marked, isMarked, Every, none-left, and}
-use Rattle.records.specs.Store.{Term, Store, term, termIn, count, isTerm, within, climb, forestUp, topIn, aboveBy, aboveIn, orNone, nearestIn, pathIn}
-use Rattle.records.specs.View.{termAt, termsView}
-use Rattle.records.specs.Audited.{Closed, Classed}
-use Rattle.records.proofs.Lists.{both-left, both-right, or-right, right-falsum, every-map, decide, clash, within-low, within-high}
-use Rattle.records.proofs.Climbs.{above-step, view-forest, view-count}
+use lib.Dec.{eqb}
+use borrow.Author.Tests.{eqb-true, eqb-false, eq-eqb, ne-eqb, lt-ltb, le-ltb}
+use Rattle.records.specs.Lists.{all, any, firstOf, isIn, upTo, marked, isMarked, Every, none-left, and}
+use Rattle.records.specs.Store.{Term, within, climb, forestUp, topIn, aboveBy, aboveIn, orNone, nearestIn, pathIn}
+use Rattle.records.specs.View.{termsView}
+use Rattle.records.specs.Rules.{stampBelow}
+use Rattle.records.specs.Audited.{Closed}
+use Rattle.records.proofs.Lists.{or-right, right-falsum, every-map, every-both, all-append, either, or-left, decide, clash, within-low, within-high}
+use Rattle.records.proofs.Climbs.{climb-stays, climb-up, above-step, view-term, view-forest, view-count}
 
 -- THE LOOP
 
@@ -124,3 +124,105 @@ nearest-is ts n a b s z r k w h f e d =
         let m = marked-is (aboveIn ts b) z x l in
         let u = unmarked z x (f x l) in
         let o = right-falsum (isIn x (aboveIn ts b)) false refl in cc
+
+-- THE STAMPS OF A PATH
+
+module _ (q : ℕ → Bool) (y x : ℕ) (r : List ℕ) where
+  pub upto-end : x ≡ y → true ≡ all q (upTo y (x ∷ r))
+  unfolding upTo all
+  upto-end e = rw (eq-eqb x y e, all)
+
+  pub upto-stop : (x ≡ y → ⊥) → q x ≡ false → all q (upTo y (x ∷ r)) ≡ false
+  unfolding upTo all
+  upto-stop d h = rw (ne-eqb x y d, all, h)
+
+  pub upto-turn : (x ≡ y → ⊥) → q x ≡ true → all q (upTo y (x ∷ r)) ≡ all q (upTo y r)
+  unfolding upTo all
+  upto-turn d h = rw (ne-eqb x y d, all, h)
+
+pub upto-none : (q : ℕ → Bool) (y : ℕ) → all q (upTo y []) ≡ true
+unfolding upTo all
+upto-none q y = refl
+
+module _ (l : List ℕ) (n z m v : ℕ) (w : within n z ≡ true) (e : v ≡ getD l (8 * z + 7) 0) where
+  pub stamp-high : m ≤ v → stampBelow (termsView l n) m z ≡ false
+  stamp-high h = rw (view-term l n z w) (le-ltb (getD l (8 * z + 7) 0) m (omega arith))
+
+  pub stamp-low : v < m → stampBelow (termsView l n) m z ≡ true
+  stamp-low h = rw (view-term l n z w) (lt-ltb (getD l (8 * z + 7) 0) m (omega arith))
+
+-- a path's stamps are those of its two sides
+pub path-sides : (q : ℕ → Bool) (ts : List Term) (a b : ℕ) → all q (pathIn ts a b) ≡ (all q (upTo (nearestIn ts a b) (aboveIn ts a)) && all q (upTo (nearestIn ts a b) (aboveIn ts b)))
+unfolding pathIn
+path-sides q ts a b = all-append q _ _
+
+-- SAME TREE, AND THE NEAREST SHARED ANCESTOR
+
+module _ {A : Type 0} (p : A → Bool) where
+  -- the first that passes passes, and has what every element has
+  pub first-has : {P : A → Type 0} (l : List A) (x : A) → Every P l → firstOf p l ≡ some x → P x × (p x ≡ true)
+  unfolding firstOf
+  first-has [] x k e = let z : _≡_ {A = ℕ} 0 1 = cc in absurd (omega arith)
+  first-has {P} (y ∷ l) x (and h k) e = go (p y) refl (first-has l x k) e
+    where
+      go : (b : Bool) → p y ≡ b → (firstOf p l ≡ some x → P x × (p x ≡ true)) → _≡_ {A = Option A} (elim b [ true ↦ some y | false ↦ firstOf p l ]) (some x) → P x × (p x ≡ true)
+      go true d ih f = let z : y ≡ x = cc in (rw (← z) h, rw (← z) d)
+      go false d ih f = ih f
+
+  pub first-any : (l : List A) → firstOf p l ≡ none → any p l ≡ false
+  unfolding firstOf any
+  first-any [] e = refl
+  first-any (y ∷ l) e = go (p y) (first-any l) e
+    where
+      go : (b : Bool) → (firstOf p l ≡ none → any p l ≡ false) → _≡_ {A = Option A} (elim b [ true ↦ some y | false ↦ firstOf p l ]) none → (b || any p l) ≡ false
+      go true ih f = let z : _≡_ {A = ℕ} 0 1 = cc in absurd (omega arith)
+      go false ih f = ih f
+
+pub in-any : (p : ℕ → Bool) (l : List ℕ) (x : ℕ) → isIn x l ≡ true → p x ≡ true → any p l ≡ true
+unfolding isIn any
+in-any p [] x h e = absurd (false≢true h)
+in-any p (y ∷ l) x h e =
+    ⊎-elim (λ d. or-left (p y) _ (let z = eqb-true x y d in rw (← z) e)) (λ d. or-right (p y) _ (in-any p l x d e)) (either (eqb x y) _ h)
+
+-- the tree's root stands above each of its terms
+pub top-above : (ts : List Term) (k x : ℕ) → isIn (climb (forestUp ts) k x) (aboveBy (suc k) ts x) ≡ true
+unfolding aboveBy isIn any climb
+top-above ts zero x = or-left (eqb x x) _ (eq-eqb x x refl)
+top-above ts (suc k) x = decide (eqb (forestUp ts x) x)
+    (λ e. or-left _ _ (eq-eqb _ x (let d = eqb-true (forestUp ts x) x e in rw d (climb-stays (forestUp ts) k x d))))
+    (λ e. or-right (eqb (climb (forestUp ts) k (forestUp ts x)) x) _ (rw (e, any) (top-above ts k (forestUp ts x))))
+
+module _ (ts : List Term) (closed : Closed (forestUp ts) (length ts)) (ends : (t : ℕ) → within (length ts) t ≡ true → forestUp ts (topIn ts t) ≡ topIn ts t) where
+  -- what stands above a term is in its tree
+  pub above-top : (k x : ℕ) → within (length ts) x ≡ true → Every (λ y. topIn ts y ≡ topIn ts x) (aboveBy k ts x)
+  unfolding aboveBy
+  above-top zero x w = none-left
+  above-top (suc k) x w = and refl (go (eqb (forestUp ts x) x)
+      (every-map (λ y e. e ∙ climb-up (forestUp ts) (length ts) x (ends x w)) (above-top k (forestUp ts x) (closed .stays x w))))
+    where
+      go : (b : Bool) → Every (λ y. topIn ts y ≡ topIn ts x) (aboveBy k ts (forestUp ts x)) → Every (λ y. topIn ts y ≡ topIn ts x) (elim b [ true ↦ [] | false ↦ aboveBy k ts (forestUp ts x) ])
+      go true e = none-left
+      go false e = e
+
+  in-every : {P : ℕ → Type 0} (l : List ℕ) (x : ℕ) → Every P l → isIn x l ≡ true → P x
+  unfolding isIn any
+  in-every [] x none-left e = absurd (false≢true e)
+  in-every {P} (y ∷ l) x (and h k) e = ⊎-elim (λ d. let z = eqb-true x y d in rw z h) (λ d. in-every l x k d) (either (eqb x y) _ e)
+
+  module _ (a b : ℕ) (wa : within (length ts) a ≡ true) (wb : within (length ts) b ≡ true) where
+    -- there is one exactly where the two are in one tree
+    pub nearest-tree : eqb (topIn ts a) (topIn ts b) ≡ not (eqb (nearestIn ts a b) 0)
+    unfolding nearestIn
+    nearest-tree = go (firstOf (λ x. isIn x (aboveIn ts b)) (aboveIn ts a)) refl
+      where
+        both : Every (λ x. (within (length ts) x ≡ true) × (topIn ts x ≡ topIn ts a)) (aboveIn ts a)
+        both = every-both (above-within ts (length ts) (suc (length ts)) a closed wa) (above-top (suc (length ts)) a wa)
+
+        go : (o : Option ℕ) → firstOf (λ x. isIn x (aboveIn ts b)) (aboveIn ts a) ≡ o → eqb (topIn ts a) (topIn ts b) ≡ not (eqb (orNone o) 0)
+        go none e = ne-eqb (topIn ts a) (topIn ts b) (λ d. clash (in-any (λ x. isIn x (aboveIn ts b)) (aboveIn ts a) (topIn ts a) (top-above ts (length ts) a) (rw d (top-above ts (length ts) b))) (first-any _ _ e))
+        go (some x) e =
+            let h = first-has (λ x. isIn x (aboveIn ts b)) (aboveIn ts a) x both e in
+            let u : topIn ts x ≡ topIn ts b = in-every (aboveIn ts b) x (above-top (suc (length ts)) b wb) (h .1) in
+            let l = within-low (length ts) x (h .0 .0) in
+            let n : eqb x 0 ≡ false = ne-eqb x 0 (λ z. omega arith) in
+            eq-eqb _ _ (sym (h .0 .1) ∙ u) ∙ sym (ap not n)

@@ -1,20 +1,20 @@
 -- Each way through the rules of records (src/rules.rt): what the code found makes the rule's test.
 use mathlib.Core.Path.{_≡_, refl, sym, ap, _∙_}
-use mathlib.Core.Bool.{Bool, true, false, not, _&&_, _||_}
-use mathlib.Core.List.{List, [], _∷_}
+use mathlib.Core.Bool.{Bool, true, false, not, _&&_}
+use mathlib.Core.List.{List, _∷_, []}
 use Prim.Native.Nat.{ℕ, zero, suc, _+_, _-_, _*_, _<_, _≤_}
 use native.Mathlib.Omega.{arith}
 use lib.ListN.{length, getD}
 use lib.Dec.{eqb, ltb, leb}
-use borrow.Author.Tests.{lt-ltb, le-ltb, le-leb, lt-leb, eq-eqb, ne-eqb, eqb-false, ltb-true, leb-true}
+use borrow.Author.Tests.{lt-ltb, le-ltb, le-leb, lt-leb, eq-eqb, ne-eqb, eqb-false, leb-true}
 use Rattle.records.specs.Lists.{all}
-use Rattle.records.specs.Store.{Term, Store, noTerm, termIn, within, term, cell, chain, chainBy, isString, isLength}
-use Rattle.records.specs.View.{Lent, termAt, pairAt, termsView, sizes, termLimit, cellLimit, charLimit, reasonLimit, keyLimit}
+use Rattle.records.specs.Store.{Store, termIn, within, term, cell, chain, chainBy, isString}
+use Rattle.records.specs.View.{Lent, lent, storeOf, cellAt, pairAt, termsView, sizes, termLimit, cellLimit, charLimit, reasonLimit, keyLimit}
 use Rattle.records.specs.declared.State.{State}
 use Rattle.records.specs.Audited.{Sized}
 use Rattle.records.specs.Rules.{isChar, isNumber, reasonRule, keyRule, cellRule, textRule, partRule, concatRule, lengthRule, isEquatable, equationRule}
-use Rattle.records.proofs.Lists.{within-zero, within-is, within-past, within-high, and-stop, and-next, or-stop, or-next, failed, passed, left-false, right-false, right-true, right-falsum, three-1, three-2, three-3, three-first, three-last, five-1, five-2, five-3, five-4, five-last, decide, both-left, both-right, both-true}
-use Rattle.records.proofs.Views.{term-is, term-none, term-past}
+use Rattle.records.proofs.Lists.{within-zero, within-high, and-stop, and-next, or-stop, failed, passed, right-false, right-true, or-none, three-1, three-2, three-3, three-first, three-last, five-1, five-2, five-3, five-4, five-last, decide, table-length, both-left, both-right, both-true}
+use Rattle.records.proofs.Views.{term-is, term-none, term-past, next-at}
 
 pub char-low : (c : ℕ) → c < 0xD800 → true ≡ isChar c
 unfolding isChar
@@ -136,7 +136,7 @@ module _ (s : Store) where
   unfolding isEquatable
   equatable-strings a b x r e h q =
       let w = within-high 3 (term s a .kind) (sym e ∙ h) in
-      rw (sym e ∙ h, ne-eqb (term s a .kind) 4 (λ z. omega arith)) (q ∙ sym (right-falsum _ _ refl))
+      rw (sym e ∙ h, ne-eqb (term s a .kind) 4 (λ z. omega arith)) (q ∙ sym (or-none (isString s b)))
 
   pub equatable-none : (a b k : ℕ) (x : Bool) → x ≡ isString s a → x ≡ false → k ≡ term s a .kind → (k ≡ 4 → ⊥) → false ≡ isEquatable s a b
   unfolding isEquatable
@@ -238,52 +238,38 @@ module _ (m : Lent) (c : State) where
 
 module _ (s : Store) (t : ℕ) where
   -- the test of a chain of which i cells were passed, and at most k are left from cell c on
-  abbrev pub rest : ℕ → ℕ → ℕ → Bool
+  abbrev rest : ℕ → ℕ → ℕ → Bool
   rest k i c = leb 2 (i + length (chainBy k (s .cells) c)) && all (partRule s t) (chainBy k (s .cells) c)
 
   abbrev pub whole : ℕ → Bool
   whole f = leb 2 (length (chain s f)) && all (partRule s t) (chain s f)
-
-  pub parts-start : (n f : ℕ) → length (s .cells) ≡ n → rest (n - 0) 0 f ≡ whole f
-  parts-start n f h = let e : n - 0 ≡ length (s .cells) = omega arith in rw (e, native.Mathlib.Nat.zero-add (length (chain s f)))
 
   chain-none : (k c : ℕ) → within (length (s .cells)) c ≡ false → chainBy k (s .cells) c ≡ []
   unfolding chainBy
   chain-none zero c h = refl
   chain-none (suc k) c h = rw (chainBy, h)
 
-  pub parts-end : (k i c f : ℕ) (x : Bool) → x ≡ within (length (s .cells)) c → not x ≡ true → rest k i c ≡ whole f → leb 2 i ≡ whole f
-  unfolding all
-  parts-end k i c f x e h g =
-      let z = chain-none k c (failed _ x e h) in
-      let q : rest k i c ≡ leb 2 i = rw (z, native.Mathlib.Nat.add-zero i) (right-true (leb 2 i) true refl) in
-      sym q ∙ g
-
-  pub parts-over : (n i c f : ℕ) → n ≤ i → rest (n - i) i c ≡ whole f → leb 2 i ≡ whole f
-  unfolding all chainBy
-  parts-over n i c f h g =
-      let z : n - i ≡ 0 = omega arith in
-      let q : rest (n - i) i c ≡ leb 2 i = rw (z, native.Mathlib.Nat.add-zero i) (right-true (leb 2 i) true refl) in
-      sym q ∙ g
-
   chain-more : (k c : ℕ) → within (length (s .cells)) c ≡ true → chainBy (suc k) (s .cells) c ≡ (cell s c .value, cell s c .other) ∷ chainBy k (s .cells) (cell s c .next)
   unfolding chainBy
   chain-more k c h = rw (chainBy, h)
 
-  pub parts-stop : (n i c f : ℕ) (x : Bool) → i < n → within (length (s .cells)) c ≡ true → x ≡ partRule s t (cell s c .value, cell s c .other) → not x ≡ true → rest (n - i) i c ≡ whole f → false ≡ whole f
+  rest-none : (k i c : ℕ) → chainBy k (s .cells) c ≡ [] → rest k i c ≡ leb 2 i
   unfolding all
-  parts-stop n i c f x l w e h g =
-      let z : n - i ≡ suc (n - (i + 1)) = omega arith in
-      let q : rest (n - i) i c ≡ false = rw (z, chain-more (n - (i + 1)) c w, failed _ x e h) (right-false (leb 2 (i + suc (length (chainBy (n - (i + 1)) (s .cells) (cell s c .next))))) false refl) in
-      sym q ∙ g
+  rest-none k i c z = rw (z, native.Mathlib.Nat.add-zero i) (right-true (leb 2 i) true refl)
 
-  pub parts-turn : (n i c f d : ℕ) (x : Bool) → i < n → within (length (s .cells)) c ≡ true → x ≡ partRule s t (cell s c .value, cell s c .other) → not x ≡ false → d ≡ cell s c .next → rest (n - i) i c ≡ whole f → rest (n - (i + 1)) (i + 1) d ≡ whole f
+  rest-over : (i c : ℕ) → rest 0 i c ≡ leb 2 i
+  unfolding chainBy
+  rest-over i c = rest-none 0 i c refl
+
+  rest-stop : (k i c : ℕ) → within (length (s .cells)) c ≡ true → partRule s t (cell s c .value, cell s c .other) ≡ false → rest (suc k) i c ≡ false
   unfolding all
-  parts-turn n i c f d x l w e h q g =
-      let z : n - i ≡ suc (n - (i + 1)) = omega arith in
-      let m : i + suc (length (chainBy (n - (i + 1)) (s .cells) (cell s c .next))) ≡ (i + 1) + length (chainBy (n - (i + 1)) (s .cells) (cell s c .next)) = omega arith in
-      let y : rest (n - i) i c ≡ rest (n - (i + 1)) (i + 1) (cell s c .next) = rw (z, chain-more (n - (i + 1)) c w, passed _ x e h, m) in
-      rw q (sym y ∙ g)
+  rest-stop k i c w h = rw (chain-more k c w, h) (right-false (leb 2 (i + suc (length (chainBy k (s .cells) (cell s c .next))))) false refl)
+
+  rest-turn : (k i c : ℕ) → within (length (s .cells)) c ≡ true → partRule s t (cell s c .value, cell s c .other) ≡ true → rest (suc k) i c ≡ rest k (i + 1) (cell s c .next)
+  unfolding all
+  rest-turn k i c w h =
+      let m : i + suc (length (chainBy k (s .cells) (cell s c .next))) ≡ (i + 1) + length (chainBy k (s .cells) (cell s c .next)) = omega arith in
+      rw (chain-more k c w, h, m)
 
   pub concat-second : (x : ℕ) → (x ≡ 0 → ⊥) → x ≡ term s t .second → false ≡ concatRule s t
   unfolding concatRule
@@ -292,3 +278,49 @@ module _ (s : Store) (t : ℕ) where
   pub concat-is : (x f : ℕ) (r : Bool) → x ≡ term s t .second → x ≡ 0 → f ≡ term s t .first → r ≡ whole f → r ≡ concatRule s t
   unfolding concatRule
   concat-is x f r e z q g = (rw q at g) ∙ sym (right-true (whole (term s t .first)) _ (eq-eqb _ 0 (sym e ∙ z)))
+
+-- the walk along the chain from f, of the words l of terms and e of cells
+module _ (l e : List ℕ) (st : State) (t f : ℕ) where
+  abbrev walked : Store
+  walked = storeOf (lent l e [] [] []) st
+
+  cells-counted : length (walked .cells) ≡ st .cells
+  cells-counted = table-length (λ j. cellAt e (suc j)) (st .cells)
+
+  -- i cells were passed, and the walk stands at cell c
+  pub record Walked (c i : ℕ) : Type 0 where
+    pub inside : i ≤ st .cells
+    pub left : rest walked t (st .cells - i) i c ≡ whole walked t f
+
+  pub walk-start : Walked f 0
+  walk-start =
+      let e : st .cells - 0 ≡ length (walked .cells) = (let q = cells-counted in omega arith) in
+      record { inside = omega arith; left = rw (e, native.Mathlib.Nat.zero-add (length (chain walked f))) }
+
+  module _ (c i : ℕ) (a : Walked c i) where
+    pub walk-over : st .cells ≤ i → leb 2 i ≡ whole walked t f
+    walk-over h = let z : st .cells - i ≡ 0 = omega arith in sym (rest-over walked t i c) ∙ (rw z at (a .left))
+
+    module _ (x : Bool) (ex : x ≡ within (st .cells) c) where
+      pub walk-end : not x ≡ true → leb 2 i ≡ whole walked t f
+      walk-end h =
+          let z : within (length (walked .cells)) c ≡ false = rw cells-counted (failed _ x ex h) in
+          sym (rest-none walked t (st .cells - i) i c (chain-none walked t (st .cells - i) c z)) ∙ a .left
+
+      module _ (h : not x ≡ false) (j : i < st .cells) (y : Bool) (ey : y ≡ partRule walked t (cell walked c .value, cell walked c .other)) where
+        here : within (length (walked .cells)) c ≡ true
+        here = rw cells-counted (passed _ x ex h)
+
+        more : st .cells - i ≡ suc (st .cells - (i + 1))
+        more = omega arith
+
+        pub walk-stop : not y ≡ true → false ≡ whole walked t f
+        walk-stop z = sym (rest-stop walked t (st .cells - (i + 1)) i c here (failed _ y ey z)) ∙ (rw more at (a .left))
+
+        pub walk-turn : not y ≡ false → (d : ℕ) → d ≡ getD e (3 * c + 2) 0 → Walked d (i + 1)
+        walk-turn z d q =
+            let n = next-at e (st .cells) c d (passed _ x ex h) q in
+            record {
+              inside = omega arith;
+              left = rw n (sym (rest-turn walked t (st .cells - (i + 1)) i c here (passed _ y ey z)) ∙ (rw more at (a .left)));
+            }

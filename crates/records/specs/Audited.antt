@@ -88,6 +88,12 @@ pub record Rooted (s : Store) (n t r q : ℕ) : Type 0 where
   pub root-is : r ≡ root s t
   pub top-is : q ≡ top s t
 
+-- n terms whose forest parents are terms and lead to a root
+pub record Pathed (s : Store) (n : ℕ) : Type 0 where
+  pub limited : n ≤ termLimit
+  pub tops : Closed (λ x. term s x .forestParent) n
+  pub ends : (t : ℕ) → within n t ≡ true → term s (top s t) .forestParent ≡ top s t
+
 -- what refusal 3 asks
 pub record Classed (s : Store) : Type 0 where
   pub classParents : (t : ℕ) → isTerm s t ≡ true → isTerm s (term s t .classParent) ≡ true
@@ -98,6 +104,16 @@ pub record Classed (s : Store) : Type 0 where
   pub alone : (t u : ℕ) → isTerm s t ≡ true → isTerm s u ≡ true → isString s t ≡ false → root s t ≡ root s u → t ≡ u
   pub labels : (t : ℕ) → isTerm s t ≡ true → isEdge s t ≡ true → Label s t
   pub roots : (t : ℕ) → isTerm s t ≡ true → isEdge s t ≡ false → Unlabelled s t
+
+-- two of n terms
+pub record TermPair (n : ℕ) (p : ℕ × ℕ) : Type 0 where
+  pub one : within n (p .0) ≡ true
+  pub other : within n (p .1) ≡ true
+
+-- what the audit of congruence edges may rely on: paths lead to a root, and the parts of concatenations are terms
+pub record Congruable (s : Store) (n : ℕ) : Type 0 where
+  pub pathed : Pathed s n
+  pub parted : (t : ℕ) → kind s t ≡ 3 → Every (λ x. within n x ≡ true) (parts s t)
 
 -- what refusal 4 asks
 abbrev pub Congruences : Store → Type 0

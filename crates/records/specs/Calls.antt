@@ -2,16 +2,20 @@
 use mathlib.Core.Path.{_≡_}
 use mathlib.Core.Bool.{Bool, true, false}
 use mathlib.Core.List.{List}
-use Prim.Native.Nat.{ℕ, zero, suc, _≤_}
+use Prim.Native.Nat.{ℕ, zero, suc, _≤_, _<_}
+use lib.ListN.{take}
+use lib.Dec.{eqb}
 use Rattle.records.specs.declared.State.{State}
 use Rattle.records.specs.declared.Made.{Made}
 use Rattle.records.specs.declared.Made.the-variants.{Term, Refused}
 use Rattle.records.specs.declared.Added.{Added}
 use Rattle.records.specs.declared.Added.the-variants as adding
+use Rattle.records.specs.declared.Named.{Named}
 use Rattle.records.specs.Lists.{if_then_else_}
 use Rattle.records.specs.Store.{Store, Out, ok, stop, Work}
 use Rattle.records.specs.View.{Lent, storeOf}
 use Rattle.records.specs.Rules.{audit}
+use Rattle.records.specs.Make.{withNames, nameLimit, nameOf, takeName}
 
 -- what a public call answers: refusals 1 to 4 by the audit, 5 where an argument is wrong, else its work
 module _ {A : Type 0} where
@@ -45,3 +49,16 @@ made (Refused k) m = stop k
 abbrev pub added : Added → Lent → Out (Unit {0})
 added (adding.Counts c) m = ok (storeOf m c) tt
 added (adding.Refused k) m = stop k
+
+-- x is the first counter from the store's on whose name no variable has, or the limit where there is none below it
+pub record Free (s : Store) (x : ℕ) : Type 0 where
+  pub free : x < nameLimit → takeName s ≡ ok (withNames s (suc x)) (nameOf x)
+  pub spent : nameLimit ≤ x → takeName s ≡ stop 9
+
+-- the answer of taking a name
+abbrev pub taken : Named → Lent → Out (List ℕ)
+taken r m = if eqb (r .code) 0 then ok (storeOf m (r .state)) (take (r .len) (r .name)) else stop (r .code)
+
+pub record Taken (m : Lent) (c : State) (r : Named) : Type 0 where
+  pub says : takeName (storeOf m c) ≡ taken r m
+  pub fits : r .len ≤ 15

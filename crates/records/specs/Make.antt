@@ -156,6 +156,12 @@ makeText k w = lowest (textOf k w) (do
   p ← addText w
   addTerm k p (length w))
 
+-- a new concatenation
+abbrev pub appendParts : List ℕ → Work ℕ
+appendParts l = do
+  c ← addChain l
+  addTerm 3 c 0
+
 unfoldable pub makeConcat : List ℕ → Work ℕ
 makeConcat l = lowest (concatOf l) (do
   c ← addChain l

@@ -3,7 +3,7 @@ use mathlib.Core.Path.{_≡_}
 use mathlib.Core.Bool.{Bool, true, false}
 use mathlib.Core.List.{List, [], _∷_, _++_}
 use Prim.Native.Nat.{ℕ, suc, _+_, _≤_}
-use lib.ListN.{length}
+use lib.ListN.{length, take}
 use lib.Dec.{ltb}
 use Rattle.records.specs.Store.{Cell}
 use Rattle.records.specs.View.{termsView, cellsView, charsView, pairsView, reasonRoom, termAt}
@@ -44,3 +44,8 @@ pub record Pushed (l l′ : List ℕ) (n kind value : ℕ) (r : Bool) : Type 0 w
 -- each text of a list of terms is within the first n characters
 abbrev pub TextsWithin : List ℕ → ℕ → List ℕ → Type 0
 TextsWithin l n ts = Every (λ t. termAt l t .first + termAt l t .second ≤ n) ts
+
+-- the words from place n on are now w, and r is the place after them
+pub record Written (l l′ : List ℕ) (n : ℕ) (w : List ℕ) (r : ℕ) : Type 0 where
+  pub after : r ≡ n + length w
+  pub words : take r l′ ≡ take n l ++ w

@@ -6,7 +6,7 @@ use lib.ListN.{length}
 use lib.Dec.{eqb, ltb, leb}
 use Rattle.records.specs.declared.State.{State}
 use Rattle.records.specs.Lists.{if_then_else_, all, sameWord, firsts, seconds, allBelow}
-use Rattle.records.specs.Store.{Term, Cell, Store, term, cell, count, kind, within, isTerm, isConstant, isVariable, isConcat, isLength, isEquation, isString, text, chain, parts, root, top, sameClass, sameTree, path, isEdge}
+use Rattle.records.specs.Store.{Term, Cell, Store, termIn, cellIn, term, cell, count, kind, within, isTerm, isConstant, isVariable, isConcat, isLength, isEquation, isString, text, chain, parts, root, top, sameClass, sameTree, path, isEdge}
 use Rattle.records.specs.View.{Lent, storeOf, sizes}
 
 -- a rule of every term, of every cell
@@ -65,6 +65,13 @@ lengthRule s t = isString s (term s t .first) && ltb (term s t .first) t && eqb 
 -- '5 equation (two string terms or two lengths)'
 unfoldable pub isEquatable : Store → ℕ → ℕ → Bool
 isEquatable s a b = (isString s a && isString s b) || (isLength s a && isLength s b)
+
+-- refusal 5: 'a list above 1,024', 'term absent or of the wrong kind': a list of string terms
+abbrev pub listLimit : ℕ
+listLimit = 1024
+
+abbrev pub isList : Store → List ℕ → Bool
+isList s l = leb (length l) listLimit && all (isString s) l
 
 unfoldable pub equationRule : Store → ℕ → Bool
 equationRule s t = isEquatable s (term s t .first) (term s t .second) && ltb (term s t .first) t && ltb (term s t .second) t
@@ -130,9 +137,21 @@ classesRule s =
 unfoldable pub pairsOf : Store → List (ℕ × ℕ) → ℕ → ℕ → Bool
 pairsOf s l t u = sameWord (firsts l) (parts s t) && sameWord (seconds l) (parts s u)
 
+-- the same of three chains
+unfoldable pub pairWords : List (ℕ × ℕ) → List (ℕ × ℕ) → List (ℕ × ℕ) → Bool
+pairWords l p q = sameWord (firsts l) (firsts p) && sameWord (seconds l) (firsts q)
+
+-- the cells y and z, and the cell x of their values
+unfoldable pub pairMeets : List Cell → ℕ → ℕ → ℕ → Bool
+pairMeets cs x y z =
+    within (length cs) y && within (length cs) z && eqb (cellIn cs x .value) (cellIn cs y .value) && eqb (cellIn cs x .other) (cellIn cs z .value)
+
 -- 'each pair's forest path has only stamps below the edge's'
+abbrev pub stampBelow : List Term → ℕ → ℕ → Bool
+stampBelow ts m e = ltb (termIn ts e .stamp) m
+
 unfoldable pub fallsRule : Store → ℕ → ℕ × ℕ → Bool
-fallsRule s m p = sameTree s (p .0) (p .1) && all (λ e. ltb (term s e .stamp) m) (path s (p .0) (p .1))
+fallsRule s m p = sameTree s (p .0) (p .1) && all (stampBelow (s .terms) m) (path s (p .0) (p .1))
 
 -- 'A congruence edge joins concatenations of n arguments and has n pairs, the i-th of the two i-th arguments, all the same way round'
 unfoldable pub congruenceRule : Store → ℕ → Bool
@@ -144,8 +163,11 @@ congruenceRule s t =
 abbrev pub isCongruence : Store → ℕ → Bool
 isCongruence s t = isEdge s t && eqb (term s t .labelKind) 3
 
+abbrev pub edgeRule : Store → ℕ → Bool
+edgeRule s t = not (isCongruence s t) || congruenceRule s t
+
 unfoldable pub congruencesRule : Store → Bool
-congruencesRule s = eachTerm s (λ t. not (isCongruence s t) || congruenceRule s t)
+congruencesRule s = eachTerm s (edgeRule s)
 
 -- THE AUDIT: 0, or the first refusal of 1 to 4 that is due
 

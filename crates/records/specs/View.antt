@@ -125,7 +125,7 @@ sizes m c =
     && (leb (c .reasons) reasonLimit && leb (2 * c .reasons) (length (m .reasons)))
     && (leb (c .keys) keyLimit && leb (2 * c .keys) (length (m .keys)))
 
--- the state with one term, some cells or characters, one reason or key more, or the next name
+-- the state with one term, some cells or characters, one reason or key more, or another name counter
 abbrev pub oneTerm : State → State
 oneTerm c = record { terms = c .terms + 1; cells = c .cells; chars = c .chars; reasons = c .reasons; keys = c .keys; names = c .names }
 
@@ -141,5 +141,5 @@ oneReason c = record { terms = c .terms; cells = c .cells; chars = c .chars; rea
 abbrev pub oneKey : State → State
 oneKey c = record { terms = c .terms; cells = c .cells; chars = c .chars; reasons = c .reasons; keys = c .keys + 1; names = c .names }
 
-abbrev pub oneName : State → State
-oneName c = record { terms = c .terms; cells = c .cells; chars = c .chars; reasons = c .reasons; keys = c .keys; names = c .names + 1 }
+abbrev pub namesAt : State → ℕ → State
+namesAt c n = record { terms = c .terms; cells = c .cells; chars = c .chars; reasons = c .reasons; keys = c .keys; names = n }

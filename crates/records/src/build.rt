@@ -1,18 +1,115 @@
 // Making concatenations, lengths and equations: the lowest-numbered equal record, else one appended.
 ghost use mathlib.Core.Path.{_≡_};
 ghost use Prim.Native.Nat.{ℕ, suc, _≤_};
-ghost use Rattle.records.specs.Lists.{firstBelow};
-ghost use Rattle.records.specs.View.{termLimit, lent};
-ghost use Rattle.records.specs.Make.{numberOf, hasSides, makeSides, makeLength, makeEquation};
-ghost use Rattle.records.specs.Audited.{Ready, Sized};
+ghost use Rattle.records.specs.Lists.{sameWord, firsts, firstBelow};
+ghost use Rattle.records.specs.Store.{chainIn};
+ghost use Rattle.records.specs.View.{termLimit, cellsView, lent};
+ghost use Rattle.records.specs.Make.{numberOf, appendParts, hasParts, hasSides, makeSides, makeConcat, makeLength, makeEquation};
+ghost use Rattle.records.specs.Audited.{Ready, Sized, Ascends};
 ghost use Rattle.records.specs.Calls.{Working, made};
 use crate::Made;
 use crate::State;
 use crate::fields::first;
 use crate::fields::kind;
+use crate::fields::next;
 use crate::fields::second;
+use crate::fields::value;
+use crate::put::cells_fit;
+use crate::put::put_chain_unchecked;
 use crate::put::put_term_unchecked;
 use crate::put::term_fits;
+use crate::rules::is_within;
+
+// Whether the values of the chain from cell c on are l: a chain that goes on past l's end has more of them.
+fn chain_is(cells: &[u32], n: usize, c: u32, l: &[u32]) -> bool
+    requires { ⌜ Ascends (cellsView (now cells) n) ⌝ }
+    ensures { λ r. ⌜ r ≡ sameWord (firsts (chainIn (cellsView (now (cells .entry)) n) c)) (now (l .entry)) ⌝ }
+{
+    let mut at = c;
+    let mut i: usize = 0;
+    while i < l.len() {
+        if !is_within(n, at) {
+            return false;
+        }
+        if value(cells, at) != l[i] {
+            return false;
+        }
+        at = next(cells, at);
+        i += 1;
+    }
+    !is_within(n, at)
+}
+
+// Whether term t is a concatenation of l.
+fn has_parts(terms: &[u32], cells: &[u32], n: usize, t: u32, l: &[u32]) -> bool
+    requires { ⌜ Ascends (cellsView (now cells) n) ⌝ }
+    ensures { λ r. ⌜ r ≡ hasParts (now (terms .entry)) (cellsView (now (cells .entry)) n) (now (l .entry)) t ⌝ }
+{
+    if kind(terms, t) != 3 {
+        return false;
+    }
+    chain_is(cells, n, first(terms, t), l)
+}
+
+// The lowest-numbered of n terms that is a concatenation of l; 0 where there is none.
+fn find_parts(terms: &[u32], cells: &[u32], n: usize, k: usize, l: &[u32]) -> u32
+    requires { ⌜ n ≤ termLimit ⌝ ∗ ⌜ Ascends (cellsView (now cells) k) ⌝ }
+    ensures { λ r. ⌜ r ≡ numberOf (firstBelow (λ i. hasParts (now (terms .entry)) (cellsView (now (cells .entry)) k) (now (l .entry)) (suc i)) n) ⌝ }
+{
+    let mut t: u32 = 0;
+    while (t as usize) < n {
+        t += 1;
+        if has_parts(terms, cells, k, t, l) {
+            return t;
+        }
+    }
+    0
+}
+
+// A new concatenation of l. Both rooms are tested before a word is written.
+fn append_parts(
+    terms: &mut [u32],
+    cells: &mut [u32],
+    chars: &[u32],
+    reasons: &[u32],
+    keys: &[u32],
+    c: State,
+    l: &[u32],
+) -> Made
+    requires { ⌜ Sized (lent (now terms) (now cells) (now chars) (now reasons) (now keys)) c ⌝ }
+    ensures { λ r. ⌜ Working (appendParts (now (l .entry))) (lent (now (terms .entry)) (now (cells .entry)) (now (chars .entry)) (now (reasons .entry)) (now (keys .entry))) (lent (now (terms .exit)) (now (cells .exit)) (now (chars .entry)) (now (reasons .entry)) (now (keys .entry))) c (made r (lent (now (terms .exit)) (now (cells .exit)) (now (chars .entry)) (now (reasons .entry)) (now (keys .entry)))) ⌝ }
+{
+    let n = c.terms;
+    let k = c.cells;
+    if !cells_fit(cells, k, l.len()) {
+        return Made::Refused(8);
+    }
+    if !term_fits(terms, n) {
+        return Made::Refused(8);
+    }
+    put_chain_unchecked(cells, k, l);
+    put_term_unchecked(terms, n, 3, (k + 1) as u32, 0);
+    Made::Term((n + 1) as u32, c.with_cells(l.len()).with_term())
+}
+
+pub fn make_concatenation_unchecked(
+    terms: &mut [u32],
+    cells: &mut [u32],
+    chars: &[u32],
+    reasons: &[u32],
+    keys: &[u32],
+    c: State,
+    l: &[u32],
+) -> Made
+    requires { ⌜ Ready (lent (now terms) (now cells) (now chars) (now reasons) (now keys)) c ⌝ }
+    ensures { λ r. ⌜ Working (makeConcat (now (l .entry))) (lent (now (terms .entry)) (now (cells .entry)) (now (chars .entry)) (now (reasons .entry)) (now (keys .entry))) (lent (now (terms .exit)) (now (cells .exit)) (now (chars .entry)) (now (reasons .entry)) (now (keys .entry))) c (made r (lent (now (terms .exit)) (now (cells .exit)) (now (chars .entry)) (now (reasons .entry)) (now (keys .entry)))) ⌝ }
+{
+    let t = find_parts(terms, cells, c.terms, c.cells, l);
+    if t != 0 {
+        return Made::Term(t, c);
+    }
+    append_parts(terms, cells, chars, reasons, keys, c, l)
+}
 
 // Whether term t is of kind k and has these two words.
 fn has_sides(terms: &[u32], t: u32, k: u32, a: u32, b: u32) -> bool

@@ -1,13 +1,13 @@
 // Class roots and forest paths, and the audit of classes and congruence edges (refusals 3 and 4).
 ghost use mathlib.Core.Path.{_≡_};
-ghost use mathlib.Core.Bool.{true};
+ghost use mathlib.Core.Bool.{true, not, _&&_, _||_};
 ghost use mathlib.Core.List.{[]};
 ghost use Prim.Native.Nat.{ℕ, _≤_};
-ghost use Rattle.records.specs.Lists.{firstOf, marked, isMarked};
-ghost use Rattle.records.specs.Store.{within, classUp, forestUp, rootIn, topIn, aboveIn, orNone, nearestIn};
-ghost use Rattle.records.specs.View.{lent, storeOf, termLimit, termsView};
-ghost use Rattle.records.specs.Rules.{eachTerm, parentsRule, endsRule, edgeLabel, labelRule, alikeAt, aloneAt, classTest, classesRule};
-ghost use Rattle.records.specs.Audited.{Closed, Rooted};
+ghost use Rattle.records.specs.Lists.{all, firstOf, upTo, marked, isMarked, Every};
+ghost use Rattle.records.specs.Store.{within, chainIn, classUp, forestUp, rootIn, topIn, aboveIn, orNone, nearestIn};
+ghost use Rattle.records.specs.View.{lent, storeOf, termLimit, termsView, cellsView};
+ghost use Rattle.records.specs.Rules.{eachTerm, parentsRule, endsRule, edgeLabel, labelRule, alikeAt, aloneAt, classTest, classesRule, stampBelow, fallsRule, pairWords, pairMeets, congruenceRule, edgeRule, congruencesRule};
+ghost use Rattle.records.specs.Audited.{Closed, Rooted, Pathed, TermPair, Congruable};
 use crate::State;
 use crate::fields;
 use crate::rules;
@@ -236,7 +236,7 @@ fn classes_hold(terms: &[u32], c: State) -> bool
 }
 
 // Refusal 3 is not due.
-pub fn classes_ok(terms: &[u32], c: State) -> bool
+pub(crate) fn classes_ok(terms: &[u32], c: State) -> bool
     requires { ⌜ c .terms ≤ termLimit ⌝ }
     ensures { λ r. ⌜ r ≡ classesRule (storeOf (lent (now (terms .entry)) [] [] [] []) c) ⌝ }
 {
@@ -244,4 +244,186 @@ pub fn classes_ok(terms: &[u32], c: State) -> bool
         return false;
     }
     classes_hold(terms, c)
+}
+
+// THE AUDIT OF CONGRUENCE EDGES
+
+// The stamps from y up to x, x left out, are below m.
+fn stamps_below(terms: &[u32], n: usize, y: u32, x: u32, m: u32) -> bool
+    requires { ⌜ (n ≤ termLimit) × (within n y ≡ true) × Closed (forestUp (termsView (now terms) n)) n ⌝ }
+    ensures { λ r. ⌜ r ≡ all (stampBelow (termsView (now (terms .entry)) n) m) (upTo x (aboveIn (termsView (now (terms .entry)) n) y)) ⌝ }
+{
+    let mut z = y;
+    let mut i: usize = 0;
+    while i <= n {
+        if z == x {
+            return true;
+        }
+        if m <= fields::stamp(terms, z) {
+            return false;
+        }
+        let u = fields::forest_parent(terms, z);
+        if u == z {
+            return true;
+        }
+        z = u;
+        i += 1;
+    }
+    true
+}
+
+fn falls_ok(terms: &[u32], c: State, m: u32, a: u32, b: u32) -> bool
+    requires { ⌜ Pathed (storeOf (lent (now terms) [] [] [] []) c) (c .terms) × (within (c .terms) a ≡ true) × (within (c .terms) b ≡ true) ⌝ }
+    ensures { λ r. ⌜ r ≡ fallsRule (storeOf (lent (now (terms .entry)) [] [] [] []) c) m (a, b) ⌝ }
+{
+    let x = nearest_unchecked(terms, c.terms, a, b);
+    if x == 0 {
+        return false;
+    }
+    if !stamps_below(terms, c.terms, a, x, m) {
+        return false;
+    }
+    stamps_below(terms, c.terms, b, x, m)
+}
+
+fn both_ended(n: usize, y: u32, z: u32) -> bool
+    ensures { λ r. ⌜ r ≡ (not (within n y) && not (within n z)) ⌝ }
+{
+    if rules::is_within(n, y) {
+        return false;
+    }
+    !rules::is_within(n, z)
+}
+
+fn pair_meets(cells: &[u32], n: usize, x: u32, y: u32, z: u32) -> bool
+    requires { ⌜ within n x ≡ true ⌝ }
+    ensures { λ r. ⌜ r ≡ pairMeets (cellsView (now (cells .entry)) n) x y z ⌝ }
+{
+    if !rules::is_within(n, y) {
+        return false;
+    }
+    if !rules::is_within(n, z) {
+        return false;
+    }
+    let v = fields::value(cells, x);
+    let a = fields::value(cells, y);
+    if v != a {
+        return false;
+    }
+    let o = fields::other(cells, x);
+    let b = fields::value(cells, z);
+    o == b
+}
+
+// The pair chain from p against the chains from a and b. A chain has at most as many cells as there are, so the walk ends.
+fn pairs_ok(cells: &[u32], n: usize, p: u32, a: u32, b: u32) -> bool
+    ensures { λ r. do
+      let cs = cellsView (now (cells .entry)) n
+      ⌜ r ≡ pairWords (chainIn cs p) (chainIn cs a) (chainIn cs b) ⌝ }
+{
+    let mut x = p;
+    let mut y = a;
+    let mut z = b;
+    let mut i: usize = 0;
+    while i < n {
+        if !rules::is_within(n, x) {
+            return both_ended(n, y, z);
+        }
+        if !pair_meets(cells, n, x, y, z) {
+            return false;
+        }
+        x = fields::next(cells, x);
+        y = fields::next(cells, y);
+        z = fields::next(cells, z);
+        i += 1;
+    }
+    true
+}
+
+// Every pair of the chain from p has a path whose stamps are below m.
+fn falls_hold(terms: &[u32], cells: &[u32], c: State, m: u32, p: u32) -> bool
+    requires { ⌜ Pathed (storeOf (lent (now terms) [] [] [] []) c) (c .terms) × Every (TermPair (c .terms)) (chainIn (cellsView (now cells) (c .cells)) p) ⌝ }
+    ensures { λ r. ⌜ r ≡ all (fallsRule (storeOf (lent (now (terms .entry)) [] [] [] []) c) m) (chainIn (cellsView (now (cells .entry)) (c .cells)) p) ⌝ }
+{
+    let mut x = p;
+    let mut i: usize = 0;
+    while i < c.cells {
+        if !rules::is_within(c.cells, x) {
+            return true;
+        }
+        let a = fields::value(cells, x);
+        let b = fields::other(cells, x);
+        if !falls_ok(terms, c, m, a, b) {
+            return false;
+        }
+        x = fields::next(cells, x);
+        i += 1;
+    }
+    true
+}
+
+fn pairs_either_ok(cells: &[u32], n: usize, p: u32, a: u32, b: u32) -> bool
+    ensures { λ r. do
+      let cs = cellsView (now (cells .entry)) n
+      ⌜ r ≡ (pairWords (chainIn cs p) (chainIn cs a) (chainIn cs b) || pairWords (chainIn cs p) (chainIn cs b) (chainIn cs a)) ⌝ }
+{
+    if pairs_ok(cells, n, p, a, b) {
+        return true;
+    }
+    pairs_ok(cells, n, p, b, a)
+}
+
+fn congruence_ok(terms: &[u32], cells: &[u32], c: State, t: u32) -> bool
+    requires { ⌜ Congruable (storeOf (lent (now terms) (now cells) [] [] []) c) (c .terms) × (within (c .terms) t ≡ true) ⌝ }
+    ensures { λ r. ⌜ r ≡ congruenceRule (storeOf (lent (now (terms .entry)) (now (cells .entry)) [] [] []) c) t ⌝ }
+{
+    let u = fields::forest_parent(terms, t);
+    let j = fields::kind(terms, t);
+    if j != 3 {
+        return false;
+    }
+    let k = fields::kind(terms, u);
+    if k != 3 {
+        return false;
+    }
+    let p = fields::label_value(terms, t);
+    let a = fields::first(terms, t);
+    let b = fields::first(terms, u);
+    if !pairs_either_ok(cells, c.cells, p, a, b) {
+        return false;
+    }
+    let m = fields::stamp(terms, t);
+    falls_hold(terms, cells, c, m, p)
+}
+
+fn edge_ok(terms: &[u32], cells: &[u32], c: State, t: u32) -> bool
+    requires { ⌜ Congruable (storeOf (lent (now terms) (now cells) [] [] []) c) (c .terms) × (within (c .terms) t ≡ true) ⌝ }
+    ensures { λ r. do
+      let s = storeOf (lent (now (terms .entry)) (now (cells .entry)) [] [] []) c
+      ⌜ r ≡ edgeRule s t ⌝ }
+{
+    let u = fields::forest_parent(terms, t);
+    if u == t {
+        return true;
+    }
+    let k = fields::label_kind(terms, t);
+    if k != 3 {
+        return true;
+    }
+    congruence_ok(terms, cells, c, t)
+}
+
+// Refusal 4 is not due, where refusals 1 to 3 are not.
+pub(crate) fn congruences_ok(terms: &[u32], cells: &[u32], c: State) -> bool
+    requires { ⌜ Congruable (storeOf (lent (now terms) (now cells) [] [] []) c) (c .terms) ⌝ }
+    ensures { λ r. ⌜ r ≡ congruencesRule (storeOf (lent (now (terms .entry)) (now (cells .entry)) [] [] []) c) ⌝ }
+{
+    let mut i: u32 = 0;
+    while (i as usize) < c.terms {
+        if !edge_ok(terms, cells, c, i + 1) {
+            return false;
+        }
+        i += 1;
+    }
+    true
 }

@@ -1,8 +1,8 @@
 // The store of labels: its layout in lent slices, its audit, its counts, and the calls that make terms.
 ghost use mathlib.Core.Path.{_≡_};
 ghost use Prim.Native.Nat.{ℕ, _+_, _<_, _≤_};
-ghost use Rattle.records.specs.View.{termLimit, cellLimit, charLimit, reasonLimit, keyLimit, oneTerm, moreCells, moreChars, oneReason, oneKey, oneName};
-ghost use Rattle.records.specs.Make.{nameLimit};
+ghost use Rattle.records.specs.Rules.{audit};
+ghost use Rattle.records.specs.View.{lent, termLimit, cellLimit, charLimit, reasonLimit, keyLimit, oneTerm, moreCells, moreChars, oneReason, oneKey, namesAt};
 
 pub mod build;
 pub mod classes;
@@ -23,7 +23,35 @@ pub const REASON_LIMIT: usize = 4096;
 
 pub const KEY_LIMIT: usize = 4096;
 
+pub const LIST_LIMIT: usize = 1024;
+
 pub const NAME_LIMIT: u32 = 4294967295;
+
+// The audit: 0, or the first refusal of 1 to 4 that is due. Nothing is asked of the slices or of the counts.
+pub fn audit(
+    terms: &[u32],
+    cells: &[u32],
+    chars: &[u32],
+    reasons: &[u32],
+    keys: &[u32],
+    c: State,
+) -> u32
+    ensures { λ r. ⌜ r ≡ audit (lent (now (terms .entry)) (now (cells .entry)) (now (chars .entry)) (now (reasons .entry)) (now (keys .entry))) c ⌝ }
+{
+    if !rules::sizes(terms, cells, chars, reasons, keys, c) {
+        return 1;
+    }
+    if !rules::records_ok(terms, cells, chars, reasons, keys, c) {
+        return 2;
+    }
+    if !classes::classes_ok(terms, c) {
+        return 3;
+    }
+    if !classes::congruences_ok(terms, cells, c) {
+        return 4;
+    }
+    0
+}
 
 // How many records of each slice are counted, and the name counter. Record 0 of terms and of cells is not counted.
 pub struct State {
@@ -47,7 +75,15 @@ pub enum Added {
     Refused(u32),
 }
 
-// One record more, or the next name: the counts go in by value and the new ones come back.
+// What taking a name answers: 0, or the refusal; the counts with the counter past the name; the name and its length.
+pub struct Named {
+    pub code: u32,
+    pub state: State,
+    pub name: [u32; 15],
+    pub len: usize,
+}
+
+// One record more, or another name counter: the counts go in by value and the new ones come back.
 impl State {
     fn with_term(self) -> State
         requires { ⌜ self .terms < termLimit ⌝ }
@@ -119,9 +155,8 @@ impl State {
         }
     }
 
-    fn with_name(self) -> State
-        requires { ⌜ self .names < nameLimit ⌝ }
-        ensures { λ r. ⌜ r ≡ oneName self ⌝ }
+    fn with_names(self, names: u32) -> State
+        ensures { λ r. ⌜ r ≡ namesAt self names ⌝ }
     {
         State {
             terms: self.terms,
@@ -129,7 +164,7 @@ impl State {
             chars: self.chars,
             reasons: self.reasons,
             keys: self.keys,
-            names: self.names + 1,
+            names: names,
         }
     }
 }

@@ -1,5 +1,5 @@
 // Making terms: the lowest-numbered equal record, else one appended.
-ghost use mathlib.Core.Bool.{true};
+ghost use mathlib.Core.Bool.{true, _&&_};
 ghost use mathlib.Core.Path.{_≡_};
 ghost use Prim.Native.Nat.{suc, _+_, _≤_};
 ghost use lib.Dec.{leb};
@@ -7,10 +7,11 @@ ghost use lib.ListN.{length};
 ghost use Rattle.records.specs.Lists.{all, joined, firstBelow};
 ghost use Rattle.records.specs.Store.{within, isConstant, text};
 ghost use Rattle.records.specs.View.{termLimit, charLimit, charRoom, lent, storeOf, textAt, lengths};
+ghost use Rattle.records.specs.Rules.{isChar, listLimit};
 ghost use Rattle.records.specs.Make.{numberOf, hasText, makeText, makeConstant, makeVariable};
 ghost use Rattle.records.specs.Puts.{TextsWithin};
 ghost use Rattle.records.specs.Audited.{Ready};
-ghost use Rattle.records.specs.Calls.{Working, made};
+ghost use Rattle.records.specs.Calls.{Working, Public, call, made};
 use crate::Made;
 use crate::State;
 use crate::fields::first;
@@ -18,6 +19,7 @@ use crate::fields::kind;
 use crate::fields::second;
 use crate::put::put_term_unchecked;
 use crate::put::term_fits;
+use crate::rules::chars_ok;
 use crate::text::joined_is_unchecked;
 use crate::text::joined_length_unchecked;
 use crate::text::put_joined_unchecked;
@@ -127,7 +129,7 @@ pub fn make_variable_unchecked(
 
 // Whether term t is the constant of the joined texts of a list, of `total` characters. Only texts of one length are compared.
 fn has_joined(terms: &[u32], chars: &[u32], t: u32, list: &[u32], total: usize) -> bool
-    requires { ⌜ length (now list) ≤ 1024 ⌝ ∗ ⌜ TextsWithin (now terms) (length (now chars)) (now list) ⌝ ∗ ⌜ total ≡ lengths (now terms) (now list) ⌝ }
+    requires { ⌜ length (now list) ≤ listLimit ⌝ ∗ ⌜ TextsWithin (now terms) (length (now chars)) (now list) ⌝ ∗ ⌜ total ≡ lengths (now terms) (now list) ⌝ }
     ensures { λ r. ⌜ r ≡ hasText (now (terms .entry)) (now (chars .entry)) 1 (joined (textAt (now (terms .entry)) (now (chars .entry))) (now (list .entry))) t ⌝ }
 {
     if kind(terms, t) != 1 {
@@ -142,7 +144,7 @@ fn has_joined(terms: &[u32], chars: &[u32], t: u32, list: &[u32], total: usize) 
 
 // The lowest-numbered of n terms that is the constant of the joined texts of a list; 0 where there is none.
 fn find_joined(terms: &[u32], chars: &[u32], n: usize, list: &[u32], total: usize) -> u32
-    requires { ⌜ n ≤ termLimit ⌝ ∗ ⌜ length (now list) ≤ 1024 ⌝ ∗ ⌜ TextsWithin (now terms) (length (now chars)) (now list) ⌝ ∗ ⌜ total ≡ lengths (now terms) (now list) ⌝ }
+    requires { ⌜ n ≤ termLimit ⌝ ∗ ⌜ length (now list) ≤ listLimit ⌝ ∗ ⌜ TextsWithin (now terms) (length (now chars)) (now list) ⌝ ∗ ⌜ total ≡ lengths (now terms) (now list) ⌝ }
     ensures { λ r. ⌜ r ≡ numberOf (firstBelow (λ i. hasText (now (terms .entry)) (now (chars .entry)) 1 (joined (textAt (now (terms .entry)) (now (chars .entry))) (now (list .entry))) (suc i)) n) ⌝ }
 {
     let mut t: u32 = 0;
@@ -165,7 +167,7 @@ pub fn join_constants_unchecked(
     c: State,
     list: &[u32],
 ) -> Made
-    requires { ⌜ Ready (lent (now terms) (now cells) (now chars) (now reasons) (now keys)) c ⌝ ∗ ⌜ length (now list) ≤ 1024 ⌝ ∗ ⌜ all (isConstant (storeOf (lent (now terms) (now cells) (now chars) (now reasons) (now keys)) c)) (now list) ≡ true ⌝ }
+    requires { ⌜ Ready (lent (now terms) (now cells) (now chars) (now reasons) (now keys)) c ⌝ ∗ ⌜ length (now list) ≤ listLimit ⌝ ∗ ⌜ all (isConstant (storeOf (lent (now terms) (now cells) (now chars) (now reasons) (now keys)) c)) (now list) ≡ true ⌝ }
     ensures { λ r. ⌜ Working (λ s. makeConstant (joined (text s) (now (list .entry))) s) (lent (now (terms .entry)) (now (cells .entry)) (now (chars .entry)) (now (reasons .entry)) (now (keys .entry))) (lent (now (terms .exit)) (now (cells .entry)) (now (chars .exit)) (now (reasons .entry)) (now (keys .entry))) c (made r (lent (now (terms .exit)) (now (cells .entry)) (now (chars .exit)) (now (reasons .entry)) (now (keys .entry)))) ⌝ }
 {
     let total = joined_length_unchecked(terms, list);
@@ -184,4 +186,51 @@ pub fn join_constants_unchecked(
     put_term_unchecked(terms, n, 1, c.chars as u32, total as u32);
     let d = c.with_chars(total);
     Made::Term((n + 1) as u32, d.with_term())
+}
+
+// The constant of a word.
+pub fn make_constant(
+    terms: &mut [u32],
+    cells: &[u32],
+    chars: &mut [u32],
+    reasons: &[u32],
+    keys: &[u32],
+    c: State,
+    w: &[u32],
+) -> Made
+    ensures { λ r. ⌜ Public (call (λ s. all isChar (now (w .entry))) (makeConstant (now (w .entry))) (lent (now (terms .entry)) (now (cells .entry)) (now (chars .entry)) (now (reasons .entry)) (now (keys .entry))) c) (lent (now (terms .entry)) (now (cells .entry)) (now (chars .entry)) (now (reasons .entry)) (now (keys .entry))) (lent (now (terms .exit)) (now (cells .entry)) (now (chars .exit)) (now (reasons .entry)) (now (keys .entry))) c (made r (lent (now (terms .exit)) (now (cells .entry)) (now (chars .exit)) (now (reasons .entry)) (now (keys .entry)))) ⌝ }
+{
+    let k = crate::audit(terms, cells, chars, reasons, keys, c);
+    if k != 0 {
+        return Made::Refused(k);
+    }
+    if !chars_ok(w, w.len()) {
+        return Made::Refused(5);
+    }
+    make_constant_unchecked(terms, cells, chars, reasons, keys, c, w)
+}
+
+// The variable of a name.
+pub fn make_variable(
+    terms: &mut [u32],
+    cells: &[u32],
+    chars: &mut [u32],
+    reasons: &[u32],
+    keys: &[u32],
+    c: State,
+    w: &[u32],
+) -> Made
+    ensures { λ r. ⌜ Public (call (λ s. leb 1 (length (now (w .entry))) && all isChar (now (w .entry))) (makeVariable (now (w .entry))) (lent (now (terms .entry)) (now (cells .entry)) (now (chars .entry)) (now (reasons .entry)) (now (keys .entry))) c) (lent (now (terms .entry)) (now (cells .entry)) (now (chars .entry)) (now (reasons .entry)) (now (keys .entry))) (lent (now (terms .exit)) (now (cells .entry)) (now (chars .exit)) (now (reasons .entry)) (now (keys .entry))) c (made r (lent (now (terms .exit)) (now (cells .entry)) (now (chars .exit)) (now (reasons .entry)) (now (keys .entry)))) ⌝ }
+{
+    let k = crate::audit(terms, cells, chars, reasons, keys, c);
+    if k != 0 {
+        return Made::Refused(k);
+    }
+    if w.len() == 0 {
+        return Made::Refused(5);
+    }
+    if !chars_ok(w, w.len()) {
+        return Made::Refused(5);
+    }
+    make_variable_unchecked(terms, cells, chars, reasons, keys, c, w)
 }

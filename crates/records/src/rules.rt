@@ -1,20 +1,23 @@
 // The audit of sizes and records (refusals 1 and 2).
-ghost use mathlib.Core.Path.{_≡_};
-ghost use mathlib.Core.Bool.{Bool, true, not, _&&_};
 ghost use mathlib.Core.List.{[]};
-ghost use Prim.Native.Nat.{ℕ, _+_, _*_, _<_, _≤_};
+ghost use mathlib.Core.Path.{_≡_};
+ghost use mathlib.Core.Bool.{true, _&&_};
+ghost use Prim.Native.Nat.{_+_, _*_, _<_, _≤_};
 ghost use lib.ListN.{length};
 ghost use lib.Dec.{leb};
 ghost use Rattle.records.specs.Lists.{all};
-ghost use Rattle.records.specs.Store.{termIn, within, term, cell, chain};
-ghost use Rattle.records.specs.View.{lent, storeOf, termsView, charsView, pairsView, termLimit, cellLimit, charLimit, reasonLimit, keyLimit, sizes};
-ghost use Rattle.records.specs.Rules.{isChar, isNumber, reasonRule, keyRule, cellRule, textRule, partRule, concatRule, lengthRule, isEquatable, equationRule, eachCell};
+ghost use Rattle.records.specs.Store.{termIn, within, term, cell, chain, isVariable, text};
+ghost use Rattle.records.specs.View.{lent, storeOf, termsView, charsView, pairsView, span, termLimit, cellLimit, charLimit, reasonLimit, keyLimit, sizes};
+ghost use Rattle.records.specs.Rules.{isChar, isNumber, reasonRule, keyRule, cellRule, textRule, named, nameRule, partRule, concatRule, lengthRule, isEquatable, equationRule, termRule, recordsRule, eachTerm, eachCell, isList};
+ghost use Rattle.records.specs.Marks.{markFrom, mark, Marking, Naming};
+ghost use Rattle.records.specs.Audited.{Sized};
 use crate::CELL_LIMIT;
 use crate::CHAR_LIMIT;
 use crate::REASON_LIMIT;
 use crate::State;
 use crate::TERM_LIMIT;
 use crate::fields;
+use crate::make::has_text;
 
 pub fn is_char(c: u32) -> bool
     ensures { λ r. ⌜ r ≡ isChar c ⌝ }
@@ -221,6 +224,23 @@ pub fn is_equatable(terms: &[u32], c: State, a: u32, b: u32) -> bool
     kind_of(terms, c.terms, b) == 4
 }
 
+// A list of string terms that is not too long.
+pub fn is_list(terms: &[u32], c: State, l: &[u32]) -> bool
+    ensures { λ r. ⌜ r ≡ isList (storeOf (lent (now (terms .entry)) [] [] [] []) c) (now (l .entry)) ⌝ }
+{
+    if l.len() > crate::LIST_LIMIT {
+        return false;
+    }
+    let mut i: usize = 0;
+    while i < l.len() {
+        if !is_string(terms, c.terms, l[i]) {
+            return false;
+        }
+        i += 1;
+    }
+    true
+}
+
 fn equation_ok(terms: &[u32], c: State, t: u32) -> bool
     requires { ⌜ within (c .terms) t ≡ true ⌝ }
     ensures { λ r. ⌜ r ≡ equationRule (storeOf (lent (now (terms .entry)) [] [] [] []) c) t ⌝ }
@@ -269,6 +289,106 @@ fn concat_ok(terms: &[u32], cells: &[u32], c: State, t: u32) -> bool
     parts_ok(terms, cells, c, t, f)
 }
 
+// NAMES
+
+fn text_mark(chars: &[u32], p: usize, n: usize) -> u32
+    requires { ⌜ p + n ≤ length (now chars) ⌝ }
+    ensures { λ r. ⌜ r ≡ markFrom 1 (span (now (chars .entry)) p n) ⌝ }
+{
+    let mut h: usize = 1;
+    let mut i: usize = 0;
+    while i < n {
+        h = (69069 * h + h / 65536 + fields::wide(chars[p + i])) % 4294967291;
+        i += 1;
+    }
+    h as u32
+}
+
+fn name_mark(terms: &[u32], chars: &[u32], c: State, t: u32) -> u32
+    requires { ⌜ (within (c .terms) t ≡ true) × (c .chars ≤ length (now chars)) ⌝ }
+    ensures { λ r. ⌜ r ≡ mark (storeOf (lent (now (terms .entry)) [] (now (chars .entry)) [] []) c) t ⌝ }
+{
+    let k = fields::kind(terms, t);
+    if k != 2 {
+        return 0;
+    }
+    if !text_ok(terms, c, t) {
+        return 0;
+    }
+    let p = fields::wide(fields::first(terms, t));
+    let n = fields::wide(fields::second(terms, t));
+    text_mark(chars, p, n)
+}
+
+// Whether u is a variable of t's name; m is the mark of t.
+fn is_named(terms: &[u32], chars: &[u32], c: State, marks: &[u32], m: u32, t: u32, u: u32) -> bool
+    requires { ⌜ Naming (storeOf (lent (now terms) [] (now chars) [] []) c) (now chars) (now marks) m t × (0 < u) × (u < t) ⌝ }
+    ensures { λ r. do
+      let s = storeOf (lent (now (terms .entry)) [] (now (chars .entry)) [] []) c
+      ⌜ r ≡ named (text s t) s u ⌝ }
+{
+    if marks[u as usize] != m {
+        return false;
+    }
+    let p = fields::wide(fields::first(terms, t));
+    let n = fields::wide(fields::second(terms, t));
+    has_text(terms, chars, u, 2, &chars[p..p + n])
+}
+
+fn name_ok(terms: &[u32], chars: &[u32], c: State, marks: &[u32], m: u32, t: u32) -> bool
+    requires { ⌜ Naming (storeOf (lent (now terms) [] (now chars) [] []) c) (now chars) (now marks) m t ⌝ }
+    ensures { λ r. ⌜ r ≡ nameRule (storeOf (lent (now (terms .entry)) [] (now (chars .entry)) [] []) c) t ⌝ }
+{
+    let n = fields::second(terms, t);
+    if n == 0 {
+        return false;
+    }
+    let mut u: u32 = 1;
+    while u < t {
+        if is_named(terms, chars, c, marks, m, t, u) {
+            return false;
+        }
+        u += 1;
+    }
+    true
+}
+
+fn variable_ok(terms: &[u32], chars: &[u32], c: State, marks: &[u32], m: u32, t: u32) -> bool
+    requires { ⌜ Marking (storeOf (lent (now terms) [] (now chars) [] []) c) (now chars) (now marks) m t × (isVariable (storeOf (lent (now terms) [] (now chars) [] []) c) t ≡ true) ⌝ }
+    ensures { λ r. do
+      let s = storeOf (lent (now (terms .entry)) [] (now (chars .entry)) [] []) c
+      ⌜ r ≡ (textRule s t && nameRule s t) ⌝ }
+{
+    if !text_ok(terms, c, t) {
+        return false;
+    }
+    name_ok(terms, chars, c, marks, m, t)
+}
+
+// The first three words of term t; m is its mark.
+fn term_ok(
+    terms: &[u32],
+    cells: &[u32],
+    chars: &[u32],
+    c: State,
+    marks: &[u32],
+    m: u32,
+    t: u32,
+) -> bool
+    requires { ⌜ (within (c .terms) t ≡ true) × Marking (storeOf (lent (now terms) [] (now chars) [] []) c) (now chars) (now marks) m t ⌝ }
+    ensures { λ r. ⌜ r ≡ termRule (storeOf (lent (now (terms .entry)) (now (cells .entry)) (now (chars .entry)) [] []) c) t ⌝ }
+{
+    let k = fields::kind(terms, t);
+    match k {
+        1 => text_ok(terms, c, t),
+        2 => variable_ok(terms, chars, c, marks, m, t),
+        3 => concat_ok(terms, cells, c, t),
+        4 => length_ok(terms, c, t),
+        5 => equation_ok(terms, c, t),
+        _ => false,
+    }
+}
+
 // RULES OF EVERY RECORD
 
 fn cells_ok(cells: &[u32], c: State) -> bool
@@ -287,7 +407,7 @@ fn cells_ok(cells: &[u32], c: State) -> bool
     true
 }
 
-fn chars_ok(chars: &[u32], n: usize) -> bool
+pub(crate) fn chars_ok(chars: &[u32], n: usize) -> bool
     ensures { λ r. ⌜ r ≡ all isChar (charsView (now (chars .entry)) n) ⌝ }
 {
     let mut i: usize = 0;
@@ -334,4 +454,51 @@ fn keys_ok(terms: &[u32], keys: &[u32], c: State) -> bool
         i += 1;
     }
     true
+}
+
+fn terms_ok(terms: &[u32], cells: &[u32], chars: &[u32], c: State) -> bool
+    requires { ⌜ (c .terms ≤ termLimit) × (c .chars ≤ length (now chars)) ⌝ }
+    ensures { λ r. do
+      let s = storeOf (lent (now (terms .entry)) (now (cells .entry)) (now (chars .entry)) [] []) c
+      ⌜ r ≡ eachTerm s (termRule s) ⌝ }
+{
+    // by number: 512 terms, and number 0, which names none
+    let mut marks: [u32; 513] = [0; 513];
+    let mut i: usize = 0;
+    while i < c.terms {
+        let t = (i + 1) as u32;
+        let m = name_mark(terms, chars, c, t);
+        if !term_ok(terms, cells, chars, c, &marks, m, t) {
+            return false;
+        }
+        marks[i + 1] = m;
+        i += 1;
+    }
+    true
+}
+
+pub(crate) fn records_ok(
+    terms: &[u32],
+    cells: &[u32],
+    chars: &[u32],
+    reasons: &[u32],
+    keys: &[u32],
+    c: State,
+) -> bool
+    requires { ⌜ Sized (lent (now terms) (now cells) (now chars) (now reasons) (now keys)) c ⌝ }
+    ensures { λ r. ⌜ r ≡ recordsRule (storeOf (lent (now (terms .entry)) (now (cells .entry)) (now (chars .entry)) (now (reasons .entry)) (now (keys .entry))) c) ⌝ }
+{
+    if !terms_ok(terms, cells, chars, c) {
+        return false;
+    }
+    if !cells_ok(cells, c) {
+        return false;
+    }
+    if !chars_ok(chars, c.chars) {
+        return false;
+    }
+    if !reasons_ok(reasons, c.reasons) {
+        return false;
+    }
+    keys_ok(terms, keys, c)
 }

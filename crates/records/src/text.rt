@@ -4,6 +4,7 @@ ghost use Prim.Native.Nat.{_+_, _≤_};
 ghost use lib.ListN.{length};
 ghost use Rattle.records.specs.Lists.{sameWord, joined};
 ghost use Rattle.records.specs.View.{span, textAt, lengths};
+ghost use Rattle.records.specs.Rules.{listLimit};
 ghost use Rattle.records.specs.Puts.{CharsPut, TextsWithin};
 use crate::fields::first;
 use crate::fields::second;
@@ -62,7 +63,7 @@ pub(crate) fn put_text_unchecked(chars: &mut [u32], at: usize, w: &[u32])
 
 // The characters of a list of terms, counted.
 pub(crate) fn joined_length_unchecked(terms: &[u32], list: &[u32]) -> usize
-    requires { ⌜ length (now list) ≤ 1024 ⌝ }
+    requires { ⌜ length (now list) ≤ listLimit ⌝ }
     ensures { λ r. ⌜ r ≡ lengths (now (terms .entry)) (now (list .entry)) ⌝ }
 {
     let mut total: usize = 0;
@@ -85,7 +86,7 @@ fn spans_agree(chars: &[u32], at: usize, from: usize, n: usize) -> bool
 
 // Whether the characters from place p on are the joined texts of a list of terms.
 pub(crate) fn joined_is_unchecked(terms: &[u32], chars: &[u32], p: u32, list: &[u32]) -> bool
-    requires { ⌜ length (now list) ≤ 1024 ⌝ ∗ ⌜ TextsWithin (now terms) (length (now chars)) (now list) ⌝ }
+    requires { ⌜ length (now list) ≤ listLimit ⌝ ∗ ⌜ TextsWithin (now terms) (length (now chars)) (now list) ⌝ }
     ensures { λ r. ⌜ r ≡ sameWord (span (now (chars .entry)) p (lengths (now (terms .entry)) (now (list .entry)))) (joined (textAt (now (terms .entry)) (now (chars .entry))) (now (list .entry))) ⌝ }
 {
     let mut at = p as usize;

@@ -1,11 +1,13 @@
 -- What an answer is worth: demand 3.
 use mathlib.Core.Path.{_≡_}
+use mathlib.Core.Bool.{true}
 use mathlib.Core.List.{List, List·Memᴰ}
 use Prim.Native.Nat.{ℕ}
+use lib.ListN.{length, drop}
 use Rattle.records.specs.Lists.{joined}
 use Rattle.records.specs.Store.{Store, kind}
 use Rattle.records.specs.Meaning.{Words, Reading, Holds, True}
-use Rattle.wordeq.specs.Wordeq.{Answer, done, saturated, conflict, propagate, split}
+use Rattle.wordeq.specs.Wordeq.{Answer, done, saturated, conflict, propagate, split, nfEqual}
 
 -- words of the store at exit that agree on every variable of the store at entry, and under which some listed atom is true
 pub record Chosen (s s′ : Store) (w : Words) (atoms : List ℕ) : Type 0 where
@@ -31,3 +33,9 @@ Worth s s′ L R (split atoms g) = (w : Words) → Reading s w → Holds s (s′
 -- 'The two sides are the two lists'
 abbrev pub Sound : Store → Store → List ℕ → List ℕ → Answer → Type 0
 Sound s s′ l r = Worth s s′ (λ w. joined w l) (λ w. joined w r)
+
+-- lists that `nfEqual` calls equal have equal words, for all words under which the definitional merges and the reasons that `nfExplain`
+-- added hold
+abbrev pub ExplainsEqual : Store → Store → List ℕ → List ℕ → Type 0
+ExplainsEqual s s′ l r =
+    nfEqual s l r ≡ true → (w : Words) → Reading s w → Holds s (drop (length (s .reasons)) (s′ .reasons)) w → joined w l ≡ joined w r

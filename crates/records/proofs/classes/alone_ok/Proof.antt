@@ -7,19 +7,25 @@ class-parent-requires : tie.Need-class-parent-requires
 class-parent-requires c κs = search needs
 
 returns : tie.Need-returns
-returns c = alone-root (c .before .before .before .args .terms .now) (c .before .before .before .args .c) (c .before .before .before .args .t) (c .before .before .before .pre) _ (c .before .class-parent .ensures) (c .if1 .taken)
+returns c =
+    let s = c .before .before .before in
+    alone-root (s .args .terms .now) (s .args .c) (s .args .t) (s .pre) _ (c .before .class-parent .ensures) (c .if1 .taken)
 
 is-string-requires : tie.Need-is-string-requires
 is-string-requires c κs = search needs
 
 returns-2 : tie.Need-returns-2
-returns-2 c = alone-child (c .before .before .before .before .before .args .terms .now) (c .before .before .before .before .before .args .c) (c .before .before .before .before .before .args .t) (c .before .before .before .before .before .pre) _ (c .before .before .before .class-parent .ensures) _ (c .before .before .if1 .left) (c .before .is-string .ensures) (c .if2 .taken)
+returns-2 c =
+    let s = c .before .before .before .before .before in
+    alone-child (s .args .terms .now) (s .args .c) (s .args .t) (s .pre) _ (c .before .before .before .class-parent .ensures) _ (c .before .before .if1 .left) (c .before .is-string .ensures) (c .if2 .taken)
 
 is-string-requires-2 : tie.Need-is-string-requires-2
 is-string-requires-2 c κs = search needs
 
 returns-3 : tie.Need-returns-3
-returns-3 c = alone-parent (c .before .before .before .before .before .before .args .terms .now) (c .before .before .before .before .before .before .args .c) (c .before .before .before .before .before .before .args .t) (c .before .before .before .before .before .before .pre) _ (c .before .before .before .before .class-parent .ensures) _ _ (c .before .before .before .if1 .left) (c .before .before .is-string .ensures) (c .before .if2 .left) (c .is-string2 .ensures)
+returns-3 c =
+    let s = c .before .before .before .before .before .before in
+    alone-parent (s .args .terms .now) (s .args .c) (s .args .t) (s .pre) _ (c .before .before .before .before .class-parent .ensures) _ _ (c .before .before .before .if1 .left) (c .before .before .is-string .ensures) (c .before .if2 .left) (c .is-string2 .ensures)
 
 pub alone-ok-spec : {M : Type 1} → statement M
 alone-ok-spec =

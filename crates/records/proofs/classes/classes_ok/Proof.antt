@@ -9,13 +9,17 @@ parents-hold-requires : tie.Need-parents-hold-requires
 parents-hold-requires c κs = search needs
 
 returns : tie.Need-returns
-returns c = classes-not (seen (c .before .before .before .args .terms .now) (c .before .before .before .args .c)) (failed _ _ (c .before .parents-hold .ensures) (c .if1 .taken))
+returns c =
+    let s = c .before .before .before in
+    classes-not (seen (s .args .terms .now) (s .args .c)) (failed _ _ (c .before .parents-hold .ensures) (c .if1 .taken))
 
 classes-hold-requires : tie.Need-classes-hold-requires
 classes-hold-requires c κs = (c .before .before .before .pre, passed _ _ (c .before .parents-hold .ensures) (c .if1 .left))
 
 returns-2 : tie.Need-returns-2
-returns-2 c = c .classes-hold .ensures ∙ classes-is (seen (c .before .before .before .before .args .terms .now) (c .before .before .before .before .args .c)) (passed _ _ (c .before .before .parents-hold .ensures) (c .before .if1 .left))
+returns-2 c =
+    let s = c .before .before .before .before in
+    c .classes-hold .ensures ∙ classes-is (seen (s .args .terms .now) (s .args .c)) (passed _ _ (c .before .before .parents-hold .ensures) (c .before .if1 .left))
 
 pub classes-ok-spec : {M : Type 1} → statement M
 classes-ok-spec =

@@ -1,8 +1,10 @@
-use Rattle.records.proofs.ClassLaws.{seen, each-stop, each-turn, each-done}
+use Rattle.records.proofs.Lists.{each-stop, each-turn, each-done}
+use Rattle.records.specs.View.{termAt}
+use Rattle.records.proofs.ClassLaws.{seen}
 use Rattle.records.proofs.Lists.{below-zero, within-is}
 use Rattle.records.specs.Rules.{parentsRule}
 use Rattle.records.specs.Lists.{allBelow}
-use Prim.Native.Nat.{ℕ, suc, _-_, _≤_}
+use Prim.Native.Nat.{suc, _-_, _≤_}
 use mathlib.Core.Path.{_≡_}
 use mathlib.Core.Bool.{true}
 use native.Mathlib.Omega.{arith}
@@ -29,7 +31,9 @@ parents-ok-requires : tie.Need-parents-ok-requires Inv-loop μ-loop
 parents-ok-requires c κs = within-is _ _ (omega arith) (omega arith)
 
 returns : tie.Need-returns Inv-loop μ-loop
-returns c = each-stop (c .before .before .before .before .before .before .args .terms .now) (c .before .before .before .before .before .before .args .c .terms) (parentsRule (seen (c .before .before .before .before .before .before .args .terms .now) (c .before .before .before .before .before .before .args .c))) (c .before .before .before .before .loop .i) _ (c .before .parents-ok .ensures) (c .if2 .taken) (c .before .before .if1 .taken)
+returns c =
+    let a = c .before .before .before .before .before .before .args in
+    each-stop (parentsRule (seen (a .terms .now) (a .c))) (λ j. termAt (a .terms .now) (suc j)) (a .c .terms) (c .before .before .before .before .loop .i) _ (c .before .parents-ok .ensures) (c .if2 .taken) (c .before .before .if1 .taken)
 
 add-i : tie.Need-add-i Inv-loop μ-loop
 add-i c = omega (arith, c .before .before .before .before .before .before .pre)
@@ -38,10 +42,14 @@ loop-less : tie.Need-loop-less Inv-loop μ-loop
 loop-less c = search needs
 
 loop-again : tie.Need-loop-again Inv-loop μ-loop
-loop-again c = (omega arith, each-turn (c .before .before .before .before .before .before .args .terms .now) (c .before .before .before .before .before .before .args .c .terms) (parentsRule (seen (c .before .before .before .before .before .before .args .terms .now) (c .before .before .before .before .before .before .args .c))) (c .before .before .before .before .loop .i) _ (c .before .parents-ok .ensures) (c .if2 .left) (c .before .before .before .before .loop .inv .1))
+loop-again c =
+    let a = c .before .before .before .before .before .before .args in
+    (omega arith, each-turn (parentsRule (seen (a .terms .now) (a .c))) (c .before .before .before .before .loop .i) _ (c .before .parents-ok .ensures) (c .if2 .left) (c .before .before .before .before .loop .inv .1))
 
 returns-2 : tie.Need-returns-2 Inv-loop μ-loop
-returns-2 c = each-done (c .before .before .before .before .args .terms .now) (c .before .before .before .before .args .c .terms) (parentsRule (seen (c .before .before .before .before .args .terms .now) (c .before .before .before .before .args .c))) (c .before .before .loop .i) (c .before .before .loop .inv .0) (c .if1 .left) (c .before .before .loop .inv .1)
+returns-2 c =
+    let a = c .before .before .before .before .args in
+    each-done (parentsRule (seen (a .terms .now) (a .c))) (λ j. termAt (a .terms .now) (suc j)) (a .c .terms) (c .before .before .loop .i) (c .before .before .loop .inv .0) (c .if1 .left) (c .before .before .loop .inv .1)
 
 pub parents-hold-spec : {M : Type 1} → statement M
 parents-hold-spec =

@@ -10,7 +10,9 @@ is-within-requires : tie.Need-is-within-requires
 is-within-requires c κs = search needs
 
 returns : tie.Need-returns
-returns c = parents-stop (c .before .before .before .before .args .terms .now) (c .before .before .before .before .args .c) (c .before .before .before .before .args .t) (c .before .before .before .before .pre) _ _ (c .before .before .class-parent .ensures) (c .before .is-within .ensures) (c .if1 .taken)
+returns c =
+    let s = c .before .before .before .before in
+    parents-stop (s .args .terms .now) (s .args .c) (s .args .t) (s .pre) _ _ (c .before .before .class-parent .ensures) (c .before .is-within .ensures) (c .if1 .taken)
 
 forest-parent-requires : tie.Need-forest-parent-requires
 forest-parent-requires c κs = search needs
@@ -20,7 +22,8 @@ is-within-requires-2 c κs = search needs
 
 returns-2 : tie.Need-returns-2
 returns-2 c =
-    parents-last (c .before .before .before .before .before .before .args .terms .now) (c .before .before .before .before .before .before .args .c) (c .before .before .before .before .before .before .args .t) (c .before .before .before .before .before .before .pre) _ _ _ _ (c .before .before .before .before .class-parent .ensures) (c .before .before .before .is-within .ensures) (c .before .before .if1 .left) (c .before .forest-parent .ensures) (c .is-within2 .ensures)
+    let s = c .before .before .before .before .before .before in
+    parents-last (s .args .terms .now) (s .args .c) (s .args .t) (s .pre) _ _ _ _ (c .before .before .before .before .class-parent .ensures) (c .before .before .before .is-within .ensures) (c .before .before .if1 .left) (c .before .forest-parent .ensures) (c .is-within2 .ensures)
 
 pub parents-ok-spec : {M : Type 1} → statement M
 parents-ok-spec =

@@ -1,7 +1,7 @@
 use Rattle.records.proofs.Climbs.{Climbing, climbing-begin, climbing-turn, climbing-here, climbing-done, view-class, root-counted}
 use Rattle.records.specs.View.{termsView}
 use Rattle.records.specs.Store.{classUp}
-use Prim.Native.Nat.{ℕ, _-_}
+use Prim.Native.Nat.{_-_}
 use borrow.Author.Needs.{needs}
 use Rattle.records.proofs.classes.root_unchecked.Statement.{statement}
 use Rattle.records.proofs.classes.root_unchecked.Tie as tie
@@ -36,7 +36,9 @@ loop-again c =
     climbing-turn _ _ _ _ _ _ (c .before .before .before .loop .inv) e (c .before .before .before .before .before .pre .1) (c .before .before .loop-test .taken)
 
 returns-2 : tie.Need-returns-2 Inv-loop μ-loop
-returns-2 c = root-counted (c .before .before .before .args .terms .now) (c .before .before .before .args .n) _ _ (climbing-done _ _ _ _ _ (c .before .loop .inv) (c .loop-test .left))
+returns-2 c =
+    let s = c .before .before .before in
+    root-counted (s .args .terms .now) (s .args .n) _ _ (climbing-done _ _ _ _ _ (c .before .loop .inv) (c .loop-test .left))
 
 pub root-unchecked-spec : {M : Type 1} → statement M
 root-unchecked-spec =

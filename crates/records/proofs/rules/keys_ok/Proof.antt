@@ -1,10 +1,10 @@
+use mathlib.Core.List.{[]}
 use Rattle.records.proofs.RuleLaws.{pair-test}
 use Rattle.records.proofs.Lists.{below-zero, table-stop, below-turn, table-done}
 use Rattle.records.specs.Rules.{keyRule}
 use Rattle.records.specs.View.{lent, storeOf, pairAt}
 use Rattle.records.specs.Lists.{allBelow}
 use Prim.Native.Nat.{_-_, _≤_}
-use mathlib.Core.List.{[]}
 use mathlib.Core.Bool.{true}
 use mathlib.Core.Path.{_≡_}
 use native.Mathlib.Omega.{arith}
@@ -43,7 +43,7 @@ key-ok-requires : tie.Need-key-ok-requires Inv-loop μ-loop
 key-ok-requires c κs = search needs
 
 returns : tie.Need-returns Inv-loop μ-loop
-returns c = (let rule = keyRule (storeOf (lent (c .before .before .before .before .before .before .before .before .before .args .terms .now) [] [] [] []) (c .before .before .before .before .before .before .before .before .before .args .c)) in table-stop rule (pairAt (c .before .before .before .before .before .before .before .before .before .args .keys .now)) (c .before .before .before .before .before .before .before .before .before .args .c .keys) (c .before .before .before .before .before .before .loop .i) _ (pair-test rule (c .before .before .before .before .before .before .before .before .before .args .keys .now) (c .before .before .before .before .before .before .loop .i) _ _ _ (c .before .key-ok .ensures) (c .before .before .before .word .ensures) (c .before .before .word2 .ensures)) (c .if2 .taken) (c .before .before .before .before .if1 .taken))
+returns c = let a = c .before .before .before .before .before .before .before .before .before .args in let o = c .before .before .before .before .before .before .loop in (let rule = keyRule (storeOf (lent (a .terms .now) [] [] [] []) (a .c)) in table-stop rule (pairAt (a .keys .now)) (a .c .keys) (o .i) _ (pair-test rule (a .keys .now) (o .i) _ _ _ (c .before .key-ok .ensures) (c .before .before .before .word .ensures) (c .before .before .word2 .ensures)) (c .if2 .taken) (c .before .before .before .before .if1 .taken))
 
 add-i : tie.Need-add-i Inv-loop μ-loop
 add-i c = search needs
@@ -52,10 +52,10 @@ loop-less : tie.Need-loop-less Inv-loop μ-loop
 loop-less c = search needs
 
 loop-again : tie.Need-loop-again Inv-loop μ-loop
-loop-again c = (let rule = keyRule (storeOf (lent (c .before .before .before .before .before .before .before .before .before .args .terms .now) [] [] [] []) (c .before .before .before .before .before .before .before .before .before .args .c)) in (omega arith, below-turn (λ j. rule (pairAt (c .before .before .before .before .before .before .before .before .before .args .keys .now) j)) (c .before .before .before .before .before .before .loop .i) _ (pair-test rule (c .before .before .before .before .before .before .before .before .before .args .keys .now) (c .before .before .before .before .before .before .loop .i) _ _ _ (c .before .key-ok .ensures) (c .before .before .before .word .ensures) (c .before .before .word2 .ensures)) (c .if2 .left) (c .before .before .before .before .before .before .loop .inv .1)))
+loop-again c = let a = c .before .before .before .before .before .before .before .before .before .args in let o = c .before .before .before .before .before .before .loop in (let rule = keyRule (storeOf (lent (a .terms .now) [] [] [] []) (a .c)) in (omega arith, below-turn (λ j. rule (pairAt (a .keys .now) j)) (o .i) _ (pair-test rule (a .keys .now) (o .i) _ _ _ (c .before .key-ok .ensures) (c .before .before .before .word .ensures) (c .before .before .word2 .ensures)) (c .if2 .left) (o .inv .1)))
 
 returns-2 : tie.Need-returns-2 Inv-loop μ-loop
-returns-2 c = (let rule = keyRule (storeOf (lent (c .before .before .before .before .before .args .terms .now) [] [] [] []) (c .before .before .before .before .before .args .c)) in table-done rule (pairAt (c .before .before .before .before .before .args .keys .now)) (c .before .before .before .before .before .args .c .keys) (c .before .before .loop .i) (c .before .before .loop .inv .0) (c .if1 .left) (c .before .before .loop .inv .1))
+returns-2 c = let a = c .before .before .before .before .before .args in let o = c .before .before .loop in (let rule = keyRule (storeOf (lent (a .terms .now) [] [] [] []) (a .c)) in table-done rule (pairAt (a .keys .now)) (a .c .keys) (o .i) (o .inv .0) (c .if1 .left) (o .inv .1))
 
 pub keys-ok-spec : {M : Type 1} → statement M
 keys-ok-spec =

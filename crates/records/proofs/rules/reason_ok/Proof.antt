@@ -1,4 +1,3 @@
-use Prim.Native.Nat.{_≤_}
 use Rattle.records.proofs.RuleLaws.{reason-is, reason-low, reason-high}
 use borrow.Author.Needs.{needs}
 use Rattle.records.proofs.rules.reason_ok.Statement.{statement}

@@ -42,7 +42,7 @@ reason-ok-requires : tie.Need-reason-ok-requires Inv-loop μ-loop
 reason-ok-requires c κs = search needs
 
 returns : tie.Need-returns Inv-loop μ-loop
-returns c = table-stop reasonRule (pairAt (c .before .before .before .before .before .before .before .args .reasons .now)) (c .before .before .before .before .before .before .before .args .n) (c .before .before .before .before .before .loop .i) _ (pair-test reasonRule (c .before .before .before .before .before .before .before .args .reasons .now) (c .before .before .before .before .before .loop .i) _ _ _ (c .before .reason-ok .ensures) (c .before .before .before .word .ensures) (c .before .before .word2 .ensures)) (c .if1 .taken) (c .before .before .before .before .loop-test .taken)
+returns c = let a = c .before .before .before .before .before .before .before .args in let o = c .before .before .before .before .before .loop in table-stop reasonRule (pairAt (a .reasons .now)) (a .n) (o .i) _ (pair-test reasonRule (a .reasons .now) (o .i) _ _ _ (c .before .reason-ok .ensures) (c .before .before .before .word .ensures) (c .before .before .word2 .ensures)) (c .if1 .taken) (c .before .before .before .before .loop-test .taken)
 
 add-i : tie.Need-add-i Inv-loop μ-loop
 add-i c = search needs
@@ -51,10 +51,10 @@ loop-less : tie.Need-loop-less Inv-loop μ-loop
 loop-less c = search needs
 
 loop-again : tie.Need-loop-again Inv-loop μ-loop
-loop-again c = (omega arith, below-turn (λ j. reasonRule (pairAt (c .before .before .before .before .before .before .before .args .reasons .now) j)) (c .before .before .before .before .before .loop .i) _ (pair-test reasonRule (c .before .before .before .before .before .before .before .args .reasons .now) (c .before .before .before .before .before .loop .i) _ _ _ (c .before .reason-ok .ensures) (c .before .before .before .word .ensures) (c .before .before .word2 .ensures)) (c .if1 .left) (c .before .before .before .before .before .loop .inv .1))
+loop-again c = let a = c .before .before .before .before .before .before .before .args in let o = c .before .before .before .before .before .loop in (omega arith, below-turn (λ j. reasonRule (pairAt (a .reasons .now) j)) (o .i) _ (pair-test reasonRule (a .reasons .now) (o .i) _ _ _ (c .before .reason-ok .ensures) (c .before .before .before .word .ensures) (c .before .before .word2 .ensures)) (c .if1 .left) (o .inv .1))
 
 returns-2 : tie.Need-returns-2 Inv-loop μ-loop
-returns-2 c = table-done reasonRule (pairAt (c .before .before .before .args .reasons .now)) (c .before .before .before .args .n) (c .before .loop .i) (c .before .loop .inv .0) (c .loop-test .left) (c .before .loop .inv .1)
+returns-2 c = let a = c .before .before .before .args in let o = c .before .loop in table-done reasonRule (pairAt (a .reasons .now)) (a .n) (o .i) (o .inv .0) (c .loop-test .left) (o .inv .1)
 
 pub reasons-ok-spec : {M : Type 1} → statement M
 reasons-ok-spec =

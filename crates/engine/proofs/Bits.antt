@@ -1,0 +1,136 @@
+-- One bit of a word set, and the places of pairs in a table.
+use mathlib.Core.Path.{_≡_, refl, sym, ap, _∙_}
+use mathlib.Core.Bool.{Bool, true, false}
+use mathlib.Core.List.{List}
+use mathlib.Core.Logic.{_⊎_, inl, inr}
+use Prim.Native.Nat.{ℕ, zero, suc, _+_, _*_, _/_, _%_, _^_, _≤_, _<_, min, max}
+use native.Mathlib.Nat.{mul-le-mul, pow-suc}
+use native.Mathlib.Decide.{decLt, ℕ-discrete}
+use native.Mathlib.Omega.{arith}
+use lib.ListN.{length, getD, set, length-set}
+use lib.Seq.{getD-set-same, getD-set-other}
+use lib.Pow.{shr-shr, shl-exact}
+use lib.Dec.{eqb}
+use borrow.Author.Tests.{eqb-false, eq-eqb}
+use Rattle.engine.specs.Marks.{place, bit, marked, Marked}
+
+-- a digit of the half is the next digit of the whole
+half : (w j : ℕ) → w / 2 ^ suc j ≡ w / 2 / 2 ^ j
+half w j = sym (shr-shr w 1 j ∙ ap (λ (k : ℕ). w / 2 ^ k) (omega arith))
+
+twice : (j : ℕ) → 2 ^ suc j ≡ 2 * 2 ^ j
+twice j = pow-suc 2 j ∙ (let p = 2 ^ j in omega arith)
+
+half-add : (w j : ℕ) → (w + 2 ^ suc j) / 2 ≡ w / 2 + 2 ^ j
+half-add w j = let e = twice j in omega arith
+
+digit-set : (b w : ℕ) → w / 2 ^ b % 2 ≡ 0 → (w + 2 ^ b) / 2 ^ b % 2 ≡ 1
+digit-set zero w h = omega arith
+digit-set (suc b) w h =
+    rw (half (w + 2 ^ suc b) b, half-add w b) (digit-set b (w / 2) (rw (half w b) at h))
+
+digit-kept : (b j w : ℕ) → (j ≡ b → ⊥) → w / 2 ^ b % 2 ≡ 0 → (w + 2 ^ b) / 2 ^ j % 2 ≡ w / 2 ^ j % 2
+digit-kept zero zero w d h = absurd (d refl)
+digit-kept zero (suc j) w d h =
+    let e : (w + 2 ^ 0) / 2 ≡ w / 2 = omega arith in
+    rw (half (w + 2 ^ 0) j, half w j, e)
+digit-kept (suc b) zero w d h = let e = twice b in omega arith
+digit-kept (suc b) (suc j) w d h =
+    rw (half (w + 2 ^ suc b) j, half-add w b, half w j) (digit-kept b j (w / 2) (λ e. d (ap suc e)) (rw (half w b) at h))
+
+digit-fits : (b n w : ℕ) → b < n → w / 2 ^ b % 2 ≡ 0 → w < 2 ^ n → w + 2 ^ b < 2 ^ n
+digit-fits zero zero w l h f = absurd (omega arith)
+digit-fits zero (suc n) w l h f = let e = twice n in omega arith
+digit-fits (suc b) zero w l h f = absurd (omega arith)
+digit-fits (suc b) (suc n) w l h f =
+    let e = twice n in
+    let g = twice b in
+    let k = digit-fits b n (w / 2) (omega arith) (rw (half w b) at h) (omega arith) in omega arith
+
+digit-low : (w b : ℕ) → bit w b ≡ false → w / 2 ^ b % 2 ≡ 0
+unfolding bit
+digit-low w b e = let d = eqb-false (w / 2 ^ b % 2) 1 e in omega arith
+
+pub bit-fits : (w b : ℕ) → b < 32 → bit w b ≡ false → w < 2 ^ 32 → w + 2 ^ b < 2 ^ 32
+bit-fits w b l e f = digit-fits b 32 w l (digit-low w b e) f
+
+pub bit-set : (w b : ℕ) → bit w b ≡ false → bit (w + 2 ^ b) b ≡ true
+unfolding bit
+bit-set w b e = eq-eqb _ 1 (digit-set b w (digit-low w b e))
+
+pub bit-kept : (w b j : ℕ) → bit w b ≡ false → (j ≡ b → ⊥) → bit (w + 2 ^ b) j ≡ bit w j
+unfolding bit
+bit-kept w b j e d = ap (λ (x : ℕ). eqb x 1) (digit-kept b j w d (digit-low w b e))
+
+-- the table with the bit of place k set
+pub mark-set : (table : List ℕ) (k : ℕ) → k < 32 * length table → marked table k ≡ false
+    → Marked table (set table (k / 32) (getD table (k / 32) 0 + 2 ^ (k % 32))) k
+unfolding marked
+mark-set table k h e =
+    let i = k / 32 in
+    let w = getD table (k / 32) 0 in
+    let inside : k / 32 < length table = omega arith in
+    let now : getD (set table (k / 32) (w + 2 ^ (k % 32))) (k / 32) 0 ≡ w + 2 ^ (k % 32) = getD-set-same table (k / 32) (w + 2 ^ (k % 32)) 0 inside in
+    record {
+      here = rw now (bit-set w (k % 32) e);
+      elsewhere = λ j d. go j d (ℕ-discrete (j / 32) (k / 32));
+      long = length-set table (k / 32) (w + 2 ^ (k % 32));
+    }
+  where
+    go : (j : ℕ) → (j ≡ k → ⊥) → Dec (j / 32 ≡ k / 32)
+        → bit (getD (set table (k / 32) (getD table (k / 32) 0 + 2 ^ (k % 32))) (j / 32) 0) (j % 32) ≡ bit (getD table (j / 32) 0) (j % 32)
+    go j d (no n) = ap (λ (x : ℕ). bit x (j % 32)) (getD-set-other table (k / 32) (j / 32) (getD table (k / 32) 0 + 2 ^ (k % 32)) 0 n)
+    go j d (yes y) =
+        let m : j % 32 ≡ k % 32 → ⊥ = λ q. d (omega arith) in
+        rw (y, getD-set-same table (k / 32) (getD table (k / 32) 0 + 2 ^ (k % 32)) 0 (omega arith)) (bit-kept (getD table (k / 32) 0) (k % 32) (j % 32) e m)
+
+-- THE PLACE OF A PAIR
+
+pub product-fits : (a n : ℕ) → a < 2 ^ 32 → n ≤ 512 → a * (n + 1) ≤ 2 ^ 32 * 513
+product-fits a n h k = mul-le-mul {n₁ = a} {m₁ = n + 1} {n₂ = 2 ^ 32} {m₂ = 513} (omega arith) (omega arith)
+
+pub place-first : (n a b : ℕ) → a < b → a * (n + 1) + b ≡ place n a b
+place-first n a b h =
+    let p : min a b ≡ a = omega arith in
+    let q : max a b ≡ b = omega arith in rw (p, q)
+
+pub place-second : (n a b : ℕ) → b ≤ a → b * (n + 1) + a ≡ place n a b
+place-second n a b h =
+    let p : min a b ≡ b = omega arith in
+    let q : max a b ≡ a = omega arith in rw (p, q)
+
+-- a place is within the square
+pub place-small : (n a b : ℕ) → a ≤ n → b ≤ n → place n a b < (n + 1) * (n + 1)
+place-small n a b h k =
+    let p = mul-le-mul {n₁ = min a b + 1} {m₁ = n + 1} {n₂ = n + 1} {m₂ = n + 1} (omega arith) (omega arith) in
+    let e : (min a b + 1) * (n + 1) ≡ min a b * (n + 1) + (n + 1) = native.Mathlib.Nat.add-mul (min a b) 1 (n + 1) ∙ ap (λ (x : ℕ). min a b * (n + 1) + x) (native.Mathlib.Nat.one-mul (n + 1)) in
+    omega arith
+
+-- rows of one width: equal places have equal rows and columns
+row-same : (m p q x y : ℕ) → x < m → y < m → p * m + x ≡ q * m + y → (p ≡ q) × (x ≡ y)
+row-same m zero zero x y h k e = let z = native.Mathlib.Nat.zero-mul m in (refl, omega arith)
+row-same m zero (suc q) x y h k e =
+    let z = native.Mathlib.Nat.zero-mul m in
+    let s = native.Mathlib.Nat.suc-mul q m in absurd (omega arith)
+row-same m (suc p) zero x y h k e =
+    let z = native.Mathlib.Nat.zero-mul m in
+    let s = native.Mathlib.Nat.suc-mul p m in absurd (omega arith)
+row-same m (suc p) (suc q) x y h k e =
+    let s = native.Mathlib.Nat.suc-mul p m in
+    let t = native.Mathlib.Nat.suc-mul q m in
+    let r = row-same m p q x y h k (omega arith) in (ap suc (r .0), r .1)
+
+-- equal places are equal pairs, each in one order
+pub place-pair : (n a b c d : ℕ) → a ≤ n → b ≤ n → c ≤ n → d ≤ n → place n a b ≡ place n c d → (min a b ≡ min c d) × (max a b ≡ max c d)
+place-pair n a b c d ha hb hc hd e = row-same (n + 1) (min a b) (min c d) (max a b) (max c d) (omega arith) (omega arith) e
+
+-- a shifted 1
+pub one-shifted : (j : ℕ) → j < 32 → (1 * 2 ^ j) % 4294967296 ≡ 2 ^ j
+one-shifted j h = shl-exact {a = 1} 1 j 32 (omega arith) (omega arith) ∙ native.Mathlib.Nat.one-mul (2 ^ j)
+
+pub shifted-fits : (w k : ℕ) → bit w (k % 32) ≡ false → w < 2 ^ 32 → w + (1 * 2 ^ (k % 32)) % 4294967296 < 2 ^ 32
+shifted-fits w k e f = rw (one-shifted (k % 32) (omega arith)) (bit-fits w (k % 32) (omega arith) e f)
+
+pub mark-shifted : (table : List ℕ) (k : ℕ) → k < 32 * length table → marked table k ≡ false
+    → Marked table (set table (k / 32) (getD table (k / 32) 0 + (1 * 2 ^ (k % 32)) % 4294967296)) k
+mark-shifted table k h e = rw (one-shifted (k % 32) (omega arith)) (mark-set table k h e)

@@ -1,0 +1,28 @@
+-- The table of the pairs that explain has seen: one bit for each.
+use mathlib.Core.Path.{_≡_}
+use mathlib.Core.Bool.{Bool, true}
+use mathlib.Core.List.{List}
+use Prim.Native.Nat.{ℕ, suc, _+_, _*_, _/_, _%_, _^_, _≤_, min, max}
+use lib.ListN.{length, getD}
+use lib.Dec.{eqb}
+use Rattle.engine.specs.Explain.{Seen, wasSeen}
+
+-- the place of the pair {a, b} of numbers up to n
+abbrev pub place : ℕ → ℕ → ℕ → ℕ
+place n a b = min a b * (n + 1) + max a b
+
+unfoldable pub bit : ℕ → ℕ → Bool
+bit w j = eqb (w / 2 ^ j % 2) 1
+
+unfoldable pub marked : List ℕ → ℕ → Bool
+marked table k = bit (getD table (k / 32) 0) (k % 32)
+
+-- a table with one place more marked
+pub record Marked (table table′ : List ℕ) (k : ℕ) : Type 0 where
+  pub here : marked table′ k ≡ true
+  pub elsewhere : (j : ℕ) → (j ≡ k → ⊥) → marked table′ j ≡ marked table j
+  pub long : length table′ ≡ length table
+
+-- the table marks the pairs seen and no other
+pub record Marks (n : ℕ) (table : List ℕ) (seen : Seen) : Type 0 where
+  pub says : (a b : ℕ) → a ≤ n → b ≤ n → marked table (place n a b) ≡ wasSeen (a, b) seen

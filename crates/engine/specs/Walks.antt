@@ -1,0 +1,68 @@
+-- What explain_rec and expand_edge promise: they do what `walked` and `edge` say, the table marking the pairs seen.
+use mathlib.Core.Path.{_≡_}
+use mathlib.Core.Bool.{Bool, true, false}
+use mathlib.Core.List.{List, [], _∷_, _++_}
+use Prim.Native.Nat.{ℕ, _+_, _*_, _≤_}
+use lib.ListN.{length}
+use lib.Dec.{ltb}
+use Rattle.records.specs.Lists.{if_then_else_, upTo}
+use Rattle.records.specs.Store.{Term, Store, Out, ok, stop, Work, isTerm, isEdge, top, aboveIn}
+use Rattle.records.specs.View.{termsView, cellsView, pairsView, reasonRoom}
+use Rattle.records.specs.Make.{withReasons}
+use Rattle.records.specs.Audited.{Audited}
+use Rattle.engine.specs.declared.Walked.{Walked}
+use Rattle.engine.specs.Explain.{Seen, walked, edge}
+use Rattle.engine.specs.Marks.{Marks}
+
+-- an audited store with the lent terms and cells and the room of the lent reasons
+pub record Standing (terms cells reasons : List ℕ) (n k : ℕ) : Type 0 where
+  pub store : Store
+  pub audited : Audited store
+  pub terms-are : store .terms ≡ termsView terms n
+  pub cells-are : store .cells ≡ cellsView cells k
+  pub room-is : store .room .reasons ≡ reasonRoom reasons
+
+-- two terms of one tree
+pub record Together (s : Store) (p : ℕ × ℕ) : Type 0 where
+  pub left : isTerm s (p .0) ≡ true
+  pub right : isTerm s (p .1) ≡ true
+  pub tree : top s (p .0) ≡ top s (p .1)
+
+-- an edge of the store
+pub record Edge (s : Store) (t : ℕ) : Type 0 where
+  pub here : isTerm s t ≡ true
+  pub joins : isEdge s t ≡ true
+
+-- the table is long enough for n terms, of which there are not too many
+pub record Wide (n : ℕ) (table : List ℕ) : Type 0 where
+  pub few : n ≤ 512
+  pub long : (n + 1) * (n + 1) ≤ 32 * length table
+
+pub record Walkable (terms cells table reasons : List ℕ) (n k : ℕ) (P : Store → Type 0) : Type 0 where
+  pub standing : Standing terms cells reasons n k
+  pub fit : P (standing .store)
+  pub wide : Wide n table
+
+-- what a walk came to
+pub data Shows (s : Store) (n : ℕ) (table reasons : List ℕ) (r : Walked) (o : Out Seen) : Type 0 where
+  came : r .code ≡ 0 → (seen : Seen) → Marks n table seen → o ≡ ok (withReasons s (pairsView reasons (r .count))) seen → Shows s n table reasons r o
+  refused : (r .code ≡ 0 → ⊥) → o ≡ stop (r .code) → Shows s n table reasons r o
+
+-- from a table and reasons to a table and reasons: what is counted stays, and the work is done
+pub record Walks (work : Seen → Work Seen) (P : Store → Type 0) (terms cells table table′ reasons reasons′ : List ℕ) (n k count : ℕ) (r : Walked) : Type 0 where
+  pub kept : pairsView reasons′ count ≡ pairsView reasons count
+  pub more : count ≤ r .count
+  pub shows : (e : Standing terms cells reasons n k) → P (e .store) → (seen : Seen) → Marks n table seen
+      → Shows (e .store) n table′ reasons′ r (work seen (withReasons (e .store) (pairsView reasons count)))
+
+-- the edges ahead on a path: from x up to m, and then from b up to m unless x is on b's side
+abbrev pub ahead : List Term → ℕ → ℕ → Bool → ℕ → List ℕ
+ahead ts m b true x = upTo m (aboveIn ts x)
+ahead ts m b false x = upTo m (aboveIn ts x) ++ upTo m (aboveIn ts b)
+
+-- one reason more, where it fits
+pub record Gives (l l′ : List ℕ) (n kind value : ℕ) (r : Walked) : Type 0 where
+  pub kept : pairsView l′ n ≡ pairsView l n
+  pub more : n ≤ r .count
+  pub given : ltb n (reasonRoom l) ≡ true → (r .code ≡ 0) × (pairsView l′ (r .count) ≡ pairsView l n ++ ((kind, value) ∷ []))
+  pub full : ltb n (reasonRoom l) ≡ false → r .code ≡ 7

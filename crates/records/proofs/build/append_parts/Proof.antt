@@ -1,0 +1,28 @@
+use mathlib.Core.Path.{refl}
+use Rattle.records.proofs.Builds.{one-limit, one-words, one-later, append-long, append-limit, append-words, append-full, append-made}
+use borrow.Author.Needs.{needs}
+use Rattle.records.proofs.build.append_parts.Statement.{statement}
+use Rattle.records.proofs.build.append_parts.Tie as tie
+
+pub append-parts-spec : {M : Type 1} → statement M
+append-parts-spec =
+    tie.close
+    (tie.spec
+    (λ c κs. search needs)
+    (λ c. search needs)
+    (λ c. search append-long)
+    (λ c κs. search needs)
+    (λ c. search needs)
+    (λ c. search needs)
+    (λ c. search append-full)
+    (λ c κs. let a = c .before .before .before .before .before .before .before .before .before .before .before .before .before .args in let t = a .terms .now in let e = a .cells .now in let h = a .chars .now in let r = a .reasons .now in let k = a .keys .now in let p = c .before .before .before .before .before .cells-fit .ensures in let s = c .before .before .before .before .before .before .before .before .before .before .before .before .before .pre in (append-limit t e h r k (a .c) (a .l .now) _ p s (c .before .before .before .before .if1 .left), append-words t e h r k (a .c) (a .l .now) _ p s (c .before .before .before .before .if1 .left)))
+    (λ c. search needs)
+    (λ c. search needs)
+    (λ c κs. let t = c .before .before .before .before .before .before .before .before .before .before .before .before .before .before .before .before .before .args .terms .now in let p = c .before .before .before .before .before .before .term-fits .ensures in (one-limit t _ _ p (c .before .before .before .before .before .if2 .left), one-words t _ _ p (c .before .before .before .before .before .if2 .left)))
+    (λ c. search needs)
+    (λ c. search needs)
+    (λ c κs. search (needs, append-limit))
+    (λ c κs. search (needs, one-later))
+    (λ c. search needs)
+    (λ c. search needs)
+    (λ c. search append-made))

@@ -1,0 +1,28 @@
+use Prim.Native.Nat.{_-_}
+use Rattle.records.specs.Make.{hasParts}
+use Rattle.records.specs.View.{cellsView}
+use Rattle.records.proofs.Making.{Passed, passed-none, passed-one, passed-all, hit}
+use borrow.Author.Needs.{needs}
+use Rattle.records.proofs.build.find_parts.Statement.{statement}
+use Rattle.records.proofs.build.find_parts.Tie as tie
+
+abbrev Inv-loop : tie.InvT-loop
+Inv-loop terms cells n k l t₀ t = Passed (hasParts terms (cellsView cells k) l) n t
+
+abbrev μ-loop : tie.MeasureT-loop
+μ-loop terms cells n k l t₀ t = n - t
+
+pub find-parts-spec : {M : Type 1} → statement M
+find-parts-spec =
+    tie.close
+    (tie.spec
+    Inv-loop
+    μ-loop
+    (λ c. passed-none _ _)
+    (λ c. search needs)
+    (λ c. search needs)
+    (λ c κs. search needs)
+    (λ c. hit _ _ _ (c .before .before .before .loop .inv) _ (c .before .before .loop-test .taken) (c .before .has-parts .ensures) (c .if1 .taken))
+    (λ c. search needs)
+    (λ c. passed-one _ _ _ (c .before .before .before .loop .inv) _ (c .before .before .loop-test .taken) (c .before .has-parts .ensures) (c .if1 .left))
+    (λ c. passed-all _ _ _ (c .before .loop .inv) (c .loop-test .left)))

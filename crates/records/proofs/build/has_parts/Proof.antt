@@ -1,0 +1,8 @@
+use Rattle.records.proofs.Builds.{parts-kind, parts-are}
+use borrow.Author.Needs.{needs}
+use Rattle.records.proofs.build.has_parts.Statement.{statement}
+use Rattle.records.proofs.build.has_parts.Tie as tie
+
+pub has-parts-spec : {M : Type 1} → statement M
+has-parts-spec =
+    tie.close (tie.spec (λ c κs. search needs) (λ c. search parts-kind) (λ c κs. search needs) (λ c κs. search needs) (λ c. search parts-are))

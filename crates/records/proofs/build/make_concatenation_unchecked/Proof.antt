@@ -1,0 +1,17 @@
+use Rattle.records.proofs.Builds.{concat-old, concat-new}
+use borrow.Author.Needs.{needs}
+use Rattle.records.proofs.build.make_concatenation_unchecked.Statement.{statement}
+use Rattle.records.proofs.build.make_concatenation_unchecked.Tie as tie
+
+pub make-concatenation-unchecked-spec : {M : Type 1} → statement M
+make-concatenation-unchecked-spec =
+    tie.close
+    (tie.spec
+    (λ c κs. search needs)
+    (λ c. search needs)
+    (λ c. search needs)
+    (λ c. search concat-old)
+    (λ c κs. search needs)
+    (λ c. search needs)
+    (λ c. search needs)
+    (λ c. search concat-new))

@@ -1,0 +1,76 @@
+use Rattle.records.proofs.PairLaws.{pathed-seen, congruent-child, congruent-parent, congruent-pairs, congruent-terms, congruent-last}
+use borrow.Author.Needs.{needs}
+use Rattle.records.proofs.classes.congruence_ok.Statement.{statement}
+use Rattle.records.proofs.classes.congruence_ok.Tie as tie
+
+forest-parent-requires : tie.Need-forest-parent-requires
+forest-parent-requires c κs = search needs
+
+kind-requires : tie.Need-kind-requires
+kind-requires c κs = search needs
+
+returns : tie.Need-returns
+returns c =
+    let s = c .before .before .before .before .before .args in
+    congruent-child (s .terms .now) (s .cells .now) (s .c) _ _ (c .before .before .before .before .before .pre .0) (c .before .before .before .before .before .pre .1) (c .before .before .forest-parent .ensures) _ (c .before .kind .ensures) (c .if1 .taken)
+
+kind-requires-2 : tie.Need-kind-requires-2
+kind-requires-2 c κs = search needs
+
+returns-2 : tie.Need-returns-2
+returns-2 c =
+    let s = c .before .before .before .before .before .before .before .args in
+    congruent-parent (s .terms .now) (s .cells .now) (s .c) _ _ (c .before .before .before .before .before .before .before .pre .0) (c .before .before .before .before .before .before .before .pre .1) (c .before .before .before .before .forest-parent .ensures) _ (c .before .before .before .kind .ensures) _ (c .before .kind2 .ensures) (c .if2 .taken)
+
+label-value-requires : tie.Need-label-value-requires
+label-value-requires c κs = search needs
+
+first-requires : tie.Need-first-requires
+first-requires c κs = search needs
+
+first-requires-2 : tie.Need-first-requires-2
+first-requires-2 c κs = search needs
+
+pairs-either-ok-requires : tie.Need-pairs-either-ok-requires
+pairs-either-ok-requires c κs = search needs
+
+returns-3 : tie.Need-returns-3
+returns-3 c =
+    let s = c .before .before .before .before .before .before .before .before .before .before .before .before .args in
+    congruent-pairs (s .terms .now) (s .cells .now) (s .c) _ _ (c .before .before .before .before .before .before .before .before .before .before .before .before .pre .0) (c .before .before .before .before .before .before .before .before .before .before .before .before .pre .1) (c .before .before .before .before .before .before .before .before .before .forest-parent .ensures) _ (c .before .before .before .before .before .before .before .before .kind .ensures) _ (c .before .before .before .before .before .before .kind2 .ensures) _ _ _ _
+    (c .before .before .before .before .label-value .ensures) (c .before .before .before .first .ensures) (c .before .before .first2 .ensures) (c .before .pairs-either-ok .ensures) (c .if3 .taken)
+
+stamp-requires : tie.Need-stamp-requires
+stamp-requires c κs = search needs
+
+falls-hold-requires : tie.Need-falls-hold-requires
+falls-hold-requires c κs =
+    let s = c .before .before .before .before .before .before .before .before .before .before .before .before .before .args in (
+      pathed-seen (s .terms .now) (s .cells .now) (s .c) (c .before .before .before .before .before .before .before .before .before .before .before .before .before .pre .0 .pathed),
+      congruent-terms (s .terms .now) (s .cells .now) (s .c) _ _ (c .before .before .before .before .before .before .before .before .before .before .before .before .before .pre .0) (c .before .before .before .before .before .before .before .before .before .before .before .before .before .pre .1) (c .before .before .before .before .before .before .before .before .before .before .forest-parent .ensures) _ (c .before .before .before .before .before .before .before .before .before .kind .ensures) _ (c .before .before .before .before .before .before .before .kind2 .ensures) _ _ _ _
+          (c .before .before .before .before .before .label-value .ensures) (c .before .before .before .before .first .ensures) (c .before .before .before .first2 .ensures) (c .before .before .pairs-either-ok .ensures) (c .before .before .before .before .before .before .before .before .if1 .left) (c .before .before .before .before .before .before .if2 .left) (c .before .if3 .left),
+    )
+
+returns-4 : tie.Need-returns-4
+returns-4 c =
+    let s = c .before .before .before .before .before .before .before .before .before .before .before .before .before .before .args in
+    congruent-last (s .terms .now) (s .cells .now) (s .c) _ _ (c .before .before .before .before .before .before .before .before .before .before .before .before .before .before .pre .0) (c .before .before .before .before .before .before .before .before .before .before .before .before .before .before .pre .1) (c .before .before .before .before .before .before .before .before .before .before .before .forest-parent .ensures) _ (c .before .before .before .before .before .before .before .before .before .before .kind .ensures) _ (c .before .before .before .before .before .before .before .before .kind2 .ensures) _ _ _ _
+    (c .before .before .before .before .before .before .label-value .ensures) (c .before .before .before .before .before .first .ensures) (c .before .before .before .before .first2 .ensures) (c .before .before .before .pairs-either-ok .ensures) (c .before .before .before .before .before .before .before .before .before .if1 .left) (c .before .before .before .before .before .before .before .if2 .left) (c .before .before .if3 .left) _ _ (c .before .stamp .ensures) (c .falls-hold .ensures)
+
+pub congruence-ok-spec : {M : Type 1} → statement M
+congruence-ok-spec =
+    tie.close
+    (tie.spec
+    forest-parent-requires
+    kind-requires
+    returns
+    kind-requires-2
+    returns-2
+    label-value-requires
+    first-requires
+    first-requires-2
+    pairs-either-ok-requires
+    returns-3
+    stamp-requires
+    falls-hold-requires
+    returns-4)

@@ -1,0 +1,42 @@
+use Rattle.records.proofs.PairLaws.{falls-none, falls-stop, falls-last}
+use Rattle.records.proofs.classes.falls_ok.Statement.{statement}
+use Rattle.records.proofs.classes.falls_ok.Tie as tie
+
+nearest-unchecked-requires : tie.Need-nearest-unchecked-requires
+nearest-unchecked-requires c κs = (c .before .pre .0 .limited, c .before .pre .1, c .before .pre .2, c .before .pre .0 .tops)
+
+returns : tie.Need-returns
+returns c =
+    let s = c .before .before .before .args in
+    falls-none (s .terms .now) (s .c) _ _ _ _ (c .before .before .before .pre .0) (c .before .before .before .pre .1) (c .before .before .before .pre .2) (c .before .nearest-unchecked .ensures) (c .if1 .taken)
+
+stamps-below-requires : tie.Need-stamps-below-requires
+stamps-below-requires c κs =
+    let s = c .before .before .before in
+    (s .pre .0 .limited, s .pre .1, s .pre .0 .tops)
+
+returns-2 : tie.Need-returns-2
+returns-2 c =
+    let s = c .before .before .before .before .before .args in
+    falls-stop (s .terms .now) (s .c) _ _ _ _ (c .before .before .before .before .before .pre .0) (c .before .before .before .before .before .pre .1) (c .before .before .before .before .before .pre .2) (c .before .before .before .nearest-unchecked .ensures) _ (c .before .stamps-below .ensures) (c .if2 .taken)
+
+stamps-below-requires-2 : tie.Need-stamps-below-requires-2
+stamps-below-requires-2 c κs =
+    let s = c .before .before .before .before .before in
+    (s .pre .0 .limited, s .pre .2, s .pre .0 .tops)
+
+returns-3 : tie.Need-returns-3
+returns-3 c =
+    let s = c .before .before .before .before .before .before .args in
+    falls-last (s .terms .now) (s .c) _ _ _ _ (c .before .before .before .before .before .before .pre .0) (c .before .before .before .before .before .before .pre .1) (c .before .before .before .before .before .before .pre .2) (c .before .before .before .before .nearest-unchecked .ensures) _ _ (c .before .before .before .if1 .left) (c .before .before .stamps-below .ensures) (c .before .if2 .left) (c .stamps-below2 .ensures)
+
+pub falls-ok-spec : {M : Type 1} → statement M
+falls-ok-spec =
+    tie.close
+    (tie.spec
+    nearest-unchecked-requires
+    returns
+    stamps-below-requires
+    returns-2
+    stamps-below-requires-2
+    returns-3)

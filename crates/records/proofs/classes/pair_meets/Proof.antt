@@ -1,0 +1,61 @@
+use Rattle.records.proofs.PairLaws.{meets-one, meets-other, meets-value, meets-last}
+use Rattle.records.proofs.Lists.{passed}
+use borrow.Author.Needs.{needs}
+use Rattle.records.proofs.classes.pair_meets.Statement.{statement}
+use Rattle.records.proofs.classes.pair_meets.Tie as tie
+
+is-within-requires : tie.Need-is-within-requires
+is-within-requires c κs = search needs
+
+returns : tie.Need-returns
+returns c =
+    let s = c .before .before .before .args in
+    meets-one (s .cells .now) (s .n) _ _ _ _ (c .before .is-within .ensures) (c .if1 .taken)
+
+is-within-requires-2 : tie.Need-is-within-requires-2
+is-within-requires-2 c κs = search needs
+
+returns-2 : tie.Need-returns-2
+returns-2 c =
+    let s = c .before .before .before .before .before .args in
+    meets-other (s .cells .now) (s .n) _ _ _ _ (c .before .is-within2 .ensures) (c .if2 .taken)
+
+value-requires : tie.Need-value-requires
+value-requires c κs = search needs
+
+value-requires-2 : tie.Need-value-requires-2
+value-requires-2 c κs = search needs
+
+returns-3 : tie.Need-returns-3
+returns-3 c =
+    let s = c .before .before .before .before .before .before .before .before .args in
+    let w = passed _ _ (c .before .before .before .before .before .before .is-within .ensures) (c .before .before .before .before .before .if1 .left) in
+    meets-value (s .cells .now) (s .n) _ _ _ _ _ (c .before .before .before .before .before .before .before .before .pre) w (c .before .before .value .ensures) (c .before .value2 .ensures) (c .if3 .taken)
+
+other-requires : tie.Need-other-requires
+other-requires c κs = search needs
+
+value-requires-3 : tie.Need-value-requires-3
+value-requires-3 c κs = search needs
+
+returns-4 : tie.Need-returns-4
+returns-4 c =
+    let s = c .before .before .before .before .before .before .before .before .before .before .args in
+    let w = passed _ _ (c .before .before .before .before .before .before .before .before .is-within .ensures) (c .before .before .before .before .before .before .before .if1 .left) in
+    let v = passed _ _ (c .before .before .before .before .before .before .is-within2 .ensures) (c .before .before .before .before .before .if2 .left) in
+    meets-last (s .cells .now) (s .n) _ _ _ _ _ (c .before .before .before .before .before .before .before .before .before .before .pre) w (c .before .before .before .before .value .ensures) (c .before .before .before .value2 .ensures) _ _ v (c .before .before .if3 .left) (c .before .other .ensures) (c .value3 .ensures)
+
+pub pair-meets-spec : {M : Type 1} → statement M
+pair-meets-spec =
+    tie.close
+    (tie.spec
+    is-within-requires
+    returns
+    is-within-requires-2
+    returns-2
+    value-requires
+    value-requires-2
+    returns-3
+    other-requires
+    value-requires-3
+    returns-4)

@@ -1,0 +1,45 @@
+use Rattle.records.proofs.Naming.{decimal-none, decimal-one, decimal-more, decimal-room}
+use native.Mathlib.Omega.{arith}
+use borrow.Author.Needs.{needs}
+use Prim.Native.Nat.{ℕ, _<_}
+use borrow.Fn.Kinds.{In}
+use borrow.Fn.PlainCycle.{Measures, is, falls, and}
+use Rattle.records.proofs.names.put_decimal.Reads as put-decimal
+use Rattle.records.proofs.names.put_decimal.Kinds as put-decimal-kinds
+use Rattle.records.proofs.names.+put_decimal.Lts-put_decimal as put-decimal-lts
+use Rattle.records.proofs.names.+put_decimal.{statement}
+use Rattle.records.proofs.names.+put_decimal.Tie.{close}
+
+abbrev μ-put-decimal : Measures 1 put-decimal-kinds.ps ℕ
+μ-put-decimal κs a = a .1 .1 .0
+
+abbrev put-decimal-at : ℕ → In 1 put-decimal-kinds.ps
+put-decimal-at t =
+    and 1 put-decimal-kinds.ps (is 1 put-decimal-kinds.ps μ-put-decimal t) put-decimal.Pre
+
+abbrev put-decimal-below : ℕ → In 1 put-decimal-kinds.ps
+put-decimal-below t =
+    and 1 put-decimal-kinds.ps (falls 1 put-decimal-kinds.ps _<_ μ-put-decimal t) put-decimal.Pre
+
+pub +put-decimal-spec : {M : Type 1} → statement M
++put-decimal-spec = close μ-put-decimal λ t. put-decimal-lts.spec (
+  put-decimal-below t,
+  put-decimal.Post,
+)
+    (put-decimal-at t)
+    put-decimal.Post
+    (λ c. search decimal-none)
+    (λ c. search needs)
+    (λ c. search needs)
+    (λ c. search needs)
+    (λ c. search needs)
+    (λ c. search needs)
+    (λ c. search decimal-one)
+    (λ c. search needs)
+    (λ c κs. (omega arith, omega arith))
+    (λ c. search needs)
+    (λ c. let a = c .before .before .before .before .before .before .before .args in omega (arith, decimal-room (a .name .now) (c .before .before .put-decimal .last .0) (a .at) (a .n) (a .x) (c .before .before .put-decimal .result) (c .before .before .before .before .before .if1 .left) (c .before .before .before .before .before .before .before .pre .1) (c .before .before .put-decimal .kept .0) (c .before .before .put-decimal .ensures)))
+    (λ c. search decimal-room)
+    (λ c. let a = c .before .before .before .before .before .before .before .args in omega (arith, decimal-room (a .name .now) (c .before .before .put-decimal .last .0) (a .at) (a .n) (a .x) (c .before .before .put-decimal .result) (c .before .before .before .before .before .if1 .left) (c .before .before .before .before .before .before .before .pre .1) (c .before .before .put-decimal .kept .0) (c .before .before .put-decimal .ensures)))
+    (λ c. search needs)
+    (λ c. search decimal-more)

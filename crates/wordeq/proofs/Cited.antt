@@ -1,0 +1,78 @@
+-- What holds of all words under the reasons that work added.
+use mathlib.Core.Path.{_≡_, sym, ap, subst, _∙_}
+use mathlib.Core.Bool.{true}
+use mathlib.Core.List.{List, _++_, append-assoc, List·Memᴰ, Memᴰ·append-left, Memᴰ·append-right}
+use Prim.Native.Nat.{ℕ}
+use native.Mathlib.Omega.{arith}
+use Rattle.records.specs.Store.{Store, isString, sameClass}
+use Rattle.records.specs.Make.{withReasons}
+use Rattle.records.specs.Meaning.{Words, Reading, Holds}
+use Rattle.records.specs.Audited.{Audited}
+use Rattle.records.proofs.Grown.{Grown, grown-none, grown-then}
+use Rattle.records.proofs.Beside.{reading-beside, holds-beside}
+use Rattle.engine.specs.Explain.{explain}
+use Rattle.engine.proofs.Added.{Added, added-none}
+use Rattle.engine.proofs.Sound.{Gave, explain-gives, explain-stops}
+use Rattle.normalize.proofs.Ends.{ends-by}
+use Rattle.normalize.proofs.Rewritten.{holds-fewer}
+use Rattle.wordeq.proofs.Ends.{Ends}
+
+abbrev pub Under : Store → List (ℕ × ℕ) → (Words → Type 0) → Type 0
+Under s rs P = (w : Words) → Reading s w → Holds s rs w → P w
+
+-- s′ has more reasons than s, and P holds of all words under them
+pub record Cited (P : Words → Type 0) (s s′ : Store) : Type 0 where
+  pub added : Added s s′
+  pub audited : Audited s′
+  pub grown : Grown s s′
+  pub holds : Under s (added .more) P
+
+module _ {s s′ : Store} (a : Added s s′) where
+  pub added-reasons : s′ .reasons ≡ s .reasons ++ a .more
+  added-reasons = ap (λ (x : Store). x .reasons) (a .is)
+
+  pub reading-on : {w : Words} → Reading s w → Reading s′ w
+  reading-on {w} r = subst (λ (x : Store). Reading x w) (sym (a .is)) (reading-beside s (s .reasons ++ a .more) (s .keys) (s .names) w r)
+
+  pub holds-on : {w : Words} {rs : List (ℕ × ℕ)} → Holds s rs w → Holds s′ rs w
+  holds-on {w} {rs} h = subst (λ (x : Store). Holds x rs w) (sym (a .is)) (holds-beside s (s .reasons ++ a .more) (s .keys) (s .names) w rs h)
+
+  pub holds-back : {w : Words} {rs : List (ℕ × ℕ)} → Holds s′ rs w → Holds s rs w
+  holds-back {w} {rs} h = go (subst (λ (x : Store). Holds x rs w) (a .is) h)
+    where
+      go : Holds (withReasons s (s .reasons ++ a .more)) rs w → Holds s rs w
+      go k = record { merges = k .merges; reasons = k .reasons }
+
+pub cited-none : {P : Words → Type 0} (s : Store) → Audited s → ((w : Words) → Reading s w → P w) → Cited P s s
+cited-none s d f = record { added = added-none s; audited = d; grown = grown-none s; holds = λ w r h. f w r }
+
+pub cited-gave : {s s′ : Store} {a b : ℕ} → Gave s s′ a b → Cited (λ w. w a ≡ w b) s s′
+cited-gave g = record { added = g .added; audited = g .audited; grown = g .grown; holds = g .equal }
+
+pub cited-map : {P Q : Words → Type 0} {s s′ : Store} → ((w : Words) → P w → Q w) → Cited P s s′ → Cited Q s s′
+cited-map f c = record { added = c .added; audited = c .audited; grown = c .grown; holds = λ w r h. f w (c .holds w r h) }
+
+pub cited-then : {P Q R : Words → Type 0} {s s₁ s₂ : Store} → ((w : Words) → P w → Q w → R w) → Cited P s s₁ → Cited Q s₁ s₂ → Cited R s s₂
+cited-then {s = s} f p q = record {
+  added = record {
+    more = p .added .more ++ q .added .more;
+    is =
+        q .added .is ∙ ap (λ (x : Store). withReasons x (x .reasons ++ q .added .more)) (p .added .is)
+        ∙ ap (withReasons s) (append-assoc (s .reasons) (p .added .more) (q .added .more));
+  };
+  audited = q .audited;
+  grown = grown-then (p .grown) (q .grown);
+  holds = λ w r h.
+      f w (p .holds w r (holds-fewer (λ x k. Memᴰ·append-left (q .added .more) k) h))
+      (q .holds w (reading-on (p .added) r) (holds-on (p .added) (holds-fewer (λ x k. Memᴰ·append-right (p .added .more) k) h)));
+}
+
+-- under all the reasons at the end
+pub cited-all : {P : Words → Type 0} {s s′ : Store} → Cited P s s′ → Under s (s′ .reasons) P
+cited-all {s = s} {s′ = s′} c w r h =
+    c .holds w r (holds-fewer (λ x k. subst (List·Memᴰ x) (sym (added-reasons (c .added))) (Memᴰ·append-right (s .reasons) k)) h)
+
+-- EXPLAIN
+
+pub explain-ends : (a b : ℕ) (s : Store) → Audited s → isString s a ≡ true → isString s b ≡ true → sameClass s a b ≡ true → Ends (λ s′ u. Cited (λ w. w a ≡ w b) s s′) (explain a b s)
+explain-ends a b s d p q c = ends-by 7 (omega arith) (omega arith) (λ s′ u e. cited-gave (explain-gives s d a b p q c s′ u e)) (explain-stops s d a b p q c)

@@ -1,0 +1,144 @@
+-- Steps 3, 4 and 6: what constants rule out, and what a lone or an empty side gives.
+use mathlib.Core.Path.{_≡_, refl, sym, ap, _∙_}
+use mathlib.Core.Bool.{Bool, true, false, not, _&&_, _||_}
+use mathlib.Core.List.{List, [], _∷_, _++_, append-nil}
+use mathlib.Core.Logic.{⊎-elim}
+use mathlib.Core.Option.{Option, none, some}
+use Prim.Native.Nat.{ℕ, _≤_}
+use native.Mathlib.Omega.{arith}
+use lib.ListN.{length}
+use borrow.Author.Tests.{eqb-true, ltb-true, not-true}
+use Rattle.records.specs.Lists.{if_then_else_, all, firstOf, joined, isIn}
+use Rattle.records.specs.Store.{Store, isConstant, isVariable, text}
+use Rattle.records.specs.Rules.{isChar}
+use Rattle.records.specs.Make.{makeConstant}
+use Rattle.records.specs.Meaning.{Words, Reading}
+use Rattle.records.specs.Audited.{Audited}
+use Rattle.records.proofs.Lists.{both-left, both-right, either, clash, all-joined, word-same}
+use Rattle.records.proofs.Readings.{text-characters}
+use Rattle.records.proofs.Kept.{ConstantMade, constant-kept, constant-stops}
+use Rattle.records.proofs.Meant.{constant-word}
+use Rattle.normalize.proofs.Ends.{ends-give, ends-by, ends-if, ends-then}
+use Rattle.wordeq.specs.Wordeq.{conflict, answer, same, fixed, lettersOf, letters, unequal, short, absent, constants, isPlain, alias, emptiesAt, empties, assigns, differ, clashes}
+use Rattle.wordeq.proofs.Words.{fill-within, fill-in, any-in, differ-apart, empty-each, first-passing}
+use Rattle.wordeq.proofs.Ends.{Ends}
+use Rattle.wordeq.proofs.Cited.{cited-none}
+use Rattle.wordeq.proofs.Good.{Good, passes, later-none, later-made, Step, step-pass, step-conflict, step-propagate}
+use Rattle.wordeq.proofs.Tile.{fixed-word}
+
+-- no words make the sides equal
+abbrev Never : Store → List ℕ → List ℕ → Type 0
+Never s l r = (w : Words) → Reading s w → joined w l ≡ joined w r → ⊥
+
+-- 3
+
+letters-within : (s : Store) (w : Words) (l : List ℕ) → Reading s w → length (letters s l) ≤ length (joined w l)
+unfolding letters lettersOf
+letters-within s w l rd = fill-within (isConstant s) (text s) w (λ a e. rd .constants a (eqb-true _ _ e)) l
+
+letters-in : (s : Store) (w : Words) (l : List ℕ) (c : ℕ) → Reading s w → isIn c (letters s l) ≡ true → isIn c (joined w l) ≡ true
+unfolding letters lettersOf
+letters-in s w l c rd e = fill-in (isConstant s) (text s) w (λ a e. rd .constants a (eqb-true _ _ e)) l c e
+
+short-never : (s : Store) (l r : List ℕ) → short s l r ≡ true → Never s l r
+unfolding short
+short-never s l r e w rd z =
+    let p = fixed-word s w l rd (both-left _ _ e) in
+    let q = ltb-true (length (letters s l)) (length (letters s r)) (both-right (fixed s l) _ e) in
+    let k = letters-within s w r rd in
+    let n : length (letters s l) ≡ length (joined w r) = ap length (sym p ∙ z) in
+    omega arith
+
+absent-never : (s : Store) (l r : List ℕ) → absent s l r ≡ true → Never s l r
+unfolding absent
+absent-never s l r e w rd z =
+    let p = fixed-word s w l rd (both-left _ _ e) in
+    let k = any-in _ (letters s r) (both-right (fixed s l) _ e) in
+    clash {a = isIn (k .0) (letters s l)} (ap (isIn (k .0)) (sym p ∙ z) ∙ letters-in s w r (k .0) rd (k .2)) (not-true _ (k .1))
+
+unequal-never : (s : Store) (l r : List ℕ) → unequal s l r ≡ true → Never s l r
+unfolding unequal
+unequal-never s l r e w rd z =
+    let h = both-left (fixed s l && fixed s r) _ e in
+    let p = fixed-word s w l rd (both-left _ _ h) in
+    let q = fixed-word s w r rd (both-right (fixed s l) _ h) in
+    clash (word-same (letters s l) (letters s r) (sym p ∙ z ∙ q)) (not-true _ (both-right (fixed s l && fixed s r) _ e))
+
+never-step : {added : Bool} {l r : List ℕ} {s : Store} → Audited s → Never s l r → Ends (Good added l r s) (answer conflict s)
+never-step {s = s} d n = step-conflict (cited-none s d n)
+
+pub constants-step : {added : Bool} (l r : List ℕ) → Step added l r (constants l r)
+unfolding constants
+constants-step l r s d hl hr = ends-if _ _ _ (λ b. never-step d (never b)) (λ b. step-pass d)
+  where
+    turned : Never s r l → Never s l r
+    turned n w rd z = n w rd (sym z)
+
+    never : unequal s l r || short s l r || short s r l || absent s l r || absent s r l ≡ true → Never s l r
+    never b =
+        ⊎-elim (λ b₁. ⊎-elim (λ b₂. ⊎-elim (λ b₃. ⊎-elim (unequal-never s l r) (short-never s l r) (either _ _ b₃)) (λ h. turned (short-never s r l h)) (either _ _ b₂))
+        (absent-never s l r) (either _ _ b₁)) (λ h. turned (absent-never s r l h)) (either _ _ b)
+
+-- 4
+
+pub alias-step : {added : Bool} (l r : List ℕ) → Step added l r (alias l r)
+unfolding alias joined
+alias-step (a ∷ []) (b ∷ []) s d hl hr =
+    ends-if (isPlain s a && isPlain s b) _ _ (λ c. step-propagate a b false (later-none d) (λ w rd h z. sym (append-nil (w a)) ∙ z ∙ append-nil (w b))) (λ c. step-pass d)
+alias-step (a ∷ []) [] s d hl hr = step-pass d
+alias-step (a ∷ []) (b ∷ c ∷ r) s d hl hr = step-pass d
+alias-step [] r s d hl hr = step-pass d
+alias-step (a ∷ c ∷ l) r s d hl hr = step-pass d
+
+pub constant-ends : (c : List ℕ) (s : Store) → Audited s → all isChar c ≡ true → Ends (ConstantMade c s) (makeConstant c s)
+constant-ends c s d good = ends-by 8 (omega arith) (omega arith) (λ s′ t e. constant-kept c s s′ t d good e) (constant-stops c s)
+
+pub empties-step : {added : Bool} (l r : List ℕ) → Step added l r (empties l r)
+unfolding empties all joined
+empties-step [] [] s d hl hr = step-pass d
+empties-step [] (a ∷ []) s d hl hr = step-pass d
+empties-step (x ∷ l) r s d hl hr = step-pass d
+empties-step {added} [] (a ∷ b ∷ r) s d hl hr =
+    ends-if (all (isVariable s) (a ∷ b ∷ r)) _ _ (λ c. ends-then _ _ (constant-ends [] s d refl) (λ s₁ t m. by s₁ t m (firstOf (λ v. not (same s₁ v t)) (a ∷ b ∷ r)) refl)) (λ c. step-pass d)
+  where
+    by : (s₁ : Store) (t : ℕ) → ConstantMade [] s s₁ t → (y : Option ℕ) → firstOf (λ v. not (same s₁ v t)) (a ∷ b ∷ r) ≡ y → Ends (Good added [] (a ∷ b ∷ r) s) (emptiesAt t y s₁)
+    by s₁ t m none q = ends-give (passes (later-made (m .made)) (m .made .reasons))
+    by s₁ t m (some v) q =
+        step-propagate v t true (later-made (m .made))
+        (λ w rd h z. first-passing _ (a ∷ b ∷ r) v q (λ x. w x ≡ []) (empty-each w (a ∷ b ∷ r) (sym z)) ∙ sym (constant-word m rd))
+
+-- constants' characters are characters
+letters-characters : (s : Store) (l : List ℕ) → Audited s → all isChar (letters s l) ≡ true
+unfolding letters lettersOf all
+letters-characters s l d = all-joined isChar (lettersOf s) l (λ a. go a (isConstant s a))
+  where
+    go : (a : ℕ) (b : Bool) → all isChar (if b then text s a else []) ≡ true
+    go a true = text-characters s (d .recorded) a
+    go a false = refl
+
+pub assigns-step : {added : Bool} (l r : List ℕ) → Step added l r (assigns l r)
+unfolding assigns joined
+assigns-step [] r s d hl hr = step-pass d
+assigns-step (a ∷ b ∷ l) r s d hl hr = step-pass d
+assigns-step (a ∷ []) r s d hl hr =
+    ends-if (isVariable s a && fixed s r) _ _
+    (λ c. ends-then _ _ (constant-ends (letters s r) s d (letters-characters s r d)) (λ s₁ t m.
+    step-propagate a t false (later-made (m .made))
+    (λ w rd h z. sym (append-nil (w a)) ∙ z ∙ fixed-word s w r (m .made .grown .down w rd) (both-right (isVariable s a) _ c) ∙ sym (constant-word m rd))))
+    (λ c. step-pass d)
+
+-- 6
+
+pub clashes-step : {added : Bool} (l r : List ℕ) → Step added l r (clashes l r)
+unfolding clashes joined
+clashes-step [] r s d hl hr = step-pass d
+clashes-step (a ∷ l) [] s d hl hr = step-pass d
+clashes-step (a ∷ l) (b ∷ r) s d hl hr =
+    ends-if (isConstant s a && isConstant s b && differ (text s a) (text s b)) _ _ (λ c. never-step d (never c)) (λ c. step-pass d)
+  where
+    never : isConstant s a && isConstant s b && differ (text s a) (text s b) ≡ true → Never s (a ∷ l) (b ∷ r)
+    never c w rd z =
+        let h = both-left (isConstant s a && isConstant s b) _ c in
+        differ-apart (text s a) (text s b) (joined w l) (joined w r) (both-right (isConstant s a && isConstant s b) _ c)
+        (ap (λ (y : List ℕ). y ++ joined w l) (sym (rd .constants a (eqb-true _ _ (both-left _ _ h))))
+        ∙ z ∙ ap (λ (y : List ℕ). y ++ joined w r) (rd .constants b (eqb-true _ _ (both-right (isConstant s a) _ h))))

@@ -1,0 +1,11 @@
+pub mod Words
+pub mod Ends
+pub mod Cited
+pub mod Good
+pub mod Strip
+pub mod Occurs
+pub mod Tile
+pub mod Constants
+pub mod Split
+pub mod Resolve
+pub mod Equal

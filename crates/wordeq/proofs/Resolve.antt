@@ -1,0 +1,229 @@
+-- Demand 3 of wordeq: the steps in sequence.
+use mathlib.Core.Path.{_≡_, refl, sym, ap, subst, _∙_}
+use mathlib.Core.Bool.{Bool, true, false}
+use mathlib.Core.List.{List, [], _∷_, _++_, append-nil, List·Memᴰ, Memᴰ·append-left, Memᴰ·append-right}
+use mathlib.Core.Option.{Option, none, some}
+use Prim.Native.Nat.{ℕ}
+use native.Mathlib.Omega.{arith}
+use lib.ListN.{length, length-append}
+use lib.IntN.{ℤ}
+use lib.Dec.{ltb}
+use borrow.Author.Tests.{ltb-false}
+use Rattle.records.specs.Lists.{if_then_else_, all, any, joined}
+use Rattle.records.specs.Store.{Store, ok, stop, _>>=_, give, isConcat, isString}
+use Rattle.records.specs.Make.{withReasons}
+use Rattle.records.specs.Meaning
+use Rattle.records.specs.Meaning.{Words, Reading, Holds, True}
+use Rattle.records.specs.Audited.{Audited}
+use Rattle.records.proofs.Lists.{all-every, every-all, every-map}
+use Rattle.records.proofs.Grown.{Grown, grown-none, grown-then}
+use Rattle.records.proofs.Beside.{audited-beside, grown-beside, reading-beside}
+use Rattle.normalize.specs.Normalize.{flatten}
+use Rattle.normalize.proofs.Atoms.{Flat, flatten-flat, flatten-stops, flatten-atoms}
+use Rattle.normalize.proofs.Ends.{ends-give, ends-map, ends-by, ends-if, ends-then}
+use Rattle.normalize.proofs.Rewritten.{Strings, holds-fewer}
+use Rattle.wordeq.specs.Wordeq.{Answer, done, saturated, conflict, propagate, split, answer, after, isBare, orDone, steps, softened, closed, resolve}
+use Rattle.wordeq.specs.Meaning.{Chosen, Sound}
+use Rattle.wordeq.proofs.Ends.{Working, Ends}
+use Rattle.wordeq.proofs.Cited.{Under, holds-back, added-reasons}
+use Rattle.wordeq.proofs.Good.{More, more-none, Later, later-then, later-cited, joined-local, worth-back, Calm, Good, passes, answers, Step, step-else, step-flip}
+use Rattle.wordeq.proofs.Strip.{Apart, Stripped, strip-ends}
+use Rattle.wordeq.proofs.Occurs.{occurs-step}
+use Rattle.wordeq.proofs.Constants.{constants-step, alias-step, empties-step, assigns-step, clashes-step}
+use Rattle.wordeq.proofs.Tile.{tile-step}
+use Rattle.wordeq.proofs.Split.{splits-step}
+
+-- STEPS 2 TO 7
+
+pub after-step : (g : ℤ) (added : Bool) (l r : List ℕ) → Apart l r → Step added l r (after g added l r)
+unfolding after
+after-step g added l r n =
+    step-else _ _ (step-else _ _ (step-else _ _ (step-else _ _ (step-else _ _ (step-else _ _ (step-else _ _ (step-else _ _ (step-else _ _ (step-else _ _ (step-else _ _
+    (occurs-step l r) (step-flip (occurs-step r l)))
+    (constants-step l r))
+    (alias-step l r)) (empties-step l r)) (step-flip (empties-step r l))) (assigns-step l r)) (step-flip (assigns-step r l)))
+    (tile-step l r)) (step-flip (tile-step r l)))
+    (clashes-step l r))
+    (splits-step g added l r n)
+
+-- STEPS 1 TO 8
+
+-- a run of the steps; a Split adds no reason
+pub record Ran (l r : List ℕ) (s s′ : Store) (x : Answer) : Type 0 where
+  pub later : Later s s′
+  pub sound : Sound s s′ l r x
+  pub calm : Calm false s s′ x
+
+data Stepped (l r : List ℕ) (s s′ : Store) : Option Answer → Type 0 where
+  nothing : Later s s′ → Stepped l r s s′ none
+  something : {x : Answer} → Ran l r s s′ x → Stepped l r s s′ (some x)
+
+-- no reason more: the same reasons
+none-added : {A : Type 0} {l m : List A} → More l m → ltb (length l) (length m) ≡ false → m ≡ l
+none-added {A} {l} {m} a e = a .is ∙ go (a .more) (a .is)
+  where
+    go : (n : List A) → m ≡ l ++ n → l ++ n ≡ l
+    go [] p = append-nil l
+    go (x ∷ n) p =
+        let k = ap length p ∙ length-append l (x ∷ n) in
+        let h = ltb-false (length l) (length m) e in
+        absurd (omega arith)
+
+module _ (l r : List ℕ) (s : Store) (hl : Strings s l) (hr : Strings s r) where
+  -- what is sound of the stripped sides is sound of the sides
+  stepped : (added : Bool) (s₁ : Store) (v : List ℕ × List ℕ) → Stripped l r s s₁ v → ltb (length (s .reasons)) (length (s₁ .reasons)) ≡ added
+      → (s′ : Store) (o : Option Answer) → Good added (v .0) (v .1) s₁ s′ o → Stepped l r s s′ o
+  stepped added s₁ v t a s′ none (passes k e) = nothing (later-then (later-cited (t .cited)) k)
+  stepped added s₁ v t a s′ (some x) (answers k h c) =
+      something (record {
+        later = later-then (later-cited (t .cited)) k;
+        sound = worth-back x (λ w. joined w l) (λ w. joined w r) (λ w. joined w (v .0)) (λ w. joined w (v .1)) (t .cited .grown) (k .grown) (joined-local s hl) (joined-local s hr) sides h;
+        calm = calmed x c;
+      })
+    where
+      cited-here : (q : ℕ × ℕ) → List·Memᴰ q (t .cited .added .more) → List·Memᴰ q (s′ .reasons)
+      cited-here q m =
+          subst (List·Memᴰ q) (sym (k .reasons .is)) (Memᴰ·append-left (k .reasons .more) (subst (List·Memᴰ q) (sym (added-reasons (t .cited .added))) (Memᴰ·append-right (s .reasons) m)))
+
+      sides : Under s₁ (s′ .reasons) (λ w. joined w l ≡ joined w r → joined w (v .0) ≡ joined w (v .1))
+      sides w rd u = t .cited .holds w (t .cited .grown .down w rd) (holds-fewer cited-here (holds-back (t .cited .added) u))
+
+      calmed : (x : Answer) → Calm added s₁ s′ x → Calm false s s′ x
+      calmed done c = tt
+      calmed saturated c = tt
+      calmed conflict c = tt
+      calmed (propagate v y f) c = tt
+      calmed (split atoms g) c = (refl, c .1 ∙ none-added (later-cited (t .cited) .reasons) (a ∙ c .0))
+
+  pub steps-ends : (g : ℤ) → Audited s → Ends (Ran l r s) (steps g l r s)
+  unfolding steps
+  steps-ends g d = ends-then _ _ (strip-ends l r s d hl hr) (λ s₁ v t. ends-then orDone _ (tried s₁ v t) finished)
+    where
+      tried : (s₁ : Store) (v : List ℕ × List ℕ) → Stripped l r s s₁ v
+          → Ends (Stepped l r s) ((if isBare (v .0) (v .1) then answer done else after g (ltb (length (s .reasons)) (length (s₁ .reasons))) (v .0) (v .1)) s₁)
+      tried s₁ v t =
+          ends-if (isBare (v .0) (v .1)) _ _
+          (λ b. ends-give (something (record { later = later-cited (t .cited); sound = tt; calm = tt })))
+          (λ b. ends-map (stepped _ s₁ v t refl) (after-step g _ (v .0) (v .1) (t .apart) s₁ (t .cited .audited) (t .left) (t .right)))
+
+      finished : (s₂ : Store) (o : Option Answer) → Stepped l r s s₂ o → Ends (Ran l r s) (orDone o s₂)
+      finished s₂ none (nothing k) = ends-give (record { later = k; sound = tt; calm = tt })
+      finished s₂ (some x) (something k) = ends-give k
+
+-- FLATTENED
+
+record Flattened (l : List ℕ) (s s′ : Store) (m : List ℕ) : Type 0 where
+  flat : Flat s s′ l m
+  strings : Strings s m
+
+flatten-ends : (l : List ℕ) (s : Store) → Audited s → Strings s l → Ends (Flattened l s) (flatten l s)
+flatten-ends l s d h =
+    ends-by 6 (omega arith) (omega arith)
+    (λ s′ m e. record { flat = flatten-flat l s s′ m e; strings = every-map (λ a k. k .string) (flatten-atoms l s s′ m d (every-all h) e) })
+    (λ n e. flatten-stops l s n e .0)
+
+module _ (l r m n : List ℕ) (s : Store) (hl : Strings s l) (hr : Strings s r) (fl : (w : Words) → Reading s w → joined w l ≡ joined w m) (fr : (w : Words) → Reading s w → joined w r ≡ joined w n) where
+  ran-flat : (s′ : Store) (x : Answer) → Ran m n s s′ x → Ran l r s s′ (softened x)
+  ran-flat s′ x k = soft x (k .calm) (worth-back x (λ w. joined w l) (λ w. joined w r) (λ w. joined w m) (λ w. joined w n) (grown-none s) (k .later .grown) (joined-local s hl) (joined-local s hr)
+      (λ w rd h e. sym (fl w rd) ∙ e ∙ fr w rd) (k .sound))
+    where
+      soft : (x : Answer) → Calm false s s′ x → Sound s s′ l r x → Ran l r s s′ (softened x)
+      soft done c h = record { later = k .later; sound = h; calm = c }
+      soft saturated c h = record { later = k .later; sound = h; calm = c }
+      soft conflict c h = record { later = k .later; sound = tt; calm = tt }
+      soft (propagate v y f) c h = record { later = k .later; sound = h; calm = c }
+      soft (split atoms g) c h = record { later = k .later; sound = h; calm = c }
+
+-- CLOSED
+
+-- 'other answers return the incoming count'
+abbrev pub Incoming : Store → Store → Answer → Type 0
+Incoming s s′ done = s′ .reasons ≡ s .reasons
+Incoming s s′ saturated = s′ .reasons ≡ s .reasons
+Incoming s s′ conflict = Unit {0}
+Incoming s s′ (propagate v y f) = Unit {0}
+Incoming s s′ (split atoms g) = s′ .reasons ≡ s .reasons
+
+-- what resolve gives
+pub record Resolved (l r : List ℕ) (s s′ : Store) (x : Answer) : Type 0 where
+  pub later : Later s s′
+  pub sound : Sound s s′ l r x
+  pub incoming : Incoming s s′ x
+
+-- reasons cut back to those that came in
+pub later-cut : {s s₁ : Store} → Audited s → Later s s₁ → Later s (withReasons s₁ (s .reasons))
+later-cut {s} {s₁} d k =
+    let e = ap (λ (x : _). x .reasons) (k .room) in
+    let h = d .roomy .reasons in
+    record {
+      audited = audited-beside s₁ (s .reasons) (s₁ .keys) (s₁ .names) (k .audited) (d .recorded .reasons) (k .audited .recorded .keys) (omega arith) (k .audited .roomy .keys);
+      grown = grown-then (k .grown) (grown-beside s₁ (s .reasons) (s₁ .keys) (s₁ .names));
+      reasons = more-none refl;
+      keys = k .keys;
+      room = k .room;
+    }
+
+module _ (s₁ : Store) (rs : List (ℕ × ℕ)) where
+  true-cut : {w : Words} {a : ℕ} → True s₁ w a → True (withReasons s₁ rs) w a
+  true-cut (Meaning.True.equal p q) = Meaning.True.equal p q
+  true-cut (Meaning.True.long p q) = Meaning.True.long p q
+
+  chosen-cut : {s : Store} {w : Words} {atoms : List ℕ} → Chosen s s₁ w atoms → Chosen s (withReasons s₁ rs) w atoms
+  chosen-cut c = record {
+    words = c .words;
+    reading = reading-beside s₁ rs (s₁ .keys) (s₁ .names) (c .words) (c .reading);
+    agree = c .agree;
+    atom = c .atom;
+    listed = c .listed;
+    holds = true-cut (c .holds);
+  }
+
+closed-ends : (l r : List ℕ) (s s₁ : Store) → Audited s → (x : Answer) → Ran l r s s₁ x → Ends (Resolved l r s) (closed (s .reasons) x s₁)
+closed-ends l r s s₁ d done k = ends-give (record { later = later-cut d (k .later); sound = tt; incoming = refl })
+closed-ends l r s s₁ d saturated k = ends-give (record { later = later-cut d (k .later); sound = tt; incoming = refl })
+closed-ends l r s s₁ d conflict k = ends-give (record { later = k .later; sound = k .sound; incoming = tt })
+closed-ends l r s s₁ d (propagate v y f) k = ends-give (record { later = k .later; sound = k .sound; incoming = tt })
+closed-ends l r s s₁ d (split atoms g) k =
+    ends-give (record {
+      later = later-cut d (k .later);
+      sound = λ w rd h e. chosen-cut s₁ (s .reasons) (k .sound w rd (subst (λ (x : List (ℕ × ℕ)). Holds s x w) (sym (k .calm .1)) h) e);
+      incoming = refl;
+    })
+
+-- RESOLVE
+
+pub resolve-ends : (l r : List ℕ) (g : ℤ) (s : Store) → Audited s → Strings s l → Strings s r → Ends (Resolved l r s) (resolve l r g s)
+unfolding resolve
+resolve-ends l r g s d hl hr = ends-then _ _ ran (closed-from)
+  where
+    closed-from : (s₁ : Store) (x : Answer) → Ran l r s s₁ x → Ends (Resolved l r s) (closed (s .reasons) x s₁)
+    closed-from s₁ x k = closed-ends l r s s₁ d x k
+
+    flat : Ends (Ran l r s) ((flatten l >>= λ m. flatten r >>= λ n. steps g m n >>= λ y. give (softened y)) s)
+    flat =
+        ends-then _ _ (flatten-ends l s d hl) (λ s₁ m f. rw (f .flat .same-store)
+        (ends-then _ _ (flatten-ends r s d hr) (λ s₂ n h. rw (h .flat .same-store)
+        (ends-then _ _ (steps-ends m n s (f .strings) (h .strings) g d) (λ s₃ y k. ends-give (ran-flat l r m n s hl hr (f .flat .words) (h .flat .words) s₃ y k))))))
+
+    ran : Ends (Ran l r s) ((if any (isConcat s) (l ++ r) then (flatten l >>= λ m. flatten r >>= λ n. steps g m n >>= λ y. give (softened y)) else steps g l r) s)
+    ran = ends-if (any (isConcat s) (l ++ r)) _ _ (λ b. flat) (λ b. steps-ends l r s hl hr g d)
+
+module _ (l r : List ℕ) (g : ℤ) (s : Store) (audited : Audited s) (left : all (isString s) l ≡ true) (right : all (isString s) r ≡ true) where
+  ends : Ends (Resolved l r s) (resolve l r g s)
+  ends = resolve-ends l r g s audited (all-every _ l left) (all-every _ r right)
+
+  pub resolve-gives : (s′ : Store) (x : Answer) → resolve l r g s ≡ ok s′ x → Resolved l r s s′ x
+  resolve-gives s′ x e = ends .given s′ x e
+
+  pub resolve-sound : (s′ : Store) (x : Answer) → resolve l r g s ≡ ok s′ x → Sound s s′ l r x
+  resolve-sound s′ x e = resolve-gives s′ x e .sound
+
+  pub resolve-kept : (s′ : Store) (x : Answer) → resolve l r g s ≡ ok s′ x → Audited s′
+  resolve-kept s′ x e = resolve-gives s′ x e .later .audited
+
+  pub resolve-grown : (s′ : Store) (x : Answer) → resolve l r g s ≡ ok s′ x → Grown s s′
+  resolve-grown s′ x e = resolve-gives s′ x e .later .grown
+
+  -- it stops only with 6 to 9
+  pub resolve-stops : (n : ℕ) → resolve l r g s ≡ stop n → Working n
+  resolve-stops n e = ends .stopped n e
