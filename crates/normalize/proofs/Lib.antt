@@ -5,3 +5,4 @@ pub mod Ends
 pub mod Rewritten
 pub mod Formed
 pub mod Deep
+pub mod Pushing

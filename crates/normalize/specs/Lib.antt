@@ -1,4 +1,5 @@
 pub mod Normalize
+pub mod Meaning
 pub mod Flat
 pub mod Nodes
-pub mod Meaning
+pub mod Pushes

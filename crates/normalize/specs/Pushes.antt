@@ -1,0 +1,41 @@
+-- Working definitions: a list in the first words of a lent slice, atom by atom.
+use mathlib.Core.Bool.{Bool, false, _&&_}
+use mathlib.Core.List.{List, [], _∷_, reverse}
+use Prim.Native.Nat.{ℕ}
+use lib.ListN.{take}
+use lib.Dec.{eqb}
+use Rattle.records.specs.Lists.{if_then_else_}
+use Rattle.records.specs.Store.{Term, Out, ok, stop, Work, _>>=_, give, termIn}
+use Rattle.records.specs.View.{Lent, storeOf}
+use Rattle.engine.specs.Explain.{explain}
+use Rattle.normalize.specs.Normalize.{push}
+use Rattle.normalize.specs.Nodes.{isConstantIn}
+use Rattle.normalize.specs.declared.Form.{Form}
+use Rattle.normalize.specs.declared.Form.the-variants as form
+
+-- the answer of a normal form: the first words of the slice
+abbrev pub formed : Form → Lent → List ℕ → Out (List ℕ)
+formed (form.List n c) m l = ok (storeOf m c) (take n l)
+formed (form.Refused k) m l = stop k
+
+-- the same where the list stands last atom first
+abbrev pub pushed : Form → Lent → List ℕ → Out (List ℕ)
+pushed (form.List n c) m l = ok (storeOf m c) (reverse (take n l))
+pushed (form.Refused k) m l = stop k
+
+-- "": a constant of no characters
+unfoldable pub isEmptyIn : List Term → ℕ → Bool
+isEmptyIn ts t = isConstantIn ts t && eqb (termIn ts t .second) 0
+
+-- the atom and the one before it are constants
+unfoldable pub joinsIn : List Term → ℕ → List ℕ → Bool
+joinsIn ts t [] = false
+joinsIn ts t (u ∷ out) = isConstantIn ts t && isConstantIn ts u
+
+-- 'Explain (atom, representative) where they differ'
+unfoldable pub cite : ℕ → ℕ → Work (Unit {0})
+cite a r = if eqb r a then give tt else explain a r
+
+-- an atom replaced by r, then dropped or joined
+unfoldable pub pushFor : ℕ → ℕ → List ℕ → Work (List ℕ)
+pushFor a r out = cite a r >>= (λ u. push r out)
