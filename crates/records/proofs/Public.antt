@@ -7,7 +7,9 @@ use Rattle.records.specs.declared.State.{State}
 use Rattle.records.specs.Store.{Store, Out, stop, Work}
 use Rattle.records.specs.View.{Lent, storeOf}
 use Rattle.records.specs.Rules.{audit}
+use Rattle.records.specs.Audited.{Ready}
 use Rattle.records.specs.Calls.{call, checked, unless, Public, Working}
+use Rattle.records.proofs.Passed.{ready-of}
 
 module _ {A : Type 0} (fit : Store → Bool) (work : Work A) (m : Lent) (c : State) (k : ℕ) (verdict : k ≡ audit m c) where
   pub call-unready : (k ≡ 0 → ⊥) → Public (call fit work m c) m m c (stop k)
@@ -31,3 +33,7 @@ module _ {A : Type 0} (fit : Store → Bool) (work : Work A) (m : Lent) (c : Sta
         let a : audit m c ≡ 0 = sym verdict ∙ ready in
         let g : fit (storeOf m c) ≡ true = sym e ∙ f in
         record { says = rw (a, g) (sym (w .says)); idle = λ j h l. let q = stops j (w .says ∙ h) in absurd (omega arith); kept = w .kept }
+
+-- where the audit passes, what the work requires holds
+pub passed-ready : (m : Lent) (c : State) (k : ℕ) → k ≡ audit m c → k ≡ 0 → Ready m c
+passed-ready m c k verdict ready = ready-of m c (sym verdict ∙ ready)

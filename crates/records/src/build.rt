@@ -1,12 +1,16 @@
 // Making concatenations, lengths and equations: the lowest-numbered equal record, else one appended.
 ghost use mathlib.Core.Path.{_≡_};
+ghost use mathlib.Core.Bool.{_&&_};
 ghost use Prim.Native.Nat.{ℕ, suc, _≤_};
+ghost use lib.Dec.{leb};
+ghost use lib.ListN.{length};
 ghost use Rattle.records.specs.Lists.{sameWord, firsts, firstBelow};
-ghost use Rattle.records.specs.Store.{chainIn};
+ghost use Rattle.records.specs.Store.{chainIn, isString};
 ghost use Rattle.records.specs.View.{termLimit, cellsView, lent};
+ghost use Rattle.records.specs.Rules.{isList, isEquatable};
 ghost use Rattle.records.specs.Make.{numberOf, appendParts, hasParts, hasSides, makeSides, makeConcat, makeLength, makeEquation};
 ghost use Rattle.records.specs.Audited.{Ready, Sized, Ascends};
-ghost use Rattle.records.specs.Calls.{Working, made};
+ghost use Rattle.records.specs.Calls.{call, Public, Working, made};
 use crate::Made;
 use crate::State;
 use crate::fields::first;
@@ -18,6 +22,9 @@ use crate::put::cells_fit;
 use crate::put::put_chain_unchecked;
 use crate::put::put_term_unchecked;
 use crate::put::term_fits;
+use crate::rules::is_equatable;
+use crate::rules::is_list;
+use crate::rules::is_string;
 use crate::rules::is_within;
 
 // Whether the values of the chain from cell c on are l: a chain that goes on past l's end has more of them.
@@ -194,4 +201,73 @@ pub fn make_equation_unchecked(
     ensures { λ r. ⌜ Working (makeEquation a b) (lent (now (terms .entry)) (now (cells .entry)) (now (chars .entry)) (now (reasons .entry)) (now (keys .entry))) (lent (now (terms .exit)) (now (cells .entry)) (now (chars .entry)) (now (reasons .entry)) (now (keys .entry))) c (made r (lent (now (terms .exit)) (now (cells .entry)) (now (chars .entry)) (now (reasons .entry)) (now (keys .entry)))) ⌝ }
 {
     make_sides(terms, cells, chars, reasons, keys, c, 5, a, b)
+}
+
+// The public calls: the audit, the arguments, then the work.
+
+pub fn make_concatenation(
+    terms: &mut [u32],
+    cells: &mut [u32],
+    chars: &[u32],
+    reasons: &[u32],
+    keys: &[u32],
+    c: State,
+    l: &[u32],
+) -> Made
+    ensures { λ r. ⌜ Public (call (λ s. leb 2 (length (now (l .entry))) && isList s (now (l .entry))) (makeConcat (now (l .entry))) (lent (now (terms .entry)) (now (cells .entry)) (now (chars .entry)) (now (reasons .entry)) (now (keys .entry))) c) (lent (now (terms .entry)) (now (cells .entry)) (now (chars .entry)) (now (reasons .entry)) (now (keys .entry))) (lent (now (terms .exit)) (now (cells .exit)) (now (chars .entry)) (now (reasons .entry)) (now (keys .entry))) c (made r (lent (now (terms .exit)) (now (cells .exit)) (now (chars .entry)) (now (reasons .entry)) (now (keys .entry)))) ⌝ }
+{
+    let k = crate::audit(terms, cells, chars, reasons, keys, c);
+    if k != 0 {
+        return Made::Refused(k);
+    }
+    if l.len() < 2 {
+        return Made::Refused(5);
+    }
+    if is_list(terms, c, l) {
+        return make_concatenation_unchecked(terms, cells, chars, reasons, keys, c, l);
+    }
+    Made::Refused(5)
+}
+
+pub fn make_length(
+    terms: &mut [u32],
+    cells: &[u32],
+    chars: &[u32],
+    reasons: &[u32],
+    keys: &[u32],
+    c: State,
+    t: u32,
+) -> Made
+    ensures { λ r. ⌜ Public (call (λ s. isString s t) (makeLength t) (lent (now (terms .entry)) (now (cells .entry)) (now (chars .entry)) (now (reasons .entry)) (now (keys .entry))) c) (lent (now (terms .entry)) (now (cells .entry)) (now (chars .entry)) (now (reasons .entry)) (now (keys .entry))) (lent (now (terms .exit)) (now (cells .entry)) (now (chars .entry)) (now (reasons .entry)) (now (keys .entry))) c (made r (lent (now (terms .exit)) (now (cells .entry)) (now (chars .entry)) (now (reasons .entry)) (now (keys .entry)))) ⌝ }
+{
+    let k = crate::audit(terms, cells, chars, reasons, keys, c);
+    if k != 0 {
+        return Made::Refused(k);
+    }
+    if is_string(terms, c.terms, t) {
+        return make_length_unchecked(terms, cells, chars, reasons, keys, c, t);
+    }
+    Made::Refused(5)
+}
+
+pub fn make_equation(
+    terms: &mut [u32],
+    cells: &[u32],
+    chars: &[u32],
+    reasons: &[u32],
+    keys: &[u32],
+    c: State,
+    a: u32,
+    b: u32,
+) -> Made
+    ensures { λ r. ⌜ Public (call (λ s. isEquatable s a b) (makeEquation a b) (lent (now (terms .entry)) (now (cells .entry)) (now (chars .entry)) (now (reasons .entry)) (now (keys .entry))) c) (lent (now (terms .entry)) (now (cells .entry)) (now (chars .entry)) (now (reasons .entry)) (now (keys .entry))) (lent (now (terms .exit)) (now (cells .entry)) (now (chars .entry)) (now (reasons .entry)) (now (keys .entry))) c (made r (lent (now (terms .exit)) (now (cells .entry)) (now (chars .entry)) (now (reasons .entry)) (now (keys .entry)))) ⌝ }
+{
+    let k = crate::audit(terms, cells, chars, reasons, keys, c);
+    if k != 0 {
+        return Made::Refused(k);
+    }
+    if is_equatable(terms, c, a, b) {
+        return make_equation_unchecked(terms, cells, chars, reasons, keys, c, a, b);
+    }
+    Made::Refused(5)
 }
