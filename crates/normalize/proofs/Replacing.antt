@@ -17,7 +17,7 @@ use Rattle.records.specs.Store.{Term, Store, Out, ok, stop, Work, andThen, _>>=
 use Rattle.records.specs.View.{Lent, lent, storeOf, termsView, termLimit}
 use Rattle.records.specs.Audited.{Ready, Closed}
 use Rattle.records.specs.Calls.{Working, added}
-use Rattle.records.proofs.Lists.{both-left, both-right, both-true, all-every, every-map, every-at, within-low, within-high, table-length}
+use Rattle.records.proofs.Lists.{both-left, both-right, both-true, all-every, every-all, every-map, every-at, within-low, within-high, table-length}
 use Rattle.records.proofs.Grown.{string-term, string-here}
 use Rattle.records.proofs.Climbs.{root-term, view-count, term-within, ready-roots}
 use Rattle.engine.specs.Explain.{explain, explainArguments}
@@ -74,7 +74,7 @@ pub every-right : {P : ℕ → Type 0} (l m : List ℕ) → Every P (l ++ m) →
 every-right [] m k = k
 every-right (a ∷ l) m (and p k) = every-right l m k
 
-drop-past : (l : List ℕ) (i : ℕ) → length l ≤ i → drop i l ≡ []
+pub drop-past : (l : List ℕ) (i : ℕ) → length l ≤ i → drop i l ≡ []
 drop-past [] zero h = refl
 drop-past [] (suc i) h = refl
 drop-past (x ∷ l) zero h = absurd (omega arith)
@@ -104,6 +104,9 @@ module _ {s s′ : Store} {cs table : List ℕ} (k : Candidates s cs table) (l :
     where
       same : (t : ℕ) → isString s t ≡ true → (rootIn (s′ .terms) t ≡ rootIn (s .terms) t) × (termIn (s′ .terms) t .kind ≡ termIn (s .terms) t .kind)
       same t e = (l .grown .roots t (string-term s t e), ap (λ (x : Term). x .kind) (l .grown .old t (string-here s t e)))
+
+  pub candidates-later : Candidates s′ cs table
+  candidates-later = record { strings = every-all later-strings; nodes = later-nodes }
 
   -- the table's answer for an atom is its representative
   pub later-rep : (a : ℕ) → isString s′ a ≡ true → count s′ ≤ termLimit → nodeAt (s′ .terms) table a ≡ representative s′ cs a

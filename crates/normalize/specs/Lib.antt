@@ -3,3 +3,4 @@ pub mod Meaning
 pub mod Flat
 pub mod Nodes
 pub mod Pushes
+pub mod Deeps

@@ -101,7 +101,7 @@ fn push_forms(
 }
 
 // The normal form of t. The table is that of the known list.
-fn form_by(
+pub(crate) fn form_by(
     terms: &mut [u32],
     cells: &[u32],
     chars: &mut [u32],
