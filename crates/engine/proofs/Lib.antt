@@ -8,3 +8,4 @@ pub mod Walk
 pub mod Equal
 pub mod Sound
 pub mod Turns
+pub mod EngineCalls

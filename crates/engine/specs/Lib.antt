@@ -1,3 +1,4 @@
+pub mod Calls
 pub mod Explain
 pub mod Marks
 pub mod Meaning

@@ -7,20 +7,50 @@ ghost use Rattle.records.specs.View.{pairsView};
 ghost use Rattle.engine.specs.Explain.{walked, edge};
 ghost use Rattle.engine.specs.Marks.{place, marked, Marked};
 ghost use Rattle.engine.specs.Walks.{Walkable, Together, Edge, Walks, Gives, Explainable, Explained};
-ghost use Rattle.engine.specs.Explain.{explain, explainArguments};
+ghost use Rattle.engine.specs.Explain.{find, findArguments, explain, explainArguments};
+ghost use Rattle.engine.specs.Calls.{found, PublicExplain};
 ghost use Rattle.records.specs.View.{lent, storeOf};
 ghost use Rattle.records.specs.Audited.{Ready};
-ghost use Rattle.records.specs.Calls.{Working, added};
+ghost use Rattle.records.specs.Calls.{Working, Public, call, added};
 use records::Added;
 use records::State;
 use records::classes;
 use records::fields;
 use records::put;
+use records::rules;
 
 // How far a walk came: 0 and the count of reasons, or the refusal.
 pub struct Walked {
     pub code: u32,
     pub count: usize,
+}
+
+// What find answers.
+pub enum Found {
+    Root(u32),
+    Refused(u32),
+}
+
+// The root of a term's class.
+pub fn find(
+    terms: &[u32],
+    cells: &[u32],
+    chars: &[u32],
+    reasons: &[u32],
+    keys: &[u32],
+    c: State,
+    t: u32,
+) -> Found
+    ensures { λ r. ⌜ Public (call (findArguments t) (find t) (lent (now (terms .entry)) (now (cells .entry)) (now (chars .entry)) (now (reasons .entry)) (now (keys .entry))) c) (lent (now (terms .entry)) (now (cells .entry)) (now (chars .entry)) (now (reasons .entry)) (now (keys .entry))) (lent (now (terms .entry)) (now (cells .entry)) (now (chars .entry)) (now (reasons .entry)) (now (keys .entry))) c (found r (lent (now (terms .entry)) (now (cells .entry)) (now (chars .entry)) (now (reasons .entry)) (now (keys .entry))) c) ⌝ }
+{
+    let k = records::audit(terms, cells, chars, reasons, keys, c);
+    if k != 0 {
+        return Found::Refused(k);
+    }
+    if !rules::is_string(terms, c.terms, t) {
+        return Found::Refused(5);
+    }
+    Found::Root(classes::root_unchecked(terms, c.terms, t))
 }
 
 // The place of the pair {a, b} in a table for numbers up to n.
@@ -260,4 +290,50 @@ pub fn explain_unchecked(
         keys: c.keys,
         names: c.names,
     })
+}
+
+// Two string terms of one class.
+fn can_explain(
+    terms: &[u32],
+    cells: &[u32],
+    chars: &[u32],
+    reasons: &[u32],
+    keys: &[u32],
+    c: State,
+    a: u32,
+    b: u32,
+) -> bool
+    requires { ⌜ Ready (lent (now terms) (now cells) (now chars) (now reasons) (now keys)) c ⌝ }
+    ensures { λ r. ⌜ r ≡ explainArguments a b (storeOf (lent (now (terms .entry)) (now (cells .entry)) (now (chars .entry)) (now (reasons .entry)) (now (keys .entry))) c) ⌝ }
+{
+    if !rules::is_string(terms, c.terms, a) {
+        return false;
+    }
+    if !rules::is_string(terms, c.terms, b) {
+        return false;
+    }
+    classes::root_unchecked(terms, c.terms, a) == classes::root_unchecked(terms, c.terms, b)
+}
+
+// The reasons why two terms of one class are equal, after those that are there.
+pub fn explain(
+    terms: &[u32],
+    cells: &[u32],
+    chars: &[u32],
+    reasons: &mut [u32],
+    keys: &[u32],
+    c: State,
+    a: u32,
+    b: u32,
+) -> Added
+    ensures { λ r. ⌜ PublicExplain a b (lent (now (terms .entry)) (now (cells .entry)) (now (chars .entry)) (now (reasons .entry)) (now (keys .entry))) (lent (now (terms .entry)) (now (cells .entry)) (now (chars .entry)) (now (reasons .exit)) (now (keys .entry))) c (added r (lent (now (terms .entry)) (now (cells .entry)) (now (chars .entry)) (now (reasons .exit)) (now (keys .entry)))) ⌝ }
+{
+    let k = records::audit(terms, cells, chars, reasons, keys, c);
+    if k != 0 {
+        return Added::Refused(k);
+    }
+    if !can_explain(terms, cells, chars, reasons, keys, c, a, b) {
+        return Added::Refused(5);
+    }
+    explain_unchecked(terms, cells, chars, reasons, keys, c, a, b)
 }
