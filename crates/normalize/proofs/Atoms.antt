@@ -7,16 +7,17 @@ use native.Mathlib.Omega.{arith}
 use lib.ListN.{length}
 use lib.Dec.{eqb, leb}
 use borrow.Author.Tests.{eqb-true, leb-true, leb-false, le-leb, lt-leb}
-use Rattle.records.specs.Lists.{if_then_else_, all, joined, Every, none-left, and}
-use Rattle.records.specs.Store.{Term, Store, ok, stop, give, refuse, kind, isString, isConcat, parts}
+use Rattle.records.specs.Lists.{if_then_else_, all, joined, firsts, Every, none-left, and}
+use Rattle.records.specs.Store.{Term, Cell, Store, ok, stop, give, refuse, kind, isString, isConcat, term, termIn, chainIn, parts}
 use Rattle.records.specs.Meaning.{Words, Reading}
-use Rattle.records.specs.Audited.{Audited}
+use Rattle.records.specs.Audited.{Recorded, Audited}
 use Rattle.records.proofs.Lists.{decide, clash, joined-append, joined-same, every-map, every-append, all-every}
 use Rattle.records.proofs.Works.{stop-not, branch}
 use Rattle.records.proofs.Grown.{term-zero}
 use Rattle.records.proofs.Readings.{parts-lower, parts-strings}
 use Rattle.engine.proofs.Paths.{every-both}
 use Rattle.normalize.specs.Normalize.{atomsBy, atoms, flatten, listLimit}
+use Rattle.normalize.specs.Flat.{Nested}
 
 -- LISTS
 
@@ -81,7 +82,9 @@ pub record Atom (s : Store) (a : ℕ) : Type 0 where
   pub string : isString s a ≡ true
   pub plain : isConcat s a ≡ false
 
-module _ (s : Store) (audited : Audited s) where
+-- WITHOUT FUEL
+
+module _ (s : Store) (nested : Nested s) where
   -- fuel no lower than the term's number is enough
   enough : (n m t : ℕ) → t ≤ n → t ≤ m → atomsBy n s t ≡ atomsBy m s t
   enough zero m t h k = none-plain s zero m t (omega arith)
@@ -89,19 +92,46 @@ module _ (s : Store) (audited : Audited s) where
   enough (suc n) (suc m) t h k =
       decide (isConcat s t)
       (λ e. atomsBy-concat s n t e
-      ∙ joined-same (atomsBy n s) (atomsBy m s) (every-map (λ p i. enough n m p (omega arith) (omega arith)) (parts-lower s (audited .recorded) t (eqb-true _ _ e)))
+      ∙ joined-same (atomsBy n s) (atomsBy m s) (every-map (λ p i. enough n m p (omega arith) (omega arith)) (nested .lower t e))
       ∙ sym (atomsBy-concat s m t e))
       (λ e. atomsBy-plain s (suc n) t e ∙ sym (atomsBy-plain s (suc m) t e))
 
   concat-atoms : (n t : ℕ) → t ≡ suc n → isConcat s t ≡ true → atomsBy t s t ≡ joined (atoms s) (parts s t)
   concat-atoms n t i e =
       ap (λ (f : ℕ). atomsBy f s t) i ∙ atomsBy-concat s n t e
-      ∙ joined-same (atomsBy n s) (λ p. atoms s p) (every-map (λ p h. enough n p p (omega arith) (omega arith)) (parts-lower s (audited .recorded) t (eqb-true _ _ e)))
+      ∙ joined-same (atomsBy n s) (λ p. atoms s p) (every-map (λ p h. enough n p p (omega arith) (omega arith)) (nested .lower t e))
 
   -- a concatenation's atoms are those of its parts in order
+  pub nested-atoms : (t : ℕ) → isConcat s t ≡ true → atoms s t ≡ joined (atoms s) (parts s t)
+  nested-atoms zero e = clash e (zero-plain s)
+  nested-atoms (suc n) e = concat-atoms n (suc n) refl e
+
+pub recorded-nested : (s : Store) → Recorded s → Nested s
+recorded-nested s r = record { ascends = r .nexts; lower = λ t e. parts-lower s r t (eqb-true _ _ e) }
+
+-- stores of the same terms and cells have the same atoms
+module _ (s s′ : Store) (p : s′ .terms ≡ s .terms) (q : s′ .cells ≡ s .cells) where
+  concat-is : (t : ℕ) → isConcat s′ t ≡ isConcat s t
+  concat-is t = ap (λ (ts : List Term). eqb (termIn ts t .kind) 3) p
+
+  parts-are : (t : ℕ) → parts s′ t ≡ parts s t
+  parts-are t = ap (λ (ts : List Term). firsts (chainIn (s′ .cells) (termIn ts t .first))) p ∙ ap (λ (cs : List Cell). firsts (chainIn cs (term s t .first))) q
+
+  same-by : (n t : ℕ) → atomsBy n s′ t ≡ atomsBy n s t
+  unfolding atomsBy
+  same-by zero t = refl
+  same-by (suc n) t =
+      decide (isConcat s t)
+      (λ e. atomsBy-concat s′ n t (concat-is t ∙ e) ∙ joined-same (atomsBy n s′) (atomsBy n s) (every-of (parts s′ t) (same-by n)) ∙ ap (joined (atomsBy n s)) (parts-are t) ∙ sym (atomsBy-concat s n t e))
+      (λ e. atomsBy-plain s′ (suc n) t (concat-is t ∙ e) ∙ sym (atomsBy-plain s (suc n) t e))
+
+  pub same-atoms : (t : ℕ) → atoms s′ t ≡ atoms s t
+  same-atoms t = same-by t t
+
+module _ (s : Store) (audited : Audited s) where
+  -- a concatenation's atoms are those of its parts in order
   pub atoms-is : (t : ℕ) → isConcat s t ≡ true → atoms s t ≡ joined (atoms s) (parts s t)
-  atoms-is zero e = clash e (zero-plain s)
-  atoms-is (suc n) e = concat-atoms n (suc n) refl e
+  atoms-is t e = nested-atoms s (recorded-nested s (audited .recorded)) t e
 
   atoms-below : (n t : ℕ) → t < n → isString s t ≡ true → Every (Atom s) (atoms s t)
   atoms-below zero t h e = absurd (omega arith)

@@ -1,4 +1,4 @@
--- The ways of flattening: atoms without fuel, an atom appended, and the loop over a chain.
+-- The ways of flattening: an atom appended, and the loop over a chain.
 use mathlib.Core.Path.{_≡_, refl, sym, ap, subst, _∙_}
 use mathlib.Core.Bool.{Bool, true, false}
 use mathlib.Core.List.{List, [], _∷_, _++_, append-nil, append-assoc}
@@ -18,36 +18,7 @@ use Rattle.records.proofs.Views.{first-at, value-at, next-at}
 use Rattle.records.proofs.Grown.{term-zero, kind-term}
 use Rattle.normalize.specs.Normalize.{listLimit, atomsBy, atoms}
 use Rattle.normalize.specs.Flat.{bare, Nested, Appended}
-
--- ATOMS WITHOUT FUEL
-
-module _ (s : Store) where
-  plain-by : (n t : ℕ) → isConcat s t ≡ false → atomsBy n s t ≡ t ∷ []
-  unfolding atomsBy
-  plain-by zero t e = refl
-  plain-by (suc n) t e = rw (atomsBy, e)
-
-  concat-by : (n t : ℕ) → isConcat s t ≡ true → atomsBy (suc n) s t ≡ joined (atomsBy n s) (parts s t)
-  unfolding atomsBy
-  concat-by n t e = rw (atomsBy, e)
-
-  none-plain : (t : ℕ) → t ≡ 0 → isConcat s t ≡ false
-  none-plain t z = ap (λ (x : ℕ). isConcat s x) z ∙ ap (λ (x : Term). eqb (x .kind) 3) (term-zero s)
-
-  module _ (h : Nested s) where
-    enough : (n m t : ℕ) → t ≤ n → t ≤ m → atomsBy n s t ≡ atomsBy m s t
-    enough zero m t p q = let e = none-plain t (omega arith) in plain-by zero t e ∙ sym (plain-by m t e)
-    enough (suc n) zero t p q = let e = none-plain t (omega arith) in plain-by (suc n) t e ∙ sym (plain-by zero t e)
-    enough (suc n) (suc m) t p q =
-        decide (isConcat s t)
-        (λ e. concat-by n t e ∙ joined-same (atomsBy n s) (atomsBy m s) (every-map (λ x i. enough n m x (omega arith) (omega arith)) (h .lower t e)) ∙ sym (concat-by m t e))
-        (λ e. plain-by (suc n) t e ∙ sym (plain-by (suc m) t e))
-
-    -- a concatenation's atoms are those of its parts in order
-    pub concat-atoms : (t : ℕ) → isConcat s t ≡ true → atoms s t ≡ joined (λ x. atoms s x) (parts s t)
-    concat-atoms zero e = clash e (none-plain 0 refl)
-    concat-atoms (suc n) e =
-        concat-by n (suc n) e ∙ joined-same (atomsBy n s) (λ x. atoms s x) (every-map (λ x i. enough n x x (omega arith) (omega arith)) (h .lower (suc n) e))
+use Rattle.normalize.proofs.Atoms.{atoms-plain, nested-atoms}
 
 -- APPENDING
 
@@ -71,7 +42,7 @@ module _ (l : List ℕ) (n : ℕ) (e : List ℕ) (m : ℕ) where
   s = bare l n e m
 
   pub one-atom : (out out′ : List ℕ) (count t r k : ℕ) → k ≡ kind s t → (k ≡ 3 → ⊥) → Appended out out′ count (t ∷ []) r → Appended out out′ count (atoms s t) r
-  one-atom out out′ count t r k i d a = rw (plain-by s t t (ne-eqb (kind s t) 3 (λ q. d (i ∙ q)))) a
+  one-atom out out′ count t r k i d a = rw (atoms-plain s t (ne-eqb (kind s t) 3 (λ q. d (i ∙ q)))) a
 
   -- what is left of the chain, after the atoms so far, is what is asked
   pub record Left (out₀ out : List ℕ) (count t at k : ℕ) : Type 0 where
@@ -95,7 +66,7 @@ module _ (l : List ℕ) (n : ℕ) (e : List ℕ) (m : ℕ) where
         let p : firsts (chain s at) ≡ parts s t = ap (λ (x : ℕ). firsts (chain s x)) (first-at l n t at (counted t (kind-term s t 2 (sym i ∙ d))) f) in
         record {
           from = h;
-          words = ap (λ (w : List ℕ). take count out ++ w) (ap (joined (λ x. atoms s x)) p ∙ sym (concat-atoms s nested t q));
+          words = ap (λ (w : List ℕ). take count out ++ w) (ap (joined (λ x. atoms s x)) p ∙ sym (nested-atoms s nested t q));
           lower = subst (Every (λ p. p < t)) (sym p) (nested .lower t q);
         }
 

@@ -6,3 +6,6 @@ pub mod Rewritten
 pub mod Formed
 pub mod Deep
 pub mod Pushing
+pub mod Carried
+pub mod Replacing
+pub mod Forming

@@ -5,45 +5,51 @@ use mathlib.Core.List.{List, [], _∷_, _++_, append-nil, reverse, reverse-appen
 use Prim.Native.Nat.{ℕ, zero, suc, _+_, _-_, _*_, _≤_, _<_}
 use native.Mathlib.Numerals.{add-one}
 use native.Mathlib.Omega.{arith}
-use lib.ListN.{length, take, getD, set}
-use lib.Seq.{take-suc, take-suc-set}
+use lib.ListN.{length, getD, set}
+use lib.Seq.{getD-set-same, getD-set-other}
 use lib.Dec.{eqb}
 use borrow.Author.Tests.{eqb-true, eq-eqb, ne-eqb}
 use Rattle.records.specs.declared.State.{State}
 use Rattle.records.specs.declared.Made.{Made}
 use Rattle.records.specs.declared.Made.the-variants.{Term, Refused}
-use Rattle.records.specs.Lists.{if_then_else_, all, joined}
+use Rattle.records.specs.Lists.{if_then_else_, all, joined, table}
 use Rattle.records.specs.Store.{Store, Term as TermOf, Out, ok, stop, Work, andThen, _>>=_, give, within, kind, term, termIn, isConstant, textIn, text}
 use Rattle.records.specs.View.{Lent, lent, storeOf, termsView, termAt}
 use Rattle.records.specs.Make.{makeConstant}
 use Rattle.records.specs.Audited.{Recorded, Ready}
 use Rattle.records.specs.Calls.{Working, made}
-use Rattle.records.proofs.Lists.{both-left, both-right, both-true, left-false, clash, decide, table-length}
+use Rattle.records.proofs.Lists.{both-left, both-right, both-true, left-false, clash, decide, table-length, table-suc, table-same}
 use Rattle.records.proofs.Views.{second-at, text-span}
 use Rattle.records.proofs.Grown.{kind-term}
 use Rattle.normalize.specs.Normalize.{join, push}
 use Rattle.normalize.specs.Nodes.{isConstantIn}
 use Rattle.normalize.specs.Flat.{bare}
-use Rattle.normalize.specs.Pushes.{isEmptyIn, joinsIn}
+use Rattle.normalize.specs.Pushes.{firstWords, isEmptyIn, joinsIn}
 
 -- THE LIST IN THE SLICE, LAST ATOM FIRST
 
-module _ (l : List ℕ) (n : ℕ) where
+module _ (l : List ℕ) where
   snoc : (w : List ℕ) (x : ℕ) → reverse (w ++ x ∷ []) ≡ x ∷ reverse w
   snoc w x = reverse-append w (x ∷ [])
 
-  pub last-first : 0 < n → n ≤ length l → reverse (take n l) ≡ getD l (n - 1) 0 ∷ reverse (take (n - 1) l)
-  last-first p h =
-      let e : n ≡ suc (n - 1) = omega arith in
-      ap (λ (k : ℕ). reverse (take k l)) e ∙ ap reverse (take-suc l (n - 1) 0 (omega arith)) ∙ snoc (take (n - 1) l) (getD l (n - 1) 0)
+  words-put : (n x : ℕ) → n < length l → firstWords (set l n x) (suc n) ≡ firstWords l n ++ x ∷ []
+  words-put n x h =
+      table-suc (λ i. getD (set l n x) i 0) n ∙ ap (λ (w : List ℕ). w ++ getD (set l n x) n 0 ∷ []) (table-same _ _ n (λ i k. getD-set-other l n i x 0 (λ e. omega arith)))
+      ∙ ap (λ (y : ℕ). firstWords l n ++ y ∷ []) (getD-set-same l n x 0 h)
 
-  pub put-last : (u : ℕ) → 0 < n → n ≤ length l → reverse (take n (set l (n - 1) u)) ≡ u ∷ reverse (take (n - 1) l)
-  put-last u p h =
-      let e : n ≡ suc (n - 1) = omega arith in
-      ap (λ (k : ℕ). reverse (take k (set l (n - 1) u))) e ∙ ap reverse (take-suc-set l (n - 1) u (omega arith)) ∙ snoc (take (n - 1) l) u
+  module _ (n : ℕ) where
+    pub last-first : 0 < n → reverse (firstWords l n) ≡ getD l (n - 1) 0 ∷ reverse (firstWords l (n - 1))
+    last-first p =
+        let e : n ≡ suc (n - 1) = omega arith in
+        ap (λ (k : ℕ). reverse (firstWords l k)) e ∙ ap reverse (table-suc (λ i. getD l i 0) (n - 1)) ∙ snoc (firstWords l (n - 1)) (getD l (n - 1) 0)
 
-  pub put-next : (t : ℕ) → n < length l → reverse (take (n + 1) (set l n t)) ≡ t ∷ reverse (take n l)
-  put-next t h = ap (λ (k : ℕ). reverse (take k (set l n t))) (add-one n) ∙ ap reverse (take-suc-set l n t h) ∙ snoc (take n l) t
+    pub put-last : (u : ℕ) → 0 < n → n ≤ length l → reverse (firstWords (set l (n - 1) u) n) ≡ u ∷ reverse (firstWords l (n - 1))
+    put-last u p h =
+        let e : n ≡ suc (n - 1) = omega arith in
+        ap (λ (k : ℕ). reverse (firstWords (set l (n - 1) u) k)) e ∙ ap reverse (words-put (n - 1) u (omega arith)) ∙ snoc (firstWords l (n - 1)) u
+
+    pub put-next : (t : ℕ) → n < length l → reverse (firstWords (set l n t) (n + 1)) ≡ t ∷ reverse (firstWords l n)
+    put-next t h = ap (λ (k : ℕ). reverse (firstWords (set l n t) k)) (add-one n) ∙ ap reverse (words-put n t h) ∙ snoc (firstWords l n) t
 
 -- TESTS
 
@@ -59,8 +65,8 @@ empty-constant l n t k x e d f = rw (eq-eqb (termIn (termsView l n) t .kind) 1 (
     here = rw (table-length (λ i. termAt l (suc i)) n) at (kind-term (bare l n [] 0) t 0 (sym e ∙ d))
 
 module _ (ts : List TermOf) (t : ℕ) where
-  pub joins-none : (l : List ℕ) (n : ℕ) → n ≡ 0 → false ≡ joinsIn ts t (reverse (take n l))
-  unfolding joinsIn
+  pub joins-none : (l : List ℕ) (n : ℕ) → n ≡ 0 → false ≡ joinsIn ts t (reverse (firstWords l n))
+  unfolding joinsIn table
   joins-none l n e = rw e
 
   pub joins-other : (out : List ℕ) (k : ℕ) → k ≡ termIn ts t .kind → (k ≡ 1 → ⊥) → false ≡ joinsIn ts t out
@@ -68,12 +74,12 @@ module _ (ts : List TermOf) (t : ℕ) where
   joins-other [] k e d = refl
   joins-other (u ∷ out) k e d = sym (left-false _ _ (ne-eqb (termIn ts t .kind) 1 (λ q. d (e ∙ q))))
 
-  pub joins-last : (l : List ℕ) (n k x : ℕ) → (n ≡ 0 → ⊥) → n ≤ length l → k ≡ termIn ts t .kind → k ≡ 1 → x ≡ termIn ts (getD l (n - 1) 0) .kind → eqb x 1 ≡ joinsIn ts t (reverse (take n l))
+  pub joins-last : (l : List ℕ) (n k x : ℕ) → (n ≡ 0 → ⊥) → k ≡ termIn ts t .kind → k ≡ 1 → x ≡ termIn ts (getD l (n - 1) 0) .kind → eqb x 1 ≡ joinsIn ts t (reverse (firstWords l n))
   unfolding joinsIn
-  joins-last l n k x d h e f g = rw (last-first l n (omega arith) h, eq-eqb (termIn ts t .kind) 1 (sym e ∙ f), g)
+  joins-last l n k x d e f g = rw (last-first l n (omega arith), eq-eqb (termIn ts t .kind) 1 (sym e ∙ f), g)
 
-  pub joins-some : (l : List ℕ) (n : ℕ) → joinsIn ts t (reverse (take n l)) ≡ true → 0 < n
-  unfolding joinsIn
+  pub joins-some : (l : List ℕ) (n : ℕ) → joinsIn ts t (reverse (firstWords l n)) ≡ true → 0 < n
+  unfolding joinsIn table
   joins-some l zero e = clash e refl
   joins-some l (suc n) e = omega arith
 
@@ -88,23 +94,23 @@ module _ (s : Store) (t u : ℕ) (out : List ℕ) (h : joinsIn (s .terms) t (u �
   unfolding join joinsIn joined
   join-is = rw (h, append-nil (text s t))
 
-module _ {m : Lent} {c : State} (ready : Ready m c) (t n : ℕ) (l : List ℕ) (p : 0 < n) (q : n ≤ length l) (h : joinsIn (storeOf m c .terms) t (reverse (take n l)) ≡ true) where
+module _ {m : Lent} {c : State} (ready : Ready m c) (t n : ℕ) (l : List ℕ) (p : 0 < n) (q : n ≤ length l) (h : joinsIn (storeOf m c .terms) t (reverse (firstWords l n)) ≡ true) where
   abbrev w : Work ℕ
   w = λ s. makeConstant (joined (text s) (getD l (n - 1) 0 ∷ t ∷ [])) s
 
-  split : joinsIn (storeOf m c .terms) t (getD l (n - 1) 0 ∷ reverse (take (n - 1) l)) ≡ true
-  split = rw (last-first l n p q) at h
+  split : joinsIn (storeOf m c .terms) t (getD l (n - 1) 0 ∷ reverse (firstWords l (n - 1))) ≡ true
+  split = rw (last-first l n p) at h
 
   pub pair-constants : all (isConstant (storeOf m c)) (getD l (n - 1) 0 ∷ t ∷ []) ≡ true
   pair-constants = joins-all (storeOf m c) t (getD l (n - 1) 0) _ split
 
-  says : (o : Out ℕ) → w (storeOf m c) ≡ o → join t (reverse (take n l)) (storeOf m c) ≡ andThen (λ (x : ℕ). give (x ∷ reverse (take (n - 1) l))) o
-  says o e = ap (λ (k : List ℕ). join t k (storeOf m c)) (last-first l n p q) ∙ join-is (storeOf m c) t (getD l (n - 1) 0) _ split ∙ ap (andThen (λ (x : ℕ). give (x ∷ reverse (take (n - 1) l)))) e
+  says : (o : Out ℕ) → w (storeOf m c) ≡ o → join t (reverse (firstWords l n)) (storeOf m c) ≡ andThen (λ (x : ℕ). give (x ∷ reverse (firstWords l (n - 1)))) o
+  says o e = ap (λ (k : List ℕ). join t k (storeOf m c)) (last-first l n p) ∙ join-is (storeOf m c) t (getD l (n - 1) 0) _ split ∙ ap (andThen (λ (x : ℕ). give (x ∷ reverse (firstWords l (n - 1))))) e
 
-  pub join-made : {m′ : Lent} (r : Made) (x : ℕ) (d : State) → Working w m m′ c (made r m′) → r ≡ Term x d → Working (join t (reverse (take n l))) m m′ c (ok (storeOf m′ d) (reverse (take n (set l (n - 1) x))))
+  pub join-made : {m′ : Lent} (r : Made) (x : ℕ) (d : State) → Working w m m′ c (made r m′) → r ≡ Term x d → Working (join t (reverse (firstWords l n))) m m′ c (ok (storeOf m′ d) (reverse (firstWords (set l (n - 1) x) n)))
   join-made {m′} r x d o e = record { says = rw (put-last l n x p q) (says _ (o .says ∙ ap (λ (k : Made). made k m′) e)); kept = o .kept }
 
-  pub join-stopped : {m′ : Lent} (r : Made) (k : ℕ) → Working w m m′ c (made r m′) → r ≡ Refused k → Working (join t (reverse (take n l))) m m′ c (stop k)
+  pub join-stopped : {m′ : Lent} (r : Made) (k : ℕ) → Working w m m′ c (made r m′) → r ≡ Refused k → Working (join t (reverse (firstWords l n))) m m′ c (stop k)
   join-stopped {m′} r k o e = record { says = says _ (o .says ∙ ap (λ (k : Made). made k m′) e); kept = o .kept }
 
 -- PUSHING
@@ -139,5 +145,5 @@ module _ {m : Lent} {c : State} (ready : Ready m c) (t : ℕ) (out : List ℕ) w
     plain [] q = refl
     plain (u ∷ l) q = rw q
 
-    pub push-plain : (l : List ℕ) (n : ℕ) → out ≡ reverse (take n l) → n < length l → (j : Bool) → j ≡ joinsIn (s .terms) t out → j ≡ false → Working (push t out) m m c (ok s (reverse (take (n + 1) (set l n t))))
+    pub push-plain : (l : List ℕ) (n : ℕ) → out ≡ reverse (firstWords l n) → n < length l → (j : Bool) → j ≡ joinsIn (s .terms) t out → j ≡ false → Working (push t out) m m c (ok s (reverse (firstWords (set l n t) (n + 1))))
     push-plain l n i h j q d = record { says = rw (put-next l n t h, ← i) (push-join ∙ plain out (sym q ∙ d)); kept = refl }

@@ -1,27 +1,37 @@
 -- Working definitions: a list in the first words of a lent slice, atom by atom.
-use mathlib.Core.Bool.{Bool, false, _&&_}
+use mathlib.Core.Path.{_≡_}
+use mathlib.Core.Bool.{Bool, true, false, _&&_}
 use mathlib.Core.List.{List, [], _∷_, reverse}
 use Prim.Native.Nat.{ℕ}
-use lib.ListN.{take}
+use lib.ListN.{getD}
 use lib.Dec.{eqb}
-use Rattle.records.specs.Lists.{if_then_else_}
-use Rattle.records.specs.Store.{Term, Out, ok, stop, Work, _>>=_, give, termIn}
+use Rattle.records.specs.Lists.{if_then_else_, all, table}
+use Rattle.records.specs.Store.{Term, Store, Out, ok, stop, Work, _>>=_, give, termIn, isString}
 use Rattle.records.specs.View.{Lent, storeOf}
 use Rattle.engine.specs.Explain.{explain}
 use Rattle.normalize.specs.Normalize.{push}
-use Rattle.normalize.specs.Nodes.{isConstantIn}
+use Rattle.normalize.specs.Nodes.{isConstantIn, NodeOf}
 use Rattle.normalize.specs.declared.Form.{Form}
 use Rattle.normalize.specs.declared.Form.the-variants as form
 
+-- the first n words of a slice
+abbrev pub firstWords : List ℕ → ℕ → List ℕ
+firstWords l n = table (λ i. getD l i 0) n
+
 -- the answer of a normal form: the first words of the slice
 abbrev pub formed : Form → Lent → List ℕ → Out (List ℕ)
-formed (form.List n c) m l = ok (storeOf m c) (take n l)
+formed (form.List n c) m l = ok (storeOf m c) (firstWords l n)
 formed (form.Refused k) m l = stop k
 
 -- the same where the list stands last atom first
 abbrev pub pushed : Form → Lent → List ℕ → Out (List ℕ)
-pushed (form.List n c) m l = ok (storeOf m c) (reverse (take n l))
+pushed (form.List n c) m l = ok (storeOf m c) (reverse (firstWords l n))
 pushed (form.Refused k) m l = stop k
+
+-- string terms, and their table
+pub record Candidates (s : Store) (l table : List ℕ) : Type 0 where
+  pub strings : all (isString s) l ≡ true
+  pub nodes : NodeOf (s .terms) l table
 
 -- "": a constant of no characters
 unfoldable pub isEmptyIn : List Term → ℕ → Bool

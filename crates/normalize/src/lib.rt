@@ -1,6 +1,7 @@
 // Cited normal forms.
 pub mod flat;
 pub mod nodes;
+pub mod normal;
 pub mod pushes;
 
 pub const LIST_LIMIT: usize = 1024;

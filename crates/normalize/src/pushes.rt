@@ -3,12 +3,12 @@ ghost use mathlib.Core.Path.{_≡_};
 ghost use mathlib.Core.Bool.{true};
 ghost use mathlib.Core.List.{reverse};
 ghost use Prim.Native.Nat.{ℕ, _≤_, _<_};
-ghost use lib.ListN.{length, take};
+ghost use lib.ListN.{length};
 ghost use Rattle.records.specs.View.{termsView, lent};
 ghost use Rattle.records.specs.Audited.{Ready};
 ghost use Rattle.records.specs.Calls.{Working};
 ghost use Rattle.normalize.specs.Normalize.{listLimit, join, push};
-ghost use Rattle.normalize.specs.Pushes.{isEmptyIn, joinsIn, pushed};
+ghost use Rattle.normalize.specs.Pushes.{firstWords, isEmptyIn, joinsIn, pushed};
 use crate::Form;
 use records::Made;
 use records::State;
@@ -29,7 +29,7 @@ fn is_empty(terms: &[u32], n: usize, t: u32) -> bool
 // Whether t and the last atom of the list are constants.
 fn joins(terms: &[u32], n: usize, t: u32, list: &[u32], count: usize) -> bool
     requires { ⌜ count ≤ length (now list) ⌝ }
-    ensures { λ r. ⌜ r ≡ joinsIn (termsView (now (terms .entry)) n) t (reverse (take count (now (list .entry)))) ⌝ }
+    ensures { λ r. ⌜ r ≡ joinsIn (termsView (now (terms .entry)) n) t (reverse (firstWords (now (list .entry)) count)) ⌝ }
 {
     if count == 0 {
         return false;
@@ -52,8 +52,8 @@ fn join_last(
     list: &mut [u32],
     count: usize,
 ) -> Form
-    requires { ⌜ Ready (lent (now terms) (now cells) (now chars) (now reasons) (now keys)) c ⌝ ∗ ⌜ joinsIn (termsView (now terms) (c .terms)) t (reverse (take count (now list))) ≡ true ⌝ ∗ ⌜ 0 < count ⌝ ∗ ⌜ count ≤ length (now list) ⌝ }
-    ensures { λ r. ⌜ Working (join t (reverse (take count (now (list .entry))))) (lent (now (terms .entry)) (now (cells .entry)) (now (chars .entry)) (now (reasons .entry)) (now (keys .entry))) (lent (now (terms .exit)) (now (cells .entry)) (now (chars .exit)) (now (reasons .entry)) (now (keys .entry))) c (pushed r (lent (now (terms .exit)) (now (cells .entry)) (now (chars .exit)) (now (reasons .entry)) (now (keys .entry))) (now (list .exit))) ⌝ }
+    requires { ⌜ Ready (lent (now terms) (now cells) (now chars) (now reasons) (now keys)) c ⌝ ∗ ⌜ joinsIn (termsView (now terms) (c .terms)) t (reverse (firstWords (now list) count)) ≡ true ⌝ ∗ ⌜ 0 < count ⌝ ∗ ⌜ count ≤ length (now list) ⌝ }
+    ensures { λ r. ⌜ Working (join t (reverse (firstWords (now (list .entry)) count))) (lent (now (terms .entry)) (now (cells .entry)) (now (chars .entry)) (now (reasons .entry)) (now (keys .entry))) (lent (now (terms .exit)) (now (cells .entry)) (now (chars .exit)) (now (reasons .entry)) (now (keys .entry))) c (pushed r (lent (now (terms .exit)) (now (cells .entry)) (now (chars .exit)) (now (reasons .entry)) (now (keys .entry))) (now (list .exit))) ⌝ }
 {
     let last = count - 1;
     let pair: [u32; 2] = [list[last], t];
@@ -68,7 +68,7 @@ fn join_last(
 }
 
 // One atom more.
-fn push(
+pub(crate) fn push(
     terms: &mut [u32],
     cells: &[u32],
     chars: &mut [u32],
@@ -80,7 +80,7 @@ fn push(
     count: usize,
 ) -> Form
     requires { ⌜ Ready (lent (now terms) (now cells) (now chars) (now reasons) (now keys)) c ⌝ ∗ ⌜ count < listLimit ⌝ ∗ ⌜ listLimit ≤ length (now list) ⌝ }
-    ensures { λ r. ⌜ Working (push t (reverse (take count (now (list .entry))))) (lent (now (terms .entry)) (now (cells .entry)) (now (chars .entry)) (now (reasons .entry)) (now (keys .entry))) (lent (now (terms .exit)) (now (cells .entry)) (now (chars .exit)) (now (reasons .entry)) (now (keys .entry))) c (pushed r (lent (now (terms .exit)) (now (cells .entry)) (now (chars .exit)) (now (reasons .entry)) (now (keys .entry))) (now (list .exit))) ⌝ }
+    ensures { λ r. ⌜ Working (push t (reverse (firstWords (now (list .entry)) count))) (lent (now (terms .entry)) (now (cells .entry)) (now (chars .entry)) (now (reasons .entry)) (now (keys .entry))) (lent (now (terms .exit)) (now (cells .entry)) (now (chars .exit)) (now (reasons .entry)) (now (keys .entry))) c (pushed r (lent (now (terms .exit)) (now (cells .entry)) (now (chars .exit)) (now (reasons .entry)) (now (keys .entry))) (now (list .exit))) ⌝ }
 {
     if is_empty(terms, c.terms, t) {
         return Form::List(count, c);

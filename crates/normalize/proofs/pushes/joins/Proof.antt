@@ -18,4 +18,4 @@ joins-spec =
     (λ c. search needs)
     (λ c. search needs)
     (λ c κs. search needs)
-    (λ c. joins-last _ _ (c .before .before .before .before .before .before .before .args .list .now) _ _ _ (c .before .before .before .before .if1 .left) (c .before .before .before .before .before .before .before .pre) (c .before .before .before .kind-of .ensures) (c .before .before .if2 .left) (c .kind-of2 .ensures)))
+    (λ c. joins-last _ _ (c .before .before .before .before .before .before .before .args .list .now) _ _ _ (c .before .before .before .before .if1 .left) (c .before .before .before .kind-of .ensures) (c .before .before .if2 .left) (c .kind-of2 .ensures)))

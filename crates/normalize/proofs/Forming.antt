@@ -1,0 +1,110 @@
+-- The ways of a normal form: a list that passes the limit, and the atoms pushed.
+use mathlib.Core.Path.{_≡_, refl, sym, ap, subst, _∙_}
+use mathlib.Core.Bool.{Bool, true, false, _&&_}
+use mathlib.Core.List.{List, [], _∷_, _++_, append-nil, reverse, reverse-reverse}
+use Prim.Native.Nat.{ℕ, _+_, _≤_, _<_}
+use native.Mathlib.Omega.{arith}
+use lib.ListN.{length, take, getD, length-take}
+use lib.Dec.{leb}
+use Rattle.records.specs.declared.State.{State}
+use Rattle.records.specs.Lists.{all, joined, Every, none-left, and}
+use Rattle.records.specs.Store.{Store, Out, ok, stop, Work, andThen, _>>=_, give, count, within, rootIn, classUp, isString}
+use Rattle.records.specs.View.{Lent, lent, storeOf, termsView, termLimit}
+use Rattle.records.specs.Audited.{Ready, Closed}
+use Rattle.records.specs.Calls.{Working}
+use Rattle.records.proofs.Lists.{both-left, both-right, both-true, all-append, all-every, every-all, every-map, within-low, within-high}
+use Rattle.records.proofs.Grown.{string-term}
+use Rattle.records.proofs.Climbs.{root-term, view-count, term-within, ready-roots}
+use Rattle.normalize.specs.declared.Form.{Form}
+use Rattle.normalize.specs.declared.Form.the-variants as form
+use Rattle.normalize.specs.Normalize.{listLimit, atoms, flatten, pushForms, normalForm, isList, formArguments}
+use Rattle.normalize.specs.Flat.{bare, Nested, Appended}
+use Rattle.normalize.specs.Nodes.{NodeOf, withNodes}
+use Rattle.normalize.specs.Pushes.{firstWords, formed, pushed, Candidates}
+use Rattle.normalize.proofs.Atoms.{same-atoms, recorded-nested, atoms-strings, flatten-fits, flatten-full}
+use Rattle.normalize.proofs.Represents.{nodes-more, nodes-none}
+
+module _ {m : Lent} {c : State} (ready : Ready m c) where
+  abbrev s : Store
+  s = storeOf m c
+
+  pub ready-nested : Nested (bare (m .terms) (c .terms) (m .cells) (c .cells))
+  ready-nested = let n = recorded-nested s (ready .audited .recorded) in record { ascends = n .ascends; lower = n .lower }
+
+  pub ready-closed : Closed (classUp (termsView (m .terms) (c .terms))) (c .terms)
+  ready-closed = ready-roots m c (ready .audited .classed)
+
+  -- string terms are counted, and their roots are places of the table
+  placed : (t : ℕ) → isString s t ≡ true → (0 < t) × (rootIn (s .terms) t ≤ termLimit)
+  placed t e =
+      let i = string-term s t e in
+      let r = within-high (count s) _ (root-term s (ready .audited .classed) t i) in
+      let z = view-count (m .terms) (c .terms) in
+      let y = ready .sized .termLimited in
+      (within-low (count s) t i, omega arith)
+
+  pub strings-within : (l : List ℕ) → all (isString s) l ≡ true → Every (λ t. within (c .terms) t ≡ true) l
+  strings-within l e = every-map (λ t i. term-within m c t (string-term s t i)) (all-every (isString s) l e)
+
+  pub known-list : (known : List ℕ) (t : ℕ) → formArguments known t s ≡ true → isList s known ≡ true
+  known-list known t e = both-left (isList s known) _ e
+
+  pub known-strings : (known : List ℕ) (t : ℕ) → formArguments known t s ≡ true → all (isString s) known ≡ true
+  known-strings known t e = both-right (leb (length known) listLimit) _ (known-list known t e)
+
+  pub term-string : (known : List ℕ) (t : ℕ) → formArguments known t s ≡ true → isString s t ≡ true
+  term-string known t e = both-right (isList s known) _ e
+
+  -- the table of the known list, and of it and more
+  pub known-table : (known table : List ℕ) → isList s known ≡ true → length table ≡ 513 → ((i : ℕ) → i < length table → getD table i 0 ≡ 0) → (after : List ℕ) → after ≡ withNodes (s .terms) known table → Candidates s known after
+  known-table known table e z f after g = record {
+    strings = strings;
+    nodes = subst (NodeOf (s .terms) known) (sym g) (nodes-more (s .terms) [] known table (nodes-none (s .terms) table z f) none-left (every-map placed (all-every (isString s) known strings)));
+  }
+    where
+      strings : all (isString s) known ≡ true
+      strings = both-right (leb (length known) listLimit) _ e
+
+  pub more-table : (known table flat : List ℕ) → Candidates s known table → all (isString s) flat ≡ true → (after : List ℕ) → after ≡ withNodes (s .terms) flat table → Candidates s (known ++ flat) after
+  more-table known table flat k e after g = record {
+    strings = all-append (isString s) known flat ∙ both-true _ _ (k .strings) e;
+    nodes = subst (NodeOf (s .terms) (known ++ flat)) (sym g) (nodes-more (s .terms) known flat table (k .nodes) (every-map (λ t i. placed t i .0) (all-every (isString s) known (k .strings))) (every-map placed (all-every (isString s) flat e)));
+  }
+
+  -- flattened
+  module _ (t : ℕ) (l l′ : List ℕ) (n : ℕ) (a : Appended l l′ 0 (atoms (bare (m .terms) (c .terms) (m .cells) (c .cells)) t) n) where
+    atoms-are : joined (atoms s) (t ∷ []) ≡ atoms (bare (m .terms) (c .terms) (m .cells) (c .cells)) t
+    unfolding joined
+    atoms-are = append-nil (atoms s t) ∙ sym (same-atoms s (bare (m .terms) (c .terms) (m .cells) (c .cells)) refl refl t)
+
+    pub form-passes : listLimit < n → (known : List ℕ) → Working (normalForm known t) m m c (stop 6)
+    unfolding normalForm
+    form-passes h known =
+        let e = ap length atoms-are in
+        let p = a .passes h in
+        record { says = ap (andThen (λ flat. pushForms (known ++ flat) flat [] >>= (λ out. give (reverse out)))) (flatten-full (t ∷ []) s (omega arith)); kept = refl }
+
+    module _ (h : n ≤ listLimit) (room : listLimit ≤ length l′) where
+      flat-is : joined (atoms s) (t ∷ []) ≡ take n l′
+      flat-is = atoms-are ∙ sym (a .fits h)
+
+      flat-says : flatten (t ∷ []) s ≡ ok s (take n l′)
+      flat-says = flatten-fits (t ∷ []) s (let e = ap length flat-is in let k = length-take n l′ in omega arith) ∙ ap (λ (x : List ℕ). ok s x) flat-is
+
+      pub flat-length : length (take n l′) ≤ listLimit
+      flat-length = let k = length-take n l′ in omega arith
+
+      pub flat-strings : isString s t ≡ true → all (isString s) (take n l′) ≡ true
+      unfolding joined
+      flat-strings e = every-all (subst (Every (λ x. isString s x ≡ true)) flat-is (subst (Every (λ x. isString s x ≡ true)) (sym (append-nil (atoms s t))) (every-map (λ x i. i .string) (atoms-strings s (ready .audited) t e))))
+
+      pub form-done : {m′ : Lent} (known list : List ℕ) (x : Form) → Working (pushForms (known ++ take n l′) (take n l′) []) m m′ c (pushed x m′ list) → Working (normalForm known t) m m′ c (formed x m′ list)
+      unfolding normalForm
+      form-done {m′} known list x w = record {
+        says = ap (andThen (λ flat. pushForms (known ++ flat) flat [] >>= (λ out. give (reverse out)))) flat-says ∙ ap (andThen (λ out. give (reverse out))) (w .says) ∙ turned x;
+        kept = w .kept;
+      }
+        where
+          turned : (y : Form) → andThen (λ out. give (reverse out)) (pushed y m′ list) ≡ formed y m′ list
+          turned (form.List k d) = ap (λ (z : List ℕ). ok (storeOf m′ d) z) (reverse-reverse (firstWords list k))
+          turned (form.Refused k) = refl

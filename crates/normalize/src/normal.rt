@@ -1,0 +1,169 @@
+// The normal form: each atom replaced by its class's representative, with the reasons, then dropped or joined.
+ghost use mathlib.Core.Path.{_≡_};
+ghost use mathlib.Core.Bool.{true};
+ghost use mathlib.Core.List.{[], _++_, reverse};
+ghost use Prim.Native.Nat.{ℕ, _≤_, _<_};
+ghost use lib.ListN.{length};
+ghost use Rattle.records.specs.Store.{isString};
+ghost use Rattle.records.specs.View.{lent, storeOf};
+ghost use Rattle.records.specs.Audited.{Ready};
+ghost use Rattle.records.specs.Calls.{Working, added};
+ghost use Rattle.engine.specs.Explain.{explainArguments};
+ghost use Rattle.normalize.specs.Normalize.{listLimit, pushForms, normalForm, formArguments};
+ghost use Rattle.normalize.specs.Pushes.{firstWords, formed, pushed, cite, pushFor, Candidates};
+use crate::Form;
+use crate::LIST_LIMIT;
+use crate::flat;
+use crate::nodes;
+use crate::pushes;
+use engine::explain_unchecked;
+use records::Added;
+use records::State;
+
+// The reasons that a is equal to r, where they differ.
+fn cite(
+    terms: &[u32],
+    cells: &[u32],
+    chars: &[u32],
+    reasons: &mut [u32],
+    keys: &[u32],
+    c: State,
+    a: u32,
+    r: u32,
+) -> Added
+    requires { ⌜ Ready (lent (now terms) (now cells) (now chars) (now reasons) (now keys)) c ⌝ ∗ ⌜ explainArguments a r (storeOf (lent (now terms) (now cells) (now chars) (now reasons) (now keys)) c) ≡ true ⌝ }
+    ensures { λ x. ⌜ Working (cite a r) (lent (now (terms .entry)) (now (cells .entry)) (now (chars .entry)) (now (reasons .entry)) (now (keys .entry))) (lent (now (terms .entry)) (now (cells .entry)) (now (chars .entry)) (now (reasons .exit)) (now (keys .entry))) c (added x (lent (now (terms .entry)) (now (cells .entry)) (now (chars .entry)) (now (reasons .exit)) (now (keys .entry)))) ⌝ }
+{
+    if r == a {
+        return Added::Counts(c);
+    }
+    explain_unchecked(terms, cells, chars, reasons, keys, c, a, r)
+}
+
+// The atom a as its representative r.
+fn push_for(
+    terms: &mut [u32],
+    cells: &[u32],
+    chars: &mut [u32],
+    reasons: &mut [u32],
+    keys: &[u32],
+    c: State,
+    a: u32,
+    r: u32,
+    list: &mut [u32],
+    count: usize,
+) -> Form
+    requires { ⌜ Ready (lent (now terms) (now cells) (now chars) (now reasons) (now keys)) c ⌝ ∗ ⌜ explainArguments a r (storeOf (lent (now terms) (now cells) (now chars) (now reasons) (now keys)) c) ≡ true ⌝ ∗ ⌜ count < listLimit ⌝ ∗ ⌜ listLimit ≤ length (now list) ⌝ }
+    ensures { λ x. ⌜ Working (pushFor a r (reverse (firstWords (now (list .entry)) count))) (lent (now (terms .entry)) (now (cells .entry)) (now (chars .entry)) (now (reasons .entry)) (now (keys .entry))) (lent (now (terms .exit)) (now (cells .entry)) (now (chars .exit)) (now (reasons .exit)) (now (keys .entry))) c (pushed x (lent (now (terms .exit)) (now (cells .entry)) (now (chars .exit)) (now (reasons .exit)) (now (keys .entry))) (now (list .exit))) ⌝ }
+{
+    let cited = cite(terms, cells, chars, reasons, keys, c, a, r);
+    match cited {
+        Added::Counts(d) => pushes::push(terms, cells, chars, reasons, keys, d, r, list, count),
+        Added::Refused(k) => Form::Refused(k),
+    }
+}
+
+// Atom by atom. The table is that of the known list followed by the atoms.
+fn push_forms(
+    terms: &mut [u32],
+    cells: &[u32],
+    chars: &mut [u32],
+    reasons: &mut [u32],
+    keys: &[u32],
+    c: State,
+    known: &[u32],
+    flat: &[u32],
+    table: &[u32; 513],
+    list: &mut [u32],
+) -> Form
+    requires { ⌜ Ready (lent (now terms) (now cells) (now chars) (now reasons) (now keys)) c ⌝ ∗ ⌜ Candidates (storeOf (lent (now terms) (now cells) (now chars) (now reasons) (now keys)) c) (now known ++ now flat) (now table) ⌝ ∗ ⌜ length (now flat) ≤ listLimit ⌝ ∗ ⌜ listLimit ≤ length (now list) ⌝ }
+    ensures { λ x. ⌜ Working (pushForms (now (known .entry) ++ now (flat .entry)) (now (flat .entry)) []) (lent (now (terms .entry)) (now (cells .entry)) (now (chars .entry)) (now (reasons .entry)) (now (keys .entry))) (lent (now (terms .exit)) (now (cells .entry)) (now (chars .exit)) (now (reasons .exit)) (now (keys .entry))) c (pushed x (lent (now (terms .exit)) (now (cells .entry)) (now (chars .exit)) (now (reasons .exit)) (now (keys .entry))) (now (list .exit))) ⌝ }
+{
+    let mut d = c;
+    let mut count: usize = 0;
+    let mut i: usize = 0;
+    while i < flat.len() {
+        let a = flat[i];
+        let r = nodes::rep(terms, d.terms, table, a);
+        let form = push_for(terms, cells, chars, reasons, keys, d, a, r, list, count);
+        match form {
+            Form::List(n, e) => {
+                count = n;
+                d = e;
+            }
+            Form::Refused(k) => {
+                return Form::Refused(k);
+            }
+        }
+        i += 1;
+    }
+    Form::List(count, d)
+}
+
+// The normal form of t. The table is that of the known list.
+fn form_by(
+    terms: &mut [u32],
+    cells: &[u32],
+    chars: &mut [u32],
+    reasons: &mut [u32],
+    keys: &[u32],
+    c: State,
+    known: &[u32],
+    table: &[u32; 513],
+    t: u32,
+    list: &mut [u32],
+) -> Form
+    requires { ⌜ Ready (lent (now terms) (now cells) (now chars) (now reasons) (now keys)) c ⌝ ∗ ⌜ Candidates (storeOf (lent (now terms) (now cells) (now chars) (now reasons) (now keys)) c) (now known) (now table) ⌝ ∗ ⌜ isString (storeOf (lent (now terms) (now cells) (now chars) (now reasons) (now keys)) c) t ≡ true ⌝ ∗ ⌜ listLimit ≤ length (now list) ⌝ }
+    ensures { λ x. ⌜ Working (normalForm (now (known .entry)) t) (lent (now (terms .entry)) (now (cells .entry)) (now (chars .entry)) (now (reasons .entry)) (now (keys .entry))) (lent (now (terms .exit)) (now (cells .entry)) (now (chars .exit)) (now (reasons .exit)) (now (keys .entry))) c (formed x (lent (now (terms .exit)) (now (cells .entry)) (now (chars .exit)) (now (reasons .exit)) (now (keys .entry))) (now (list .exit))) ⌝ }
+{
+    let mut flat: [u32; 1024] = [0; 1024];
+    let n = flat::flatten_unchecked(terms, c.terms, cells, c.cells, t, &mut flat, 0);
+    if LIST_LIMIT < n {
+        return Form::Refused(6);
+    }
+    let mut own: [u32; 513] = *table;
+    nodes::build_node_of(terms, c.terms, &flat[..n], &mut own);
+    push_forms(
+        terms,
+        cells,
+        chars,
+        reasons,
+        keys,
+        c,
+        known,
+        &flat[..n],
+        &own,
+        list,
+    )
+}
+
+// The normal form of t over the known list, with the reasons of each atom that was replaced.
+pub fn normal_form_cited_unchecked(
+    terms: &mut [u32],
+    cells: &[u32],
+    chars: &mut [u32],
+    reasons: &mut [u32],
+    keys: &[u32],
+    c: State,
+    known: &[u32],
+    t: u32,
+    list: &mut [u32],
+) -> Form
+    requires { ⌜ Ready (lent (now terms) (now cells) (now chars) (now reasons) (now keys)) c ⌝ ∗ ⌜ formArguments (now known) t (storeOf (lent (now terms) (now cells) (now chars) (now reasons) (now keys)) c) ≡ true ⌝ ∗ ⌜ listLimit ≤ length (now list) ⌝ }
+    ensures { λ x. ⌜ Working (normalForm (now (known .entry)) t) (lent (now (terms .entry)) (now (cells .entry)) (now (chars .entry)) (now (reasons .entry)) (now (keys .entry))) (lent (now (terms .exit)) (now (cells .entry)) (now (chars .exit)) (now (reasons .exit)) (now (keys .entry))) c (formed x (lent (now (terms .exit)) (now (cells .entry)) (now (chars .exit)) (now (reasons .exit)) (now (keys .entry))) (now (list .exit))) ⌝ }
+{
+    let mut table: [u32; 513] = [0; 513];
+    nodes::build_node_of(terms, c.terms, known, &mut table);
+    form_by(
+        terms,
+        cells,
+        chars,
+        reasons,
+        keys,
+        c,
+        known,
+        &table,
+        t,
+        list,
+    )
+}
