@@ -1,5 +1,13 @@
 // Word equations, steps 1 to 8.
+pub mod stripping;
+
 pub struct Sides {
     pub left: usize,
     pub right: usize,
+}
+
+// What step 1 leaves: the counts, the place where both parts begin, and where the left and the right one end; or the refusal.
+pub enum Stripped {
+    Parts(records::State, usize, usize, usize),
+    Refused(u32),
 }
