@@ -9,3 +9,6 @@ pub mod Constants
 pub mod Split
 pub mod Resolve
 pub mod Equal
+pub mod SidesLetters
+pub mod SidesWalk
+pub mod SidesTexts

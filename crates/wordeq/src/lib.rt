@@ -1,5 +1,2 @@
 // Word equations, steps 1 to 8.
-pub struct Sides {
-    pub left: usize,
-    pub right: usize,
-}
+mod sides;
