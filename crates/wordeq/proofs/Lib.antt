@@ -12,3 +12,4 @@ pub mod Equal
 pub mod SidesLetters
 pub mod SidesWalk
 pub mod SidesTexts
+pub mod SidesReady
