@@ -11,3 +11,7 @@ pub mod Resolve
 pub mod Equal
 pub mod Alike
 pub mod Strips
+pub mod SidesLetters
+pub mod SidesWalk
+pub mod SidesTexts
+pub mod SidesReady

@@ -1,10 +1,6 @@
 // Word equations, steps 1 to 8.
+mod sides;
 pub mod stripping;
-
-pub struct Sides {
-    pub left: usize,
-    pub right: usize,
-}
 
 // What step 1 leaves: the counts, the place where both parts begin, and where the left and the right one end; or the refusal.
 pub enum Stripped {
