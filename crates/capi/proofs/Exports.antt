@@ -17,7 +17,8 @@ use Rattle.records.specs.Calls.{call, checked, unless, Public, made}
 use Rattle.records.proofs.Lists.{table-length}
 use Rattle.records.proofs.Works.{stop-not}
 use Rattle.records.proofs.Passed.{ready-of}
-use Rattle.capi.specs.Interface.{stateOf, written, Narrow, Beyond, roomy, over, told, Exported, codeOf, stateAfter, answerAfter, Told}
+use Rattle.capi.specs.Interface.{stateOf, Beyond, roomy, over, told, Exported}
+use Rattle.capi.specs.Leaves.{written, Narrow, codeOf, stateAfter, answerAfter, Told}
 use Rattle.capi.proofs.Words.{beyond-same, beyond-written, beyond-first, first-read, roomy-state, roomy-answer}
 
 -- the counts of an audited store are within their limits
@@ -56,7 +57,7 @@ module _ {A : Type 0} {fit : Store → Bool} {work : Work A} (tells : Tells fit 
       go (suc k) p b q e z = let f : suc k ≡ n = cc in absurd (omega arith)
 
 -- a state or an answer too short
-pub untold : {A : Type 0} (o : Out A) (m : Lent) (w : List ℕ) (n : ℕ) (a : List ℕ) (x : A) → roomy w a ≡ false → Exported (over (roomy w a) o) m m w w n a a x 1
+pub untold : {A : Type 0} {b : Bool} (o : Out A) (m : Lent) (w : List ℕ) (n : ℕ) (a : List ℕ) (x : A) → b ≡ false → Exported (over b o) m m w w n a a x 1
 untold o m w n a x e = record {
   public = record { says = rw e; idle = λ k z l. refl; kept = refl };
   state = beyond-same 6 w;
@@ -66,7 +67,7 @@ untold o m w n a x e = record {
 }
 
 -- an outcome that is told is the public one
-told-public : {A : Type 0} {o : Out A} {b : Bool} {m m′ : Lent} {c : State} {r r′ : Out A} → b ≡ true → r′ ≡ r → Public o m m′ c r → Public (over b o) m m′ c r′
+pub told-public : {A : Type 0} {o : Out A} {b : Bool} {m m′ : Lent} {c : State} {r r′ : Out A} → b ≡ true → r′ ≡ r → Public o m m′ c r → Public (over b o) m m′ c r′
 told-public e f p = rw e record { says = f ∙ p .says; idle = λ k z l. p .idle k (sym f ∙ z) l; kept = p .kept }
 
 module _ {fit : Store → Bool} {work : Work ℕ} (tells : Tells fit work) {m m′ : Lent} {c : State} {r : Made} (called : Public (call fit work m c) m m′ c (made r m′)) where

@@ -13,7 +13,10 @@ use Rattle.records.specs.declared.Made.the-variants.{Term, Refused}
 use Rattle.records.specs.View.{Lent}
 use Rattle.records.specs.Rules.{audit}
 use Rattle.records.proofs.Lists.{both-left, both-right, left-false, and-next}
-use Rattle.capi.specs.Interface.{stateOf, written, Narrow, Beyond, roomy, audited, codeOf, stateAfter, answerAfter, Told}
+use Rattle.records.specs.declared.Added.{Added}
+use Rattle.records.specs.declared.Added.the-variants as adding
+use Rattle.capi.specs.Interface.{stateOf, Beyond, roomy, audited}
+use Rattle.capi.specs.Leaves.{written, codeOf, stateAfter, answerAfter, Told, addedCode, addedState, ToldCounts}
 
 -- six words one after the other
 pub sets-written : (c : State) (w : List ℕ) → 6 ≤ length w
@@ -87,3 +90,9 @@ module _ {w w′ a a′ : List ℕ} {r : Made} where
 
 pub told-refused : {w a : List ℕ} {r : Made} {k : ℕ} → r ≡ Refused k → Told w w a a r k
 told-refused e = rw e (record { code = refl; state = refl; answer = refl })
+
+pub told-counts : {w w′ : List ℕ} {r : Added} {c : State} → r ≡ adding.Counts c → w′ ≡ written c w → ToldCounts w w′ r 0
+told-counts e p = rw e (record { code = refl; state = p })
+
+pub told-no-counts : {w : List ℕ} {r : Added} {k : ℕ} → r ≡ adding.Refused k → ToldCounts w w r k
+told-no-counts e = rw e (record { code = refl; state = refl })

@@ -1,34 +1,22 @@
 -- What an exported call does with the words that a C caller lends it.
 use mathlib.Core.Path.{_≡_}
 use mathlib.Core.Bool.{Bool, _&&_}
-use mathlib.Core.List.{List, _∷_}
-use Prim.Native.Nat.{ℕ, zero, suc, _<_}
-use lib.ListN.{length, getD, drop, set}
+use mathlib.Core.List.{List, []}
+use Prim.Native.Nat.{ℕ, zero, suc}
+use lib.ListN.{length, getD, drop}
 use lib.Dec.{leb}
 use Rattle.records.specs.declared.State.{State}
-use Rattle.records.specs.declared.Made.{Made}
-use Rattle.records.specs.declared.Made.the-variants.{Term, Refused}
 use Rattle.records.specs.Lists.{if_then_else_}
 use Rattle.records.specs.Store.{Out, ok, stop}
 use Rattle.records.specs.View.{Lent, storeOf}
 use Rattle.records.specs.Rules.{audit}
-use Rattle.records.specs.Calls.{Public}
+use Rattle.records.specs.Calls.{Public, call}
+use Rattle.engine.specs.Explain.{explain, explainArguments}
+use Rattle.engine.specs.Meaning.{Explains}
 
 -- the state's six words: the counts of terms, cells, characters, reasons and keys, and the name counter
 abbrev pub stateOf : List ℕ → State
 stateOf w = record { terms = getD w 0 0; cells = getD w 1 0; chars = getD w 2 0; reasons = getD w 3 0; keys = getD w 4 0; names = getD w 5 0 }
-
--- those six words written back
-abbrev pub written : State → List ℕ → List ℕ
-written c w = c .terms ∷ c .cells ∷ c .chars ∷ c .reasons ∷ c .keys ∷ c .names ∷ drop 6 w
-
--- counts that a word holds
-pub record Narrow (c : State) : Type 0 where
-  pub terms : c .terms < 4294967296
-  pub cells : c .cells < 4294967296
-  pub chars : c .chars < 4294967296
-  pub reasons : c .reasons < 4294967296
-  pub keys : c .keys < 4294967296
 
 -- v is w but for its first n words
 pub record Beyond (n : ℕ) (w v : List ℕ) : Type 0 where
@@ -62,20 +50,7 @@ module _ {A : Type 0} where
     pub state-idle : (k ≡ 0 → ⊥) → w′ ≡ w
     pub answer-idle : (k ≡ 0 → ⊥) → a′ ≡ a
 
--- a making call's answer put into the words: the result, the state, the answer's first word
-abbrev pub codeOf : Made → ℕ
-codeOf (Term t c) = 0
-codeOf (Refused k) = k
-
-abbrev pub stateAfter : Made → List ℕ → List ℕ
-stateAfter (Term t c) w = written c w
-stateAfter (Refused k) w = w
-
-abbrev pub answerAfter : Made → List ℕ → List ℕ
-answerAfter (Term t c) a = set a 0 t
-answerAfter (Refused k) a = a
-
-pub record Told (w w′ a a′ : List ℕ) (r : Made) (k : ℕ) : Type 0 where
-  pub code : k ≡ codeOf r
-  pub state : w′ ≡ stateAfter r w
-  pub answer : a′ ≡ answerAfter r a
+-- explain told in words, and what it is worth: under the reasons that the call added and the definitional merges the two terms have equal words
+pub record ExportedExplain (a b : ℕ) (m m′ : Lent) (w w′ : List ℕ) (k : ℕ) : Type 0 where
+  pub is : Exported (over (leb 6 (length w)) (call (explainArguments a b) (explain a b) m (stateOf w))) m m′ w w′ 0 [] [] tt k
+  pub worth : k ≡ 0 → Explains (storeOf m (stateOf w)) (storeOf m′ (stateOf w′)) a b

@@ -12,7 +12,12 @@ ghost use Rattle.records.specs.View.{lent};
 ghost use Rattle.records.specs.Rules.{isChar, isList, isEquatable};
 ghost use Rattle.records.specs.Make.{makeConstant, makeVariable, makeConcat, makeLength, makeEquation};
 ghost use Rattle.records.specs.Calls.{call};
-ghost use Rattle.capi.specs.Interface.{stateOf, written, Narrow, roomy, audited, over, Exported, Told};
+ghost use Rattle.records.specs.declared.Added.the-variants as adding;
+ghost use Rattle.engine.specs.Explain.{find, findArguments};
+ghost use Rattle.capi.specs.Interface.{stateOf, roomy, audited, over, Exported, ExportedExplain};
+ghost use Rattle.capi.specs.Leaves.{written, Narrow, Told, ToldCounts};
+use engine::Found;
+use records::Added;
 use records::Made;
 use records::State;
 use records::build;
@@ -67,6 +72,20 @@ fn tell(state: &mut [u32], answer: &mut [u32], made: Made) -> u32
             0
         }
         Made::Refused(k) => k,
+    }
+}
+
+// The counts after explain into the state's words.
+fn tell_counts(state: &mut [u32], added: Added) -> u32
+    requires { ⌜ (6 ≤ length (now state)) × ((c : State) → added ≡ adding.Counts c → Narrow c) ⌝ }
+    ensures { λ r. ⌜ ToldCounts (now (state .entry)) (now (state .exit)) added r ⌝ }
+{
+    match added {
+        Added::Counts(c) => {
+            write_state(state, c);
+            0
+        }
+        Added::Refused(k) => k,
     }
 }
 
@@ -191,4 +210,52 @@ pub extern "C" fn labels_make_equation(
     let c = state_of(state);
     let made = build::make_equation(terms, cells, chars, reasons, keys, c, t, u);
     tell(state, answer, made)
+}
+
+#[no_mangle]
+pub extern "C" fn labels_find(
+    state: &[u32],
+    terms: &[u32],
+    cells: &[u32],
+    chars: &[u32],
+    reasons: &[u32],
+    keys: &[u32],
+    t: u32,
+    answer: &mut [u32],
+) -> u32
+    ensures { λ r. ⌜ Exported (over (roomy (now (state .entry)) (now (answer .entry))) (call (findArguments t) (find t) (lent (now (terms .entry)) (now (cells .entry)) (now (chars .entry)) (now (reasons .entry)) (now (keys .entry))) (stateOf (now (state .entry))))) (lent (now (terms .entry)) (now (cells .entry)) (now (chars .entry)) (now (reasons .entry)) (now (keys .entry))) (lent (now (terms .entry)) (now (cells .entry)) (now (chars .entry)) (now (reasons .entry)) (now (keys .entry))) (now (state .entry)) (now (state .entry)) 1 (now (answer .entry)) (now (answer .exit)) (getD (now (answer .exit)) 0 0) r ⌝ }
+{
+    if !is_roomy(state, answer) {
+        return 1;
+    }
+    let c = state_of(state);
+    let found = engine::find(terms, cells, chars, reasons, keys, c, t);
+    match found {
+        Found::Root(u) => {
+            answer[0] = u;
+            0
+        }
+        Found::Refused(k) => k,
+    }
+}
+
+#[no_mangle]
+pub extern "C" fn labels_explain(
+    state: &mut [u32],
+    terms: &[u32],
+    cells: &[u32],
+    chars: &[u32],
+    reasons: &mut [u32],
+    keys: &[u32],
+    a: u32,
+    b: u32,
+) -> u32
+    ensures { λ r. ⌜ ExportedExplain a b (lent (now (terms .entry)) (now (cells .entry)) (now (chars .entry)) (now (reasons .entry)) (now (keys .entry))) (lent (now (terms .entry)) (now (cells .entry)) (now (chars .entry)) (now (reasons .exit)) (now (keys .entry))) (now (state .entry)) (now (state .exit)) r ⌝ }
+{
+    if state.len() < 6 {
+        return 1;
+    }
+    let c = state_of(state);
+    let added = engine::explain(terms, cells, chars, reasons, keys, c, a, b);
+    tell_counts(state, added)
 }
