@@ -11,3 +11,4 @@ pub mod Resolve
 pub mod Equal
 pub mod Alike
 pub mod Strips
+pub mod Listed

@@ -1,4 +1,5 @@
 // Word equations, steps 1 to 8.
+pub mod equal_lists;
 pub mod stripping;
 
 pub struct Sides {
