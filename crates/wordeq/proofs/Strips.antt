@@ -5,10 +5,10 @@ use mathlib.Core.List.{List, [], _∷_, _++_, reverse, reverse-append, reverse-r
 use Prim.Native.Nat.{ℕ, zero, suc, _+_, _-_, _≤_, _<_, min}
 use native.Mathlib.Numerals.{add-one}
 use native.Mathlib.Omega.{arith}
-use lib.ListN.{length, take, drop, getD, length-append, length-take, length-drop}
+use lib.ListN.{length, take, drop, getD, length-append, length-take, length-drop, length-reverse}
 use lib.Seq.{take-suc, take-all, drop-cons, getD-drop}
-use lib.Dec.{eqb}
-use borrow.Author.Tests.{not-true, not-false, eq-eqb, ne-eqb}
+use lib.Dec.{eqb, leb}
+use borrow.Author.Tests.{not-true, not-false, eq-eqb, ne-eqb, leb-true, leb-false}
 use Rattle.records.specs.declared.State.{State}
 use Rattle.records.specs.declared.Added.{Added as Answered}
 use Rattle.records.specs.declared.Added.the-variants as adding
@@ -17,7 +17,7 @@ use Rattle.records.specs.Store.{Store, Room, Term, Out, ok, stop, andThen, give
 use Rattle.records.specs.View.{Lent, lent, storeOf, pairAt, roomOf, termsView, cellsView, charsView, pairsView}
 use Rattle.records.specs.Audited.{Ready}
 use Rattle.records.specs.Calls.{Working, added}
-use Rattle.records.proofs.Lists.{both-true, all-every, every-at, table-same, table-length}
+use Rattle.records.proofs.Lists.{both-true, decide, all-every, every-at, table-same, table-length}
 use Rattle.records.proofs.Views.{table-is}
 use Rattle.records.proofs.Passed.{ready-after}
 use Rattle.engine.specs.Explain.{explain, explainArguments}
@@ -25,9 +25,9 @@ use Rattle.engine.proofs.Added.{Added, added-none, added-then}
 use Rattle.wordeq.specs.declared.Stripped.{Stripped}
 use Rattle.wordeq.specs.declared.Stripped.the-variants.{Parts, Refused}
 use Rattle.wordeq.specs.Wordeq.{same, explainMatch, stripHeads, strip}
-use Rattle.wordeq.specs.Stripping.{readIn, Readable, Pair, part, stripped, Inside, Strips, stripTails}
+use Rattle.wordeq.specs.Stripping.{readIn, Readable, Pair, part, stripped, Inside, Strips, Whole, StripsHeads, stripTails}
 use Rattle.wordeq.proofs.Cited.{Cited}
-use Rattle.wordeq.proofs.Strip.{plainly, same-class, match-ends}
+use Rattle.wordeq.proofs.Strip.{plainly, same-class, match-ends, heads-ends}
 
 -- ONE MATCH
 
@@ -111,6 +111,9 @@ module _ (t e h ks : List ℕ) where
 
     pub going-readable : Readable t h d
     going-readable = record { cells = e; reasons = rs₁; keys = ks; ready = g .ready }
+
+    pub going-strings : (l : List ℕ) → all (isString (readIn t h c)) l ≡ true → all (isString (readIn t h d)) l ≡ true
+    going-strings l i = subst (λ (x : List Term). all (λ a. within 3 (termIn x a .kind)) l ≡ true) (sym terms-kept) i
 
     pub going-string : (a : ℕ) → isString (readIn t h c) a ≡ true → isString (readIn t h d) a ≡ true
     going-string a i = subst (λ (x : List Term). within 3 (termIn x a .kind) ≡ true) (sym terms-kept) i
@@ -213,6 +216,13 @@ module _ (l : List ℕ) where
       place : (n f i : ℕ) → f + i < n → f + (n - (i + 1) - f) ≡ n - 1 - i
       place n f i h = omega arith
 
+  pub tail-length : (f i : ℕ) → length (tail f i) ≡ length l - i - f
+  tail-length f i =
+      length-reverse (part l f (length l - i)) ∙ length-take (length l - i - f) (drop f l) ∙ ap (min (length l - i - f)) (length-drop f l) ∙ less (length l) f i
+    where
+      less : (n f i : ℕ) → min (n - i - f) (n - f) ≡ n - i - f
+      less n f i = omega arith
+
   pub tail-start : (f : ℕ) → tail f 0 ≡ reverse (drop f l)
   tail-start f = let k : length l - 0 ≡ length l = omega arith in ap (λ (x : ℕ). reverse (part l f x)) k ∙ ap reverse (part-whole f)
 
@@ -230,10 +240,10 @@ module _ (t e h ks l r : List ℕ) where
 
   module _ {c d : State} {rs rs₁ : List ℕ} {i : ℕ} where
     pub heads-left : i ≤ length l → i ≤ length r → Working (stripHeads l r) (lent t e h rs ks) (lent t e h rs₁ ks) c (ok (storeOf (lent t e h rs₁ ks) d) (drop i l, drop i r))
-        → Strips (stripHeads l r) (lent t e h rs ks) (lent t e h rs₁ ks) c l r (Parts d i (length l) (length r))
-    heads-left p q w = record { is = rw (part-whole l i, part-whole r i) w; inside = (p, omega arith, q, omega arith) }
+        → StripsHeads (lent t e h rs ks) (lent t e h rs₁ ks) c l r (Parts d i (length l) (length r))
+    heads-left p q w = record { strips = record { is = rw (part-whole l i, part-whole r i) w; inside = (p, omega arith, q, omega arith) }; whole = (refl, refl) }
 
-    pub heads-all : (n : ℕ) → n ≡ min (length l) (length r) → i ≤ n → n ≤ i → Heads c rs d rs₁ i → Strips (stripHeads l r) (lent t e h rs ks) (lent t e h rs₁ ks) c l r (Parts d i (length l) (length r))
+    pub heads-all : (n : ℕ) → n ≡ min (length l) (length r) → i ≤ n → n ≤ i → Heads c rs d rs₁ i → StripsHeads (lent t e h rs ks) (lent t e h rs₁ ks) c l r (Parts d i (length l) (length r))
     heads-all n z p q g =
         let a = length-drop i l in
         let b = length-drop i r in
@@ -257,4 +267,93 @@ module _ (t e h ks l r : List ℕ) where
       tails-left p q w = record {
         is = record { says = tails-of (storeOf (lent t e h rs ks) c) (storeOf (lent t e h rs₁ ks) d) i (w .says); kept = w .kept };
         inside = (omega arith, omega arith, omega arith, omega arith);
+      }
+
+    pub tails-refused : {c : State} {rs rs₁ : List ℕ} {k : ℕ} → Working (stripHeads (tail l f 0) (tail r f 0)) (lent t e h rs ks) (lent t e h rs₁ ks) c (stop k)
+        → Strips (stripTails (drop f l) (drop f r)) (lent t e h rs ks) (lent t e h rs₁ ks) c l r (Refused k)
+    unfolding stripTails
+    tails-refused w = let z = rw (tail-start l f, tail-start r f) at (w .says) in record { is = record { says = rw z; kept = w .kept }; inside = tt }
+
+    pub tails-all : {c d : State} {rs rs₁ : List ℕ} (n i : ℕ) → n ≡ min (length l) (length r) → f ≤ n → i ≤ n - f → n - f ≤ i → Tails c rs d rs₁ i
+        → Strips (stripTails (drop f l) (drop f r)) (lent t e h rs ks) (lent t e h rs₁ ks) c l r (Parts d f (length l - i) (length r - i))
+    tails-all n i z o p q g =
+        let j : f + i ≡ n = reach n i o p q in
+        tails-left i (below-both n (length l) (length r) (f + i) z j .0) (below-both n (length l) (length r) (f + i) z j .1)
+        (heads-end t e h ks (tail l f) (tail r f) g (none-left n i z j))
+      where
+        reach : (n i : ℕ) → f ≤ n → i ≤ n - f → n - f ≤ i → f + i ≡ n
+        reach n i o p q = omega arith
+
+        below-both : (n a b x : ℕ) → n ≡ min a b → x ≡ n → (x ≤ a) × (x ≤ b)
+        below-both n a b x z j = (omega arith, omega arith)
+
+        gone : (a i : ℕ) → f + i ≡ a → a - i - f ≡ 0
+        gone a i j = omega arith
+
+        zero-left : (x y : ℕ) → x ≡ 0 → min x y ≡ 0
+        zero-left x y j = omega arith
+
+        zero-right : (x y : ℕ) → y ≡ 0 → min x y ≡ 0
+        zero-right x y j = omega arith
+
+        lower : (x a b : ℕ) → x ≡ min a b → a ≤ b → x ≡ a
+        lower x a b j k = omega arith
+
+        upper : (x a b : ℕ) → x ≡ min a b → b < a → x ≡ b
+        upper x a b j k = omega arith
+
+        smaller : (a b i : ℕ) → f + i ≡ min a b → min (a - i - f) (b - i - f) ≡ 0
+        smaller a b i j =
+            decide (leb a b) (λ h. zero-left (a - i - f) (b - i - f) (gone a i (lower (f + i) a b j (leb-true a b h))))
+            (λ h. zero-right (a - i - f) (b - i - f) (gone b i (upper (f + i) a b j (leb-false a b h))))
+
+        none-left : (n i : ℕ) → n ≡ min (length l) (length r) → f + i ≡ n → min (length (tail l f i)) (length (tail r f i)) ≡ 0
+        none-left n i z j = rw (tail-length l f i, tail-length r f i) (smaller (length l) (length r) i (j ∙ z))
+
+pub below-tails : (n a b f i : ℕ) → n ≡ min a b → i < n - f → (f + i < a) × (f + i < b)
+below-tails n a b f i z h = (omega arith, omega arith)
+
+pub last-below : (n f i : ℕ) → f + i < n → n - 1 - i < n
+last-below n f i h = omega arith
+
+-- BOTH HALVES
+
+module _ (t e h ks l r : List ℕ) {c : State} {rs rs₁ : List ℕ} (y : Stripped) (w : StripsHeads (lent t e h rs ks) (lent t e h rs₁ ks) c l r y) where
+  pub strip-refused : (k : ℕ) → y ≡ Refused k → Strips (strip l r) (lent t e h rs ks) (lent t e h rs₁ ks) c l r (Refused k)
+  unfolding strip
+  strip-refused k j = record {
+    is = record { says = rw (w .strips .is .says ∙ ap (λ (o : Stripped). stripped o (lent t e h rs₁ ks) l r) j); kept = w .strips .is .kept };
+    inside = tt;
+  }
+
+  module _ (d : State) (f x z : ℕ) (j : y ≡ Parts d f x z) where
+    ends : (x ≡ length l) × (z ≡ length r)
+    ends = subst (λ (o : Stripped). Whole o l r) j (w .whole)
+
+    bounds : (f ≤ x) × (x ≤ length l) × (f ≤ z) × (z ≤ length r)
+    bounds = subst (λ (o : Stripped). Inside o l r) j (w .strips .inside)
+
+    pub strip-from : f ≤ min (length l) (length r)
+    strip-from = let a = bounds .0 in let b = bounds .2 in let p = ends .0 in let q = ends .1 in omega arith
+
+    heads-say : stripHeads l r (storeOf (lent t e h rs ks) c) ≡ ok (storeOf (lent t e h rs₁ ks) d) (drop f l, drop f r)
+    heads-say =
+        w .strips .is .says ∙ ap (λ (o : Stripped). stripped o (lent t e h rs₁ ks) l r) j
+        ∙ ap (λ (k : ℕ). stripped (Parts d f k z) (lent t e h rs₁ ks) l r) (ends .0) ∙ ap (λ (k : ℕ). stripped (Parts d f (length l) k) (lent t e h rs₁ ks) l r) (ends .1)
+        ∙ rw (part-whole l f, part-whole r f)
+
+    halves : strip l r (storeOf (lent t e h rs ks) c) ≡ stripTails (drop f l) (drop f r) (storeOf (lent t e h rs₁ ks) d)
+    unfolding strip stripTails
+    halves = rw heads-say
+
+    module _ (ready : Ready (lent t e h rs ks) c) (strings : all (isString (readIn t h c)) l ≡ true) (others : all (isString (readIn t h c)) r ≡ true) where
+      pub strip-going : Going t e h ks c rs d rs₁
+      strip-going =
+          let o = heads-ends l r (storeOf (lent t e h rs ks) c) (ready .audited) (all-every _ l strings) (all-every _ r others) .given (storeOf (lent t e h rs₁ ks) d) (drop f l, drop f r) heads-say in
+          record { ready = ready-after ready refl refl (o .cited .audited); added = o .cited .added; kept = w .strips .is .kept }
+
+      pub strip-both : (rs₂ : List ℕ) (o : Stripped) → Strips (stripTails (drop f l) (drop f r)) (lent t e h rs₁ ks) (lent t e h rs₂ ks) d l r o → Strips (strip l r) (lent t e h rs ks) (lent t e h rs₂ ks) c l r o
+      strip-both rs₂ o v = record {
+        is = record { says = halves ∙ v .is .says; kept = kept-down t e h ks strip-going rs₂ (v .is .kept) };
+        inside = v .inside;
       }

@@ -46,6 +46,15 @@ pub record Strips (work : Work (List ℕ × List ℕ)) (m m′ : Lent) (c : Stat
   pub is : Working work m m′ c (stripped o m′ l r)
   pub inside : Inside o l r
 
+-- after the heads the parts reach to the ends of the lists
+abbrev pub Whole : Stripped → List ℕ → List ℕ → Type 0
+Whole (Parts c i x y) l r = (x ≡ length l) × (y ≡ length r)
+Whole (Refused k) l r = Unit {0}
+
+pub record StripsHeads (m m′ : Lent) (c : State) (l r : List ℕ) (o : Stripped) : Type 0 where
+  pub strips : Strips (stripHeads l r) m m′ c l r o
+  pub whole : Whole o l r
+
 -- the second half of step 1
 unfoldable pub stripTails : List ℕ → List ℕ → Work (List ℕ × List ℕ)
 stripTails l r = stripHeads (reverse l) (reverse r) >>= (λ v. give (reverse (v .0), reverse (v .1)))

@@ -3,15 +3,15 @@ ghost use mathlib.Core.Path.{_≡_};
 ghost use mathlib.Core.Bool.{true, _&&_};
 ghost use mathlib.Core.List.{[]};
 ghost use Prim.Native.Nat.{ℕ, min, _≤_};
-ghost use lib.ListN.{length};
+ghost use lib.ListN.{length, drop};
 ghost use lib.Dec.{eqb};
 ghost use Rattle.records.specs.Lists.{all, sameWord};
 ghost use Rattle.records.specs.Store.{within, termIn, isConstant, isString, text, sameClass};
 ghost use Rattle.records.specs.View.{termsView, lent, storeOf};
 ghost use Rattle.records.specs.Audited.{Ready};
 ghost use Rattle.records.specs.Calls.{Working, added};
-ghost use Rattle.wordeq.specs.Wordeq.{same, explainMatch, stripHeads, strip};
-ghost use Rattle.wordeq.specs.Stripping.{readIn, Readable, Pair, stripTails, Strips};
+ghost use Rattle.wordeq.specs.Wordeq.{same, explainMatch, strip};
+ghost use Rattle.wordeq.specs.Stripping.{readIn, Readable, Pair, stripTails, Strips, StripsHeads};
 use crate::Stripped;
 use records::Added;
 use records::State;
@@ -110,7 +110,7 @@ fn strip_heads(
     rhs: &[u32],
 ) -> Stripped
     requires { ⌜ Ready (lent (now terms) (now cells) (now chars) (now reasons) (now keys)) c ⌝ ∗ ⌜ all (isString (readIn (now terms) (now chars) c)) (now lhs) ≡ true ⌝ ∗ ⌜ all (isString (readIn (now terms) (now chars) c)) (now rhs) ≡ true ⌝ }
-    ensures { λ r. ⌜ Strips (stripHeads (now (lhs .entry)) (now (rhs .entry))) (lent (now (terms .entry)) (now (cells .entry)) (now (chars .entry)) (now (reasons .entry)) (now (keys .entry))) (lent (now (terms .entry)) (now (cells .entry)) (now (chars .entry)) (now (reasons .exit)) (now (keys .entry))) c (now (lhs .entry)) (now (rhs .entry)) r ⌝ }
+    ensures { λ r. ⌜ StripsHeads (lent (now (terms .entry)) (now (cells .entry)) (now (chars .entry)) (now (reasons .entry)) (now (keys .entry))) (lent (now (terms .entry)) (now (cells .entry)) (now (chars .entry)) (now (reasons .exit)) (now (keys .entry))) c (now (lhs .entry)) (now (rhs .entry)) r ⌝ }
 {
     let n = shorter(lhs.len(), rhs.len());
     let mut d = c;
@@ -132,4 +132,63 @@ fn strip_heads(
         i += 1;
     }
     Stripped::Parts(d, i, lhs.len(), rhs.len())
+}
+
+// Same tails, from the ends down to place `from`.
+fn strip_tails(
+    terms: &[u32],
+    cells: &[u32],
+    chars: &[u32],
+    reasons: &mut [u32],
+    keys: &[u32],
+    c: State,
+    lhs: &[u32],
+    rhs: &[u32],
+    from: usize,
+) -> Stripped
+    requires { ⌜ Ready (lent (now terms) (now cells) (now chars) (now reasons) (now keys)) c ⌝ ∗ ⌜ all (isString (readIn (now terms) (now chars) c)) (now lhs) ≡ true ⌝ ∗ ⌜ all (isString (readIn (now terms) (now chars) c)) (now rhs) ≡ true ⌝ ∗ ⌜ from ≤ min (length (now lhs)) (length (now rhs)) ⌝ }
+    ensures { λ r. ⌜ Strips (stripTails (drop from (now (lhs .entry))) (drop from (now (rhs .entry)))) (lent (now (terms .entry)) (now (cells .entry)) (now (chars .entry)) (now (reasons .entry)) (now (keys .entry))) (lent (now (terms .entry)) (now (cells .entry)) (now (chars .entry)) (now (reasons .exit)) (now (keys .entry))) c (now (lhs .entry)) (now (rhs .entry)) r ⌝ }
+{
+    let n = shorter(lhs.len(), rhs.len());
+    let mut d = c;
+    let mut i: usize = 0;
+    while i < n - from {
+        let a = lhs[lhs.len() - 1 - i];
+        let b = rhs[rhs.len() - 1 - i];
+        if !same_unchecked(terms, chars, d, a, b) {
+            return Stripped::Parts(d, from, lhs.len() - i, rhs.len() - i);
+        }
+        match explain_match_unchecked(terms, cells, chars, reasons, keys, d, a, b) {
+            Added::Counts(e) => {
+                d = e;
+            }
+            Added::Refused(k) => {
+                return Stripped::Refused(k);
+            }
+        }
+        i += 1;
+    }
+    Stripped::Parts(d, from, lhs.len() - i, rhs.len() - i)
+}
+
+// Step 1 on two lists of string terms.
+pub fn strip_unchecked(
+    terms: &[u32],
+    cells: &[u32],
+    chars: &[u32],
+    reasons: &mut [u32],
+    keys: &[u32],
+    c: State,
+    lhs: &[u32],
+    rhs: &[u32],
+) -> Stripped
+    requires { ⌜ Ready (lent (now terms) (now cells) (now chars) (now reasons) (now keys)) c ⌝ ∗ ⌜ all (isString (readIn (now terms) (now chars) c)) (now lhs) ≡ true ⌝ ∗ ⌜ all (isString (readIn (now terms) (now chars) c)) (now rhs) ≡ true ⌝ }
+    ensures { λ r. ⌜ Strips (strip (now (lhs .entry)) (now (rhs .entry))) (lent (now (terms .entry)) (now (cells .entry)) (now (chars .entry)) (now (reasons .entry)) (now (keys .entry))) (lent (now (terms .entry)) (now (cells .entry)) (now (chars .entry)) (now (reasons .exit)) (now (keys .entry))) c (now (lhs .entry)) (now (rhs .entry)) r ⌝ }
+{
+    match strip_heads(terms, cells, chars, reasons, keys, c, lhs, rhs) {
+        Stripped::Parts(d, from, _, _) => {
+            strip_tails(terms, cells, chars, reasons, keys, d, lhs, rhs, from)
+        }
+        Stripped::Refused(k) => Stripped::Refused(k),
+    }
 }

@@ -73,7 +73,7 @@ same-length-2 c = search needs
 
 -- src/stripping.rt:129:17
 returns-2 : tie.Need-returns-2 Inv-loop μ-loop
-returns-2 c = record { is = heads-refused _ _ _ _ (λ k. drop k (c .before .before .before .before .before .before .before .before .before .before .before .before .before .before .before .before .before .before .before .before .before .args .lhs .now)) (λ k. drop k (c .before .before .before .before .before .before .before .before .before .before .before .before .before .before .before .before .before .before .before .before .before .args .rhs .now)) (c .before .before .before .before .before .before .before .before .before .before .before .before .loop .inv .1 .1) _ _ (drop-head _ _ (below-left _ _ _ _ (c .before .before .before .before .before .before .before .before .before .before .before .before .before .shorter .ensures) (c .before .before .before .before .before .before .before .before .before .before .before .loop-test .taken))) (drop-head _ _ (below-right _ _ _ _ (c .before .before .before .before .before .before .before .before .before .before .before .before .before .shorter .ensures) (c .before .before .before .before .before .before .before .before .before .before .before .loop-test .taken))) _ (c .before .before .before .before .before .before .before .before .same-unchecked .ensures) (c .before .before .before .before .before .before .before .if1 .left) _ (c .before .before .before .before .before .explain-match-unchecked .ensures) _ (c .before .k .given .1); inside = tt }
+returns-2 c = record { strips = record { is = heads-refused _ _ _ _ (λ k. drop k (c .before .before .before .before .before .before .before .before .before .before .before .before .before .before .before .before .before .before .before .before .before .args .lhs .now)) (λ k. drop k (c .before .before .before .before .before .before .before .before .before .before .before .before .before .before .before .before .before .before .before .before .before .args .rhs .now)) (c .before .before .before .before .before .before .before .before .before .before .before .before .loop .inv .1 .1) _ _ (drop-head _ _ (below-left _ _ _ _ (c .before .before .before .before .before .before .before .before .before .before .before .before .before .shorter .ensures) (c .before .before .before .before .before .before .before .before .before .before .before .loop-test .taken))) (drop-head _ _ (below-right _ _ _ _ (c .before .before .before .before .before .before .before .before .before .before .before .before .before .shorter .ensures) (c .before .before .before .before .before .before .before .before .before .before .before .loop-test .taken))) _ (c .before .before .before .before .before .before .before .before .same-unchecked .ensures) (c .before .before .before .before .before .before .before .if1 .left) _ (c .before .before .before .before .before .explain-match-unchecked .ensures) _ (c .before .k .given .1); inside = tt }; whole = tt }
 
 -- src/stripping.rt:132:9
 add-i : tie.Need-add-i Inv-loop μ-loop
