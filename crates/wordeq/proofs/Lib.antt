@@ -9,3 +9,5 @@ pub mod Constants
 pub mod Split
 pub mod Resolve
 pub mod Equal
+pub mod Sequence
+pub mod Splitting

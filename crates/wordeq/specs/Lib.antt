@@ -1,2 +1,3 @@
 pub mod Wordeq
 pub mod Meaning
+pub mod Splits
