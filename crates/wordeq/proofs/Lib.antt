@@ -16,3 +16,5 @@ pub mod SidesWalk
 pub mod SidesTexts
 pub mod SidesReady
 pub mod Listed
+pub mod Sequence
+pub mod Splitting

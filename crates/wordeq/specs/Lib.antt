@@ -2,3 +2,4 @@ pub mod Wordeq
 pub mod Meaning
 pub mod Stripping
 pub mod Sides
+pub mod Splits

@@ -1,6 +1,7 @@
 // Word equations, steps 1 to 8.
-mod sides;
 pub mod equal_lists;
+mod sides;
+pub mod splits;
 pub mod stripping;
 
 // What step 1 leaves: the counts, the place where both parts begin, and where the left and the right one end; or the refusal.
