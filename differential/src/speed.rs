@@ -12,7 +12,7 @@ use std::time::{Duration, Instant};
 
 const SIZES: [usize; 4] = [8, 64, 256, 512];
 const KINDS: [(usize, &str); 5] = [(7, "explain"), (8, "normal_form"), (9, "deep_normal_form"), (10, "resolve_equation"), (11, "step")];
-const FOR: Duration = Duration::from_millis(300);
+const FOR: Duration = Duration::from_millis(150);
 
 // calls a second of a round of calls, repeated
 fn rate(calls: usize, mut round: impl FnMut()) -> f64 {
@@ -140,8 +140,12 @@ fn port(samples: &[Sample], calls: usize, rust: f64) {
             }
         })
     };
-    let whole = run(false);
-    let audit = run(true);
+    // in turn, the best of each: their difference is small beside what else the machine does
+    let (mut whole, mut audit) = (0.0, 0.0);
+    for _ in 0..5 {
+        whole = run(false).max(whole);
+        audit = run(true).max(audit);
+    }
     let work = 1.0 / (1.0 / whole - 1.0 / audit).max(1e-9);
     print!(" {whole:13.0} {work:23.0} {:10.2} {:19.2}", whole / rust, work / rust);
 }
