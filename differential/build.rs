@@ -34,9 +34,10 @@ fn main() {
         std::process::exit(1);
     };
     for call in CALLS {
-        // a symbol's name stands in the archive between zeros
-        let name = [b"\0", call.as_bytes(), b"\0"].concat();
-        if archive.windows(name.len()).any(|w| w == name) {
+        // a symbol's name ends with a zero; what stands before it is a zero, an offset or the name of its section up to a dot
+        let name = [call.as_bytes(), b"\0"].concat();
+        let part_of_name = |b: u8| b.is_ascii_alphanumeric() || b == b'_';
+        if archive.windows(name.len() + 1).any(|w| w[1..] == name && !part_of_name(w[0])) {
             println!("cargo:rustc-cfg=exports=\"{call}\"");
         }
     }

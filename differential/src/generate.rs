@@ -397,6 +397,8 @@ pub fn worst() -> Vec<(&'static str, Lent, Call)> {
         s.add_term(VARIABLE, place, 8001);
     }
     list.push(("the audit: 511 names of 8,001 shared characters", s, Call::Audit));
+    list.push(("the audit: 510 names of 15,300 shared characters and one mark", one_mark(510, 15_300), Call::Audit));
+    list.push(("the audit: 256 congruences of 682 pairs with paths of 254 edges", long_pairs(127, 682), Call::Audit));
 
     let mut random = Random::new(1);
     let d = tower(&mut random, 250, Label::Asserted(5));
@@ -634,4 +636,56 @@ pub fn long_request(random: &mut Random, s: &Lent, kind: usize) -> Request {
         std::mem::swap(l, &mut m);
     }
     r
+}
+
+/// Names that differ late and have one mark under the port's audit (`mixed` in the definitions of `records`), which so compares each two.
+fn one_mark(names: u32, length: usize) -> Lent {
+    let mixed = |h: u64, x: u32| (69069 * h + h / 65536 + x as u64) % 4294967291;
+    let mut text = vec!['a' as u32; length - 2];
+    let mut mark = 0;
+    for name in 0..names as usize {
+        let h = text[2 * name..].iter().fold(1, |h, &x| mixed(h, x));
+        let last = |x: u32| {
+            let y = (mark + 4294967291 - mixed(mixed(h, x), 0)) % 4294967291;
+            (y < 0xD800).then_some(y as u32)
+        };
+        let (x, y) = if name == 0 {
+            mark = mixed(mixed(h, 'b' as u32), 'b' as u32);
+            ('b' as u32, 'b' as u32)
+        } else {
+            (98..0xD800).chain(0xE000..0x110000).find_map(|x| last(x).map(|y| (x, y))).unwrap()
+        };
+        text.extend([x, y]);
+    }
+    let mut s = lay_out(&Draft { layout: 0, ..Draft::default() });
+    s.add_text(&text);
+    for name in 0..names {
+        s.add_term(VARIABLE, 2 * name, length as u32);
+    }
+    s
+}
+
+/// As many congruences as fit beside two branches of a tree, each over the same pairs of the branches' ends.
+fn long_pairs(depth: u32, pairs: usize) -> Lent {
+    let mut s = lay_out(&Draft { layout: 0, ..Draft::default() });
+    let place = s.add_text(&(0..2 * depth + 1).map(|i| 'a' as u32 + i).collect::<Vec<u32>>());
+    let join = |s: &mut Lent, t: u32, root: u32, parent: u32, label: [u32; 3]| {
+        s.terms[8 * t as usize + 3..8 * t as usize + 8].copy_from_slice(&[root, parent, label[0], label[1], label[2]]);
+    };
+    let root = s.add_term(VARIABLE, place, 1);
+    let mut ends = [root; 2];
+    for i in 1..=2 * depth {
+        let v = s.add_term(VARIABLE, place + i, 1);
+        let end = &mut ends[(i % 2) as usize];
+        join(&mut s, v, root, *end, [4, 0, 0]);
+        *end = v;
+    }
+    let [left, right] = ends.map(|v| s.add_chain(&vec![(v, 0); pairs]));
+    let paired = s.add_chain(&vec![(ends[0], ends[1]); pairs]);
+    let other = s.add_term(CONCATENATION, right, 0);
+    while (s.count() as usize) < TERMS {
+        let t = s.add_term(CONCATENATION, left, 0);
+        join(&mut s, t, other, other, [3, paired, 1]);
+    }
+    s
 }

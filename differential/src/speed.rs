@@ -12,7 +12,7 @@ use std::time::{Duration, Instant};
 
 const SIZES: [usize; 4] = [8, 64, 256, 512];
 const KINDS: [(usize, &str); 5] = [(7, "explain"), (8, "normal_form"), (9, "deep_normal_form"), (10, "resolve_equation"), (11, "step")];
-const FOR: Duration = Duration::from_millis(300);
+const FOR: Duration = Duration::from_millis(150);
 
 // calls a second of a round of calls, repeated
 fn rate(calls: usize, mut round: impl FnMut()) -> f64 {
@@ -62,6 +62,7 @@ pub fn table(seed: u64) {
     println!("terms  call               Rust calls/s  port calls/s  port without its audit  port/Rust  without audit/Rust");
     for terms in SIZES {
         let mut random = Random::new(seed);
+        audit_alone(&samples(&mut random, terms, 0), terms);
         for (kind, name) in KINDS {
             let samples = samples(&mut random, terms, kind);
             let calls: usize = samples.iter().map(|s| s.calls.len()).sum();
@@ -118,9 +119,17 @@ fn worst_port(_: &Lent, _: &crate::call::Request, _: &crate::call::Outcome) {
 
 #[cfg(feature = "port")]
 fn port(samples: &[Sample], calls: usize, rust: f64) {
-    use crate::port::{call, Lending};
+    use crate::{
+        call::Request,
+        port::{self, call, Lending},
+    };
     let (mut list, mut answer) = ([0; 1024], [0; 8]);
     let mut stores: Vec<Lent> = samples.iter().map(|s| s.store.clone()).collect();
+    let lacks = |s: &Sample| s.calls.iter().any(|c| port::run(&s.store, &Request::new(c.clone())).is_none());
+    if samples.iter().any(lacks) {
+        print!("  (the port lacks it)");
+        return;
+    }
     let mut run = |audit: bool| {
         rate(calls, || {
             for (store, s) in stores.iter_mut().zip(samples) {
@@ -131,11 +140,31 @@ fn port(samples: &[Sample], calls: usize, rust: f64) {
             }
         })
     };
-    let whole = run(false);
-    let audit = run(true);
+    // in turn, the best of each: their difference is small beside what else the machine does
+    let (mut whole, mut audit) = (0.0, 0.0);
+    for _ in 0..5 {
+        whole = run(false).max(whole);
+        audit = run(true).max(audit);
+    }
     let work = 1.0 / (1.0 / whole - 1.0 / audit).max(1e-9);
     print!(" {whole:13.0} {work:23.0} {:10.2} {:19.2}", whole / rust, work / rust);
 }
 
 #[cfg(not(feature = "port"))]
 fn port(_: &[Sample], _: usize, _: f64) {}
+
+// the audit, which the unchanged Rust does not have
+#[cfg(feature = "port")]
+fn audit_alone(samples: &[Sample], terms: usize) {
+    use crate::port::{call, Lending};
+    let mut stores: Vec<Lent> = samples.iter().map(|s| s.store.clone()).collect();
+    let audits = rate(stores.len(), || {
+        for store in &mut stores {
+            call(&mut Lending { store, list: &mut [], answer: &mut [] }, &Call::Audit);
+        }
+    });
+    println!("{terms:5}  audit                          {audits:13.0}");
+}
+
+#[cfg(not(feature = "port"))]
+fn audit_alone(_: &[Sample], _: usize) {}

@@ -15,7 +15,8 @@ use Rattle.records.specs.declared.State.{State}
 use Rattle.records.specs.declared.Made.the-variants.{Term, Refused}
 use Rattle.records.specs.Store.{Term as Record, Cell, Store, Out, ok, stop, Work, term, kind, count, within, termIn, cellIn, chainIn}
 use Rattle.records.specs.View.{Lent, lent, storeOf, termLimit, cellLimit, termRoom, cellRoom, termAt, cellAt, termsView, cellsView, oneTerm, moreCells}
-use Rattle.records.specs.Make.{numberOf, lookup, lowest, orMake, addChain, addTerm, appendParts, hasParts, concatOf, makeConcat, sidesOf, hasSides, makeSides, lengthOf, equationOf, makeLength, makeEquation}
+use Rattle.records.specs.Make.{lookup, lowest, orMake, addChain, addTerm, concatOf, makeConcat, lengthOf, equationOf, makeLength, makeEquation}
+use Rattle.records.specs.Leaves.{numberOf, appendParts, hasParts, sidesOf, hasSides, makeSides}
 use Rattle.records.specs.Puts.{TermPut, ChainPut}
 use Rattle.records.specs.Audited.{Ready, Sized, Recorded, Ascends}
 use Rattle.records.specs.Calls.{Working, made}

@@ -11,7 +11,8 @@ use borrow.Author.Tests.{eqb-true, eqb-false, eq-eqb, ne-eqb}
 use Rattle.records.specs.declared.State.{State}
 use Rattle.records.specs.Lists.{if_then_else_}
 use Rattle.records.specs.Store.{Store, term, count, isTerm, isString, within, climb, classUp, forestUp, root, top, sameClass, sameTree}
-use Rattle.records.specs.Rules.{eachTerm, parentsRule, endsRule, alikeRule, aloneRule, isNumber, edgeLabel, labelRule, alikeAt, aloneAt, classTest, classesRule}
+use Rattle.records.specs.Rules.{eachTerm, parentsRule, endsRule, alikeRule, aloneRule, isNumber, edgeLabel, labelRule, classesRule}
+use Rattle.records.specs.Leaves.{alikeAt, aloneAt, classTest}
 use Rattle.records.specs.View.{Lent, lent, storeOf, termsView}
 use Rattle.records.specs.Audited.{Closed, Rooted}
 use Rattle.records.proofs.Lists.{both-left, both-right, both-true, right-false, right-falsum, or-stop, or-next, either, or-left, or-right, decide, clash, same-test, and-stop, and-next, failed, passed}

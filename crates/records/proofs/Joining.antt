@@ -11,7 +11,8 @@ use Rattle.records.specs.declared.State.{State}
 use Rattle.records.specs.Lists.{all, joined, sameWord, Every}
 use Rattle.records.specs.Store.{Store, Out, ok, isConstant, kind, termIn, textIn, text}
 use Rattle.records.specs.View.{lent, Lent, storeOf, charRoom, termAt, textAt, termsView, charsView, span, lengths}
-use Rattle.records.specs.Make.{hasText, makeText, makeConstant}
+use Rattle.records.specs.Make.{makeConstant}
+use Rattle.records.specs.Leaves.{hasText, makeText}
 use Rattle.records.specs.Puts.{TextsWithin}
 use Rattle.records.specs.Audited.{Audited, Ready}
 use Rattle.records.specs.Calls.{Working}

@@ -18,7 +18,8 @@ use Rattle.records.specs.View.{lent, termLimit, charLimit, charRoom, ter
 use Rattle.records.specs.Audited.{Ready}
 use Rattle.records.specs.Calls.{Working, made}
 use Rattle.records.specs.Puts.{CharsPut, TermPut}
-use Rattle.records.specs.Make.{numberOf, lookup, lowest, addText, addTerm, withChars, withTerms, own, textOf, hasText, makeText, makeConstant, makeVariable, constantOf}
+use Rattle.records.specs.Make.{lookup, lowest, addText, addTerm, withChars, withTerms, own, makeConstant, makeVariable, constantOf}
+use Rattle.records.specs.Leaves.{numberOf, textOf, hasText, makeText}
 use Rattle.records.specs.Rules.{named}
 use Rattle.records.proofs.Views.{term-is, text-span}
 use Rattle.records.proofs.Rooms.{chars-fit, chars-limit, chars-room, chars-over, term-limit, term-room}

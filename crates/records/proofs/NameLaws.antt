@@ -13,7 +13,7 @@ use Rattle.records.specs.declared.State.{State}
 use Rattle.records.specs.Lists.{allBelow, table, sameWord}
 use Rattle.records.specs.Store.{Term, Store, term, kind, within, isVariable, text, termIn}
 use Rattle.records.specs.View.{lent, storeOf, termAt, charsView, span}
-use Rattle.records.specs.Make.{hasText}
+use Rattle.records.specs.Leaves.{hasText}
 use Rattle.records.specs.Rules.{textRule, named, nameRule}
 use Rattle.records.specs.Marks.{mixed, markFrom, mark, Naming}
 use Rattle.records.proofs.Lists.{both-left, both-right, right-false, and-stop, and-next, decide, failed, passed, within-high, below-false, below-suc, below-zero, below-done, table-length, table-at, word-is}

@@ -17,9 +17,11 @@ use Rattle.records.specs.Lists.{firstBelow}
 use Rattle.records.specs.Store.{Store, Out, ok, stop, count, within}
 use Rattle.records.specs.View.{Lent, lent, storeOf, namesAt}
 use Rattle.records.specs.Rules.{named}
-use Rattle.records.specs.Make.{strk, decimalBy, nameOf, isTaken, withNames, nameLimit, takeNameBy, takeName, numberOf, lookup, isSome, textOf, hasText}
+use Rattle.records.specs.Make.{strk, decimalBy, nameOf, isTaken, withNames, nameLimit, takeNameBy, takeName, lookup, isSome}
+use Rattle.records.specs.Leaves.{numberOf, textOf, hasText}
 use Rattle.records.specs.Audited.{Ready}
-use Rattle.records.specs.Calls.{Free, Taken}
+use Rattle.records.specs.Calls.{Taken}
+use Rattle.records.specs.Leaves.{Free}
 use Rattle.records.specs.Puts.{Written}
 use Rattle.records.proofs.Lists.{first-same}
 use Rattle.records.proofs.Making.{texts-within, found-text}

@@ -12,7 +12,8 @@ use Rattle.records.specs.declared.State.{State}
 use Rattle.records.specs.Lists.{all, upTo, sameWord, firsts, seconds, Every, none-left, and}
 use Rattle.records.specs.Store.{Store, Cell, cellIn, term, kind, within, chainBy, chainIn, chain, aboveIn, nearestIn, pathIn, sameTree}
 use Rattle.records.specs.View.{Lent, lent, storeOf, termLimit, termsView, cellAt, cellsView}
-use Rattle.records.specs.Rules.{stampBelow, fallsRule, pairsOf, pairWords, pairMeets, congruenceRule, edgeRule, congruencesRule}
+use Rattle.records.specs.Rules.{stampBelow, fallsRule, pairsOf, congruenceRule, edgeRule, congruencesRule}
+use Rattle.records.specs.Leaves.{pairWords, pairMeets}
 use Rattle.records.specs.Audited.{Classed, Recorded, Part, Pathed, TermPair, Congruable}
 use Rattle.records.proofs.Lists.{both-left, both-right, both-true, either, every-map, word-is, and-stop, and-next, or-stop, or-next, left-false, right-false, failed, passed, decide, table-length}
 use Rattle.records.proofs.Views.{kind-at, first-at, value-at, other-at, next-at}

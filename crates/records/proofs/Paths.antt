@@ -10,7 +10,8 @@ use lib.ListN.{length, getD, set, length-set}
 use lib.Seq.{getD-set-same, getD-set-other}
 use lib.Dec.{eqb}
 use borrow.Author.Tests.{eqb-true, eqb-false, eq-eqb, ne-eqb, lt-ltb, le-ltb}
-use Rattle.records.specs.Lists.{all, any, firstOf, isIn, upTo, marked, isMarked, Every, none-left, and}
+use Rattle.records.specs.Lists.{all, any, firstOf, isIn, upTo, Every, none-left, and}
+use Rattle.records.specs.Leaves.{marked, isMarked}
 use Rattle.records.specs.Store.{Term, within, climb, forestUp, topIn, aboveBy, aboveIn, orNone, nearestIn, pathIn}
 use Rattle.records.specs.View.{termsView}
 use Rattle.records.specs.Rules.{stampBelow}

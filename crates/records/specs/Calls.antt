@@ -50,11 +50,6 @@ abbrev pub added : Added → Lent → Out (Unit {0})
 added (adding.Counts c) m = ok (storeOf m c) tt
 added (adding.Refused k) m = stop k
 
--- x is the first counter from the store's on whose name no variable has, or the limit where there is none below it
-pub record Free (s : Store) (x : ℕ) : Type 0 where
-  pub free : x < nameLimit → takeName s ≡ ok (withNames s (suc x)) (nameOf x)
-  pub spent : nameLimit ≤ x → takeName s ≡ stop 9
-
 -- the answer of taking a name
 abbrev pub taken : Named → Lent → Out (List ℕ)
 taken r m = if eqb (r .code) 0 then ok (storeOf m (r .state)) (take (r .len) (r .name)) else stop (r .code)

@@ -62,14 +62,6 @@ unfoldable pub upTo : ℕ → List ℕ → List ℕ
 upTo x [] = []
 upTo x (y ∷ l) = elim (eqb y x) [ true ↦ [] | false ↦ y ∷ upTo x l ]
 
--- a table with 1 at each number of l
-unfoldable pub marked : List ℕ → List ℕ → List ℕ
-marked [] s = s
-marked (x ∷ l) s = marked l (set s x 1)
-
-unfoldable pub isMarked : List ℕ → ℕ → Bool
-isMarked s x = eqb (getD s x 0) 1
-
 -- each number below n passes
 unfoldable pub allBelow : (ℕ → Bool) → ℕ → Bool
 allBelow p zero = true

@@ -95,11 +95,6 @@ isSome (some i) = true
 unfoldable pub lookup : (Store → ℕ → Bool) → Store → Option ℕ
 lookup equal s = firstBelow (λ i. equal s (suc i)) (count s)
 
--- the number of the record found; 0, which names none, where there is none
-abbrev pub numberOf : Option ℕ → ℕ
-numberOf none = 0
-numberOf (some i) = suc i
-
 abbrev pub orMake : Work ℕ → Option ℕ → Work ℕ
 orMake make none = make
 orMake make (some i) = give (suc i)
@@ -113,13 +108,6 @@ lowest equal make = do
 unfoldable pub constantOf : List ℕ → Store → ℕ → Bool
 constantOf w s t = isConstant s t && sameWord (text s t) w
 
--- a constant or a variable by its text, in the store and in the lent words: kind k, characters w
-unfoldable pub textOf : ℕ → List ℕ → Store → ℕ → Bool
-textOf k w s t = eqb (kind s t) k && sameWord (text s t) w
-
-unfoldable pub hasText : List ℕ → List ℕ → ℕ → List ℕ → ℕ → Bool
-hasText l h k w t = eqb (termAt l t .kind) k && sameWord (textAt l h t) w
-
 unfoldable pub concatOf : List ℕ → Store → ℕ → Bool
 concatOf l s t = isConcat s t && sameWord (parts s t) l
 
@@ -128,17 +116,6 @@ lengthOf a s t = isLength s t && eqb (term s t .first) a
 
 unfoldable pub equationOf : ℕ → ℕ → Store → ℕ → Bool
 equationOf a b s t = isEquation s t && eqb (term s t .first) a && eqb (term s t .second) b
-
--- a length or an equation by its kind and its two words, in the store and in the lent words: a length's second word is 0
-unfoldable pub sidesOf : ℕ → ℕ → ℕ → Store → ℕ → Bool
-sidesOf k a b s t = eqb (kind s t) k && eqb (term s t .first) a && eqb (term s t .second) b
-
-unfoldable pub hasSides : List ℕ → ℕ → ℕ → ℕ → ℕ → Bool
-hasSides l k a b t = eqb (termAt l t .kind) k && eqb (termAt l t .first) a && eqb (termAt l t .second) b
-
--- a concatenation by its parts, in the lent words of terms
-unfoldable pub hasParts : List ℕ → List Cell → List ℕ → ℕ → Bool
-hasParts l cs w t = eqb (termAt l t .kind) 3 && sameWord (firsts (chainIn cs (termAt l t .first))) w
 
 unfoldable pub makeConstant : List ℕ → Work ℕ
 makeConstant w = lowest (constantOf w) (do
@@ -150,18 +127,6 @@ makeVariable w = lowest (named w) (do
   p ← addText w
   addTerm 2 p (length w))
 
--- the two in one
-unfoldable pub makeText : ℕ → List ℕ → Work ℕ
-makeText k w = lowest (textOf k w) (do
-  p ← addText w
-  addTerm k p (length w))
-
--- a new concatenation
-abbrev pub appendParts : List ℕ → Work ℕ
-appendParts l = do
-  c ← addChain l
-  addTerm 3 c 0
-
 unfoldable pub makeConcat : List ℕ → Work ℕ
 makeConcat l = lowest (concatOf l) (do
   c ← addChain l
@@ -172,10 +137,6 @@ makeLength a = lowest (lengthOf a) (addTerm 4 a 0)
 
 unfoldable pub makeEquation : ℕ → ℕ → Work ℕ
 makeEquation a b = lowest (equationOf a b) (addTerm 5 a b)
-
--- the two in one, where a length's second word is 0
-unfoldable pub makeSides : ℕ → ℕ → ℕ → Work ℕ
-makeSides k a b = lowest (sidesOf k a b) (addTerm k a b)
 
 -- NAMES: 'z names are `!strk` with the counter in decimal'
 

@@ -116,16 +116,6 @@ labelRule s t = if isEdge s t
     then edgeLabel (term s t .labelKind) (term s t .labelValue)
     else eqb (term s t .labelKind) 0 && eqb (term s t .labelValue) 0 && eqb (term s t .stamp) 0
 
--- where parents are terms and walks end, these of one term at a time say the same as the rules of two (proofs/ClassLaws.antt)
-unfoldable pub alikeAt : Store → ℕ → Bool
-alikeAt s t = eqb (root s (top s t)) (root s t) && eqb (top s (root s t)) (top s t)
-
-unfoldable pub aloneAt : Store → ℕ → Bool
-aloneAt s t = eqb (term s t .classParent) t || (isString s t && isString s (term s t .classParent))
-
-unfoldable pub classTest : Store → ℕ → Bool
-classTest s t = endsRule s t && alikeAt s t && labelRule s t && aloneAt s t
-
 unfoldable pub classesRule : Store → Bool
 classesRule s =
     eachTerm s (parentsRule s) && eachTerm s (endsRule s) && eachTerm s (λ t. eachTerm s (alikeRule s t)) && eachTerm s (labelRule s)
@@ -136,15 +126,6 @@ classesRule s =
 -- the pairs are those of the arguments of t and of u in order, n of each, t's argument first
 unfoldable pub pairsOf : Store → List (ℕ × ℕ) → ℕ → ℕ → Bool
 pairsOf s l t u = sameWord (firsts l) (parts s t) && sameWord (seconds l) (parts s u)
-
--- the same of three chains
-unfoldable pub pairWords : List (ℕ × ℕ) → List (ℕ × ℕ) → List (ℕ × ℕ) → Bool
-pairWords l p q = sameWord (firsts l) (firsts p) && sameWord (seconds l) (firsts q)
-
--- the cells y and z, and the cell x of their values
-unfoldable pub pairMeets : List Cell → ℕ → ℕ → ℕ → Bool
-pairMeets cs x y z =
-    within (length cs) y && within (length cs) z && eqb (cellIn cs x .value) (cellIn cs y .value) && eqb (cellIn cs x .other) (cellIn cs z .value)
 
 -- 'each pair's forest path has only stamps below the edge's'
 abbrev pub stampBelow : List Term → ℕ → ℕ → Bool

@@ -11,7 +11,7 @@ ghost use Rattle.records.specs.Audited.{Sized};
 ghost use Rattle.records.specs.Calls.{Working, added};
 
 // One term more fits.
-pub fn term_fits(terms: &[u32], n: usize) -> bool
+pub(crate) fn term_fits(terms: &[u32], n: usize) -> bool
     ensures { λ r. ⌜ r ≡ ltb n (termRoom (now (terms .entry))) ⌝ }
 {
     if n < crate::TERM_LIMIT {
@@ -21,7 +21,7 @@ pub fn term_fits(terms: &[u32], n: usize) -> bool
 }
 
 // Record n + 1, which is its own class: the words above the count are free, so all eight are written.
-pub fn put_term_unchecked(terms: &mut [u32], n: usize, kind: u32, first: u32, second: u32)
+pub(crate) fn put_term_unchecked(terms: &mut [u32], n: usize, kind: u32, first: u32, second: u32)
     requires { ⌜ n < termLimit ⌝ ∗ ⌜ 8 * (n + 2) ≤ length (now terms) ⌝ }
     ensures { λ _. ⌜ TermPut (now (terms .entry)) (now (terms .exit)) n kind first second ⌝ }
 {
@@ -38,7 +38,7 @@ pub fn put_term_unchecked(terms: &mut [u32], n: usize, kind: u32, first: u32, se
 }
 
 // k cells more fit.
-pub fn cells_fit(cells: &[u32], n: usize, k: usize) -> bool
+pub(crate) fn cells_fit(cells: &[u32], n: usize, k: usize) -> bool
     requires { ⌜ n ≤ cellLimit ⌝ ∗ ⌜ 3 * (n + 1) ≤ length (now cells) ⌝ }
     ensures { λ r. ⌜ r ≡ leb (n + k) (cellRoom (now (cells .entry))) ⌝ }
 {
@@ -59,7 +59,7 @@ fn put_cell(cells: &mut [u32], n: usize, value: u32, next: u32)
 }
 
 // A chain of the values of l, from record n + 1 on: each cell names the one after it, and the last names none.
-pub fn put_chain_unchecked(cells: &mut [u32], n: usize, l: &[u32])
+pub(crate) fn put_chain_unchecked(cells: &mut [u32], n: usize, l: &[u32])
     requires { ⌜ n + length (now l) ≤ cellLimit ⌝ ∗ ⌜ 3 * (n + length (now l) + 1) ≤ length (now cells) ⌝ }
     ensures { λ _. ⌜ ChainPut (now (cells .entry)) (now (cells .exit)) n (now (l .entry)) ⌝ }
 {

@@ -9,3 +9,12 @@ pub mod Constants
 pub mod Split
 pub mod Resolve
 pub mod Equal
+pub mod Alike
+pub mod Strips
+pub mod SidesLetters
+pub mod SidesWalk
+pub mod SidesTexts
+pub mod SidesReady
+pub mod Listed
+pub mod Sequence
+pub mod Splitting

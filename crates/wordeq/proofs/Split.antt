@@ -49,11 +49,11 @@ fresh-ends s d = record {
       ⊎-elim (λ h. record { from = omega arith; to = omega arith }) (λ h. record { from = omega arith; to = omega arith }) (fresh-stops s n e);
 }
 
-equatable-strings : (s : Store) (a b : ℕ) → isString s a ≡ true → isString s b ≡ true → isEquatable s a b ≡ true
+pub equatable-strings : (s : Store) (a b : ℕ) → isString s a ≡ true → isString s b ≡ true → isEquatable s a b ≡ true
 unfolding isEquatable
 equatable-strings s a b p q = or-left (isString s a && isString s b) _ (both-true _ _ p q)
 
-equatable-lengths : (s : Store) (a b : ℕ) → kind s a ≡ 4 → kind s b ≡ 4 → isEquatable s a b ≡ true
+pub equatable-lengths : (s : Store) (a b : ℕ) → kind s a ≡ 4 → kind s b ≡ 4 → isEquatable s a b ≡ true
 unfolding isEquatable
 equatable-lengths s a b p q = or-right (isString s a && isString s b) _ (both-true _ _ (eq-eqb _ _ p) (eq-eqb _ _ q))
 

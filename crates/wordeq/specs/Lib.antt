@@ -1,2 +1,5 @@
 pub mod Wordeq
 pub mod Meaning
+pub mod Stripping
+pub mod Sides
+pub mod Splits

@@ -1,5 +1,11 @@
 // Word equations, steps 1 to 8.
-pub struct Sides {
-    pub left: usize,
-    pub right: usize,
+pub mod equal_lists;
+mod sides;
+pub mod splits;
+pub mod stripping;
+
+// What step 1 leaves: the counts, the place where both parts begin, and where the left and the right one end; or the refusal.
+pub enum Stripped {
+    Parts(records::State, usize, usize, usize),
+    Refused(u32),
 }

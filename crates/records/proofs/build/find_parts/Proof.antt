@@ -1,5 +1,5 @@
 use Prim.Native.Nat.{_-_}
-use Rattle.records.specs.Make.{hasParts}
+use Rattle.records.specs.Leaves.{hasParts}
 use Rattle.records.specs.View.{cellsView}
 use Rattle.records.proofs.Making.{Passed, passed-none, passed-one, passed-all, hit}
 use borrow.Author.Needs.{needs}

@@ -2,7 +2,8 @@ use Rattle.records.proofs.Paths.{Rising, rising-begin, rising-stop, ris
 use Rattle.records.proofs.Lists.{within-high}
 use Rattle.records.specs.View.{termsView}
 use Rattle.records.specs.Store.{aboveIn, orNone}
-use Rattle.records.specs.Lists.{firstOf, isMarked}
+use Rattle.records.specs.Lists.{firstOf}
+use Rattle.records.specs.Leaves.{isMarked}
 use Prim.Native.Nat.{ℕ, suc, _-_}
 use mathlib.Core.List.{List}
 use mathlib.Core.Path.{sym, _∙_}

@@ -1,0 +1,43 @@
+/* The label resolver's calls for C; link libcapi.a (`rt staticlib capi`).
+ *
+ * A slice is a pointer and a length in words. The store comes first: the state's six words (counts of terms, cells, characters, reasons
+ * and keys, and the name counter), then the five slices. The result is 0 or the refusal's number; the state is written on success alone.
+ * `answer` has eight words. A state under six or an answer under eight words is refusal 1.
+ */
+#ifndef LABELS_H
+#define LABELS_H
+
+#include <stddef.h>
+#include <stdint.h>
+
+#ifdef __cplusplus
+extern "C" {
+#endif
+
+#define LABELS_WORDS(name) uint32_t *name, size_t name##_len
+#define LABELS_READ(name) const uint32_t *name, size_t name##_len
+
+uint32_t labels_audit(LABELS_READ(state), LABELS_READ(terms), LABELS_READ(cells), LABELS_READ(chars), LABELS_READ(reasons), LABELS_READ(keys));
+
+/* The making calls and find put the term into word 0 of the answer. */
+uint32_t labels_make_constant(LABELS_WORDS(state), LABELS_WORDS(terms), LABELS_READ(cells), LABELS_WORDS(chars), LABELS_READ(reasons),
+                              LABELS_READ(keys), LABELS_READ(text), LABELS_WORDS(answer));
+uint32_t labels_make_variable(LABELS_WORDS(state), LABELS_WORDS(terms), LABELS_READ(cells), LABELS_WORDS(chars), LABELS_READ(reasons),
+                              LABELS_READ(keys), LABELS_READ(name), LABELS_WORDS(answer));
+uint32_t labels_make_concatenation(LABELS_WORDS(state), LABELS_WORDS(terms), LABELS_WORDS(cells), LABELS_READ(chars), LABELS_READ(reasons),
+                                   LABELS_READ(keys), LABELS_READ(parts), LABELS_WORDS(answer));
+uint32_t labels_make_length(LABELS_WORDS(state), LABELS_WORDS(terms), LABELS_READ(cells), LABELS_READ(chars), LABELS_READ(reasons),
+                            LABELS_READ(keys), uint32_t t, LABELS_WORDS(answer));
+uint32_t labels_make_equation(LABELS_WORDS(state), LABELS_WORDS(terms), LABELS_READ(cells), LABELS_READ(chars), LABELS_READ(reasons),
+                              LABELS_READ(keys), uint32_t t, uint32_t u, LABELS_WORDS(answer));
+uint32_t labels_find(LABELS_READ(state), LABELS_READ(terms), LABELS_READ(cells), LABELS_READ(chars), LABELS_READ(reasons), LABELS_READ(keys),
+                     uint32_t t, LABELS_WORDS(answer));
+
+/* The reasons named stand in `reasons` below the state's count. */
+uint32_t labels_explain(LABELS_WORDS(state), LABELS_READ(terms), LABELS_READ(cells), LABELS_READ(chars), LABELS_WORDS(reasons),
+                        LABELS_READ(keys), uint32_t a, uint32_t b);
+
+#ifdef __cplusplus
+}
+#endif
+#endif

@@ -1,0 +1,149 @@
+//! The label resolver's store and calls, with nothing unsafe for their user. Each call audits the store first.
+
+mod raw;
+
+pub const TERMS: usize = 512;
+pub const CELLS: usize = 2048;
+pub const CHARS: usize = 16384;
+pub const REASONS: usize = 4096;
+pub const KEYS: usize = 4096;
+
+/// A term's number, from 1 on.
+pub type Term = u32;
+
+/// Why a call was refused. After the first five no word of the store has changed.
+#[derive(Clone, Copy, PartialEq, Eq, Debug)]
+pub enum Refusal {
+    /// a count above its limit, or a slice too short for it
+    Sizes,
+    /// a record that breaks its rule
+    Records,
+    /// classes and forest do not agree
+    Classes,
+    /// a congruence that its arguments do not give
+    Congruences,
+    /// a wrong argument
+    Argument,
+    /// a list above 1,024
+    List,
+    /// no room for a reason
+    Reasons,
+    /// no room for a term, its characters or cells, or a key
+    Room,
+    /// no name left
+    Names,
+    /// a number that document 01 does not have
+    Other(u32),
+}
+
+fn outcome(code: u32) -> Result<(), Refusal> {
+    Err(match code {
+        0 => return Ok(()),
+        1 => Refusal::Sizes,
+        2 => Refusal::Records,
+        3 => Refusal::Classes,
+        4 => Refusal::Congruences,
+        5 => Refusal::Argument,
+        6 => Refusal::List,
+        7 => Refusal::Reasons,
+        8 => Refusal::Room,
+        9 => Refusal::Names,
+        n => Refusal::Other(n),
+    })
+}
+
+/// Why two terms are equal.
+#[derive(Clone, Copy, PartialEq, Eq, Debug)]
+pub enum Reason {
+    Asserted(u32),
+    Interface(u32),
+}
+
+/// A store in memory of its own, with room up to every limit. The words are the caller's to change: a call refuses what breaks a rule.
+#[derive(Clone, Debug)]
+pub struct Store {
+    /// counts of terms, cells, characters, reasons and keys, and the name counter
+    pub state: [u32; 6],
+    pub terms: Vec<u32>,
+    pub cells: Vec<u32>,
+    pub chars: Vec<u32>,
+    pub reasons: Vec<u32>,
+    pub keys: Vec<u32>,
+}
+
+impl Default for Store {
+    fn default() -> Self {
+        Store {
+            state: [0; 6],
+            terms: vec![0; 8 * (TERMS + 1)],
+            cells: vec![0; 3 * (CELLS + 1)],
+            chars: vec![0; CHARS],
+            reasons: vec![0; 2 * REASONS],
+            keys: vec![0; 2 * KEYS],
+        }
+    }
+}
+
+impl Store {
+    pub fn new() -> Self {
+        Store::default()
+    }
+
+    pub fn audit(&self) -> Result<(), Refusal> {
+        outcome(raw::audit(self))
+    }
+
+    pub fn constant(&mut self, text: &str) -> Result<Term, Refusal> {
+        let text: Vec<u32> = text.chars().map(u32::from).collect();
+        self.answered(|s, a| raw::make_constant(s, &text, a))
+    }
+
+    pub fn variable(&mut self, name: &str) -> Result<Term, Refusal> {
+        let name: Vec<u32> = name.chars().map(u32::from).collect();
+        self.answered(|s, a| raw::make_variable(s, &name, a))
+    }
+
+    pub fn concatenation(&mut self, parts: &[Term]) -> Result<Term, Refusal> {
+        self.answered(|s, a| raw::make_concatenation(s, parts, a))
+    }
+
+    pub fn length(&mut self, t: Term) -> Result<Term, Refusal> {
+        self.answered(|s, a| raw::make_length(s, t, a))
+    }
+
+    pub fn equation(&mut self, t: Term, u: Term) -> Result<Term, Refusal> {
+        self.answered(|s, a| raw::make_equation(s, t, u, a))
+    }
+
+    /// The root of a string term's class.
+    pub fn find(&self, t: Term) -> Result<Term, Refusal> {
+        let mut answer = [0; 8];
+        outcome(raw::find(self, t, &mut answer))?;
+        Ok(answer[0])
+    }
+
+    /// Appends the reasons why two string terms of one class are equal, and gives them.
+    pub fn explain(&mut self, a: Term, b: Term) -> Result<Vec<Reason>, Refusal> {
+        let from = self.state[3] as usize;
+        outcome(raw::explain(self, a, b))?;
+        Ok(self.reason_list()[from..].to_vec())
+    }
+
+    /// The reasons of the store. Of a store that no call has audited those are left out that are of no kind or not there.
+    pub fn reason_list(&self) -> Vec<Reason> {
+        let pairs = self.reasons.chunks_exact(2).take(self.state[3] as usize);
+        pairs
+            .filter_map(|p| match p[0] {
+                1 => Some(Reason::Asserted(p[1])),
+                2 => Some(Reason::Interface(p[1])),
+                _ => None,
+            })
+            .collect()
+    }
+
+    fn answered(&mut self, call: impl FnOnce(&mut Store, &mut [u32; 8]) -> u32) -> Result<Term, Refusal> {
+        let mut answer = [0; 8];
+        outcome(call(self, &mut answer))?;
+        Ok(answer[0])
+    }
+}

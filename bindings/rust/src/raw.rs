@@ -1,0 +1,83 @@
+//! The C interface: a slice is a pointer and a length, and the library reads and writes within them alone, as is proved of it.
+
+use crate::Store;
+
+macro_rules! interface {
+    ($borrow:ty, $words:ty, $pointer:ident: $($symbol:ident $name:ident($($arg:ident: $ty:ty),*);)*) => {
+        extern "C" {
+            $(fn $symbol(
+                state: $words, state_len: usize,
+                terms: $words, terms_len: usize,
+                cells: $words, cells_len: usize,
+                chars: $words, chars_len: usize,
+                reasons: $words, reasons_len: usize,
+                keys: $words, keys_len: usize,
+                $($arg: $ty),*
+            ) -> u32;)*
+        }
+
+        $(fn $name(s: $borrow, $($arg: $ty),*) -> u32 {
+            // each pointer is to words that are lent to the call, as many as its length says
+            unsafe {
+                $symbol(
+                    s.state.$pointer(), s.state.len(),
+                    s.terms.$pointer(), s.terms.len(),
+                    s.cells.$pointer(), s.cells.len(),
+                    s.chars.$pointer(), s.chars.len(),
+                    s.reasons.$pointer(), s.reasons.len(),
+                    s.keys.$pointer(), s.keys.len(),
+                    $($arg),*
+                )
+            }
+        })*
+    };
+}
+
+// the calls that only read the store
+interface! {
+    &Store, *const u32, as_ptr:
+    labels_audit audit_words();
+    labels_find root(t: u32, answer: *mut u32, answer_len: usize);
+}
+
+interface! {
+    &mut Store, *mut u32, as_mut_ptr:
+    labels_make_constant constant(text: *const u32, text_len: usize, answer: *mut u32, answer_len: usize);
+    labels_make_variable variable(name: *const u32, name_len: usize, answer: *mut u32, answer_len: usize);
+    labels_make_concatenation concatenation(parts: *const u32, parts_len: usize, answer: *mut u32, answer_len: usize);
+    labels_make_length length(t: u32, answer: *mut u32, answer_len: usize);
+    labels_make_equation equation(t: u32, u: u32, answer: *mut u32, answer_len: usize);
+    labels_explain reasons_of(a: u32, b: u32);
+}
+
+pub fn audit(s: &Store) -> u32 {
+    audit_words(s)
+}
+
+pub fn make_constant(s: &mut Store, text: &[u32], answer: &mut [u32; 8]) -> u32 {
+    constant(s, text.as_ptr(), text.len(), answer.as_mut_ptr(), answer.len())
+}
+
+pub fn make_variable(s: &mut Store, name: &[u32], answer: &mut [u32; 8]) -> u32 {
+    variable(s, name.as_ptr(), name.len(), answer.as_mut_ptr(), answer.len())
+}
+
+pub fn make_concatenation(s: &mut Store, parts: &[u32], answer: &mut [u32; 8]) -> u32 {
+    concatenation(s, parts.as_ptr(), parts.len(), answer.as_mut_ptr(), answer.len())
+}
+
+pub fn make_length(s: &mut Store, t: u32, answer: &mut [u32; 8]) -> u32 {
+    length(s, t, answer.as_mut_ptr(), answer.len())
+}
+
+pub fn make_equation(s: &mut Store, t: u32, u: u32, answer: &mut [u32; 8]) -> u32 {
+    equation(s, t, u, answer.as_mut_ptr(), answer.len())
+}
+
+pub fn find(s: &Store, t: u32, answer: &mut [u32; 8]) -> u32 {
+    root(s, t, answer.as_mut_ptr(), answer.len())
+}
+
+pub fn explain(s: &mut Store, a: u32, b: u32) -> u32 {
+    reasons_of(s, a, b)
+}

@@ -1,0 +1,45 @@
+use labels::{Reason, Refusal, Store};
+
+#[test]
+fn terms_are_made_once() {
+    let mut s = Store::new();
+    let (a, x) = (s.constant("ab").unwrap(), s.variable("x").unwrap());
+    assert_eq!(s.constant("ab"), Ok(a));
+    let both = s.concatenation(&[a, x]).unwrap();
+    assert_eq!(s.concatenation(&[a, x]), Ok(both));
+    let n = s.length(both).unwrap();
+    assert_eq!(s.equation(both, a).unwrap(), n + 1);
+    assert_eq!(s.state, [5, 2, 3, 0, 0, 0]);
+    assert_eq!(s.audit(), Ok(()));
+}
+
+#[test]
+fn refusals_leave_the_store_alone() {
+    let mut s = Store::new();
+    assert_eq!(s.variable(""), Err(Refusal::Argument));
+    let x = s.variable("x").unwrap();
+    assert_eq!(s.concatenation(&[x]), Err(Refusal::Argument));
+    assert_eq!(s.find(x + 1), Err(Refusal::Argument));
+    s.state[2] = 16385;
+    assert_eq!(s.constant("a"), Err(Refusal::Sizes));
+    assert_eq!(s.state, [1, 0, 16385, 0, 0, 0]);
+    s.state[2] = 1;
+    s.terms[8] = 6;
+    assert_eq!(s.audit(), Err(Refusal::Records));
+    s.reasons.clear();
+    s.state[3] = u32::MAX;
+    assert_eq!(s.explain(1, 1), Err(Refusal::Sizes));
+    assert_eq!(s.reason_list(), []);
+}
+
+#[test]
+fn explanations() {
+    let mut s = Store::new();
+    let (x, y) = (s.variable("x").unwrap(), s.variable("y").unwrap());
+    assert_eq!(s.explain(x, y), Err(Refusal::Argument));
+    // y joins x's class by the asserted equality 7
+    s.terms[8 * y as usize + 3..8 * y as usize + 8].copy_from_slice(&[x, x, 1, 7, 1]);
+    assert_eq!(s.find(y), Ok(x));
+    assert_eq!(s.explain(y, x), Ok(vec![Reason::Asserted(7)]));
+    assert_eq!(s.explain(x, x), Ok(vec![]));
+}

@@ -1,0 +1,118 @@
+-- find and explain, told in words.
+use mathlib.Core.Path.{_≡_, refl, sym, ap, subst, _∙_}
+use mathlib.Core.Bool.{Bool, true, false, _&&_}
+use mathlib.Core.List.{List, []}
+use Prim.Native.Nat.{ℕ, zero, suc, _≤_, _<_}
+use native.Mathlib.Omega.{arith}
+use lib.ListN.{length, getD, set}
+use lib.Dec.{leb}
+use borrow.Author.Tests.{leb-true, le-leb, lt-leb}
+use Rattle.records.specs.declared.State.{State}
+use Rattle.records.specs.declared.Added.{Added}
+use Rattle.records.specs.declared.Added.the-variants as adding
+use Rattle.records.specs.Store.{Store, Out, ok, stop, Work, isString, sameClass}
+use Rattle.records.specs.View.{Lent, storeOf}
+use Rattle.records.specs.Audited.{Audited}
+use Rattle.records.specs.Calls.{call, Public, added}
+use Rattle.records.proofs.Lists.{both-left, both-right}
+use Rattle.engine.specs.declared.Found.{Found}
+use Rattle.engine.specs.declared.Found.the-variants.{Root, Refused}
+use Rattle.engine.specs.Explain.{find, findArguments, explain, explainArguments}
+use Rattle.engine.specs.Meaning.{Explains}
+use Rattle.engine.specs.Calls.{found, PublicExplain}
+use Rattle.engine.proofs.Sound.{explain-kept, explain-stops}
+use Rattle.capi.specs.Interface.{stateOf, Beyond, roomy, over, told, Exported, ExportedExplain}
+use Rattle.capi.specs.Leaves.{written, Narrow, addedCode, addedState, ToldCounts}
+use Rattle.capi.proofs.Words.{beyond-same, beyond-written, beyond-first, first-read, roomy-answer}
+use Rattle.capi.proofs.Exports.{Tells, narrow, call-audited, call-stops, told-public, untold}
+
+-- FIND
+
+find-tells : (t : ℕ) → Tells (findArguments t) (find t)
+unfolding find
+find-tells t = record {
+  keeps = λ s s′ x a f e. let q : s ≡ s′ = cc in subst Audited q a;
+  stops = λ s n a f e z. let y : _≡_ {A = ℕ} 0 1 = cc in absurd (omega arith);
+}
+
+module _ (t : ℕ) (m : Lent) (c : State) (r : Found) (called : Public (call (findArguments t) (find t) m c) m m c (found r m c)) (w a : List ℕ) (room : roomy w a ≡ true) (is : c ≡ stateOf w) where
+  at : Public (call (findArguments t) (find t) m (stateOf w)) m m (stateOf w) (found r m (stateOf w))
+  at = subst (λ (d : State). Public (call (findArguments t) (find t) m d) m m d (found r m d)) is called
+
+  pub find-told : (u : ℕ) → r ≡ Root u
+      → Exported (over (roomy w a) (call (findArguments t) (find t) m (stateOf w))) m m w w 1 a (set a 0 u) (getD (set a 0 u) 0 0) 0
+  find-told u e = record {
+    public = told-public room (ap (ok (storeOf m (stateOf w))) (first-read a u (roomy-answer w a room)) ∙ sym (ap (λ (x : Found). found x m (stateOf w)) e)) at;
+    state = beyond-same 6 w;
+    answer = beyond-first a u;
+    state-idle = λ z. refl;
+    answer-idle = λ z. absurd (z refl);
+  }
+
+  pub find-untold : (k : ℕ) → r ≡ Refused k → Exported (over (roomy w a) (call (findArguments t) (find t) m (stateOf w))) m m w w 1 a a (getD a 0 0) k
+  find-untold zero e = absurd (call-stops (find-tells t) m (stateOf w) 0 (sym (at .says) ∙ ap (λ (x : Found). found x m (stateOf w)) e) refl)
+  find-untold (suc k) e = record {
+    public = told-public room (sym (ap (λ (x : Found). found x m (stateOf w)) e)) at;
+    state = beyond-same 6 w;
+    answer = beyond-same 1 a;
+    state-idle = λ z. refl;
+    answer-idle = λ z. refl;
+  }
+
+-- EXPLAIN
+
+explain-tells : (a b : ℕ) → Tells (explainArguments a b) (explain a b)
+explain-tells a b = record {
+  keeps = λ s s′ x d f e. explain-kept s d a b (one s f) (two s f) (three s f) s′ x e;
+  stops = λ s n d f e z. let q = explain-stops s d a b (one s f) (two s f) (three s f) n e in absurd (omega arith);
+}
+  where
+    one : (s : Store) → explainArguments a b s ≡ true → isString s a ≡ true
+    one s f = both-left _ _ (both-left (isString s a && isString s b) _ f)
+
+    two : (s : Store) → explainArguments a b s ≡ true → isString s b ≡ true
+    two s f = both-right (isString s a) _ (both-left (isString s a && isString s b) _ f)
+
+    three : (s : Store) → explainArguments a b s ≡ true → sameClass s a b ≡ true
+    three s f = both-right (isString s a && isString s b) _ f
+
+pub explain-short : (a b : ℕ) (m : Lent) (w : List ℕ) → length w < 6 → ExportedExplain a b m m w w 1
+explain-short a b m w h = record { is = untold _ m w 0 [] tt (lt-leb 6 (length w) h); worth = λ e. absurd (omega arith) }
+
+module _ {a b : ℕ} {m m′ : Lent} {c : State} {r : Added} (called : PublicExplain a b m m′ c (added r m′)) where
+  pub explain-tellable : (d : State) → r ≡ adding.Counts d → Narrow d
+  explain-tellable d e = narrow m′ d (call-audited (explain-tells a b) m c (storeOf m′ d) tt (sym (called .is .says) ∙ ap (λ (x : Added). added x m′) e))
+
+  pub explain-exported : {w w′ : List ℕ} {k : ℕ} → 6 ≤ length w → c ≡ stateOf w → ToldCounts w w′ r k → ExportedExplain a b m m′ w w′ k
+  explain-exported {w} {w′} {k} room e t = go r refl (t .code) (t .state)
+    where
+      fits : leb 6 (length w) ≡ true
+      fits = le-leb 6 (length w) room
+
+      at : PublicExplain a b m m′ (stateOf w) (added r m′)
+      at = subst (λ (d : State). PublicExplain a b m m′ d (added r m′)) e called
+
+      go : (x : Added) → r ≡ x → k ≡ addedCode x → w′ ≡ addedState x w → ExportedExplain a b m m′ w w′ k
+      go (adding.Counts d) q f g =
+          rw (f, g) (record {
+            is = record {
+              public = told-public fits (sym (ap (λ (x : Added). added x m′) q)) (at .is);
+              state = beyond-written d w room;
+              answer = beyond-same 0 [];
+              state-idle = λ z. absurd (z refl);
+              answer-idle = λ z. refl;
+            };
+            worth = λ z. at .worth (storeOf m′ d) (ap (λ (x : Added). added x m′) q);
+          })
+      go (adding.Refused zero) q f g = absurd (call-stops (explain-tells a b) m c 0 (sym (called .is .says) ∙ ap (λ (x : Added). added x m′) q) refl)
+      go (adding.Refused (suc j)) q f g =
+          rw (f, g) (record {
+            is = record {
+              public = told-public fits (sym (ap (λ (x : Added). added x m′) q)) (at .is);
+              state = beyond-same 6 w;
+              answer = beyond-same 0 [];
+              state-idle = λ z. refl;
+              answer-idle = λ z. refl;
+            };
+            worth = λ z. absurd (omega arith);
+          })

@@ -1,0 +1,4 @@
+pub mod Words
+pub mod Exports
+pub mod Tellings
+pub mod Engines

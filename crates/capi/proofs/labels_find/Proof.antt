@@ -1,0 +1,31 @@
+use mathlib.Core.Path.{sym, _∙_}
+use borrow.Author.Tests.{not-true, not-false}
+use Rattle.capi.proofs.Exports.{untold}
+use Rattle.capi.proofs.Engines.{find-told, find-untold}
+use Rattle.capi.proofs.Words.{roomy-answer}
+use native.Mathlib.Omega.{arith}
+use borrow.Author.Needs.{needs}
+use Rattle.capi.proofs.labels_find.Statement.{statement}
+use Rattle.capi.proofs.labels_find.Tie as tie
+use Rattle.capi.proofs.labels_find.Reads as reads
+use Rattle.capi.proofs.labels_find.Lts as lts
+use Rattle.capi.proofs.is_roomy.Reads as is-roomy-reads
+use Rattle.capi.proofs.state_of.Reads as state-of-reads
+use Rattle.engine.proofs.find.Reads as find-reads
+
+pub labels-find-spec : {M : Type 1} → statement M
+labels-find-spec =
+    tie.close
+    (tie.spec
+    (λ c κs. search needs)
+    (λ c. search needs)
+    (λ c. untold _ _ _ _ _ _ (sym (c .before .is-roomy .ensures) ∙ not-true _ (c .if1 .taken)))
+    (λ c κs. search needs)
+    (λ c κs. search needs)
+    (λ c. search needs)
+    (λ c. let h = roomy-answer _ _ (sym (c .before .before .before .before .before .before .is-roomy .ensures) ∙ not-false _ (c .before .before .before .before .before .if1 .left)) in omega arith)
+    (λ c. search needs)
+    (λ c. search needs)
+    (λ c. find-told _ _ _ _ (c .before .before .before .find .ensures) _ _ (sym (c .before .before .before .before .before .before .is-roomy .ensures) ∙ not-false _ (c .before .before .before .before .before .if1 .left)) (c .before .before .before .before .state-of .ensures) _ (c .before .found .given .1))
+    (λ c. search needs)
+    (λ c. find-untold _ _ _ _ (c .before .before .before .find .ensures) _ _ (sym (c .before .before .before .before .before .before .is-roomy .ensures) ∙ not-false _ (c .before .before .before .before .before .if1 .left)) (c .before .before .before .before .state-of .ensures) _ (c .before .found2 .given .1)))

@@ -1,0 +1,23 @@
+use mathlib.Core.Path.{refl}
+use lib.ListN.{length-set}
+use Rattle.capi.proofs.Words.{roomy-state, roomy-answer, told-term, told-refused}
+use native.Mathlib.Omega.{arith}
+use borrow.Author.Needs.{needs}
+use Rattle.capi.proofs.tell.Statement.{statement}
+use Rattle.capi.proofs.tell.Tie as tie
+use Rattle.capi.proofs.tell.Reads as reads
+use Rattle.capi.proofs.tell.Lts as lts
+use Rattle.capi.proofs.write_state.Reads as write-state-reads
+
+pub tell-spec : {M : Type 1} → statement M
+tell-spec =
+    tie.close
+    (tie.spec
+    (λ c. search needs)
+    (λ c κs. (roomy-state _ _ (c .before .before .before .before .before .before .pre .0), c .before .before .before .before .before .before .pre .1 _ _ (c .before .before .made .given .1)))
+    (λ c. let h = roomy-answer _ _ (c .before .before .before .before .before .before .before .before .before .pre .0) in omega arith)
+    (λ c. search needs)
+    (λ c. search needs)
+    (λ c. search needs)
+    (λ c. told-term (c .before .before .before .before .before .made .given .1) (c .before .before .write-state .ensures) refl)
+    (λ c. search needs))

@@ -1,0 +1,19 @@
+use Rattle.capi.proofs.Words.{told-counts, told-no-counts}
+use native.Mathlib.Omega.{arith}
+use borrow.Author.Needs.{needs}
+use Rattle.capi.proofs.tell_counts.Statement.{statement}
+use Rattle.capi.proofs.tell_counts.Tie as tie
+use Rattle.capi.proofs.tell_counts.Reads as reads
+use Rattle.capi.proofs.tell_counts.Lts as lts
+use Rattle.capi.proofs.write_state.Reads as write-state-reads
+
+pub tell-counts-spec : {M : Type 1} → statement M
+tell-counts-spec =
+    tie.close
+    (tie.spec
+    (λ c. search needs)
+    (λ c κs. (c .before .before .before .before .before .pre .0, c .before .before .before .before .before .pre .1 _ (c .before .before .added .given .1)))
+    (λ c. search needs)
+    (λ c. search needs)
+    (λ c. told-counts (c .before .before .before .before .before .added .given .1) (c .before .before .write-state .ensures))
+    (λ c. search needs))

@@ -1,0 +1,26 @@
+use lib.ListN.{length-set}
+use Rattle.capi.proofs.Words.{sets-written}
+use native.Mathlib.Omega.{arith}
+use borrow.Author.Needs.{needs}
+use Rattle.capi.proofs.write_state.Statement.{statement}
+use Rattle.capi.proofs.write_state.Tie as tie
+use Rattle.capi.proofs.write_state.Reads as reads
+use Rattle.capi.proofs.write_state.Lts as lts
+
+pub write-state-spec : {M : Type 1} → statement M
+write-state-spec =
+    tie.close
+    (tie.spec
+    (λ c. search needs)
+    (λ c. search needs)
+    (λ c. search needs)
+    (λ c. simp length-set (omega arith))
+    (λ c. search needs)
+    (λ c. simp length-set (omega arith))
+    (λ c. search needs)
+    (λ c. simp length-set (omega arith))
+    (λ c. search needs)
+    (λ c. simp length-set (omega arith))
+    (λ c. simp length-set (omega arith))
+    (λ c. search needs)
+    (λ c. search (sets-written, needs)))

@@ -1,0 +1,56 @@
+-- What an exported call does with the words that a C caller lends it.
+use mathlib.Core.Path.{_≡_}
+use mathlib.Core.Bool.{Bool, _&&_}
+use mathlib.Core.List.{List, []}
+use Prim.Native.Nat.{ℕ, zero, suc}
+use lib.ListN.{length, getD, drop}
+use lib.Dec.{leb}
+use Rattle.records.specs.declared.State.{State}
+use Rattle.records.specs.Lists.{if_then_else_}
+use Rattle.records.specs.Store.{Out, ok, stop}
+use Rattle.records.specs.View.{Lent, storeOf}
+use Rattle.records.specs.Rules.{audit}
+use Rattle.records.specs.Calls.{Public, call}
+use Rattle.engine.specs.Explain.{explain, explainArguments}
+use Rattle.engine.specs.Meaning.{Explains}
+
+-- the state's six words: the counts of terms, cells, characters, reasons and keys, and the name counter
+abbrev pub stateOf : List ℕ → State
+stateOf w = record { terms = getD w 0 0; cells = getD w 1 0; chars = getD w 2 0; reasons = getD w 3 0; keys = getD w 4 0; names = getD w 5 0 }
+
+-- v is w but for its first n words
+pub record Beyond (n : ℕ) (w v : List ℕ) : Type 0 where
+  pub length-is : length v ≡ length w
+  pub rest : drop n v ≡ drop n w
+
+-- a state of six words or more, and an answer of eight or more
+unfoldable pub roomy : List ℕ → List ℕ → Bool
+roomy w a = leb 6 (length w) && leb 8 (length a)
+
+-- the audit's result; 'a state under six .. words is refusal 1'
+unfoldable pub audited : List ℕ → Lent → ℕ
+audited w m = if leb 6 (length w) then audit m (stateOf w) else 1
+
+module _ {A : Type 0} where
+  -- 'a state under six or an answer under eight words is refusal 1'
+  abbrev pub over : Bool → Out A → Out A
+  over fit o = if fit then o else stop 1
+
+  -- what the caller reads off: 0, the counts in the state's words and a value; or the refusal's number
+  abbrev pub told : ℕ → List ℕ → Lent → A → Out A
+  told zero w m x = ok (storeOf m (stateOf w)) x
+  told (suc k) w m x = stop (suc k)
+
+  -- The call's outcome o is what the result k and the words left say, the value read off as x. On success six words of the state and n of
+  -- the answer are written; after a refusal both are as they were.
+  pub record Exported (o : Out A) (m m′ : Lent) (w w′ : List ℕ) (n : ℕ) (a a′ : List ℕ) (x : A) (k : ℕ) : Type 0 where
+    pub public : Public o m m′ (stateOf w) (told k w′ m′ x)
+    pub state : Beyond 6 w w′
+    pub answer : Beyond n a a′
+    pub state-idle : (k ≡ 0 → ⊥) → w′ ≡ w
+    pub answer-idle : (k ≡ 0 → ⊥) → a′ ≡ a
+
+-- explain told in words, and what it is worth: under the reasons that the call added and the definitional merges the two terms have equal words
+pub record ExportedExplain (a b : ℕ) (m m′ : Lent) (w w′ : List ℕ) (k : ℕ) : Type 0 where
+  pub is : Exported (over (leb 6 (length w)) (call (explainArguments a b) (explain a b) m (stateOf w))) m m′ w w′ 0 [] [] tt k
+  pub worth : k ≡ 0 → Explains (storeOf m (stateOf w)) (storeOf m′ (stateOf w′)) a b

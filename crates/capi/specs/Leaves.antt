@@ -1,0 +1,53 @@
+-- Definitions that only private contracts cite: how an answer is put into words.
+use mathlib.Core.Path.{_≡_}
+use mathlib.Core.List.{List, _∷_}
+use Prim.Native.Nat.{ℕ, _<_}
+use lib.ListN.{drop, set}
+use Rattle.records.specs.declared.State.{State}
+use Rattle.records.specs.declared.Made.{Made}
+use Rattle.records.specs.declared.Made.the-variants.{Term, Refused}
+use Rattle.records.specs.declared.Added.{Added}
+use Rattle.records.specs.declared.Added.the-variants as adding
+
+-- the state's six words written back
+abbrev pub written : State → List ℕ → List ℕ
+written c w = c .terms ∷ c .cells ∷ c .chars ∷ c .reasons ∷ c .keys ∷ c .names ∷ drop 6 w
+
+-- counts that a word holds
+pub record Narrow (c : State) : Type 0 where
+  pub terms : c .terms < 4294967296
+  pub cells : c .cells < 4294967296
+  pub chars : c .chars < 4294967296
+  pub reasons : c .reasons < 4294967296
+  pub keys : c .keys < 4294967296
+
+-- a making call's answer put into the words: the result, the state, the answer's first word
+abbrev pub codeOf : Made → ℕ
+codeOf (Term t c) = 0
+codeOf (Refused k) = k
+
+abbrev pub stateAfter : Made → List ℕ → List ℕ
+stateAfter (Term t c) w = written c w
+stateAfter (Refused k) w = w
+
+abbrev pub answerAfter : Made → List ℕ → List ℕ
+answerAfter (Term t c) a = set a 0 t
+answerAfter (Refused k) a = a
+
+pub record Told (w w′ a a′ : List ℕ) (r : Made) (k : ℕ) : Type 0 where
+  pub code : k ≡ codeOf r
+  pub state : w′ ≡ stateAfter r w
+  pub answer : a′ ≡ answerAfter r a
+
+-- the counts after explain
+abbrev pub addedCode : Added → ℕ
+addedCode (adding.Counts c) = 0
+addedCode (adding.Refused k) = k
+
+abbrev pub addedState : Added → List ℕ → List ℕ
+addedState (adding.Counts c) w = written c w
+addedState (adding.Refused k) w = w
+
+pub record ToldCounts (w w′ : List ℕ) (r : Added) (k : ℕ) : Type 0 where
+  pub code : k ≡ addedCode r
+  pub state : w′ ≡ addedState r w

@@ -1,0 +1,92 @@
+-- What the contracts of private functions cite, each tied by a law to the definition that it serves. No public contract cites these.
+use mathlib.Core.Path.{_≡_}
+use mathlib.Core.Bool.{Bool, true, false, not, _&&_, _||_}
+use mathlib.Core.List.{List, [], _∷_, _++_}
+use mathlib.Core.Option.{Option, none, some}
+use Prim.Native.Nat.{ℕ, zero, suc, _≤_, _<_}
+use lib.ListN.{length, getD, set}
+use lib.Dec.{eqb}
+use Rattle.records.specs.Lists.{sameWord, firsts, seconds}
+use Rattle.records.specs.Store.{Term, Cell, Store, Out, ok, stop, Work, _>>=_, term, kind, isString, within, cellIn, chainIn, text, root, top}
+use Rattle.records.specs.View.{termAt, textAt}
+use Rattle.records.specs.Rules.{endsRule, labelRule}
+use Rattle.records.specs.Make.{withNames, addText, addChain, addTerm, lowest, nameOf, nameLimit, takeName}
+
+-- TABLES OF MARKS
+
+-- a table with 1 at each number of l
+unfoldable pub marked : List ℕ → List ℕ → List ℕ
+marked [] s = s
+marked (x ∷ l) s = marked l (set s x 1)
+
+unfoldable pub isMarked : List ℕ → ℕ → Bool
+isMarked s x = eqb (getD s x 0) 1
+
+-- CLASSES AND CONGRUENCE EDGES
+
+-- where parents are terms and walks end, these of one term at a time say the same as the rules of two (proofs/ClassLaws.antt)
+unfoldable pub alikeAt : Store → ℕ → Bool
+alikeAt s t = eqb (root s (top s t)) (root s t) && eqb (top s (root s t)) (top s t)
+
+unfoldable pub aloneAt : Store → ℕ → Bool
+aloneAt s t = eqb (term s t .classParent) t || (isString s t && isString s (term s t .classParent))
+
+unfoldable pub classTest : Store → ℕ → Bool
+classTest s t = endsRule s t && alikeAt s t && labelRule s t && aloneAt s t
+
+-- the same of three chains
+unfoldable pub pairWords : List (ℕ × ℕ) → List (ℕ × ℕ) → List (ℕ × ℕ) → Bool
+pairWords l p q = sameWord (firsts l) (firsts p) && sameWord (seconds l) (firsts q)
+
+-- the cells y and z, and the cell x of their values
+unfoldable pub pairMeets : List Cell → ℕ → ℕ → ℕ → Bool
+pairMeets cs x y z =
+    within (length cs) y && within (length cs) z && eqb (cellIn cs x .value) (cellIn cs y .value) && eqb (cellIn cs x .other) (cellIn cs z .value)
+
+-- MAKING
+
+-- the number of the record found; 0, which names none, where there is none
+abbrev pub numberOf : Option ℕ → ℕ
+numberOf none = 0
+numberOf (some i) = suc i
+
+-- a constant or a variable by its text, in the store and in the lent words: kind k, characters w
+unfoldable pub textOf : ℕ → List ℕ → Store → ℕ → Bool
+textOf k w s t = eqb (kind s t) k && sameWord (text s t) w
+
+unfoldable pub hasText : List ℕ → List ℕ → ℕ → List ℕ → ℕ → Bool
+hasText l h k w t = eqb (termAt l t .kind) k && sameWord (textAt l h t) w
+
+-- a length or an equation by its kind and its two words, in the store and in the lent words: a length's second word is 0
+unfoldable pub sidesOf : ℕ → ℕ → ℕ → Store → ℕ → Bool
+sidesOf k a b s t = eqb (kind s t) k && eqb (term s t .first) a && eqb (term s t .second) b
+
+unfoldable pub hasSides : List ℕ → ℕ → ℕ → ℕ → ℕ → Bool
+hasSides l k a b t = eqb (termAt l t .kind) k && eqb (termAt l t .first) a && eqb (termAt l t .second) b
+
+-- a concatenation by its parts, in the lent words of terms
+unfoldable pub hasParts : List ℕ → List Cell → List ℕ → ℕ → Bool
+hasParts l cs w t = eqb (termAt l t .kind) 3 && sameWord (firsts (chainIn cs (termAt l t .first))) w
+
+-- the two in one
+unfoldable pub makeText : ℕ → List ℕ → Work ℕ
+makeText k w = lowest (textOf k w) (do
+  p ← addText w
+  addTerm k p (length w))
+
+-- a new concatenation
+abbrev pub appendParts : List ℕ → Work ℕ
+appendParts l = do
+  c ← addChain l
+  addTerm 3 c 0
+
+-- the two in one, where a length's second word is 0
+unfoldable pub makeSides : ℕ → ℕ → ℕ → Work ℕ
+makeSides k a b = lowest (sidesOf k a b) (addTerm k a b)
+
+-- NAMES
+
+-- x is the first counter from the store's on whose name no variable has, or the limit where there is none below it
+pub record Free (s : Store) (x : ℕ) : Type 0 where
+  pub free : x < nameLimit → takeName s ≡ ok (withNames s (suc x)) (nameOf x)
+  pub spent : nameLimit ≤ x → takeName s ≡ stop 9

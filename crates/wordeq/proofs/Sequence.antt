@@ -1,0 +1,194 @@
+-- Working functions in sequence: the second goes on from the slices and counts that the first left, and what was counted at entry is kept.
+use mathlib.Core.Path.{_≡_, refl, sym, ap, subst, _∙_}
+use mathlib.Core.Bool.{Bool, true, false}
+use mathlib.Core.List.{List, [], _∷_, _++_}
+use mathlib.Core.Option.{Option, none, some}
+use Prim.Native.Nat.{ℕ, suc, _+_, _≤_, _<_}
+use native.Mathlib.Omega.{arith}
+use lib.ListN.{length, getD, length-append}
+use lib.Dec.{ltb, leb}
+use Rattle.records.specs.declared.State.{State}
+use Rattle.records.specs.declared.Made.{Made}
+use Rattle.records.specs.declared.Made.the-variants.{Term, Refused}
+use Rattle.records.specs.declared.Added.{Added}
+use Rattle.records.specs.declared.Added.the-variants as adding
+use Rattle.records.specs.Lists.{if_then_else_, table}
+use Rattle.records.specs.Store.{Term as TermOf, Cell, Room, Store, Out, ok, stop, Work, andThen, _>>=_, _>>_, give, refuse, put, count}
+use Rattle.records.specs.View.{Lent, storeOf, termAt, cellAt, pairAt}
+use Rattle.records.specs.Rules.{named}
+use Rattle.records.specs.Make.{withKeys, withChars, withCells, withTerms, withNames, own, ordered, addKey, addText, addChain, chainFrom, addTerm, lookup, orMake, lowest, constantOf, concatOf, lengthOf, equationOf, makeConstant, makeVariable, makeConcat, makeLength, makeEquation, takeName}
+use Rattle.records.specs.Audited.{Audited, Ready}
+use Rattle.records.specs.Calls.{Working, made, added}
+use Rattle.records.proofs.Lists.{table-same, table-length}
+use Rattle.records.proofs.Views.{table-is}
+use Rattle.records.proofs.Works.{stop-not, via}
+use Rattle.records.proofs.Passed.{ready-after}
+use Rattle.records.proofs.Kept.{name-taken}
+
+-- COUNTS
+
+-- no count is lower
+pub record Higher (s s′ : Store) : Type 0 where
+  pub terms : count s ≤ count s′
+  pub cells : length (s .cells) ≤ length (s′ .cells)
+  pub chars : length (s .chars) ≤ length (s′ .chars)
+  pub reasons : length (s .reasons) ≤ length (s′ .reasons)
+  pub keys : length (s .keys) ≤ length (s′ .keys)
+
+higher-none : (s : Store) → Higher s s
+higher-none s = record { terms = omega arith; cells = omega arith; chars = omega arith; reasons = omega arith; keys = omega arith }
+
+higher-then : {s s₁ s₂ : Store} → Higher s s₁ → Higher s₁ s₂ → Higher s s₂
+higher-then p q =
+    let a = p .terms in let b = p .cells in let c = p .chars in let d = p .reasons in let e = p .keys in
+    let a₁ = q .terms in let b₁ = q .cells in let c₁ = q .chars in let d₁ = q .reasons in let e₁ = q .keys in
+    record { terms = omega arith; cells = omega arith; chars = omega arith; reasons = omega arith; keys = omega arith }
+
+-- work that takes nothing away
+pub record Grows {A : Type 0} (w : Work A) : Type 0 where
+  pub higher : (s s′ : Store) (a : A) → w s ≡ ok s′ a → Higher s s′
+
+pub grows-then : {A B : Type 0} {w : Work A} {f : A → Work B} → Grows w → ((a : A) → Grows (f a)) → Grows (w >>= f)
+grows-then {w = w} {f = f} p q = record { higher = λ s s′ b e. via f (w s) e (λ s₁ a i j. higher-then (p .higher s s₁ a i) (q a .higher s₁ s′ b j)) }
+
+pub grows-give : {A : Type 0} (a : A) → Grows (give a)
+grows-give a = record { higher = λ s s′ b e. let q : s ≡ s′ = cc in subst (Higher s) q (higher-none s) }
+
+-- a write where there is room
+grows-put : (b : Bool) (s₁ : Store) (k : ℕ) (s s′ : Store) (u : Unit {0}) → Higher s s₁ → (if b then put s₁ else refuse k) s ≡ ok s′ u → Higher s s′
+grows-put true s₁ k s s′ u h e = let q : s₁ ≡ s′ = cc in subst (Higher s) q h
+grows-put false s₁ k s s′ u h e = stop-not e
+
+grows-write : {A : Type 0} (b : Bool) (s₁ : Store) (k : ℕ) (a : A) (s s′ : Store) (x : A) → Higher s s₁ → ((if b then put s₁ else refuse k) >> give a) s ≡ ok s′ x → Higher s s′
+grows-write true s₁ k a s s′ x h e = let q : s₁ ≡ s′ = cc in subst (Higher s) q h
+grows-write false s₁ k a s s′ x h e = stop-not e
+
+grows-term : (k a b : ℕ) → Grows (addTerm k a b)
+unfolding addTerm
+grows-term k a b = record {
+  higher = λ s s′ t e.
+      let n = length-append (s .terms) (own (suc (count s)) k a b ∷ []) in
+      grows-write (ltb (count s) (s .room .terms)) (withTerms s (s .terms ++ (own (suc (count s)) k a b ∷ []))) 8 (suc (count s)) s s′ t
+      (record { terms = omega arith; cells = omega arith; chars = omega arith; reasons = omega arith; keys = omega arith }) e;
+}
+
+grows-text : (w : List ℕ) → Grows (addText w)
+unfolding addText
+grows-text w = record {
+  higher = λ s s′ t e.
+      let n = length-append (s .chars) w in
+      grows-write (leb (length (s .chars) + length w) (s .room .chars)) (withChars s (s .chars ++ w)) 8 (length (s .chars)) s s′ t
+      (record { terms = omega arith; cells = omega arith; chars = omega arith; reasons = omega arith; keys = omega arith }) e;
+}
+
+grows-chain : (l : List ℕ) → Grows (addChain l)
+unfolding addChain
+grows-chain l = record {
+  higher = λ s s′ t e.
+      let c = suc (length (s .cells)) in
+      let n = length-append (s .cells) (chainFrom (suc (length (s .cells))) l) in
+      grows-write (leb (length (s .cells) + length l) (s .room .cells)) (withCells s (s .cells ++ chainFrom (suc (length (s .cells))) l)) 8 (suc (length (s .cells))) s s′ t
+      (record { terms = omega arith; cells = omega arith; chars = omega arith; reasons = omega arith; keys = omega arith }) e;
+}
+
+grows-lowest : (equal : Store → ℕ → Bool) {make : Work ℕ} → Grows make → Grows (lowest equal make)
+unfolding lowest
+grows-lowest equal {make} g = record { higher = λ s s′ t e. go s s′ t (lookup equal s) e }
+  where
+    go : (s s′ : Store) (t : ℕ) (o : Option ℕ) → orMake make o s ≡ ok s′ t → Higher s s′
+    go s s′ t none e = g .higher s s′ t e
+    go s s′ t (some i) e = let q : s ≡ s′ = cc in subst (Higher s) q (higher-none s)
+
+pub grows-constant : (w : List ℕ) → Grows (makeConstant w)
+unfolding makeConstant
+grows-constant w = grows-lowest (constantOf w) (grows-then (grows-text w) (λ p. grows-term 1 p (length w)))
+
+pub grows-variable : (w : List ℕ) → Grows (makeVariable w)
+unfolding makeVariable
+grows-variable w = grows-lowest (named w) (grows-then (grows-text w) (λ p. grows-term 2 p (length w)))
+
+pub grows-concat : (l : List ℕ) → Grows (makeConcat l)
+unfolding makeConcat
+grows-concat l = grows-lowest (concatOf l) (grows-then (grows-chain l) (λ c. grows-term 3 c 0))
+
+pub grows-length : (a : ℕ) → Grows (makeLength a)
+unfolding makeLength
+grows-length a = grows-lowest (lengthOf a) (grows-term 4 a 0)
+
+pub grows-equation : (a b : ℕ) → Grows (makeEquation a b)
+unfolding makeEquation
+grows-equation a b = grows-lowest (equationOf a b) (grows-term 5 a b)
+
+pub grows-key : (a b : ℕ) → Grows (addKey a b)
+unfolding addKey
+grows-key a b = record {
+  higher = λ s s′ u e.
+      let n = length-append (s .keys) (ordered a b ∷ []) in
+      grows-put (ltb (length (s .keys)) (s .room .keys)) (withKeys s (s .keys ++ (ordered a b ∷ []))) 8 s s′ u
+      (record { terms = omega arith; cells = omega arith; chars = omega arith; reasons = omega arith; keys = omega arith }) e;
+}
+
+pub grows-name : Grows takeName
+grows-name = record {
+  higher = λ s s′ w e.
+      let x = name-taken s s′ w e in
+      subst (Higher s) (sym (x .is)) (record { terms = omega arith; cells = omega arith; chars = omega arith; reasons = omega arith; keys = omega arith });
+}
+
+-- SLICES
+
+table-lower : {A : Type 0} (f g : ℕ → A) (k n : ℕ) → k ≤ n → table f n ≡ table g n → table f k ≡ table g k
+table-lower f g k n h e = table-same f g k (λ i l. table-is f g n i e (omega arith))
+
+same-store : {t t′ : List TermOf} {e e′ : List Cell} {h h′ : List ℕ} {r r′ k k′ : List (ℕ × ℕ)} {n : ℕ} {o o′ : Room} → t ≡ t′ → e ≡ e′ → h ≡ h′ → r ≡ r′ → k ≡ k′ → o ≡ o′
+    → _≡_ {A = Store} (record { terms = t; cells = e; chars = h; reasons = r; keys = k; names = n; room = o }) (record { terms = t′; cells = e′; chars = h′; reasons = r′; keys = k′; names = n; room = o′ })
+same-store p q i j l z = cc
+
+-- slices that agree up to some counts agree up to lower ones
+pub agree-below : (m₀ m m′ : Lent) (c d : State) → Higher (storeOf m₀ c) (storeOf m d) → storeOf m′ d ≡ storeOf m d → storeOf m′ c ≡ storeOf m c
+agree-below m₀ m m′ c d x q =
+    let t₁ = table-length (λ i. termAt (m₀ .terms) (suc i)) (c .terms) in
+    let t₂ = table-length (λ i. termAt (m .terms) (suc i)) (d .terms) in
+    let e₁ = table-length (λ i. cellAt (m₀ .cells) (suc i)) (c .cells) in
+    let e₂ = table-length (λ i. cellAt (m .cells) (suc i)) (d .cells) in
+    let h₁ = table-length (λ i. getD (m₀ .chars) i 0) (c .chars) in
+    let h₂ = table-length (λ i. getD (m .chars) i 0) (d .chars) in
+    let r₁ = table-length (pairAt (m₀ .reasons)) (c .reasons) in
+    let r₂ = table-length (pairAt (m .reasons)) (d .reasons) in
+    let k₁ = table-length (pairAt (m₀ .keys)) (c .keys) in
+    let k₂ = table-length (pairAt (m .keys)) (d .keys) in
+    let a = x .terms in let b = x .cells in let g = x .chars in let i = x .reasons in let j = x .keys in
+    same-store
+    (table-lower (λ i. termAt (m′ .terms) (suc i)) (λ i. termAt (m .terms) (suc i)) _ _ (omega arith) (ap (λ (s : Store). s .terms) q))
+    (table-lower (λ i. cellAt (m′ .cells) (suc i)) (λ i. cellAt (m .cells) (suc i)) _ _ (omega arith) (ap (λ (s : Store). s .cells) q))
+    (table-lower (λ i. getD (m′ .chars) i 0) (λ i. getD (m .chars) i 0) _ _ (omega arith) (ap (λ (s : Store). s .chars) q))
+    (table-lower (pairAt (m′ .reasons)) (pairAt (m .reasons)) _ _ (omega arith) (ap (λ (s : Store). s .reasons) q))
+    (table-lower (pairAt (m′ .keys)) (pairAt (m .keys)) _ _ (omega arith) (ap (λ (s : Store). s .keys) q))
+    (ap (λ (s : Store). s .room) q)
+
+-- SEQUENCE
+
+module _ {A B : Type 0} {w : Work A} (f : A → Work B) {m m₁ : Lent} {c : State} where
+  pub working-then : (c₁ : State) (a : A) → Grows w → Working w m m₁ c (ok (storeOf m₁ c₁) a) → {m₂ : Lent} {o : Out B} → Working (f a) m₁ m₂ c₁ o → Working (w >>= f) m m₂ c o
+  working-then c₁ a g p {m₂} q = record {
+    says = ap (andThen f) (p .says) ∙ q .says;
+    kept = agree-below m m₁ m₂ c c₁ (g .higher (storeOf m c) (storeOf m₁ c₁) a (p .says)) (q .kept) ∙ p .kept;
+  }
+
+  pub working-stop : {k : ℕ} → Working w m m₁ c (stop k) → Working (w >>= f) m m₁ c (stop k)
+  working-stop p = record { says = ap (andThen f) (p .says); kept = p .kept }
+
+-- after a make
+module _ {w : Work ℕ} {m m₁ : Lent} {c : State} {r : Made} where
+  pub made-is : {t : ℕ} {d : State} → r ≡ Term t d → Working w m m₁ c (made r m₁) → Working w m m₁ c (ok (storeOf m₁ d) t)
+  made-is e p = record { says = p .says ∙ ap (λ (x : Made). made x m₁) e; kept = p .kept }
+
+  pub made-stops : {k : ℕ} → r ≡ Refused k → Working w m m₁ c (made r m₁) → Working w m m₁ c (stop k)
+  made-stops e p = record { says = p .says ∙ ap (λ (x : Made). made x m₁) e; kept = p .kept }
+
+module _ {w : Work ℕ} {B : Type 0} (f : ℕ → Work B) {m m₁ : Lent} {c : State} {r : Made} where
+  pub made-then : {t : ℕ} {d : State} → Grows w → r ≡ Term t d → Working w m m₁ c (made r m₁) → {m₂ : Lent} {o : Out B} → Working (f t) m₁ m₂ d o → Working (w >>= f) m m₂ c o
+  made-then {t} {d} g e p q = working-then f d t g (made-is e p) q
+
+  pub made-stop : {k : ℕ} → r ≡ Refused k → Working w m m₁ c (made r m₁) → Working (w >>= f) m m₁ c (stop k)
+  made-stop e p = working-stop f (made-stops e p)

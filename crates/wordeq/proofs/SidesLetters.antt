@@ -1,0 +1,154 @@
+-- The constants of a side, and their characters counted.
+use mathlib.Core.Path.{_≡_, refl, sym, ap, _∙_}
+use mathlib.Core.Bool.{Bool, true, false, not, _&&_}
+use mathlib.Core.List.{List, [], _∷_, _++_}
+use Prim.Native.Nat.{ℕ, zero, suc, _+_, _*_, _-_, _<_, _≤_}
+use native.Mathlib.Numerals.{add-one}
+use native.Mathlib.Omega.{arith}
+use lib.ListN.{length, getD, take, drop, length-append, length-take, length-drop, drop-of-length-le}
+use lib.Seq.{drop-cons, take-all}
+use lib.Dec.{eqb, ltb}
+use borrow.Author.Tests.{eq-eqb, ne-eqb, eqb-true, lt-ltb, le-ltb, not-true, not-false}
+use Rattle.records.specs.declared.State.{State}
+use Rattle.records.specs.Lists.{if_then_else_, all, joined, table}
+use Rattle.records.specs.Store.{Store, Term, textIn, kind, term, isConstant, text}
+use Rattle.records.specs.View.{charLimit, termAt}
+use Rattle.records.proofs.Lists.{and-stop, and-next, left-false, table-length, failed, passed, within-low, within-high}
+use Rattle.records.proofs.Grown.{kind-term}
+use Rattle.records.proofs.Views.{term-is}
+use Rattle.wordeq.specs.Wordeq.{fixed, lettersOf, letters, short}
+use Rattle.wordeq.specs.Sides.{termed, spelled, Texts, Spelled, constantSide, otherSide}
+
+-- ALL CONSTANTS
+
+module _ (s : Store) (l : List ℕ) (i k : ℕ) (h : fixed s (drop i l) ≡ fixed s l) (q : i < length l) (e : k ≡ kind s (getD l i 0)) where
+  fixed-at : fixed s l ≡ (isConstant s (getD l i 0) && fixed s (drop (suc i) l))
+  unfolding fixed all
+  fixed-at = sym h ∙ rw (drop-cons l i 0 q)
+
+  pub fixed-stop : (k ≡ 1 → ⊥) → false ≡ fixed s l
+  fixed-stop n = sym (fixed-at ∙ left-false _ _ (ne-eqb _ 1 (λ z. n (e ∙ z))))
+
+  pub fixed-turn : k ≡ 1 → fixed s (drop (i + 1) l) ≡ fixed s l
+  fixed-turn n = rw add-one (sym (fixed-at ∙ rw (eq-eqb (kind s (getD l i 0)) 1 (sym e ∙ n))))
+
+pub fixed-done : (s : Store) (l : List ℕ) (i : ℕ) → fixed s (drop i l) ≡ fixed s l → length l ≤ i → true ≡ fixed s l
+unfolding fixed all
+fixed-done s l i h q = rw (drop-of-length-le l q) at h
+
+-- THE CONSTANT SIDE
+
+whole-part : (l : List ℕ) → take (length l - 0) (drop 0 l) ≡ l
+whole-part l = let e : length l - 0 ≡ length l = omega arith in rw e (take-all (length l) l (omega arith))
+
+module _ (s : Store) (l r : List ℕ) (x : Bool) (e : x ≡ fixed s l) where
+  pub constant-left : x ≡ true → take (length l - 0) (drop 0 l) ≡ constantSide s l r
+  unfolding constantSide
+  constant-left t = rw (sym e ∙ t) (whole-part l)
+
+  pub other-left : x ≡ true → take (length r - 0) (drop 0 r) ≡ otherSide s l r
+  unfolding otherSide
+  other-left t = rw (sym e ∙ t) (whole-part r)
+
+  module _ (f : x ≡ false) (y : Bool) (d : y ≡ fixed s r) where
+    pub constant-right : y ≡ true → take (length r - 0) (drop 0 r) ≡ constantSide s l r
+    unfolding constantSide
+    constant-right t = rw (sym e ∙ f, sym d ∙ t) (whole-part r)
+
+    pub constant-none : y ≡ false → take 0 (drop 0 l) ≡ constantSide s l r
+    unfolding constantSide
+    constant-none t = rw (sym e ∙ f, sym d ∙ t)
+
+    pub other-right : y ≡ true → take (length l - 0) (drop 0 l) ≡ otherSide s l r
+    unfolding otherSide
+    other-right t = rw (sym e ∙ f, sym d ∙ t) (whole-part l)
+
+    pub other-none : y ≡ false → take 0 (drop 0 l) ≡ otherSide s l r
+    unfolding otherSide
+    other-none t = rw (sym e ∙ f, sym d ∙ t)
+
+-- COUNTED
+
+-- a number with a kind names a counted term
+pub term-there : (l : List ℕ) (c : State) (t k : ℕ) → kind (termed l c) t ≡ suc k → term (termed l c) t ≡ termAt l t
+term-there l c t k e =
+    let q = kind-term (termed l c) t k e in
+    let w = rw (table-length (λ i. termAt l (suc i)) (c .terms)) at q in
+    term-is l (c .terms) t (within-low _ t w) (within-high _ t w)
+
+module _ (l h : List ℕ) (c : State) where
+  -- a text within the count has its whole length
+  pub text-length : (t : ℕ) → term (termed l c) t .first + term (termed l c) t .second ≤ c .chars → length (text (spelled l h c) t) ≡ term (termed l c) t .second
+  unfolding textIn
+  text-length t q = let e = table-length (λ i. getD h i 0) (c .chars) in simp (length-take, length-drop) (omega arith)
+
+  module _ (x : Texts l c) (a : ℕ) where
+    pub letters-constant : kind (termed l c) a ≡ 1 → length (lettersOf (spelled l h c) a) ≡ getD l (8 * a + 2) 0
+    unfolding lettersOf
+    letters-constant e = rw (eq-eqb (kind (termed l c) a) 1 e) (text-length a (x .constants a e) ∙ ap (λ (t : Term). t .second) (term-there l c a 0 e))
+
+    pub letters-other : (kind (termed l c) a ≡ 1 → ⊥) → lettersOf (spelled l h c) a ≡ []
+    unfolding lettersOf
+    letters-other e = rw (ne-eqb (kind (termed l c) a) 1 e)
+
+pub count-none : (l : List ℕ) (c : State) (a k : ℕ) → Texts l c → k ≡ kind (termed l c) a → (k ≡ 1 → ⊥) → 0 ≡ length (lettersOf (termed l c) a)
+count-none l c a k x e n = sym (ap length (letters-other l [] c x a (λ z. n (e ∙ z))))
+
+pub count-some : (l : List ℕ) (c : State) (a k v r : ℕ) → Texts l c → k ≡ kind (termed l c) a → k ≡ 1 → v ≡ getD l (8 * a + 2) 0 → r ≡ v → r ≡ length (lettersOf (termed l c) a)
+count-some l c a k v r x e n f g = g ∙ f ∙ sym (letters-constant l [] c x a (sym e ∙ n))
+
+-- the letters of an atom are no more than are counted
+pub count-limit : (l h : List ℕ) (c : State) (a : ℕ) → length (lettersOf (spelled l h c) a) ≤ c .chars
+unfolding lettersOf textIn
+count-limit l h c a = go (isConstant (spelled l h c) a)
+  where
+    go : (b : Bool) → length (if b then text (spelled l h c) a else []) ≤ c .chars
+    go true = let e = table-length (λ i. getD h i 0) (c .chars) in simp (length-take, length-drop) (omega arith)
+    go false = omega arith
+
+-- the atom at i, and those after it
+pub letters-at : (s : Store) (l : List ℕ) (i : ℕ) → i < length l → letters s (drop i l) ≡ lettersOf s (getD l i 0) ++ letters s (drop (suc i) l)
+unfolding letters joined
+letters-at s l i h = rw (drop-cons l i 0 h)
+
+pub letters-end : (s : Store) (l : List ℕ) (i : ℕ) → length l ≤ i → letters s (drop i l) ≡ []
+unfolding letters joined
+letters-end s l i h = rw (drop-of-length-le l h)
+
+-- the sum of the first i
+pub record Counted (s : Store) (l : List ℕ) (total i : ℕ) : Type 0 where
+  pub within : i ≤ length l
+  pub small : total ≤ charLimit * i
+  pub rest : total + length (letters s (drop i l)) ≡ length (letters s l)
+
+pub counted-none : (s : Store) (l : List ℕ) → Counted s l 0 0
+counted-none s l = record { within = omega arith; small = omega arith; rest = omega arith }
+
+pub counted-one : (w : List ℕ) (c : State) (l : List ℕ) (total i n : ℕ) → Texts w c → Counted (termed w c) l total i → i < length l
+    → n ≡ length (lettersOf (termed w c) (getD l i 0)) → Counted (termed w c) l (total + n) (i + 1)
+counted-one w c l total i n x a q e =
+    let f = letters-at (termed w c) l i q in
+    let g = length-append (lettersOf (termed w c) (getD l i 0)) (letters (termed w c) (drop (suc i) l)) in
+    let r = a .rest in
+    let k = a .small in
+    let b = count-limit w [] c (getD l i 0) in
+    let d = x .limited in
+    let y : length (letters (termed w c) (drop i l)) ≡ length (lettersOf (termed w c) (getD l i 0)) + length (letters (termed w c) (drop (suc i) l)) = ap length f ∙ g in
+    record { within = omega arith; small = omega arith; rest = rw add-one (omega arith) }
+
+pub counted-all : (s : Store) (l : List ℕ) (total i : ℕ) → Counted s l total i → length l ≤ i → total ≡ length (letters s l)
+counted-all s l total i a h =
+    let r = a .rest in
+    let e : length (letters s (drop i l)) ≡ 0 = ap length (letters-end s l i h) in
+    omega arith
+
+-- SHORT
+
+pub short-not : (s : Store) (l r : List ℕ) (x : Bool) → x ≡ fixed s l → not x ≡ true → false ≡ short s l r
+unfolding short
+short-not s l r x e h = and-stop _ _ (failed _ x e h)
+
+module _ (s : Store) (l r : List ℕ) (x : Bool) (e : x ≡ fixed s l) (h : not x ≡ false) (m n : ℕ) (p : m ≡ length (letters s l)) (q : n ≡ length (letters s r)) where
+  pub short-is : (b : Bool) → b ≡ ltb m n → b ≡ short s l r
+  unfolding short
+  short-is b d = and-next _ _ b (passed _ x e h) (d ∙ (rw (p, q)))

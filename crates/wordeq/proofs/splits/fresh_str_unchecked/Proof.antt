@@ -1,0 +1,22 @@
+use Rattle.wordeq.proofs.Splitting.{named-stop, named-ready, named-then}
+use native.Mathlib.Omega.{arith}
+use borrow.Author.Needs.{needs}
+use Rattle.wordeq.proofs.splits.fresh_str_unchecked.Statement.{statement}
+use Rattle.wordeq.proofs.splits.fresh_str_unchecked.Tie as tie
+use Rattle.wordeq.proofs.splits.fresh_str_unchecked.Reads as reads
+use Rattle.wordeq.proofs.splits.fresh_str_unchecked.Lts as lts
+use Rattle.records.proofs.names.take_name_unchecked.Reads as take-name-unchecked-reads
+use Rattle.wordeq.proofs.splits.make_named.Reads as make-named-reads
+
+pub fresh-str-unchecked-spec : {M : Type 1} → statement M
+fresh-str-unchecked-spec =
+    tie.close
+    (tie.spec
+    (λ c κs. search needs)
+    (λ c. search needs)
+    (λ c. search needs)
+    (λ c. named-stop _ (c .before .before .take-name-unchecked .ensures) (c .if1 .taken))
+    (λ c κs. (named-ready _ (c .before .before .before .before .before .before .take-name-unchecked .ensures) (c .before .before .before .before .before .before .before .before .before .before .before .before .before .before .pre) (c .before .before .before .before .if1 .left), c .before .before .before .before .before .before .take-name-unchecked .ensures .fits))
+    (λ c. search needs)
+    (λ c. search needs)
+    (λ c. named-then _ (c .before .before .before .before .before .before .before .before .before .before .before .take-name-unchecked .ensures) (c .before .before .before .before .before .before .before .before .before .if1 .left) (c .before .before .before .before .make-named .ensures)))

@@ -1,0 +1,59 @@
+-- What the tests of two lists read: the terms and characters alone, and a place within a side's constant characters.
+use mathlib.Core.Path.{_≡_}
+use mathlib.Core.Bool.{Bool, true, false, _&&_}
+use mathlib.Core.List.{List, [], _∷_}
+use Prim.Native.Nat.{ℕ, _+_, _≤_, _<_}
+use lib.ListN.{length, take, drop, getD}
+use lib.Dec.{eqb, leb}
+use Rattle.records.specs.declared.State.{State}
+use Rattle.records.specs.Lists.{if_then_else_}
+use Rattle.records.specs.Store.{Store, kind, term, isConstant}
+use Rattle.records.specs.View.{lent, storeOf, charLimit}
+use Rattle.wordeq.specs.declared.sides.Cursor.{Cursor}
+use Rattle.wordeq.specs.Wordeq.{fixed, lettersOf, letters}
+
+-- the store of terms alone, and of terms and characters
+abbrev pub termed : List ℕ → State → Store
+termed l c = storeOf (lent l [] [] [] []) c
+
+abbrev pub spelled : List ℕ → List ℕ → State → Store
+spelled l h c = storeOf (lent l [] h [] []) c
+
+-- each text is within the characters counted
+pub record Texts (l : List ℕ) (c : State) : Type 0 where
+  pub limited : c .chars ≤ charLimit
+  pub constants : (t : ℕ) → kind (termed l c) t ≡ 1 → term (termed l c) t .first + term (termed l c) t .second ≤ c .chars
+  pub variables : (t : ℕ) → kind (termed l c) t ≡ 2 → term (termed l c) t .first + term (termed l c) t .second ≤ c .chars
+
+-- and they are there: what the tests require
+pub record Spelled (l h : List ℕ) (c : State) : Type 0 where
+  pub texts : Texts l c
+  pub room : c .chars ≤ length h
+
+-- 'The constant side is picked from the two lists': the left one where both are constant, and none where neither is
+unfoldable pub constantSide : Store → List ℕ → List ℕ → List ℕ
+constantSide s l r = if fixed s l then l else (if fixed s r then r else [])
+
+unfoldable pub otherSide : Store → List ℕ → List ℕ → List ℕ
+otherSide s l r = if fixed s l then r else (if fixed s r then l else [])
+
+-- A PLACE IN THE CONSTANT CHARACTERS OF A SIDE
+
+-- what is left of them from a character of an atom on
+abbrev pub rest : Store → List ℕ → ℕ → ℕ → List ℕ
+rest s l i j = drop j (letters s (drop i l))
+
+-- the atom of a cursor has its character
+pub record There (w : List ℕ) (c : State) (l : List ℕ) (k : Cursor) : Type 0 where
+  pub there : k .atom < length l → k .place < length (lettersOf (termed w c) (getD l (k .atom) 0))
+
+-- r is there and leaves what k leaves
+pub record Settled (w : List ℕ) (c : State) (l : List ℕ) (k r : Cursor) : Type 0 where
+  pub same : (h : List ℕ) → rest (spelled w h c) l (r .atom) (r .place) ≡ rest (spelled w h c) l (k .atom) (k .place)
+  pub at : There w c l r
+
+-- two words begin with one character
+unfoldable pub headsAgree : List ℕ → List ℕ → Bool
+headsAgree [] w = false
+headsAgree (x ∷ v) [] = false
+headsAgree (x ∷ v) (y ∷ w) = eqb x y

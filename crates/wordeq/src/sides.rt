@@ -1,0 +1,252 @@
+// Tests of the two lists of an equation, which write nothing.
+ghost use mathlib.Core.Path.{_≡_};
+ghost use mathlib.Core.Bool.{true, _&&_};
+ghost use mathlib.Core.List.{[], _∷_};
+ghost use Prim.Native.Nat.{ℕ, _+_, _<_, _≤_};
+ghost use lib.ListN.{length};
+ghost use Rattle.records.specs.Lists.{sameWord};
+ghost use Rattle.records.specs.Store.{isConstant, text, within, classUp};
+ghost use Rattle.records.specs.View.{span, termsView};
+ghost use Rattle.records.specs.Audited.{Closed};
+ghost use Rattle.normalize.specs.Normalize.{listLimit};
+ghost use Rattle.wordeq.specs.Wordeq.{same, fixed, lettersOf, letters, short, isPlain, differ};
+ghost use Rattle.wordeq.specs.Sides.{termed, spelled, Texts, Spelled, constantSide, otherSide, rest, There, Settled, headsAgree};
+use records::State;
+use records::classes::root_unchecked;
+use records::fields;
+use records::rules;
+use records::text::text_is;
+
+// Whether all atoms are constants.
+pub(crate) fn is_fixed(terms: &[u32], c: State, l: &[u32]) -> bool
+    ensures { λ r. ⌜ r ≡ fixed (termed (now (terms .entry)) c) (now (l .entry)) ⌝ }
+{
+    let mut i: usize = 0;
+    while i < l.len() {
+        if rules::kind_of(terms, c.terms, l[i]) != 1 {
+            return false;
+        }
+        i += 1;
+    }
+    true
+}
+
+// The side of constants, as it was lent; an empty part where there is none.
+pub(crate) fn constant_side<'a>(terms: &[u32], c: State, l: &'a [u32], r: &'a [u32]) -> &'a [u32]
+    ensures { λ p. ⌜ now p ≡ constantSide (termed (now (terms .entry)) c) (now (l .entry)) (now (r .entry)) ⌝ }
+{
+    if is_fixed(terms, c, l) {
+        return &l[0..l.len()];
+    }
+    if is_fixed(terms, c, r) {
+        return &r[0..r.len()];
+    }
+    &l[0..0]
+}
+
+// The side against it.
+pub(crate) fn other_side<'a>(terms: &[u32], c: State, l: &'a [u32], r: &'a [u32]) -> &'a [u32]
+    ensures { λ p. ⌜ now p ≡ otherSide (termed (now (terms .entry)) c) (now (l .entry)) (now (r .entry)) ⌝ }
+{
+    if is_fixed(terms, c, l) {
+        return &r[0..r.len()];
+    }
+    if is_fixed(terms, c, r) {
+        return &l[0..l.len()];
+    }
+    &l[0..0]
+}
+
+// The characters of an atom that is a constant, counted.
+fn letter_count(terms: &[u32], c: State, a: u32) -> usize
+    requires { ⌜ Texts (now terms) c ⌝ }
+    ensures { λ r. ⌜ r ≡ length (lettersOf (termed (now (terms .entry)) c) a) ⌝ }
+{
+    if rules::kind_of(terms, c.terms, a) != 1 {
+        return 0;
+    }
+    fields::wide(fields::second(terms, a))
+}
+
+// The constant characters of a side, counted.
+pub(crate) fn letters_length(terms: &[u32], c: State, l: &[u32]) -> usize
+    requires { ⌜ Texts (now terms) c × (length (now l) ≤ listLimit) ⌝ }
+    ensures { λ r. ⌜ r ≡ length (letters (termed (now (terms .entry)) c) (now (l .entry))) ⌝ }
+{
+    let mut total: usize = 0;
+    let mut i: usize = 0;
+    while i < l.len() {
+        total += letter_count(terms, c, l[i]);
+        i += 1;
+    }
+    total
+}
+
+// A constant side shorter than the other's constant characters.
+pub(crate) fn short(terms: &[u32], c: State, l: &[u32], r: &[u32]) -> bool
+    requires { ⌜ Texts (now terms) c × (length (now l) ≤ listLimit) × (length (now r) ≤ listLimit) ⌝ }
+    ensures { λ b. ⌜ b ≡ short (termed (now (terms .entry)) c) (now (l .entry)) (now (r .entry)) ⌝ }
+{
+    if !is_fixed(terms, c, l) {
+        return false;
+    }
+    letters_length(terms, c, l) < letters_length(terms, c, r)
+}
+
+// A PLACE IN THE CONSTANT CHARACTERS OF A SIDE
+
+// A character of an atom; past the atom's end, one of the atoms after it.
+pub struct Cursor {
+    pub atom: usize,
+    pub place: usize,
+}
+
+// The cursor at the atom that has its character.
+fn settle(terms: &[u32], c: State, l: &[u32], k: Cursor) -> Cursor
+    requires { ⌜ Texts (now terms) c ⌝ }
+    ensures { λ r. ⌜ Settled (now (terms .entry)) c (now (l .entry)) k r ⌝ }
+{
+    let mut i = k.atom;
+    let mut j = k.place;
+    while i < l.len() {
+        let n = letter_count(terms, c, l[i]);
+        if j < n {
+            return Cursor { atom: i, place: j };
+        }
+        j -= n;
+        i += 1;
+    }
+    Cursor { atom: i, place: j }
+}
+
+fn letter(terms: &[u32], chars: &[u32], c: State, l: &[u32], k: Cursor) -> u32
+    requires { ⌜ Spelled (now terms) (now chars) c × There (now terms) c (now l) k × (k .atom < length (now l)) ⌝ }
+    ensures { λ r. do
+      let s = spelled (now (terms .entry)) (now (chars .entry)) c
+      ⌜ rest s (now (l .entry)) (k .atom) (k .place) ≡ r ∷ rest s (now (l .entry)) (k .atom) (k .place + 1) ⌝ }
+{
+    let i = k.atom;
+    let p = fields::wide(fields::first(terms, l[i]));
+    fields::word(chars, p + k.place)
+}
+
+// Whether two sides go on with one character.
+fn same_letter(
+    terms: &[u32],
+    chars: &[u32],
+    c: State,
+    l: &[u32],
+    k: Cursor,
+    r: &[u32],
+    x: Cursor,
+) -> bool
+    requires { ⌜ Spelled (now terms) (now chars) c × There (now terms) c (now l) k × There (now terms) c (now r) x ⌝ }
+    ensures { λ b. do
+      let s = spelled (now (terms .entry)) (now (chars .entry)) c
+      ⌜ b ≡ headsAgree (rest s (now (l .entry)) (k .atom) (k .place)) (rest s (now (r .entry)) (x .atom) (x .place)) ⌝ }
+{
+    if l.len() <= k.atom {
+        return false;
+    }
+    if r.len() <= x.atom {
+        return false;
+    }
+    let a = letter(terms, chars, c, l, k);
+    let b = letter(terms, chars, c, r, x);
+    a == b
+}
+
+// TWO TEXTS
+
+fn spans_differ(chars: &[u32], p: usize, n: usize, q: usize, m: usize) -> bool
+    requires { ⌜ p + n ≤ length (now chars) ⌝ ∗ ⌜ q + m ≤ length (now chars) ⌝ }
+    ensures { λ r. ⌜ r ≡ differ (span (now (chars .entry)) p n) (span (now (chars .entry)) q m) ⌝ }
+{
+    let mut j: usize = 0;
+    while j < n {
+        if m <= j {
+            return false;
+        }
+        if chars[p + j] != chars[q + j] {
+            return true;
+        }
+        j += 1;
+    }
+    false
+}
+
+// Two constants that differ at a character.
+pub(crate) fn constants_differ(terms: &[u32], chars: &[u32], c: State, a: u32, b: u32) -> bool
+    requires { ⌜ Spelled (now terms) (now chars) c ⌝ }
+    ensures { λ r. do
+      let s = spelled (now (terms .entry)) (now (chars .entry)) c
+      ⌜ r ≡ (isConstant s a && isConstant s b && differ (text s a) (text s b)) ⌝ }
+{
+    if !both_constant(terms, c, a, b) {
+        return false;
+    }
+    let p = fields::wide(fields::first(terms, a));
+    let n = fields::wide(fields::second(terms, a));
+    let q = fields::wide(fields::first(terms, b));
+    let m = fields::wide(fields::second(terms, b));
+    spans_differ(chars, p, n, q, m)
+}
+
+// A variable whose name does not begin with `!strk`.
+pub(crate) fn is_plain(terms: &[u32], chars: &[u32], c: State, v: u32) -> bool
+    requires { ⌜ Spelled (now terms) (now chars) c ⌝ }
+    ensures { λ r. ⌜ r ≡ isPlain (spelled (now (terms .entry)) (now (chars .entry)) c) v ⌝ }
+{
+    if rules::kind_of(terms, c.terms, v) != 2 {
+        return false;
+    }
+    if fields::second(terms, v) < 5 {
+        return true;
+    }
+    let strk: [u32; 5] = [33, 115, 116, 114, 107];
+    !text_is(chars, fields::first(terms, v), &strk)
+}
+
+fn both_constant(terms: &[u32], c: State, a: u32, b: u32) -> bool
+    ensures { λ r. do
+      let s = termed (now (terms .entry)) c
+      ⌜ r ≡ (isConstant s a && isConstant s b) ⌝ }
+{
+    if rules::kind_of(terms, c.terms, a) != 1 {
+        return false;
+    }
+    rules::kind_of(terms, c.terms, b) == 1
+}
+
+// Two constants of equal characters.
+fn same_text(terms: &[u32], chars: &[u32], c: State, a: u32, b: u32) -> bool
+    requires { ⌜ Spelled (now terms) (now chars) c × ((isConstant (termed (now terms) c) a && isConstant (termed (now terms) c) b) ≡ true) ⌝ }
+    ensures { λ r. do
+      let s = spelled (now (terms .entry)) (now (chars .entry)) c
+      ⌜ r ≡ sameWord (text s a) (text s b) ⌝ }
+{
+    let n = fields::second(terms, a);
+    let m = fields::second(terms, b);
+    if n != m {
+        return false;
+    }
+    let q = fields::wide(fields::first(terms, b));
+    let k = fields::wide(m);
+    text_is(chars, fields::first(terms, a), &chars[q..q + k])
+}
+
+// The same number; for two constants, equal characters; else the same class.
+pub(crate) fn same(terms: &[u32], chars: &[u32], c: State, a: u32, b: u32) -> bool
+    requires { ⌜ Spelled (now terms) (now chars) c × (within (c .terms) a ≡ true) × (within (c .terms) b ≡ true) × Closed (classUp (termsView (now terms) (c .terms))) (c .terms) ⌝ }
+    ensures { λ r. ⌜ r ≡ same (spelled (now (terms .entry)) (now (chars .entry)) c) a b ⌝ }
+{
+    if a == b {
+        return true;
+    }
+    if both_constant(terms, c, a, b) {
+        return same_text(terms, chars, c, a, b);
+    }
+    let x = root_unchecked(terms, c.terms, a);
+    let y = root_unchecked(terms, c.terms, b);
+    x == y
+}
