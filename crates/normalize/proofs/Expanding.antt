@@ -11,7 +11,7 @@ use lib.Seq.{drop-cons, getD-set-same, getD-set-other}
 use lib.Dec.{eqb, ltb}
 use borrow.Author.Tests.{eqb-true, eqb-false, eq-eqb, ne-eqb, ltb-false, lt-ltb, le-ltb, not-true, not-false}
 use Rattle.records.specs.declared.State.{State}
-use Rattle.records.specs.Lists.{if_then_else_, all, any, isIn, isMarked, Every, none-left, and}
+use Rattle.records.specs.Lists.{if_then_else_, all, any, isIn, Every, none-left, and}
 use Rattle.records.specs.Store.{Term, Store, Out, ok, stop, Work, andThen, _>>=_, give, count, within, termIn, isString}
 use Rattle.records.specs.View.{Lent, storeOf, termLimit}
 use Rattle.records.specs.Audited.{Ready}
@@ -101,11 +101,11 @@ atom-length known a l s s′ l′ e = via (λ f. if ltb deepLimit (length (l ++ 
 -- MARKS
 
 pub met-none : (table : List ℕ) → length table ≡ 513 → ((i : ℕ) → i < length table → getD table i 0 ≡ 0) → Met table []
-unfolding isMarked isIn any
+unfolding isIn any
 met-none table e f = record { size = e; marks = λ x h. rw (f x (omega arith)) }
 
 met-more : (table met : List ℕ) (a : ℕ) → Met table met → a ≤ termLimit → Met (set table a 1) (a ∷ met)
-unfolding isMarked isIn any
+unfolding isIn any
 met-more table met a h l = record {
   size = length-set table a 1 ∙ h .size;
   marks = λ x k.
@@ -176,7 +176,6 @@ module _ {m : Lent} {c : State} (ready : Ready m c) (known : List ℕ) (t a : �
     opened = sym e ∙ not-false b h
 
     marked-is : (met : List ℕ) → Met table met → isIn a met ≡ eqb (getD table a 0) 1
-    unfolding isMarked
     marked-is met q = sym (q .marks a atom-place)
 
     pub one-again : getD table a 0 ≡ 1 → Expands known t (a ∷ []) next k table m m c next table (deep.None c)

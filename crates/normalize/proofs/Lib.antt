@@ -12,3 +12,4 @@ pub mod Replacing
 pub mod Forming
 pub mod Expanding
 pub mod Rounding
+pub mod FormCalls

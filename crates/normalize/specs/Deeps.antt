@@ -4,10 +4,10 @@ use mathlib.Core.Bool.{Bool, true, not, _&&_}
 use mathlib.Core.List.{List, [], _∷_, _++_, reverse}
 use mathlib.Core.Option.{Option, none, some}
 use Prim.Native.Nat.{ℕ, _*_, _≤_}
-use lib.ListN.{length}
+use lib.ListN.{length, getD}
 use lib.Dec.{eqb, ltb}
 use Rattle.records.specs.declared.State.{State}
-use Rattle.records.specs.Lists.{if_then_else_, all, any, isIn, isMarked}
+use Rattle.records.specs.Lists.{if_then_else_, all, any, isIn}
 use Rattle.records.specs.Store.{Term, Store, Out, ok, stop, Work, _>>=_, give, store, termIn, isString}
 use Rattle.records.specs.View.{Lent, storeOf, termLimit}
 use Rattle.normalize.specs.Normalize.{normalForm, pushAll, deepLimit, opens, Round, expand, settle, afterExpand, rounds}
@@ -25,6 +25,9 @@ deepened (deep.Refused k) m l = stop k
 
 abbrev pub opensIn : List Term → ℕ → ℕ → Bool
 opensIn ts t a = eqb (termIn ts a .kind) 3 && not (eqb a t)
+
+abbrev pub isMarked : List ℕ → ℕ → Bool
+isMarked table x = eqb (getD table x 0) 1
 
 -- the concatenations met are those marked
 pub record Met (table met : List ℕ) : Type 0 where

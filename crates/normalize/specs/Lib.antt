@@ -4,3 +4,4 @@ pub mod Flat
 pub mod Nodes
 pub mod Pushes
 pub mod Deeps
+pub mod Calls

@@ -4,7 +4,7 @@ ghost use Prim.Native.Nat.{ℕ, _≤_};
 ghost use lib.ListN.{length};
 ghost use Rattle.normalize.specs.Normalize.{listLimit, atoms};
 ghost use Rattle.normalize.specs.Flat.{bare, Nested, Appended};
-use crate::LIST_LIMIT;
+use records::LIST_LIMIT;
 use records::fields;
 use records::rules;
 

@@ -12,12 +12,12 @@ ghost use Rattle.engine.specs.Explain.{explainArguments};
 ghost use Rattle.normalize.specs.Normalize.{listLimit, pushForms, normalForm, formArguments};
 ghost use Rattle.normalize.specs.Pushes.{firstWords, formed, pushed, cite, pushFor, Candidates};
 use crate::Form;
-use crate::LIST_LIMIT;
 use crate::flat;
 use crate::nodes;
 use crate::pushes;
 use engine::explain_unchecked;
 use records::Added;
+use records::LIST_LIMIT;
 use records::State;
 
 // The reasons that a is equal to r, where they differ.
