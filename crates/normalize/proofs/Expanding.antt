@@ -1,9 +1,9 @@
 -- The ways of expanding an atom, and of the loop over a round's list.
 use mathlib.Core.Path.{_≡_, refl, sym, ap, subst, _∙_}
-use mathlib.Core.Bool.{Bool, true, false, not, _&&_, _||_}
+use mathlib.Core.Bool.{Bool, true, false, not}
 use mathlib.Core.List.{List, [], _∷_, _++_}
 use mathlib.Core.Option.{Option, none, some}
-use Prim.Native.Nat.{ℕ, zero, suc, _+_, _*_, _≤_, _<_}
+use Prim.Native.Nat.{ℕ, suc, _+_, _*_, _≤_, _<_}
 use native.Mathlib.Numerals.{add-one}
 use native.Mathlib.Omega.{arith}
 use lib.ListN.{length, drop, getD, set, length-set, length-append}
@@ -11,12 +11,12 @@ use lib.Seq.{drop-cons, getD-set-same, getD-set-other}
 use lib.Dec.{eqb, ltb}
 use borrow.Author.Tests.{eqb-true, eqb-false, eq-eqb, ne-eqb, ltb-false, lt-ltb, le-ltb, not-true, not-false}
 use Rattle.records.specs.declared.State.{State}
-use Rattle.records.specs.Lists.{if_then_else_, all, any, isIn, Every, none-left, and}
-use Rattle.records.specs.Store.{Term, Store, Out, ok, stop, Work, andThen, _>>=_, give, count, within, termIn, isString}
+use Rattle.records.specs.Lists.{if_then_else_, all, any, isIn, none-left, and}
+use Rattle.records.specs.Store.{Term, Store, Out, ok, stop, Work, andThen, give, count, termIn, isString}
 use Rattle.records.specs.View.{Lent, storeOf, termLimit}
 use Rattle.records.specs.Audited.{Ready}
 use Rattle.records.specs.Calls.{Working}
-use Rattle.records.proofs.Lists.{decide, clash, left-false, all-every, every-all, every-at, every-append, table-length, table-at, within-high}
+use Rattle.records.proofs.Lists.{decide, left-false, all-every, every-all, every-at, table-at, within-high}
 use Rattle.records.proofs.Works.{via}
 use Rattle.records.proofs.Grown.{string-term}
 use Rattle.records.proofs.Climbs.{view-count}
@@ -25,11 +25,11 @@ use Rattle.normalize.specs.declared.Form.the-variants as form
 use Rattle.normalize.specs.declared.DeepForm.{DeepForm}
 use Rattle.normalize.specs.declared.DeepForm.the-variants as deep
 use Rattle.normalize.specs.Normalize.{listLimit, deepLimit, normalForm, opens, Round, expand}
-use Rattle.normalize.specs.Pushes.{firstWords, formed, Candidates}
-use Rattle.normalize.specs.Deeps.{deepened, opensIn, Met, Marked, RoundOf, expandAtom, expanded, ExpandedTo, Expands}
-use Rattle.normalize.proofs.Ends.{Ends}
-use Rattle.normalize.proofs.Rewritten.{Later, Strings, strings-later, Rewritten}
-use Rattle.normalize.proofs.Formed.{Formed, form-ends}
+use Rattle.normalize.specs.Pushes.{Candidates}
+use Rattle.normalize.specs.Calls.{firstWords, formed, deepened}
+use Rattle.normalize.specs.Deeps.{opensIn, Met, RoundOf, expandAtom, expanded, ExpandedTo, Expands}
+use Rattle.normalize.proofs.Rewritten.{Strings, strings-later, Rewritten}
+use Rattle.normalize.proofs.Formed.{form-ends}
 use Rattle.normalize.proofs.Deep.{expand-ends}
 use Rattle.normalize.proofs.Carried.{Carried, carried-none, carried-ready, carried-kept, carried-then}
 use Rattle.normalize.proofs.Replacing.{drop-past, candidates-later}

@@ -1,16 +1,14 @@
 -- Each way through the public calls of the normal forms.
-use mathlib.Core.Path.{_≡_, refl, sym, ap, _∙_}
-use mathlib.Core.Bool.{Bool, true, false, not, _&&_}
+use mathlib.Core.Path.{_≡_, refl, sym, _∙_}
+use mathlib.Core.Bool.{Bool, true, false, not}
 use mathlib.Core.List.{List}
 use mathlib.Core.Option.{Option}
 use Prim.Native.Nat.{ℕ, _≤_, _<_}
 use native.Mathlib.Omega.{arith}
 use lib.ListN.{length}
-use lib.Dec.{leb}
 use borrow.Author.Tests.{le-leb, lt-leb, not-true, not-false}
 use Rattle.records.specs.declared.State.{State}
-use Rattle.records.specs.Lists.{if_then_else_}
-use Rattle.records.specs.Store.{Store, Out, ok, stop, Work, isString}
+use Rattle.records.specs.Store.{Store, Out, stop, Work, isString}
 use Rattle.records.specs.View.{Lent, storeOf}
 use Rattle.records.specs.Rules.{audit}
 use Rattle.records.specs.Audited.{Ready}
@@ -19,7 +17,6 @@ use Rattle.records.proofs.Lists.{left-false, and-next}
 use Rattle.records.proofs.Public.{call-unready, call-unfit, call-works, passed-ready}
 use Rattle.records.proofs.Works.{stop-not}
 use Rattle.normalize.specs.Normalize.{listLimit, normalForm, deepForm, isList, formArguments}
-use Rattle.normalize.specs.Meaning.{Forms, DeepForms}
 use Rattle.normalize.specs.Calls.{listCall, PublicList, PublicForm, PublicDeepForm}
 use Rattle.normalize.proofs.Formed.{form-stops, form-sound}
 use Rattle.normalize.proofs.Deep.{deep-stops, deep-sound}

@@ -11,19 +11,19 @@ use borrow.Author.Tests.{eqb-true, eq-eqb, ne-eqb}
 use Rattle.records.specs.declared.State.{State}
 use Rattle.records.specs.declared.Made.{Made}
 use Rattle.records.specs.declared.Made.the-variants.{Term, Refused}
-use Rattle.records.specs.Lists.{if_then_else_, all, joined, table}
-use Rattle.records.specs.Store.{Store, Term as TermOf, Out, ok, stop, Work, andThen, _>>=_, give, within, kind, term, termIn, isConstant, textIn, text}
-use Rattle.records.specs.View.{Lent, lent, storeOf, termsView, termAt}
+use Rattle.records.specs.Lists.{all, joined, table}
+use Rattle.records.specs.Store.{Store, Term as TermOf, Out, ok, stop, Work, andThen, give, within, kind, term, termIn, isConstant, text}
+use Rattle.records.specs.View.{Lent, storeOf, termsView, termAt}
 use Rattle.records.specs.Make.{makeConstant}
-use Rattle.records.specs.Audited.{Recorded, Ready}
+use Rattle.records.specs.Audited.{Ready}
 use Rattle.records.specs.Calls.{Working, made}
 use Rattle.records.proofs.Lists.{both-left, both-right, both-true, left-false, clash, decide, table-length, table-suc}
 use Rattle.records.proofs.Views.{second-at, text-span}
 use Rattle.records.proofs.Grown.{kind-term}
 use Rattle.normalize.specs.Normalize.{join, push}
-use Rattle.normalize.specs.Nodes.{isConstantIn}
 use Rattle.normalize.specs.Flat.{bare}
-use Rattle.normalize.specs.Pushes.{firstWords, isEmptyIn, joinsIn}
+use Rattle.normalize.specs.Pushes.{isEmptyIn, joinsIn}
+use Rattle.normalize.specs.Calls.{firstWords}
 use Rattle.normalize.proofs.Words.{words-put}
 
 -- THE LIST IN THE SLICE, LAST ATOM FIRST

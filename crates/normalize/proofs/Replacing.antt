@@ -1,7 +1,7 @@
 -- The ways of replacing an atom, and of the loop over the atoms.
 use mathlib.Core.Path.{_≡_, refl, sym, ap, subst, _∙_}
-use mathlib.Core.Bool.{Bool, true, false, _&&_}
-use mathlib.Core.List.{List, [], _∷_, _++_, reverse, reverse-reverse}
+use mathlib.Core.Bool.{true, _&&_}
+use mathlib.Core.List.{List, [], _∷_, _++_, reverse}
 use Prim.Native.Nat.{ℕ, zero, suc, _+_, _-_, _≤_, _<_}
 use native.Mathlib.Numerals.{add-one}
 use native.Mathlib.Omega.{arith}
@@ -12,9 +12,9 @@ use borrow.Author.Tests.{eq-eqb, ne-eqb}
 use Rattle.records.specs.declared.State.{State}
 use Rattle.records.specs.declared.Added.{Added}
 use Rattle.records.specs.declared.Added.the-variants.{Counts, Refused}
-use Rattle.records.specs.Lists.{if_then_else_, all, table, Every, none-left, and}
-use Rattle.records.specs.Store.{Term, Store, Out, ok, stop, Work, andThen, _>>=_, give, count, within, termIn, rootIn, classUp, isString, sameClass}
-use Rattle.records.specs.View.{Lent, lent, storeOf, termsView, termLimit}
+use Rattle.records.specs.Lists.{if_then_else_, table, Every, none-left, and}
+use Rattle.records.specs.Store.{Term, Store, Out, ok, stop, andThen, _>>=_, give, count, within, termIn, rootIn, classUp, isString}
+use Rattle.records.specs.View.{Lent, storeOf, termsView, termLimit}
 use Rattle.records.specs.Audited.{Ready, Closed}
 use Rattle.records.specs.Calls.{Working, added}
 use Rattle.records.proofs.Lists.{both-left, both-right, both-true, all-every, every-all, every-map, every-at, within-low, within-high, table-length}
@@ -23,12 +23,12 @@ use Rattle.records.proofs.Climbs.{root-term, view-count, term-within, ready-roo
 use Rattle.engine.specs.Explain.{explain, explainArguments}
 use Rattle.normalize.specs.declared.Form.{Form}
 use Rattle.normalize.specs.declared.Form.the-variants as form
-use Rattle.normalize.specs.Normalize.{listLimit, representative, substitute, push, pushForms}
+use Rattle.normalize.specs.Normalize.{representative, substitute, push, pushForms}
 use Rattle.normalize.specs.Nodes.{NodeOf, nodeAt}
-use Rattle.normalize.specs.Pushes.{firstWords, pushed, Candidates, cite, pushFor}
+use Rattle.normalize.specs.Pushes.{pushed, Candidates, cite, pushFor}
+use Rattle.normalize.specs.Calls.{firstWords}
 use Rattle.normalize.proofs.Represents.{nodes-later, node-is}
-use Rattle.normalize.proofs.Ends.{Ends}
-use Rattle.normalize.proofs.Rewritten.{Later, Strings, strings-later, Rewritten}
+use Rattle.normalize.proofs.Rewritten.{Later, Strings, strings-later}
 use Rattle.normalize.proofs.Formed.{Stands, representative-stands, replace-ends, atom-ends, Pushed}
 use Rattle.normalize.proofs.Carried.{Carried, carried-none, carried-ready, carried-kept, carried-then}
 

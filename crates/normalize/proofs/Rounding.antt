@@ -3,7 +3,7 @@ use mathlib.Core.Path.{_≡_, refl, sym, ap, subst, _∙_}
 use mathlib.Core.Bool.{Bool, true, false, not}
 use mathlib.Core.List.{List, [], _∷_, _++_, reverse, reverse-reverse}
 use mathlib.Core.Option.{Option, none, some}
-use Prim.Native.Nat.{ℕ, zero, suc, _+_, _-_, _*_, _≤_, _<_}
+use Prim.Native.Nat.{ℕ, suc, _+_, _-_, _≤_, _<_}
 use native.Mathlib.Nat.{zero-add}
 use native.Mathlib.Numerals.{add-one}
 use native.Mathlib.Omega.{arith}
@@ -12,8 +12,8 @@ use lib.Seq.{drop-cons}
 use lib.Dec.{ltb}
 use borrow.Author.Tests.{lt-ltb, le-ltb, not-true, not-false}
 use Rattle.records.specs.declared.State.{State}
-use Rattle.records.specs.Lists.{if_then_else_, all, any, table, sameWord, Every, none-left, and}
-use Rattle.records.specs.Store.{Store, Out, ok, stop, Work, andThen, _>>=_, give, isString}
+use Rattle.records.specs.Lists.{if_then_else_, all, any, table, sameWord, none-left}
+use Rattle.records.specs.Store.{Store, Out, ok, stop, Work, andThen, give, isString}
 use Rattle.records.specs.View.{Lent, storeOf}
 use Rattle.records.specs.Audited.{Ready}
 use Rattle.records.specs.Calls.{Working}
@@ -24,17 +24,17 @@ use Rattle.normalize.specs.declared.DeepForm.{DeepForm}
 use Rattle.normalize.specs.declared.DeepForm.the-variants as deep
 use Rattle.normalize.specs.declared.Turn.{Turn}
 use Rattle.normalize.specs.declared.Turn.the-variants as turn
-use Rattle.normalize.specs.Normalize.{listLimit, deepLimit, normalForm, push, pushAll, opens, Round, expand, settle, afterExpand, rounds, deepForm, formArguments}
-use Rattle.normalize.specs.Pushes.{firstWords, formed, pushed, Candidates}
-use Rattle.normalize.specs.Deeps.{deepened, opensIn, Met, Marked, RoundOf, expanded, ExpandedTo, Expands, settled, settling, Settles, roundThen, TurnedTo, Turns}
-use Rattle.normalize.proofs.Ends.{Ends}
-use Rattle.normalize.proofs.Rewritten.{Later, Strings, strings-later, Rewritten}
+use Rattle.normalize.specs.Normalize.{deepLimit, normalForm, push, pushAll, expand, settle, afterExpand, rounds, deepForm}
+use Rattle.normalize.specs.Pushes.{pushed, Candidates}
+use Rattle.normalize.specs.Calls.{firstWords, formed}
+use Rattle.normalize.specs.Deeps.{opensIn, Met, Marked, expanded, Expands, settled, settling, Settles, roundThen, TurnedTo, Turns}
+use Rattle.normalize.proofs.Rewritten.{Strings, strings-later}
 use Rattle.normalize.proofs.Formed.{Pushed, push-ends, Formed, form-ends}
 use Rattle.normalize.proofs.Deep.{Answers, rounds-end}
 use Rattle.normalize.proofs.Carried.{Carried, carried-none, carried-ready, carried-kept, carried-then}
 use Rattle.normalize.proofs.Replacing.{drop-past, candidates-later}
 use Rattle.normalize.proofs.Words.{words-length, words-none}
-use Rattle.normalize.proofs.Expanding.{met-none, round-carried}
+use Rattle.normalize.proofs.Expanding.{met-none}
 
 -- JOINING A ROUND'S LIST
 

@@ -3,7 +3,7 @@ use mathlib.Core.Path.{_≡_, refl, sym, ap, _∙_}
 use mathlib.Core.Bool.{true, false}
 use mathlib.Core.List.{List, [], _∷_, _++_, append-assoc, append-nil}
 use Prim.Native.Nat.{ℕ, suc, _+_, _≤_, _<_}
-use native.Mathlib.Nat.{add-zero, add-suc, le-antisymm}
+use native.Mathlib.Nat.{add-zero, le-antisymm}
 use native.Mathlib.Numerals.{add-one}
 use native.Mathlib.Omega.{arith}
 use lib.ListN.{length, getD, set}
@@ -11,7 +11,7 @@ use lib.Seq.{getD-set-same, getD-set-other}
 use Rattle.records.specs.Lists.{sameWord, table}
 use Rattle.records.proofs.Lists.{table-length, table-suc, table-same, word-same, word-differs}
 use Rattle.records.proofs.Views.{table-is}
-use Rattle.normalize.specs.Pushes.{firstWords}
+use Rattle.normalize.specs.Calls.{firstWords}
 
 pub words-length : (l : List ℕ) (n : ℕ) → length (firstWords l n) ≡ n
 words-length l n = table-length (λ i. getD l i 0) n

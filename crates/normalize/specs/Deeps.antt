@@ -1,7 +1,7 @@
 -- Working definitions: the rounds of a deep form, with the concatenations met in a table.
 use mathlib.Core.Path.{_≡_}
 use mathlib.Core.Bool.{Bool, true, not, _&&_}
-use mathlib.Core.List.{List, [], _∷_, _++_, reverse}
+use mathlib.Core.List.{List, [], _++_, reverse}
 use mathlib.Core.Option.{Option, none, some}
 use Prim.Native.Nat.{ℕ, _*_, _≤_}
 use lib.ListN.{length, getD}
@@ -10,18 +10,12 @@ use Rattle.records.specs.declared.State.{State}
 use Rattle.records.specs.Lists.{if_then_else_, all, any, isIn}
 use Rattle.records.specs.Store.{Term, Store, Out, ok, stop, Work, _>>=_, give, store, termIn, isString}
 use Rattle.records.specs.View.{Lent, storeOf, termLimit}
-use Rattle.normalize.specs.Normalize.{normalForm, pushAll, deepLimit, opens, Round, expand, settle, afterExpand, rounds}
-use Rattle.normalize.specs.Pushes.{firstWords}
+use Rattle.normalize.specs.Normalize.{normalForm, pushAll, deepLimit, opens, Round, expand, settle, afterExpand}
+use Rattle.normalize.specs.Calls.{firstWords}
 use Rattle.normalize.specs.declared.DeepForm.{DeepForm}
 use Rattle.normalize.specs.declared.DeepForm.the-variants as deep
 use Rattle.normalize.specs.declared.Turn.{Turn}
 use Rattle.normalize.specs.declared.Turn.the-variants as turn
-
--- the answer of a deep form
-abbrev pub deepened : DeepForm → Lent → List ℕ → Out (Option (List ℕ))
-deepened (deep.List n c) m l = ok (storeOf m c) (some (firstWords l n))
-deepened (deep.None c) m l = ok (storeOf m c) none
-deepened (deep.Refused k) m l = stop k
 
 abbrev pub opensIn : List Term → ℕ → ℕ → Bool
 opensIn ts t a = eqb (termIn ts a .kind) 3 && not (eqb a t)

@@ -1,12 +1,9 @@
 // Cited normal forms.
 ghost use mathlib.Core.Path.{_≡_};
 ghost use mathlib.Core.List.{[]};
-ghost use Prim.Native.Nat.{ℕ};
 ghost use Rattle.records.specs.View.{lent, storeOf};
 ghost use Rattle.normalize.specs.Normalize.{formArguments};
-ghost use Rattle.normalize.specs.Pushes.{formed};
-ghost use Rattle.normalize.specs.Deeps.{deepened};
-ghost use Rattle.normalize.specs.Calls.{PublicForm, PublicDeepForm};
+ghost use Rattle.normalize.specs.Calls.{formed, deepened, PublicForm, PublicDeepForm};
 use deeper::deep_normal_form_cited_unchecked;
 use normal::normal_form_cited_unchecked;
 use records::LIST_LIMIT;

@@ -2,7 +2,7 @@
 ghost use mathlib.Core.Path.{_≡_};
 ghost use mathlib.Core.Bool.{true};
 ghost use mathlib.Core.List.{[], _++_, reverse};
-ghost use Prim.Native.Nat.{ℕ, _≤_, _<_};
+ghost use Prim.Native.Nat.{_≤_, _<_};
 ghost use lib.ListN.{length};
 ghost use Rattle.records.specs.Store.{isString};
 ghost use Rattle.records.specs.View.{lent, storeOf};
@@ -10,7 +10,8 @@ ghost use Rattle.records.specs.Audited.{Ready};
 ghost use Rattle.records.specs.Calls.{Working, added};
 ghost use Rattle.engine.specs.Explain.{explainArguments};
 ghost use Rattle.normalize.specs.Normalize.{listLimit, pushForms, normalForm, formArguments};
-ghost use Rattle.normalize.specs.Pushes.{firstWords, formed, pushed, cite, pushFor, Candidates};
+ghost use Rattle.normalize.specs.Pushes.{pushed, cite, pushFor, Candidates};
+ghost use Rattle.normalize.specs.Calls.{firstWords, formed};
 use crate::Form;
 use crate::flat;
 use crate::nodes;

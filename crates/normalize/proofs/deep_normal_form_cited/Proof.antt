@@ -1,13 +1,7 @@
 use Rattle.normalize.proofs.FormCalls.{deep-short, deep-unready, deep-unfit, form-ready, form-fit, deep-called}
-use native.Mathlib.Omega.{arith}
 use borrow.Author.Needs.{needs}
 use Rattle.normalize.proofs.deep_normal_form_cited.Statement.{statement}
 use Rattle.normalize.proofs.deep_normal_form_cited.Tie as tie
-use Rattle.normalize.proofs.deep_normal_form_cited.Reads as reads
-use Rattle.normalize.proofs.deep_normal_form_cited.Lts as lts
-use Rattle.normalize.proofs.can_form.Reads as can-form-reads
-use Rattle.normalize.proofs.deeper.deep_normal_form_cited_unchecked.Reads as deep-normal-form-cited-unchecked-reads
-use Rattle.records.proofs.audit.Reads as audit-reads
 
 pub deep-normal-form-cited-spec : {M : Type 1} → statement M
 deep-normal-form-cited-spec =

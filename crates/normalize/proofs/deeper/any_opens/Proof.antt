@@ -3,7 +3,7 @@ use Prim.Native.Nat.{ℕ, _-_, _≤_}
 use mathlib.Core.Bool.{false}
 use mathlib.Core.Path.{_≡_}
 use Rattle.normalize.specs.Deeps.{opensIn}
-use Rattle.normalize.specs.Pushes.{firstWords}
+use Rattle.normalize.specs.Calls.{firstWords}
 use Rattle.records.specs.View.{termsView}
 use Rattle.records.specs.Lists.{any}
 use Rattle.records.proofs.Lists.{any-zero, any-turn, any-stop, any-done}
@@ -11,9 +11,6 @@ use native.Mathlib.Omega.{arith}
 use borrow.Author.Needs.{needs}
 use Rattle.normalize.proofs.deeper.any_opens.Statement.{statement}
 use Rattle.normalize.proofs.deeper.any_opens.Tie as tie
-use Rattle.normalize.proofs.deeper.any_opens.Reads as reads
-use Rattle.normalize.proofs.deeper.any_opens.Lts as lts
-use Rattle.normalize.proofs.deeper.opens.Reads as opens-reads
 
 abbrev Inv-loop : tie.InvT-loop
 Inv-loop terms n t list count i₀ i = (i ≤ count) × (any (opensIn (termsView terms n) t) (firstWords list i) ≡ false)

@@ -2,14 +2,12 @@ use lib.ListN.{length}
 use Prim.Native.Nat.{_+_, _-_, _≤_}
 use mathlib.Core.List.{_++_}
 use mathlib.Core.Path.{_≡_, refl}
-use Rattle.normalize.specs.Pushes.{firstWords}
+use Rattle.normalize.specs.Calls.{firstWords}
 use Rattle.normalize.proofs.Words.{append-none, append-turn, append-done}
 use native.Mathlib.Omega.{arith}
 use borrow.Author.Needs.{needs}
 use Rattle.normalize.proofs.deeper.append.Statement.{statement}
 use Rattle.normalize.proofs.deeper.append.Tie as tie
-use Rattle.normalize.proofs.deeper.append.Reads as reads
-use Rattle.normalize.proofs.deeper.append.Lts as lts
 
 abbrev Inv-loop : tie.InvT-loop
 Inv-loop to₀ k from n i₀ to i = (i ≤ n) × (length to ≡ length to₀) × (firstWords to (k + i) ≡ firstWords to₀ k ++ firstWords from i)

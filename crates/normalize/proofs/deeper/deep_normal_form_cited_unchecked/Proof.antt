@@ -1,5 +1,5 @@
-use lib.ListN.{length, replicate, getD-replicate}
-use mathlib.Core.Path.{_≡_, refl}
+use lib.ListN.{replicate, getD-replicate}
+use mathlib.Core.Path.{refl}
 use Rattle.normalize.proofs.Carried.{carried-ready}
 use Rattle.normalize.proofs.Rounding.{deep-stopped, deep-long, deep-carried, deep-strings, deep-candidates, deep-done}
 use Rattle.normalize.proofs.Forming.{ready-closed, strings-within, known-table, known-list, known-strings, term-string}
@@ -7,11 +7,6 @@ use native.Mathlib.Omega.{arith}
 use borrow.Author.Needs.{needs}
 use Rattle.normalize.proofs.deeper.deep_normal_form_cited_unchecked.Statement.{statement}
 use Rattle.normalize.proofs.deeper.deep_normal_form_cited_unchecked.Tie as tie
-use Rattle.normalize.proofs.deeper.deep_normal_form_cited_unchecked.Reads as reads
-use Rattle.normalize.proofs.deeper.deep_normal_form_cited_unchecked.Lts as lts
-use Rattle.normalize.proofs.deeper.rounds.Reads as rounds-reads
-use Rattle.normalize.proofs.nodes.build_node_of.Reads as build-node-of-reads
-use Rattle.normalize.proofs.normal.form_by.Reads as form-by-reads
 
 pub deep-normal-form-cited-unchecked-spec : {M : Type 1} → statement M
 deep-normal-form-cited-unchecked-spec =

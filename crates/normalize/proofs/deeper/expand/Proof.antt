@@ -1,16 +1,13 @@
 use lib.ListN.{length}
 use Prim.Native.Nat.{_-_, _≤_}
 use mathlib.Core.Path.{_≡_, refl}
-use Rattle.normalize.specs.Pushes.{firstWords}
+use Rattle.normalize.specs.Calls.{firstWords}
 use Rattle.records.specs.View.{lent}
 use Rattle.normalize.proofs.Expanding.{Walking, walking-none, walk-ready, walk-candidates, walk-string, walk-low, walking-turn, walking-none-met, walking-stopped, walking-done}
 use native.Mathlib.Omega.{arith}
 use borrow.Author.Needs.{needs}
 use Rattle.normalize.proofs.deeper.expand.Statement.{statement}
 use Rattle.normalize.proofs.deeper.expand.Tie as tie
-use Rattle.normalize.proofs.deeper.expand.Reads as reads
-use Rattle.normalize.proofs.deeper.expand.Lts as lts
-use Rattle.normalize.proofs.deeper.expand_one.Reads as expand-one-reads
 
 abbrev Inv-loop : tie.InvT-loop
 Inv-loop terms₀ cells chars₀ reasons₀ keys known table t list count met₀ next₀ d₀ k₀ i₀ terms chars reasons met next d k i = (i ≤ count) × (length terms ≡ length terms₀) × (length chars ≡ length chars₀) × (length reasons ≡ length reasons₀) × (length next ≡ length next₀) × Walking known t (firstWords list count) next₀ met₀ (lent terms₀ cells chars₀ reasons₀ keys) d₀ (lent terms cells chars reasons keys) d next k met i

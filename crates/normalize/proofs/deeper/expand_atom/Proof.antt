@@ -1,14 +1,8 @@
-use lib.ListN.{length}
-use mathlib.Core.Path.{_≡_, refl, sym}
 use Rattle.normalize.proofs.Expanding.{form-short, atom-none, atom-some, atom-stopped}
 use native.Mathlib.Omega.{arith}
 use borrow.Author.Needs.{needs}
 use Rattle.normalize.proofs.deeper.expand_atom.Statement.{statement}
 use Rattle.normalize.proofs.deeper.expand_atom.Tie as tie
-use Rattle.normalize.proofs.deeper.expand_atom.Reads as reads
-use Rattle.normalize.proofs.deeper.expand_atom.Lts as lts
-use Rattle.normalize.proofs.deeper.append.Reads as append-reads
-use Rattle.normalize.proofs.normal.form_by.Reads as form-by-reads
 
 pub expand-atom-spec : {M : Type 1} → statement M
 expand-atom-spec =

@@ -3,10 +3,6 @@ use native.Mathlib.Omega.{arith}
 use borrow.Author.Needs.{needs}
 use Rattle.normalize.proofs.deeper.expand_one.Statement.{statement}
 use Rattle.normalize.proofs.deeper.expand_one.Tie as tie
-use Rattle.normalize.proofs.deeper.expand_one.Reads as reads
-use Rattle.normalize.proofs.deeper.expand_one.Lts as lts
-use Rattle.normalize.proofs.deeper.expand_atom.Reads as expand-atom-reads
-use Rattle.normalize.proofs.deeper.opens.Reads as opens-reads
 
 pub expand-one-spec : {M : Type 1} → statement M
 expand-one-spec =

@@ -1,16 +1,13 @@
 use lib.ListN.{length}
 use Prim.Native.Nat.{_-_, _≤_}
 use mathlib.Core.Path.{_≡_, refl}
-use Rattle.normalize.specs.Pushes.{firstWords}
+use Rattle.normalize.specs.Calls.{firstWords}
 use Rattle.records.specs.View.{lent}
 use Rattle.normalize.proofs.Rounding.{Heaping, heaping-none, heap-ready, heaping-turn, heaping-stopped, heaping-done}
 use native.Mathlib.Omega.{arith}
 use borrow.Author.Needs.{needs}
 use Rattle.normalize.proofs.deeper.push_all.Statement.{statement}
 use Rattle.normalize.proofs.deeper.push_all.Tie as tie
-use Rattle.normalize.proofs.deeper.push_all.Reads as reads
-use Rattle.normalize.proofs.deeper.push_all.Lts as lts
-use Rattle.normalize.proofs.pushes.push.Reads as push-reads
 
 abbrev Inv-loop : tie.InvT-loop
 Inv-loop terms₀ cells chars₀ reasons keys next k out₀ d₀ count₀ i₀ terms chars out d count i = (i ≤ k) × (length terms ≡ length terms₀) × (length chars ≡ length chars₀) × (length out ≡ length out₀) × Heaping (lent terms₀ cells chars₀ reasons keys) d₀ (firstWords next k) (lent terms cells chars reasons keys) d out count i

@@ -1,6 +1,6 @@
 use lib.Dec.{lit≤}
-use lib.ListN.{length, replicate}
-use mathlib.Core.Path.{_≡_, refl}
+use lib.ListN.{replicate}
+use mathlib.Core.Path.{refl}
 use Rattle.normalize.proofs.Carried.{carried-ready}
 use Rattle.normalize.proofs.Expanding.{round-carried, round-strings, round-short}
 use Rattle.normalize.proofs.Rounding.{round-stands, round-none, round-stopped, round-settled}
@@ -8,11 +8,6 @@ use native.Mathlib.Omega.{arith}
 use borrow.Author.Needs.{needs}
 use Rattle.normalize.proofs.deeper.round.Statement.{statement}
 use Rattle.normalize.proofs.deeper.round.Tie as tie
-use Rattle.normalize.proofs.deeper.round.Reads as reads
-use Rattle.normalize.proofs.deeper.round.Lts as lts
-use Rattle.normalize.proofs.deeper.any_opens.Reads as any-opens-reads
-use Rattle.normalize.proofs.deeper.expand.Reads as expand-reads
-use Rattle.normalize.proofs.deeper.settle.Reads as settle-reads
 
 pub round-spec : {M : Type 1} → statement M
 round-spec =

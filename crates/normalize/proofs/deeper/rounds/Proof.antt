@@ -1,16 +1,13 @@
 use lib.ListN.{length, replicate, getD-replicate}
 use Prim.Native.Nat.{_-_, _≤_}
 use mathlib.Core.Path.{_≡_, refl}
-use Rattle.normalize.specs.Pushes.{firstWords}
+use Rattle.normalize.specs.Calls.{firstWords}
 use Rattle.records.specs.View.{lent}
 use Rattle.normalize.proofs.Rounding.{Rounding, rounding-none, rounding-ready, rounding-candidates, rounding-marked, rounds-stand, rounds-none, rounds-stopped, rounding-turn, rounds-done}
 use native.Mathlib.Omega.{arith}
 use borrow.Author.Needs.{needs}
 use Rattle.normalize.proofs.deeper.rounds.Statement.{statement}
 use Rattle.normalize.proofs.deeper.rounds.Tie as tie
-use Rattle.normalize.proofs.deeper.rounds.Reads as reads
-use Rattle.normalize.proofs.deeper.rounds.Lts as lts
-use Rattle.normalize.proofs.deeper.round.Reads as round-reads
 
 abbrev Inv-loop : tie.InvT-loop
 Inv-loop terms₀ cells chars₀ reasons₀ keys known table t list₀ count met₀ d₀ n₀ i₀ terms chars reasons list met d n i = (i ≤ 64) × (length terms ≡ length terms₀) × (length chars ≡ length chars₀) × (length reasons ≡ length reasons₀) × (length list ≡ length list₀) × Rounding known t (firstWords list₀ count) (lent terms₀ cells chars₀ reasons₀ keys) d₀ (lent terms cells chars reasons keys) d list n met i

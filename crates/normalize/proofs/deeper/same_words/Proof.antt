@@ -1,13 +1,11 @@
 use Prim.Native.Nat.{_-_, _≤_}
 use mathlib.Core.Path.{_≡_}
-use Rattle.normalize.specs.Pushes.{firstWords}
+use Rattle.normalize.specs.Calls.{firstWords}
 use Rattle.normalize.proofs.Words.{compare-none, compare-turn, compare-other, compare-stop, compare-done}
 use native.Mathlib.Omega.{arith}
 use borrow.Author.Needs.{needs}
 use Rattle.normalize.proofs.deeper.same_words.Statement.{statement}
 use Rattle.normalize.proofs.deeper.same_words.Tie as tie
-use Rattle.normalize.proofs.deeper.same_words.Reads as reads
-use Rattle.normalize.proofs.deeper.same_words.Lts as lts
 
 abbrev Inv-loop : tie.InvT-loop
 Inv-loop one n other k i₀ i = (i ≤ n) × (firstWords one i ≡ firstWords other i)

@@ -1,14 +1,9 @@
-use mathlib.Core.Path.{_≡_, refl}
+use mathlib.Core.Path.{refl}
 use Rattle.normalize.proofs.Rounding.{settle-long, settle-same, settle-other, settle-stopped}
 use native.Mathlib.Omega.{arith}
 use borrow.Author.Needs.{needs}
 use Rattle.normalize.proofs.deeper.settle.Statement.{statement}
 use Rattle.normalize.proofs.deeper.settle.Tie as tie
-use Rattle.normalize.proofs.deeper.settle.Reads as reads
-use Rattle.normalize.proofs.deeper.settle.Lts as lts
-use Rattle.normalize.proofs.deeper.append.Reads as append-reads
-use Rattle.normalize.proofs.deeper.push_all.Reads as push-all-reads
-use Rattle.normalize.proofs.deeper.same_words.Reads as same-words-reads
 
 pub settle-spec : {M : Type 1} → statement M
 settle-spec =

@@ -1,11 +1,7 @@
 use Rattle.normalize.proofs.Replacing.{cite-same, cite-other}
-use native.Mathlib.Omega.{arith}
 use borrow.Author.Needs.{needs}
 use Rattle.normalize.proofs.normal.cite.Statement.{statement}
 use Rattle.normalize.proofs.normal.cite.Tie as tie
-use Rattle.normalize.proofs.normal.cite.Reads as reads
-use Rattle.normalize.proofs.normal.cite.Lts as lts
-use Rattle.engine.proofs.explain_unchecked.Reads as explain-unchecked-reads
 
 pub cite-spec : {M : Type 1} → statement M
 cite-spec = tie.close (tie.spec (λ c. cite-same _ _ (c .if1 .taken)) (λ c κs. search needs) (λ c. search needs) (λ c. cite-other _ _ (c .before .before .before .before .if1 .left) (c .before .before .explain-unchecked .ensures)))

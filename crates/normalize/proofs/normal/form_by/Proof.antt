@@ -1,18 +1,11 @@
 use lib.Seq.{length-take-le}
-use lib.ListN.{length, replicate}
-use Prim.Native.Nat.{_≤_}
-use mathlib.Core.Path.{_≡_, sym, refl}
+use mathlib.Core.Path.{sym}
 use Rattle.normalize.proofs.Forming.{ready-closed}
 use Rattle.normalize.proofs.Forming.{ready-nested, strings-within, more-table, form-passes, flat-length, flat-strings, form-done}
 use native.Mathlib.Omega.{arith}
 use borrow.Author.Needs.{needs}
 use Rattle.normalize.proofs.normal.form_by.Statement.{statement}
 use Rattle.normalize.proofs.normal.form_by.Tie as tie
-use Rattle.normalize.proofs.normal.form_by.Reads as reads
-use Rattle.normalize.proofs.normal.form_by.Lts as lts
-use Rattle.normalize.proofs.flat.flatten_unchecked.Reads as flatten-unchecked-reads
-use Rattle.normalize.proofs.nodes.build_node_of.Reads as build-node-of-reads
-use Rattle.normalize.proofs.normal.push_forms.Reads as push-forms-reads
 
 pub form-by-spec : {M : Type 1} → statement M
 form-by-spec =

@@ -1,19 +1,11 @@
 use Rattle.normalize.proofs.Forming.{known-list, known-strings, term-string}
-use lib.ListN.{length, replicate, getD-replicate}
-use lib.Dec.{leb}
+use lib.ListN.{replicate, getD-replicate}
 use mathlib.Core.Path.{refl}
 use Rattle.normalize.proofs.Forming.{ready-closed}
-use Rattle.records.proofs.Lists.{both-left, both-right}
-use Rattle.normalize.specs.Normalize.{isList, listLimit}
 use Rattle.normalize.proofs.Forming.{strings-within, known-table}
-use native.Mathlib.Omega.{arith}
 use borrow.Author.Needs.{needs}
 use Rattle.normalize.proofs.normal.normal_form_cited_unchecked.Statement.{statement}
 use Rattle.normalize.proofs.normal.normal_form_cited_unchecked.Tie as tie
-use Rattle.normalize.proofs.normal.normal_form_cited_unchecked.Reads as reads
-use Rattle.normalize.proofs.normal.normal_form_cited_unchecked.Lts as lts
-use Rattle.normalize.proofs.nodes.build_node_of.Reads as build-node-of-reads
-use Rattle.normalize.proofs.normal.form_by.Reads as form-by-reads
 
 pub normal-form-cited-unchecked-spec : {M : Type 1} → statement M
 normal-form-cited-unchecked-spec =

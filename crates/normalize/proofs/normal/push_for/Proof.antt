@@ -1,13 +1,8 @@
 use mathlib.Core.Path.{refl}
 use Rattle.normalize.proofs.Replacing.{cited-ready, push-for-done, push-for-stopped}
-use native.Mathlib.Omega.{arith}
 use borrow.Author.Needs.{needs}
 use Rattle.normalize.proofs.normal.push_for.Statement.{statement}
 use Rattle.normalize.proofs.normal.push_for.Tie as tie
-use Rattle.normalize.proofs.normal.push_for.Reads as reads
-use Rattle.normalize.proofs.normal.push_for.Lts as lts
-use Rattle.normalize.proofs.normal.cite.Reads as cite-reads
-use Rattle.normalize.proofs.pushes.push.Reads as push-reads
 
 pub push-for-spec : {M : Type 1} → statement M
 push-for-spec =

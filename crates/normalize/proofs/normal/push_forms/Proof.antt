@@ -2,18 +2,13 @@ use lib.ListN.{length}
 use Prim.Native.Nat.{_-_, _≤_}
 use mathlib.Core.List.{_++_}
 use mathlib.Core.Path.{_≡_, refl}
-use Rattle.records.specs.View.{lent, storeOf}
-use Rattle.records.specs.Store.{isString}
+use Rattle.records.specs.View.{lent}
 use Rattle.records.proofs.Lists.{all-every}
 use Rattle.normalize.proofs.Replacing.{every-right, Going, going-none, now-ready, rep-requires as going-rep, for-arguments, going-turn, going-stopped, going-done}
 use native.Mathlib.Omega.{arith}
 use borrow.Author.Needs.{needs}
 use Rattle.normalize.proofs.normal.push_forms.Statement.{statement}
 use Rattle.normalize.proofs.normal.push_forms.Tie as tie
-use Rattle.normalize.proofs.normal.push_forms.Reads as reads
-use Rattle.normalize.proofs.normal.push_forms.Lts as lts
-use Rattle.normalize.proofs.nodes.rep.Reads as rep-reads
-use Rattle.normalize.proofs.normal.push_for.Reads as push-for-reads
 
 abbrev Inv-loop : tie.InvT-loop
 Inv-loop terms₀ cells chars₀ reasons₀ keys known flat table list₀ d₀ count₀ i₀ terms chars reasons list d count i = (i ≤ length flat) × (length terms ≡ length terms₀) × (length chars ≡ length chars₀) × (length reasons ≡ length reasons₀) × (length list ≡ length list₀) × Going (lent terms₀ cells chars₀ reasons₀ keys) d₀ (known ++ flat) flat (lent terms cells chars reasons keys) d list count i
