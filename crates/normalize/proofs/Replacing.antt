@@ -27,7 +27,7 @@ use Rattle.normalize.specs.Normalize.{representative, substitute, push, 
 use Rattle.normalize.specs.Nodes.{NodeOf, nodeAt}
 use Rattle.normalize.specs.Pushes.{pushed, Candidates, cite, pushFor}
 use Rattle.normalize.specs.Calls.{firstWords}
-use Rattle.normalize.proofs.Represents.{nodes-later, node-is}
+use Rattle.normalize.proofs.Represents.{drop-past, nodes-later, node-is}
 use Rattle.normalize.proofs.Rewritten.{Later, Strings, strings-later}
 use Rattle.normalize.proofs.Formed.{Stands, representative-stands, replace-ends, atom-ends, Pushed}
 use Rattle.normalize.proofs.Carried.{Carried, carried-none, carried-ready, carried-kept, carried-then}
@@ -73,12 +73,6 @@ module _ {m m′ : Lent} {c : State} (ready : Ready m c) (a r : ℕ) (x : Added)
 pub every-right : {P : ℕ → Type 0} (l m : List ℕ) → Every P (l ++ m) → Every P m
 every-right [] m k = k
 every-right (a ∷ l) m (and p k) = every-right l m k
-
-pub drop-past : (l : List ℕ) (i : ℕ) → length l ≤ i → drop i l ≡ []
-drop-past [] zero h = refl
-drop-past [] (suc i) h = refl
-drop-past (x ∷ l) zero h = absurd (omega arith)
-drop-past (x ∷ l) (suc i) h = drop-past l i (omega arith)
 
 -- what is left of the atoms, after the list so far, is what is asked
 pub record Going (m₀ : Lent) (c : State) (cs flat : List ℕ) (m : Lent) (d : State) (list : List ℕ) (count i : ℕ) : Type 0 where

@@ -59,7 +59,7 @@ root-place l n t r h w k e =
     let p : within n (rootIn (termsView l n) t) ≡ true = climb-within (classUp (termsView l n)) n (length (termsView l n)) t k w in
     let q = within-high n _ p in omega arith
 
-drop-past : (l : List ℕ) (i : ℕ) → length l ≤ i → drop i l ≡ []
+pub drop-past : (l : List ℕ) (i : ℕ) → length l ≤ i → drop i l ≡ []
 drop-past [] zero h = refl
 drop-past [] (suc i) h = refl
 drop-past (x ∷ l) zero h = absurd (omega arith)
