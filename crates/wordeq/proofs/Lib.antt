@@ -13,3 +13,4 @@ pub mod SidesLetters
 pub mod SidesWalk
 pub mod SidesTexts
 pub mod SidesReady
+pub mod SidesTile
