@@ -14,3 +14,4 @@ pub mod SidesWalk
 pub mod SidesTexts
 pub mod SidesReady
 pub mod SidesTile
+pub mod SidesUnequal

@@ -9,7 +9,7 @@ ghost use Rattle.records.specs.Store.{isConstant, text, within, classUp};
 ghost use Rattle.records.specs.View.{charLimit, span, termsView};
 ghost use Rattle.records.specs.Audited.{Closed};
 ghost use Rattle.normalize.specs.Normalize.{listLimit};
-ghost use Rattle.wordeq.specs.Wordeq.{same, fixed, lettersOf, letters, short, isPlain, filled, differ};
+ghost use Rattle.wordeq.specs.Wordeq.{same, fixed, lettersOf, letters, unequal, short, isPlain, filled, differ};
 ghost use Rattle.wordeq.specs.Sides.{termed, spelled, Texts, Spelled, constantSide, otherSide, rest, next, There, Settled, headsAgree, fillCount, fillStart, fillSource, Ended, Tiling};
 use records::State;
 use records::classes::root_unchecked;
@@ -342,4 +342,24 @@ fn is_tiled<'a>(
         i += 1;
     }
     ended(terms, c, word, side, i, k)
+}
+
+// Both constant with different words.
+pub(crate) fn unequal<'a>(
+    terms: &[u32],
+    chars: &[u32],
+    c: State,
+    l: &'a [u32],
+    r: &'a [u32],
+) -> bool
+    requires { ⌜ Spelled (now terms) (now chars) c ⌝ }
+    ensures { λ b. ⌜ b ≡ unequal (spelled (now (terms .entry)) (now (chars .entry)) c) (now (l .entry)) (now (r .entry)) ⌝ }
+{
+    if !is_fixed(terms, c, l) {
+        return false;
+    }
+    if !is_fixed(terms, c, r) {
+        return false;
+    }
+    !is_tiled(terms, chars, c, l, r, Cursor { atom: 0, place: 0 }, 0)
 }
