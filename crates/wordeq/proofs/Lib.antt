@@ -18,3 +18,5 @@ pub mod SidesReady
 pub mod Listed
 pub mod Sequence
 pub mod Splitting
+pub mod SidesTile
+pub mod SidesUnequal
