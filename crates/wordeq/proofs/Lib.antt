@@ -12,3 +12,4 @@ pub mod Equal
 pub mod Alike
 pub mod Strips
 pub mod Listed
+pub mod Later

@@ -1,3 +1,4 @@
 pub mod Wordeq
 pub mod Meaning
 pub mod Stripping
+pub mod Explaining

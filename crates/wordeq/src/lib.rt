@@ -1,5 +1,6 @@
 // Word equations, steps 1 to 8.
 pub mod equal_lists;
+pub mod explaining;
 pub mod stripping;
 
 pub struct Sides {
