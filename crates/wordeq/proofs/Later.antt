@@ -6,23 +6,24 @@ use Prim.Native.Nat.{ℕ, zero, suc, _+_, _-_, _≤_, _<_}
 use native.Mathlib.Omega.{arith}
 use lib.ListN.{length, drop, getD, length-drop}
 use lib.Dec.{eqb}
-use borrow.Author.Tests.{eq-eqb, ne-eqb}
+use borrow.Author.Tests.{eqb-true, eq-eqb, ne-eqb}
 use Rattle.records.specs.declared.State.{State}
 use Rattle.records.specs.declared.Added.{Added as Answered}
 use Rattle.records.specs.declared.Added.the-variants as adding
-use Rattle.records.specs.Lists.{if_then_else_, keep, Every}
-use Rattle.records.specs.Store.{Store, Term, Out, ok, stop, andThen, give, termIn, isConstant, isString, sameClass}
+use Rattle.records.specs.Lists.{if_then_else_, all, keep, Every, none-left, and}
+use Rattle.records.specs.Store.{Store, Term, Out, ok, stop, andThen, give, termIn, isConstant, isString, root, sameClass}
 use Rattle.records.specs.View.{Lent, lent, storeOf, termsView}
 use Rattle.records.specs.Audited.{Audited, Ready}
 use Rattle.records.specs.Calls.{Working, added}
-use Rattle.records.proofs.Lists.{both-true, every-at}
+use Rattle.records.proofs.Lists.{both-left, both-right, both-true, clash, decide, every-at}
 use Rattle.engine.specs.Explain.{explain, explainArguments}
 use Rattle.normalize.proofs.Ends.{ends-give, ends-map, ends-if}
-use Rattle.wordeq.specs.Wordeq.{explainAll, variables}
+use Rattle.wordeq.specs.Wordeq.{same, explainAll, variables}
 use Rattle.wordeq.specs.Stripping.{readIn, Pair}
 use Rattle.wordeq.specs.Explaining.{OneClass, explainAtom}
 use Rattle.wordeq.proofs.Ends.{Ends}
 use Rattle.wordeq.proofs.Cited.{Cited, cited-none, cited-map, explain-ends}
+use Rattle.wordeq.proofs.Strip.{same-class}
 use Rattle.wordeq.proofs.Strips.{Going, going-none, going-then, going-string, kept-down, terms-kept, drop-head}
 
 -- ONE ATOM
@@ -103,3 +104,20 @@ module _ (t e h ks l : List ℕ) (v : ℕ) where
               going = going-then t e h ks (g .going) rs₂ (atom-ends (getD l i 0) v (now rs₁ d) (g .going .ready .audited) (citing-pair .one) (citing-pair .other) (citing-class .class) .given (now rs₂ d₂) tt k) (w .kept);
               rest = sym (on (ok (now rs₂ d₂) tt) k) ∙ g .rest;
             }
+
+-- WHAT STEP 5 TESTED is what the loop requires
+
+same-one : (s : Store) (u v : ℕ) → same s u v ≡ true → OneClass (s .terms) u v
+same-one s u v h = record {
+  class = λ e. decide (eqb u v) (λ q. eq-eqb _ _ (ap (root s) (eqb-true u v q))) (λ q. same-class s u v h (rw (q, e)));
+}
+
+pub same-classes : (s : Store) (v : ℕ) (l : List ℕ) → all (λ u. same s u v) (variables s l) ≡ true → Every (λ u. OneClass (s .terms) u v) l
+unfolding keep all
+same-classes s v [] h = none-left
+same-classes s v (u ∷ l) h = go (isConstant s u) refl (same-classes s v l) h
+  where
+    go : (b : Bool) → isConstant s u ≡ b → (all (λ x. same s x v) (variables s l) ≡ true → Every (λ x. OneClass (s .terms) x v) l)
+        → all (λ x. same s x v) (if not b then u ∷ variables s l else variables s l) ≡ true → Every (λ x. OneClass (s .terms) x v) (u ∷ l)
+    go true p ih k = and (record { class = λ e. clash p e }) (ih k)
+    go false p ih k = and (same-one s u v (both-left _ _ k)) (ih (both-right (same s u v) _ k))
