@@ -20,3 +20,4 @@ pub mod Sequence
 pub mod Splitting
 pub mod SidesTile
 pub mod SidesUnequal
+pub mod Later

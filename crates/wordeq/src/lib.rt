@@ -2,6 +2,7 @@
 pub mod equal_lists;
 mod sides;
 pub mod splits;
+pub mod explaining;
 pub mod stripping;
 
 // What step 1 leaves: the counts, the place where both parts begin, and where the left and the right one end; or the refusal.
