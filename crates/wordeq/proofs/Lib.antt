@@ -11,3 +11,4 @@ pub mod Resolve
 pub mod Equal
 pub mod Sequence
 pub mod Splitting
+pub mod Propagating

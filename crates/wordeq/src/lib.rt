@@ -1,4 +1,5 @@
 // Word equations, steps 1 to 8.
+pub mod propagate;
 pub mod splits;
 
 pub struct Sides {
