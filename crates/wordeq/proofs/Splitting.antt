@@ -2,7 +2,7 @@
 use mathlib.Core.Path.{_≡_, refl, sym, ap, subst, _∙_}
 use mathlib.Core.Bool.{Bool, true, false, _&&_}
 use mathlib.Core.List.{List, [], _∷_}
-use mathlib.Core.Option.{Option}
+use mathlib.Core.Option.{Option, some}
 use Prim.Native.Nat.{ℕ, _≤_}
 use native.Mathlib.Omega.{arith}
 use lib.ListN.{length, take, set}
@@ -26,6 +26,9 @@ use Rattle.records.proofs.Grown.{Grown, grown-string, grown-kind, grown-then}
 use Rattle.records.proofs.Kept.{MadeIn, made-string, constant-kept, concat-kept, length-kept, equation-kept, name-audited, fresh-kept}
 use Rattle.records.proofs.Passed.{ready-after}
 use Rattle.wordeq.specs.Wordeq.{Answer, split, Tried, answer, freshVariable, splitCharacter, splitHeads}
+use Rattle.normalize.specs.declared.Form.{Form}
+use Rattle.normalize.specs.declared.Form.the-variants as form
+use Rattle.normalize.specs.Pushes.{formed}
 use Rattle.wordeq.specs.Splits.{prefixAtom, emptyAtom, characterAtom, lengthsAtom, characterAtoms, prefixAtoms, headAtoms}
 use Rattle.wordeq.proofs.Split.{equatable-strings, equatable-lengths}
 use Rattle.wordeq.proofs.Sequence.{Grows, grows-then, grows-constant, grows-variable, grows-concat, grows-length, grows-equation, grows-name, working-then, working-stop, made-is, made-then, made-stop}
@@ -372,3 +375,11 @@ module _ (g : ℤ) (a b : ℕ) where
   pub heads-split-is : (s : Store) → (headAtoms a b >>= splitting g) s ≡ splitHeads g a b s
   unfolding headAtoms lengthsAtom splitHeads
   heads-split-is s = heads-whole (makeLength a s)
+
+-- a split's answer by the answer of its atoms
+module _ {m m₁ : Lent} {c : State} {r : Form} (g : ℤ) (l : List ℕ) {w : Work (List ℕ)} {t : Tried} (is : (s : Store) → (w >>= splitting g) s ≡ t s) (x : Working w m m₁ c (formed r m₁ l)) where
+  pub split-done : {n : ℕ} {d : State} → r ≡ form.List n d → Working t m m₁ c (ok (storeOf m₁ d) (some (split (take n l) (negℤ g))))
+  split-done e = record { says = sym (is (storeOf m c)) ∙ ap (andThen (splitting g)) (x .says ∙ ap (λ (y : Form). formed y m₁ l) e); kept = x .kept }
+
+  pub split-stop : {k : ℕ} → r ≡ form.Refused k → Working t m m₁ c (stop k)
+  split-stop e = record { says = sym (is (storeOf m c)) ∙ ap (andThen (splitting g)) (x .says ∙ ap (λ (y : Form). formed y m₁ l) e); kept = x .kept }
