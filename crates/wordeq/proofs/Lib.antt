@@ -21,3 +21,4 @@ pub mod Splitting
 pub mod SidesTile
 pub mod SidesUnequal
 pub mod Later
+pub mod Propagating
