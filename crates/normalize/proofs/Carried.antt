@@ -1,15 +1,15 @@
 -- Part of the way through a call: the slices and counts so far, what their store is to the one at entry, and that what was counted at
 -- entry is kept.
-use mathlib.Core.Path.{_≡_, refl, sym, ap, _∙_}
-use mathlib.Core.List.{List, _++_}
-use Prim.Native.Nat.{ℕ, suc, _+_, _≤_, _<_}
+use mathlib.Core.Path.{_≡_, refl, ap, _∙_}
+use mathlib.Core.List.{List}
+use Prim.Native.Nat.{ℕ, suc, _≤_}
 use native.Mathlib.Omega.{arith}
 use lib.ListN.{length, getD, length-append}
 use Rattle.records.specs.declared.State.{State}
 use Rattle.records.specs.Lists.{table}
 use Rattle.records.specs.Store.{Term, Cell, Store, Room}
 use Rattle.records.specs.View.{Lent, storeOf, termAt, cellAt, pairAt}
-use Rattle.records.specs.Audited.{Audited, Ready}
+use Rattle.records.specs.Audited.{Ready}
 use Rattle.records.proofs.Lists.{table-same, table-length}
 use Rattle.records.proofs.Views.{table-is}
 use Rattle.records.proofs.Passed.{ready-after}

@@ -26,7 +26,7 @@ unfolding joined
 formed-rewritten {t = t} f = record { later = f .later; strings = f .strings; words = λ w r h. append-nil (w t) ∙ f .word w r h }
 
 -- what a round that began with the list l leaves: None, or a list of the same word
-abbrev Expanded : Store → List ℕ → Store → Option Round → Type 0
+abbrev pub Expanded : Store → List ℕ → Store → Option Round → Type 0
 Expanded s l s′ none = Later s s′
 Expanded s l s′ (some r) = Rewritten s s′ l (r .list)
 
@@ -35,7 +35,7 @@ expanded-then p s′ none x = later-then (p .later) x
 expanded-then p s′ (some r) x = rewritten-then p x
 
 module _ (known : List ℕ) (t : ℕ) where
-  expand-ends : (l : List ℕ) (r : Round) (s : Store) → Audited s → Strings s known → Strings s l → Strings s (r .list) → Ends (Expanded s (r .list ++ l)) (expand known t l r s)
+  pub expand-ends : (l : List ℕ) (r : Round) (s : Store) → Audited s → Strings s known → Strings s l → Strings s (r .list) → Ends (Expanded s (r .list ++ l)) (expand known t l r s)
   unfolding expand
   expand-ends [] r s audited h k i = ends-give (rewritten-as (sym (append-nil (r .list))) refl (rewritten-none s (r .list) audited i))
   expand-ends (a ∷ l) r s audited h (and j k) i =
@@ -56,7 +56,7 @@ module _ (known : List ℕ) (t : ℕ) where
 -- ROUNDS
 
 -- what rounds that began with the list l leave: None, or a list of at most 256 atoms of the same word
-abbrev Answers : Store → List ℕ → Store → Option (List ℕ) → Type 0
+abbrev pub Answers : Store → List ℕ → Store → Option (List ℕ) → Type 0
 Answers s l s′ none = Later s s′
 Answers s l s′ (some m) = Rewritten s s′ l m × (length m ≤ deepLimit)
 
@@ -66,7 +66,7 @@ answers-then p s′ (some n) x = (rewritten-then p (x .0), x .1)
 
 module _ (known : List ℕ) where
   -- the rounds that follow
-  abbrev Goes : (List ℕ → Work (Option (List ℕ))) → Type 0
+  abbrev pub Goes : (List ℕ → Work (Option (List ℕ))) → Type 0
   Goes more = (m : List ℕ) (s : Store) → Audited s → Strings s known → Strings s m → length m ≤ deepLimit → Ends (Answers s m) (more m s)
 
   settle-ends : (before : List ℕ) (more : List ℕ → Work (Option (List ℕ))) → Goes more → (out : List ℕ) (s : Store) → Audited s → Strings s known → Strings s out → Ends (Answers s out) (settle before more out s)
@@ -84,7 +84,7 @@ module _ (known : List ℕ) where
       let y = rewritten-then x (p .list) in
       ends-map (answers-then y) (settle-ends before (more (r .met)) (go (r .met)) (reverse out) s₂ (y .later .audited) (strings-later (y .later .grown) h) (y .strings)))
 
-  rounds-end : (n t : ℕ) (met : List ℕ) → Goes (rounds n known t met)
+  pub rounds-end : (n t : ℕ) (met : List ℕ) → Goes (rounds n known t met)
   unfolding rounds
   rounds-end zero t met l s audited h k n = ends-give (rewritten-none s l audited k, n)
   rounds-end (suc i) t met l s audited h k n =

@@ -2,21 +2,20 @@
 use mathlib.Core.Path.{_≡_, refl, sym, ap, subst, _∙_}
 use mathlib.Core.Bool.{Bool, true, false}
 use mathlib.Core.List.{List, [], _∷_, _++_, append-nil, append-assoc}
-use Prim.Native.Nat.{ℕ, zero, suc, _+_, _*_, _≤_, _<_}
+use Prim.Native.Nat.{ℕ, suc, _+_, _*_, _≤_, _<_}
 use native.Mathlib.Numerals.{add-one}
 use native.Mathlib.Omega.{arith}
 use lib.ListN.{length, take, set, getD, length-append, length-take}
 use lib.Seq.{take-suc-set}
-use lib.Dec.{eqb}
-use borrow.Author.Tests.{eqb-true, eq-eqb, ne-eqb}
-use Rattle.records.specs.Lists.{joined, firsts, Every, none-left, and}
-use Rattle.records.specs.Store.{Store, Term, within, kind, isTerm, cellIn, isConcat, chain, parts}
+use borrow.Author.Tests.{eq-eqb, ne-eqb}
+use Rattle.records.specs.Lists.{joined, firsts, Every, and}
+use Rattle.records.specs.Store.{Store, within, kind, isTerm, cellIn, isConcat, chain, parts}
 use Rattle.records.specs.View.{cellAt, termAt}
-use Rattle.records.proofs.Lists.{decide, clash, joined-same, every-map, table-length}
-use Rattle.records.proofs.Chains.{chain-is, chain-none, valuesAt}
+use Rattle.records.proofs.Lists.{table-length}
+use Rattle.records.proofs.Chains.{chain-is, chain-none}
 use Rattle.records.proofs.Views.{first-at, value-at, next-at}
-use Rattle.records.proofs.Grown.{term-zero, kind-term}
-use Rattle.normalize.specs.Normalize.{listLimit, atomsBy, atoms}
+use Rattle.records.proofs.Grown.{kind-term}
+use Rattle.normalize.specs.Normalize.{listLimit, atoms}
 use Rattle.normalize.specs.Flat.{bare, Nested, Appended}
 use Rattle.normalize.proofs.Atoms.{atoms-plain, nested-atoms}
 

@@ -1,15 +1,15 @@
 -- The ways of a normal form: a list that passes the limit, and the atoms pushed.
 use mathlib.Core.Path.{_≡_, refl, sym, ap, subst, _∙_}
-use mathlib.Core.Bool.{Bool, true, false, _&&_}
+use mathlib.Core.Bool.{true}
 use mathlib.Core.List.{List, [], _∷_, _++_, append-nil, reverse, reverse-reverse}
 use Prim.Native.Nat.{ℕ, _+_, _≤_, _<_}
 use native.Mathlib.Omega.{arith}
 use lib.ListN.{length, take, getD, length-take}
 use lib.Dec.{leb}
 use Rattle.records.specs.declared.State.{State}
-use Rattle.records.specs.Lists.{all, joined, Every, none-left, and}
-use Rattle.records.specs.Store.{Store, Out, ok, stop, Work, andThen, _>>=_, give, count, within, rootIn, classUp, isString}
-use Rattle.records.specs.View.{Lent, lent, storeOf, termsView, termLimit}
+use Rattle.records.specs.Lists.{all, joined, Every, none-left}
+use Rattle.records.specs.Store.{Store, ok, stop, andThen, _>>=_, give, count, within, rootIn, classUp, isString}
+use Rattle.records.specs.View.{Lent, storeOf, termsView, termLimit}
 use Rattle.records.specs.Audited.{Ready, Closed}
 use Rattle.records.specs.Calls.{Working}
 use Rattle.records.proofs.Lists.{both-left, both-right, both-true, all-append, all-every, every-all, every-map, within-low, within-high}
@@ -20,7 +20,8 @@ use Rattle.normalize.specs.declared.Form.the-variants as form
 use Rattle.normalize.specs.Normalize.{listLimit, atoms, flatten, pushForms, normalForm, isList, formArguments}
 use Rattle.normalize.specs.Flat.{bare, Nested, Appended}
 use Rattle.normalize.specs.Nodes.{NodeOf, withNodes}
-use Rattle.normalize.specs.Pushes.{firstWords, formed, pushed, Candidates}
+use Rattle.normalize.specs.Pushes.{pushed, Candidates}
+use Rattle.normalize.specs.Calls.{firstWords, formed}
 use Rattle.normalize.proofs.Atoms.{same-atoms, recorded-nested, atoms-strings, flatten-fits, flatten-full}
 use Rattle.normalize.proofs.Represents.{nodes-more, nodes-none}
 

@@ -5,7 +5,11 @@ pub mod Ends
 pub mod Rewritten
 pub mod Formed
 pub mod Deep
+pub mod Words
 pub mod Pushing
 pub mod Carried
 pub mod Replacing
 pub mod Forming
+pub mod Expanding
+pub mod Rounding
+pub mod FormCalls

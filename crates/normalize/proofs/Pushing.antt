@@ -6,36 +6,31 @@ use Prim.Native.Nat.{ℕ, zero, suc, _+_, _-_, _*_, _≤_, _<_}
 use native.Mathlib.Numerals.{add-one}
 use native.Mathlib.Omega.{arith}
 use lib.ListN.{length, getD, set}
-use lib.Seq.{getD-set-same, getD-set-other}
 use lib.Dec.{eqb}
 use borrow.Author.Tests.{eqb-true, eq-eqb, ne-eqb}
 use Rattle.records.specs.declared.State.{State}
 use Rattle.records.specs.declared.Made.{Made}
 use Rattle.records.specs.declared.Made.the-variants.{Term, Refused}
-use Rattle.records.specs.Lists.{if_then_else_, all, joined, table}
-use Rattle.records.specs.Store.{Store, Term as TermOf, Out, ok, stop, Work, andThen, _>>=_, give, within, kind, term, termIn, isConstant, textIn, text}
-use Rattle.records.specs.View.{Lent, lent, storeOf, termsView, termAt}
+use Rattle.records.specs.Lists.{all, joined, table}
+use Rattle.records.specs.Store.{Store, Term as TermOf, Out, ok, stop, Work, andThen, give, within, kind, term, termIn, isConstant, text}
+use Rattle.records.specs.View.{Lent, storeOf, termsView, termAt}
 use Rattle.records.specs.Make.{makeConstant}
-use Rattle.records.specs.Audited.{Recorded, Ready}
+use Rattle.records.specs.Audited.{Ready}
 use Rattle.records.specs.Calls.{Working, made}
-use Rattle.records.proofs.Lists.{both-left, both-right, both-true, left-false, clash, decide, table-length, table-suc, table-same}
+use Rattle.records.proofs.Lists.{both-left, both-right, both-true, left-false, clash, decide, table-length, table-suc}
 use Rattle.records.proofs.Views.{second-at, text-span}
 use Rattle.records.proofs.Grown.{kind-term}
 use Rattle.normalize.specs.Normalize.{join, push}
-use Rattle.normalize.specs.Nodes.{isConstantIn}
 use Rattle.normalize.specs.Flat.{bare}
-use Rattle.normalize.specs.Pushes.{firstWords, isEmptyIn, joinsIn}
+use Rattle.normalize.specs.Pushes.{isEmptyIn, joinsIn}
+use Rattle.normalize.specs.Calls.{firstWords}
+use Rattle.normalize.proofs.Words.{words-put}
 
 -- THE LIST IN THE SLICE, LAST ATOM FIRST
 
 module _ (l : List ℕ) where
   snoc : (w : List ℕ) (x : ℕ) → reverse (w ++ x ∷ []) ≡ x ∷ reverse w
   snoc w x = reverse-append w (x ∷ [])
-
-  words-put : (n x : ℕ) → n < length l → firstWords (set l n x) (suc n) ≡ firstWords l n ++ x ∷ []
-  words-put n x h =
-      table-suc (λ i. getD (set l n x) i 0) n ∙ ap (λ (w : List ℕ). w ++ getD (set l n x) n 0 ∷ []) (table-same _ _ n (λ i k. getD-set-other l n i x 0 (λ e. omega arith)))
-      ∙ ap (λ (y : ℕ). firstWords l n ++ y ∷ []) (getD-set-same l n x 0 h)
 
   module _ (n : ℕ) where
     pub last-first : 0 < n → reverse (firstWords l n) ≡ getD l (n - 1) 0 ∷ reverse (firstWords l (n - 1))
@@ -46,10 +41,10 @@ module _ (l : List ℕ) where
     pub put-last : (u : ℕ) → 0 < n → n ≤ length l → reverse (firstWords (set l (n - 1) u) n) ≡ u ∷ reverse (firstWords l (n - 1))
     put-last u p h =
         let e : n ≡ suc (n - 1) = omega arith in
-        ap (λ (k : ℕ). reverse (firstWords (set l (n - 1) u) k)) e ∙ ap reverse (words-put (n - 1) u (omega arith)) ∙ snoc (firstWords l (n - 1)) u
+        ap (λ (k : ℕ). reverse (firstWords (set l (n - 1) u) k)) e ∙ ap reverse (words-put l (n - 1) u (omega arith)) ∙ snoc (firstWords l (n - 1)) u
 
     pub put-next : (t : ℕ) → n < length l → reverse (firstWords (set l n t) (n + 1)) ≡ t ∷ reverse (firstWords l n)
-    put-next t h = ap (λ (k : ℕ). reverse (firstWords (set l n t) k)) (add-one n) ∙ ap reverse (words-put n t h) ∙ snoc (firstWords l n) t
+    put-next t h = ap (λ (k : ℕ). reverse (firstWords (set l n t) k)) (add-one n) ∙ ap reverse (words-put l n t h) ∙ snoc (firstWords l n) t
 
 -- TESTS
 

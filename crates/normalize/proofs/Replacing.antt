@@ -1,7 +1,7 @@
 -- The ways of replacing an atom, and of the loop over the atoms.
 use mathlib.Core.Path.{_≡_, refl, sym, ap, subst, _∙_}
-use mathlib.Core.Bool.{Bool, true, false, _&&_}
-use mathlib.Core.List.{List, [], _∷_, _++_, reverse, reverse-reverse}
+use mathlib.Core.Bool.{true, _&&_}
+use mathlib.Core.List.{List, [], _∷_, _++_, reverse}
 use Prim.Native.Nat.{ℕ, zero, suc, _+_, _-_, _≤_, _<_}
 use native.Mathlib.Numerals.{add-one}
 use native.Mathlib.Omega.{arith}
@@ -12,23 +12,23 @@ use borrow.Author.Tests.{eq-eqb, ne-eqb}
 use Rattle.records.specs.declared.State.{State}
 use Rattle.records.specs.declared.Added.{Added}
 use Rattle.records.specs.declared.Added.the-variants.{Counts, Refused}
-use Rattle.records.specs.Lists.{if_then_else_, all, table, Every, none-left, and}
-use Rattle.records.specs.Store.{Term, Store, Out, ok, stop, Work, andThen, _>>=_, give, count, within, termIn, rootIn, classUp, isString, sameClass}
-use Rattle.records.specs.View.{Lent, lent, storeOf, termsView, termLimit}
+use Rattle.records.specs.Lists.{if_then_else_, table, Every, none-left, and}
+use Rattle.records.specs.Store.{Term, Store, Out, ok, stop, andThen, _>>=_, give, count, within, termIn, rootIn, classUp, isString}
+use Rattle.records.specs.View.{Lent, storeOf, termsView, termLimit}
 use Rattle.records.specs.Audited.{Ready, Closed}
 use Rattle.records.specs.Calls.{Working, added}
-use Rattle.records.proofs.Lists.{both-left, both-right, both-true, all-every, every-map, every-at, within-low, within-high, table-length}
+use Rattle.records.proofs.Lists.{both-left, both-right, both-true, all-every, every-all, every-map, every-at, within-low, within-high, table-length}
 use Rattle.records.proofs.Grown.{string-term, string-here}
 use Rattle.records.proofs.Climbs.{root-term, view-count, term-within, ready-roots}
 use Rattle.engine.specs.Explain.{explain, explainArguments}
 use Rattle.normalize.specs.declared.Form.{Form}
 use Rattle.normalize.specs.declared.Form.the-variants as form
-use Rattle.normalize.specs.Normalize.{listLimit, representative, substitute, push, pushForms}
+use Rattle.normalize.specs.Normalize.{representative, substitute, push, pushForms}
 use Rattle.normalize.specs.Nodes.{NodeOf, nodeAt}
-use Rattle.normalize.specs.Pushes.{firstWords, pushed, Candidates, cite, pushFor}
+use Rattle.normalize.specs.Pushes.{pushed, Candidates, cite, pushFor}
+use Rattle.normalize.specs.Calls.{firstWords}
 use Rattle.normalize.proofs.Represents.{nodes-later, node-is}
-use Rattle.normalize.proofs.Ends.{Ends}
-use Rattle.normalize.proofs.Rewritten.{Later, Strings, strings-later, Rewritten}
+use Rattle.normalize.proofs.Rewritten.{Later, Strings, strings-later}
 use Rattle.normalize.proofs.Formed.{Stands, representative-stands, replace-ends, atom-ends, Pushed}
 use Rattle.normalize.proofs.Carried.{Carried, carried-none, carried-ready, carried-kept, carried-then}
 
@@ -74,7 +74,7 @@ pub every-right : {P : ℕ → Type 0} (l m : List ℕ) → Every P (l ++ m) →
 every-right [] m k = k
 every-right (a ∷ l) m (and p k) = every-right l m k
 
-drop-past : (l : List ℕ) (i : ℕ) → length l ≤ i → drop i l ≡ []
+pub drop-past : (l : List ℕ) (i : ℕ) → length l ≤ i → drop i l ≡ []
 drop-past [] zero h = refl
 drop-past [] (suc i) h = refl
 drop-past (x ∷ l) zero h = absurd (omega arith)
@@ -104,6 +104,9 @@ module _ {s s′ : Store} {cs table : List ℕ} (k : Candidates s cs table) (l :
     where
       same : (t : ℕ) → isString s t ≡ true → (rootIn (s′ .terms) t ≡ rootIn (s .terms) t) × (termIn (s′ .terms) t .kind ≡ termIn (s .terms) t .kind)
       same t e = (l .grown .roots t (string-term s t e), ap (λ (x : Term). x .kind) (l .grown .old t (string-here s t e)))
+
+  pub candidates-later : Candidates s′ cs table
+  candidates-later = record { strings = every-all later-strings; nodes = later-nodes }
 
   -- the table's answer for an atom is its representative
   pub later-rep : (a : ℕ) → isString s′ a ≡ true → count s′ ≤ termLimit → nodeAt (s′ .terms) table a ≡ representative s′ cs a

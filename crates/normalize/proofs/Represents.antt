@@ -3,21 +3,21 @@ use mathlib.Core.Path.{_≡_, refl, sym, ap, subst, _∙_}
 use mathlib.Core.Bool.{Bool, true, false, _&&_, _||_}
 use mathlib.Core.List.{List, [], _∷_, _++_, append-nil, append-assoc}
 use mathlib.Core.Option.{Option, none, some}
-use Prim.Native.Nat.{ℕ, zero, suc, _+_, _*_, _≤_, _<_}
+use Prim.Native.Nat.{ℕ, zero, suc, _+_, _≤_, _<_}
 use native.Mathlib.Numerals.{add-one}
 use native.Mathlib.Omega.{arith}
 use lib.ListN.{length, drop, set, getD, length-set}
 use lib.Seq.{drop-cons, getD-set-same, getD-set-other}
 use lib.Dec.{eqb, ltb}
-use borrow.Author.Tests.{eqb-true, eqb-false, eq-eqb, ne-eqb, ltb-true, lt-ltb, le-ltb}
+use borrow.Author.Tests.{eqb-true, eqb-false, eq-eqb, ne-eqb, lt-ltb, le-ltb}
 use Rattle.records.specs.Lists.{if_then_else_, firstOf, Every, none-left, and}
-use Rattle.records.specs.Store.{Store, Term, within, kind, termIn, rootIn, classUp, isConstant, sameClass}
+use Rattle.records.specs.Store.{Store, Term, within, kind, termIn, rootIn, classUp}
 use Rattle.records.specs.View.{termLimit, termsView}
 use Rattle.records.specs.Audited.{Closed}
 use Rattle.records.proofs.Lists.{both-right, left-false, decide, clash, within-high, every-map, every-append}
 use Rattle.engine.proofs.Paths.{every-both}
 use Rattle.records.proofs.Paths.{first-same}
-use Rattle.records.proofs.Climbs.{climb-within, view-count}
+use Rattle.records.proofs.Climbs.{climb-within}
 use Rattle.normalize.specs.Normalize.{orFirst, representative}
 use Rattle.normalize.specs.Nodes.{isConstantIn, chosen, NodeOf, rank, withNode, withNodes, nodeAt}
 

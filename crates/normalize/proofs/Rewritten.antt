@@ -10,7 +10,7 @@ use lib.ListN.{length, drop, length-append}
 use lib.Dec.{ltb, leb}
 use lib.Seq.{drop-append-seam}
 use Rattle.records.specs.Lists.{if_then_else_, all, joined, Every, none-left, and}
-use Rattle.records.specs.Store.{Store, ok, Work, andThen, _>>_, give, refuse, put, count, isString}
+use Rattle.records.specs.Store.{Store, ok, andThen, _>>_, give, refuse, put, count, isString}
 use Rattle.records.specs.Rules.{isChar}
 use Rattle.records.specs.Make.{withChars, withTerms, own, addText, addTerm, lookup, orMake, lowest, constantOf, makeConstant}
 use Rattle.records.specs.Meaning.{Words, Reading, Holds}

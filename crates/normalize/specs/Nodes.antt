@@ -2,11 +2,11 @@
 use mathlib.Core.Path.{_≡_}
 use mathlib.Core.Bool.{Bool, _&&_, _||_}
 use mathlib.Core.List.{List, [], _∷_}
-use Prim.Native.Nat.{ℕ, _≤_, _<_}
+use Prim.Native.Nat.{ℕ, _≤_}
 use lib.ListN.{length, getD, set}
 use lib.Dec.{eqb, ltb}
 use Rattle.records.specs.Lists.{if_then_else_, firstOf}
-use Rattle.records.specs.Store.{Term, Store, termIn, rootIn}
+use Rattle.records.specs.Store.{Term, termIn, rootIn}
 use Rattle.records.specs.View.{termLimit}
 use Rattle.normalize.specs.Normalize.{orFirst}
 

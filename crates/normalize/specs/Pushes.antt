@@ -3,7 +3,6 @@ use mathlib.Core.Path.{_≡_}
 use mathlib.Core.Bool.{Bool, true, false, _&&_}
 use mathlib.Core.List.{List, [], _∷_, reverse}
 use Prim.Native.Nat.{ℕ}
-use lib.ListN.{getD}
 use lib.Dec.{eqb}
 use Rattle.records.specs.Lists.{if_then_else_, all, table}
 use Rattle.records.specs.Store.{Term, Store, Out, ok, stop, Work, _>>=_, give, termIn, isString}
@@ -11,19 +10,11 @@ use Rattle.records.specs.View.{Lent, storeOf}
 use Rattle.engine.specs.Explain.{explain}
 use Rattle.normalize.specs.Normalize.{push}
 use Rattle.normalize.specs.Nodes.{isConstantIn, NodeOf}
+use Rattle.normalize.specs.Calls.{firstWords}
 use Rattle.normalize.specs.declared.Form.{Form}
 use Rattle.normalize.specs.declared.Form.the-variants as form
 
--- the first n words of a slice
-abbrev pub firstWords : List ℕ → ℕ → List ℕ
-firstWords l n = table (λ i. getD l i 0) n
-
--- the answer of a normal form: the first words of the slice
-abbrev pub formed : Form → Lent → List ℕ → Out (List ℕ)
-formed (form.List n c) m l = ok (storeOf m c) (firstWords l n)
-formed (form.Refused k) m l = stop k
-
--- the same where the list stands last atom first
+-- a list in the first words of a slice, last atom first
 abbrev pub pushed : Form → Lent → List ℕ → Out (List ℕ)
 pushed (form.List n c) m l = ok (storeOf m c) (reverse (firstWords l n))
 pushed (form.Refused k) m l = stop k

@@ -1,10 +1,10 @@
 // Flattening: the atoms of nested concatenations, appended to a list in a lent slice.
 ghost use mathlib.Core.List.{[], _∷_};
-ghost use Prim.Native.Nat.{ℕ, _≤_};
+ghost use Prim.Native.Nat.{_≤_};
 ghost use lib.ListN.{length};
 ghost use Rattle.normalize.specs.Normalize.{listLimit, atoms};
 ghost use Rattle.normalize.specs.Flat.{bare, Nested, Appended};
-use crate::LIST_LIMIT;
+use records::LIST_LIMIT;
 use records::fields;
 use records::rules;
 

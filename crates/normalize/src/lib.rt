@@ -1,13 +1,104 @@
 // Cited normal forms.
+ghost use mathlib.Core.Path.{_≡_};
+ghost use mathlib.Core.List.{[]};
+ghost use Rattle.records.specs.View.{lent, storeOf};
+ghost use Rattle.normalize.specs.Normalize.{formArguments};
+ghost use Rattle.normalize.specs.Calls.{formed, deepened, PublicForm, PublicDeepForm};
+use deeper::deep_normal_form_cited_unchecked;
+use normal::normal_form_cited_unchecked;
+use records::LIST_LIMIT;
+use records::State;
+use records::rules;
+
+pub mod deeper;
 pub mod flat;
 pub mod nodes;
 pub mod normal;
 pub mod pushes;
 
-pub const LIST_LIMIT: usize = 1024;
+pub const DEEP_NF_ATOM_CAP: usize = 256;
 
 // The list of a normal form, by its count, with the new counts; or the refusal.
 pub enum Form {
-    List(usize, records::State),
+    List(usize, State),
     Refused(u32),
+}
+
+// The same of a deep form, which can answer None.
+pub enum DeepForm {
+    List(usize, State),
+    None(State),
+    Refused(u32),
+}
+
+// How a round of the deep form ended: its list stands, or another round follows; None, or the refusal.
+pub enum Turn {
+    Stands(usize, State),
+    Again(usize, State),
+    None(State),
+    Refused(u32),
+}
+
+// A list of string terms, at most 1,024, and a string term.
+fn can_form(terms: &[u32], c: State, known: &[u32], t: u32) -> bool
+    ensures { λ r. ⌜ r ≡ formArguments (now (known .entry)) t (storeOf (lent (now (terms .entry)) [] [] [] []) c) ⌝ }
+{
+    if !rules::is_list(terms, c, known) {
+        return false;
+    }
+    rules::is_string(terms, c.terms, t)
+}
+
+// The normal form of t over the known list, in the first words of `list`.
+pub fn normal_form_cited(
+    terms: &mut [u32],
+    cells: &[u32],
+    chars: &mut [u32],
+    reasons: &mut [u32],
+    keys: &[u32],
+    c: State,
+    known: &[u32],
+    t: u32,
+    list: &mut [u32],
+) -> Form
+    ensures { λ x. ⌜ PublicForm (now (known .entry)) t (lent (now (terms .entry)) (now (cells .entry)) (now (chars .entry)) (now (reasons .entry)) (now (keys .entry))) (lent (now (terms .exit)) (now (cells .entry)) (now (chars .exit)) (now (reasons .exit)) (now (keys .entry))) (now (list .entry)) (now (list .exit)) c (formed x (lent (now (terms .exit)) (now (cells .entry)) (now (chars .exit)) (now (reasons .exit)) (now (keys .entry))) (now (list .exit))) ⌝ }
+{
+    if list.len() < LIST_LIMIT {
+        return Form::Refused(1);
+    }
+    let k = records::audit(terms, cells, chars, reasons, keys, c);
+    if k != 0 {
+        return Form::Refused(k);
+    }
+    if !can_form(terms, c, known, t) {
+        return Form::Refused(5);
+    }
+    normal_form_cited_unchecked(terms, cells, chars, reasons, keys, c, known, t, list)
+}
+
+// The deep form of t over the known list, in the first words of `list`, or None.
+pub fn deep_normal_form_cited(
+    terms: &mut [u32],
+    cells: &[u32],
+    chars: &mut [u32],
+    reasons: &mut [u32],
+    keys: &[u32],
+    c: State,
+    known: &[u32],
+    t: u32,
+    list: &mut [u32],
+) -> DeepForm
+    ensures { λ x. ⌜ PublicDeepForm (now (known .entry)) t (lent (now (terms .entry)) (now (cells .entry)) (now (chars .entry)) (now (reasons .entry)) (now (keys .entry))) (lent (now (terms .exit)) (now (cells .entry)) (now (chars .exit)) (now (reasons .exit)) (now (keys .entry))) (now (list .entry)) (now (list .exit)) c (deepened x (lent (now (terms .exit)) (now (cells .entry)) (now (chars .exit)) (now (reasons .exit)) (now (keys .entry))) (now (list .exit))) ⌝ }
+{
+    if list.len() < LIST_LIMIT {
+        return DeepForm::Refused(1);
+    }
+    let k = records::audit(terms, cells, chars, reasons, keys, c);
+    if k != 0 {
+        return DeepForm::Refused(k);
+    }
+    if !can_form(terms, c, known, t) {
+        return DeepForm::Refused(5);
+    }
+    deep_normal_form_cited_unchecked(terms, cells, chars, reasons, keys, c, known, t, list)
 }

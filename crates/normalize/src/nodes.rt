@@ -1,7 +1,7 @@
 // Representatives, in a table by class root: 0 where a class has none.
 ghost use mathlib.Core.Path.{_≡_};
 ghost use mathlib.Core.Bool.{true};
-ghost use Prim.Native.Nat.{ℕ, _≤_};
+ghost use Prim.Native.Nat.{_≤_};
 ghost use Rattle.records.specs.Lists.{Every};
 ghost use Rattle.records.specs.Store.{within, classUp};
 ghost use Rattle.records.specs.View.{termLimit, termsView};

@@ -2,7 +2,7 @@
 ghost use mathlib.Core.Path.{_≡_};
 ghost use mathlib.Core.Bool.{true};
 ghost use mathlib.Core.List.{[], _++_, reverse};
-ghost use Prim.Native.Nat.{ℕ, _≤_, _<_};
+ghost use Prim.Native.Nat.{_≤_, _<_};
 ghost use lib.ListN.{length};
 ghost use Rattle.records.specs.Store.{isString};
 ghost use Rattle.records.specs.View.{lent, storeOf};
@@ -10,14 +10,15 @@ ghost use Rattle.records.specs.Audited.{Ready};
 ghost use Rattle.records.specs.Calls.{Working, added};
 ghost use Rattle.engine.specs.Explain.{explainArguments};
 ghost use Rattle.normalize.specs.Normalize.{listLimit, pushForms, normalForm, formArguments};
-ghost use Rattle.normalize.specs.Pushes.{firstWords, formed, pushed, cite, pushFor, Candidates};
+ghost use Rattle.normalize.specs.Pushes.{pushed, cite, pushFor, Candidates};
+ghost use Rattle.normalize.specs.Calls.{firstWords, formed};
 use crate::Form;
-use crate::LIST_LIMIT;
 use crate::flat;
 use crate::nodes;
 use crate::pushes;
 use engine::explain_unchecked;
 use records::Added;
+use records::LIST_LIMIT;
 use records::State;
 
 // The reasons that a is equal to r, where they differ.
@@ -101,7 +102,7 @@ fn push_forms(
 }
 
 // The normal form of t. The table is that of the known list.
-fn form_by(
+pub(crate) fn form_by(
     terms: &mut [u32],
     cells: &[u32],
     chars: &mut [u32],

@@ -2,13 +2,14 @@
 ghost use mathlib.Core.Path.{_≡_};
 ghost use mathlib.Core.Bool.{true};
 ghost use mathlib.Core.List.{reverse};
-ghost use Prim.Native.Nat.{ℕ, _≤_, _<_};
+ghost use Prim.Native.Nat.{_≤_, _<_};
 ghost use lib.ListN.{length};
 ghost use Rattle.records.specs.View.{termsView, lent};
 ghost use Rattle.records.specs.Audited.{Ready};
 ghost use Rattle.records.specs.Calls.{Working};
 ghost use Rattle.normalize.specs.Normalize.{listLimit, join, push};
-ghost use Rattle.normalize.specs.Pushes.{firstWords, isEmptyIn, joinsIn, pushed};
+ghost use Rattle.normalize.specs.Pushes.{isEmptyIn, joinsIn, pushed};
+ghost use Rattle.normalize.specs.Calls.{firstWords};
 use crate::Form;
 use records::Made;
 use records::State;

@@ -1,10 +1,7 @@
-use native.Mathlib.Omega.{arith}
 use borrow.Author.Needs.{needs}
 use Rattle.normalize.proofs.Flats.{atom-fits, atom-passes}
 use Rattle.normalize.proofs.flat.push_atom.Statement.{statement}
 use Rattle.normalize.proofs.flat.push_atom.Tie as tie
-use Rattle.normalize.proofs.flat.push_atom.Reads as reads
-use Rattle.normalize.proofs.flat.push_atom.Lts as lts
 
 pub push-atom-spec : {M : Type 1} → statement M
 push-atom-spec =

@@ -1,12 +1,7 @@
 use Rattle.normalize.proofs.Represents.{root-place, node-free, node-better, node-stays}
-use native.Mathlib.Omega.{arith}
 use borrow.Author.Needs.{needs}
 use Rattle.normalize.proofs.nodes.add_node.Statement.{statement}
 use Rattle.normalize.proofs.nodes.add_node.Tie as tie
-use Rattle.normalize.proofs.nodes.add_node.Reads as reads
-use Rattle.normalize.proofs.nodes.add_node.Lts as lts
-use Rattle.normalize.proofs.nodes.rep_rank.Reads as rep-rank-reads
-use Rattle.records.proofs.classes.root_unchecked.Reads as root-unchecked-reads
 
 pub add-node-spec : {M : Type 1} → statement M
 add-node-spec =

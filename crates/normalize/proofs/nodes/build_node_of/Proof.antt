@@ -9,9 +9,6 @@ use native.Mathlib.Omega.{arith}
 use borrow.Author.Needs.{needs}
 use Rattle.normalize.proofs.nodes.build_node_of.Statement.{statement}
 use Rattle.normalize.proofs.nodes.build_node_of.Tie as tie
-use Rattle.normalize.proofs.nodes.build_node_of.Reads as reads
-use Rattle.normalize.proofs.nodes.build_node_of.Lts as lts
-use Rattle.normalize.proofs.nodes.add_node.Reads as add-node-reads
 
 abbrev Inv-loop : tie.InvT-loop
 Inv-loop terms n known nodes₀ i₀ nodes i = (i ≤ length known) × (withNodes (termsView terms n) (drop i known) nodes ≡ withNodes (termsView terms n) known nodes₀)

@@ -1,11 +1,7 @@
 use Rattle.normalize.proofs.Represents.{root-place, at-none, at-some}
-use native.Mathlib.Omega.{arith}
 use borrow.Author.Needs.{needs}
 use Rattle.normalize.proofs.nodes.rep.Statement.{statement}
 use Rattle.normalize.proofs.nodes.rep.Tie as tie
-use Rattle.normalize.proofs.nodes.rep.Reads as reads
-use Rattle.normalize.proofs.nodes.rep.Lts as lts
-use Rattle.records.proofs.classes.root_unchecked.Reads as root-unchecked-reads
 
 pub rep-spec : {M : Type 1} → statement M
 rep-spec =

@@ -4,9 +4,6 @@ use native.Mathlib.Omega.{arith}
 use borrow.Author.Needs.{needs}
 use Rattle.normalize.proofs.pushes.join_last.Statement.{statement}
 use Rattle.normalize.proofs.pushes.join_last.Tie as tie
-use Rattle.normalize.proofs.pushes.join_last.Reads as reads
-use Rattle.normalize.proofs.pushes.join_last.Lts as lts
-use Rattle.records.proofs.make.join_constants_unchecked.Reads as join-constants-unchecked-reads
 
 pub join-last-spec : {M : Type 1} → statement M
 join-last-spec =

@@ -1,11 +1,7 @@
 use Rattle.normalize.proofs.Pushing.{joins-none, joins-other, joins-last}
-use native.Mathlib.Omega.{arith}
 use borrow.Author.Needs.{needs}
 use Rattle.normalize.proofs.pushes.joins.Statement.{statement}
 use Rattle.normalize.proofs.pushes.joins.Tie as tie
-use Rattle.normalize.proofs.pushes.joins.Reads as reads
-use Rattle.normalize.proofs.pushes.joins.Lts as lts
-use Rattle.records.proofs.rules.kind_of.Reads as kind-of-reads
 
 pub joins-spec : {M : Type 1} → statement M
 joins-spec =

@@ -4,11 +4,6 @@ use native.Mathlib.Omega.{arith}
 use borrow.Author.Needs.{needs}
 use Rattle.normalize.proofs.pushes.push.Statement.{statement}
 use Rattle.normalize.proofs.pushes.push.Tie as tie
-use Rattle.normalize.proofs.pushes.push.Reads as reads
-use Rattle.normalize.proofs.pushes.push.Lts as lts
-use Rattle.normalize.proofs.pushes.is_empty.Reads as is-empty-reads
-use Rattle.normalize.proofs.pushes.join_last.Reads as join-last-reads
-use Rattle.normalize.proofs.pushes.joins.Reads as joins-reads
 
 pub push-spec : {M : Type 1} → statement M
 push-spec =

@@ -1,0 +1,35 @@
+use lib.ListN.{getD}
+use Prim.Native.Nat.{ℕ, _-_, _≤_}
+use mathlib.Core.Bool.{false}
+use mathlib.Core.Path.{_≡_}
+use Rattle.normalize.specs.Deeps.{opensIn}
+use Rattle.normalize.specs.Calls.{firstWords}
+use Rattle.records.specs.View.{termsView}
+use Rattle.records.specs.Lists.{any}
+use Rattle.records.proofs.Lists.{any-zero, any-turn, any-stop, any-done}
+use native.Mathlib.Omega.{arith}
+use borrow.Author.Needs.{needs}
+use Rattle.normalize.proofs.deeper.any_opens.Statement.{statement}
+use Rattle.normalize.proofs.deeper.any_opens.Tie as tie
+
+abbrev Inv-loop : tie.InvT-loop
+Inv-loop terms n t list count i₀ i = (i ≤ count) × (any (opensIn (termsView terms n) t) (firstWords list i) ≡ false)
+
+abbrev μ-loop : tie.MeasureT-loop
+μ-loop terms n t list count i₀ i = count - i
+
+pub any-opens-spec : {M : Type 1} → statement M
+any-opens-spec =
+    tie.close
+    (tie.spec
+    Inv-loop
+    μ-loop
+    (λ c. (omega arith, any-zero (opensIn (termsView (c .before .before .args .terms .now) (c .before .before .args .n)) (c .before .before .args .t)) (λ (j : ℕ). getD (c .before .before .args .list .now) j 0)))
+    (λ c. search needs)
+    (λ c. search needs)
+    (λ c κs. search needs)
+    (λ c. any-stop (opensIn (termsView (c .before .before .before .before .before .before .before .args .terms .now) (c .before .before .before .before .before .before .before .args .n)) (c .before .before .before .before .before .before .before .args .t)) (λ (j : ℕ). getD (c .before .before .before .before .before .before .before .args .list .now) j 0) _ _ _ (c .before .opens .ensures) (c .if1 .taken) (c .before .before .before .loop-test .taken))
+    (λ c. search needs)
+    (λ c. search needs)
+    (λ c. (omega arith, any-turn (opensIn (termsView (c .before .before .before .before .before .before .before .args .terms .now) (c .before .before .before .before .before .before .before .args .n)) (c .before .before .before .before .before .before .before .args .t)) (λ (j : ℕ). getD (c .before .before .before .before .before .before .before .args .list .now) j 0) _ _ (c .before .opens .ensures) (c .if1 .left) (c .before .before .before .before .loop .inv .1)))
+    (λ c. any-done (opensIn (termsView (c .before .before .before .before .args .terms .now) (c .before .before .before .before .args .n)) (c .before .before .before .before .args .t)) (λ (j : ℕ). getD (c .before .before .before .before .args .list .now) j 0) _ _ (c .before .loop .inv .0) (c .loop-test .left) (c .before .loop .inv .1)))

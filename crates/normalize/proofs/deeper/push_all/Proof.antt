@@ -1,0 +1,40 @@
+use lib.ListN.{length}
+use Prim.Native.Nat.{_-_, _≤_}
+use mathlib.Core.Path.{_≡_, refl}
+use Rattle.normalize.specs.Calls.{firstWords}
+use Rattle.records.specs.View.{lent}
+use Rattle.normalize.proofs.Rounding.{Heaping, heaping-none, heap-ready, heaping-turn, heaping-stopped, heaping-done}
+use native.Mathlib.Omega.{arith}
+use borrow.Author.Needs.{needs}
+use Rattle.normalize.proofs.deeper.push_all.Statement.{statement}
+use Rattle.normalize.proofs.deeper.push_all.Tie as tie
+
+abbrev Inv-loop : tie.InvT-loop
+Inv-loop terms₀ cells chars₀ reasons keys next k out₀ d₀ count₀ i₀ terms chars out d count i = (i ≤ k) × (length terms ≡ length terms₀) × (length chars ≡ length chars₀) × (length out ≡ length out₀) × Heaping (lent terms₀ cells chars₀ reasons keys) d₀ (firstWords next k) (lent terms cells chars reasons keys) d out count i
+
+abbrev μ-loop : tie.MeasureT-loop
+μ-loop terms₀ cells chars₀ reasons keys next k out₀ d₀ count₀ i₀ terms chars out d count i = k - i
+
+pub push-all-spec : {M : Type 1} → statement M
+push-all-spec =
+    tie.close
+    (tie.spec
+    Inv-loop
+    μ-loop
+    (λ c. (omega arith, refl, refl, refl, heaping-none _ _ (c .before .before .before .before .before .before .before .pre .0)))
+    (λ c. search needs)
+    (λ c. search needs)
+    (λ c κs. (heap-ready (c .before .before .before .before .before .before .before .before .before .before .before .before .before .args .next .now) (c .before .before .before .before .before .before .before .before .before .before .before .before .before .args .k) (c .before .before .before .before .before .loop .inv .4) (c .before .before .before .before .before .before .before .before .before .before .before .before .before .pre .0) (c .before .before .before .before .before .before .before .before .before .before .before .before .before .pre .1 .0) (c .before .before .before .before .loop-test .taken), ((let h = c .before .before .before .before .loop-test .taken in let l = c .before .before .before .before .before .loop .inv .4 .low in let p = c .before .before .before .before .before .before .before .before .before .before .before .before .before .pre .1 .1 .1 .0 in omega arith), (let l = c .before .before .before .before .before .loop .inv .3 in let p = c .before .before .before .before .before .before .before .before .before .before .before .before .before .pre .1 .1 .1 .1 in omega arith))))
+    (λ c. search needs)
+    (λ c. search needs)
+    (λ c. search needs)
+    (λ c. search needs)
+    (λ c. search needs)
+    (λ c. heaping-stopped (c .before .before .before .before .before .before .before .before .before .before .before .before .before .before .before .before .before .before .before .before .before .before .before .args .next .now) (c .before .before .before .before .before .before .before .before .before .before .before .before .before .before .before .before .before .before .before .before .before .before .before .args .k) (c .before .before .before .before .before .before .before .before .before .before .before .before .before .before .before .loop .inv .4) (c .before .before .before .before .before .before .before .before .before .before .before .before .before .before .before .before .before .before .before .before .before .before .before .pre .0) (c .before .before .before .before .before .before .before .before .before .before .before .before .before .before .before .before .before .before .before .before .before .before .before .pre .1 .0) (c .before .before .before .before .before .before .before .before .before .before .before .before .before .before .loop-test .taken) _ _ (c .before .before .before .before .before .before .before .before .before .push .kept .0) refl (c .before .before .before .before .before .before .before .before .before .push .ensures) _ (c .before .form2 .given .1))
+    (λ c. (let h = c .before .before .before .before .before .before .before .before .before .before .before .before .before .before .loop-test .taken in let p = c .before .before .before .before .before .before .before .before .before .before .before .before .before .before .before .before .before .before .before .before .before .before .before .pre .1 .1 .1 .0 in omega arith))
+    (λ c. search needs)
+    (λ c. (omega arith, search needs, search needs, search needs, heaping-turn (c .before .before .before .before .before .before .before .before .before .before .before .before .before .before .before .before .before .before .before .before .before .before .before .args .next .now) (c .before .before .before .before .before .before .before .before .before .before .before .before .before .before .before .before .before .before .before .before .before .before .before .args .k) (c .before .before .before .before .before .before .before .before .before .before .before .before .before .before .before .loop .inv .4) (c .before .before .before .before .before .before .before .before .before .before .before .before .before .before .before .before .before .before .before .before .before .before .before .pre .0) (c .before .before .before .before .before .before .before .before .before .before .before .before .before .before .before .before .before .before .before .before .before .before .before .pre .1 .0) (c .before .before .before .before .before .before .before .before .before .before .before .before .before .before .loop-test .taken) _ _ (c .before .before .before .before .before .before .before .before .before .push .kept .0) refl (c .before .before .before .before .before .before .before .before .before .push .ensures) _ _ (c .before .form .given .1)))
+    (λ c. search needs)
+    (λ c. search needs)
+    (λ c. search needs)
+    (λ c. heaping-done (c .before .before .before .before .before .before .before .before .before .args .next .now) (c .before .before .before .before .before .before .before .before .before .args .k) (c .before .loop .inv .4) (c .loop-test .left)))

@@ -1,0 +1,32 @@
+use Prim.Native.Nat.{_-_, _≤_}
+use mathlib.Core.Path.{_≡_}
+use Rattle.normalize.specs.Calls.{firstWords}
+use Rattle.normalize.proofs.Words.{compare-none, compare-turn, compare-other, compare-stop, compare-done}
+use native.Mathlib.Omega.{arith}
+use borrow.Author.Needs.{needs}
+use Rattle.normalize.proofs.deeper.same_words.Statement.{statement}
+use Rattle.normalize.proofs.deeper.same_words.Tie as tie
+
+abbrev Inv-loop : tie.InvT-loop
+Inv-loop one n other k i₀ i = (i ≤ n) × (firstWords one i ≡ firstWords other i)
+
+abbrev μ-loop : tie.MeasureT-loop
+μ-loop one n other k i₀ i = n - i
+
+pub same-words-spec : {M : Type 1} → statement M
+same-words-spec =
+    tie.close
+    (tie.spec
+    Inv-loop
+    μ-loop
+    (λ c. compare-other (c .before .args .one .now) (c .before .args .other .now) _ _ (c .if1 .taken))
+    (λ c. (omega arith, compare-none (c .before .args .one .now) (c .before .args .other .now)))
+    (λ c. search needs)
+    (λ c. search needs)
+    (λ c. search needs)
+    (λ c. search needs)
+    (λ c. compare-stop (c .before .before .before .before .before .before .args .one .now) (c .before .before .before .before .before .before .args .other .now) _ _ _ (c .before .before .before .before .before .if1 .left) (c .before .before .before .loop-test .taken) (c .if2 .taken))
+    (λ c. search needs)
+    (λ c. search needs)
+    (λ c. (omega arith, compare-turn (c .before .before .before .before .before .before .args .one .now) (c .before .before .before .before .before .before .args .other .now) _ (c .before .before .before .before .loop .inv .1) (c .if2 .left)))
+    (λ c. compare-done (c .before .before .before .args .one .now) (c .before .before .before .args .other .now) _ _ _ (c .before .before .if1 .left) (c .before .loop .inv .0) (c .loop-test .left) (c .before .loop .inv .1)))
