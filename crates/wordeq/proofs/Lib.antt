@@ -18,3 +18,7 @@ pub mod SidesReady
 pub mod Listed
 pub mod Sequence
 pub mod Splitting
+pub mod SidesTile
+pub mod SidesUnequal
+pub mod Later
+pub mod Propagating

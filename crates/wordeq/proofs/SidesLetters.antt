@@ -38,7 +38,7 @@ fixed-done s l i h q = rw (drop-of-length-le l q) at h
 
 -- THE CONSTANT SIDE
 
-whole-part : (l : List ℕ) → take (length l - 0) (drop 0 l) ≡ l
+pub whole-part : (l : List ℕ) → take (length l - 0) (drop 0 l) ≡ l
 whole-part l = let e : length l - 0 ≡ length l = omega arith in rw e (take-all (length l) l (omega arith))
 
 module _ (s : Store) (l r : List ℕ) (x : Bool) (e : x ≡ fixed s l) where

@@ -14,7 +14,7 @@ use Rattle.records.specs.View.{Lent, storeOf, termAt, termsView}
 use Rattle.records.specs.Audited.{Ready, Closed}
 use Rattle.records.proofs.Lists.{table-length}
 use Rattle.records.proofs.Grown.{string-term}
-use Rattle.wordeq.specs.Wordeq.{same, fixed, lettersOf, letters, short, isPlain}
+use Rattle.wordeq.specs.Wordeq.{same, fixed, lettersOf, letters, unequal, short, isPlain}
 use Rattle.wordeq.specs.Sides.{termed, spelled, Texts, Spelled, constantSide, otherSide}
 use Rattle.wordeq.proofs.SidesWalk.{count-same}
 
@@ -57,6 +57,10 @@ module _ (m : Lent) (c : State) where
   pub letters-whole : (l : List ℕ) → letters (spelled (m .terms) (m .chars) c) l ≡ letters (storeOf m c) l
   unfolding letters lettersOf
   letters-whole l = refl
+
+  pub unequal-whole : (l r : List ℕ) → unequal (spelled (m .terms) (m .chars) c) l r ≡ unequal (storeOf m c) l r
+  unfolding unequal fixed letters lettersOf
+  unequal-whole l r = refl
 
   pub same-whole : (a b : ℕ) → same (spelled (m .terms) (m .chars) c) a b ≡ same (storeOf m c) a b
   unfolding same

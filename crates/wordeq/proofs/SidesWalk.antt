@@ -125,7 +125,7 @@ letter-is w h c l k f p r x t q e g d =
 drop-none : (j : ℕ) → _≡_ {A = List ℕ} (drop j []) []
 drop-none j = drop-of-length-le [] {i = j} (omega arith)
 
-rest-end : (s : Store) (l : List ℕ) (i j : ℕ) → length l ≤ i → rest s l i j ≡ []
+pub rest-end : (s : Store) (l : List ℕ) (i j : ℕ) → length l ≤ i → rest s l i j ≡ []
 rest-end s l i j q = ap (drop j) (letters-end s l i q) ∙ drop-none j
 
 pub heads-left : (s : Store) (l v : List ℕ) (i j : ℕ) → length l ≤ i → false ≡ headsAgree (rest s l i j) v

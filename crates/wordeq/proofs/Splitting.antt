@@ -2,9 +2,11 @@
 use mathlib.Core.Path.{_≡_, refl, sym, ap, subst, _∙_}
 use mathlib.Core.Bool.{Bool, true, false, _&&_}
 use mathlib.Core.List.{List, [], _∷_}
+use mathlib.Core.Option.{Option, some}
 use Prim.Native.Nat.{ℕ, _≤_}
 use native.Mathlib.Omega.{arith}
 use lib.ListN.{length, take, set}
+use lib.IntN.{ℤ, negℤ}
 use lib.Dec.{eqb}
 use borrow.Author.Tests.{eq-eqb, ne-eqb}
 use Rattle.records.specs.declared.State.{State}
@@ -23,8 +25,10 @@ use Rattle.records.proofs.Works.{via}
 use Rattle.records.proofs.Grown.{Grown, grown-string, grown-kind, grown-then}
 use Rattle.records.proofs.Kept.{MadeIn, made-string, constant-kept, concat-kept, length-kept, equation-kept, name-audited, fresh-kept}
 use Rattle.records.proofs.Passed.{ready-after}
-use Rattle.wordeq.specs.Wordeq.{freshVariable}
-use Rattle.wordeq.specs.Splits.{prefixAtom, emptyAtom, characterAtom, lengthsAtom, characterAtoms, prefixAtoms, headAtoms}
+use Rattle.wordeq.specs.Wordeq.{Answer, split, Tried, answer, freshVariable, splitCharacter, splitHeads}
+use Rattle.normalize.specs.declared.Form.{Form}
+use Rattle.normalize.specs.declared.Form.the-variants as form
+use Rattle.wordeq.specs.Splits.{listed, prefixAtom, emptyAtom, characterAtom, lengthsAtom, characterAtoms, prefixAtoms, headAtoms}
 use Rattle.wordeq.proofs.Split.{equatable-strings, equatable-lengths}
 use Rattle.wordeq.proofs.Sequence.{Grows, grows-then, grows-constant, grows-variable, grows-concat, grows-length, grows-equation, grows-name, working-then, working-stop, made-is, made-then, made-stop}
 
@@ -298,3 +302,83 @@ module _ {m m₁ : Lent} {c d : State} {r₁ : Made} {p : ℕ} (a b : ℕ) (read
 
   pub heads-string-2 : isString (storeOf m₁ d) b ≡ true
   heads-string-2 = grown-string (heads-left .grown) b sb
+
+-- THE SPLITS: their atoms, with the guard negated
+
+assoc : {A B C : Type 0} (o : Out A) (f : A → Work B) (g : B → Work C) → andThen g (andThen f o) ≡ andThen (λ a. f a >>= g) o
+assoc (ok s a) f g = refl
+assoc (stop n) f g = refl
+
+abbrev pub splitting : ℤ → List ℕ → Tried
+splitting g l = answer (split l (negℤ g))
+
+prefix-seq : {B : Type 0} (v h : ℕ) (k : ℕ → Work B) (s : Store) → andThen k (prefixAtom v h s) ≡ andThen (λ z. makeConcat (h ∷ z ∷ []) >>= (λ t. makeEquation v t >>= k)) (freshVariable s)
+unfolding prefixAtom
+prefix-seq {B} v h k s = go (freshVariable s)
+  where
+    go : (o : Out ℕ) → andThen k (andThen (λ z. makeConcat (h ∷ z ∷ []) >>= makeEquation v) o) ≡ andThen (λ z. makeConcat (h ∷ z ∷ []) >>= (λ t. makeEquation v t >>= k)) o
+    go (ok s₁ z) = assoc (makeConcat (h ∷ z ∷ []) s₁) (makeEquation v) k
+    go (stop n) = refl
+
+module _ (g : ℤ) (v c : ℕ) where
+  abbrev lastOf : ℕ → ℕ → Tried
+  lastOf p q = answer (split (p ∷ q ∷ []) (negℤ g))
+
+  abbrev tailOf : ℕ → ℕ → Tried
+  tailOf p h = freshVariable >>= (λ z. makeConcat (h ∷ z ∷ []) >>= (λ t. makeEquation v t >>= lastOf p))
+
+  character-tail : (p : ℕ) (o : Out ℕ) → andThen (splitting g) (andThen (λ q. give (p ∷ q ∷ [])) (andThen (prefixAtom v) o)) ≡ andThen (tailOf p) o
+  character-tail p (ok s h) = assoc (prefixAtom v h s) (λ q. give (p ∷ q ∷ [])) (splitting g) ∙ prefix-seq v h (lastOf p) s
+  character-tail p (stop n) = refl
+
+  character-rest : (o : Out ℕ) → andThen (splitting g) (andThen (λ p. characterAtom v c >>= (λ q. give (p ∷ q ∷ []))) o) ≡ andThen (λ p. makeConstant (c ∷ []) >>= tailOf p) o
+  unfolding characterAtom
+  character-rest (ok s p) = character-tail p (makeConstant (c ∷ []) s)
+  character-rest (stop n) = refl
+
+  character-whole : (o : Out ℕ) → andThen (splitting g) (andThen (λ p. characterAtom v c >>= (λ q. give (p ∷ q ∷ []))) (andThen (makeEquation v) o)) ≡ andThen (λ e. makeEquation v e >>= (λ p. makeConstant (c ∷ []) >>= tailOf p)) o
+  character-whole (ok s e) = character-rest (makeEquation v e s)
+  character-whole (stop n) = refl
+
+  pub characters-split : (s : Store) → (characterAtoms v c >>= splitting g) s ≡ splitCharacter g v c s
+  unfolding characterAtoms emptyAtom splitCharacter
+  characters-split s = character-whole (makeConstant [] s)
+
+module _ (g : ℤ) (a b : ℕ) where
+  abbrev thirdOf : ℕ → ℕ → ℕ → Tried
+  thirdOf p q u = answer (split (p ∷ q ∷ u ∷ []) (negℤ g))
+
+  abbrev secondOf : ℕ → ℕ → Tried
+  secondOf p q = freshVariable >>= (λ z. makeConcat (a ∷ z ∷ []) >>= (λ t. makeEquation b t >>= thirdOf p q))
+
+  abbrev firstOf : ℕ → Tried
+  firstOf p = freshVariable >>= (λ z. makeConcat (b ∷ z ∷ []) >>= (λ t. makeEquation a t >>= secondOf p))
+
+  heads-second : (p : ℕ) (o : Out ℕ) → andThen (splitting g) (andThen (λ q. prefixAtom b a >>= (λ u. give (p ∷ q ∷ u ∷ []))) o) ≡ andThen (secondOf p) o
+  heads-second p (ok s q) = assoc (prefixAtom b a s) (λ u. give (p ∷ q ∷ u ∷ [])) (splitting g) ∙ prefix-seq b a (thirdOf p q) s
+  heads-second p (stop n) = refl
+
+  heads-first : (o : Out ℕ) → andThen (splitting g) (andThen (λ p. prefixAtoms p a b) o) ≡ andThen firstOf o
+  unfolding prefixAtoms
+  heads-first (ok s p) = heads-second p (prefixAtom a b s) ∙ prefix-seq a b (secondOf p) s
+  heads-first (stop n) = refl
+
+  heads-lengths : (la : ℕ) (o : Out ℕ) → andThen (splitting g) (andThen (λ p. prefixAtoms p a b) (andThen (makeEquation la) o)) ≡ andThen (λ lb. makeEquation la lb >>= firstOf) o
+  heads-lengths la (ok s lb) = heads-first (makeEquation la lb s)
+  heads-lengths la (stop n) = refl
+
+  heads-whole : (o : Out ℕ) → andThen (splitting g) (andThen (λ p. prefixAtoms p a b) (andThen (λ la. makeLength b >>= makeEquation la) o)) ≡ andThen (λ la. makeLength b >>= (λ lb. makeEquation la lb >>= firstOf)) o
+  heads-whole (ok s la) = heads-lengths la (makeLength b s)
+  heads-whole (stop n) = refl
+
+  pub heads-split-is : (s : Store) → (headAtoms a b >>= splitting g) s ≡ splitHeads g a b s
+  unfolding headAtoms lengthsAtom splitHeads
+  heads-split-is s = heads-whole (makeLength a s)
+
+-- a split's answer by the answer of its atoms
+module _ {m m₁ : Lent} {c : State} {r : Form} (g : ℤ) (l : List ℕ) {w : Work (List ℕ)} {t : Tried} (is : (s : Store) → (w >>= splitting g) s ≡ t s) (x : Working w m m₁ c (listed r m₁ l)) where
+  pub split-done : {n : ℕ} {d : State} → r ≡ form.List n d → Working t m m₁ c (ok (storeOf m₁ d) (some (split (take n l) (negℤ g))))
+  split-done e = record { says = sym (is (storeOf m c)) ∙ ap (andThen (splitting g)) (x .says ∙ ap (λ (y : Form). listed y m₁ l) e); kept = x .kept }
+
+  pub split-stop : {k : ℕ} → r ≡ form.Refused k → Working t m m₁ c (stop k)
+  split-stop e = record { says = sym (is (storeOf m c)) ∙ ap (andThen (splitting g)) (x .says ∙ ap (λ (y : Form). listed y m₁ l) e); kept = x .kept }

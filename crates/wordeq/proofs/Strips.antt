@@ -84,7 +84,7 @@ module _ (t e h ks : List ℕ) where
         let k = table-length (pairAt rs) (c .reasons) in
         omega arith
 
-    terms-kept : termsView t (d .terms) ≡ termsView t (c .terms)
+    pub terms-kept : termsView t (d .terms) ≡ termsView t (c .terms)
     terms-kept = ap (λ (x : Store). x .terms) (g .added .is)
 
     abbrev with : List (ℕ × ℕ) → Room → Store

@@ -3,3 +3,4 @@ pub mod Meaning
 pub mod Stripping
 pub mod Sides
 pub mod Splits
+pub mod Explaining

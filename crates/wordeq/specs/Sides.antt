@@ -6,7 +6,7 @@ use Prim.Native.Nat.{ℕ, _+_, _≤_, _<_}
 use lib.ListN.{length, take, drop, getD}
 use lib.Dec.{eqb, leb}
 use Rattle.records.specs.declared.State.{State}
-use Rattle.records.specs.Lists.{if_then_else_}
+use Rattle.records.specs.Lists.{if_then_else_, sameWord}
 use Rattle.records.specs.Store.{Store, kind, term, isConstant}
 use Rattle.records.specs.View.{lent, storeOf, charLimit}
 use Rattle.wordeq.specs.declared.sides.Cursor.{Cursor}
@@ -57,3 +57,27 @@ unfoldable pub headsAgree : List ℕ → List ℕ → Bool
 headsAgree [] w = false
 headsAgree (x ∷ v) [] = false
 headsAgree (x ∷ v) (y ∷ w) = eqb x y
+
+abbrev pub next : Cursor → Cursor
+next k = record { atom = k .atom; place = k .place + 1 }
+
+-- THE SIDE OVER THE WORD: what fills the place of an atom is the atom's own characters, or m characters of the word from v on
+
+abbrev pub fillCount : Store → ℕ → ℕ → ℕ
+fillCount s a m = if isConstant s a then length (lettersOf s a) else m
+
+abbrev pub fillStart : Store → ℕ → ℕ → Cursor → Cursor
+fillStart s a i v = if isConstant s a then record { atom = i; place = 0 } else v
+
+abbrev pub fillSource : Store → ℕ → List ℕ → List ℕ → List ℕ
+fillSource s a side word = if isConstant s a then side else word
+
+-- the word has m characters from v on
+pub record Tiling (w h : List ℕ) (c : State) (word : List ℕ) (v : Cursor) (m : ℕ) : Type 0 where
+  pub known : Spelled w h c
+  pub fits : m ≤ length (rest (spelled w h c) word (v .atom) (v .place))
+
+-- b: nothing of the side is left from atom i on, nor of the word from k on
+pub record Ended (w : List ℕ) (c : State) (word side : List ℕ) (i : ℕ) (k : Cursor) (b : Bool) : Type 0 where
+  pub before : i < length side → b ≡ false
+  pub after : (h : List ℕ) → length side ≤ i → b ≡ sameWord [] (rest (spelled w h c) word (k .atom) (k .place))

@@ -1,9 +1,18 @@
 -- Working definitions: the atoms of step 7, one at a time.
 use mathlib.Core.List.{List, [], _∷_}
 use Prim.Native.Nat.{ℕ}
-use Rattle.records.specs.Store.{Work, _>>=_, give}
+use lib.ListN.{take}
+use Rattle.records.specs.Store.{Out, ok, stop, Work, _>>=_, give}
+use Rattle.records.specs.View.{Lent, storeOf}
+use Rattle.normalize.specs.declared.Form.{Form}
+use Rattle.normalize.specs.declared.Form.the-variants as form
 use Rattle.records.specs.Make.{makeConstant, makeConcat, makeLength, makeEquation}
 use Rattle.wordeq.specs.Wordeq.{freshVariable}
+
+-- the atoms answered, from the start of the list
+abbrev pub listed : Form → Lent → List ℕ → Out (List ℕ)
+listed (form.List n c) m l = ok (storeOf m c) (take n l)
+listed (form.Refused k) m l = stop k
 
 -- v = h ++ z
 unfoldable pub prefixAtom : ℕ → ℕ → Work ℕ

@@ -3,14 +3,14 @@ ghost use mathlib.Core.Path.{_≡_};
 ghost use mathlib.Core.Bool.{true, _&&_};
 ghost use mathlib.Core.List.{[], _∷_};
 ghost use Prim.Native.Nat.{ℕ, _+_, _<_, _≤_};
-ghost use lib.ListN.{length};
+ghost use lib.ListN.{length, take};
 ghost use Rattle.records.specs.Lists.{sameWord};
 ghost use Rattle.records.specs.Store.{isConstant, text, within, classUp};
-ghost use Rattle.records.specs.View.{span, termsView};
+ghost use Rattle.records.specs.View.{charLimit, span, termsView};
 ghost use Rattle.records.specs.Audited.{Closed};
 ghost use Rattle.normalize.specs.Normalize.{listLimit};
-ghost use Rattle.wordeq.specs.Wordeq.{same, fixed, lettersOf, letters, short, isPlain, differ};
-ghost use Rattle.wordeq.specs.Sides.{termed, spelled, Texts, Spelled, constantSide, otherSide, rest, There, Settled, headsAgree};
+ghost use Rattle.wordeq.specs.Wordeq.{same, fixed, lettersOf, letters, unequal, short, isPlain, filled, differ};
+ghost use Rattle.wordeq.specs.Sides.{termed, spelled, Texts, Spelled, constantSide, otherSide, rest, next, There, Settled, headsAgree, fillCount, fillStart, fillSource, Ended, Tiling};
 use records::State;
 use records::classes::root_unchecked;
 use records::fields;
@@ -249,4 +249,117 @@ pub(crate) fn same(terms: &[u32], chars: &[u32], c: State, a: u32, b: u32) -> bo
     let x = root_unchecked(terms, c.terms, a);
     let y = root_unchecked(terms, c.terms, b);
     x == y
+}
+
+// THE SIDE OVER THE WORD
+
+fn onward(k: Cursor) -> Cursor
+    requires { ⌜ k .place ≤ charLimit ⌝ }
+    ensures { λ r. ⌜ r ≡ next k ⌝ }
+{
+    Cursor {
+        atom: k.atom,
+        place: k.place + 1,
+    }
+}
+
+// The characters that fill the place of an atom, counted: a constant's own, or m for a variable.
+fn fill_count(terms: &[u32], c: State, a: u32, m: usize) -> usize
+    requires { ⌜ Texts (now terms) c ⌝ }
+    ensures { λ r. ⌜ r ≡ fillCount (termed (now (terms .entry)) c) a m ⌝ }
+{
+    if rules::kind_of(terms, c.terms, a) != 1 {
+        return m;
+    }
+    fields::wide(fields::second(terms, a))
+}
+
+// Where they begin: at the atom itself, or at v.
+fn fill_start(terms: &[u32], c: State, a: u32, i: usize, v: Cursor) -> Cursor
+    ensures { λ r. ⌜ r ≡ fillStart (termed (now (terms .entry)) c) a i v ⌝ }
+{
+    if rules::kind_of(terms, c.terms, a) != 1 {
+        return v;
+    }
+    Cursor { atom: i, place: 0 }
+}
+
+// The list that they are read from: the side itself, or the word.
+fn fill_source<'a>(terms: &[u32], c: State, a: u32, side: &'a [u32], word: &'a [u32]) -> &'a [u32]
+    ensures { λ p. ⌜ now p ≡ fillSource (termed (now (terms .entry)) c) a (now (side .entry)) (now (word .entry)) ⌝ }
+{
+    if rules::kind_of(terms, c.terms, a) != 1 {
+        return &word[0..word.len()];
+    }
+    &side[0..side.len()]
+}
+
+// Whether the walk came to the end of the side and of the word.
+fn ended(terms: &[u32], c: State, word: &[u32], side: &[u32], i: usize, k: Cursor) -> bool
+    requires { ⌜ Texts (now terms) c ⌝ }
+    ensures { λ b. ⌜ Ended (now (terms .entry)) c (now (word .entry)) (now (side .entry)) i k b ⌝ }
+{
+    if i < side.len() {
+        return false;
+    }
+    let x = settle(terms, c, word, k);
+    word.len() <= x.atom
+}
+
+// Whether the side, with m characters of the word from v on for each variable, is the word. The walk ends at the first wrong character.
+fn is_tiled<'a>(
+    terms: &[u32],
+    chars: &[u32],
+    c: State,
+    word: &'a [u32],
+    side: &'a [u32],
+    v: Cursor,
+    m: usize,
+) -> bool
+    requires { ⌜ Tiling (now terms) (now chars) c (now word) v m ⌝ }
+    ensures { λ b. do
+      let s = spelled (now (terms .entry)) (now (chars .entry)) c
+      ⌜ b ≡ sameWord (filled s (take m (rest s (now (word .entry)) (v .atom) (v .place))) (now (side .entry))) (letters s (now (word .entry))) ⌝ }
+{
+    let mut k = Cursor { atom: 0, place: 0 };
+    let mut i: usize = 0;
+    'atoms: while i < side.len() {
+        let a = side[i];
+        let n = fill_count(terms, c, a, m);
+        let mut x = fill_start(terms, c, a, i, v);
+        let source = fill_source(terms, c, a, side, word);
+        let mut j: usize = 0;
+        while j < n {
+            k = settle(terms, c, word, k);
+            x = settle(terms, c, source, x);
+            if !same_letter(terms, chars, c, word, k, source, x) {
+                break 'atoms;
+            }
+            k = onward(k);
+            x = onward(x);
+            j += 1;
+        }
+        i += 1;
+    }
+    ended(terms, c, word, side, i, k)
+}
+
+// Both constant with different words.
+pub(crate) fn unequal<'a>(
+    terms: &[u32],
+    chars: &[u32],
+    c: State,
+    l: &'a [u32],
+    r: &'a [u32],
+) -> bool
+    requires { ⌜ Spelled (now terms) (now chars) c ⌝ }
+    ensures { λ b. ⌜ b ≡ unequal (spelled (now (terms .entry)) (now (chars .entry)) c) (now (l .entry)) (now (r .entry)) ⌝ }
+{
+    if !is_fixed(terms, c, l) {
+        return false;
+    }
+    if !is_fixed(terms, c, r) {
+        return false;
+    }
+    !is_tiled(terms, chars, c, l, r, Cursor { atom: 0, place: 0 }, 0)
 }

@@ -10,8 +10,7 @@ ghost use Rattle.records.specs.Make.{makeVariable};
 ghost use Rattle.records.specs.Audited.{Ready};
 ghost use Rattle.records.specs.Calls.{Working, made};
 ghost use Rattle.wordeq.specs.Wordeq.{freshVariable};
-ghost use Rattle.normalize.specs.Pushes.{formed};
-ghost use Rattle.wordeq.specs.Splits.{prefixAtom, emptyAtom, characterAtom, lengthsAtom, characterAtoms, prefixAtoms, headAtoms};
+ghost use Rattle.wordeq.specs.Splits.{listed, prefixAtom, emptyAtom, characterAtom, lengthsAtom, characterAtoms, prefixAtoms, headAtoms};
 use normalize::Form;
 use records::Made;
 use records::State;
@@ -212,7 +211,7 @@ pub fn split_character_unchecked(
     list: &mut [u32],
 ) -> Form
     requires { ⌜ Ready (lent (now terms) (now cells) (now chars) (now reasons) (now keys)) c ⌝ ∗ ⌜ isString (storeOf (lent (now terms) (now cells) (now chars) (now reasons) (now keys)) c) v ≡ true ⌝ ∗ ⌜ isChar ch ≡ true ⌝ ∗ ⌜ 2 ≤ length (now list) ⌝ }
-    ensures { λ r. ⌜ Working (characterAtoms v ch) (lent (now (terms .entry)) (now (cells .entry)) (now (chars .entry)) (now (reasons .entry)) (now (keys .entry))) (lent (now (terms .exit)) (now (cells .exit)) (now (chars .exit)) (now (reasons .entry)) (now (keys .entry))) c (formed r (lent (now (terms .exit)) (now (cells .exit)) (now (chars .exit)) (now (reasons .entry)) (now (keys .entry))) (now (list .exit))) ⌝ }
+    ensures { λ r. ⌜ Working (characterAtoms v ch) (lent (now (terms .entry)) (now (cells .entry)) (now (chars .entry)) (now (reasons .entry)) (now (keys .entry))) (lent (now (terms .exit)) (now (cells .exit)) (now (chars .exit)) (now (reasons .entry)) (now (keys .entry))) c (listed r (lent (now (terms .exit)) (now (cells .exit)) (now (chars .exit)) (now (reasons .entry)) (now (keys .entry))) (now (list .exit))) ⌝ }
 {
     let first = empty_unchecked(terms, cells, chars, reasons, keys, c, v);
     match first {
@@ -245,7 +244,7 @@ fn put_prefixes(
     list: &mut [u32],
 ) -> Form
     requires { ⌜ Ready (lent (now terms) (now cells) (now chars) (now reasons) (now keys)) c ⌝ ∗ ⌜ isString (storeOf (lent (now terms) (now cells) (now chars) (now reasons) (now keys)) c) a ≡ true ⌝ ∗ ⌜ isString (storeOf (lent (now terms) (now cells) (now chars) (now reasons) (now keys)) c) b ≡ true ⌝ ∗ ⌜ 3 ≤ length (now list) ⌝ }
-    ensures { λ r. ⌜ Working (prefixAtoms p a b) (lent (now (terms .entry)) (now (cells .entry)) (now (chars .entry)) (now (reasons .entry)) (now (keys .entry))) (lent (now (terms .exit)) (now (cells .exit)) (now (chars .exit)) (now (reasons .entry)) (now (keys .entry))) c (formed r (lent (now (terms .exit)) (now (cells .exit)) (now (chars .exit)) (now (reasons .entry)) (now (keys .entry))) (now (list .exit))) ⌝ }
+    ensures { λ r. ⌜ Working (prefixAtoms p a b) (lent (now (terms .entry)) (now (cells .entry)) (now (chars .entry)) (now (reasons .entry)) (now (keys .entry))) (lent (now (terms .exit)) (now (cells .exit)) (now (chars .exit)) (now (reasons .entry)) (now (keys .entry))) c (listed r (lent (now (terms .exit)) (now (cells .exit)) (now (chars .exit)) (now (reasons .entry)) (now (keys .entry))) (now (list .exit))) ⌝ }
 {
     let first = prefix_unchecked(terms, cells, chars, reasons, keys, c, a, b);
     match first {
@@ -278,7 +277,7 @@ pub fn split_heads_unchecked(
     list: &mut [u32],
 ) -> Form
     requires { ⌜ Ready (lent (now terms) (now cells) (now chars) (now reasons) (now keys)) c ⌝ ∗ ⌜ isString (storeOf (lent (now terms) (now cells) (now chars) (now reasons) (now keys)) c) a ≡ true ⌝ ∗ ⌜ isString (storeOf (lent (now terms) (now cells) (now chars) (now reasons) (now keys)) c) b ≡ true ⌝ ∗ ⌜ 3 ≤ length (now list) ⌝ }
-    ensures { λ r. ⌜ Working (headAtoms a b) (lent (now (terms .entry)) (now (cells .entry)) (now (chars .entry)) (now (reasons .entry)) (now (keys .entry))) (lent (now (terms .exit)) (now (cells .exit)) (now (chars .exit)) (now (reasons .entry)) (now (keys .entry))) c (formed r (lent (now (terms .exit)) (now (cells .exit)) (now (chars .exit)) (now (reasons .entry)) (now (keys .entry))) (now (list .exit))) ⌝ }
+    ensures { λ r. ⌜ Working (headAtoms a b) (lent (now (terms .entry)) (now (cells .entry)) (now (chars .entry)) (now (reasons .entry)) (now (keys .entry))) (lent (now (terms .exit)) (now (cells .exit)) (now (chars .exit)) (now (reasons .entry)) (now (keys .entry))) c (listed r (lent (now (terms .exit)) (now (cells .exit)) (now (chars .exit)) (now (reasons .entry)) (now (keys .entry))) (now (list .exit))) ⌝ }
 {
     let lengths = lengths_unchecked(terms, cells, chars, reasons, keys, c, a, b);
     match lengths {

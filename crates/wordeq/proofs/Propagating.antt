@@ -1,0 +1,39 @@
+-- The ways of step 4 that make a term.
+use mathlib.Core.Path.{_≡_, refl, sym, ap, _∙_}
+use mathlib.Core.Bool.{Bool, true, false, _&&_}
+use mathlib.Core.List.{List, [], _∷_}
+use mathlib.Core.Option.{Option, some}
+use Prim.Native.Nat.{ℕ}
+use Rattle.records.specs.declared.State.{State}
+use Rattle.records.specs.declared.Made.{Made}
+use Rattle.records.specs.declared.Made.the-variants.{Term, Refused}
+use Rattle.records.specs.Lists.{if_then_else_, all, joined}
+use Rattle.records.specs.Store.{Store, Out, ok, stop, Work, andThen, isConstant, isVariable, text}
+use Rattle.records.specs.View.{Lent, storeOf}
+use Rattle.records.specs.Make.{makeConstant}
+use Rattle.records.specs.Calls.{Working, made}
+use Rattle.records.proofs.Lists.{all-every, every-map, joined-same}
+use Rattle.wordeq.specs.Wordeq.{propagate, answer, fixed, lettersOf, letters, assigns}
+use Rattle.wordeq.proofs.Sequence.{made-is, made-stops}
+
+-- a side of constants: its constant characters are its characters
+pub letters-fixed : (s : Store) (l : List ℕ) → fixed s l ≡ true → letters s l ≡ joined (text s) l
+unfolding letters fixed lettersOf
+letters-fixed s l h = joined-same (lettersOf s) (text s) (every-map (λ a e. ap (λ (b : Bool). if b then text s a else []) e) (all-every (isConstant s) l h))
+
+pub fixed-all : (s : Store) (l : List ℕ) → fixed s l ≡ true → all (isConstant s) l ≡ true
+unfolding fixed
+fixed-all s l h = h
+
+pub word-made : {m m₁ : Lent} {c : State} {o : Out ℕ} (l : List ℕ) → fixed (storeOf m c) l ≡ true → Working (λ s. makeConstant (joined (text s) l) s) m m₁ c o → Working (λ s. makeConstant (letters s l) s) m m₁ c o
+word-made {m} {c = c} l h w = record { says = ap (λ (k : List ℕ). makeConstant k (storeOf m c)) (letters-fixed (storeOf m c) l h) ∙ w .says; kept = w .kept }
+
+-- a lone variable against constants
+module _ {m m₁ : Lent} {c : State} {r : Made} (a : ℕ) (l : List ℕ) (h : isVariable (storeOf m c) a && fixed (storeOf m c) l ≡ true) (w : Working (λ s. makeConstant (letters s l) s) m m₁ c (made r m₁)) where
+  pub assigns-done : {t : ℕ} {d : State} → r ≡ Term t d → Working (assigns (a ∷ []) l) m m₁ c (ok (storeOf m₁ d) (some (propagate a t false)))
+  unfolding assigns
+  assigns-done {t} {d} e = record { says = rw h (ap (andThen (λ x. answer (propagate a x false))) (made-is e w .says)); kept = w .kept }
+
+  pub assigns-stop : {k : ℕ} → r ≡ Refused k → Working (assigns (a ∷ []) l) m m₁ c (stop k)
+  unfolding assigns
+  assigns-stop e = record { says = rw h (ap (andThen (λ x. answer (propagate a x false))) (made-stops e w .says)); kept = w .kept }

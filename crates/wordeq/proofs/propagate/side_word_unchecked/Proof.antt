@@ -1,0 +1,12 @@
+use Rattle.wordeq.proofs.Propagating.{fixed-all, word-made}
+use native.Mathlib.Omega.{arith}
+use borrow.Author.Needs.{needs}
+use Rattle.wordeq.proofs.propagate.side_word_unchecked.Statement.{statement}
+use Rattle.wordeq.proofs.propagate.side_word_unchecked.Tie as tie
+use Rattle.wordeq.proofs.propagate.side_word_unchecked.Reads as reads
+use Rattle.wordeq.proofs.propagate.side_word_unchecked.Lts as lts
+use Rattle.records.proofs.make.join_constants_unchecked.Reads as join-constants-unchecked-reads
+
+pub side-word-unchecked-spec : {M : Type 1} → statement M
+side-word-unchecked-spec =
+    tie.close (tie.spec (λ c κs. (c .before .before .before .before .before .before .before .before .pre .0, (c .before .before .before .before .before .before .before .before .pre .1 .0, fixed-all _ (c .before .before .before .before .before .before .before .before .args .side .now) (c .before .before .before .before .before .before .before .before .pre .1 .1)))) (λ c. search needs) (λ c. search needs) (λ c. word-made (c .before .before .before .before .before .before .before .before .before .before .before .before .before .args .side .now) (c .before .before .before .before .before .before .before .before .before .before .before .before .before .pre .1 .1) (c .before .before .before .before .join-constants-unchecked .ensures)))

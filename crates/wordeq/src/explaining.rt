@@ -1,0 +1,63 @@
+// Departure B: the later variables of a side are explained with the first.
+ghost use mathlib.Core.Path.{_≡_};
+ghost use mathlib.Core.Bool.{true};
+ghost use Rattle.records.specs.Lists.{all, Every};
+ghost use Rattle.records.specs.Store.{isString};
+ghost use Rattle.records.specs.View.{termsView, lent};
+ghost use Rattle.records.specs.Audited.{Ready};
+ghost use Rattle.records.specs.Calls.{Working, added};
+ghost use Rattle.wordeq.specs.Wordeq.{explainAll, variables};
+ghost use Rattle.wordeq.specs.Stripping.{readIn, Pair};
+ghost use Rattle.wordeq.specs.Explaining.{OneClass, explainAtom};
+use records::Added;
+use records::State;
+use records::rules;
+
+fn explain_atom(
+    terms: &[u32],
+    cells: &[u32],
+    chars: &[u32],
+    reasons: &mut [u32],
+    keys: &[u32],
+    c: State,
+    u: u32,
+    v: u32,
+) -> Added
+    requires { ⌜ Ready (lent (now terms) (now cells) (now chars) (now reasons) (now keys)) c ⌝ ∗ ⌜ Pair (readIn (now terms) (now chars) c) u v ⌝ ∗ ⌜ OneClass (termsView (now terms) (c .terms)) u v ⌝ }
+    ensures { λ r. ⌜ Working (explainAtom u v) (lent (now (terms .entry)) (now (cells .entry)) (now (chars .entry)) (now (reasons .entry)) (now (keys .entry))) (lent (now (terms .entry)) (now (cells .entry)) (now (chars .entry)) (now (reasons .exit)) (now (keys .entry))) c (added r (lent (now (terms .entry)) (now (cells .entry)) (now (chars .entry)) (now (reasons .exit)) (now (keys .entry)))) ⌝ }
+{
+    if rules::kind_of(terms, c.terms, u) == 1 {
+        return Added::Counts(c);
+    }
+    engine::explain_unchecked(terms, cells, chars, reasons, keys, c, u, v)
+}
+
+// The reasons why each variable of a side equals v, in place order.
+pub fn explain_all_unchecked(
+    terms: &[u32],
+    cells: &[u32],
+    chars: &[u32],
+    reasons: &mut [u32],
+    keys: &[u32],
+    c: State,
+    side: &[u32],
+    v: u32,
+) -> Added
+    requires { ⌜ Ready (lent (now terms) (now cells) (now chars) (now reasons) (now keys)) c ⌝ ∗ ⌜ Every (λ u. Pair (readIn (now terms) (now chars) c) u v) (now side) ⌝ ∗ ⌜ Every (λ u. OneClass (termsView (now terms) (c .terms)) u v) (now side) ⌝ }
+    ensures { λ r. ⌜ Working (explainAll (variables (readIn (now (terms .entry)) (now (chars .entry)) c) (now (side .entry))) v) (lent (now (terms .entry)) (now (cells .entry)) (now (chars .entry)) (now (reasons .entry)) (now (keys .entry))) (lent (now (terms .entry)) (now (cells .entry)) (now (chars .entry)) (now (reasons .exit)) (now (keys .entry))) c (added r (lent (now (terms .entry)) (now (cells .entry)) (now (chars .entry)) (now (reasons .exit)) (now (keys .entry)))) ⌝ }
+{
+    let mut d = c;
+    let mut i: usize = 0;
+    while i < side.len() {
+        match explain_atom(terms, cells, chars, reasons, keys, d, side[i], v) {
+            Added::Counts(e) => {
+                d = e;
+            }
+            Added::Refused(k) => {
+                return Added::Refused(k);
+            }
+        }
+        i += 1;
+    }
+    Added::Counts(d)
+}
