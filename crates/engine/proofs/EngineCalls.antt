@@ -7,18 +7,21 @@ use lib.Dec.{eqb}
 use borrow.Author.Tests.{not-true, not-false, eqb-true}
 use Rattle.records.specs.declared.State.{State}
 use Rattle.records.specs.Store.{Store, Out, ok, stop, isString, isTerm, sameClass, within, root, rootIn, classUp, termIn}
-use Rattle.records.specs.View.{Lent, storeOf, termsView}
-use Rattle.records.specs.Rules.{audit}
+use Rattle.records.specs.View.{Lent, storeOf, sizes, termsView}
+use Rattle.records.specs.Lists.{if_then_else_, Every}
+use Rattle.records.specs.Rules.{recordsRule, classesRule, congruencesRule, auditStore, audit}
 use Rattle.records.specs.Audited.{Audited, Ready, Closed}
 use Rattle.records.specs.Calls.{Working, Public, call, unless, checked}
-use Rattle.records.proofs.Lists.{both-left, both-right, both-true, left-false, right-false}
+use lib.Seq.{drop-append-seam}
+use Rattle.records.proofs.Lists.{every-map, both-left, both-right, both-true, left-false, right-false}
 use Rattle.records.proofs.Passed.{ready-of}
 use Rattle.records.proofs.Public.{call-unready, call-unfit, call-works}
 use Rattle.records.proofs.Grown.{string-term}
 use Rattle.records.proofs.Climbs.{term-within, ready-roots}
 use Rattle.engine.specs.Explain.{find, findArguments, explain, explainArguments}
 use Rattle.engine.specs.Calls.{PublicExplain}
-use Rattle.engine.proofs.Sound.{explain-sound, explain-stops}
+use Rattle.engine.specs.Meaning.{addedTo, Labels}
+use Rattle.engine.proofs.Sound.{Gave, explain-gives, explain-sound, explain-stops}
 
 -- FIND
 
@@ -43,6 +46,18 @@ module _ (m : Lent) (c : State) (t k : ℕ) (v : k ≡ audit m c) where
 
 -- EXPLAIN
 
+-- the audit's refusals are 1 to 4
+audit-low : (m : Lent) (c : State) → audit m c ≤ 4
+unfolding audit auditStore
+audit-low m c = go (sizes m c) (recordsRule (storeOf m c)) (classesRule (storeOf m c)) (congruencesRule (storeOf m c))
+  where
+    go : (a b d e : Bool) → (if a then (if b then (if d then (if e then 0 else 4) else 3) else 2) else 1) ≤ 4
+    go false b d e = omega arith
+    go true false d e = omega arith
+    go true true false e = omega arith
+    go true true true false = omega arith
+    go true true true true = omega arith
+
 module _ (m : Lent) (c : State) (a b : ℕ) (d : Ready m c) where
   pub can-here : (t : ℕ) (x : Bool) → x ≡ within 3 (termIn (termsView (m .terms) (c .terms)) t .kind) → not x ≡ false
       → (within (c .terms) t ≡ true) × Closed (classUp (termsView (m .terms) (c .terms))) (c .terms)
@@ -60,13 +75,29 @@ module _ (m : Lent) (c : State) (a b : ℕ) (d : Ready m c) where
           → eqb p q ≡ explainArguments a b (storeOf m c)
       can-classes g p q i j = sym (rw (sym e ∙ not-false x h, sym f ∙ not-false y g, ← i, ← j))
 
+-- the reasons added, each with its edge
+labelled : (s s′ : Store) → {a b : ℕ} → Gave s s′ a b → Every (Labels s) (addedTo s s′)
+labelled s s′ g =
+    rw (ap (λ (x : Store). x .reasons) (g .added .is), drop-append-seam (s .reasons) (g .added .more))
+    (every-map (λ r x. record { at = x .at; edge = x .edge; is = x .is; good = x .good }) (g .causes))
+
 module _ (m : Lent) (c : State) (a b k : ℕ) (v : k ≡ audit m c) where
   pub explain-unready : (k ≡ 0 → ⊥) → PublicExplain a b m m c (stop k)
-  explain-unready d = record { is = call-unready (explainArguments a b) (explain a b) m c k v d; worth = λ s′ e. let y : _≡_ {A = ℕ} 0 1 = cc in absurd (omega arith) }
+  explain-unready d = record {
+    is = call-unready (explainArguments a b) (explain a b) m c k v d;
+    worth = λ s′ e. let y : _≡_ {A = ℕ} 0 1 = cc in absurd (omega arith);
+    edges = λ s′ e. let y : _≡_ {A = ℕ} 0 1 = cc in absurd (omega arith);
+    full = λ j e h. let y : k ≡ j = cc in let l = audit-low m c in absurd (omega arith);
+  }
 
   module _ (z : k ≡ 0) (x : Bool) (e : x ≡ explainArguments a b (storeOf m c)) where
     pub explain-unfit : not x ≡ true → PublicExplain a b m m c (stop 5)
-    explain-unfit h = record { is = call-unfit (explainArguments a b) (explain a b) m c k v z x e (not-true x h); worth = λ s′ i. let y : _≡_ {A = ℕ} 0 1 = cc in absurd (omega arith) }
+    explain-unfit h = record {
+      is = call-unfit (explainArguments a b) (explain a b) m c k v z x e (not-true x h);
+      worth = λ s′ i. let y : _≡_ {A = ℕ} 0 1 = cc in absurd (omega arith);
+      edges = λ s′ i. let y : _≡_ {A = ℕ} 0 1 = cc in absurd (omega arith);
+      full = λ j i l. let y : 5 ≡ j = cc in absurd (omega arith);
+    }
 
     pub explain-fit : not x ≡ false → (Ready m c) × (explainArguments a b (storeOf m c) ≡ true)
     explain-fit h = (ready-of m c (sym v ∙ z), sym e ∙ not-false x h)
@@ -75,6 +106,8 @@ module _ (m : Lent) (c : State) (a b k : ℕ) (v : k ≡ audit m c) where
     explain-called h m′ r w = record {
       is = call-works (explainArguments a b) (explain a b) m c k v z x e (not-false x h) (λ j n. let q = explain-stops s audited a b one two three j n in omega arith) w;
       worth = λ s′ i. explain-sound s audited a b one two three s′ tt (w .says ∙ i);
+      edges = λ s′ i. labelled s s′ (explain-gives s audited a b one two three s′ tt (w .says ∙ i));
+      full = λ j i l. explain-stops s audited a b one two three j (w .says ∙ i);
     }
       where
         s : Store
