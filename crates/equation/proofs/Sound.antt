@@ -12,13 +12,13 @@ use lib.Dec.{eqb}
 use borrow.Author.Tests.{eqb-true}
 use Rattle.records.specs.Lists.{all, joined}
 use Rattle.records.specs.Store.{Term, Store, ok, stop, _>>=_, term, count, kind, isString, isLength, isEquation, isEdge, within}
-use Rattle.records.specs.Rules.{reasonRule, isEquatable}
+use Rattle.records.specs.Rules.{reasonRule, isEquatable, isList}
 use Rattle.records.specs.Make.{withReasons}
 use Rattle.records.specs.Meaning.{Words, Reading, Joins, Holds}
 use Rattle.records.specs.Audited.{Audited}
 use Rattle.records.proofs.Lists.{both-left, both-right, either, all-append, within-high}
 use Rattle.records.proofs.Grown.{term-past, string-here, Grown, grown-then, grown-string}
-use Rattle.normalize.specs.Normalize.{deepForm, isList}
+use Rattle.normalize.specs.Normalize.{deepForm}
 use Rattle.normalize.proofs.Formed.{known-strings}
 use Rattle.normalize.proofs.Rewritten
 use Rattle.normalize.proofs.Rewritten.{holds-left, holds-right, Strings, strings-later}

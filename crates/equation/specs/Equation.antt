@@ -6,7 +6,8 @@ use Prim.Native.Nat.{ℕ}
 use lib.IntN.{ℤ}
 use Rattle.records.specs.Store.{Store, Out, ok, stop, Work, _>>=_, give, store, term, isEquation, isString}
 use Rattle.records.specs.Make.{withReasons}
-use Rattle.normalize.specs.Normalize.{deepForm, isList}
+use Rattle.normalize.specs.Normalize.{deepForm}
+use Rattle.records.specs.Rules.{isList}
 use Rattle.wordeq.specs.Wordeq.{Answer, done, saturated, conflict, propagate, split, resolve, isGuard}
 use Rattle.wordeq.specs.Meaning.{Worth}
 

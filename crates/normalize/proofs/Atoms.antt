@@ -16,7 +16,8 @@ use Rattle.records.proofs.Works.{stop-not, branch}
 use Rattle.records.proofs.Grown.{term-zero}
 use Rattle.records.proofs.Readings.{parts-lower, parts-strings}
 use Rattle.engine.proofs.Paths.{every-both}
-use Rattle.normalize.specs.Normalize.{atomsBy, atoms, flatten, listLimit}
+use Rattle.normalize.specs.Normalize.{atomsBy, atoms, flatten}
+use Rattle.records.specs.Rules.{listLimit}
 use Rattle.normalize.specs.Flat.{Nested}
 
 -- LISTS

@@ -13,7 +13,8 @@ use Rattle.records.specs.Store.{Store, ok, stop, Work, isString}
 use Rattle.records.specs.Meaning.{Words, Reading, Holds}
 use Rattle.records.specs.Audited.{Audited}
 use Rattle.records.proofs.Lists.{both-left, both-right, every-append}
-use Rattle.normalize.specs.Normalize.{isList, formArguments, normalForm, pushAll, deepLimit, opens, Round, expand, settle, afterExpand, rounds, deepForm}
+use Rattle.normalize.specs.Normalize.{formArguments, normalForm, pushAll, deepLimit, opens, Round, expand, settle, afterExpand, rounds, deepForm}
+use Rattle.records.specs.Rules.{isList}
 use Rattle.normalize.specs.Meaning.{DeepForms}
 use Rattle.normalize.proofs.Ends.{Refused, Ends, ends-give, ends-if, ends-map, ends-then}
 use Rattle.normalize.proofs.Rewritten.{Later, later-none, later-then, later-added, Strings, strings-later, Rewritten, rewritten-none, rewritten-then, rewritten-after, rewritten-before, rewritten-as}

@@ -24,7 +24,8 @@ use Rattle.normalize.specs.declared.Form.{Form}
 use Rattle.normalize.specs.declared.Form.the-variants as form
 use Rattle.normalize.specs.declared.DeepForm.{DeepForm}
 use Rattle.normalize.specs.declared.DeepForm.the-variants as deep
-use Rattle.normalize.specs.Normalize.{listLimit, deepLimit, normalForm, opens, Round, expand}
+use Rattle.normalize.specs.Normalize.{deepLimit, normalForm, opens, Round, expand}
+use Rattle.records.specs.Rules.{listLimit}
 use Rattle.normalize.specs.Pushes.{Candidates}
 use Rattle.normalize.specs.Calls.{firstWords, formed, deepened}
 use Rattle.normalize.specs.Deeps.{opensIn, Met, RoundOf, expandAtom, expanded, ExpandedTo, Expands}

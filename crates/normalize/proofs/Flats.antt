@@ -15,7 +15,8 @@ use Rattle.records.proofs.Lists.{table-length}
 use Rattle.records.proofs.Chains.{chain-is, chain-none}
 use Rattle.records.proofs.Views.{first-at, value-at, next-at}
 use Rattle.records.proofs.Grown.{kind-term}
-use Rattle.normalize.specs.Normalize.{listLimit, atoms}
+use Rattle.normalize.specs.Normalize.{atoms}
+use Rattle.records.specs.Rules.{listLimit}
 use Rattle.normalize.specs.Flat.{bare, Nested, Appended}
 use Rattle.normalize.proofs.Atoms.{atoms-plain, nested-atoms}
 

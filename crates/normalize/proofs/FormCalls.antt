@@ -10,13 +10,13 @@ use borrow.Author.Tests.{le-leb, lt-leb, not-true, not-false}
 use Rattle.records.specs.declared.State.{State}
 use Rattle.records.specs.Store.{Store, Out, stop, Work, isString}
 use Rattle.records.specs.View.{Lent, storeOf}
-use Rattle.records.specs.Rules.{audit}
+use Rattle.records.specs.Rules.{audit, listLimit, isList}
 use Rattle.records.specs.Audited.{Ready}
 use Rattle.records.specs.Calls.{Public, call, Working}
 use Rattle.records.proofs.Lists.{left-false, and-next}
 use Rattle.records.proofs.Public.{call-unready, call-unfit, call-works, passed-ready}
 use Rattle.records.proofs.Works.{stop-not}
-use Rattle.normalize.specs.Normalize.{listLimit, normalForm, deepForm, isList, formArguments}
+use Rattle.normalize.specs.Normalize.{normalForm, deepForm, formArguments}
 use Rattle.normalize.specs.Calls.{listCall, PublicList, PublicForm, PublicDeepForm}
 use Rattle.normalize.proofs.Formed.{form-stops, form-sound}
 use Rattle.normalize.proofs.Deep.{deep-stops, deep-sound}

@@ -10,7 +10,7 @@ use lib.Dec.{eqb, leb}
 use borrow.Author.Tests.{eqb-true, eq-eqb}
 use Rattle.records.specs.Lists.{if_then_else_, all, firstOf, joined, Every, none-left, and}
 use Rattle.records.specs.Store.{Store, ok, stop, Work, _>>=_, give, within, isString, isConstant, text, root, sameClass}
-use Rattle.records.specs.Rules.{isChar}
+use Rattle.records.specs.Rules.{isChar, listLimit, isList}
 use Rattle.records.specs.Make.{makeConstant}
 use Rattle.records.specs.Meaning.{Words, Reading, Holds}
 use Rattle.records.specs.Audited.{Audited}
@@ -20,7 +20,7 @@ use Rattle.records.proofs.Kept.{made-string, constant-kept, constant-stops}
 use Rattle.records.proofs.Meant.{constant-word}
 use Rattle.engine.specs.Explain.{explain}
 use Rattle.engine.proofs.Sound.{explain-gives, explain-stops}
-use Rattle.normalize.specs.Normalize.{flatten, listLimit, orFirst, representative, substitute, join, push, pushAll, pushForms, normalForm, isList, formArguments}
+use Rattle.normalize.specs.Normalize.{flatten, orFirst, representative, substitute, join, push, pushAll, pushForms, normalForm, formArguments}
 use Rattle.normalize.specs.Meaning.{Forms}
 use Rattle.normalize.proofs.Atoms.{Flat, flatten-flat, flatten-atoms, flatten-stops}
 use Rattle.normalize.proofs.Ends.{Refused, Ends, ends-give, ends-by, ends-if, ends-map, ends-then}

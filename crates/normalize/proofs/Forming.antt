@@ -17,7 +17,8 @@ use Rattle.records.proofs.Grown.{string-term}
 use Rattle.records.proofs.Climbs.{root-term, view-count, term-within, ready-roots}
 use Rattle.normalize.specs.declared.Form.{Form}
 use Rattle.normalize.specs.declared.Form.the-variants as form
-use Rattle.normalize.specs.Normalize.{listLimit, atoms, flatten, pushForms, normalForm, isList, formArguments}
+use Rattle.normalize.specs.Normalize.{atoms, flatten, pushForms, normalForm, formArguments}
+use Rattle.records.specs.Rules.{listLimit, isList}
 use Rattle.normalize.specs.Flat.{bare, Nested, Appended}
 use Rattle.normalize.specs.Nodes.{NodeOf, withNodes}
 use Rattle.normalize.specs.Pushes.{pushed, Candidates}

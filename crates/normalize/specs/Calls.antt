@@ -11,7 +11,8 @@ use Rattle.records.specs.Lists.{if_then_else_, table}
 use Rattle.records.specs.Store.{Store, Out, ok, stop, Work}
 use Rattle.records.specs.View.{Lent, storeOf}
 use Rattle.records.specs.Calls.{Public, call}
-use Rattle.normalize.specs.Normalize.{listLimit, normalForm, deepForm, formArguments}
+use Rattle.normalize.specs.Normalize.{normalForm, deepForm, formArguments}
+use Rattle.records.specs.Rules.{listLimit}
 use Rattle.normalize.specs.declared.Form.{Form}
 use Rattle.normalize.specs.declared.Form.the-variants as form
 use Rattle.normalize.specs.declared.DeepForm.{DeepForm}

@@ -8,7 +8,7 @@ use Rattle.records.specs.Lists.{Every}
 use Rattle.records.specs.Store.{Store, isConcat, parts}
 use Rattle.records.specs.View.{lent, storeOf}
 use Rattle.records.specs.Audited.{Ascends}
-use Rattle.normalize.specs.Normalize.{listLimit}
+use Rattle.records.specs.Rules.{listLimit}
 
 -- n terms and m cells, with nothing else
 abbrev pub bare : List ℕ → ℕ → List ℕ → ℕ → Store

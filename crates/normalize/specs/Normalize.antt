@@ -7,6 +7,7 @@ use lib.ListN.{length}
 use lib.Dec.{eqb, ltb, leb}
 use Rattle.records.specs.Lists.{if_then_else_, all, any, firstOf, joined, sameWord, isIn}
 use Rattle.records.specs.Store.{Store, Out, ok, stop, Work, _>>=_, _>>_, give, refuse, store, isConstant, isConcat, isString, text, parts, sameClass}
+use Rattle.records.specs.Rules.{listLimit, isList}
 use Rattle.records.specs.Make.{makeConstant}
 use Rattle.engine.specs.Explain.{explain}
 
@@ -18,9 +19,6 @@ atomsBy (suc n) s t = elim (isConcat s t) [ true ↦ joined (atomsBy n s) (parts
 
 abbrev pub atoms : Store → ℕ → List ℕ
 atoms s t = atomsBy t s t
-
-abbrev pub listLimit : ℕ
-listLimit = 1024
 
 -- refusal 6: 'a flattened list passes 1,024 atoms'
 unfoldable pub flatten : List ℕ → Work (List ℕ)
@@ -78,9 +76,6 @@ normalForm known t = do
   give (reverse out)
 
 -- refusal 5: 'term absent or of the wrong kind; a list above 1,024'
-abbrev pub isList : Store → List ℕ → Bool
-isList s l = leb (length l) listLimit && all (isString s) l
-
 abbrev pub formArguments : List ℕ → ℕ → Store → Bool
 formArguments known t s = isList s known && isString s t
 

@@ -2,7 +2,8 @@
 ghost use mathlib.Core.List.{[], _∷_};
 ghost use Prim.Native.Nat.{_≤_};
 ghost use lib.ListN.{length};
-ghost use Rattle.normalize.specs.Normalize.{listLimit, atoms};
+ghost use Rattle.normalize.specs.Normalize.{atoms};
+ghost use Rattle.records.specs.Rules.{listLimit};
 ghost use Rattle.normalize.specs.Flat.{bare, Nested, Appended};
 use records::LIST_LIMIT;
 use records::fields;

@@ -39,7 +39,7 @@ fn add_node(terms: &[u32], n: usize, t: u32, nodes: &mut [u32; 513])
 }
 
 // The candidates of a list, in order.
-pub fn build_node_of(terms: &[u32], n: usize, known: &[u32], nodes: &mut [u32; 513])
+pub(crate) fn build_node_of(terms: &[u32], n: usize, known: &[u32], nodes: &mut [u32; 513])
     requires { ⌜ n ≤ termLimit ⌝ ∗ ⌜ Every (λ t. within n t ≡ true) (now known) ⌝ ∗ ⌜ Closed (classUp (termsView (now terms) n)) n ⌝ }
     ensures { λ _. ⌜ now (nodes .exit) ≡ withNodes (termsView (now (terms .entry)) n) (now (known .entry)) (now (nodes .entry)) ⌝ }
 {
@@ -51,7 +51,7 @@ pub fn build_node_of(terms: &[u32], n: usize, known: &[u32], nodes: &mut [u32; 5
 }
 
 // The representative of t's class, or t itself where the class has none.
-pub fn rep(terms: &[u32], n: usize, nodes: &[u32; 513], t: u32) -> u32
+pub(crate) fn rep(terms: &[u32], n: usize, nodes: &[u32; 513], t: u32) -> u32
     requires { ⌜ n ≤ termLimit ⌝ ∗ ⌜ within n t ≡ true ⌝ ∗ ⌜ Closed (classUp (termsView (now terms) n)) n ⌝ }
     ensures { λ r. ⌜ r ≡ nodeAt (termsView (now (terms .entry)) n) (now (nodes .entry)) t ⌝ }
 {

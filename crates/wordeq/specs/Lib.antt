@@ -4,3 +4,4 @@ pub mod Stripping
 pub mod Sides
 pub mod Splits
 pub mod Explaining
+pub mod Results

@@ -10,7 +10,8 @@ use Rattle.records.specs.Lists.{if_then_else_, all, any, firstOf, keep, joined,
 use Rattle.records.specs.Store.{Store, Out, ok, stop, Work, _>>=_, _>>_, give, refuse, store, isConstant, isVariable, isConcat, isString, text, sameClass}
 use Rattle.records.specs.Make.{withReasons, addKey, isKey, makeConstant, makeVariable, makeConcat, makeLength, makeEquation, strk, takeName}
 use Rattle.engine.specs.Explain.{explain}
-use Rattle.normalize.specs.Normalize.{flatten, isList}
+use Rattle.normalize.specs.Normalize.{flatten}
+use Rattle.records.specs.Rules.{isList}
 
 -- the answers: Propagate's variable, word and link flag; Split's atoms and the guard negated
 pub data Answer : Type 0 where

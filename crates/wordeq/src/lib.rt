@@ -6,6 +6,18 @@ mod sides;
 pub mod splits;
 pub mod stripping;
 
+// The answer, with the new counts. A single step that finds nothing says Done, and the next one is tried.
+pub enum StepResult {
+    Done(records::State),
+    Saturated(records::State),
+    Conflict(records::State),
+    // the variable, its word, the link flag
+    Propagate(records::State, u32, u32, bool),
+    // how many atoms are listed, the guard negated
+    Split(records::State, usize, i32),
+    Refused(u32),
+}
+
 // What step 1 leaves: the counts, the place where both parts begin, and where the left and the right one end; or the refusal.
 pub enum Stripped {
     Parts(records::State, usize, usize, usize),

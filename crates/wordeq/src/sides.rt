@@ -8,7 +8,7 @@ ghost use Rattle.records.specs.Lists.{sameWord};
 ghost use Rattle.records.specs.Store.{isConstant, text, within, classUp};
 ghost use Rattle.records.specs.View.{charLimit, span, termsView};
 ghost use Rattle.records.specs.Audited.{Closed};
-ghost use Rattle.normalize.specs.Normalize.{listLimit};
+ghost use Rattle.records.specs.Rules.{listLimit};
 ghost use Rattle.wordeq.specs.Wordeq.{same, fixed, lettersOf, letters, unequal, short, isPlain, filled, differ};
 ghost use Rattle.wordeq.specs.Sides.{termed, spelled, Texts, Spelled, constantSide, otherSide, rest, next, There, Settled, headsAgree, fillCount, fillStart, fillSource, Ended, Tiling};
 use records::State;
