@@ -3,9 +3,12 @@
 use mathlib.Core.Path.{_≡_, refl, sym, ap, subst, _∙_, fun-ext}
 use mathlib.Core.Bool.{Bool, true, false, not, _&&_, _||_}
 use mathlib.Core.List.{List, [], _∷_}
+use mathlib.Core.Logic.{_⊎_, inl, inr}
 use mathlib.Core.Option.{Option, none, some}
 use Prim.Native.Nat.{ℕ, suc, _≤_}
 use native.Mathlib.Omega.{arith}
+use types.Run.{OneOf}
+use denote.Enum.Declared.{tagOf}
 use lib.ListN.{length}
 use lib.IntN.{ℤ}
 use lib.Dec.{leb}
@@ -26,6 +29,7 @@ use Rattle.wordeq.specs.declared.StepResult.{StepResult}
 use Rattle.wordeq.specs.declared.StepResult.the-variants as step
 use Rattle.wordeq.specs.Wordeq.{Answer, saturated, conflict, propagate, split, Tried, answer, pass, settled, _orElse_, same, fixed, letters, occurrence, occursAt, occurs, unequal, short, absent, constants, isPlain, alias, emptiesAt, empties, assigns, fits, explainAll, variables, tileBy, tile, clashes, splits, after}
 use Rattle.wordeq.specs.Results.{BothLists, tried, Tries}
+use Rattle.wordeq.proofs.StepResult.{the-type}
 use Rattle.wordeq.proofs.Good.{Good, passes, Later, Step, step-else, step-flip}
 use Rattle.wordeq.proofs.Occurs.{occurs-step}
 use Rattle.wordeq.proofs.Constants.{constants-step, alias-step, empties-step, assigns-step}
@@ -121,6 +125,9 @@ pub record Lined (l r : List ℕ) (m : Lent) (c : State) : Type 0 where
   pub ready : Ready m c
   pub lists : BothLists (storeOf m c) l r
 
+pub lined : {l r : List ℕ} {m : Lent} {c : State} → Ready m c → BothLists (storeOf m c) l r → Lined l r m c
+lined x y = record { ready = x; lists = y }
+
 pub done-is : {a : Tried} {m m₁ : Lent} {c d : State} {o : StepResult} → o ≡ step.Done d → Tries a m m₁ c o → Tries a m m₁ c (step.Done d)
 done-is {a} {m} {m₁} {c} e w = subst (Tries a m m₁ c) e w
 
@@ -129,11 +136,32 @@ pub passed-on : {l r : List ℕ} {a : Tried} → Goes l r a → {m m₁ : Lent} 
 passed-on g w e p q x = record { ready = passed-ready g (done-is e w) (x .ready) (x .lists) p q; lists = passed-lists g (done-is e w) (x .ready) (x .lists) }
 
 -- a step that answers is the last
-pub record Last (o : StepResult) : Type 0 where
-  pub last : (d : State) → o ≡ step.Done d → ⊥
+abbrev pub Last : StepResult → Type 0
+Last (step.Done d) = ⊥
+Last (step.Saturated d) = Unit {0}
+Last (step.Conflict d) = Unit {0}
+Last (step.Propagate d v w f) = Unit {0}
+Last (step.Split d n g) = Unit {0}
+Last (step.Refused n) = Unit {0}
+
+not-zero : OneOf (1 ∷ 2 ∷ 3 ∷ 4 ∷ 5 ∷ []) 0 → ⊥
+not-zero (inl e) = omega arith
+not-zero (inr (inl e)) = omega arith
+not-zero (inr (inr (inl e))) = omega arith
+not-zero (inr (inr (inr (inl e)))) = omega arith
+not-zero (inr (inr (inr (inr e)))) = omega arith
+
+-- an answer that is not Done, as a `let .. else` tells it
+pub last-of : (o : StepResult) → OneOf (1 ∷ 2 ∷ 3 ∷ 4 ∷ 5 ∷ []) (tagOf the-type o) → Last o
+last-of (step.Done d) h = not-zero h
+last-of (step.Saturated d) h = tt
+last-of (step.Conflict d) h = tt
+last-of (step.Propagate d v w f) h = tt
+last-of (step.Split d n g) h = tt
+last-of (step.Refused n) h = tt
 
 settles : (b : Tried) (m : Lent) (o : StepResult) (k : List ℕ) → Last o → andThen (settled b) (tried o m k) ≡ tried o m k
-settles b m (step.Done d) k z = absurd (z .last d refl)
+settles b m (step.Done d) k z = absurd z
 settles b m (step.Saturated d) k z = refl
 settles b m (step.Conflict d) k z = refl
 settles b m (step.Propagate d v w f) k z = refl
