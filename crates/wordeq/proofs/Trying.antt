@@ -3,9 +3,9 @@
 use mathlib.Core.Path.{_≡_, refl, sym, ap, subst, _∙_, fun-ext}
 use mathlib.Core.Bool.{Bool, true, false, not, _&&_, _||_}
 use mathlib.Core.List.{List, [], _∷_}
-use mathlib.Core.Logic.{_⊎_, inl, inr}
+use mathlib.Core.Logic.{inl, inr}
 use mathlib.Core.Option.{Option, none, some}
-use Prim.Native.Nat.{ℕ, suc, _≤_}
+use Prim.Native.Nat.{ℕ, suc}
 use native.Mathlib.Omega.{arith}
 use types.Run.{OneOf}
 use denote.Enum.Declared.{tagOf}
@@ -13,21 +13,21 @@ use lib.ListN.{length}
 use lib.IntN.{ℤ}
 use lib.Dec.{leb}
 use Rattle.records.specs.declared.State.{State}
-use Rattle.records.specs.Lists.{if_then_else_, all, firstOf}
-use Rattle.records.specs.Store.{Store, Out, ok, stop, Work, andThen, _>>=_, give, isString, isConstant, isVariable}
+use Rattle.records.specs.Lists.{all, firstOf}
+use Rattle.records.specs.Store.{Store, Out, ok, stop, andThen, _>>=_, isString, isConstant, isVariable}
 use Rattle.records.specs.View.{Lent, storeOf}
 use Rattle.records.specs.Rules.{isList, listLimit}
 use Rattle.records.specs.Make.{makeConstant}
-use Rattle.records.specs.Audited.{Audited, Ready}
+use Rattle.records.specs.Audited.{Ready}
 use Rattle.records.specs.Calls.{Working}
 use Rattle.records.proofs.Lists.{both-left, both-right, both-true, all-every, every-all}
-use Rattle.records.proofs.Works.{stop-not, via, branch}
+use Rattle.records.proofs.Works.{via, branch}
 use Rattle.records.proofs.Passed.{ready-after}
 use Rattle.engine.specs.Explain.{explain}
 use Rattle.normalize.proofs.Rewritten.{Strings, strings-later}
 use Rattle.wordeq.specs.declared.StepResult.{StepResult}
 use Rattle.wordeq.specs.declared.StepResult.the-variants as step
-use Rattle.wordeq.specs.Wordeq.{Answer, saturated, conflict, propagate, split, Tried, answer, pass, settled, _orElse_, same, fixed, letters, occurrence, occursAt, occurs, unequal, short, absent, constants, isPlain, alias, emptiesAt, empties, assigns, fits, explainAll, variables, tileBy, tile, clashes, splits, after}
+use Rattle.wordeq.specs.Wordeq.{Answer, conflict, propagate, Tried, answer, pass, settled, _orElse_, same, fixed, letters, occurrence, occursAt, occurs, unequal, short, absent, constants, isPlain, alias, emptiesAt, empties, assigns, fits, explainAll, variables, tileBy, tile, clashes, splits, after}
 use Rattle.wordeq.specs.Results.{BothLists, tried, Tries}
 use Rattle.wordeq.proofs.StepResult.{the-type}
 use Rattle.wordeq.proofs.Good.{Good, passes, Later, Step, step-else, step-flip}
@@ -53,7 +53,7 @@ else-groups a b n = fun-ext (λ s. go (a s))
 pub record Rises (a : Tried) : Type 0 where
   pub higher : (s s′ : Store) → a s ≡ ok s′ none → Higher s s′
 
--- it passes: the store is as it was
+-- the store is as it was
 stays : {A : Type 0} {s s′ : Store} {x y : A} → ok s x ≡ ok s′ y → Higher s s′
 stays {s = s} {s′ = s′} e = let q : s ≡ s′ = cc in subst (Higher s) q (higher-none s)
 
@@ -88,9 +88,9 @@ list-later {s = s} l k h = both-true _ _ (both-left (leb (length l) listLimit) _
 
 -- ONE STEP, THEN THE REST
 
-later-of : {l r : List ℕ} {s s′ : Store} {o : Option Answer} → o ≡ none → Good false l r s s′ o → Later s s′
-later-of e (passes k h) = k
-later-of e (Good.answers k h c) = k
+later-of : {l r : List ℕ} {s s′ : Store} {o : Option Answer} → Good false l r s s′ o → Later s s′
+later-of (passes k h) = k
+later-of (Good.answers k h c) = k
 
 module _ {l r : List ℕ} {a : Tried} (g : Goes l r a) {m m₁ : Lent} {c d : State} (w : Tries a m m₁ c (step.Done d)) where
   passed : a (storeOf m c) ≡ ok (storeOf m₁ d) none
@@ -99,7 +99,7 @@ module _ {l r : List ℕ} {a : Tried} (g : Goes l r a) {m m₁ : Lent} {c d : St
   -- for what the store has later
   pub passed-later : Ready m c → BothLists (storeOf m c) l r → Later (storeOf m c) (storeOf m₁ d)
   passed-later ready lists =
-      later-of refl (g .step-of (storeOf m c) (ready .audited) (strings-of (storeOf m c) l (lists .left)) (strings-of (storeOf m c) r (lists .right)) .given (storeOf m₁ d) none passed)
+      later-of (g .step-of (storeOf m c) (ready .audited) (strings-of (storeOf m c) l (lists .left)) (strings-of (storeOf m c) r (lists .right)) .given (storeOf m₁ d) none passed)
 
   -- for the next step
   pub passed-ready : Ready m c → BothLists (storeOf m c) l r → length (m₁ .terms) ≡ length (m .terms) → length (m₁ .cells) ≡ length (m .cells) → Ready m₁ d
@@ -173,47 +173,43 @@ else-last b {m₁ = m₁} {o = o} z w = record { is = λ k. record { says = ap (
 
 -- THE STEPS
 
--- work that can only answer
-pass-rises : {s s′ : Store} → pass s ≡ ok s′ none → Higher s s′
-pass-rises e = stays e
-
 pub occurs-rises : (l r : List ℕ) → Rises (occurs l r)
 unfolding occurs
-occurs-rises [] r = record { higher = λ s s′ e. pass-rises e }
-occurs-rises (x ∷ y ∷ l) r = record { higher = λ s s′ e. pass-rises e }
-occurs-rises (x ∷ []) r = record { higher = λ s s′ e. branch (isConstant s x) pass (occursAt x (occurrence s x [] r)) (λ b i. pass-rises i) (λ b i. go s s′ (occurrence s x [] r) i) e }
+occurs-rises [] r = record { higher = λ s s′ e. stays e }
+occurs-rises (x ∷ y ∷ l) r = record { higher = λ s s′ e. stays e }
+occurs-rises (x ∷ []) r = record { higher = λ s s′ e. branch (isConstant s x) pass (occursAt x (occurrence s x [] r)) (λ b i. stays i) (λ b i. go s s′ (occurrence s x [] r) i) e }
   where
     go : (s s′ : Store) (o : Option ℕ) → occursAt x o s ≡ ok s′ none → Higher s s′
-    go s s′ none e = pass-rises e
+    go s s′ none e = stays e
     go s s′ (some y) e = via (λ u. answer conflict) (explain y x s) e (λ s₁ u i j. answered-not j)
 
 pub constants-rises : (l r : List ℕ) → Rises (constants l r)
 unfolding constants
 constants-rises l r = record {
-  higher = λ s s′ e. branch (unequal s l r || short s l r || short s r l || absent s l r || absent s r l) (answer conflict) pass (λ b i. answered-not i) (λ b i. pass-rises i) e;
+  higher = λ s s′ e. branch (unequal s l r || short s l r || short s r l || absent s l r || absent s r l) (answer conflict) pass (λ b i. answered-not i) (λ b i. stays i) e;
 }
 
 pub alias-rises : (l r : List ℕ) → Rises (alias l r)
 unfolding alias
-alias-rises (a ∷ []) (b ∷ []) = record { higher = λ s s′ e. branch (isPlain s a && isPlain s b) (answer (propagate a b false)) pass (λ x i. answered-not i) (λ x i. pass-rises i) e }
-alias-rises (a ∷ []) [] = record { higher = λ s s′ e. pass-rises e }
-alias-rises (a ∷ []) (b ∷ c ∷ r) = record { higher = λ s s′ e. pass-rises e }
-alias-rises [] r = record { higher = λ s s′ e. pass-rises e }
-alias-rises (a ∷ c ∷ l) r = record { higher = λ s s′ e. pass-rises e }
+alias-rises (a ∷ []) (b ∷ []) = record { higher = λ s s′ e. branch (isPlain s a && isPlain s b) (answer (propagate a b false)) pass (λ x i. answered-not i) (λ x i. stays i) e }
+alias-rises (a ∷ []) [] = record { higher = λ s s′ e. stays e }
+alias-rises (a ∷ []) (b ∷ c ∷ r) = record { higher = λ s s′ e. stays e }
+alias-rises [] r = record { higher = λ s s′ e. stays e }
+alias-rises (a ∷ c ∷ l) r = record { higher = λ s s′ e. stays e }
 
 -- the empty word may have been made
 pub empties-rises : (l r : List ℕ) → Rises (empties l r)
 unfolding empties
-empties-rises [] [] = record { higher = λ s s′ e. pass-rises e }
-empties-rises [] (a ∷ []) = record { higher = λ s s′ e. pass-rises e }
-empties-rises (x ∷ l) r = record { higher = λ s s′ e. pass-rises e }
-empties-rises [] (a ∷ b ∷ r) = record { higher = λ s s′ e. branch (all (isVariable s) (a ∷ b ∷ r)) found pass (λ x i. go s s′ i) (λ x i. pass-rises i) e }
+empties-rises [] [] = record { higher = λ s s′ e. stays e }
+empties-rises [] (a ∷ []) = record { higher = λ s s′ e. stays e }
+empties-rises (x ∷ l) r = record { higher = λ s s′ e. stays e }
+empties-rises [] (a ∷ b ∷ r) = record { higher = λ s s′ e. branch (all (isVariable s) (a ∷ b ∷ r)) found pass (λ x i. go s s′ i) (λ x i. stays i) e }
   where
     found : Tried
     found = makeConstant [] >>= (λ e s₁. emptiesAt e (firstOf (λ v. not (same s₁ v e)) (a ∷ b ∷ r)) s₁)
 
     at : (t : ℕ) (s s′ : Store) (o : Option ℕ) → emptiesAt t o s ≡ ok s′ none → Higher s s′
-    at t s s′ none e = pass-rises e
+    at t s s′ none e = stays e
     at t s s′ (some v) e = answered-not e
 
     go : (s s′ : Store) → found s ≡ ok s′ none → Higher s s′
@@ -222,22 +218,22 @@ empties-rises [] (a ∷ b ∷ r) = record { higher = λ s s′ e. branch (all (i
 
 pub assigns-rises : (l r : List ℕ) → Rises (assigns l r)
 unfolding assigns
-assigns-rises [] r = record { higher = λ s s′ e. pass-rises e }
-assigns-rises (a ∷ b ∷ l) r = record { higher = λ s s′ e. pass-rises e }
+assigns-rises [] r = record { higher = λ s s′ e. stays e }
+assigns-rises (a ∷ b ∷ l) r = record { higher = λ s s′ e. stays e }
 assigns-rises (a ∷ []) r = record {
   higher = λ s s′ e. branch (isVariable s a && fixed s r) (makeConstant (letters s r) >>= (λ w. answer (propagate a w false))) pass
-      (λ x i. via (λ w. answer (propagate a w false)) (makeConstant (letters s r) s) i (λ s₁ t p q. answered-not q)) (λ x i. pass-rises i) e;
+      (λ x i. via (λ w. answer (propagate a w false)) (makeConstant (letters s r) s) i (λ s₁ t p q. answered-not q)) (λ x i. stays i) e;
 }
 
 pub tile-rises : (l r : List ℕ) → Rises (tile l r)
 unfolding tile tileBy
-tile-rises l r = record { higher = λ s s′ e. branch (fixed s l) (tileBy s l r (variables s r)) pass (λ b i. go s s′ (variables s r) i) (λ b i. pass-rises i) e }
+tile-rises l r = record { higher = λ s s′ e. branch (fixed s l) (tileBy s l r (variables s r)) pass (λ b i. go s s′ (variables s r) i) (λ b i. stays i) e }
   where
     go : (s s′ : Store) (vs : List ℕ) → tileBy s l r vs s ≡ ok s′ none → Higher s s′
-    go s s′ [] e = pass-rises e
+    go s s′ [] e = stays e
     go s s′ (v ∷ vs) e =
         branch (all (λ u. same s u v) vs && not (fits s (letters s l) r (suc (length vs)))) (λ x. andThen (λ u. answer conflict) (explainAll vs v x)) pass
-        (λ b i. via (λ u. answer conflict) (explainAll vs v s) i (λ s₁ u p q. answered-not q)) (λ b i. pass-rises i) e
+        (λ b i. via (λ u. answer conflict) (explainAll vs v s) i (λ s₁ u p q. answered-not q)) (λ b i. stays i) e
 
 module _ (l r : List ℕ) where
   -- 2
