@@ -22,3 +22,6 @@ pub mod SidesTile
 pub mod SidesUnequal
 pub mod Later
 pub mod Propagating
+pub mod Orelse
+pub mod Propagated
+pub mod Choices
