@@ -2,23 +2,23 @@
 use mathlib.Core.Path.{_≡_, refl, sym, ap, _∙_}
 use mathlib.Core.Bool.{Bool, true, false, _&&_}
 use mathlib.Core.List.{List, [], _∷_}
-use mathlib.Core.Option.{Option, none, some}
-use Prim.Native.Nat.{ℕ, suc, _≤_, _<_}
+use mathlib.Core.Option.{none, some}
+use Prim.Native.Nat.{ℕ, _≤_}
 use native.Mathlib.Omega.{arith}
 use lib.ListN.{length, getD}
 use lib.Dec.{eqb, leb}
 use borrow.Author.Tests.{eqb-true, leb-true, le-leb}
 use Rattle.records.specs.declared.State.{State}
-use Rattle.records.specs.Lists.{if_then_else_, all}
-use Rattle.records.specs.Store.{Store, Out, ok, stop, Work, andThen, isVariable, isString}
+use Rattle.records.specs.Lists.{all}
+use Rattle.records.specs.Store.{Store, ok, andThen, isVariable, isString}
 use Rattle.records.specs.View.{Lent, storeOf}
 use Rattle.records.specs.Rules.{listLimit, isList}
 use Rattle.records.specs.Make.{makeConstant}
 use Rattle.records.proofs.Lists.{both-left, both-right, both-true}
 use Rattle.wordeq.specs.declared.StepResult.{StepResult}
 use Rattle.wordeq.specs.declared.StepResult.the-variants as step
-use Rattle.wordeq.specs.Wordeq.{Answer, propagate, Tried, answer, fixed, letters, isPlain, alias, empties, assigns, _orElse_}
-use Rattle.wordeq.specs.Results.{tried, Tries}
+use Rattle.wordeq.specs.Wordeq.{propagate, Tried, answer, fixed, letters, isPlain, alias, empties, assigns, _orElse_}
+use Rattle.wordeq.specs.Results.{Tries}
 use Rattle.wordeq.specs.Sides.{termed, spelled}
 use Rattle.wordeq.specs.Propagates.{aliased, emptied, assigned}
 use Rattle.wordeq.proofs.Orelse.{else-after, else-answer, else-made, else-none}

@@ -1,7 +1,7 @@
 -- Steps in sequence, where one that passes leaves the store to the next.
 use mathlib.Core.Path.{_≡_, refl, ap}
 use mathlib.Core.Option.{Option, none, some}
-use Rattle.records.specs.Store.{Store, Out, ok, stop, Work, andThen}
+use Rattle.records.specs.Store.{Store, Out, ok, stop, andThen}
 use Rattle.wordeq.specs.Wordeq.{Answer, Tried, answer, settled, _orElse_}
 
 module _ (a b : Tried) (s : Store) where

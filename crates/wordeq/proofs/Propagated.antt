@@ -13,28 +13,26 @@ use borrow.Author.Tests.{eqb-true, eq-eqb, ne-eqb, leb-true, le-leb, lt-leb}
 use Rattle.records.specs.declared.State.{State}
 use Rattle.records.specs.declared.Made.{Made}
 use Rattle.records.specs.declared.Made.the-variants.{Term, Refused}
-use Rattle.records.specs.Lists.{if_then_else_, all, firstOf, Every}
-use Rattle.records.specs.Store.{Store, Out, ok, stop, Work, andThen, within, kind, isVariable, isString}
+use Rattle.records.specs.Lists.{all, firstOf, Every}
+use Rattle.records.specs.Store.{Store, andThen, within, kind, isVariable, isString}
 use Rattle.records.specs.View.{Lent, storeOf}
-use Rattle.records.specs.Rules.{listLimit}
 use Rattle.records.specs.Make.{makeConstant}
 use Rattle.records.specs.Audited.{Ready}
 use Rattle.records.specs.Calls.{Working, made}
-use Rattle.records.proofs.Lists.{both-left, both-right, both-true, left-false, failed, passed, every-map, all-every}
+use Rattle.records.proofs.Lists.{both-left, both-right, left-false, failed, passed, every-map, all-every}
 use Rattle.records.proofs.Grown.{grown-string}
 use Rattle.records.proofs.Kept.{MadeIn, made-string}
 use Rattle.wordeq.specs.declared.StepResult.{StepResult}
 use Rattle.wordeq.specs.declared.StepResult.the-variants as step
-use Rattle.wordeq.specs.Wordeq.{Answer, propagate, Tried, answer, same, fixed, letters, isPlain, alias, empties, emptiesAt, assigns, _orElse_}
-use Rattle.wordeq.specs.Results.{BothLists, tried, Tries}
-use Rattle.wordeq.specs.Sides.{termed, spelled}
+use Rattle.wordeq.specs.Wordeq.{same, fixed, letters, isPlain, empties, emptiesAt, assigns}
+use Rattle.wordeq.specs.Results.{tried, Tries}
+use Rattle.wordeq.specs.Sides.{termed}
 use Rattle.wordeq.specs.Stripping.{readIn, Readable, Pair}
 use Rattle.wordeq.specs.Propagates.{aliased, emptied, assigned, linked}
 use Rattle.wordeq.proofs.Strips.{drop-head}
 use Rattle.wordeq.proofs.Sequence.{made-is, made-stops}
 use Rattle.wordeq.proofs.Splitting.{constant-in, empty-ready}
 use Rattle.wordeq.proofs.Propagating.{assigns-done, assigns-stop}
-use Rattle.wordeq.proofs.Orelse.{else-after, else-answer, else-made, else-none}
 
 -- THE TESTS
 

@@ -155,8 +155,7 @@ fn assigns_unchecked(
     }
 }
 
-// Step 4: a variable is propagated where one of the two sides leaves it no choice. Each way is tested on the store as it came, since
-// no way that passes is followed by one that applies.
+// Step 4. Where "" is made and no variable is left to propagate, no later way applies: so each is tested on the store as it came.
 pub(crate) fn propagate_unchecked(
     terms: &mut [u32],
     cells: &[u32],
