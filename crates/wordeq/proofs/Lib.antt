@@ -23,3 +23,6 @@ pub mod SidesUnequal
 pub mod Later
 pub mod Propagating
 pub mod Trying
+pub mod Orelse
+pub mod Propagated
+pub mod Choices
