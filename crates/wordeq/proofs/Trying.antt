@@ -14,7 +14,7 @@ use lib.IntN.{ℤ}
 use lib.Dec.{leb}
 use Rattle.records.specs.declared.State.{State}
 use Rattle.records.specs.Lists.{all, firstOf}
-use Rattle.records.specs.Store.{Store, Out, ok, stop, andThen, _>>=_, isString, isConstant, isVariable}
+use Rattle.records.specs.Store.{Store, Out, ok, andThen, _>>=_, isString, isConstant, isVariable}
 use Rattle.records.specs.View.{Lent, storeOf}
 use Rattle.records.specs.Rules.{isList, listLimit}
 use Rattle.records.specs.Make.{makeConstant}
@@ -30,6 +30,7 @@ use Rattle.wordeq.specs.declared.StepResult.the-variants as step
 use Rattle.wordeq.specs.Wordeq.{Answer, conflict, propagate, Tried, answer, pass, settled, _orElse_, same, fixed, letters, occurrence, occursAt, occurs, unequal, short, absent, constants, isPlain, alias, emptiesAt, empties, assigns, fits, explainAll, variables, tileBy, tile, clashes, splits, after}
 use Rattle.wordeq.specs.Results.{BothLists, tried, Tries}
 use Rattle.wordeq.proofs.StepResult.{the-type}
+use Rattle.wordeq.proofs.Orelse.{else-assoc}
 use Rattle.wordeq.proofs.Good.{Good, passes, Later, Step, step-else, step-flip}
 use Rattle.wordeq.proofs.Occurs.{occurs-step}
 use Rattle.wordeq.proofs.Constants.{constants-step, alias-step, empties-step, assigns-step}
@@ -40,12 +41,7 @@ use Rattle.wordeq.proofs.Sequence.{Higher, higher-none, higher-then, gr
 
 -- steps tried in order are grouped as one likes
 pub else-groups : (a b n : Tried) → (a orElse b) orElse n ≡ a orElse (b orElse n)
-else-groups a b n = fun-ext (λ s. go (a s))
-  where
-    go : (o : Out (Option Answer)) → andThen (settled n) (andThen (settled b) o) ≡ andThen (settled (b orElse n)) o
-    go (ok s none) = refl
-    go (ok s (some x)) = refl
-    go (stop k) = refl
+else-groups a b n = fun-ext (λ s. else-assoc a b s n)
 
 -- WHAT A STEP THAT PASSES LEAVES
 
