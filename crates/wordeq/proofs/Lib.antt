@@ -26,3 +26,5 @@ pub mod Trying
 pub mod Orelse
 pub mod Propagated
 pub mod Choices
+pub mod Elsewhere
+pub mod Lone

@@ -6,3 +6,4 @@ pub mod Splits
 pub mod Explaining
 pub mod Results
 pub mod Propagates
+pub mod Occurring
