@@ -22,3 +22,6 @@ pub mod SidesTile
 pub mod SidesUnequal
 pub mod Later
 pub mod Propagating
+pub mod LackingMarks
+pub mod LackingSides
+pub mod LackingTries
