@@ -28,3 +28,6 @@ pub mod Propagated
 pub mod Choices
 pub mod Elsewhere
 pub mod Lone
+pub mod LackingMarks
+pub mod LackingSides
+pub mod LackingTries

@@ -7,3 +7,4 @@ pub mod Explaining
 pub mod Results
 pub mod Propagates
 pub mod Occurring
+pub mod Lacking

@@ -2,6 +2,7 @@
 pub mod equal_lists;
 pub mod explaining;
 mod occurring;
+mod lacking;
 pub mod propagate;
 mod sides;
 pub mod splits;
