@@ -3,6 +3,7 @@ pub mod equal_lists;
 pub mod explaining;
 pub mod propagate;
 mod sides;
+mod spans;
 pub mod splits;
 pub mod stripping;
 
