@@ -31,3 +31,5 @@ pub mod Lone
 pub mod LackingMarks
 pub mod LackingSides
 pub mod LackingTries
+pub mod Fitting
+pub mod TileSides

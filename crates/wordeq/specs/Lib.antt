@@ -8,3 +8,4 @@ pub mod Results
 pub mod Propagates
 pub mod Occurring
 pub mod Lacking
+pub mod Spans

@@ -5,6 +5,7 @@ mod occurring;
 mod lacking;
 pub mod propagate;
 mod sides;
+mod spans;
 pub mod splits;
 pub mod stripping;
 
