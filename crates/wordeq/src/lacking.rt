@@ -1,7 +1,6 @@
 // Step 3: the constant characters of two sides against each other. Constants share the store's characters, so each place is marked at most
 // once for each atom, and each character is looked for at most once: a side has up to 1,024 times 16,384 characters.
 ghost use mathlib.Core.Path.{_≡_};
-ghost use mathlib.Core.Bool.{_||_};
 ghost use mathlib.Core.List.{[], _∷_};
 ghost use Prim.Native.Nat.{ℕ, _+_, _<_, _≤_};
 ghost use lib.ListN.{length, getD};

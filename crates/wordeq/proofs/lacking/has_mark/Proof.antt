@@ -1,5 +1,4 @@
 use Rattle.wordeq.proofs.LackingMarks.{mark-none, mark-is}
-use mathlib.Core.Path.{refl}
 use native.Mathlib.Omega.{arith}
 use borrow.Author.Needs.{needs}
 use Rattle.wordeq.proofs.lacking.has_mark.Statement.{statement}

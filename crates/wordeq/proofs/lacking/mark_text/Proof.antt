@@ -1,8 +1,5 @@
 use Rattle.wordeq.proofs.LackingMarks.{Marks, marks-none, marks-one, marks-done}
-use Rattle.wordeq.specs.Lacking.{marked}
-use native.Mathlib.Nat.{le-antisymm}
-use mathlib.Core.Path.{_≡_, ap, _∙_, sym}
-use Prim.Native.Nat.{_-_, _≤_}
+use Prim.Native.Nat.{_-_}
 use native.Mathlib.Omega.{arith}
 use borrow.Author.Needs.{needs}
 use Rattle.wordeq.proofs.lacking.mark_text.Statement.{statement}
