@@ -1,7 +1,7 @@
 -- Places of the characters that are marked, and the characters that stand there.
 use mathlib.Core.Path.{_≡_, refl, sym, ap, _∙_}
-use mathlib.Core.Bool.{Bool, true, false, not, _&&_, _||_}
-use mathlib.Core.List.{List, [], _∷_, _++_}
+use mathlib.Core.Bool.{Bool, true, false, not, _||_}
+use mathlib.Core.List.{List, [], _∷_}
 use mathlib.Core.Logic.{_⊎_, ⊎-elim}
 use Prim.Native.Nat.{ℕ, zero, suc, _+_, _<_, _≤_}
 use native.Mathlib.Nat.{le-antisymm, eq-or-lt-of-le, le-of-suc-le-suc, not-suc-le-zero}
@@ -12,9 +12,9 @@ use lib.Seq.{getD-set-same, getD-set-other}
 use lib.Dec.{eqb}
 use borrow.Author.Tests.{eqb-true, eq-eqb, ne-eqb}
 use Rattle.records.specs.Lists.{if_then_else_, any, table, isIn}
-use Rattle.records.specs.View.{charLimit, span}
-use Rattle.records.proofs.Lists.{any-append, any-stays, any-stop, or-left, or-right, or-none, decide}
-use Rattle.wordeq.specs.Lacking.{hasMark, seen, marked, Marked, Lacking}
+use Rattle.records.specs.View.{span}
+use Rattle.records.proofs.Lists.{any-append, any-stays, any-stop, or-right, or-none, decide}
+use Rattle.wordeq.specs.Lacking.{hasMark, seen, marked}
 
 -- ONE PLACE
 

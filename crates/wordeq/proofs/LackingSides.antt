@@ -1,20 +1,20 @@
 -- The constant characters of a side marked, and those of another side looked for among them.
 use mathlib.Core.Path.{_≡_, refl, sym, ap, _∙_}
-use mathlib.Core.Bool.{Bool, true, false, not, _&&_, _||_}
+use mathlib.Core.Bool.{Bool, true, false, not, _||_}
 use mathlib.Core.List.{List, [], _∷_, _++_}
 use Prim.Native.Nat.{ℕ, zero, suc, _+_, _*_, _<_, _≤_}
 use native.Mathlib.Numerals.{add-one}
 use native.Mathlib.Omega.{arith}
 use lib.ListN.{length, getD, set, drop, replicate, length-set}
 use lib.Dec.{eqb}
-use borrow.Author.Tests.{eq-eqb, not-true, not-false}
+use borrow.Author.Tests.{eq-eqb, not-false}
 use Rattle.records.specs.declared.State.{State}
-use Rattle.records.specs.Lists.{if_then_else_, any, table, isIn}
-use Rattle.records.specs.Store.{Store, Term, kind, term, isConstant, text}
-use Rattle.records.specs.View.{charLimit, span, termAt}
+use Rattle.records.specs.Lists.{any, isIn}
+use Rattle.records.specs.Store.{Store, Term, kind, term, text}
+use Rattle.records.specs.View.{charLimit, span}
 use Rattle.records.proofs.Lists.{any-append, any-turn, any-stop, any-done, any-zero, or-left, or-none, and-stop, and-next, failed, passed, clash}
 use Rattle.wordeq.specs.Wordeq.{fixed, lettersOf, letters, absent}
-use Rattle.wordeq.specs.Sides.{termed, spelled, Texts, Spelled}
+use Rattle.wordeq.specs.Sides.{termed, spelled, Texts}
 use Rattle.wordeq.specs.Lacking.{seen, marked, Marked, Lacking}
 use Rattle.wordeq.proofs.SidesLetters.{term-there, letters-other, letters-at, letters-end}
 use Rattle.wordeq.proofs.SidesTexts.{text-words}

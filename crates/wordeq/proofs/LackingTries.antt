@@ -1,14 +1,12 @@
 -- Step 3 as the code tries it.
-use mathlib.Core.Path.{_≡_, refl, sym, ap, _∙_}
-use mathlib.Core.Bool.{Bool, true, false, _||_}
-use mathlib.Core.List.{List, [], _∷_}
+use mathlib.Core.Path.{_≡_, refl, sym, _∙_}
+use mathlib.Core.Bool.{Bool, true, false}
+use mathlib.Core.List.{List, []}
 use Prim.Native.Nat.{ℕ, _≤_}
 use lib.ListN.{length}
 use lib.Dec.{leb}
 use borrow.Author.Tests.{leb-true}
 use Rattle.records.specs.declared.State.{State}
-use Rattle.records.specs.Lists.{if_then_else_}
-use Rattle.records.specs.Store.{Store}
 use Rattle.records.specs.View.{Lent, lent, storeOf}
 use Rattle.records.specs.Rules.{listLimit, isList}
 use Rattle.records.specs.Audited.{Ready}

@@ -1,7 +1,7 @@
 -- Working definitions of step 3's 'a constant character absent from a constant side': constants share the store's characters, so a side's
 -- characters are marked by their places.
 use mathlib.Core.Path.{_≡_}
-use mathlib.Core.Bool.{Bool, true, false, not, _||_}
+use mathlib.Core.Bool.{Bool, false, not, _||_}
 use mathlib.Core.List.{List}
 use Prim.Native.Nat.{ℕ, zero, suc, _+_}
 use lib.ListN.{length, getD, set}

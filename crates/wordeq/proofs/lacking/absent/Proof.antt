@@ -2,7 +2,6 @@ use mathlib.Core.Path.{_∙_}
 use Prim.Native.Nat.{ℕ}
 use lib.ListN.{length-replicate}
 use Rattle.wordeq.proofs.LackingSides.{absent-not, absent-is}
-use native.Mathlib.Omega.{arith}
 use borrow.Author.Needs.{needs}
 use Rattle.wordeq.proofs.lacking.absent.Statement.{statement}
 use Rattle.wordeq.proofs.lacking.absent.Tie as tie

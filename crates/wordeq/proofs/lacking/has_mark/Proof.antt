@@ -1,29 +1,20 @@
 use Rattle.wordeq.proofs.LackingMarks.{mark-none, mark-is}
-use mathlib.Core.Path.{refl}
-use native.Mathlib.Omega.{arith}
 use borrow.Author.Needs.{needs}
 use Rattle.wordeq.proofs.lacking.has_mark.Statement.{statement}
 use Rattle.wordeq.proofs.lacking.has_mark.Tie as tie
-use Rattle.wordeq.proofs.lacking.has_mark.Reads as reads
-use Rattle.wordeq.proofs.lacking.has_mark.Lts as lts
 
--- src/lacking.rt:22:8
 element-copy-out-if1 : tie.Need-element-copy-out-if1
 element-copy-out-if1 c = search needs
 
--- src/lacking.rt:23:9
 returns : tie.Need-returns
 returns c = mark-none _ _ _ _ (c .if1 .taken)
 
--- src/lacking.rt:25:10
 mul-result : tie.Need-mul-result
 mul-result c = search needs
 
--- src/lacking.rt:25:10
 shared-slice-read-result : tie.Need-shared-slice-read-result
 shared-slice-read-result c = search needs
 
--- src/lacking.rt:18:1
 returns-2 : tie.Need-returns-2
 returns-2 c = mark-is _ _ _ _ (c .before .if1 .left)
 

@@ -1,33 +1,23 @@
 use Rattle.wordeq.proofs.LackingMarks.{seen-here}
-use native.Mathlib.Omega.{arith}
 use borrow.Author.Needs.{needs}
 use Rattle.wordeq.proofs.lacking.is_known.Statement.{statement}
 use Rattle.wordeq.proofs.lacking.is_known.Tie as tie
-use Rattle.wordeq.proofs.lacking.is_known.Reads as reads
-use Rattle.wordeq.proofs.lacking.is_known.Lts as lts
-use Rattle.wordeq.proofs.lacking.is_seen.Reads as is-seen-reads
 
--- src/lacking.rt:48:8
 element-copy-out-if1 : tie.Need-element-copy-out-if1
 element-copy-out-if1 c = search needs
 
--- src/lacking.rt:49:9
 returns : tie.Need-returns
 returns c = seen-here _ _ _ (c .before .before .before .args .i) (c .before .before .before .pre .2) (c .if1 .taken)
 
--- src/lacking.rt:51:30
 mul-is-seen : tie.Need-mul-is-seen
 mul-is-seen c = search needs
 
--- src/lacking.rt:51:30
 shared-slice-read-is-seen : tie.Need-shared-slice-read-is-seen
 shared-slice-read-is-seen c = search needs
 
--- src/lacking.rt:51:5
 is-seen-requires : tie.Need-is-seen-requires
 is-seen-requires c κs = search needs
 
--- src/lacking.rt:44:1
 returns-2 : tie.Need-returns-2
 returns-2 c = search needs
 

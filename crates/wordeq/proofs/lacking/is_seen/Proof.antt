@@ -1,12 +1,8 @@
 use Rattle.wordeq.proofs.LackingMarks.{Unseen, unseen-none, unseen-stop, unseen-one, unseen-done}
 use Prim.Native.Nat.{_-_}
-use native.Mathlib.Omega.{arith}
 use borrow.Author.Needs.{needs}
 use Rattle.wordeq.proofs.lacking.is_seen.Statement.{statement}
 use Rattle.wordeq.proofs.lacking.is_seen.Tie as tie
-use Rattle.wordeq.proofs.lacking.is_seen.Reads as reads
-use Rattle.wordeq.proofs.lacking.is_seen.Lts as lts
-use Rattle.wordeq.proofs.lacking.has_mark.Reads as has-mark-reads
 
 abbrev Inv-loop : tie.InvT-loop
 Inv-loop chars table n x i₀ i = Unseen chars table n x i
@@ -14,31 +10,24 @@ Inv-loop chars table n x i₀ i = Unseen chars table n x i
 abbrev μ-loop : tie.MeasureT-loop
 μ-loop chars table n x i₀ i = n - i
 
--- src/lacking.rt:34:5
 loop-holds : tie.Need-loop-holds Inv-loop μ-loop
 loop-holds c = unseen-none _ _ _ _
 
--- src/lacking.rt:35:12
 has-mark-requires : tie.Need-has-mark-requires Inv-loop μ-loop
 has-mark-requires c κs = search needs
 
--- src/lacking.rt:36:13
 returns : tie.Need-returns Inv-loop μ-loop
 returns c = unseen-stop _ _ _ _ _ (c .before .before .before .loop .inv) _ (c .before .has-mark .ensures) (c .before .before .loop-test .taken) (c .if1 .taken)
 
--- src/lacking.rt:38:9
 add-i : tie.Need-add-i Inv-loop μ-loop
 add-i c = search needs
 
--- src/lacking.rt:34:5
 loop-less : tie.Need-loop-less Inv-loop μ-loop
 loop-less c = search needs
 
--- src/lacking.rt:34:5
 loop-again : tie.Need-loop-again Inv-loop μ-loop
 loop-again c = unseen-one _ _ _ _ _ (c .before .before .before .loop .inv) _ (c .before .has-mark .ensures) (c .before .before .loop-test .taken) (c .if1 .left)
 
--- src/lacking.rt:29:1
 returns-2 : tie.Need-returns-2 Inv-loop μ-loop
 returns-2 c = unseen-done _ _ _ _ _ (c .before .loop .inv) (c .loop-test .left)
 

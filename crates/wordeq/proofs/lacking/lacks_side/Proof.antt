@@ -3,13 +3,9 @@ use Rattle.wordeq.specs.Sides.{spelled}
 use lib.ListN.{length}
 use mathlib.Core.Path.{_∙_}
 use Prim.Native.Nat.{_-_}
-use native.Mathlib.Omega.{arith}
 use borrow.Author.Needs.{needs}
 use Rattle.wordeq.proofs.lacking.lacks_side.Statement.{statement}
 use Rattle.wordeq.proofs.lacking.lacks_side.Tie as tie
-use Rattle.wordeq.proofs.lacking.lacks_side.Reads as reads
-use Rattle.wordeq.proofs.lacking.lacks_side.Lts as lts
-use Rattle.wordeq.proofs.lacking.lacks_atom.Reads as lacks-atom-reads
 
 abbrev Inv-loop : tie.InvT-loop
 Inv-loop terms chars c l table₀ i₀ table i = Found (spelled terms chars c) chars (c .chars) l table₀ table i
@@ -17,39 +13,30 @@ Inv-loop terms chars c l table₀ i₀ table i = Found (spelled terms chars c) c
 abbrev μ-loop : tie.MeasureT-loop
 μ-loop terms chars c l table₀ i₀ table i = length l - i
 
--- src/lacking.rt:129:5
 loop-holds : tie.Need-loop-holds Inv-loop μ-loop
 loop-holds c = found-none _ _ _ _ _
 
--- src/lacking.rt:130:40
 mul-lacks-atom : tie.Need-mul-lacks-atom Inv-loop μ-loop
 mul-lacks-atom c = search needs
 
--- src/lacking.rt:130:40
 shared-slice-read-lacks-atom : tie.Need-shared-slice-read-lacks-atom Inv-loop μ-loop
 shared-slice-read-lacks-atom c = search needs
 
--- src/lacking.rt:130:12
 lacks-atom-requires : tie.Need-lacks-atom-requires Inv-loop μ-loop
 lacks-atom-requires c κs = (c .before .before .before .before .before .before .before .pre .0, c .before .before .before .loop .inv .size ∙ c .before .before .before .before .before .before .before .pre .1)
 
--- src/lacking.rt:131:13
 returns : tie.Need-returns Inv-loop μ-loop
 returns c = found-stop _ _ _ _ _ _ _ (c .before .before .before .before .before .loop .inv) _ _ (c .before .before .before .before .loop-test .taken) (c .before .lacks-atom .ensures) (c .if1 .taken)
 
--- src/lacking.rt:133:9
 add-i : tie.Need-add-i Inv-loop μ-loop
 add-i c = search needs
 
--- src/lacking.rt:129:5
 loop-less : tie.Need-loop-less Inv-loop μ-loop
 loop-less c = search needs
 
--- src/lacking.rt:129:5
 loop-again : tie.Need-loop-again Inv-loop μ-loop
 loop-again c = found-one _ _ _ _ _ _ _ (c .before .before .before .before .before .loop .inv) _ _ (c .before .before .before .before .loop-test .taken) (c .before .lacks-atom .ensures) (c .if1 .left)
 
--- src/lacking.rt:122:1
 returns-2 : tie.Need-returns-2 Inv-loop μ-loop
 returns-2 c = found-done _ _ _ _ _ _ _ (c .before .loop .inv) (c .loop-test .left)
 

@@ -1,45 +1,29 @@
 use Rattle.wordeq.proofs.LackingSides.{mark-atom-none, mark-atom-is, text-limit}
-use native.Mathlib.Omega.{arith}
 use borrow.Author.Needs.{needs}
 use Rattle.wordeq.proofs.lacking.mark_atom.Statement.{statement}
 use Rattle.wordeq.proofs.lacking.mark_atom.Tie as tie
-use Rattle.wordeq.proofs.lacking.mark_atom.Reads as reads
-use Rattle.wordeq.proofs.lacking.mark_atom.Lts as lts
-use Rattle.records.proofs.fields.first.Reads as first-reads
-use Rattle.records.proofs.fields.second.Reads as second-reads
-use Rattle.records.proofs.fields.wide.Reads as wide-reads
-use Rattle.records.proofs.rules.kind_of.Reads as kind-of-reads
-use Rattle.wordeq.proofs.lacking.mark_text.Reads as mark-text-reads
 
--- src/lacking.rt:71:8
 kind-of-requires : tie.Need-kind-of-requires
 kind-of-requires c κs = search needs
 
--- src/lacking.rt:72:9
 returns : tie.Need-returns
 returns c = mark-atom-none (c .before .before .before .args .terms .now) (c .before .before .before .args .c) (c .before .before .before .args .a) _ (c .before .before .before .pre .0) (c .before .kind-of .ensures) (c .if1 .taken) _
 
--- src/lacking.rt:74:26
 first-requires : tie.Need-first-requires
 first-requires c κs = search needs
 
--- src/lacking.rt:74:9
 wide-requires : tie.Need-wide-requires
 wide-requires c κs = search needs
 
--- src/lacking.rt:75:26
 second-requires : tie.Need-second-requires
 second-requires c κs = search needs
 
--- src/lacking.rt:75:9
 wide-requires-2 : tie.Need-wide-requires-2
 wide-requires-2 c κs = search needs
 
--- src/lacking.rt:76:5
 mark-text-requires : tie.Need-mark-text-requires
 mark-text-requires c κs = text-limit (c .before .before .before .before .before .before .before .before .args .terms .now) (c .before .before .before .before .before .before .before .before .args .c) (c .before .before .before .before .before .before .before .before .args .a) _ (c .before .before .before .before .before .before .before .before .pre .0) (c .before .before .before .before .before .before .kind-of .ensures) (c .before .before .before .before .before .if1 .left) _ _ _ _ (c .before .before .before .before .first .ensures) (c .before .before .before .wide .ensures) (c .before .before .second .ensures) (c .before .wide2 .ensures)
 
--- src/lacking.rt:67:1
 returns-2 : tie.Need-returns-2
 returns-2 c = mark-atom-is (c .before .before .before .before .before .before .before .before .before .args .terms .now) (c .before .before .before .before .before .before .before .before .before .args .c) (c .before .before .before .before .before .before .before .before .before .args .a) _ (c .before .before .before .before .before .before .before .before .before .pre .0) (c .before .before .before .before .before .before .before .kind-of .ensures) (c .before .before .before .before .before .before .if1 .left) _ _ _ _ (c .before .before .before .before .before .first .ensures) (c .before .before .before .before .wide .ensures) (c .before .before .before .second .ensures) (c .before .before .wide2 .ensures) _ _ (c .before .before .before .before .before .before .before .before .before .pre .1) (c .mark-text .ensures)
 

@@ -2,13 +2,9 @@ use Rattle.wordeq.proofs.LackingSides.{Marking, marking-none, marking-o
 use lib.ListN.{length}
 use mathlib.Core.Path.{_∙_}
 use Prim.Native.Nat.{_-_}
-use native.Mathlib.Omega.{arith}
 use borrow.Author.Needs.{needs}
 use Rattle.wordeq.proofs.lacking.mark_side.Statement.{statement}
 use Rattle.wordeq.proofs.lacking.mark_side.Tie as tie
-use Rattle.wordeq.proofs.lacking.mark_side.Reads as reads
-use Rattle.wordeq.proofs.lacking.mark_side.Lts as lts
-use Rattle.wordeq.proofs.lacking.mark_atom.Reads as mark-atom-reads
 
 abbrev Inv-loop : tie.InvT-loop
 Inv-loop terms c l table₀ i₀ table i = Marking terms c l table₀ table i
@@ -16,35 +12,27 @@ Inv-loop terms c l table₀ i₀ table i = Marking terms c l table₀ table i
 abbrev μ-loop : tie.MeasureT-loop
 μ-loop terms c l table₀ i₀ table i = length l - i
 
--- src/lacking.rt:84:5
 loop-holds : tie.Need-loop-holds Inv-loop μ-loop
 loop-holds c = marking-none _ _ _ _
 
--- src/lacking.rt:85:29
 mul-mark-atom : tie.Need-mul-mark-atom Inv-loop μ-loop
 mul-mark-atom c = search needs
 
--- src/lacking.rt:85:29
 shared-slice-read-mark-atom : tie.Need-shared-slice-read-mark-atom Inv-loop μ-loop
 shared-slice-read-mark-atom c = search needs
 
--- src/lacking.rt:85:9
 mark-atom-requires : tie.Need-mark-atom-requires Inv-loop μ-loop
 mark-atom-requires c κs = (c .before .before .before .before .before .before .pre .0, c .before .before .before .loop .inv .size ∙ c .before .before .before .before .before .before .pre .1)
 
--- src/lacking.rt:86:9
 add-i : tie.Need-add-i Inv-loop μ-loop
 add-i c = search needs
 
--- src/lacking.rt:84:5
 loop-less : tie.Need-loop-less Inv-loop μ-loop
 loop-less c = search needs
 
--- src/lacking.rt:84:5
 loop-again : tie.Need-loop-again Inv-loop μ-loop
 loop-again c = marking-one _ _ _ _ _ _ (c .before .before .before .before .loop .inv) _ (c .before .before .before .loop-test .taken) (c .mark-atom .ensures)
 
--- src/lacking.rt:79:1
 returns : tie.Need-returns Inv-loop μ-loop
 returns c = marking-done _ _ _ _ _ _ (c .before .loop .inv) (c .loop-test .left)
 
