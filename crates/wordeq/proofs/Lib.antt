@@ -22,3 +22,4 @@ pub mod SidesTile
 pub mod SidesUnequal
 pub mod Later
 pub mod Propagating
+pub mod SplitHeads

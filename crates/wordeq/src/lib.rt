@@ -1,6 +1,7 @@
 // Word equations, steps 1 to 8.
 pub mod equal_lists;
 pub mod explaining;
+mod heads;
 pub mod propagate;
 mod sides;
 pub mod splits;
