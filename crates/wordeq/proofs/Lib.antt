@@ -33,3 +33,4 @@ pub mod LackingSides
 pub mod LackingTries
 pub mod Fitting
 pub mod TileSides
+pub mod SplitHeads

@@ -9,3 +9,4 @@ pub mod Propagates
 pub mod Occurring
 pub mod Lacking
 pub mod Spans
+pub mod Heads

@@ -3,6 +3,7 @@ pub mod equal_lists;
 pub mod explaining;
 mod occurring;
 mod lacking;
+mod heads;
 pub mod propagate;
 mod sides;
 mod spans;
