@@ -1,13 +1,14 @@
 // Word equations, steps 1 to 8.
 pub mod equal_lists;
 pub mod explaining;
-mod occurring;
-mod lacking;
 mod heads;
+mod lacking;
+mod occurring;
 pub mod propagate;
 mod sides;
 mod spans;
 pub mod splits;
+mod stepping;
 pub mod stripping;
 
 // The answer, with the new counts. A single step that finds nothing says Done, and the next one is tried.
