@@ -22,3 +22,5 @@ pub mod SidesTile
 pub mod SidesUnequal
 pub mod Later
 pub mod Propagating
+pub mod Pairs
+pub mod EqualCalls

@@ -5,3 +5,4 @@ pub mod Sides
 pub mod Splits
 pub mod Explaining
 pub mod Results
+pub mod Calls
