@@ -24,3 +24,5 @@ pub mod Later
 pub mod Propagating
 pub mod Pairs
 pub mod EqualCalls
+pub mod Flattening
+pub mod ResolveCalls

@@ -6,3 +6,4 @@ pub mod Splits
 pub mod Explaining
 pub mod Results
 pub mod Calls
+pub mod Resolving

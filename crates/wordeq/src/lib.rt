@@ -3,7 +3,7 @@ ghost use mathlib.Core.Path.{_≡_};
 ghost use mathlib.Core.List.{[]};
 ghost use Rattle.records.specs.View.{lent, storeOf};
 ghost use Rattle.records.specs.Calls.{Public, call, added};
-ghost use Rattle.wordeq.specs.Wordeq.{nfArguments};
+ghost use Rattle.wordeq.specs.Wordeq.{isGuard, resolveArguments, nfArguments};
 ghost use Rattle.wordeq.specs.Calls.{equalArguments, equalLists, compared, PublicEqualExplain};
 use records::Added;
 use records::State;
@@ -12,6 +12,7 @@ use records::rules;
 pub mod equal_lists;
 pub mod explaining;
 pub mod propagate;
+mod resolving;
 mod sides;
 pub mod splits;
 pub mod stripping;
@@ -104,4 +105,27 @@ pub fn nf_equal_explain(
         return Added::Refused(5);
     }
     equal_lists::nf_equal_explain_unchecked(terms, cells, chars, reasons, keys, c, lhs, rhs)
+}
+
+// A guard can be negated and is no 0.
+pub fn is_guard(g: i32) -> bool
+    ensures { λ r. ⌜ r ≡ isGuard g ⌝ }
+{
+    if g == 0 {
+        return false;
+    }
+    if g == -2147483648 {
+        return false;
+    }
+    true
+}
+
+// Two lists of string terms, and a guard.
+fn can_resolve(terms: &[u32], c: State, lhs: &[u32], rhs: &[u32], guard: i32) -> bool
+    ensures { λ r. ⌜ r ≡ resolveArguments (now (lhs .entry)) (now (rhs .entry)) guard (storeOf (lent (now (terms .entry)) [] [] [] []) c) ⌝ }
+{
+    if !are_lists(terms, c, lhs, rhs) {
+        return false;
+    }
+    is_guard(guard)
 }
