@@ -26,3 +26,15 @@ pub mod Pairs
 pub mod EqualCalls
 pub mod Flattening
 pub mod ResolveCalls
+pub mod Trying
+pub mod Orelse
+pub mod Propagated
+pub mod Choices
+pub mod Elsewhere
+pub mod Lone
+pub mod LackingMarks
+pub mod LackingSides
+pub mod LackingTries
+pub mod Fitting
+pub mod TileSides
+pub mod SplitHeads

@@ -7,3 +7,8 @@ pub mod Explaining
 pub mod Results
 pub mod Calls
 pub mod Resolving
+pub mod Propagates
+pub mod Occurring
+pub mod Lacking
+pub mod Spans
+pub mod Heads

@@ -11,9 +11,13 @@ use records::rules;
 
 pub mod equal_lists;
 pub mod explaining;
+mod occurring;
+mod lacking;
+mod heads;
 pub mod propagate;
 mod resolving;
 mod sides;
+mod spans;
 pub mod splits;
 pub mod stripping;
 
