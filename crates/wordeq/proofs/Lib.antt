@@ -38,3 +38,4 @@ pub mod LackingTries
 pub mod Fitting
 pub mod TileSides
 pub mod SplitHeads
+pub mod Steps

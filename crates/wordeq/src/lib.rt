@@ -11,14 +11,15 @@ use records::rules;
 
 pub mod equal_lists;
 pub mod explaining;
-mod occurring;
-mod lacking;
 mod heads;
+mod lacking;
+mod occurring;
 pub mod propagate;
 mod resolving;
 mod sides;
 mod spans;
 pub mod splits;
+mod stepping;
 pub mod stripping;
 
 // The answer, with the new counts. A single step that finds nothing says Done, and the next one is tried.
