@@ -4,8 +4,10 @@ ghost use mathlib.Core.List.{[]};
 ghost use Rattle.records.specs.View.{lent, storeOf};
 ghost use Rattle.records.specs.Calls.{Public, call, added};
 ghost use Rattle.wordeq.specs.Wordeq.{isGuard, resolveArguments, nfArguments};
-ghost use Rattle.wordeq.specs.Calls.{equalArguments, equalLists, compared, PublicEqualExplain};
+ghost use Rattle.wordeq.specs.Results.{resolved};
+ghost use Rattle.wordeq.specs.Calls.{equalArguments, equalLists, compared, PublicEqualExplain, PublicResolve};
 use records::Added;
+use records::LIST_LIMIT;
 use records::State;
 use records::rules;
 
@@ -15,7 +17,7 @@ mod heads;
 mod lacking;
 mod occurring;
 pub mod propagate;
-mod resolving;
+pub mod resolving;
 mod sides;
 mod spans;
 pub mod splits;
@@ -133,4 +135,32 @@ fn can_resolve(terms: &[u32], c: State, lhs: &[u32], rhs: &[u32], guard: i32) ->
         return false;
     }
     is_guard(guard)
+}
+
+// The word equation between two lists; a Split's atoms are the first words of `list`.
+pub fn resolve_equation<'a>(
+    terms: &mut [u32],
+    cells: &mut [u32],
+    chars: &mut [u32],
+    reasons: &mut [u32],
+    keys: &mut [u32],
+    c: State,
+    lhs: &'a [u32],
+    rhs: &'a [u32],
+    guard: i32,
+    list: &mut [u32],
+) -> StepResult
+    ensures { λ o. ⌜ PublicResolve (now (lhs .entry)) (now (rhs .entry)) guard (lent (now (terms .entry)) (now (cells .entry)) (now (chars .entry)) (now (reasons .entry)) (now (keys .entry))) (lent (now (terms .exit)) (now (cells .exit)) (now (chars .exit)) (now (reasons .exit)) (now (keys .exit))) (now (list .entry)) (now (list .exit)) c (resolved o (lent (now (terms .exit)) (now (cells .exit)) (now (chars .exit)) (now (reasons .exit)) (now (keys .exit))) (now (list .exit))) ⌝ }
+{
+    if list.len() < LIST_LIMIT {
+        return StepResult::Refused(1);
+    }
+    let k = records::audit(terms, cells, chars, reasons, keys, c);
+    if k != 0 {
+        return StepResult::Refused(k);
+    }
+    if !can_resolve(terms, c, lhs, rhs, guard) {
+        return StepResult::Refused(5);
+    }
+    resolving::resolve_unchecked(terms, cells, chars, reasons, keys, c, lhs, rhs, guard, list)
 }
