@@ -22,6 +22,10 @@ pub mod SidesTile
 pub mod SidesUnequal
 pub mod Later
 pub mod Propagating
+pub mod Pairs
+pub mod EqualCalls
+pub mod Flattening
+pub mod ResolveCalls
 pub mod Trying
 pub mod Orelse
 pub mod Propagated
