@@ -1,0 +1,5 @@
+pub mod Listings
+pub mod Decoding
+pub mod Numbering
+pub mod Guards
+pub mod Parsing

@@ -1,0 +1,5 @@
+pub mod Texts
+pub mod Utf8
+pub mod Commands
+pub mod CommandCases
+pub mod Readings
