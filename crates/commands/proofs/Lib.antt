@@ -3,3 +3,4 @@ pub mod Decoding
 pub mod Numbering
 pub mod Guards
 pub mod Parsing
+pub mod Printing

@@ -3,3 +3,5 @@ pub mod Utf8
 pub mod Commands
 pub mod CommandCases
 pub mod Readings
+pub mod Answers
+pub mod AnswerCases

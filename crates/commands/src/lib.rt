@@ -1,6 +1,7 @@
 // The lines of the program `labelstep`: a line to a command, an answer to its printed line, and the joining of two classes.
 pub mod numbers;
 pub mod parse;
+pub mod print;
 pub mod utf8;
 
 // The longest line that is a command, in bytes.
