@@ -4,3 +4,4 @@ pub mod Numbering
 pub mod Guards
 pub mod Parsing
 pub mod Printing
+pub mod Joining

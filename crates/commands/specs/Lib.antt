@@ -5,3 +5,4 @@ pub mod CommandCases
 pub mod Readings
 pub mod Answers
 pub mod AnswerCases
+pub mod Merge

@@ -1,4 +1,5 @@
 // The lines of the program `labelstep`: a line to a command, an answer to its printed line, and the joining of two classes.
+pub mod merge;
 pub mod numbers;
 pub mod parse;
 pub mod print;
