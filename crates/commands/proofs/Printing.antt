@@ -7,7 +7,8 @@ use native.Mathlib.Numerals.{add-one}
 use native.Mathlib.Nat.{le-antisymm}
 use native.Mathlib.Omega.{arith}
 use lib.ListN.{length, take, getD, set, length-set}
-use lib.Seq.{sets, sets-eq, take-suc, take-suc-set, take-all}
+use Rattle.records.proofs.Naming.{decimal-length}
+use lib.Seq.{length-take-le, sets, sets-eq, take-suc, take-suc-set, take-all}
 use borrow.Author.Tests.{eq-eqb, ne-eqb, le-ltb}
 use Rattle.records.specs.Make.{decimalBy}
 use Rattle.records.specs.Puts.{Written}
@@ -18,25 +19,32 @@ use mir.Syntax.{w32, w64}
 use mir.Val.{Fits, SFits, toZ, ofZ, bits}
 use mir.ValLaws.{toZ-pos}
 use mir.Facts.{toZ-ofZ}
-use Rattle.commands.specs.Answers.{numberText, reasonLetter, reasonText, isBelow, guardText, answerName}
+use Rattle.commands.specs.Answers.{numberText, reasonLetter, reasonText, isBelow, guardText, answerName, Piece}
 
-pub number-put : (l l′ : List ℕ) (x r : ℕ) → 24 ≤ length l → Written (set l 0 32) l′ 1 (decimalBy 20 x) r → Written l l′ 0 (numberText x) r
+piece : (l w : List ℕ) (r : ℕ) → take r l ≡ w → r ≤ length l → Piece l w r
+piece l w r e h = record { text = e; within = h; whole = sym (length-take-le r l h) }
+
+pub number-put : (l l′ : List ℕ) (x r : ℕ) → 24 ≤ length l → length l′ ≡ length (set l 0 32) → Written (set l 0 32) l′ 1 (decimalBy 20 x) r → Piece l′ (numberText x) r
 unfolding numberText
-number-put l l′ x r h w =
+number-put l l′ x r h g w =
     let a = w .after in
-    record { after = omega arith; words = w .words ∙ ap (λ (v : List ℕ). v ++ decimalBy 20 x) (take-suc-set l 0 32 (omega arith)) }
+    let b = length-set l 0 32 in
+    let d = decimal-length 20 x in
+    piece l′ (32 ∷ decimalBy 20 x) r (w .words ∙ ap (λ (v : List ℕ). v ++ decimalBy 20 x) (take-suc-set l 0 32 (omega arith))) (omega arith)
 
 reason-start : (l : List ℕ) (a : ℕ) → 2 ≤ length l → take 2 (sets l 0 (32 ∷ a ∷ [])) ≡ 32 ∷ a ∷ []
 reason-start l a h = rw (sets-eq (32 ∷ a ∷ []) l 0 h)
 
-pub reason-put : (l l′ : List ℕ) (k n a r : ℕ) → 24 ≤ length l → a ≡ reasonLetter k → Written (set (set l 0 32) 1 a) l′ 2 (decimalBy 20 n) r → Written l l′ 0 (reasonText (k, n)) r
+pub reason-put : (l l′ : List ℕ) (k n a r : ℕ) → 24 ≤ length l → length l′ ≡ length (set (set l 0 32) 1 a) → a ≡ reasonLetter k → Written (set (set l 0 32) 1 a) l′ 2 (decimalBy 20 n) r
+    → Piece l′ (reasonText (k, n)) r
 unfolding reasonText
-reason-put l l′ k n a r h e w =
+reason-put l l′ k n a r h g e w =
     let b = w .after in
-    record {
-      after = omega arith;
-      words = w .words ∙ ap (λ (v : List ℕ). v ++ decimalBy 20 n) (reason-start l a (omega arith)) ∙ ap (λ (x : ℕ). 32 ∷ x ∷ decimalBy 20 n) e;
-    }
+    let c : length (set (set l 0 32) 1 a) ≡ length l = length-set (set l 0 32) 1 a ∙ length-set l 0 32 in
+    let d = decimal-length 20 n in
+    piece l′ (32 ∷ reasonLetter k ∷ decimalBy 20 n) r
+    (w .words ∙ ap (λ (v : List ℕ). v ++ decimalBy 20 n) (reason-start l a (omega arith)) ∙ ap (λ (x : ℕ). 32 ∷ x ∷ decimalBy 20 n) e)
+    (omega arith)
 
 pub letter-asserted : (k : ℕ) → k ≡ 1 → 97 ≡ reasonLetter k
 letter-asserted k e = rw e
@@ -63,10 +71,11 @@ copying-one l l′ w i f h b =
       words = rw (add-one i) (take-suc-set l′ i (getD w i 0) (omega arith) ∙ ap (λ (v : List ℕ). v ++ (getD w i 0 ∷ [])) (f .words) ∙ sym (take-suc w i 0 h));
     }
 
-pub copying-all : (l l′ w : List ℕ) (i : ℕ) → Copying l l′ w i → length w ≤ i → Written l l′ 0 w i
-copying-all l l′ w i f h =
+pub copying-all : (l l′ w : List ℕ) (i : ℕ) → Copying l l′ w i → length w ≤ i → length w ≤ length l → Piece l′ w i
+copying-all l l′ w i f h b =
     let a = f .within in
-    record { after = omega arith; words = f .words ∙ take-all i w h }
+    let g = f .long in
+    piece l′ w i (f .words ∙ take-all i w h) (omega arith)
 
 -- A GUARD
 
@@ -81,34 +90,38 @@ guard-high (pos n) e = refl
 guard-high (negsuc n) e = let z : _≡_ {A = ℕ} 0 1 = cc in absurd (omega arith)
 
 module _ (l l′ : List ℕ) (g : ℤ) (x r : ℕ) (h : 24 ≤ length l) (q : x ≡ natAbs g) (b : Bool) (i : b ≡ isBelow g) where
-  pub guard-below : b ≡ true → Written (set (set l 0 32) 1 45) l′ 2 (decimalBy 20 x) r → Written l l′ 0 (guardText g) r
-  guard-below e w =
+  pub guard-below : b ≡ true → length l′ ≡ length (set (set l 0 32) 1 45) → Written (set (set l 0 32) 1 45) l′ 2 (decimalBy 20 x) r → Piece l′ (guardText g) r
+  guard-below e k w =
+      let c : length (set (set l 0 32) 1 45) ≡ length l = length-set (set l 0 32) 1 45 ∙ length-set l 0 32 in
       let a = rw q at w in
       let p = a .after in
+      let d = decimal-length 20 (natAbs g) in
       rw (guard-low g (sym i ∙ e))
-      (record { after = omega arith; words = a .words ∙ ap (λ (v : List ℕ). v ++ decimalBy 20 (natAbs g)) (reason-start l 45 (omega arith)) })
+      (piece l′ (32 ∷ 45 ∷ decimalBy 20 (natAbs g)) r (a .words ∙ ap (λ (v : List ℕ). v ++ decimalBy 20 (natAbs g)) (reason-start l 45 (omega arith))) (omega arith))
 
-  pub guard-above : b ≡ false → Written (set l 0 32) l′ 1 (decimalBy 20 x) r → Written l l′ 0 (guardText g) r
-  guard-above e w =
+  pub guard-above : b ≡ false → length l′ ≡ length (set l 0 32) → Written (set l 0 32) l′ 1 (decimalBy 20 x) r → Piece l′ (guardText g) r
+  guard-above e k w =
+      let c = length-set l 0 32 in
       let a = rw q at w in
       let p = a .after in
+      let d = decimal-length 20 (natAbs g) in
       rw (guard-high g (sym i ∙ e))
-      (record { after = omega arith; words = a .words ∙ ap (λ (v : List ℕ). v ++ decimalBy 20 (natAbs g)) (take-suc-set l 0 32 (omega arith)) })
+      (piece l′ (32 ∷ decimalBy 20 (natAbs g)) r (a .words ∙ ap (λ (v : List ℕ). v ++ decimalBy 20 (natAbs g)) (take-suc-set l 0 32 (omega arith))) (omega arith))
 
 -- THE WORD OF AN ANSWER
 
-pub other-name : (l l′ : List ℕ) (k r : ℕ) → (k ≡ 0 → ⊥) → (k ≡ 1 → ⊥) → (k ≡ 2 → ⊥) → (k ≡ 3 → ⊥) → (k ≡ 4 → ⊥) → (k ≡ 5 → ⊥) → (k ≡ 6 → ⊥)
-    → Written l l′ 0 (98 ∷ 97 ∷ 100 ∷ []) r → Written l l′ 0 (answerName k) r
-other-name l l′ k r a b c d e f g w =
+pub other-name : (l : List ℕ) (k r : ℕ) → (k ≡ 0 → ⊥) → (k ≡ 1 → ⊥) → (k ≡ 2 → ⊥) → (k ≡ 3 → ⊥) → (k ≡ 4 → ⊥) → (k ≡ 5 → ⊥) → (k ≡ 6 → ⊥)
+    → Piece l (98 ∷ 97 ∷ 100 ∷ []) r → Piece l (answerName k) r
+other-name l k r a b c d e f g w =
     rw (ne-eqb k 0 a, answerName) (rw (ne-eqb k 1 b) (rw (ne-eqb k 2 c) (rw (ne-eqb k 3 d) (rw (ne-eqb k 4 e) (rw (ne-eqb k 5 f) (rw (ne-eqb k 6 g) w))))))
 
-pub name-is : (l l′ : List ℕ) (k j r : ℕ) → k ≡ j → Written l l′ 0 (answerName j) r → Written l l′ 0 (answerName k) r
-name-is l l′ k j r e w = rw e w
+pub name-is : (l : List ℕ) (k j r : ℕ) → k ≡ j → Piece l (answerName j) r → Piece l (answerName k) r
+name-is l k j r e w = rw e w
 
 -- A GUARD AS BITS
 
-pub guard-same : (l l′ : List ℕ) (r : ℕ) (g : ℤ) → SFits w32 g → Written l l′ 0 (guardText (toZ w32 (ofZ w32 g))) r → Written l l′ 0 (guardText g) r
-guard-same l l′ r g f w = rw (toZ-ofZ f) at w
+pub guard-same : (l : List ℕ) (r : ℕ) (g : ℤ) → SFits w32 g → Piece l (guardText (toZ w32 (ofZ w32 g))) r → Piece l (guardText g) r
+guard-same l r g f w = rw (toZ-ofZ f) at w
 
 pub below-test : (g : ℤ) → SFits w32 g → ltZ (toZ w32 (ofZ w32 g)) (toZ w32 0) ≡ isBelow g
 below-test g f = rw (toZ-ofZ f) (go g)

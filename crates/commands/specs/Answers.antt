@@ -1,8 +1,9 @@
 -- Document 01, 'Program `labelstep`': the printed line of each answer.
+use mathlib.Core.Path.{_≡_}
 use mathlib.Core.Bool.{Bool, true, false}
 use mathlib.Core.List.{List, [], _∷_, _++_}
-use Prim.Native.Nat.{ℕ, suc}
-use lib.ListN.{length}
+use Prim.Native.Nat.{ℕ, suc, _≤_}
+use lib.ListN.{length, take}
 use lib.Dec.{eqb}
 use lib.IntN.{ℤ, pos, negsuc}
 use Rattle.records.specs.Lists.{if_then_else_, joined}
@@ -102,3 +103,9 @@ nameNumber (bad n) = 7
 -- a line, with its end
 unfoldable pub line : Answer → List ℕ
 line a = answerName (nameNumber a) ++ rest a ++ (10 ∷ [])
+
+-- w is the first r bytes of a buffer
+pub record Piece (l w : List ℕ) (r : ℕ) : Type 0 where
+  pub text : take r l ≡ w
+  pub within : r ≤ length l
+  pub whole : r ≡ length (take r l)

@@ -5,7 +5,7 @@ ghost use lib.ListN.{length};
 ghost use Rattle.records.specs.Puts.{Written};
 ghost use Rattle.records.specs.Make.{decimalBy};
 ghost use lib.IntN.{natAbs};
-ghost use Rattle.commands.specs.Answers.{numberText, reasonLetter, reasonText, isBelow, guardText, answerName};
+ghost use Rattle.commands.specs.Answers.{numberText, reasonLetter, reasonText, isBelow, guardText, answerName, Piece};
 
 // The number x in decimal from place `at` on, n digits at most: the higher digits first, then the last. Answers the place after it.
 fn put_digits(out: &mut [u8], at: usize, n: usize, x: u64) -> usize
@@ -26,7 +26,7 @@ fn put_digits(out: &mut [u8], at: usize, n: usize, x: u64) -> usize
 
 fn number_into(out: &mut [u8], x: u64) -> usize
     requires { ⌜ 24 ≤ length (now out) ⌝ }
-    ensures { λ r. ⌜ Written (now (out .entry)) (now (out .exit)) 0 (numberText x) r ⌝ }
+    ensures { λ r. ⌜ Piece (now (out .exit)) (numberText x) r ⌝ }
 {
     out[0] = 32;
     put_digits(out, 1, 20, x)
@@ -34,7 +34,7 @@ fn number_into(out: &mut [u8], x: u64) -> usize
 
 // A number after a space.
 pub fn put_number(out: &mut [u8; 24], x: u64) -> usize
-    ensures { λ r. ⌜ Written (now (out .entry)) (now (out .exit)) 0 (numberText x) r ⌝ }
+    ensures { λ r. ⌜ Piece (now (out .exit)) (numberText x) r ⌝ }
 {
     number_into(out, x)
 }
@@ -50,7 +50,7 @@ fn reason_letter(kind: u32) -> u8
 
 fn reason_into(out: &mut [u8], kind: u32, number: u32) -> usize
     requires { ⌜ 24 ≤ length (now out) ⌝ }
-    ensures { λ r. ⌜ Written (now (out .entry)) (now (out .exit)) 0 (reasonText (kind, number)) r ⌝ }
+    ensures { λ r. ⌜ Piece (now (out .exit)) (reasonText (kind, number)) r ⌝ }
 {
     out[0] = 32;
     out[1] = reason_letter(kind);
@@ -59,7 +59,7 @@ fn reason_into(out: &mut [u8], kind: u32, number: u32) -> usize
 
 // A reason after a space.
 pub fn put_reason(out: &mut [u8; 24], kind: u32, number: u32) -> usize
-    ensures { λ r. ⌜ Written (now (out .entry)) (now (out .exit)) 0 (reasonText (kind, number)) r ⌝ }
+    ensures { λ r. ⌜ Piece (now (out .exit)) (reasonText (kind, number)) r ⌝ }
 {
     reason_into(out, kind, number)
 }
@@ -82,7 +82,7 @@ fn size_of(g: i32) -> u64
 
 fn guard_into(out: &mut [u8], g: i32) -> usize
     requires { ⌜ 24 ≤ length (now out) ⌝ }
-    ensures { λ r. ⌜ Written (now (out .entry)) (now (out .exit)) 0 (guardText g) r ⌝ }
+    ensures { λ r. ⌜ Piece (now (out .exit)) (guardText g) r ⌝ }
 {
     out[0] = 32;
     if is_below(g) {
@@ -94,14 +94,14 @@ fn guard_into(out: &mut [u8], g: i32) -> usize
 
 // A guard after a space.
 pub fn put_guard(out: &mut [u8; 24], g: i32) -> usize
-    ensures { λ r. ⌜ Written (now (out .entry)) (now (out .exit)) 0 (guardText g) r ⌝ }
+    ensures { λ r. ⌜ Piece (now (out .exit)) (guardText g) r ⌝ }
 {
     guard_into(out, g)
 }
 
 fn put_bytes(out: &mut [u8], w: &[u8]) -> usize
     requires { ⌜ length (now w) ≤ length (now out) ⌝ }
-    ensures { λ r. ⌜ Written (now (out .entry)) (now (out .exit)) 0 (now (w .entry)) r ⌝ }
+    ensures { λ r. ⌜ Piece (now (out .exit)) (now (w .entry)) r ⌝ }
 {
     let mut i: usize = 0;
     while i < w.len() {
@@ -113,7 +113,7 @@ fn put_bytes(out: &mut [u8], w: &[u8]) -> usize
 
 // The word of an answer: 0 done, 1 saturated, 2 conflict, 3 propagate, 4 split, 5 unexpanded, 6 refused, and any other bad.
 pub fn put_name(out: &mut [u8; 24], k: u32) -> usize
-    ensures { λ r. ⌜ Written (now (out .entry)) (now (out .exit)) 0 (answerName k) r ⌝ }
+    ensures { λ r. ⌜ Piece (now (out .exit)) (answerName k) r ⌝ }
 {
     match k {
         0 => put_bytes(out, b"done"),

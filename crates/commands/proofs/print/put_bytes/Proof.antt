@@ -27,4 +27,4 @@ put-bytes-spec =
     (λ c. search needs)
     (λ c. copying-one _ _ _ _ (c .before .before .loop .inv) (c .before .loop-test .taken) (c .before .before .before .pre))
     (λ c. c .before .loop .inv .long)
-    (λ c. copying-all _ _ _ _ (c .before .loop .inv) (c .loop-test .left)))
+    (λ c. copying-all _ _ _ _ (c .before .loop .inv) (c .loop-test .left) (c .before .before .pre)))

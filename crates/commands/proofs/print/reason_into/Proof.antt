@@ -19,4 +19,4 @@ reason-into-spec =
     (λ c. simp length-set (omega arith))
     (λ c κs. simp length-set (omega arith))
     (λ c. c .before .before .put-digits .kept .0 ∙ simp length-set)
-    (λ c. reason-put (c .before .before .before .before .before .before .args .out .now) _ (c .before .before .before .before .before .before .args .kind) (c .before .before .before .before .before .before .args .number) _ _ (c .before .before .before .before .before .before .pre) (c .before .before .before .before .reason-letter .ensures) (c .before .before .put-digits .ensures)))
+    (λ c. reason-put (c .before .before .before .before .before .before .args .out .now) _ (c .before .before .before .before .before .before .args .kind) (c .before .before .before .before .before .before .args .number) _ _ (c .before .before .before .before .before .before .pre) (c .before .before .put-digits .kept .0) (c .before .before .before .before .reason-letter .ensures) (c .before .before .put-digits .ensures)))
