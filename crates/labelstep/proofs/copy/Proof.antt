@@ -1,0 +1,29 @@
+use Prim.Native.Nat.{_≤_, _-_}
+use native.Mathlib.Omega.{arith}
+use borrow.Author.Needs.{needs}
+use Rattle.labelstep.proofs.copy.Statement.{statement}
+use Rattle.labelstep.proofs.copy.Tie as tie
+use Rattle.labelstep.proofs.copy.Reads as reads
+use Rattle.labelstep.proofs.copy.Lts as lts
+use Rattle.records.proofs.fields.word.Reads as word-reads
+
+abbrev Inv-loop : tie.InvT-loop
+Inv-loop from to₀ i₀ to i = i ≤ 1024
+
+abbrev μ-loop : tie.MeasureT-loop
+μ-loop from to₀ i₀ to i = 1024 - i
+
+pub copy-spec : {M : Type 1} → statement M
+copy-spec =
+    tie.close
+    (tie.spec
+    Inv-loop
+    μ-loop
+    (λ c. search needs)
+    (λ c κs. search needs)
+    (λ c. search needs)
+    (λ c. search needs)
+    (λ c. search needs)
+    (λ c. search needs)
+    (λ c. search needs)
+    (λ c. search needs))
