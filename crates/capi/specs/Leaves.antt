@@ -1,13 +1,17 @@
 -- Definitions that only private contracts cite: how an answer is put into words.
 use mathlib.Core.Path.{_≡_}
-use mathlib.Core.List.{List, _∷_}
+use mathlib.Core.List.{List, [], _∷_, _++_}
 use Prim.Native.Nat.{ℕ, _<_}
-use lib.ListN.{drop, set}
+use lib.ListN.{length, drop, set}
 use Rattle.records.specs.declared.State.{State}
 use Rattle.records.specs.declared.Made.{Made}
 use Rattle.records.specs.declared.Made.the-variants.{Term, Refused}
 use Rattle.records.specs.declared.Added.{Added}
 use Rattle.records.specs.declared.Added.the-variants as adding
+use Rattle.normalize.specs.declared.Form.{Form}
+use Rattle.normalize.specs.declared.Form.the-variants as form
+use Rattle.normalize.specs.declared.DeepForm.{DeepForm}
+use Rattle.normalize.specs.declared.DeepForm.the-variants as deep
 
 -- the state's six words written back
 abbrev pub written : State → List ℕ → List ℕ
@@ -51,3 +55,42 @@ addedState (adding.Refused k) w = w
 pub record ToldCounts (w w′ : List ℕ) (r : Added) (k : ℕ) : Type 0 where
   pub code : k ≡ addedCode r
   pub state : w′ ≡ addedState r w
+
+-- An answer of several cases: the counts and the answer's first words, or the refusal.
+pub data Telling : Type 0 where
+  tells : State → List ℕ → Telling
+  refuses : ℕ → Telling
+
+abbrev pub numberOf : Telling → ℕ
+numberOf (tells c v) = 0
+numberOf (refuses k) = k
+
+abbrev pub stateWith : Telling → List ℕ → List ℕ
+stateWith (tells c v) w = written c w
+stateWith (refuses k) w = w
+
+abbrev pub answerWith : Telling → List ℕ → List ℕ
+answerWith (tells c v) a = v ++ drop (length v) a
+answerWith (refuses k) a = a
+
+pub record ToldWords (w w′ a a′ : List ℕ) (r : Telling) (k : ℕ) : Type 0 where
+  pub code : k ≡ numberOf r
+  pub state : w′ ≡ stateWith r w
+  pub answer : a′ ≡ answerWith r a
+
+pub record ToldBy {R : Type 0} (f : R → Telling) (w w′ a a′ : List ℕ) (r : R) (k : ℕ) : Type 0 where
+  pub is : ToldWords w w′ a a′ (f r) k
+
+-- counts that a word holds, with the count of a list
+pub record NarrowList (n : ℕ) (c : State) : Type 0 where
+  pub counts : Narrow c
+  pub list : n < 4294967296
+
+abbrev pub formTelling : Form → Telling
+formTelling (form.List n c) = tells c (1 ∷ n ∷ [])
+formTelling (form.Refused k) = refuses k
+
+abbrev pub deepTelling : DeepForm → Telling
+deepTelling (deep.List n c) = tells c (1 ∷ n ∷ [])
+deepTelling (deep.None c) = tells c (0 ∷ 0 ∷ [])
+deepTelling (deep.Refused k) = refuses k

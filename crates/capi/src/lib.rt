@@ -1,6 +1,7 @@
 // The C interface: each call of the store over lent words, the state in six words of its own. A slice is a pointer and a length.
 ghost use mathlib.Core.Path.{_≡_};
 ghost use mathlib.Core.Bool.{true, _&&_};
+ghost use mathlib.Core.List.{[], _∷_};
 ghost use Prim.Native.Nat.{ℕ, _≤_};
 ghost use lib.Dec.{leb};
 ghost use lib.ListN.{length, getD};
@@ -14,9 +15,14 @@ ghost use Rattle.records.specs.Make.{makeConstant, makeVariable, makeConcat, ma
 ghost use Rattle.records.specs.Calls.{call};
 ghost use Rattle.records.specs.declared.Added.the-variants as adding;
 ghost use Rattle.engine.specs.Explain.{find, findArguments};
+ghost use Rattle.normalize.specs.declared.Form.the-variants as form;
+ghost use Rattle.normalize.specs.declared.DeepForm.the-variants as deep;
 ghost use Rattle.capi.specs.Interface.{stateOf, roomy, audited, over, Exported, ExportedExplain};
-ghost use Rattle.capi.specs.Leaves.{written, Narrow, Told, ToldCounts};
+ghost use Rattle.capi.specs.Forms.{ExportedForm, ExportedDeepForm};
+ghost use Rattle.capi.specs.Leaves.{written, Narrow, NarrowList, Told, ToldCounts, tells, ToldWords, ToldBy, formTelling, deepTelling};
 use engine::Found;
+use normalize::DeepForm;
+use normalize::Form;
 use records::Added;
 use records::Made;
 use records::State;
@@ -86,6 +92,40 @@ fn tell_counts(state: &mut [u32], added: Added) -> u32
             0
         }
         Added::Refused(k) => k,
+    }
+}
+
+// The counts into the state's words, and an answer of two words.
+fn tell_two(state: &mut [u32], answer: &mut [u32], c: State, x: u32, y: u32) -> u32
+    requires { ⌜ (roomy (now state) (now answer) ≡ true) × Narrow c ⌝ }
+    ensures { λ r. ⌜ ToldWords (now (state .entry)) (now (state .exit)) (now (answer .entry)) (now (answer .exit)) (tells c (x ∷ y ∷ [])) r ⌝ }
+{
+    write_state(state, c);
+    answer[0] = x;
+    answer[1] = y;
+    0
+}
+
+// A normal form's answer into the words.
+fn tell_form(state: &mut [u32], answer: &mut [u32], made: Form) -> u32
+    requires { ⌜ (roomy (now state) (now answer) ≡ true) × ((n : ℕ) (c : State) → made ≡ form.List n c → NarrowList n c) ⌝ }
+    ensures { λ r. ⌜ ToldBy formTelling (now (state .entry)) (now (state .exit)) (now (answer .entry)) (now (answer .exit)) made r ⌝ }
+{
+    match made {
+        Form::List(n, c) => tell_two(state, answer, c, 1, n as u32),
+        Form::Refused(k) => k,
+    }
+}
+
+// A deep form's answer into the words.
+fn tell_deep_form(state: &mut [u32], answer: &mut [u32], made: DeepForm) -> u32
+    requires { ⌜ (roomy (now state) (now answer) ≡ true) × ((n : ℕ) (c : State) → made ≡ deep.List n c → NarrowList n c) × ((c : State) → made ≡ deep.None c → Narrow c) ⌝ }
+    ensures { λ r. ⌜ ToldBy deepTelling (now (state .entry)) (now (state .exit)) (now (answer .entry)) (now (answer .exit)) made r ⌝ }
+{
+    match made {
+        DeepForm::List(n, c) => tell_two(state, answer, c, 1, n as u32),
+        DeepForm::None(c) => tell_two(state, answer, c, 0, 0),
+        DeepForm::Refused(k) => k,
     }
 }
 
@@ -258,4 +298,60 @@ pub extern "C" fn labels_explain(
     let c = state_of(state);
     let added = engine::explain(terms, cells, chars, reasons, keys, c, a, b);
     tell_counts(state, added)
+}
+
+#[no_mangle]
+pub extern "C" fn labels_normal_form(
+    state: &mut [u32],
+    terms: &mut [u32],
+    cells: &[u32],
+    chars: &mut [u32],
+    reasons: &mut [u32],
+    keys: &[u32],
+    known: &[u32],
+    t: u32,
+    list: &mut [u32],
+    answer: &mut [u32],
+) -> u32
+    ensures { λ r. ⌜ ExportedForm (now (known .entry)) t (lent (now (terms .entry)) (now (cells .entry)) (now (chars .entry)) (now (reasons .entry)) (now (keys .entry))) (lent (now (terms .exit)) (now (cells .entry)) (now (chars .exit)) (now (reasons .exit)) (now (keys .entry))) (now (list .entry)) (now (list .exit)) (now (state .entry)) (now (state .exit)) (now (answer .entry)) (now (answer .exit)) r ⌝ }
+{
+    if !is_roomy(state, answer) {
+        return 1;
+    }
+    let c = state_of(state);
+    let made = normalize::normal_form_cited(terms, cells, chars, reasons, keys, c, known, t, list);
+    tell_form(state, answer, made)
+}
+
+#[no_mangle]
+pub extern "C" fn labels_deep_normal_form(
+    state: &mut [u32],
+    terms: &mut [u32],
+    cells: &[u32],
+    chars: &mut [u32],
+    reasons: &mut [u32],
+    keys: &[u32],
+    known: &[u32],
+    t: u32,
+    list: &mut [u32],
+    answer: &mut [u32],
+) -> u32
+    ensures { λ r. ⌜ ExportedDeepForm (now (known .entry)) t (lent (now (terms .entry)) (now (cells .entry)) (now (chars .entry)) (now (reasons .entry)) (now (keys .entry))) (lent (now (terms .exit)) (now (cells .entry)) (now (chars .exit)) (now (reasons .exit)) (now (keys .entry))) (now (list .entry)) (now (list .exit)) (now (state .entry)) (now (state .exit)) (now (answer .entry)) (now (answer .exit)) r ⌝ }
+{
+    if !is_roomy(state, answer) {
+        return 1;
+    }
+    let c = state_of(state);
+    let made = normalize::deep_normal_form_cited(
+        terms,
+        cells,
+        chars,
+        reasons,
+        keys,
+        c,
+        known,
+        t,
+        list,
+    );
+    tell_deep_form(state, answer, made)
 }
