@@ -46,7 +46,7 @@ of-class s a b e = go (eqb a b || (isConstant s a && isConstant s b && sameWord 
     go true e = clash refl e
     go false e = not-false _ e
 
-pair-ends : (a b : ℕ) (s : Store) → Audited s → isString s a ≡ true → isString s b ≡ true → Ends (λ s′ u. Cited (λ w. same s a b ≡ true → w a ≡ w b) s s′) (explainPair a b s)
+pub pair-ends : (a b : ℕ) (s : Store) → Audited s → isString s a ≡ true → isString s b ≡ true → Ends (λ s′ u. Cited (λ w. same s a b ≡ true → w a ≡ w b) s s′) (explainPair a b s)
 unfolding explainPair
 pair-ends a b s d p q =
     ends-if (skips s a b) _ _

@@ -35,10 +35,10 @@ pub record Higher (s s′ : Store) : Type 0 where
   pub reasons : length (s .reasons) ≤ length (s′ .reasons)
   pub keys : length (s .keys) ≤ length (s′ .keys)
 
-higher-none : (s : Store) → Higher s s
+pub higher-none : (s : Store) → Higher s s
 higher-none s = record { terms = omega arith; cells = omega arith; chars = omega arith; reasons = omega arith; keys = omega arith }
 
-higher-then : {s s₁ s₂ : Store} → Higher s s₁ → Higher s₁ s₂ → Higher s s₂
+pub higher-then : {s s₁ s₂ : Store} → Higher s s₁ → Higher s₁ s₂ → Higher s s₂
 higher-then p q =
     let a = p .terms in let b = p .cells in let c = p .chars in let d = p .reasons in let e = p .keys in
     let a₁ = q .terms in let b₁ = q .cells in let c₁ = q .chars in let d₁ = q .reasons in let e₁ = q .keys in

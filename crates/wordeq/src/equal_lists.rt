@@ -1,12 +1,16 @@
 // Two lists compared atom by atom.
 ghost use mathlib.Core.Path.{_≡_};
-ghost use mathlib.Core.Bool.{true};
+ghost use mathlib.Core.Bool.{true, _&&_};
 ghost use lib.ListN.{length};
-ghost use Rattle.records.specs.Lists.{all};
-ghost use Rattle.records.specs.Store.{isString};
-ghost use Rattle.wordeq.specs.Wordeq.{nfEqual};
-ghost use Rattle.wordeq.specs.Stripping.{readIn, Readable};
+ghost use Rattle.records.specs.Lists.{all, sameWord};
+ghost use Rattle.records.specs.Store.{isConstant, isString, text};
+ghost use Rattle.records.specs.View.{lent};
+ghost use Rattle.records.specs.Audited.{Ready};
+ghost use Rattle.records.specs.Calls.{Working, added};
+ghost use Rattle.wordeq.specs.Wordeq.{nfEqual, explainPair, nfExplain};
+ghost use Rattle.wordeq.specs.Stripping.{readIn, Readable, Pair};
 use crate::stripping;
+use records::Added;
 use records::State;
 
 // Whether two lists of string terms are atom by atom the same.
@@ -25,4 +29,71 @@ pub fn nf_equal_unchecked(terms: &[u32], chars: &[u32], c: State, lhs: &[u32], r
         i += 1;
     }
     true
+}
+
+// Whether they are two constants of equal characters.
+fn is_alike(terms: &[u32], chars: &[u32], c: State, a: u32, b: u32) -> bool
+    requires { ⌜ Readable (now terms) (now chars) c ⌝ }
+    ensures { λ r. ⌜ r ≡ (isConstant (readIn (now (terms .entry)) (now (chars .entry)) c) a && isConstant (readIn (now (terms .entry)) (now (chars .entry)) c) b && sameWord (text (readIn (now (terms .entry)) (now (chars .entry)) c) a) (text (readIn (now (terms .entry)) (now (chars .entry)) c) b)) ⌝ }
+{
+    if !stripping::both_constant(terms, c.terms, a, b) {
+        return false;
+    }
+    stripping::same_text(terms, chars, c, a, b)
+}
+
+// The reasons why two string terms of one class are equal: none for one number or for constants of equal characters.
+fn explain_pair(
+    terms: &[u32],
+    cells: &[u32],
+    chars: &[u32],
+    reasons: &mut [u32],
+    keys: &[u32],
+    c: State,
+    a: u32,
+    b: u32,
+) -> Added
+    requires { ⌜ Ready (lent (now terms) (now cells) (now chars) (now reasons) (now keys)) c ⌝ ∗ ⌜ Pair (readIn (now terms) (now chars) c) a b ⌝ }
+    ensures { λ r. ⌜ Working (explainPair a b) (lent (now (terms .entry)) (now (cells .entry)) (now (chars .entry)) (now (reasons .entry)) (now (keys .entry))) (lent (now (terms .entry)) (now (cells .entry)) (now (chars .entry)) (now (reasons .exit)) (now (keys .entry))) c (added r (lent (now (terms .entry)) (now (cells .entry)) (now (chars .entry)) (now (reasons .exit)) (now (keys .entry)))) ⌝ }
+{
+    if a == b {
+        return Added::Counts(c);
+    }
+    if is_alike(terms, chars, c, a, b) {
+        return Added::Counts(c);
+    }
+    if !stripping::same_class(terms, chars, c, a, b) {
+        return Added::Counts(c);
+    }
+    engine::explain_unchecked(terms, cells, chars, reasons, keys, c, a, b)
+}
+
+// The reasons why two lists of equal length are equal, pair by pair.
+pub fn nf_equal_explain_unchecked(
+    terms: &[u32],
+    cells: &[u32],
+    chars: &[u32],
+    reasons: &mut [u32],
+    keys: &[u32],
+    c: State,
+    lhs: &[u32],
+    rhs: &[u32],
+) -> Added
+    requires { ⌜ Ready (lent (now terms) (now cells) (now chars) (now reasons) (now keys)) c ⌝ ∗ ⌜ all (isString (readIn (now terms) (now chars) c)) (now lhs) ≡ true ⌝ ∗ ⌜ all (isString (readIn (now terms) (now chars) c)) (now rhs) ≡ true ⌝ ∗ ⌜ length (now lhs) ≡ length (now rhs) ⌝ }
+    ensures { λ r. ⌜ Working (nfExplain (now (lhs .entry)) (now (rhs .entry))) (lent (now (terms .entry)) (now (cells .entry)) (now (chars .entry)) (now (reasons .entry)) (now (keys .entry))) (lent (now (terms .entry)) (now (cells .entry)) (now (chars .entry)) (now (reasons .exit)) (now (keys .entry))) c (added r (lent (now (terms .entry)) (now (cells .entry)) (now (chars .entry)) (now (reasons .exit)) (now (keys .entry)))) ⌝ }
+{
+    let mut d = c;
+    let mut i: usize = 0;
+    while i < lhs.len() {
+        match explain_pair(terms, cells, chars, reasons, keys, d, lhs[i], rhs[i]) {
+            Added::Counts(e) => {
+                d = e;
+            }
+            Added::Refused(k) => {
+                return Added::Refused(k);
+            }
+        }
+        i += 1;
+    }
+    Added::Counts(d)
 }

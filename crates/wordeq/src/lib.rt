@@ -1,9 +1,27 @@
 // Word equations, steps 1 to 8.
+ghost use mathlib.Core.Path.{_≡_};
+ghost use mathlib.Core.List.{[]};
+ghost use Rattle.records.specs.View.{lent, storeOf};
+ghost use Rattle.records.specs.Calls.{Public, call, added};
+ghost use Rattle.wordeq.specs.Wordeq.{isGuard, resolveArguments, nfArguments};
+ghost use Rattle.wordeq.specs.Results.{resolved};
+ghost use Rattle.wordeq.specs.Calls.{equalArguments, equalLists, compared, PublicEqualExplain, PublicResolve};
+use records::Added;
+use records::LIST_LIMIT;
+use records::State;
+use records::rules;
+
 pub mod equal_lists;
 pub mod explaining;
+mod heads;
+mod lacking;
+mod occurring;
 pub mod propagate;
+pub mod resolving;
 mod sides;
+mod spans;
 pub mod splits;
+mod stepping;
 pub mod stripping;
 
 // The answer, with the new counts. A single step that finds nothing says Done, and the next one is tried.
@@ -22,4 +40,127 @@ pub enum StepResult {
 pub enum Stripped {
     Parts(records::State, usize, usize, usize),
     Refused(u32),
+}
+
+// Whether two lists are equal, or the refusal.
+pub enum Equality {
+    Is(bool),
+    Refused(u32),
+}
+
+// Two lists of string terms, at most 1,024 each.
+fn are_lists(terms: &[u32], c: State, lhs: &[u32], rhs: &[u32]) -> bool
+    ensures { λ r. ⌜ r ≡ equalArguments (now (lhs .entry)) (now (rhs .entry)) (storeOf (lent (now (terms .entry)) [] [] [] []) c) ⌝ }
+{
+    if !rules::is_list(terms, c, lhs) {
+        return false;
+    }
+    rules::is_list(terms, c, rhs)
+}
+
+// Two such lists of equal length.
+fn can_pair(terms: &[u32], c: State, lhs: &[u32], rhs: &[u32]) -> bool
+    ensures { λ r. ⌜ r ≡ nfArguments (now (lhs .entry)) (now (rhs .entry)) (storeOf (lent (now (terms .entry)) [] [] [] []) c) ⌝ }
+{
+    if !are_lists(terms, c, lhs, rhs) {
+        return false;
+    }
+    lhs.len() == rhs.len()
+}
+
+// Whether two lists are atom by atom the same.
+pub fn nf_equal(
+    terms: &[u32],
+    cells: &[u32],
+    chars: &[u32],
+    reasons: &[u32],
+    keys: &[u32],
+    c: State,
+    lhs: &[u32],
+    rhs: &[u32],
+) -> Equality
+    ensures { λ r. ⌜ Public (call (equalArguments (now (lhs .entry)) (now (rhs .entry))) (equalLists (now (lhs .entry)) (now (rhs .entry))) (lent (now (terms .entry)) (now (cells .entry)) (now (chars .entry)) (now (reasons .entry)) (now (keys .entry))) c) (lent (now (terms .entry)) (now (cells .entry)) (now (chars .entry)) (now (reasons .entry)) (now (keys .entry))) (lent (now (terms .entry)) (now (cells .entry)) (now (chars .entry)) (now (reasons .entry)) (now (keys .entry))) c (compared r (lent (now (terms .entry)) (now (cells .entry)) (now (chars .entry)) (now (reasons .entry)) (now (keys .entry))) c) ⌝ }
+{
+    let k = records::audit(terms, cells, chars, reasons, keys, c);
+    if k != 0 {
+        return Equality::Refused(k);
+    }
+    if !are_lists(terms, c, lhs, rhs) {
+        return Equality::Refused(5);
+    }
+    Equality::Is(equal_lists::nf_equal_unchecked(terms, chars, c, lhs, rhs))
+}
+
+// The reasons why the pairs of one class in two lists of equal length are equal, after those that are there.
+pub fn nf_equal_explain(
+    terms: &[u32],
+    cells: &[u32],
+    chars: &[u32],
+    reasons: &mut [u32],
+    keys: &[u32],
+    c: State,
+    lhs: &[u32],
+    rhs: &[u32],
+) -> Added
+    ensures { λ r. ⌜ PublicEqualExplain (now (lhs .entry)) (now (rhs .entry)) (lent (now (terms .entry)) (now (cells .entry)) (now (chars .entry)) (now (reasons .entry)) (now (keys .entry))) (lent (now (terms .entry)) (now (cells .entry)) (now (chars .entry)) (now (reasons .exit)) (now (keys .entry))) c (added r (lent (now (terms .entry)) (now (cells .entry)) (now (chars .entry)) (now (reasons .exit)) (now (keys .entry)))) ⌝ }
+{
+    let k = records::audit(terms, cells, chars, reasons, keys, c);
+    if k != 0 {
+        return Added::Refused(k);
+    }
+    if !can_pair(terms, c, lhs, rhs) {
+        return Added::Refused(5);
+    }
+    equal_lists::nf_equal_explain_unchecked(terms, cells, chars, reasons, keys, c, lhs, rhs)
+}
+
+// A guard can be negated and is no 0.
+pub fn is_guard(g: i32) -> bool
+    ensures { λ r. ⌜ r ≡ isGuard g ⌝ }
+{
+    if g == 0 {
+        return false;
+    }
+    if g == -2147483648 {
+        return false;
+    }
+    true
+}
+
+// Two lists of string terms, and a guard.
+fn can_resolve(terms: &[u32], c: State, lhs: &[u32], rhs: &[u32], guard: i32) -> bool
+    ensures { λ r. ⌜ r ≡ resolveArguments (now (lhs .entry)) (now (rhs .entry)) guard (storeOf (lent (now (terms .entry)) [] [] [] []) c) ⌝ }
+{
+    if !are_lists(terms, c, lhs, rhs) {
+        return false;
+    }
+    is_guard(guard)
+}
+
+// The word equation between two lists; a Split's atoms are the first words of `list`.
+pub fn resolve_equation<'a>(
+    terms: &mut [u32],
+    cells: &mut [u32],
+    chars: &mut [u32],
+    reasons: &mut [u32],
+    keys: &mut [u32],
+    c: State,
+    lhs: &'a [u32],
+    rhs: &'a [u32],
+    guard: i32,
+    list: &mut [u32],
+) -> StepResult
+    ensures { λ o. ⌜ PublicResolve (now (lhs .entry)) (now (rhs .entry)) guard (lent (now (terms .entry)) (now (cells .entry)) (now (chars .entry)) (now (reasons .entry)) (now (keys .entry))) (lent (now (terms .exit)) (now (cells .exit)) (now (chars .exit)) (now (reasons .exit)) (now (keys .exit))) (now (list .entry)) (now (list .exit)) c (resolved o (lent (now (terms .exit)) (now (cells .exit)) (now (chars .exit)) (now (reasons .exit)) (now (keys .exit))) (now (list .exit))) ⌝ }
+{
+    if list.len() < LIST_LIMIT {
+        return StepResult::Refused(1);
+    }
+    let k = records::audit(terms, cells, chars, reasons, keys, c);
+    if k != 0 {
+        return StepResult::Refused(k);
+    }
+    if !can_resolve(terms, c, lhs, rhs, guard) {
+        return StepResult::Refused(5);
+    }
+    resolving::resolve_unchecked(terms, cells, chars, reasons, keys, c, lhs, rhs, guard, list)
 }

@@ -307,7 +307,7 @@ fn ended(terms: &[u32], c: State, word: &[u32], side: &[u32], i: usize, k: Curso
 }
 
 // Whether the side, with m characters of the word from v on for each variable, is the word. The walk ends at the first wrong character.
-fn is_tiled<'a>(
+pub(crate) fn is_tiled<'a>(
     terms: &[u32],
     chars: &[u32],
     c: State,

@@ -20,7 +20,7 @@ use records::fields;
 use records::rules;
 use records::text;
 
-fn both_constant(terms: &[u32], n: usize, a: u32, b: u32) -> bool
+pub(crate) fn both_constant(terms: &[u32], n: usize, a: u32, b: u32) -> bool
     ensures { λ r. ⌜ r ≡ (eqb (termIn (termsView (now (terms .entry)) n) a .kind) 1 && eqb (termIn (termsView (now (terms .entry)) n) b .kind) 1) ⌝ }
 {
     if rules::kind_of(terms, n, a) != 1 {
@@ -30,7 +30,7 @@ fn both_constant(terms: &[u32], n: usize, a: u32, b: u32) -> bool
 }
 
 // Whether two constants have equal characters.
-fn same_text(terms: &[u32], chars: &[u32], c: State, a: u32, b: u32) -> bool
+pub(crate) fn same_text(terms: &[u32], chars: &[u32], c: State, a: u32, b: u32) -> bool
     requires { ⌜ Readable (now terms) (now chars) c ⌝ ∗ ⌜ isConstant (readIn (now terms) (now chars) c) a && isConstant (readIn (now terms) (now chars) c) b ≡ true ⌝ }
     ensures { λ r. ⌜ r ≡ sameWord (text (readIn (now (terms .entry)) (now (chars .entry)) c) a) (text (readIn (now (terms .entry)) (now (chars .entry)) c) b) ⌝ }
 {
@@ -43,7 +43,7 @@ fn same_text(terms: &[u32], chars: &[u32], c: State, a: u32, b: u32) -> bool
     text::text_is(chars, fields::first(terms, a), &chars[from..from + n])
 }
 
-fn same_class(terms: &[u32], chars: &[u32], c: State, a: u32, b: u32) -> bool
+pub(crate) fn same_class(terms: &[u32], chars: &[u32], c: State, a: u32, b: u32) -> bool
     requires { ⌜ Readable (now terms) (now chars) c ⌝ ∗ ⌜ Pair (readIn (now terms) (now chars) c) a b ⌝ }
     ensures { λ r. ⌜ r ≡ sameClass (readIn (now (terms .entry)) (now (chars .entry)) c) a b ⌝ }
 {

@@ -1,0 +1,139 @@
+-- Each way through `nf_equal` and `nf_equal_explain`.
+use mathlib.Core.Path.{_≡_, refl, sym, ap, _∙_}
+use mathlib.Core.Bool.{Bool, true, false, not, _&&_}
+use mathlib.Core.List.{List, [], _∷_}
+use Prim.Native.Nat.{ℕ, _≤_}
+use native.Mathlib.Omega.{arith}
+use lib.ListN.{length}
+use lib.Dec.{eqb, leb}
+use borrow.Author.Tests.{not-true, not-false, eqb-true}
+use Rattle.records.specs.declared.State.{State}
+use Rattle.records.specs.Lists.{if_then_else_, all}
+use Rattle.records.specs.Store.{Store, Out, ok, stop, isString}
+use Rattle.records.specs.View.{Lent, storeOf, sizes}
+use Rattle.records.specs.Rules.{recordsRule, classesRule, congruencesRule, auditStore, audit, listLimit, isList}
+use Rattle.records.specs.Audited.{Ready}
+use Rattle.records.specs.Calls.{Working, Public, call}
+use Rattle.records.proofs.Lists.{both-left, both-right, left-false, and-next}
+use Rattle.records.proofs.Passed.{ready-of}
+use Rattle.records.proofs.Public.{call-unready, call-unfit, call-works}
+use Rattle.records.proofs.Works.{stop-not}
+use Rattle.wordeq.specs.Wordeq.{same, nfEqual, nfExplain, nfArguments}
+use Rattle.wordeq.specs.Stripping.{readIn, Readable}
+use Rattle.wordeq.specs.Calls.{equalArguments, equalLists, PublicEqualExplain}
+use Rattle.wordeq.proofs.Equal.{explain-equal-sound, explain-equal-stops}
+
+-- ARGUMENTS
+
+module _ (s : Store) (l r : List ℕ) (b : Bool) (e : b ≡ isList s l) where
+  pub lists-stop : not b ≡ true → false ≡ equalArguments l r s
+  lists-stop h = sym (left-false _ _ (sym e ∙ not-true b h))
+
+  pub lists-last : not b ≡ false → (x : Bool) → x ≡ isList s r → x ≡ equalArguments l r s
+  lists-last h x q = and-next (isList s l) (isList s r) x (sym e ∙ not-false b h) q
+
+module _ (s : Store) (l r : List ℕ) (b : Bool) (e : b ≡ equalArguments l r s) where
+  pub pair-stop : not b ≡ true → false ≡ nfArguments l r s
+  pair-stop h = sym (left-false _ _ (sym e ∙ not-true b h))
+
+  pub pair-last : not b ≡ false → eqb (length l) (length r) ≡ nfArguments l r s
+  pair-last h = and-next (equalArguments l r s) (eqb (length l) (length r)) _ (sym e ∙ not-false b h) refl
+
+pub list-strings : (s : Store) (l : List ℕ) → isList s l ≡ true → all (isString s) l ≡ true
+list-strings s l e = both-right (leb (length l) listLimit) _ e
+
+-- the audit's refusals are 1 to 4
+pub audit-low : (m : Lent) (c : State) → audit m c ≤ 4
+unfolding audit auditStore
+audit-low m c = go (sizes m c) (recordsRule (storeOf m c)) (classesRule (storeOf m c)) (congruencesRule (storeOf m c))
+  where
+    go : (a b d e : Bool) → (if a then (if b then (if d then (if e then 0 else 4) else 3) else 2) else 1) ≤ 4
+    go false b d e = omega arith
+    go true false d e = omega arith
+    go true true false e = omega arith
+    go true true true false = omega arith
+    go true true true true = omega arith
+
+-- terms and characters alone give the same test
+equal-read : (m : Lent) (c : State) (l r : List ℕ) → nfEqual (readIn (m .terms) (m .chars) c) l r ≡ nfEqual (storeOf m c) l r
+unfolding nfEqual same
+equal-read m c [] [] = refl
+equal-read m c [] (b ∷ r) = refl
+equal-read m c (a ∷ l) [] = refl
+equal-read m c (a ∷ l) (b ∷ r) = ap (λ (x : Bool). same (storeOf m c) a b && x) (equal-read m c l r)
+
+-- NF_EQUAL
+
+module _ (m : Lent) (c : State) (l r : List ℕ) (k : ℕ) (v : k ≡ audit m c) where
+  pub equal-unready : (k ≡ 0 → ⊥) → Public (call (equalArguments l r) (equalLists l r) m c) m m c (stop k)
+  equal-unready d = call-unready (equalArguments l r) (equalLists l r) m c k v d
+
+  module _ (z : k ≡ 0) (b : Bool) (e : b ≡ equalArguments l r (storeOf m c)) where
+    pub equal-unfit : not b ≡ true → Public (call (equalArguments l r) (equalLists l r) m c) m m c (stop 5)
+    equal-unfit h = call-unfit (equalArguments l r) (equalLists l r) m c k v z b e (not-true b h)
+
+    module _ (h : not b ≡ false) where
+      both : equalArguments l r (storeOf m c) ≡ true
+      both = sym e ∙ not-false b h
+
+      pub equal-readable : Readable (m .terms) (m .chars) c
+      equal-readable = record { cells = m .cells; reasons = m .reasons; keys = m .keys; ready = ready-of m c (sym v ∙ z) }
+
+      pub equal-left : all (isString (readIn (m .terms) (m .chars) c)) l ≡ true
+      equal-left = list-strings (storeOf m c) l (both-left (isList (storeOf m c) l) _ both)
+
+      pub equal-right : all (isString (readIn (m .terms) (m .chars) c)) r ≡ true
+      equal-right = list-strings (storeOf m c) r (both-right (isList (storeOf m c) l) _ both)
+
+      pub equal-gives : (x : Bool) → x ≡ nfEqual (readIn (m .terms) (m .chars) c) l r → Public (call (equalArguments l r) (equalLists l r) m c) m m c (ok (storeOf m c) x)
+      unfolding equalLists
+      equal-gives x q =
+          call-works (equalArguments l r) (equalLists l r) m c k v z b e (not-false b h) (λ j n. let y : _≡_ {A = ℕ} 0 1 = cc in absurd (omega arith))
+          (record { says = ap (ok (storeOf m c)) (sym (q ∙ equal-read m c l r)); kept = refl })
+
+-- NF_EQUAL_EXPLAIN
+
+module _ (m : Lent) (c : State) (l r : List ℕ) (k : ℕ) (v : k ≡ audit m c) where
+  pub explain-unready : (k ≡ 0 → ⊥) → PublicEqualExplain l r m m c (stop k)
+  explain-unready d = record {
+    is = call-unready (nfArguments l r) (nfExplain l r) m c k v d;
+    worth = λ s′ e. stop-not e;
+    full = λ j e h. let y : k ≡ j = cc in let q = audit-low m c in absurd (omega arith);
+  }
+
+  module _ (z : k ≡ 0) (b : Bool) (e : b ≡ nfArguments l r (storeOf m c)) where
+    pub explain-unfit : not b ≡ true → PublicEqualExplain l r m m c (stop 5)
+    explain-unfit h = record {
+      is = call-unfit (nfArguments l r) (nfExplain l r) m c k v z b e (not-true b h);
+      worth = λ s′ i. stop-not i;
+      full = λ j i q. let y : 5 ≡ j = cc in absurd (omega arith);
+    }
+
+    module _ (h : not b ≡ false) where
+      fit : nfArguments l r (storeOf m c) ≡ true
+      fit = sym e ∙ not-false b h
+
+      lists : equalArguments l r (storeOf m c) ≡ true
+      lists = both-left (equalArguments l r (storeOf m c)) _ fit
+
+      pub explain-ready : Ready m c
+      explain-ready = ready-of m c (sym v ∙ z)
+
+      pub explain-left : all (isString (storeOf m c)) l ≡ true
+      explain-left = list-strings (storeOf m c) l (both-left (isList (storeOf m c) l) _ lists)
+
+      pub explain-right : all (isString (storeOf m c)) r ≡ true
+      explain-right = list-strings (storeOf m c) r (both-right (isList (storeOf m c) l) _ lists)
+
+      pub explain-lengths : length l ≡ length r
+      explain-lengths = eqb-true (length l) (length r) (both-right (equalArguments l r (storeOf m c)) _ fit)
+
+      pub explain-called : (m′ : Lent) (o : Out (Unit {0})) → Working (nfExplain l r) m m′ c o → PublicEqualExplain l r m m′ c o
+      explain-called m′ o w = record {
+        is = call-works (nfArguments l r) (nfExplain l r) m c k v z b e (not-false b h) (λ j n. let q = seven j n in omega arith) w;
+        worth = λ s′ i. explain-equal-sound l r (storeOf m c) (explain-ready .audited) explain-left explain-right s′ tt (w .says ∙ i);
+        full = λ j i q. seven j (w .says ∙ i);
+      }
+        where
+          seven : (j : ℕ) → nfExplain l r (storeOf m c) ≡ stop j → j ≡ 7
+          seven j n = explain-equal-stops l r (storeOf m c) (explain-ready .audited) explain-left explain-right j n

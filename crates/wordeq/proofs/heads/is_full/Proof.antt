@@ -1,0 +1,23 @@
+use mathlib.Core.Path.{refl}
+use Rattle.wordeq.proofs.SplitHeads.{full-none, full-some}
+use native.Mathlib.Omega.{arith}
+use borrow.Author.Needs.{needs}
+use Rattle.wordeq.proofs.heads.is_full.Statement.{statement}
+use Rattle.wordeq.proofs.heads.is_full.Tie as tie
+use Rattle.wordeq.proofs.heads.is_full.Reads as reads
+use Rattle.wordeq.proofs.heads.is_full.Lts as lts
+
+kind-of-requires : tie.Need-kind-of-requires
+kind-of-requires c κs = search needs
+
+returns : tie.Need-returns
+returns c = full-none (c .before .before .before .args .terms .now) (c .before .before .before .args .c) (c .before .before .before .args .a) _ (c .before .kind-of .ensures) (c .if1 .taken)
+
+second-requires : tie.Need-second-requires
+second-requires c κs = search needs
+
+returns-2 : tie.Need-returns-2
+returns-2 c = full-some (c .before .before .before .before .args .terms .now) (c .before .before .before .before .args .c) (c .before .before .before .before .args .a) _ _ _ (c .before .before .before .before .pre) (c .before .before .kind-of .ensures) (c .before .if1 .left) (c .second .ensures) refl
+
+pub is-full-spec : {M : Type 1} → statement M
+is-full-spec = tie.close (tie.spec kind-of-requires returns second-requires returns-2)

@@ -1,0 +1,16 @@
+use Rattle.wordeq.proofs.SplitHeads.{opposite-fits, opposite-is}
+use native.Mathlib.Omega.{arith}
+use borrow.Author.Needs.{needs}
+use Rattle.wordeq.proofs.heads.negated.Statement.{statement}
+use Rattle.wordeq.proofs.heads.negated.Tie as tie
+use Rattle.wordeq.proofs.heads.negated.Reads as reads
+use Rattle.wordeq.proofs.heads.negated.Lts as lts
+
+sub-result : tie.Need-sub-result
+sub-result c = opposite-fits (c .args .guard) (c .pre) (c .fits .guard)
+
+returns : tie.Need-returns
+returns c = opposite-is (c .args .guard) (c .pre) (c .fits .guard)
+
+pub negated-spec : {M : Type 1} → statement M
+negated-spec = tie.close (tie.spec sub-result returns)

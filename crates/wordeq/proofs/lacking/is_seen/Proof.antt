@@ -1,0 +1,46 @@
+use Rattle.wordeq.proofs.LackingMarks.{Unseen, unseen-none, unseen-stop, unseen-one, unseen-done}
+use Prim.Native.Nat.{_-_}
+use borrow.Author.Needs.{needs}
+use Rattle.wordeq.proofs.lacking.is_seen.Statement.{statement}
+use Rattle.wordeq.proofs.lacking.is_seen.Tie as tie
+
+abbrev Inv-loop : tie.InvT-loop
+Inv-loop chars table n x i₀ i = Unseen chars table n x i
+
+abbrev μ-loop : tie.MeasureT-loop
+μ-loop chars table n x i₀ i = n - i
+
+loop-holds : tie.Need-loop-holds Inv-loop μ-loop
+loop-holds c = unseen-none _ _ _ _
+
+has-mark-requires : tie.Need-has-mark-requires Inv-loop μ-loop
+has-mark-requires c κs = search needs
+
+returns : tie.Need-returns Inv-loop μ-loop
+returns c = unseen-stop _ _ _ _ _ (c .before .before .before .loop .inv) _ (c .before .has-mark .ensures) (c .before .before .loop-test .taken) (c .if1 .taken)
+
+add-i : tie.Need-add-i Inv-loop μ-loop
+add-i c = search needs
+
+loop-less : tie.Need-loop-less Inv-loop μ-loop
+loop-less c = search needs
+
+loop-again : tie.Need-loop-again Inv-loop μ-loop
+loop-again c = unseen-one _ _ _ _ _ (c .before .before .before .loop .inv) _ (c .before .has-mark .ensures) (c .before .before .loop-test .taken) (c .if1 .left)
+
+returns-2 : tie.Need-returns-2 Inv-loop μ-loop
+returns-2 c = unseen-done _ _ _ _ _ (c .before .loop .inv) (c .loop-test .left)
+
+pub is-seen-spec : {M : Type 1} → statement M
+is-seen-spec =
+    tie.close
+    (tie.spec
+    Inv-loop
+    μ-loop
+    loop-holds
+    has-mark-requires
+    returns
+    add-i
+    loop-less
+    loop-again
+    returns-2)

@@ -1,0 +1,71 @@
+use Prim.Native.Nat.{_-_}
+use lib.ListN.{length}
+use Rattle.wordeq.specs.Sides.{termed}
+use Rattle.records.proofs.Lists.{all-every, every-at}
+use Rattle.wordeq.proofs.Elsewhere.{Seeking, seeking-none, seeking-hit, seeking-turn, seeking-end}
+use native.Mathlib.Omega.{arith}
+use borrow.Author.Needs.{needs}
+use Rattle.wordeq.proofs.occurring.find.Statement.{statement}
+use Rattle.wordeq.proofs.occurring.find.Tie as tie
+use Rattle.wordeq.proofs.occurring.find.Reads as reads
+use Rattle.wordeq.proofs.occurring.find.Lts as lts
+use Rattle.records.proofs.classes.root_unchecked.Reads as root-unchecked-reads
+use Rattle.wordeq.proofs.occurring.count_full.Reads as count-full-reads
+use Rattle.wordeq.proofs.occurring.occurs_here.Reads as occurs-here-reads
+
+abbrev Inv-loop : tie.InvT-loop
+Inv-loop terms c l x n root i₀ i = Seeking (termed terms c) x l i
+
+abbrev μ-loop : tie.MeasureT-loop
+μ-loop terms c l x n root i₀ i = length l - i
+
+count-full-requires : tie.Need-count-full-requires Inv-loop μ-loop
+count-full-requires c κs = c .before .before .pre .0
+
+root-unchecked-requires : tie.Need-root-unchecked-requires Inv-loop μ-loop
+root-unchecked-requires c κs = (c .before .before .before .pre .1 .1 .0, c .before .before .before .pre .1 .0)
+
+loop-holds : tie.Need-loop-holds Inv-loop μ-loop
+loop-holds c = seeking-none _ _ _
+
+mul-occurs-here : tie.Need-mul-occurs-here Inv-loop μ-loop
+mul-occurs-here c = search needs
+
+shared-slice-read-occurs-here : tie.Need-shared-slice-read-occurs-here Inv-loop μ-loop
+shared-slice-read-occurs-here c = search needs
+
+occurs-here-requires : tie.Need-occurs-here-requires Inv-loop μ-loop
+occurs-here-requires c κs = (c .before .before .before .before .before .before .before .pre .0 .0, (c .before .before .before .before .before .before .before .pre .1 .0, every-at (c .before .before .before .before .before .before .before .args .l .now) _ 0 (all-every _ (c .before .before .before .before .before .before .before .args .l .now) (c .before .before .before .before .before .before .before .pre .1 .1 .1)) (c .before .loop-test .taken)))
+
+returns : tie.Need-returns Inv-loop μ-loop
+returns c = seeking-hit (termed (c .before .before .before .before .before .before .before .before .before .args .terms .now) (c .before .before .before .before .before .before .before .before .before .args .c)) (c .before .before .before .before .before .before .before .before .before .args .x) (c .before .before .before .before .before .before .before .before .before .args .l .now) _ _ _ _ (c .before .before .before .before .loop .inv) (c .before .before .before .loop-test .taken) (c .before .before .before .before .before .before .count-full .ensures) (c .before .before .before .before .before .root-unchecked .ensures) (c .before .occurs-here .ensures) (c .if1 .taken)
+
+add-i : tie.Need-add-i Inv-loop μ-loop
+add-i c = search needs
+
+loop-less : tie.Need-loop-less Inv-loop μ-loop
+loop-less c = search needs
+
+loop-again : tie.Need-loop-again Inv-loop μ-loop
+loop-again c = seeking-turn (termed (c .before .before .before .before .before .before .before .before .before .args .terms .now) (c .before .before .before .before .before .before .before .before .before .args .c)) (c .before .before .before .before .before .before .before .before .before .args .x) (c .before .before .before .before .before .before .before .before .before .args .l .now) _ _ _ _ (c .before .before .before .before .loop .inv) (c .before .before .before .loop-test .taken) (c .before .before .before .before .before .before .count-full .ensures) (c .before .before .before .before .before .root-unchecked .ensures) (c .before .occurs-here .ensures) (c .if1 .left)
+
+returns-2 : tie.Need-returns-2 Inv-loop μ-loop
+returns-2 c = seeking-end _ _ _ _ (c .before .loop .inv) (c .loop-test .left)
+
+pub find-spec : {M : Type 1} → statement M
+find-spec =
+    tie.close
+    (tie.spec
+    Inv-loop
+    μ-loop
+    count-full-requires
+    root-unchecked-requires
+    loop-holds
+    mul-occurs-here
+    shared-slice-read-occurs-here
+    occurs-here-requires
+    returns
+    add-i
+    loop-less
+    loop-again
+    returns-2)

@@ -1,0 +1,30 @@
+use Rattle.wordeq.proofs.Propagated.{emptied-left, emptied-short, emptied-last}
+use Rattle.wordeq.specs.Sides.{termed}
+use native.Mathlib.Omega.{arith}
+use borrow.Author.Needs.{needs}
+use Rattle.wordeq.proofs.propagate.is_emptied.Statement.{statement}
+use Rattle.wordeq.proofs.propagate.is_emptied.Tie as tie
+use Rattle.wordeq.proofs.propagate.is_emptied.Reads as reads
+use Rattle.wordeq.proofs.propagate.is_emptied.Lts as lts
+use Rattle.wordeq.proofs.propagate.are_variables.Reads as are-variables-reads
+
+returns : tie.Need-returns
+returns c = emptied-left (termed (c .before .before .before .before .args .terms .now) (c .before .before .before .before .args .c)) (c .before .before .before .before .args .l .now) (c .before .before .before .before .args .r .now) (c .if1 .taken)
+
+returns-2 : tie.Need-returns-2
+returns-2 c = emptied-short (termed (c .before .before .before .before .before .args .terms .now) (c .before .before .before .before .before .args .c)) (c .before .before .before .before .before .args .l .now) (c .before .before .before .before .before .args .r .now) (c .before .if1 .left) (c .if2 .taken)
+
+are-variables-requires : tie.Need-are-variables-requires
+are-variables-requires c κs = search needs
+
+returns-3 : tie.Need-returns-3
+returns-3 c = emptied-last (termed (c .before .before .before .before .before .before .args .terms .now) (c .before .before .before .before .before .before .args .c)) (c .before .before .before .before .before .before .args .l .now) (c .before .before .before .before .before .before .args .r .now) (c .before .before .if1 .left) (c .before .if2 .left) _ (c .are-variables .ensures)
+
+pub is-emptied-spec : {M : Type 1} → statement M
+is-emptied-spec =
+    tie.close
+    (tie.spec
+    returns
+    returns-2
+    are-variables-requires
+    returns-3)

@@ -1,0 +1,31 @@
+use Rattle.wordeq.specs.Resolving.{closing}
+use Rattle.wordeq.proofs.ResolveCalls.{split-same}
+use Rattle.wordeq.specs.declared.StepResult.the-variants as step
+use Rattle.wordeq.specs.declared.StepResult.{StepResult}
+use Rattle.records.specs.declared.State.{State}
+use mir.ValLaws.{toZ-ofZ}
+use mir.Syntax.{w32}
+use mathlib.Core.Path.{sym, ap, _∙_}
+use borrow.Author.Needs.{needs}
+use Rattle.wordeq.proofs.resolving.close.Statement.{statement}
+use Rattle.wordeq.proofs.resolving.close.Tie as tie
+
+pub close-spec : {M : Type 1} → statement M
+close-spec =
+    tie.close
+    (tie.spec
+    (λ c. search needs)
+    (λ c κs. search needs)
+    (λ c. search needs)
+    (λ c κs. search needs)
+    (λ c. search needs)
+    (λ c. search needs)
+    (λ c. search needs)
+    (λ c κs. search needs)
+    (λ c. search needs)
+    (λ c. ap (λ (x : State). step.Done x) (c .with-reasons .ensures) ∙ sym (ap (λ (x : StepResult). closing (c .before .before .before .before .args .n) x) (c .before .before .o .given .1)))
+    (λ c. ap (λ (x : State). step.Saturated x) (c .with-reasons2 .ensures) ∙ sym (ap (λ (x : StepResult). closing (c .before .before .before .before .args .n) x) (c .before .before .o2 .given .1)))
+    (λ c. sym (ap (λ (x : StepResult). closing (c .before .before .before .args .n) x) (c .before .o3 .given .1)))
+    (λ c. sym (ap (λ (x : StepResult). closing (c .before .before .before .args .n) x) (c .before .o4 .given .1)))
+    (λ c. split-same (c .with-reasons3 .ensures) (toZ-ofZ w32 (c .before .before .o5 .given .0 .1 .1 .0) (record { sfits = c .before .known-told5 .given .1 .1 .0 .1 })) ∙ sym (ap (λ (x : StepResult). closing (c .before .before .before .before .args .n) x) (c .before .before .o5 .given .1)))
+    (λ c. sym (ap (λ (x : StepResult). closing (c .before .before .before .args .n) x) (c .before .o6 .given .1))))

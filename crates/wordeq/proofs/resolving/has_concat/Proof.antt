@@ -1,0 +1,33 @@
+use lib.ListN.{length, drop}
+use mathlib.Core.Path.{_≡_, refl}
+use Prim.Native.Nat.{_-_, _≤_}
+use Rattle.records.specs.Lists.{any}
+use Rattle.records.specs.Store.{isConcat}
+use Rattle.wordeq.specs.Sides.{termed}
+use Rattle.wordeq.proofs.Flattening.{concat-stop, concat-turn, concat-end}
+use native.Mathlib.Omega.{arith}
+use borrow.Author.Needs.{needs}
+use Rattle.wordeq.proofs.resolving.has_concat.Statement.{statement}
+use Rattle.wordeq.proofs.resolving.has_concat.Tie as tie
+
+abbrev Inv-loop : tie.InvT-loop
+Inv-loop terms c l i₀ i = (i ≤ length l) × (any (isConcat (termed terms c)) (drop i l) ≡ any (isConcat (termed terms c)) l)
+
+abbrev μ-loop : tie.MeasureT-loop
+μ-loop terms c l i₀ i = length l - i
+
+pub has-concat-spec : {M : Type 1} → statement M
+has-concat-spec =
+    tie.close
+    (tie.spec
+    Inv-loop
+    μ-loop
+    (λ c. (omega arith, refl))
+    (λ c. search needs)
+    (λ c. search needs)
+    (λ c κs. search needs)
+    (λ c. concat-stop (termed (c .before .before .before .before .before .before .before .args .terms .now) (c .before .before .before .before .before .before .before .args .c)) (c .before .before .before .before .before .before .before .args .l .now) _ (c .before .before .before .before .loop .inv .1) (c .before .before .before .loop-test .taken) _ (c .before .kind-of .ensures) (c .if1 .taken))
+    (λ c. search needs)
+    (λ c. (let p = c .before .before .before .loop-test .taken in omega arith))
+    (λ c. (let p = c .before .before .before .loop-test .taken in omega arith, concat-turn (termed (c .before .before .before .before .before .before .before .args .terms .now) (c .before .before .before .before .before .before .before .args .c)) (c .before .before .before .before .before .before .before .args .l .now) _ (c .before .before .before .before .loop .inv .1) (c .before .before .before .loop-test .taken) _ (c .before .kind-of .ensures) (c .if1 .left)))
+    (λ c. concat-end (termed (c .before .before .before .before .args .terms .now) (c .before .before .before .before .args .c)) (c .before .before .before .before .args .l .now) _ (c .before .loop .inv .1) (c .loop-test .left)))

@@ -1,0 +1,27 @@
+use Rattle.wordeq.specs.Resolving.{soft}
+use Rattle.wordeq.proofs.ResolveCalls.{split-same}
+use Rattle.wordeq.specs.declared.StepResult.{StepResult}
+use mathlib.Core.Path.{refl}
+use mir.ValLaws.{toZ-ofZ}
+use mir.Syntax.{w32}
+use mathlib.Core.Path.{sym, ap, _∙_}
+use borrow.Author.Needs.{needs}
+use Rattle.wordeq.proofs.resolving.soften.Statement.{statement}
+use Rattle.wordeq.proofs.resolving.soften.Tie as tie
+
+pub soften-spec : {M : Type 1} → statement M
+soften-spec =
+    tie.close
+    (tie.spec
+    (λ c. search needs)
+    (λ c. search needs)
+    (λ c. search needs)
+    (λ c. search needs)
+    (λ c. search needs)
+    (λ c. search needs)
+    (λ c. sym (ap (λ (x : StepResult). soft x) (c .before .o .given .1)))
+    (λ c. sym (ap (λ (x : StepResult). soft x) (c .before .o2 .given .1)))
+    (λ c. sym (ap (λ (x : StepResult). soft x) (c .before .o3 .given .1)))
+    (λ c. sym (ap (λ (x : StepResult). soft x) (c .before .o4 .given .1)))
+    (λ c. split-same refl (toZ-ofZ w32 (c .before .o5 .given .0 .1 .1 .0) (record { sfits = c .known-told5 .given .1 .1 .0 .1 })) ∙ sym (ap (λ (x : StepResult). soft x) (c .before .o5 .given .1)))
+    (λ c. sym (ap (λ (x : StepResult). soft x) (c .before .o6 .given .1))))

@@ -1,0 +1,45 @@
+-- What the public calls of word equations promise.
+use mathlib.Core.Path.{_≡_}
+use mathlib.Core.Bool.{Bool, _&&_}
+use mathlib.Core.List.{List}
+use Prim.Native.Nat.{ℕ, _<_}
+use lib.IntN.{ℤ}
+use Rattle.records.specs.declared.State.{State}
+use Rattle.records.specs.Store.{Store, Out, ok, stop, Work}
+use Rattle.records.specs.View.{Lent, storeOf}
+use Rattle.records.specs.Rules.{isList}
+use Rattle.records.specs.Calls.{Public, call}
+use Rattle.normalize.specs.Calls.{listCall, PublicList}
+use Rattle.wordeq.specs.declared.Equality.{Equality}
+use Rattle.wordeq.specs.declared.Equality.the-variants as equality
+use Rattle.wordeq.specs.Wordeq.{Answer, resolve, resolveArguments, nfEqual, nfExplain, nfArguments}
+use Rattle.wordeq.specs.Meaning.{Sound, ExplainsEqual}
+
+-- NF_EQUAL
+
+-- refusal 5: 'term absent or of the wrong kind; a list above 1,024'
+abbrev pub equalArguments : List ℕ → List ℕ → Store → Bool
+equalArguments l r s = isList s l && isList s r
+
+-- 'lists of unequal length: false'
+unfoldable pub equalLists : List ℕ → List ℕ → Work Bool
+equalLists l r = λ s. ok s (nfEqual s l r)
+
+-- nf_equal's answer; the store is as it was
+abbrev pub compared : Equality → Lent → State → Out Bool
+compared (equality.Is b) m c = ok (storeOf m c) b
+compared (equality.Refused k) m c = stop k
+
+-- nf_equal_explain's answer, and what it is worth: under the reasons that the call added and the definitional merges two lists that
+-- nf_equal calls equal have equal words. Once the arguments pass, refusal 7 alone is given
+pub record PublicEqualExplain (l r : List ℕ) (m m′ : Lent) (c : State) (o : Out (Unit {0})) : Type 0 where
+  pub is : Public (call (nfArguments l r) (nfExplain l r) m c) m m′ c o
+  pub worth : (s′ : Store) → o ≡ ok s′ tt → ExplainsEqual (storeOf m c) s′ l r
+  pub full : (k : ℕ) → o ≡ stop k → 5 < k → k ≡ 7
+
+-- RESOLVE_EQUATION
+
+-- its answer, and what it is worth: demand 3
+pub record PublicResolve (l r : List ℕ) (g : ℤ) (m m′ : Lent) (k k′ : List ℕ) (c : State) (o : Out Answer) : Type 0 where
+  pub is : PublicList (listCall k (resolveArguments l r g) (resolve l r g) m c) m m′ k k′ c o
+  pub worth : (s′ : Store) (x : Answer) → o ≡ ok s′ x → Sound (storeOf m c) s′ l r x

@@ -1,0 +1,40 @@
+-- Working definitions of step 3's 'a constant character absent from a constant side': constants share the store's characters, so a side's
+-- characters are marked by their places.
+use mathlib.Core.Path.{_≡_}
+use mathlib.Core.Bool.{Bool, false, not, _||_}
+use mathlib.Core.List.{List}
+use Prim.Native.Nat.{ℕ, zero, suc, _+_}
+use lib.ListN.{length, getD, set}
+use lib.Dec.{eqb}
+use Rattle.records.specs.Lists.{if_then_else_, any, table, isIn}
+use Rattle.wordeq.specs.Wordeq.{unequal, short, absent}
+use Rattle.records.specs.Store.{Store}
+
+-- place i of the characters h is marked in t and has the character x
+unfoldable pub hasMark : List ℕ → List ℕ → ℕ → ℕ → Bool
+hasMark h t x i = if eqb (getD t i 0) 0 then false else eqb x (getD h i 0)
+
+-- one of the first n places is, and has
+unfoldable pub seen : List ℕ → List ℕ → ℕ → ℕ → Bool
+seen h t n x = any (hasMark h t x) (table (λ i. i) n)
+
+-- n places from p on marked
+unfoldable pub marked : List ℕ → ℕ → ℕ → List ℕ
+marked t p zero = t
+marked t p (suc n) = set (marked t p n) (p + n) 1
+
+-- t′ has the characters of a word marked too, whatever the characters are
+pub record Marked (n : ℕ) (word : List ℕ → List ℕ) (t t′ : List ℕ) : Type 0 where
+  pub size : length t′ ≡ length t
+  pub marks : (h : List ℕ) (x : ℕ) → seen h t′ n x ≡ (seen h t n x || isIn x (word h))
+
+-- b: a character of the word is at no place marked in t; otherwise the same characters are marked in t′
+pub record Lacking (h : List ℕ) (n : ℕ) (word t t′ : List ℕ) (b : Bool) : Type 0 where
+  pub says : b ≡ any (λ x. not (seen h t n x)) word
+  pub size : length t′ ≡ length t
+  pub kept : b ≡ false → (x : ℕ) → seen h t′ n x ≡ seen h t n x
+
+-- 3. 'Both constant with different words; a constant side shorter than the other's constant characters; a constant character absent from
+-- a constant side: Conflict'
+unfoldable pub conflicts : Store → List ℕ → List ℕ → Bool
+conflicts s l r = unequal s l r || short s l r || short s r l || absent s l r || absent s r l

@@ -1,0 +1,164 @@
+// Steps 6 and 7: the heads of the two lists.
+ghost use mathlib.Core.Path.{_≡_};
+ghost use mathlib.Core.Bool.{true, _&&_};
+ghost use mathlib.Core.List.{_∷_};
+ghost use Prim.Native.Nat.{ℕ, _≤_};
+ghost use lib.ListN.{length, drop};
+ghost use lib.IntN.{negℤ};
+ghost use Rattle.records.specs.Store.{isConstant, text};
+ghost use Rattle.records.specs.View.{lent, storeOf};
+ghost use Rattle.records.specs.Rules.{listLimit};
+ghost use Rattle.records.specs.Audited.{Ready};
+ghost use Rattle.records.specs.Calls.{Working};
+ghost use Rattle.wordeq.specs.Wordeq.{_orElse_, isFull, clashes, splits, isGuard};
+ghost use Rattle.wordeq.specs.Results.{BothLists, tried};
+ghost use Rattle.wordeq.specs.Sides.{termed, spelled, Texts, Spelled};
+ghost use Rattle.wordeq.specs.Splits.{listed};
+ghost use Rattle.wordeq.specs.Heads.{HeadsApart, HeadPair, atomsOf, splitNew};
+use crate::StepResult;
+use crate::sides;
+use crate::splits;
+use normalize::Form;
+use records::Added;
+use records::State;
+use records::fields;
+use records::put;
+use records::rules;
+
+// The guard negated: the lowest i32, which has no opposite, is no guard.
+fn negated(guard: i32) -> i32
+    requires { ⌜ isGuard guard ≡ true ⌝ }
+    ensures { λ r. ⌜ r ≡ negℤ guard ⌝ }
+{
+    -guard
+}
+
+// A constant with at least one character.
+fn is_full(terms: &[u32], c: State, a: u32) -> bool
+    requires { ⌜ Texts (now terms) c ⌝ }
+    ensures { λ r. ⌜ r ≡ isFull (termed (now (terms .entry)) c) a ⌝ }
+{
+    if rules::kind_of(terms, c.terms, a) != 1 {
+        return false;
+    }
+    let n = fields::second(terms, a);
+    0 < n
+}
+
+fn first_letter(terms: &[u32], chars: &[u32], c: State, a: u32) -> u32
+    requires { ⌜ Spelled (now terms) (now chars) c × (isFull (termed (now terms) c) a ≡ true) ⌝ }
+    ensures { λ r. do
+      let s = spelled (now (terms .entry)) (now (chars .entry)) c
+      ⌜ text s a ≡ r ∷ drop 1 (text s a) ⌝ }
+{
+    let p = fields::wide(fields::first(terms, a));
+    fields::word(chars, p)
+}
+
+fn both_constant(terms: &[u32], c: State, a: u32, b: u32) -> bool
+    ensures { λ r. do
+      let s = termed (now (terms .entry)) c
+      ⌜ r ≡ (isConstant s a && isConstant s b) ⌝ }
+{
+    if rules::kind_of(terms, c.terms, a) != 1 {
+        return false;
+    }
+    rules::kind_of(terms, c.terms, b) == 1
+}
+
+// The atoms for two heads, of which one at most is a constant.
+fn put_atoms(
+    terms: &mut [u32],
+    cells: &mut [u32],
+    chars: &mut [u32],
+    reasons: &[u32],
+    keys: &[u32],
+    c: State,
+    a: u32,
+    b: u32,
+    list: &mut [u32],
+) -> Form
+    requires { ⌜ Ready (lent (now terms) (now cells) (now chars) (now reasons) (now keys)) c ⌝ ∗ ⌜ HeadPair (storeOf (lent (now terms) (now cells) (now chars) (now reasons) (now keys)) c) a b ⌝ ∗ ⌜ 3 ≤ length (now list) ⌝ }
+    ensures { λ r. ⌜ Working (atomsOf a b) (lent (now (terms .entry)) (now (cells .entry)) (now (chars .entry)) (now (reasons .entry)) (now (keys .entry))) (lent (now (terms .exit)) (now (cells .exit)) (now (chars .exit)) (now (reasons .entry)) (now (keys .entry))) c (listed r (lent (now (terms .exit)) (now (cells .exit)) (now (chars .exit)) (now (reasons .entry)) (now (keys .entry))) (now (list .exit))) ⌝ }
+{
+    if is_full(terms, c, b) {
+        let x = first_letter(terms, chars, c, b);
+        return splits::split_character_unchecked(terms, cells, chars, reasons, keys, c, a, x, list);
+    }
+    if is_full(terms, c, a) {
+        let y = first_letter(terms, chars, c, a);
+        return splits::split_character_unchecked(terms, cells, chars, reasons, keys, c, b, y, list);
+    }
+    splits::split_heads_unchecked(terms, cells, chars, reasons, keys, c, a, b, list)
+}
+
+// Two heads whose pair is no key: the key, then the atoms.
+fn split_new(
+    terms: &mut [u32],
+    cells: &mut [u32],
+    chars: &mut [u32],
+    reasons: &[u32],
+    keys: &mut [u32],
+    c: State,
+    a: u32,
+    b: u32,
+    guard: i32,
+    list: &mut [u32],
+) -> StepResult
+    requires { ⌜ Ready (lent (now terms) (now cells) (now chars) (now reasons) (now keys)) c ⌝ ∗ ⌜ HeadPair (storeOf (lent (now terms) (now cells) (now chars) (now reasons) (now keys)) c) a b ⌝ ∗ ⌜ isGuard guard ≡ true ⌝ ∗ ⌜ 3 ≤ length (now list) ⌝ }
+    ensures { λ o. ⌜ Working (splitNew guard a b) (lent (now (terms .entry)) (now (cells .entry)) (now (chars .entry)) (now (reasons .entry)) (now (keys .entry))) (lent (now (terms .exit)) (now (cells .exit)) (now (chars .exit)) (now (reasons .entry)) (now (keys .exit))) c (tried o (lent (now (terms .exit)) (now (cells .exit)) (now (chars .exit)) (now (reasons .entry)) (now (keys .exit))) (now (list .exit))) ⌝ }
+{
+    let opposite = negated(guard);
+    let key = put::add_key_unchecked(terms, cells, chars, reasons, keys, c, a, b);
+    match key {
+        Added::Counts(d) => {
+            let atoms = put_atoms(terms, cells, chars, reasons, keys, d, a, b, list);
+            match atoms {
+                Form::List(n, e) => StepResult::Split(e, n, opposite),
+                Form::Refused(k) => StepResult::Refused(k),
+            }
+        }
+        Added::Refused(k) => StepResult::Refused(k),
+    }
+}
+
+// Two constant heads that differ at a character: Conflict. A variable head: Saturated where step 1 added a reason or the head pair is a
+// key, else Split.
+pub(crate) fn split_unchecked(
+    terms: &mut [u32],
+    cells: &mut [u32],
+    chars: &mut [u32],
+    reasons: &[u32],
+    keys: &mut [u32],
+    c: State,
+    lhs: &[u32],
+    rhs: &[u32],
+    guard: i32,
+    added: bool,
+    list: &mut [u32],
+) -> StepResult
+    requires { ⌜ Ready (lent (now terms) (now cells) (now chars) (now reasons) (now keys)) c ⌝ ∗ ⌜ BothLists (storeOf (lent (now terms) (now cells) (now chars) (now reasons) (now keys)) c) (now lhs) (now rhs) ⌝ ∗ ⌜ HeadsApart (now lhs) (now rhs) ⌝ ∗ ⌜ isGuard guard ≡ true ⌝ ∗ ⌜ listLimit ≤ length (now list) ⌝ }
+    ensures { λ o. ⌜ Working (clashes (now (lhs .entry)) (now (rhs .entry)) orElse splits guard added (now (lhs .entry)) (now (rhs .entry))) (lent (now (terms .entry)) (now (cells .entry)) (now (chars .entry)) (now (reasons .entry)) (now (keys .entry))) (lent (now (terms .exit)) (now (cells .exit)) (now (chars .exit)) (now (reasons .entry)) (now (keys .exit))) c (tried o (lent (now (terms .exit)) (now (cells .exit)) (now (chars .exit)) (now (reasons .entry)) (now (keys .exit))) (now (list .exit))) ⌝ }
+{
+    if lhs.len() == 0 {
+        return StepResult::Done(c);
+    }
+    if rhs.len() == 0 {
+        return StepResult::Done(c);
+    }
+    let a = lhs[0];
+    let b = rhs[0];
+    if sides::constants_differ(terms, chars, c, a, b) {
+        return StepResult::Conflict(c);
+    }
+    if both_constant(terms, c, a, b) {
+        return StepResult::Done(c);
+    }
+    if added {
+        return StepResult::Saturated(c);
+    }
+    if put::is_key_unchecked(keys, c.keys, a, b) {
+        return StepResult::Saturated(c);
+    }
+    split_new(terms, cells, chars, reasons, keys, c, a, b, guard, list)
+}

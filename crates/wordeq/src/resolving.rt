@@ -1,0 +1,191 @@
+// The whole of wordeq: concatenations flattened, the steps, and the reasons that an answer ends with.
+ghost use mathlib.Core.Path.{_≡_};
+ghost use mathlib.Core.Bool.{true};
+ghost use mathlib.Core.List.{_++_};
+ghost use Prim.Native.Nat.{_≤_};
+ghost use lib.ListN.{length};
+ghost use Rattle.records.specs.Lists.{any, joined};
+ghost use Rattle.records.specs.Store.{isConcat};
+ghost use Rattle.records.specs.View.{lent, storeOf};
+ghost use Rattle.records.specs.Audited.{Ready};
+ghost use Rattle.records.specs.Calls.{Working};
+ghost use Rattle.records.specs.Rules.{listLimit};
+ghost use Rattle.normalize.specs.Normalize.{atoms};
+ghost use Rattle.normalize.specs.Flat.{bare, Nested, Appended};
+ghost use Rattle.wordeq.specs.Wordeq.{resolve, isGuard};
+ghost use Rattle.wordeq.specs.Results.{BothLists, resolved};
+ghost use Rattle.wordeq.specs.Sides.{termed};
+ghost use Rattle.wordeq.specs.Resolving.{soft, reasonsAt, closing, flatSteps, ran};
+use crate::StepResult;
+use crate::stepping;
+use normalize::flat;
+use records::LIST_LIMIT;
+use records::State;
+use records::rules;
+
+// Whether some atom is a concatenation.
+fn has_concat(terms: &[u32], c: State, l: &[u32]) -> bool
+    ensures { λ r. ⌜ r ≡ any (isConcat (termed (now (terms .entry)) c)) (now (l .entry)) ⌝ }
+{
+    let mut i: usize = 0;
+    while i < l.len() {
+        if rules::kind_of(terms, c.terms, l[i]) == 3 {
+            return true;
+        }
+        i += 1;
+    }
+    false
+}
+
+fn either_concat(terms: &[u32], c: State, lhs: &[u32], rhs: &[u32]) -> bool
+    ensures { λ r. ⌜ r ≡ any (isConcat (termed (now (terms .entry)) c)) (now (lhs .entry) ++ now (rhs .entry)) ⌝ }
+{
+    if has_concat(terms, c, lhs) {
+        return true;
+    }
+    has_concat(terms, c, rhs)
+}
+
+// The atoms of each term of a list, from the start of `out`. Nothing is walked past the first atom that does not fit.
+fn flatten_list(terms: &[u32], cells: &[u32], c: State, l: &[u32], out: &mut [u32]) -> usize
+    requires { ⌜ Nested (bare (now terms) (c .terms) (now cells) (c .cells)) ⌝ ∗ ⌜ listLimit ≤ length (now out) ⌝ }
+    ensures { λ r. ⌜ Appended (now (out .entry)) (now (out .exit)) 0 (joined (atoms (bare (now (terms .entry)) (c .terms) (now (cells .entry)) (c .cells))) (now (l .entry))) r ⌝ }
+{
+    let mut n: usize = 0;
+    let mut i: usize = 0;
+    while i < l.len() {
+        n = flat::flatten_unchecked(terms, c.terms, cells, c.cells, l[i], out, n);
+        if LIST_LIMIT < n {
+            return n;
+        }
+        i += 1;
+    }
+    n
+}
+
+// A Conflict of flattened lists is no more than Saturated.
+fn soften(o: StepResult) -> StepResult
+    ensures { λ x. ⌜ x ≡ soft o ⌝ }
+{
+    match o {
+        StepResult::Done(d) => StepResult::Done(d),
+        StepResult::Saturated(d) => StepResult::Saturated(d),
+        StepResult::Conflict(d) => StepResult::Saturated(d),
+        StepResult::Propagate(d, v, w, f) => StepResult::Propagate(d, v, w, f),
+        StepResult::Split(d, n, g) => StepResult::Split(d, n, g),
+        StepResult::Refused(k) => StepResult::Refused(k),
+    }
+}
+
+// The steps on both lists flattened, left first.
+fn flat_steps(
+    terms: &mut [u32],
+    cells: &mut [u32],
+    chars: &mut [u32],
+    reasons: &mut [u32],
+    keys: &mut [u32],
+    c: State,
+    lhs: &[u32],
+    rhs: &[u32],
+    guard: i32,
+    list: &mut [u32],
+) -> StepResult
+    requires { ⌜ Ready (lent (now terms) (now cells) (now chars) (now reasons) (now keys)) c ⌝ ∗ ⌜ BothLists (storeOf (lent (now terms) (now cells) (now chars) (now reasons) (now keys)) c) (now lhs) (now rhs) ⌝ ∗ ⌜ isGuard guard ≡ true ⌝ ∗ ⌜ listLimit ≤ length (now list) ⌝ }
+    ensures { λ o. ⌜ Working (flatSteps (now (lhs .entry)) (now (rhs .entry)) guard) (lent (now (terms .entry)) (now (cells .entry)) (now (chars .entry)) (now (reasons .entry)) (now (keys .entry))) (lent (now (terms .exit)) (now (cells .exit)) (now (chars .exit)) (now (reasons .exit)) (now (keys .exit))) c (resolved o (lent (now (terms .exit)) (now (cells .exit)) (now (chars .exit)) (now (reasons .exit)) (now (keys .exit))) (now (list .exit))) ⌝ }
+{
+    let mut left: [u32; 1024] = [0; 1024];
+    let n = flatten_list(terms, cells, c, lhs, &mut left);
+    if LIST_LIMIT < n {
+        return StepResult::Refused(6);
+    }
+    let mut right: [u32; 1024] = [0; 1024];
+    let k = flatten_list(terms, cells, c, rhs, &mut right);
+    if LIST_LIMIT < k {
+        return StepResult::Refused(6);
+    }
+    soften(stepping::steps_unchecked(
+        terms,
+        cells,
+        chars,
+        reasons,
+        keys,
+        c,
+        &left[..n],
+        &right[..k],
+        guard,
+        list,
+    ))
+}
+
+// The steps, on flattened lists where some atom is a concatenation.
+fn run<'a>(
+    terms: &mut [u32],
+    cells: &mut [u32],
+    chars: &mut [u32],
+    reasons: &mut [u32],
+    keys: &mut [u32],
+    c: State,
+    lhs: &'a [u32],
+    rhs: &'a [u32],
+    guard: i32,
+    list: &mut [u32],
+) -> StepResult
+    requires { ⌜ Ready (lent (now terms) (now cells) (now chars) (now reasons) (now keys)) c ⌝ ∗ ⌜ BothLists (storeOf (lent (now terms) (now cells) (now chars) (now reasons) (now keys)) c) (now lhs) (now rhs) ⌝ ∗ ⌜ isGuard guard ≡ true ⌝ ∗ ⌜ listLimit ≤ length (now list) ⌝ }
+    ensures { λ o. ⌜ Working (ran (now (lhs .entry)) (now (rhs .entry)) guard) (lent (now (terms .entry)) (now (cells .entry)) (now (chars .entry)) (now (reasons .entry)) (now (keys .entry))) (lent (now (terms .exit)) (now (cells .exit)) (now (chars .exit)) (now (reasons .exit)) (now (keys .exit))) c (resolved o (lent (now (terms .exit)) (now (cells .exit)) (now (chars .exit)) (now (reasons .exit)) (now (keys .exit))) (now (list .exit))) ⌝ }
+{
+    if either_concat(terms, c, lhs, rhs) {
+        return flat_steps(terms, cells, chars, reasons, keys, c, lhs, rhs, guard, list);
+    }
+    stepping::steps_unchecked(terms, cells, chars, reasons, keys, c, lhs, rhs, guard, list)
+}
+
+// The counts with n reasons.
+fn with_reasons(d: State, n: usize) -> State
+    ensures { λ r. ⌜ r ≡ reasonsAt d n ⌝ }
+{
+    State {
+        terms: d.terms,
+        cells: d.cells,
+        chars: d.chars,
+        reasons: n,
+        keys: d.keys,
+        names: d.names,
+    }
+}
+
+// Conflict and Propagate end with the reasons added too; other answers return the incoming count.
+fn close(n: usize, o: StepResult) -> StepResult
+    ensures { λ x. ⌜ x ≡ closing n o ⌝ }
+{
+    match o {
+        StepResult::Done(d) => StepResult::Done(with_reasons(d, n)),
+        StepResult::Saturated(d) => StepResult::Saturated(with_reasons(d, n)),
+        StepResult::Conflict(d) => StepResult::Conflict(d),
+        StepResult::Propagate(d, v, w, f) => StepResult::Propagate(d, v, w, f),
+        StepResult::Split(d, k, g) => StepResult::Split(with_reasons(d, n), k, g),
+        StepResult::Refused(k) => StepResult::Refused(k),
+    }
+}
+
+// Two lists of string terms resolved; a Split's atoms are the first words of `list`.
+pub fn resolve_unchecked<'a>(
+    terms: &mut [u32],
+    cells: &mut [u32],
+    chars: &mut [u32],
+    reasons: &mut [u32],
+    keys: &mut [u32],
+    c: State,
+    lhs: &'a [u32],
+    rhs: &'a [u32],
+    guard: i32,
+    list: &mut [u32],
+) -> StepResult
+    requires { ⌜ Ready (lent (now terms) (now cells) (now chars) (now reasons) (now keys)) c ⌝ ∗ ⌜ BothLists (storeOf (lent (now terms) (now cells) (now chars) (now reasons) (now keys)) c) (now lhs) (now rhs) ⌝ ∗ ⌜ isGuard guard ≡ true ⌝ ∗ ⌜ listLimit ≤ length (now list) ⌝ }
+    ensures { λ o. ⌜ Working (resolve (now (lhs .entry)) (now (rhs .entry)) guard) (lent (now (terms .entry)) (now (cells .entry)) (now (chars .entry)) (now (reasons .entry)) (now (keys .entry))) (lent (now (terms .exit)) (now (cells .exit)) (now (chars .exit)) (now (reasons .exit)) (now (keys .exit))) c (resolved o (lent (now (terms .exit)) (now (cells .exit)) (now (chars .exit)) (now (reasons .exit)) (now (keys .exit))) (now (list .exit))) ⌝ }
+{
+    let n = c.reasons;
+    close(
+        n,
+        run(terms, cells, chars, reasons, keys, c, lhs, rhs, guard, list),
+    )
+}

@@ -1,0 +1,141 @@
+// The steps in sequence: where one finds nothing the next is tried.
+ghost use mathlib.Core.Path.{_≡_};
+ghost use mathlib.Core.Bool.{true};
+ghost use Prim.Native.Nat.{_≤_};
+ghost use lib.ListN.{length};
+ghost use Rattle.records.specs.View.{lent, storeOf};
+ghost use Rattle.records.specs.Rules.{listLimit};
+ghost use Rattle.records.specs.Audited.{Ready};
+ghost use Rattle.records.specs.Calls.{Working};
+ghost use Rattle.wordeq.specs.Wordeq.{_orElse_, occurs, constants, after, isBare, steps, isGuard};
+ghost use Rattle.wordeq.specs.Results.{BothLists, resolved, tried, Tries};
+ghost use Rattle.wordeq.specs.Heads.{HeadsApart};
+use crate::StepResult;
+use crate::Stripped;
+use crate::heads;
+use crate::lacking;
+use crate::occurring;
+use crate::propagate;
+use crate::spans;
+use crate::stripping;
+use records::State;
+
+// Steps 2 and 3, which can find a conflict and nothing else.
+fn conflicts_unchecked<'a>(
+    terms: &[u32],
+    cells: &[u32],
+    chars: &[u32],
+    reasons: &mut [u32],
+    keys: &[u32],
+    c: State,
+    lhs: &'a [u32],
+    rhs: &'a [u32],
+) -> StepResult
+    requires { ⌜ Ready (lent (now terms) (now cells) (now chars) (now reasons) (now keys)) c ⌝ ∗ ⌜ BothLists (storeOf (lent (now terms) (now cells) (now chars) (now reasons) (now keys)) c) (now lhs) (now rhs) ⌝ }
+    ensures { λ o. ⌜ Tries (occurs (now (lhs .entry)) (now (rhs .entry)) orElse occurs (now (rhs .entry)) (now (lhs .entry)) orElse constants (now (lhs .entry)) (now (rhs .entry))) (lent (now (terms .entry)) (now (cells .entry)) (now (chars .entry)) (now (reasons .entry)) (now (keys .entry))) (lent (now (terms .entry)) (now (cells .entry)) (now (chars .entry)) (now (reasons .exit)) (now (keys .entry))) c o ⌝ }
+{
+    let o = occurring::occurs_unchecked(terms, cells, chars, reasons, keys, c, lhs, rhs);
+    let StepResult::Done(d) = o else {
+        return o;
+    };
+    if lacking::constants(terms, chars, d, lhs, rhs) {
+        return StepResult::Conflict(d);
+    }
+    StepResult::Done(d)
+}
+
+// Steps 2 to 7 on what step 1 left; added: it added a reason.
+pub(crate) fn after_unchecked<'a>(
+    terms: &mut [u32],
+    cells: &mut [u32],
+    chars: &mut [u32],
+    reasons: &mut [u32],
+    keys: &mut [u32],
+    c: State,
+    lhs: &'a [u32],
+    rhs: &'a [u32],
+    guard: i32,
+    added: bool,
+    list: &mut [u32],
+) -> StepResult
+    requires { ⌜ Ready (lent (now terms) (now cells) (now chars) (now reasons) (now keys)) c ⌝ ∗ ⌜ BothLists (storeOf (lent (now terms) (now cells) (now chars) (now reasons) (now keys)) c) (now lhs) (now rhs) ⌝ ∗ ⌜ HeadsApart (now lhs) (now rhs) ⌝ ∗ ⌜ isGuard guard ≡ true ⌝ ∗ ⌜ listLimit ≤ length (now list) ⌝ }
+    ensures { λ o. ⌜ Working (after guard added (now (lhs .entry)) (now (rhs .entry))) (lent (now (terms .entry)) (now (cells .entry)) (now (chars .entry)) (now (reasons .entry)) (now (keys .entry))) (lent (now (terms .exit)) (now (cells .exit)) (now (chars .exit)) (now (reasons .exit)) (now (keys .exit))) c (tried o (lent (now (terms .exit)) (now (cells .exit)) (now (chars .exit)) (now (reasons .exit)) (now (keys .exit))) (now (list .exit))) ⌝ }
+{
+    let early = conflicts_unchecked(terms, cells, chars, reasons, keys, c, lhs, rhs);
+    let StepResult::Done(d) = early else {
+        return early;
+    };
+    let known = propagate::propagate_unchecked(terms, cells, chars, reasons, keys, d, lhs, rhs);
+    let StepResult::Done(e) = known else {
+        return known;
+    };
+    let tiled = spans::tile_unchecked(terms, cells, chars, reasons, keys, e, lhs, rhs);
+    let StepResult::Done(f) = tiled else {
+        return tiled;
+    };
+    heads::split_unchecked(
+        terms,
+        cells,
+        chars,
+        reasons,
+        keys,
+        f,
+        lhs,
+        rhs,
+        guard,
+        added,
+        list,
+    )
+}
+
+fn is_bare(l: &[u32], r: &[u32]) -> bool
+    ensures { λ b. ⌜ b ≡ isBare (now (l .entry)) (now (r .entry)) ⌝ }
+{
+    if l.len() != 0 {
+        return false;
+    }
+    r.len() == 0
+}
+
+// Steps 1 to 8: Done where step 1 leaves nothing, or where no step answers.
+pub(crate) fn steps_unchecked<'a>(
+    terms: &mut [u32],
+    cells: &mut [u32],
+    chars: &mut [u32],
+    reasons: &mut [u32],
+    keys: &mut [u32],
+    c: State,
+    lhs: &'a [u32],
+    rhs: &'a [u32],
+    guard: i32,
+    list: &mut [u32],
+) -> StepResult
+    requires { ⌜ Ready (lent (now terms) (now cells) (now chars) (now reasons) (now keys)) c ⌝ ∗ ⌜ BothLists (storeOf (lent (now terms) (now cells) (now chars) (now reasons) (now keys)) c) (now lhs) (now rhs) ⌝ ∗ ⌜ isGuard guard ≡ true ⌝ ∗ ⌜ listLimit ≤ length (now list) ⌝ }
+    ensures { λ o. ⌜ Working (steps guard (now (lhs .entry)) (now (rhs .entry))) (lent (now (terms .entry)) (now (cells .entry)) (now (chars .entry)) (now (reasons .entry)) (now (keys .entry))) (lent (now (terms .exit)) (now (cells .exit)) (now (chars .exit)) (now (reasons .exit)) (now (keys .exit))) c (resolved o (lent (now (terms .exit)) (now (cells .exit)) (now (chars .exit)) (now (reasons .exit)) (now (keys .exit))) (now (list .exit))) ⌝ }
+{
+    let parts = stripping::strip_unchecked(terms, cells, chars, reasons, keys, c, lhs, rhs);
+    match parts {
+        Stripped::Parts(d, from, x, y) => {
+            let left = &lhs[from..x];
+            let right = &rhs[from..y];
+            if is_bare(left, right) {
+                return StepResult::Done(d);
+            }
+            let added = c.reasons < d.reasons;
+            after_unchecked(
+                terms,
+                cells,
+                chars,
+                reasons,
+                keys,
+                d,
+                left,
+                right,
+                guard,
+                added,
+                list,
+            )
+        }
+        Stripped::Refused(k) => StepResult::Refused(k),
+    }
+}
