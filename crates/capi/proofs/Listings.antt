@@ -7,6 +7,7 @@ use Prim.Native.Nat.{ℕ, zero, suc, _≤_, _<_}
 use native.Mathlib.Omega.{arith}
 use lib.ListN.{length, take, drop, set, length-append, length-drop}
 use lib.Dec.{leb}
+use borrow.Author.Tests.{leb-true}
 use Rattle.records.specs.declared.State.{State}
 use Rattle.records.specs.Lists.{if_then_else_}
 use Rattle.records.specs.Store.{Store, Out, ok, stop, Work}
@@ -23,10 +24,27 @@ use Rattle.capi.proofs.Exports.{Tells, narrow, call-gives, call-stops, 
 
 -- WORDS PUT FIRST
 
+pub one-set : (a : List ℕ) (x : ℕ) → 8 ≤ length a → set a 0 x ≡ x ∷ drop 1 a
+one-set [] x h = absurd (omega arith)
+one-set (p ∷ a) x h = refl
+
 pub two-set : (a : List ℕ) (x y : ℕ) → 8 ≤ length a → set (set a 0 x) 1 y ≡ x ∷ y ∷ drop 2 a
 two-set [] x y h = absurd (omega arith)
 two-set (p ∷ []) x y h = absurd (omega arith)
 two-set (p ∷ q ∷ a) x y h = refl
+
+pub three-set : (a : List ℕ) (x y z : ℕ) → 8 ≤ length a → set (set (set a 0 x) 1 y) 2 z ≡ x ∷ y ∷ z ∷ drop 3 a
+three-set [] x y z h = absurd (omega arith)
+three-set (p ∷ []) x y z h = absurd (omega arith)
+three-set (p ∷ q ∷ []) x y z h = absurd (omega arith)
+three-set (p ∷ q ∷ r ∷ a) x y z h = refl
+
+pub four-set : (a : List ℕ) (x y z u : ℕ) → 8 ≤ length a → set (set (set (set a 0 x) 1 y) 2 z) 3 u ≡ x ∷ y ∷ z ∷ u ∷ drop 4 a
+four-set [] x y z u h = absurd (omega arith)
+four-set (p ∷ []) x y z u h = absurd (omega arith)
+four-set (p ∷ q ∷ []) x y z u h = absurd (omega arith)
+four-set (p ∷ q ∷ r ∷ []) x y z u h = absurd (omega arith)
+four-set (p ∷ q ∷ r ∷ t ∷ a) x y z u h = refl
 
 first-taken : (v z : List ℕ) → take (length v) (v ++ z) ≡ v
 first-taken [] z = refl
@@ -68,6 +86,15 @@ module _ {A : Type 0} {fit : Store → Bool} {work : Work A} (can : Tells fit wo
       go true e = call-gives fit work m c f s′ x e
       go false e = stop-not e
 
+  -- a call that answers had room for its list
+  pub list-room : (s′ : Store) (x : A) → listCall l fit work m c ≡ ok s′ x → listLimit ≤ length l
+  unfolding listCall
+  list-room s′ x e = go (leb listLimit (length l)) refl e
+    where
+      go : (b : Bool) → leb listLimit (length l) ≡ b → (if b then call fit work m c else stop 1) ≡ ok s′ x → listLimit ≤ length l
+      go true p e = leb-true listLimit (length l) p
+      go false p e = stop-not e
+
   pub list-stops : listCall l fit work m c ≡ stop 0 → ⊥
   unfolding listCall
   list-stops e = go (leb listLimit (length l)) e
@@ -79,6 +106,10 @@ module _ {A : Type 0} {fit : Store → Bool} {work : Work A} (can : Tells fit wo
 module _ {A : Type 0} {fit : Store → Bool} {work : Work A} (can : Tells fit work) {m m′ : Lent} {l l′ : List ℕ} {c : State} {r : Out A} (called : PublicList (listCall l fit work m c) m m′ l l′ c r) where
   pub list-narrow : (d : State) (x : A) → r ≡ ok (storeOf m′ d) x → Narrow d
   list-narrow d x e = narrow m′ d (list-gives can m l c {P = λ s y. Audited s} (can .keeps) (storeOf m′ d) x (sym (called .store .says) ∙ e))
+
+  pub list-tellable : (words : A → List ℕ) (read : List ℕ → A) (T : Telling) → Shows words read m′ r T → (d : State) (v : List ℕ) → T ≡ tells d v → Narrow d
+  list-tellable words read (tells d′ v′) s d v e = let q : d′ ≡ d = cc in subst Narrow q (list-narrow d′ (s .value) (s .outcome))
+  list-tellable words read (refuses n) s d v e = let z : _≡_ {A = ℕ} 0 1 = cc in absurd (omega arith)
 
   module _ (words : A → List ℕ) (read : List ℕ → A) (T : Telling) (shows : Shows words read m′ r T) {w w′ a a′ : List ℕ} {k : ℕ} (room : roomy w a ≡ true) (e : c ≡ stateOf w) (t : ToldWords w w′ a a′ T k) where
     pub list-exported : AnsweredList (over (roomy w a) (listCall l fit work m (stateOf w))) words m m′ l l′ w w′ a a′ (read a′) k
@@ -135,8 +166,17 @@ untold-list o words m l w a x e = record { is = record { is = untold o m w (leng
 
 -- TELLING
 
+pub one-told : {w w′ a a′ : List ℕ} {c : State} {x : ℕ} → roomy w a ≡ true → w′ ≡ written c w → a′ ≡ set a 0 x → ToldWords w w′ a a′ (tells c (x ∷ [])) 0
+one-told {w} {a = a} {x = x} room p q = record { code = refl; state = p; answer = q ∙ one-set a x (roomy-answer w a room) }
+
 pub two-told : {w w′ a a′ : List ℕ} {c : State} {x y : ℕ} → roomy w a ≡ true → w′ ≡ written c w → a′ ≡ set (set a 0 x) 1 y → ToldWords w w′ a a′ (tells c (x ∷ y ∷ [])) 0
 two-told {w} {a = a} {x = x} {y = y} room p q = record { code = refl; state = p; answer = q ∙ two-set a x y (roomy-answer w a room) }
+
+pub three-told : {w w′ a a′ : List ℕ} {c : State} {x y z : ℕ} → roomy w a ≡ true → w′ ≡ written c w → a′ ≡ set (set (set a 0 x) 1 y) 2 z → ToldWords w w′ a a′ (tells c (x ∷ y ∷ z ∷ [])) 0
+three-told {w} {a = a} {x = x} {y = y} {z = z} room p q = record { code = refl; state = p; answer = q ∙ three-set a x y z (roomy-answer w a room) }
+
+pub four-told : {w w′ a a′ : List ℕ} {c : State} {x y z u : ℕ} → roomy w a ≡ true → w′ ≡ written c w → a′ ≡ set (set (set (set a 0 x) 1 y) 2 z) 3 u → ToldWords w w′ a a′ (tells c (x ∷ y ∷ z ∷ u ∷ [])) 0
+four-told {w} {a = a} {x = x} {y = y} {z = z} {u = u} room p q = record { code = refl; state = p; answer = q ∙ four-set a x y z u (roomy-answer w a room) }
 
 module _ {R : Type 0} {f : R → Telling} {r : R} where
   pub told-by : {w w′ a a′ : List ℕ} {T : Telling} {k : ℕ} → f r ≡ T → ToldWords w w′ a a′ T k → ToldBy f w w′ a a′ r k

@@ -3,6 +3,9 @@ use mathlib.Core.Path.{_≡_}
 use mathlib.Core.List.{List, [], _∷_, _++_}
 use Prim.Native.Nat.{ℕ, _<_}
 use lib.ListN.{length, drop, set}
+use lib.IntN.{ℤ}
+use mir.Syntax.{w32}
+use mir.Val.{ofZ, SFits}
 use Rattle.records.specs.declared.State.{State}
 use Rattle.records.specs.declared.Made.{Made}
 use Rattle.records.specs.declared.Made.the-variants.{Term, Refused}
@@ -12,6 +15,9 @@ use Rattle.normalize.specs.declared.Form.{Form}
 use Rattle.normalize.specs.declared.Form.the-variants as form
 use Rattle.normalize.specs.declared.DeepForm.{DeepForm}
 use Rattle.normalize.specs.declared.DeepForm.the-variants as deep
+use Rattle.wordeq.specs.declared.StepResult.{StepResult}
+use Rattle.wordeq.specs.declared.StepResult.the-variants as step
+use Rattle.capi.specs.Equations.{flag}
 
 -- the state's six words written back
 abbrev pub written : State → List ℕ → List ℕ
@@ -94,3 +100,21 @@ abbrev pub deepTelling : DeepForm → Telling
 deepTelling (deep.List n c) = tells c (1 ∷ n ∷ [])
 deepTelling (deep.None c) = tells c (0 ∷ 0 ∷ [])
 deepTelling (deep.Refused k) = refuses k
+
+-- the count of a Split's atoms that a word holds, and its guard within 32 bits
+pub record NarrowSplit (n : ℕ) (g : ℤ) : Type 0 where
+  pub list : n < 4294967296
+  pub guard : SFits w32 g
+
+abbrev pub answerTelling : StepResult → Telling
+answerTelling (step.Done c) = tells c (0 ∷ [])
+answerTelling (step.Saturated c) = tells c (1 ∷ [])
+answerTelling (step.Conflict c) = tells c (2 ∷ [])
+answerTelling (step.Propagate c v w f) = tells c (3 ∷ v ∷ w ∷ flag f ∷ [])
+answerTelling (step.Split c n g) = tells c (4 ∷ n ∷ ofZ w32 g ∷ [])
+answerTelling (step.Refused k) = refuses k
+
+-- counts and a Split that words hold
+pub record NarrowAnswer (r : StepResult) : Type 0 where
+  pub counts : (c : State) (v : List ℕ) → answerTelling r ≡ tells c v → Narrow c
+  pub split : (c : State) (n : ℕ) (g : ℤ) → r ≡ step.Split c n g → NarrowSplit n g

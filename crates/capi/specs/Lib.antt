@@ -1,3 +1,4 @@
 pub mod Interface
 pub mod Leaves
 pub mod Forms
+pub mod Equations

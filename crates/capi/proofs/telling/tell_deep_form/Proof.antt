@@ -3,10 +3,10 @@ use Rattle.capi.specs.Leaves.{deepTelling}
 use mathlib.Core.Path.{ap}
 use native.Mathlib.Omega.{arith}
 use borrow.Author.Needs.{needs}
-use Rattle.capi.proofs.tell_deep_form.Statement.{statement}
-use Rattle.capi.proofs.tell_deep_form.Tie as tie
-use Rattle.capi.proofs.tell_deep_form.Reads as reads
-use Rattle.capi.proofs.tell_deep_form.Lts as lts
+use Rattle.capi.proofs.telling.tell_deep_form.Statement.{statement}
+use Rattle.capi.proofs.telling.tell_deep_form.Tie as tie
+use Rattle.capi.proofs.telling.tell_deep_form.Reads as reads
+use Rattle.capi.proofs.telling.tell_deep_form.Lts as lts
 
 pub tell-deep-form-spec : {M : Type 1} → statement M
 tell-deep-form-spec =
