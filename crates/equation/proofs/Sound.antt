@@ -63,7 +63,7 @@ held-before {s} {s′} {w} g rs good h = record { merges = λ t i k. merge t i k
 -- THE SIDES
 
 -- the other side of an equation of strings
-second-string : (s : Store) → Audited s → (e : ℕ) → isEquation s e ≡ true → isString s (term s e .first) ≡ true → isString s (term s e .second) ≡ true
+pub second-string : (s : Store) → Audited s → (e : ℕ) → isEquation s e ≡ true → isString s (term s e .first) ≡ true → isString s (term s e .second) ≡ true
 unfolding isEquatable within
 second-string s d e q i =
     ⊎-elim (λ k. both-right (isString s (term s e .first)) _ k)

@@ -1,4 +1,214 @@
-// The step over one equation.
-pub struct Step {
-    pub case: u32,
+// The step over one equation: the deep forms of its two sides, then wordeq over them.
+ghost use mathlib.Core.Path.{_≡_};
+ghost use mathlib.Core.Bool.{true};
+ghost use mathlib.Core.List.{[]};
+ghost use Prim.Native.Nat.{_≤_};
+ghost use lib.ListN.{length};
+ghost use Rattle.records.specs.Store.{isString};
+ghost use Rattle.records.specs.View.{lent, storeOf, pairsView};
+ghost use Rattle.records.specs.Rules.{listLimit, isList};
+ghost use Rattle.records.specs.Audited.{Ready};
+ghost use Rattle.records.specs.Calls.{Working};
+ghost use Rattle.normalize.specs.Normalize.{formArguments};
+ghost use Rattle.wordeq.specs.Wordeq.{isGuard};
+ghost use Rattle.wordeq.specs.Results.{BothLists};
+ghost use Rattle.equation.specs.Equation.{step, stepArguments};
+ghost use Rattle.equation.specs.Calls.{stepped, PublicStep, resolveForms, rightForm, carried};
+use normalize::DeepForm;
+use normalize::deeper::deep_normal_form_cited_unchecked;
+use records::LIST_LIMIT;
+use records::State;
+use records::fields;
+use records::rules;
+use wordeq::StepResult;
+use wordeq::resolving::resolve_unchecked;
+use wordeq::resolving::with_reasons;
+
+// The answer, with the new counts.
+pub enum Outcome {
+    Done(State),
+    Saturated(State),
+    Conflict(State),
+    // the variable, its word, the link flag
+    Propagate(State, u32, u32, bool),
+    // how many atoms are listed, the guard negated
+    Split(State, usize, i32),
+    Unexpanded(State),
+    Refused(u32),
+}
+
+// wordeq's answer as the step's: Done returns the incoming count of reasons, the other cases carry those of the forms.
+fn carried(o: StepResult, incoming: usize) -> Outcome
+    ensures { λ r. ⌜ r ≡ carried incoming o ⌝ }
+{
+    match o {
+        StepResult::Done(c) => Outcome::Done(with_reasons(c, incoming)),
+        StepResult::Saturated(c) => Outcome::Saturated(c),
+        StepResult::Conflict(c) => Outcome::Conflict(c),
+        StepResult::Propagate(c, v, w, f) => Outcome::Propagate(c, v, w, f),
+        StepResult::Split(c, n, g) => Outcome::Split(c, n, g),
+        StepResult::Refused(k) => Outcome::Refused(k),
+    }
+}
+
+// wordeq over the two forms, with their reasons incoming.
+fn resolve_forms<'a>(
+    terms: &mut [u32],
+    cells: &mut [u32],
+    chars: &mut [u32],
+    reasons: &mut [u32],
+    keys: &mut [u32],
+    c: State,
+    lhs: &'a [u32],
+    rhs: &'a [u32],
+    guard: i32,
+    list: &mut [u32],
+    incoming: usize,
+) -> Outcome
+    requires { ⌜ Ready (lent (now terms) (now cells) (now chars) (now reasons) (now keys)) c ⌝ ∗ ⌜ BothLists (storeOf (lent (now terms) (now cells) (now chars) (now reasons) (now keys)) c) (now lhs) (now rhs) ⌝ ∗ ⌜ isGuard guard ≡ true ⌝ ∗ ⌜ (listLimit ≤ length (now list)) × (incoming ≤ c .reasons) ⌝ }
+    ensures { λ o. ⌜ Working (resolveForms (now (lhs .entry)) (now (rhs .entry)) guard (pairsView (now (reasons .entry)) incoming)) (lent (now (terms .entry)) (now (cells .entry)) (now (chars .entry)) (now (reasons .entry)) (now (keys .entry))) (lent (now (terms .exit)) (now (cells .exit)) (now (chars .exit)) (now (reasons .exit)) (now (keys .exit))) c (stepped o (lent (now (terms .exit)) (now (cells .exit)) (now (chars .exit)) (now (reasons .exit)) (now (keys .exit))) (now (list .exit))) ⌝ }
+{
+    let o = resolve_unchecked(terms, cells, chars, reasons, keys, c, lhs, rhs, guard, list);
+    carried(o, incoming)
+}
+
+// From the deep form of the right side on.
+fn right_form(
+    terms: &mut [u32],
+    cells: &mut [u32],
+    chars: &mut [u32],
+    reasons: &mut [u32],
+    keys: &mut [u32],
+    c: State,
+    known: &[u32],
+    t: u32,
+    lhs: &[u32],
+    guard: i32,
+    list: &mut [u32],
+    incoming: usize,
+) -> Outcome
+    requires { ⌜ Ready (lent (now terms) (now cells) (now chars) (now reasons) (now keys)) c ⌝ ∗ ⌜ formArguments (now known) t (storeOf (lent (now terms) (now cells) (now chars) (now reasons) (now keys)) c) ≡ true ⌝ ∗ ⌜ isList (storeOf (lent (now terms) (now cells) (now chars) (now reasons) (now keys)) c) (now lhs) ≡ true ⌝ ∗ ⌜ isGuard guard ≡ true ⌝ ∗ ⌜ (listLimit ≤ length (now list)) × (incoming ≤ c .reasons) ⌝ }
+    ensures { λ o. ⌜ Working (rightForm (now (known .entry)) t guard (now (lhs .entry)) (pairsView (now (reasons .entry)) incoming)) (lent (now (terms .entry)) (now (cells .entry)) (now (chars .entry)) (now (reasons .entry)) (now (keys .entry))) (lent (now (terms .exit)) (now (cells .exit)) (now (chars .exit)) (now (reasons .exit)) (now (keys .exit))) c (stepped o (lent (now (terms .exit)) (now (cells .exit)) (now (chars .exit)) (now (reasons .exit)) (now (keys .exit))) (now (list .exit))) ⌝ }
+{
+    let mut right: [u32; 1024] = [0; 1024];
+    match deep_normal_form_cited_unchecked(
+        terms,
+        cells,
+        chars,
+        reasons,
+        keys,
+        c,
+        known,
+        t,
+        &mut right,
+    ) {
+        DeepForm::List(n, d) => resolve_forms(
+            terms,
+            cells,
+            chars,
+            reasons,
+            keys,
+            d,
+            lhs,
+            &right[..n],
+            guard,
+            list,
+            incoming,
+        ),
+        DeepForm::None(d) => Outcome::Unexpanded(with_reasons(d, incoming)),
+        DeepForm::Refused(k) => Outcome::Refused(k),
+    }
+}
+
+// The step over the equation e.
+pub fn step_unchecked(
+    terms: &mut [u32],
+    cells: &mut [u32],
+    chars: &mut [u32],
+    reasons: &mut [u32],
+    keys: &mut [u32],
+    c: State,
+    known: &[u32],
+    e: u32,
+    guard: i32,
+    list: &mut [u32],
+) -> Outcome
+    requires { ⌜ Ready (lent (now terms) (now cells) (now chars) (now reasons) (now keys)) c ⌝ ∗ ⌜ stepArguments (now known) e guard (storeOf (lent (now terms) (now cells) (now chars) (now reasons) (now keys)) c) ≡ true ⌝ ∗ ⌜ listLimit ≤ length (now list) ⌝ }
+    ensures { λ o. ⌜ Working (step (now (known .entry)) e guard) (lent (now (terms .entry)) (now (cells .entry)) (now (chars .entry)) (now (reasons .entry)) (now (keys .entry))) (lent (now (terms .exit)) (now (cells .exit)) (now (chars .exit)) (now (reasons .exit)) (now (keys .exit))) c (stepped o (lent (now (terms .exit)) (now (cells .exit)) (now (chars .exit)) (now (reasons .exit)) (now (keys .exit))) (now (list .exit))) ⌝ }
+{
+    let mut left: [u32; 1024] = [0; 1024];
+    let a = fields::first(terms, e);
+    let b = fields::second(terms, e);
+    match deep_normal_form_cited_unchecked(
+        terms,
+        cells,
+        chars,
+        reasons,
+        keys,
+        c,
+        known,
+        a,
+        &mut left,
+    ) {
+        DeepForm::List(n, d) => right_form(
+            terms,
+            cells,
+            chars,
+            reasons,
+            keys,
+            d,
+            known,
+            b,
+            &left[..n],
+            guard,
+            list,
+            c.reasons,
+        ),
+        DeepForm::None(d) => Outcome::Unexpanded(with_reasons(d, c.reasons)),
+        DeepForm::Refused(k) => Outcome::Refused(k),
+    }
+}
+
+// A list of string terms, an equation of two string terms, a guard that can be negated.
+fn can_step(terms: &[u32], c: State, known: &[u32], e: u32, guard: i32) -> bool
+    ensures { λ r. ⌜ r ≡ stepArguments (now (known .entry)) e guard (storeOf (lent (now (terms .entry)) [] [] [] []) c) ⌝ }
+{
+    if !rules::is_list(terms, c, known) {
+        return false;
+    }
+    if rules::kind_of(terms, c.terms, e) != 5 {
+        return false;
+    }
+    if !rules::is_string(terms, c.terms, fields::first(terms, e)) {
+        return false;
+    }
+    wordeq::is_guard(guard)
+}
+
+// One step over the equation e, with the known list: the deep forms of both sides, then wordeq, its atoms in the first words of `list`.
+pub fn step(
+    terms: &mut [u32],
+    cells: &mut [u32],
+    chars: &mut [u32],
+    reasons: &mut [u32],
+    keys: &mut [u32],
+    c: State,
+    known: &[u32],
+    e: u32,
+    guard: i32,
+    list: &mut [u32],
+) -> Outcome
+    ensures { λ o. ⌜ PublicStep (now (known .entry)) e guard (lent (now (terms .entry)) (now (cells .entry)) (now (chars .entry)) (now (reasons .entry)) (now (keys .entry))) (lent (now (terms .exit)) (now (cells .exit)) (now (chars .exit)) (now (reasons .exit)) (now (keys .exit))) (now (list .entry)) (now (list .exit)) c (stepped o (lent (now (terms .exit)) (now (cells .exit)) (now (chars .exit)) (now (reasons .exit)) (now (keys .exit))) (now (list .exit))) ⌝ }
+{
+    if list.len() < LIST_LIMIT {
+        return Outcome::Refused(1);
+    }
+    let k = records::audit(terms, cells, chars, reasons, keys, c);
+    if k != 0 {
+        return Outcome::Refused(k);
+    }
+    if !can_step(terms, c, known, e, guard) {
+        return Outcome::Refused(5);
+    }
+    step_unchecked(terms, cells, chars, reasons, keys, c, known, e, guard, list)
 }

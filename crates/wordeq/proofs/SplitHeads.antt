@@ -37,6 +37,7 @@ use Rattle.wordeq.specs.Sides.{termed, spelled, Texts, Spelled}
 use Rattle.wordeq.specs.Splits.{listed, characterAtoms, headAtoms}
 use Rattle.wordeq.specs.Heads.{HeadsApart, HeadPair, atomsBy, atomsOf, splitNew}
 use Rattle.wordeq.proofs.Sequence.{grows-key, working-then, working-stop}
+use Rattle.wordeq.proofs.Strip.{Apart}
 use Rattle.wordeq.proofs.SidesTexts.{text-words}
 use Rattle.wordeq.proofs.SidesReady.{ready-spelled}
 use Rattle.wordeq.proofs.Splitting.{splitting, characters-split, heads-split-is, split-done, split-stop}
@@ -284,6 +285,12 @@ module _ {m : Lent} {c : State} (g : ℤ) (x : Bool) where
         go [] r p q e f h w = absurd (p refl)
         go (a ∷ l) [] p q e f h w = absurd (q refl)
         go (a ∷ l) (b ∷ r) p q e f h w = record { says = rw (e, f, h) (new-is g a b (storeOf m c) ∙ w .says); kept = w .kept }
+
+-- the heads that step 1 leaves
+pub heads-apart : (l r : List ℕ) → Apart l r → HeadsApart l r
+heads-apart [] r h = record { apart = λ p q e. absurd (omega arith) }
+heads-apart (a ∷ l) [] h = record { apart = λ p q e. absurd (omega arith) }
+heads-apart (a ∷ l) (b ∷ r) h = record { apart = λ p q e. h e }
 
 some-there : (l : List ℕ) → (length l ≡ 0 → ⊥) → 0 < length l
 some-there [] n = absurd (n refl)

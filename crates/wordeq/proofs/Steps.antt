@@ -29,8 +29,9 @@ use Rattle.wordeq.specs.Lacking.{conflicts as lacks}
 use Rattle.wordeq.specs.Heads.{HeadsApart}
 use Rattle.wordeq.specs.Stripping.{readIn, part, stripped, Inside, Strips}
 use Rattle.wordeq.proofs.LackingTries.{constants-need, constants-conflict, constants-pass}
-use Rattle.wordeq.proofs.Strip.{Apart, strip-ends}
+use Rattle.wordeq.proofs.Strip.{strip-ends}
 use Rattle.wordeq.proofs.Strip as strip
+use Rattle.wordeq.proofs.SplitHeads.{heads-apart}
 use Rattle.wordeq.proofs.Sequence.{Higher, agree-below}
 use Rattle.wordeq.proofs.Trying.{Lined, Last, occursBoth, conflicts, propagates, tiles, grouped, occurs-goes, conflicts-goes, propagates-goes, after-groups, tiles-goes, strings-of, done-is, else-works, else-tries, else-last}
 
@@ -83,11 +84,6 @@ pub bare-right : (l r : List ℕ) → length l ≡ 0 → eqb (length r) 0 ≡ is
 bare-right [] [] z = refl
 bare-right [] (b ∷ r) z = ne-eqb (length (b ∷ r)) 0 (λ e. omega arith)
 bare-right (a ∷ l) r z = absurd (omega arith)
-
-apart-heads : (l r : List ℕ) → Apart l r → HeadsApart l r
-apart-heads [] r h = record { apart = λ p q e. absurd (omega arith) }
-apart-heads (a ∷ l) [] h = record { apart = λ p q e. absurd (omega arith) }
-apart-heads (a ∷ l) (b ∷ r) h = record { apart = λ p q e. h e }
 
 higher-added : {s s₁ : Store} → Added s s₁ → Higher s s₁
 higher-added {s} a =
@@ -171,7 +167,7 @@ module _ (g : ℤ) (l r : List ℕ) {m m₁ : Lent} {c : State} {y : Stripped} (
           }
 
       pub parts-apart : HeadsApart (part l i p) (part r i q)
-      parts-apart = apart-heads (part l i p) (part r i q) (off .apart)
+      parts-apart = heads-apart (part l i p) (part r i q) (off .apart)
 
       pub steps-after : (b : Bool) → b ≡ isBare (part l i p) (part r i q) → b ≡ false → (added : Bool) → added ≡ ltb (c .reasons) (d .reasons)
           → {h : ℤ} → h ≡ g → {m₂ : Lent} (o : StepResult) (k : List ℕ) → Working (after h added (part l i p) (part r i q)) m₁ m₂ d (tried o m₂ k) → Working (steps g l r) m m₂ c (resolved o m₂ k)

@@ -1,11 +1,11 @@
 // Steps 6 and 7: the heads of the two lists.
 ghost use mathlib.Core.Path.{_≡_};
-ghost use mathlib.Core.Bool.{true, _&&_};
+ghost use mathlib.Core.Bool.{true};
 ghost use mathlib.Core.List.{_∷_};
 ghost use Prim.Native.Nat.{ℕ, _≤_};
 ghost use lib.ListN.{length, drop};
 ghost use lib.IntN.{negℤ};
-ghost use Rattle.records.specs.Store.{isConstant, text};
+ghost use Rattle.records.specs.Store.{text};
 ghost use Rattle.records.specs.View.{lent, storeOf};
 ghost use Rattle.records.specs.Rules.{listLimit};
 ghost use Rattle.records.specs.Audited.{Ready};
@@ -53,17 +53,6 @@ fn first_letter(terms: &[u32], chars: &[u32], c: State, a: u32) -> u32
 {
     let p = fields::wide(fields::first(terms, a));
     fields::word(chars, p)
-}
-
-fn both_constant(terms: &[u32], c: State, a: u32, b: u32) -> bool
-    ensures { λ r. do
-      let s = termed (now (terms .entry)) c
-      ⌜ r ≡ (isConstant s a && isConstant s b) ⌝ }
-{
-    if rules::kind_of(terms, c.terms, a) != 1 {
-        return false;
-    }
-    rules::kind_of(terms, c.terms, b) == 1
 }
 
 // The atoms for two heads, of which one at most is a constant.
@@ -151,7 +140,7 @@ pub(crate) fn split_unchecked(
     if sides::constants_differ(terms, chars, c, a, b) {
         return StepResult::Conflict(c);
     }
-    if both_constant(terms, c, a, b) {
+    if sides::both_constant(terms, c, a, b) {
         return StepResult::Done(c);
     }
     if added {

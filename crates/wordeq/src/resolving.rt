@@ -140,7 +140,7 @@ fn run<'a>(
 }
 
 // The counts with n reasons.
-fn with_reasons(d: State, n: usize) -> State
+pub fn with_reasons(d: State, n: usize) -> State
     ensures { λ r. ⌜ r ≡ reasonsAt d n ⌝ }
 {
     State {

@@ -207,7 +207,7 @@ pub(crate) fn is_plain(terms: &[u32], chars: &[u32], c: State, v: u32) -> bool
     !text_is(chars, fields::first(terms, v), &strk)
 }
 
-fn both_constant(terms: &[u32], c: State, a: u32, b: u32) -> bool
+pub(crate) fn both_constant(terms: &[u32], c: State, a: u32, b: u32) -> bool
     ensures { λ r. do
       let s = termed (now (terms .entry)) c
       ⌜ r ≡ (isConstant s a && isConstant s b) ⌝ }

@@ -1,0 +1,36 @@
+use mathlib.Core.Path.{_≡_}
+use Prim.Native.Nat.{_-_, _<_}
+use lib.ListN.{length}
+use native.Mathlib.Omega.{arith}
+use borrow.Author.Needs.{needs}
+use Rattle.answers.proofs.run.Statement.{statement}
+use Rattle.answers.proofs.run.Tie as tie
+
+abbrev Inv-loop : tie.InvT-loop
+Inv-loop text terms₀ cells₀ chars₀ reasons₀ keys known₀ c₀ at₀ terms cells chars reasons known c at = (length text < 18446744073709551615) × (length terms ≡ length terms₀) × (length cells ≡ length cells₀) × (length chars ≡ length chars₀) × (length reasons ≡ length reasons₀) × (length known ≡ length known₀)
+
+abbrev μ-loop : tie.MeasureT-loop
+μ-loop text terms₀ cells₀ chars₀ reasons₀ keys known₀ c₀ at₀ terms cells chars reasons known c at = length text - at
+
+pub run-spec : {M : Type 1} → statement M
+run-spec =
+    tie.close
+    (tie.spec
+    Inv-loop
+    μ-loop
+    (λ c κs. search needs)
+    (λ c. search needs)
+    (λ c κs. search needs)
+    (λ c. search needs)
+    (λ c. search needs)
+    (λ c. search needs)
+    (λ c κs. search needs)
+    (λ c. search needs)
+    (λ c. search needs)
+    (λ c. search needs)
+    (λ c. search needs)
+    (λ c. search needs)
+    (λ c. search needs)
+    (λ c. search needs)
+    (λ c. search needs)
+    (λ c. search needs))

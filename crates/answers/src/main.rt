@@ -1,0 +1,231 @@
+// Stores of many shapes, and what find, explain and the normal forms answer on them. Standard input has the cases, a command to a line: a
+// letter, then decimal numbers, each after one space, or a text after one space, a byte to a character.
+//
+//   N               no record counted
+//   V n             n variables more, each alone in its class
+//   H n             n variables more, of one class: in the forest each below the next one, the edge of t with label at and stamp t;
+//                   in the class tree all below the first
+//   I text          a variable of this name
+//   K text          a constant of these characters
+//   S x y ..        a constant of the characters with these numbers
+//   O n x           a constant of n times the character with number x
+//   P t u ..        the concatenation of t, u ..
+//   X k f s         a term with these first three words
+//   A t p k v s     the edge from t to p, in the class tree too: kind and value of its label, and its stamp
+//   F t p k v s     the same in the forest alone
+//   C t p           the class parent of t
+//   G t p s a b ..  the congruence edge from t to p, in the class tree too: its stamp and its pairs (a, b) ..
+//   U n d           n times two concatenations t and t + 1 of the terms d and 6 - d before each, joined by congruence with stamp t
+//   Y n             variables x0 to xn and, for i from 1 to n, the concatenation of xi and xn, equal to the variable before xi by ai
+//   R k v           one reason more
+//   W n             n words are lent for reasons
+//   M n             n terms are counted
+//   T t i x         word i of term t becomes x
+//   D c i x         word i of cell c becomes x
+//   L t u ..        the known list
+//   J n t           n times t more in the known list
+//   Z n             n words are lent for a form's list
+//   f t             find
+//   e a b           explain
+//   E a b           explain, and the reasons added stay
+//   n t             the normal form of t over the known list
+//   d t             the deep form of t over the known list
+//   #               a remark, which is printed
+//
+// What is asked is printed with its answer: the root, or the refusal; the count of reasons and the reasons, with a3-5 for a3 a4 a5; for
+// the forms the count of atoms and the atoms, with 7*3 for 7 7 7, or none; then the reasons, how many terms and characters are counted
+// after the call, and the texts of the constants made. What a form made is not counted from then on.
+use asking::ask;
+use asking::is_ask;
+use reading::letter;
+use reading::line_end;
+use reading::read;
+ghost use Prim.Native.Nat.{_≤_};
+
+pub mod adding;
+pub mod asking;
+pub mod building;
+pub mod reading;
+pub mod saying;
+
+// How many terms, cells, characters and reasons are counted, how many words are lent for reasons, how many atoms the known list has, and
+// how many words are lent for a form's list.
+pub struct Counts {
+    pub terms: u32,
+    pub cells: u32,
+    pub chars: u32,
+    pub reasons: usize,
+    pub room: usize,
+    pub known: usize,
+    pub list: usize,
+}
+
+fn least(a: usize, b: usize) -> usize
+    ensures { λ r. ⌜ r ≤ b ⌝ }
+{
+    if a < b {
+        return a;
+    }
+    b
+}
+
+// With as many words lent for a form's list as the counts say.
+fn ask_list(
+    l: u8,
+    n: &[u32],
+    terms: &mut [u32],
+    cells: &[u32],
+    chars: &mut [u32],
+    reasons: &mut [u32],
+    keys: &[u32],
+    known: &mut [u32],
+    list: &mut [u32],
+    c: Counts,
+) -> Counts {
+    let wide = least(c.list, list.len());
+    ask(
+        l,
+        n,
+        terms,
+        cells,
+        chars,
+        reasons,
+        keys,
+        known,
+        &mut list[..wide],
+        c,
+    )
+}
+
+// With a known list as long as the counts say.
+fn ask_known(
+    l: u8,
+    n: &[u32],
+    terms: &mut [u32],
+    cells: &[u32],
+    chars: &mut [u32],
+    reasons: &mut [u32],
+    keys: &[u32],
+    known: &mut [u32],
+    list: &mut [u32],
+    c: Counts,
+) -> Counts {
+    let of = least(c.known, known.len());
+    ask_list(
+        l,
+        n,
+        terms,
+        cells,
+        chars,
+        reasons,
+        keys,
+        &mut known[..of],
+        list,
+        c,
+    )
+}
+
+// With as many words lent for reasons as the counts say.
+fn ask_room(
+    l: u8,
+    n: &[u32],
+    terms: &mut [u32],
+    cells: &[u32],
+    chars: &mut [u32],
+    reasons: &mut [u32],
+    keys: &[u32],
+    known: &mut [u32],
+    list: &mut [u32],
+    c: Counts,
+) -> Counts {
+    let room = least(c.room, reasons.len());
+    ask_known(
+        l,
+        n,
+        terms,
+        cells,
+        chars,
+        &mut reasons[..room],
+        keys,
+        known,
+        list,
+        c,
+    )
+}
+
+fn step(
+    line: &[u8],
+    terms: &mut [u32],
+    cells: &mut [u32],
+    chars: &mut [u32],
+    reasons: &mut [u32],
+    keys: &[u32],
+    known: &mut [u32],
+    c: Counts,
+) -> Counts {
+    let l = letter(line);
+    if l == 35 {
+        io::write_all(1, line);
+        io::write_all(1, b"\n");
+        return c;
+    }
+    let mut n: [u32; 256] = [0; 256];
+    let last = read(l, line, &mut n);
+    if is_ask(l) {
+        io::write_all(1, line);
+        let mut list: [u32; 1024] = [0; 1024];
+        let d = ask_room(
+            l,
+            &n,
+            terms,
+            cells,
+            chars,
+            reasons,
+            keys,
+            known,
+            &mut list,
+            c,
+        );
+        io::write_all(1, b"\n");
+        return d;
+    }
+    adding::apply(l, &n, last, terms, cells, chars, reasons, known, c)
+}
+
+fn run(
+    text: &[u8],
+    terms: &mut [u32],
+    cells: &mut [u32],
+    chars: &mut [u32],
+    reasons: &mut [u32],
+    keys: &[u32],
+    known: &mut [u32],
+) {
+    let mut c = adding::none();
+    let mut at: usize = 0;
+    while at < text.len() {
+        let end = line_end(text, at);
+        c = step(&text[at..end], terms, cells, chars, reasons, keys, known, c);
+        at = end + 1;
+    }
+}
+
+fn main() {
+    let mut text = io::large_buffer();
+    let len = io::read_full(0, &mut text);
+    let mut terms: [u32; 4104] = [0; 4104];
+    let mut cells: [u32; 6147] = [0; 6147];
+    let mut chars: [u32; 16386] = [0; 16386];
+    let mut reasons: [u32; 8194] = [0; 8194];
+    let keys: [u32; 2] = [0; 2];
+    let mut known: [u32; 1026] = [0; 1026];
+    run(
+        &text[..len],
+        &mut terms,
+        &mut cells,
+        &mut chars,
+        &mut reasons,
+        &keys,
+        &mut known,
+    );
+}

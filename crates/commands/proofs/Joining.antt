@@ -1,0 +1,227 @@
+-- Joining two classes: the tests, the words written, and the three ways of the call.
+use mathlib.Core.Path.{_≡_, refl, sym, ap, _∙_}
+use mathlib.Core.Bool.{Bool, true, false, not, _&&_}
+use mathlib.Core.List.{List}
+use mathlib.Core.Logic.{⊎-elim}
+use Prim.Native.Nat.{ℕ, zero, suc, _+_, _-_, _*_, _<_, _≤_}
+use native.Mathlib.Decide.{ℕ-discrete}
+use native.Mathlib.Omega.{arith}
+use lib.ListN.{length, getD, set, length-set}
+use lib.Seq.{ext-getD, getD-set-same, getD-set-other}
+use lib.Dec.{eqb}
+use borrow.Author.Tests.{eq-eqb, ne-eqb, not-true, not-false}
+use Rattle.records.specs.declared.State.{State}
+use Rattle.records.specs.Store.{Term, Store, Out, ok, stop, termIn, noTerm, within, isString, sameClass, rootIn, classUp}
+use Rattle.records.specs.View.{Lent, lent, storeOf, termAt, termsView}
+use Rattle.records.specs.Rules.{audit, isNumber}
+use Rattle.records.specs.Audited.{Ready, Closed}
+use Rattle.records.specs.Calls.{call, unless, checked}
+use Rattle.records.proofs.Lists.{failed, passed, and-stop, and-next, five-1, five-2, five-3, five-4, five-last, both-left, table-length, table-at, within-low, within-high}
+use Rattle.records.proofs.Views.{term-is}
+use Rattle.records.proofs.Passed.{ready-of}
+use Rattle.records.proofs.Public.{call-unready, call-unfit}
+use Rattle.records.proofs.Grown.{string-term}
+use Rattle.records.proofs.Climbs.{term-within, ready-roots}
+use Rattle.commands.specs.Merge.{isRootIn, canJoin, under, joinIn, joinClasses, Joined, joined, Merged}
+
+-- A ROOT
+
+module _ (l : List ℕ) (n t x : ℕ) (h : within n t ≡ true) where
+  here : termIn (termsView l n) t ≡ termAt l t
+  here = term-is l n t (within-low n t h) (within-high n t h)
+
+  class-is : x ≡ getD l (8 * t + 3) 0 → termIn (termsView l n) t .classParent ≡ x
+  class-is e = ap (λ (r : Term). r .classParent) here ∙ sym e
+
+  pub root-not : x ≡ getD l (8 * t + 3) 0 → (x ≡ t → ⊥) → false ≡ isRootIn (termsView l n) t
+  unfolding isRootIn
+  root-not e z = and-stop (eqb (termIn (termsView l n) t .classParent) t) (eqb (termIn (termsView l n) t .forestParent) t)
+      (ne-eqb _ t (λ q. z (sym (class-is e) ∙ q)))
+
+  pub root-by : (y : ℕ) → x ≡ getD l (8 * t + 3) 0 → x ≡ t → y ≡ getD l (8 * t + 4) 0 → eqb y t ≡ isRootIn (termsView l n) t
+  unfolding isRootIn
+  root-by y e q f = and-next (eqb (termIn (termsView l n) t .classParent) t) (eqb (termIn (termsView l n) t .forestParent) t) (eqb y t)
+      (eq-eqb _ t (class-is e ∙ q))
+      (ap (λ (z : ℕ). eqb z t) (f ∙ sym (ap (λ (r : Term). r .forestParent) here)))
+
+-- THE TESTS
+
+module _ (m : Lent) (c : State) (child parent n : ℕ) where
+  abbrev first : Bool
+  first = isString (storeOf m c) child
+
+  abbrev second : Bool
+  second = isString (storeOf m c) parent
+
+  abbrev third : Bool
+  third = isNumber n
+
+  abbrev fourth : Bool
+  fourth = isRootIn (termsView (m .terms) (c .terms)) child
+
+  abbrev fifth : Bool
+  fifth = not (sameClass (storeOf m c) child parent)
+
+  pub join-1 : (b : Bool) → b ≡ first → not b ≡ true → false ≡ canJoin child parent n (storeOf m c)
+  unfolding canJoin
+  join-1 b e h = five-1 first second third fourth fifth (failed first b e h)
+
+  pub join-2 : (b : Bool) → b ≡ second → not b ≡ true → false ≡ canJoin child parent n (storeOf m c)
+  unfolding canJoin
+  join-2 b e h = five-2 first second third fourth fifth (failed second b e h)
+
+  pub join-3 : (b : Bool) → b ≡ third → not b ≡ true → false ≡ canJoin child parent n (storeOf m c)
+  unfolding canJoin
+  join-3 b e h = five-3 first second third fourth fifth (failed third b e h)
+
+  pub join-4 : (b : Bool) → b ≡ fourth → not b ≡ true → false ≡ canJoin child parent n (storeOf m c)
+  unfolding canJoin
+  join-4 b e h = five-4 first second third fourth fifth (failed fourth b e h)
+
+  pub join-last : (b₁ b₂ b₃ b₄ : Bool) → b₁ ≡ first → not b₁ ≡ false → b₂ ≡ second → not b₂ ≡ false → b₃ ≡ third → not b₃ ≡ false → b₄ ≡ fourth → not b₄ ≡ false
+      → (x y : ℕ) → x ≡ rootIn (termsView (m .terms) (c .terms)) child → y ≡ rootIn (termsView (m .terms) (c .terms)) parent
+      → not (eqb x y) ≡ canJoin child parent n (storeOf m c)
+  unfolding canJoin
+  join-last b₁ b₂ b₃ b₄ e₁ h₁ e₂ h₂ e₃ h₃ e₄ h₄ x y p q =
+      five-last first second third fourth fifth (not (eqb x y)) (passed first b₁ e₁ h₁) (passed second b₂ e₂ h₂) (passed third b₃ e₃ h₃) (passed fourth b₄ e₄ h₄)
+      (rw (p, q))
+
+  -- a string term is a term, and class parents are terms
+  pub string-within : (t : ℕ) (b : Bool) → b ≡ isString (storeOf m c) t → not b ≡ false → within (c .terms) t ≡ true
+  string-within t b e h = term-within m c t (string-term (storeOf m c) t (passed (isString (storeOf m c) t) b e h))
+
+  pub can-climb : Ready m c → (t : ℕ) (b : Bool) → b ≡ isString (storeOf m c) t → not b ≡ false
+      → (within (c .terms) t ≡ true) × Closed (classUp (termsView (m .terms) (c .terms))) (c .terms)
+  can-climb d t b e h = (string-within t b e h, ready-roots m c (d .audited .classed))
+
+-- THE WORDS
+
+module _ (l : List ℕ) (t p v s : ℕ) (room : 8 * t + 8 ≤ length l) where
+  abbrev written : List ℕ
+  written = set (set (set (set (set l (8 * t + 3) p) (8 * t + 4) p) (8 * t + 5) 1) (8 * t + 6) v) (8 * t + 7) s
+
+  away : (j : ℕ) → (8 * t + 3 ≤ j → j ≤ 8 * t + 7 → ⊥) → getD written j 0 ≡ getD l j 0
+  away j z =
+      getD-set-other (set (set (set (set l (8 * t + 3) p) (8 * t + 4) p) (8 * t + 5) 1) (8 * t + 6) v) (8 * t + 7) j s 0 (λ e. z (omega arith) (omega arith))
+      ∙ getD-set-other (set (set (set l (8 * t + 3) p) (8 * t + 4) p) (8 * t + 5) 1) (8 * t + 6) j v 0 (λ e. z (omega arith) (omega arith))
+      ∙ getD-set-other (set (set l (8 * t + 3) p) (8 * t + 4) p) (8 * t + 5) j 1 0 (λ e. z (omega arith) (omega arith))
+      ∙ getD-set-other (set l (8 * t + 3) p) (8 * t + 4) j p 0 (λ e. z (omega arith) (omega arith))
+      ∙ getD-set-other l (8 * t + 3) j p 0 (λ e. z (omega arith) (omega arith))
+
+  word-3 : getD written (8 * t + 3) 0 ≡ p
+  word-3 =
+      getD-set-other (set (set (set (set l (8 * t + 3) p) (8 * t + 4) p) (8 * t + 5) 1) (8 * t + 6) v) (8 * t + 7) (8 * t + 3) s 0 (λ e. omega arith)
+      ∙ getD-set-other (set (set (set l (8 * t + 3) p) (8 * t + 4) p) (8 * t + 5) 1) (8 * t + 6) (8 * t + 3) v 0 (λ e. omega arith)
+      ∙ getD-set-other (set (set l (8 * t + 3) p) (8 * t + 4) p) (8 * t + 5) (8 * t + 3) 1 0 (λ e. omega arith)
+      ∙ getD-set-other (set l (8 * t + 3) p) (8 * t + 4) (8 * t + 3) p 0 (λ e. omega arith)
+      ∙ getD-set-same l (8 * t + 3) p 0 (omega arith)
+
+  word-4 : getD written (8 * t + 4) 0 ≡ p
+  word-4 =
+      getD-set-other (set (set (set (set l (8 * t + 3) p) (8 * t + 4) p) (8 * t + 5) 1) (8 * t + 6) v) (8 * t + 7) (8 * t + 4) s 0 (λ e. omega arith)
+      ∙ getD-set-other (set (set (set l (8 * t + 3) p) (8 * t + 4) p) (8 * t + 5) 1) (8 * t + 6) (8 * t + 4) v 0 (λ e. omega arith)
+      ∙ getD-set-other (set (set l (8 * t + 3) p) (8 * t + 4) p) (8 * t + 5) (8 * t + 4) 1 0 (λ e. omega arith)
+      ∙ getD-set-same (set l (8 * t + 3) p) (8 * t + 4) p 0 (simp length-set (omega arith))
+
+  word-5 : getD written (8 * t + 5) 0 ≡ 1
+  word-5 =
+      getD-set-other (set (set (set (set l (8 * t + 3) p) (8 * t + 4) p) (8 * t + 5) 1) (8 * t + 6) v) (8 * t + 7) (8 * t + 5) s 0 (λ e. omega arith)
+      ∙ getD-set-other (set (set (set l (8 * t + 3) p) (8 * t + 4) p) (8 * t + 5) 1) (8 * t + 6) (8 * t + 5) v 0 (λ e. omega arith)
+      ∙ getD-set-same (set (set l (8 * t + 3) p) (8 * t + 4) p) (8 * t + 5) 1 0 (simp length-set (omega arith))
+
+  word-6 : getD written (8 * t + 6) 0 ≡ v
+  word-6 =
+      getD-set-other (set (set (set (set l (8 * t + 3) p) (8 * t + 4) p) (8 * t + 5) 1) (8 * t + 6) v) (8 * t + 7) (8 * t + 6) s 0 (λ e. omega arith)
+      ∙ getD-set-same (set (set (set l (8 * t + 3) p) (8 * t + 4) p) (8 * t + 5) 1) (8 * t + 6) v 0 (simp length-set (omega arith))
+
+  word-7 : getD written (8 * t + 7) 0 ≡ s
+  word-7 = getD-set-same (set (set (set (set l (8 * t + 3) p) (8 * t + 4) p) (8 * t + 5) 1) (8 * t + 6) v) (8 * t + 7) s 0 (simp length-set (omega arith))
+
+  record-here : termAt written t ≡ under (termAt l t) p v s
+  record-here =
+      let a0 = away (8 * t + 0) (λ a b. omega arith) in
+      let a1 = away (8 * t + 1) (λ a b. omega arith) in
+      let a2 = away (8 * t + 2) (λ a b. omega arith) in
+      let a3 = word-3 in
+      let a4 = word-4 in
+      let a5 = word-5 in
+      let a6 = word-6 in
+      let a7 = word-7 in cc
+
+  record-away : (u : ℕ) → (u ≡ t → ⊥) → termAt written u ≡ termAt l u
+  record-away u z =
+      let q : (j : ℕ) → j < 8 → 8 * t + 3 ≤ 8 * u + j → 8 * u + j ≤ 8 * t + 7 → ⊥ = λ j h a b. z (omega arith) in
+      let a0 = away (8 * u + 0) (q 0 (omega arith)) in
+      let a1 = away (8 * u + 1) (q 1 (omega arith)) in
+      let a2 = away (8 * u + 2) (q 2 (omega arith)) in
+      let a3 = away (8 * u + 3) (q 3 (omega arith)) in
+      let a4 = away (8 * u + 4) (q 4 (omega arith)) in
+      let a5 = away (8 * u + 5) (q 5 (omega arith)) in
+      let a6 = away (8 * u + 6) (q 6 (omega arith)) in
+      let a7 = away (8 * u + 7) (q 7 (omega arith)) in cc
+
+  view-is : (k : ℕ) → within k t ≡ true → termsView written k ≡ joinIn (termsView l k) t p v s
+  view-is k h =
+      let low = within-low k t h in
+      let high = within-high k t h in
+      let long : length (termsView l k) ≡ k = table-length (λ i. termAt l (suc i)) k in
+      let long′ : length (termsView written k) ≡ k = table-length (λ i. termAt written (suc i)) k in
+      ext-getD noTerm (termsView written k) (joinIn (termsView l k) t p v s) (long′ ∙ sym (length-set (termsView l k) (t - 1) _ ∙ long)) (λ i b.
+      let c : i < k = omega arith in
+      table-at (λ j. termAt written (suc j)) k i noTerm c ∙ each i c low high long (ℕ-discrete (suc i) t))
+    where
+      each : (i : ℕ) → i < k → 0 < t → t ≤ k → length (termsView l k) ≡ k → Dec (suc i ≡ t) → termAt written (suc i) ≡ getD (joinIn (termsView l k) t p v s) i noTerm
+      each i c low high long (yes e) =
+          let f : i ≡ t - 1 = omega arith in
+          ap (λ (u : ℕ). termAt written u) e ∙ record-here ∙ ap (λ (r : Term). under r p v s) (sym (term-is l k t low high))
+          ∙ sym (ap (λ (j : ℕ). getD (joinIn (termsView l k) t p v s) j noTerm) f ∙ getD-set-same (termsView l k) (t - 1) _ noTerm (omega arith))
+      each i c low high long (no z) =
+          record-away (suc i) z ∙ sym (getD-set-other (termsView l k) (t - 1) i _ noTerm (λ e. z (omega arith)) ∙ table-at (λ j. termAt l (suc j)) k i noTerm c)
+
+  pub put-under : Joined l written t p v s
+  put-under = record { long = simp length-set refl; terms = view-is }
+
+-- THE CALL
+
+module _ (m : Lent) (c : State) (child parent n stamp k : ℕ) (v : k ≡ audit m c) where
+  pub merge-unready : (k ≡ 0 → ⊥) → Merged m m c child parent n stamp k
+  merge-unready z = record { says = go k z ∙ call-unready (canJoin child parent n) (joinClasses child parent n stamp) m c k v z .says; idle = λ e. refl }
+    where
+      go : (j : ℕ) → (j ≡ 0 → ⊥) → joined j m c ≡ stop j
+      go zero q = absurd (q refl)
+      go (suc j) q = refl
+
+  module _ (z : k ≡ 0) (b : Bool) (e : b ≡ canJoin child parent n (storeOf m c)) where
+    pub merge-unfit : not b ≡ true → Merged m m c child parent n stamp 5
+    merge-unfit h = record { says = call-unfit (canJoin child parent n) (joinClasses child parent n stamp) m c k v z b e (not-true b h) .says; idle = λ q. refl }
+
+    -- the child's record is within the slice
+    pub merge-room : not b ≡ false → 8 * child + 8 ≤ length (m .terms)
+    unfolding canJoin
+    merge-room h =
+        let d = ready-of m c (sym v ∙ z) in
+        let g : canJoin child parent n (storeOf m c) ≡ true = sym e ∙ not-false b h in
+        let s = isString (storeOf m c) child in
+        let i : s ≡ true = both-left s (isString (storeOf m c) parent) (both-left _ (isNumber n) (both-left _ (isRootIn (termsView (m .terms) (c .terms)) child) (both-left _ (not (sameClass (storeOf m c) child parent)) g))) in
+        let w = within-high (c .terms) child (term-within m c child (string-term (storeOf m c) child i)) in
+        let r = d .sized .termRoom in
+        omega arith
+
+module _ (t e h r ks t′ : List ℕ) (c : State) (child parent n stamp k : ℕ) (v : k ≡ audit (lent t e h r ks) c) (z : k ≡ 0)
+    (b : Bool) (f : b ≡ canJoin child parent n (storeOf (lent t e h r ks) c)) (y : not b ≡ false) where
+  pub merge-is : Joined t t′ child parent n stamp → Merged (lent t e h r ks) (lent t′ e h r ks) c child parent n stamp 0
+  unfolding call joinClasses canJoin
+  merge-is j =
+      let m = lent t e h r ks in
+      let a : audit m c ≡ 0 = sym v ∙ z in
+      let g : canJoin child parent n (storeOf m c) ≡ true = sym f ∙ not-false b y in
+      let s = isString (storeOf m c) child in
+      let i : s ≡ true = both-left s (isString (storeOf m c) parent) (both-left _ (isNumber n) (both-left _ (isRootIn (termsView t (c .terms)) child) (both-left _ (not (sameClass (storeOf m c) child parent)) g))) in
+      let w = term-within m c child (string-term (storeOf m c) child i) in
+      let p = j .terms (c .terms) w in
+      let q = j .long in
+      record { says = stored p q ∙ sym (rw (a, g)); idle = λ o. absurd (o refl) }
+    where
+      stored : termsView t′ (c .terms) ≡ joinIn (termsView t (c .terms)) child parent n stamp → length t′ ≡ length t
+          → ok (storeOf (lent t′ e h r ks) c) tt ≡ joinClasses child parent n stamp (storeOf (lent t e h r ks) c)
+      stored p q = cc

@@ -1,0 +1,7 @@
+pub mod Listings
+pub mod Decoding
+pub mod Numbering
+pub mod Guards
+pub mod Parsing
+pub mod Printing
+pub mod Joining

@@ -1,0 +1,29 @@
+use Rattle.commands.proofs.Numbering.{Passed, passed-none, passed-here, passed-one, passed-all}
+use lib.ListN.{length}
+use Prim.Native.Nat.{_-_}
+use native.Mathlib.Omega.{arith}
+use borrow.Author.Needs.{needs}
+use Rattle.commands.proofs.numbers.field_end.Statement.{statement}
+use Rattle.commands.proofs.numbers.field_end.Tie as tie
+use Rattle.commands.proofs.numbers.field_end.Reads as reads
+use Rattle.commands.proofs.numbers.field_end.Lts as lts
+
+abbrev Inv-loop : tie.InvT-loop
+Inv-loop line at i₀ i = Passed line at i
+
+abbrev μ-loop : tie.MeasureT-loop
+μ-loop line at i₀ i = length line - i
+
+pub field-end-spec : {M : Type 1} → statement M
+field-end-spec =
+    tie.close
+    (tie.spec
+    Inv-loop
+    μ-loop
+    (λ c. passed-none _ _ (c .pre))
+    (λ c. search needs)
+    (λ c. passed-here _ _ _ (c .before .before .before .loop .inv) (c .before .before .loop-test .taken) (c .if1 .taken))
+    (λ c. search needs)
+    (λ c. search needs)
+    (λ c. passed-one _ _ _ (c .before .before .before .loop .inv) (c .before .before .loop-test .taken) (c .if1 .left))
+    (λ c. passed-all _ _ _ (c .before .loop .inv) (c .loop-test .left)))

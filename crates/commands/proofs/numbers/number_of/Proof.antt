@@ -1,0 +1,36 @@
+use Rattle.commands.proofs.Numbering.{Read, number-none, read-none, read-low, read-high, read-past, read-one, read-all}
+use lib.ListN.{length}
+use Prim.Native.Nat.{_-_}
+use native.Mathlib.Omega.{arith}
+use borrow.Author.Needs.{needs}
+use Rattle.commands.proofs.numbers.number_of.Statement.{statement}
+use Rattle.commands.proofs.numbers.number_of.Tie as tie
+use Rattle.commands.proofs.numbers.number_of.Reads as reads
+use Rattle.commands.proofs.numbers.number_of.Lts as lts
+
+abbrev Inv-loop : tie.InvT-loop
+Inv-loop w limit x₀ i₀ x i = Read limit w x i
+
+abbrev μ-loop : tie.MeasureT-loop
+μ-loop w limit x₀ i₀ x i = length w - i
+
+pub number-of-spec : {M : Type 1} → statement M
+number-of-spec =
+    tie.close
+    (tie.spec
+    Inv-loop
+    μ-loop
+    (λ c. number-none _ _ (c .if1 .taken))
+    (λ c. read-none _ _ (c .before .pre .0) (c .if1 .left))
+    (λ c. search needs)
+    (λ c. read-low _ _ _ _ (c .before .before .before .loop .inv) (c .before .before .loop-test .taken) (c .if2 .taken))
+    (λ c. read-high _ _ _ _ (c .before .before .before .before .loop .inv) (c .before .before .before .loop-test .taken) (c .if3 .taken))
+    (λ c. let b = c .before .before .before .before .loop .inv .below in let p = c .before .before .before .before .before .before .pre .1 in record { fits = omega arith })
+    (λ c. search needs)
+    (λ c. let b = c .before .before .before .before .loop .inv .below in let p = c .before .before .before .before .before .before .pre .1 in let q = c .if3 .left in record { fits = omega arith })
+    (λ c. read-past _ _ _ _ (c .before .before .before .before .before .loop .inv) (c .before .before .before .before .loop-test .taken) (c .if4 .taken))
+    (λ c. search needs)
+    (λ c. search needs)
+    (λ c. read-one _ _ _ _ (c .before .before .before .before .before .loop .inv) (c .before .before .before .before .loop-test .taken) (c .before .before .if2 .left) (c .before .if3 .left) (c .if4 .left))
+    (λ c. let b = c .before .loop .inv .below in let p = c .before .before .before .pre .1 in record { fits = omega arith })
+    (λ c. read-all _ _ _ _ (c .before .loop .inv) (c .loop-test .left)))

@@ -1,0 +1,40 @@
+use Rattle.commands.proofs.Parsing.{letter-constant, letter-variable, letter-concatenation, letter-equation, letter-merge, letter-known, letter-resolve, other-letter}
+use native.Mathlib.Omega.{arith}
+use borrow.Author.Needs.{needs}
+use Rattle.commands.proofs.parse.by_letter.Statement.{statement}
+use Rattle.commands.proofs.parse.by_letter.Tie as tie
+use Rattle.commands.proofs.parse.by_letter.Reads as reads
+use Rattle.commands.proofs.parse.by_letter.Lts as lts
+use Rattle.commands.proofs.numbers.read_resolve.Reads as read-resolve-reads
+use Rattle.commands.proofs.parse.read_concatenation.Reads as read-concatenation-reads
+use Rattle.commands.proofs.parse.read_constant.Reads as read-constant-reads
+use Rattle.commands.proofs.parse.read_equation.Reads as read-equation-reads
+use Rattle.commands.proofs.parse.read_known.Reads as read-known-reads
+use Rattle.commands.proofs.parse.read_merge.Reads as read-merge-reads
+use Rattle.commands.proofs.parse.read_variable.Reads as read-variable-reads
+
+pub by-letter-spec : {M : Type 1} → statement M
+by-letter-spec =
+    tie.close
+    (tie.spec
+    (λ c κs. search needs)
+    (λ c κs. search needs)
+    (λ c κs. search needs)
+    (λ c κs. search needs)
+    (λ c κs. search needs)
+    (λ c κs. search needs)
+    (λ c κs. search needs)
+    (λ c. search needs)
+    (λ c. letter-constant _ _ _ (c .before .before .before .before .match .keys1) (c .before .before .read-constant .ensures))
+    (λ c. search needs)
+    (λ c. letter-variable _ _ _ (c .before .before .before .before .match .keys2) (c .before .before .read-variable .ensures))
+    (λ c. search needs)
+    (λ c. letter-concatenation _ _ _ (c .before .before .before .before .match .keys3) (c .before .before .read-concatenation .ensures))
+    (λ c. search needs)
+    (λ c. letter-equation _ _ _ (c .before .before .before .before .match .keys4) (c .before .before .read-equation .ensures))
+    (λ c. search needs)
+    (λ c. letter-merge _ _ _ (c .before .before .before .before .match .keys5) (c .before .before .read-merge .ensures))
+    (λ c. search needs)
+    (λ c. letter-known _ _ _ (c .before .before .before .before .match .keys6) (c .before .before .read-known .ensures))
+    (λ c. letter-resolve _ _ _ (c .before .match .keys7) (c .read-resolve .ensures .says _))
+    (λ c. other-letter _ _ (c .match .rest .0 .0 .0 .0 .0 .0 .1) (c .match .rest .0 .0 .0 .0 .0 .1) (c .match .rest .0 .0 .0 .0 .1) (c .match .rest .0 .0 .0 .1) (c .match .rest .0 .0 .1) (c .match .rest .0 .1) (c .match .rest .1)))

@@ -1,0 +1,21 @@
+use Rattle.commands.proofs.Parsing.{line-none, line-long, line-is}
+use native.Mathlib.Omega.{arith}
+use borrow.Author.Needs.{needs}
+use Rattle.commands.proofs.parse.parse.Statement.{statement}
+use Rattle.commands.proofs.parse.parse.Tie as tie
+use Rattle.commands.proofs.parse.parse.Reads as reads
+use Rattle.commands.proofs.parse.parse.Lts as lts
+use Rattle.commands.proofs.parse.by_letter.Reads as by-letter-reads
+
+pub parse-spec : {M : Type 1} → statement M
+parse-spec =
+    tie.close
+    (tie.spec
+    (λ c. line-none _ (c .if1 .taken))
+    (λ c. line-long _ (c .if2 .taken))
+    (λ c. search needs)
+    (λ c. search needs)
+    (λ c. search needs)
+    (λ c. search needs)
+    (λ c κs. search needs)
+    (λ c. line-is _ _ (c .before .before .before .before .before .if1 .left) (c .before .before .before .before .if2 .left) (c .by-letter .ensures)))

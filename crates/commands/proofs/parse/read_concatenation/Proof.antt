@@ -1,0 +1,21 @@
+use Rattle.commands.proofs.Parsing.{listed-bad, listed-count}
+use Rattle.commands.specs.Commands.{asConcatenation}
+use native.Mathlib.Omega.{arith}
+use borrow.Author.Needs.{needs}
+use Rattle.commands.proofs.parse.read_concatenation.Statement.{statement}
+use Rattle.commands.proofs.parse.read_concatenation.Tie as tie
+use Rattle.commands.proofs.parse.read_concatenation.Reads as reads
+use Rattle.commands.proofs.parse.read_concatenation.Lts as lts
+use Rattle.commands.proofs.numbers.read_numbers.Reads as read-numbers-reads
+
+pub read-concatenation-spec : {M : Type 1} → statement M
+read-concatenation-spec =
+    tie.close
+    (tie.spec
+    (λ c κs. search needs)
+    (λ c. search needs)
+    (λ c. search needs)
+    (λ c. search needs)
+    (λ c. listed-bad asConcatenation _ _ _ (c .before .before .before .before .read-numbers .ensures) (c .enum-told .given .1))
+    (λ c. search needs)
+    (λ c. listed-count asConcatenation _ _ _ (c .before .before .before .before .before .read-numbers .ensures) _ (c .before .n .given .1)))

@@ -1,0 +1,21 @@
+use Rattle.commands.proofs.Parsing.{listed-bad, listed-count}
+use Rattle.commands.specs.Commands.{asConstant}
+use native.Mathlib.Omega.{arith}
+use borrow.Author.Needs.{needs}
+use Rattle.commands.proofs.parse.read_constant.Statement.{statement}
+use Rattle.commands.proofs.parse.read_constant.Tie as tie
+use Rattle.commands.proofs.parse.read_constant.Reads as reads
+use Rattle.commands.proofs.parse.read_constant.Lts as lts
+use Rattle.commands.proofs.parse.read_text.Reads as read-text-reads
+
+pub read-constant-spec : {M : Type 1} → statement M
+read-constant-spec =
+    tie.close
+    (tie.spec
+    (λ c κs. search needs)
+    (λ c. search needs)
+    (λ c. search needs)
+    (λ c. search needs)
+    (λ c. listed-bad asConstant _ _ _ (c .before .before .before .before .read-text .ensures) (c .enum-told .given .1))
+    (λ c. search needs)
+    (λ c. listed-count asConstant _ _ _ (c .before .before .before .before .before .read-text .ensures) _ (c .before .n .given .1)))

@@ -1,0 +1,25 @@
+use Rattle.commands.proofs.Parsing.{listed-bad, count-within, equation-not, equation-is}
+use Rattle.commands.specs.Commands.{asEquation}
+use native.Mathlib.Omega.{arith}
+use borrow.Author.Needs.{needs}
+use Rattle.commands.proofs.parse.read_equation.Statement.{statement}
+use Rattle.commands.proofs.parse.read_equation.Tie as tie
+use Rattle.commands.proofs.parse.read_equation.Reads as reads
+use Rattle.commands.proofs.parse.read_equation.Lts as lts
+use Rattle.commands.proofs.numbers.read_numbers.Reads as read-numbers-reads
+
+pub read-equation-spec : {M : Type 1} → statement M
+read-equation-spec =
+    tie.close
+    (tie.spec
+    (λ c κs. search needs)
+    (λ c. search needs)
+    (λ c. search needs)
+    (λ c. search needs)
+    (λ c. listed-bad asEquation _ _ _ (c .before .before .before .before .read-numbers .ensures) (c .enum-told .given .1))
+    (λ c. search needs)
+    (λ c. equation-not _ _ _ (c .before .before .before .before .before .before .read-numbers .ensures) _ (c .before .before .n .given .1) (c .if1 .taken))
+    (λ c. let k = count-within asEquation _ _ _ (c .before .before .before .before .before .before .before .read-numbers .ensures) _ (c .before .before .before .n .given .1) in let e = c .before .if1 .left in omega arith)
+    (λ c. let k = count-within asEquation _ _ _ (c .before .before .before .before .before .before .before .before .read-numbers .ensures) _ (c .before .before .before .before .n .given .1) in let e = c .before .before .if1 .left in omega arith)
+    (λ c. search needs)
+    (λ c. equation-is _ _ _ (c .before .before .before .before .before .before .before .before .read-numbers .ensures) _ (c .before .before .before .before .n .given .1) (c .before .before .if1 .left)))

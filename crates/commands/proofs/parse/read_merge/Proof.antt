@@ -1,0 +1,26 @@
+use Rattle.commands.proofs.Parsing.{listed-bad, count-within, merge-not, merge-is}
+use Rattle.commands.specs.Commands.{asMerge}
+use native.Mathlib.Omega.{arith}
+use borrow.Author.Needs.{needs}
+use Rattle.commands.proofs.parse.read_merge.Statement.{statement}
+use Rattle.commands.proofs.parse.read_merge.Tie as tie
+use Rattle.commands.proofs.parse.read_merge.Reads as reads
+use Rattle.commands.proofs.parse.read_merge.Lts as lts
+use Rattle.commands.proofs.numbers.read_numbers.Reads as read-numbers-reads
+
+pub read-merge-spec : {M : Type 1} → statement M
+read-merge-spec =
+    tie.close
+    (tie.spec
+    (λ c κs. search needs)
+    (λ c. search needs)
+    (λ c. search needs)
+    (λ c. search needs)
+    (λ c. listed-bad asMerge _ _ _ (c .before .before .before .before .read-numbers .ensures) (c .enum-told .given .1))
+    (λ c. search needs)
+    (λ c. merge-not _ _ _ (c .before .before .before .before .before .before .read-numbers .ensures) _ (c .before .before .n .given .1) (c .if1 .taken))
+    (λ c. let k = count-within asMerge _ _ _ (c .before .before .before .before .before .before .before .read-numbers .ensures) _ (c .before .before .before .n .given .1) in let e = c .before .if1 .left in omega arith)
+    (λ c. let k = count-within asMerge _ _ _ (c .before .before .before .before .before .before .before .before .read-numbers .ensures) _ (c .before .before .before .before .n .given .1) in let e = c .before .before .if1 .left in omega arith)
+    (λ c. let k = count-within asMerge _ _ _ (c .before .before .before .before .before .before .before .before .before .read-numbers .ensures) _ (c .before .before .before .before .before .n .given .1) in let e = c .before .before .before .if1 .left in omega arith)
+    (λ c. search needs)
+    (λ c. merge-is _ _ _ (c .before .before .before .before .before .before .before .before .before .read-numbers .ensures) _ (c .before .before .before .before .before .n .given .1) (c .before .before .before .if1 .left)))

@@ -1,0 +1,22 @@
+use Rattle.commands.proofs.Parsing.{text-none, text-odd, text-is}
+use native.Mathlib.Omega.{arith}
+use borrow.Author.Needs.{needs}
+use Rattle.commands.proofs.parse.read_text.Statement.{statement}
+use Rattle.commands.proofs.parse.read_text.Tie as tie
+use Rattle.commands.proofs.parse.read_text.Reads as reads
+use Rattle.commands.proofs.parse.read_text.Lts as lts
+use Rattle.commands.proofs.utf8.read_chars.Reads as read-chars-reads
+
+pub read-text-spec : {M : Type 1} → statement M
+read-text-spec =
+    tie.close
+    (tie.spec
+    (λ c. text-none _ _ (c .if1 .taken))
+    (λ c. search needs)
+    (λ c. text-odd _ _ (c .before .before .if1 .left) (c .if2 .taken))
+    (λ c. search needs)
+    (λ c. search needs)
+    (λ c. search needs)
+    (λ c κs. search needs)
+    (λ c. search needs)
+    (λ c. text-is _ _ (c .before .before .before .before .before .before .before .if1 .left) _ (c .before .before .before .before .before .if2 .left) (c .before .before .read-chars .ensures)))

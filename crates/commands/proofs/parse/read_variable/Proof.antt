@@ -1,0 +1,21 @@
+use Rattle.commands.proofs.Parsing.{listed-bad, listed-count}
+use Rattle.commands.specs.Commands.{asVariable}
+use native.Mathlib.Omega.{arith}
+use borrow.Author.Needs.{needs}
+use Rattle.commands.proofs.parse.read_variable.Statement.{statement}
+use Rattle.commands.proofs.parse.read_variable.Tie as tie
+use Rattle.commands.proofs.parse.read_variable.Reads as reads
+use Rattle.commands.proofs.parse.read_variable.Lts as lts
+use Rattle.commands.proofs.parse.read_text.Reads as read-text-reads
+
+pub read-variable-spec : {M : Type 1} → statement M
+read-variable-spec =
+    tie.close
+    (tie.spec
+    (λ c κs. search needs)
+    (λ c. search needs)
+    (λ c. search needs)
+    (λ c. search needs)
+    (λ c. listed-bad asVariable _ _ _ (c .before .before .before .before .read-text .ensures) (c .enum-told .given .1))
+    (λ c. search needs)
+    (λ c. listed-count asVariable _ _ _ (c .before .before .before .before .before .read-text .ensures) _ (c .before .n .given .1)))

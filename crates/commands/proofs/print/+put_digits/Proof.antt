@@ -1,0 +1,70 @@
+use native.Mathlib.Nat.{mod-lt}
+use Rattle.records.proofs.Naming.{decimal-none, decimal-one, decimal-more, decimal-room}
+use native.Mathlib.Omega.{arith}
+use borrow.Author.Needs.{needs}
+use Prim.Native.Nat.{ℕ, _<_}
+use borrow.Fn.Kinds.{In}
+use borrow.Fn.PlainCycle.{Measures, is, falls, and}
+use Rattle.commands.proofs.print.put_digits.Reads as put-digits
+use Rattle.commands.proofs.print.put_digits.Kinds as put-digits-kinds
+use Rattle.commands.proofs.print.+put_digits.Lts-put_digits as put-digits-lts
+use Rattle.commands.proofs.print.+put_digits.{statement}
+use Rattle.commands.proofs.print.+put_digits.Tie.{close}
+
+abbrev μ-put-digits : Measures 1 put-digits-kinds.ps ℕ
+μ-put-digits κs a = a .1 .1 .0
+
+abbrev put-digits-at : ℕ → In 1 put-digits-kinds.ps
+put-digits-at t =
+    and 1 put-digits-kinds.ps (is 1 put-digits-kinds.ps μ-put-digits t) put-digits.Pre
+
+abbrev put-digits-below : ℕ → In 1 put-digits-kinds.ps
+put-digits-below t =
+    and 1 put-digits-kinds.ps (falls 1 put-digits-kinds.ps _<_ μ-put-digits t) put-digits.Pre
+
+put-digits-returns :
+    (t : ℕ) →
+    put-digits-lts.Need-returns
+    (put-digits-below t, put-digits.Post)
+    (put-digits-at t)
+    put-digits.Post
+put-digits-returns t c = search decimal-none
+
+put-digits-cast-out :
+    (t : ℕ) →
+    put-digits-lts.Need-cast-out
+    (put-digits-below t, put-digits.Post)
+    (put-digits-at t)
+    put-digits.Post
+put-digits-cast-out t c = search needs
+
+put-digits-add-out :
+    (t : ℕ) →
+    put-digits-lts.Need-add-out
+    (put-digits-below t, put-digits.Post)
+    (put-digits-at t)
+    put-digits.Post
+put-digits-add-out t c = search needs
+
+pub +put-digits-spec : {M : Type 1} → statement M
++put-digits-spec = close μ-put-digits λ t. put-digits-lts.spec (
+  put-digits-below t,
+  put-digits.Post,
+)
+    (put-digits-at t)
+    put-digits.Post
+    (put-digits-returns t)
+    (put-digits-cast-out t)
+    (put-digits-add-out t)
+    (λ c. search needs)
+    (λ c. search needs)
+    (λ c. search needs)
+    (λ c. search decimal-one)
+    (λ c. search needs)
+    (λ c κs. (omega arith, omega arith))
+    (λ c. let h = mod-lt (c .before .before .before .before .before .before .before .args .x) {m = 10} (omega arith) in record { fits = omega arith })
+    (λ c. let h = mod-lt (c .before .before .before .before .before .before .before .args .x) {m = 10} (omega arith) in record { fits = omega arith })
+    (λ c. let a = c .before .before .before .before .before .before .before .args in decimal-room (a .out .now) (c .before .before .put-digits .last .0) (a .at) (a .n) (a .x) (c .before .before .put-digits .result) (c .before .before .before .before .before .if1 .left) (c .before .before .before .before .before .before .before .pre .1) (c .before .before .put-digits .kept .0) (c .before .before .put-digits .ensures))
+    (λ c. let a = c .before .before .before .before .before .before .before .args in omega (arith, decimal-room (a .out .now) (c .before .before .put-digits .last .0) (a .at) (a .n) (a .x) (c .before .before .put-digits .result) (c .before .before .before .before .before .if1 .left) (c .before .before .before .before .before .before .before .pre .1) (c .before .before .put-digits .kept .0) (c .before .before .put-digits .ensures)))
+    (λ c. search needs)
+    (λ c. search decimal-more)

@@ -1,0 +1,30 @@
+use Rattle.commands.proofs.Printing.{Copying, copying-none, copying-one, copying-all}
+use lib.ListN.{length}
+use Prim.Native.Nat.{_-_}
+use native.Mathlib.Omega.{arith}
+use borrow.Author.Needs.{needs}
+use Rattle.commands.proofs.print.put_bytes.Statement.{statement}
+use Rattle.commands.proofs.print.put_bytes.Tie as tie
+use Rattle.commands.proofs.print.put_bytes.Reads as reads
+use Rattle.commands.proofs.print.put_bytes.Lts as lts
+
+abbrev Inv-loop : tie.InvT-loop
+Inv-loop out₀ w i₀ out i = Copying out₀ out w i
+
+abbrev μ-loop : tie.MeasureT-loop
+μ-loop out₀ w i₀ out i = length w - i
+
+pub put-bytes-spec : {M : Type 1} → statement M
+put-bytes-spec =
+    tie.close
+    (tie.spec
+    Inv-loop
+    μ-loop
+    (λ c. copying-none _ _)
+    (λ c. search needs)
+    (λ c. let g = c .before .before .loop .inv .long in let t = c .before .loop-test .taken in let p = c .before .before .before .pre in omega arith)
+    (λ c. search needs)
+    (λ c. search needs)
+    (λ c. copying-one _ _ _ _ (c .before .before .loop .inv) (c .before .loop-test .taken) (c .before .before .before .pre))
+    (λ c. c .before .loop .inv .long)
+    (λ c. copying-all _ _ _ _ (c .before .loop .inv) (c .loop-test .left) (c .before .before .pre)))

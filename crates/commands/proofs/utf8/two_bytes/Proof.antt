@@ -1,0 +1,26 @@
+use Rattle.commands.proofs.Decoding.{unshaped, shaped-by}
+use Rattle.commands.specs.Utf8.{shaped}
+use Rattle.records.proofs.Lists.{failed, passed}
+use mathlib.Core.Bool.{true}
+use mathlib.Core.Path.{_∙_, ap}
+use native.Mathlib.Omega.{arith}
+use borrow.Author.Needs.{needs}
+use Rattle.commands.proofs.utf8.two_bytes.Statement.{statement}
+use Rattle.commands.proofs.utf8.two_bytes.Tie as tie
+use Rattle.commands.proofs.utf8.two_bytes.Reads as reads
+use Rattle.commands.proofs.utf8.two_bytes.Lts as lts
+use Rattle.commands.proofs.utf8.is_next.Reads as is-next-reads
+use Rattle.commands.proofs.utf8.shape.Reads as shape-reads
+use Rattle.commands.proofs.utf8.six_more.Reads as six-more-reads
+
+pub two-bytes-spec : {M : Type 1} → statement M
+two-bytes-spec =
+    tie.close
+    (tie.spec
+    (λ c κs. search needs)
+    (λ c. unshaped _ _ _ _ (failed _ _ (c .before .is-next .ensures) (c .if1 .taken)))
+    (λ c. search needs)
+    (λ c. search needs)
+    (λ c κs. search needs)
+    (λ c κs. search needs)
+    (λ c. shaped-by _ _ _ _ _ (passed _ _ (c .before .before .before .is-next .ensures) (c .before .before .if1 .left)) (c .shape .ensures ∙ ap (shaped 2 0x80 true) (c .before .six-more .ensures))))

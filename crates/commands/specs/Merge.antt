@@ -1,0 +1,55 @@
+-- Document 01, 'Program `labelstep`': '`M child parent n` joins two classes under asserted reason n'.
+use mathlib.Core.Path.{_≡_}
+use mathlib.Core.Bool.{Bool, not, _&&_}
+use mathlib.Core.List.{List}
+use Prim.Native.Nat.{ℕ, zero, suc, _-_}
+use lib.ListN.{length, set}
+use lib.Dec.{eqb}
+use Rattle.records.specs.declared.State.{State}
+use Rattle.records.specs.Store.{Term, Store, Out, ok, stop, Work, termIn, term, within, isString, sameClass}
+use Rattle.records.specs.View.{Lent, storeOf, termsView}
+use Rattle.records.specs.Rules.{isNumber}
+use Rattle.records.specs.Make.{withTerms}
+use Rattle.records.specs.Calls.{call}
+use mathlib.Core.Bool.{true}
+
+-- the root of its class and of its tree: in the program's stores the two are one
+unfoldable pub isRootIn : List Term → ℕ → Bool
+isRootIn ts t = eqb (termIn ts t .classParent) t && eqb (termIn ts t .forestParent) t
+
+-- 'string terms, child a root, parent in another class'; an asserted reason's number
+unfoldable pub canJoin : ℕ → ℕ → ℕ → Store → Bool
+canJoin child parent n s = isString s child && isString s parent && isNumber n && isRootIn (s .terms) child && not (sameClass s child parent)
+
+-- 'both parents set': the child's record, under the parent
+abbrev pub under : Term → ℕ → ℕ → ℕ → Term
+under t parent n stamp = record {
+  kind = t .kind;
+  first = t .first;
+  second = t .second;
+  classParent = parent;
+  forestParent = parent;
+  labelKind = 1;
+  labelValue = n;
+  stamp = stamp;
+}
+
+abbrev pub joinIn : List Term → ℕ → ℕ → ℕ → ℕ → List Term
+joinIn ts child parent n stamp = set ts (child - 1) (under (termIn ts child) parent n stamp)
+
+unfoldable pub joinClasses : ℕ → ℕ → ℕ → ℕ → Work (Unit {0})
+joinClasses child parent n stamp s = ok (withTerms s (joinIn (s .terms) child parent n stamp)) tt
+
+-- the words of terms, before and after
+pub record Joined (l l′ : List ℕ) (child parent n stamp : ℕ) : Type 0 where
+  pub long : length l′ ≡ length l
+  pub terms : (k : ℕ) → within k child ≡ true → termsView l′ k ≡ joinIn (termsView l k) child parent n stamp
+
+-- the answer of joining: 0, or the refusal's number
+abbrev pub joined : ℕ → Lent → State → Out (Unit {0})
+joined zero m c = ok (storeOf m c) tt
+joined (suc k) m c = stop (suc k)
+
+pub record Merged (m m′ : Lent) (c : State) (child parent n stamp r : ℕ) : Type 0 where
+  pub says : joined r m′ c ≡ call (canJoin child parent n) (joinClasses child parent n stamp) m c
+  pub idle : (r ≡ 0 → ⊥) → m′ ≡ m

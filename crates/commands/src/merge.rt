@@ -1,0 +1,97 @@
+// `M child parent n`: two classes joined under an asserted reason.
+ghost use mathlib.Core.Path.{_≡_};
+ghost use mathlib.Core.Bool.{true};
+ghost use Prim.Native.Nat.{ℕ, _+_, _*_, _≤_};
+ghost use lib.ListN.{length};
+ghost use Rattle.records.specs.Store.{within};
+ghost use Rattle.records.specs.View.{lent, storeOf, termsView};
+ghost use Rattle.records.specs.Audited.{Ready};
+ghost use Rattle.commands.specs.Merge.{isRootIn, canJoin, Joined, Merged};
+use records::State;
+use records::classes::root_unchecked;
+use records::fields::class_parent;
+use records::fields::forest_parent;
+use records::rules::is_number;
+use records::rules::is_string;
+
+// Whether a term of the first n is its own parent, in its class and in the forest.
+fn is_root(terms: &[u32], n: usize, t: u32) -> bool
+    requires { ⌜ within n t ≡ true ⌝ }
+    ensures { λ r. ⌜ r ≡ isRootIn (termsView (now (terms .entry)) n) t ⌝ }
+{
+    if class_parent(terms, t) != t {
+        return false;
+    }
+    forest_parent(terms, t) == t
+}
+
+// Whether two classes can be joined so.
+fn can_join_unchecked(
+    terms: &[u32],
+    cells: &[u32],
+    chars: &[u32],
+    reasons: &[u32],
+    keys: &[u32],
+    c: State,
+    child: u32,
+    parent: u32,
+    n: u32,
+) -> bool
+    requires { ⌜ Ready (lent (now terms) (now cells) (now chars) (now reasons) (now keys)) c ⌝ }
+    ensures { λ r. ⌜ r ≡ canJoin child parent n (storeOf (lent (now (terms .entry)) (now (cells .entry)) (now (chars .entry)) (now (reasons .entry)) (now (keys .entry))) c) ⌝ }
+{
+    if !is_string(terms, c.terms, child) {
+        return false;
+    }
+    if !is_string(terms, c.terms, parent) {
+        return false;
+    }
+    if !is_number(n) {
+        return false;
+    }
+    if !is_root(terms, c.terms, child) {
+        return false;
+    }
+    let a = root_unchecked(terms, c.terms, child);
+    let b = root_unchecked(terms, c.terms, parent);
+    a != b
+}
+
+// The child's record, under the parent.
+fn put_under_unchecked(terms: &mut [u32], child: u32, parent: u32, n: u32, stamp: u32)
+    requires { ⌜ 8 * child + 8 ≤ length (now terms) ⌝ }
+    ensures { λ _. ⌜ Joined (now (terms .entry)) (now (terms .exit)) child parent n stamp ⌝ }
+{
+    let at = 8 * (child as usize);
+    terms[at + 3] = parent;
+    terms[at + 4] = parent;
+    terms[at + 5] = 1;
+    terms[at + 6] = n;
+    terms[at + 7] = stamp;
+}
+
+// Joins the child's class to the parent's: 0, or the refusal. The caller's stamps count up.
+pub fn merge(
+    terms: &mut [u32],
+    cells: &[u32],
+    chars: &[u32],
+    reasons: &[u32],
+    keys: &[u32],
+    c: State,
+    child: u32,
+    parent: u32,
+    n: u32,
+    stamp: u32,
+) -> u32
+    ensures { λ r. ⌜ Merged (lent (now (terms .entry)) (now (cells .entry)) (now (chars .entry)) (now (reasons .entry)) (now (keys .entry))) (lent (now (terms .exit)) (now (cells .entry)) (now (chars .entry)) (now (reasons .entry)) (now (keys .entry))) c child parent n stamp r ⌝ }
+{
+    let k = records::audit(terms, cells, chars, reasons, keys, c);
+    if k != 0 {
+        return k;
+    }
+    if !can_join_unchecked(terms, cells, chars, reasons, keys, c, child, parent, n) {
+        return 5;
+    }
+    put_under_unchecked(terms, child, parent, n, stamp);
+    0
+}
