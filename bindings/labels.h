@@ -37,6 +37,12 @@ uint32_t labels_find(LABELS_READ(state), LABELS_READ(terms), LABELS_READ(cells),
 uint32_t labels_explain(LABELS_WORDS(state), LABELS_READ(terms), LABELS_READ(cells), LABELS_READ(chars), LABELS_WORDS(reasons),
                         LABELS_READ(keys), uint32_t a, uint32_t b);
 
+/* `list` has 1,024 words or more. The normal forms put 1 and the list's count (deep: 0 and 0 for None) into words 0 and 1 of the answer. */
+uint32_t labels_normal_form(LABELS_WORDS(state), LABELS_WORDS(terms), LABELS_READ(cells), LABELS_WORDS(chars), LABELS_WORDS(reasons),
+                            LABELS_READ(keys), LABELS_READ(known), uint32_t t, LABELS_WORDS(list), LABELS_WORDS(answer));
+uint32_t labels_deep_normal_form(LABELS_WORDS(state), LABELS_WORDS(terms), LABELS_READ(cells), LABELS_WORDS(chars), LABELS_WORDS(reasons),
+                                 LABELS_READ(keys), LABELS_READ(known), uint32_t t, LABELS_WORDS(list), LABELS_WORDS(answer));
+
 #ifdef __cplusplus
 }
 #endif

@@ -7,6 +7,10 @@ pub const CELLS: usize = 2048;
 pub const CHARS: usize = 16384;
 pub const REASONS: usize = 4096;
 pub const KEYS: usize = 4096;
+pub const LIST: usize = 1024;
+
+/// Where a call puts the list that it answers.
+type List = [u32; LIST];
 
 /// A term's number, from 1 on.
 pub type Term = u32;
@@ -127,6 +131,20 @@ impl Store {
         let from = self.state[3] as usize;
         outcome(raw::explain(self, a, b))?;
         Ok(self.reason_list()[from..].to_vec())
+    }
+
+    /// The normal form of a string term over the known list. The reasons that it rests on are appended to the store's.
+    pub fn normal_form(&mut self, known: &[Term], t: Term) -> Result<Vec<Term>, Refusal> {
+        let (mut list, mut answer) = ([0; LIST], [0; 8]);
+        outcome(raw::normal_form(self, known, t, &mut list, &mut answer))?;
+        Ok(list[..answer[1] as usize].to_vec())
+    }
+
+    /// The same with concatenations expanded, or None where that takes more than 256 atoms or meets one again.
+    pub fn deep_normal_form(&mut self, known: &[Term], t: Term) -> Result<Option<Vec<Term>>, Refusal> {
+        let (mut list, mut answer) = ([0; LIST], [0; 8]);
+        outcome(raw::deep_normal_form(self, known, t, &mut list, &mut answer))?;
+        Ok((answer[0] == 1).then(|| list[..answer[1] as usize].to_vec()))
     }
 
     /// The reasons of the store. Of a store that no call has audited those are left out that are of no kind or not there.

@@ -1,6 +1,6 @@
 //! The C interface: a slice is a pointer and a length, and the library reads and writes within them alone, as is proved of it.
 
-use crate::Store;
+use crate::{List, Store};
 
 macro_rules! interface {
     ($borrow:ty, $words:ty, $pointer:ident: $($symbol:ident $name:ident($($arg:ident: $ty:ty),*);)*) => {
@@ -48,6 +48,8 @@ interface! {
     labels_make_length length(t: u32, answer: *mut u32, answer_len: usize);
     labels_make_equation equation(t: u32, u: u32, answer: *mut u32, answer_len: usize);
     labels_explain reasons_of(a: u32, b: u32);
+    labels_normal_form form(known: *const u32, known_len: usize, t: u32, list: *mut u32, list_len: usize, answer: *mut u32, answer_len: usize);
+    labels_deep_normal_form deep_form(known: *const u32, known_len: usize, t: u32, list: *mut u32, list_len: usize, answer: *mut u32, answer_len: usize);
 }
 
 pub fn audit(s: &Store) -> u32 {
@@ -80,4 +82,12 @@ pub fn find(s: &Store, t: u32, answer: &mut [u32; 8]) -> u32 {
 
 pub fn explain(s: &mut Store, a: u32, b: u32) -> u32 {
     reasons_of(s, a, b)
+}
+
+pub fn normal_form(s: &mut Store, known: &[u32], t: u32, list: &mut List, answer: &mut [u32; 8]) -> u32 {
+    form(s, known.as_ptr(), known.len(), t, list.as_mut_ptr(), list.len(), answer.as_mut_ptr(), answer.len())
+}
+
+pub fn deep_normal_form(s: &mut Store, known: &[u32], t: u32, list: &mut List, answer: &mut [u32; 8]) -> u32 {
+    deep_form(s, known.as_ptr(), known.len(), t, list.as_mut_ptr(), list.len(), answer.as_mut_ptr(), answer.len())
 }

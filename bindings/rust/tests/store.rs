@@ -43,3 +43,21 @@ fn explanations() {
     assert_eq!(s.explain(y, x), Ok(vec![Reason::Asserted(7)]));
     assert_eq!(s.explain(x, x), Ok(vec![]));
 }
+
+#[test]
+fn normal_forms() {
+    let mut s = Store::new();
+    let (x, a, z) = (s.variable("x").unwrap(), s.constant("a").unwrap(), s.variable("z").unwrap());
+    let az = s.concatenation(&[a, z]).unwrap();
+    let xax = s.concatenation(&[x, a, x]).unwrap();
+    assert_eq!(s.normal_form(&[], xax), Ok(vec![x, a, x]));
+    // x joins the class of "a" ++ z by the asserted equality 3
+    s.terms[8 * x as usize + 3..8 * x as usize + 8].copy_from_slice(&[az, az, 1, 3, 1]);
+    assert_eq!(s.normal_form(&[az], x), Ok(vec![az]));
+    assert_eq!(s.reason_list(), [Reason::Asserted(3)]);
+    assert_eq!(s.deep_normal_form(&[az], x), Ok(Some(vec![a, z])));
+    // the concatenation is met for expansion twice
+    assert_eq!(s.deep_normal_form(&[az], xax), Ok(None));
+    assert_eq!(s.normal_form(&[0], x), Err(Refusal::Argument));
+    assert_eq!(s.audit(), Ok(()));
+}

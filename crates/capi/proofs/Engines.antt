@@ -5,8 +5,7 @@ use mathlib.Core.List.{List, []}
 use Prim.Native.Nat.{ℕ, zero, suc, _≤_, _<_}
 use native.Mathlib.Omega.{arith}
 use lib.ListN.{length, getD, set}
-use lib.Dec.{leb}
-use borrow.Author.Tests.{leb-true, le-leb, lt-leb}
+use borrow.Author.Tests.{lt-leb}
 use Rattle.records.specs.declared.State.{State}
 use Rattle.records.specs.declared.Added.{Added}
 use Rattle.records.specs.declared.Added.the-variants as adding
@@ -22,9 +21,10 @@ use Rattle.engine.specs.Meaning.{Explains}
 use Rattle.engine.specs.Calls.{found, PublicExplain}
 use Rattle.engine.proofs.Sound.{explain-kept, explain-stops}
 use Rattle.capi.specs.Interface.{stateOf, Beyond, roomy, over, told, Exported, ExportedExplain}
-use Rattle.capi.specs.Leaves.{written, Narrow, addedCode, addedState, ToldCounts}
-use Rattle.capi.proofs.Words.{beyond-same, beyond-written, beyond-first, first-read, roomy-answer}
-use Rattle.capi.proofs.Exports.{Tells, narrow, call-audited, call-stops, told-public, untold}
+use Rattle.capi.specs.Leaves.{Narrow, ToldCounts}
+use Rattle.capi.proofs.Words.{beyond-same, beyond-first, first-read, roomy-answer}
+use Rattle.capi.proofs.Exports.{Tells, call-stops, told-public, untold}
+use Rattle.capi.proofs.CountExports.{counts-tellable, counts-exported, counts-worth}
 
 -- FIND
 
@@ -81,38 +81,10 @@ explain-short a b m w h = record { is = untold _ m w 0 [] tt (lt-leb 6 (length w
 
 module _ {a b : ℕ} {m m′ : Lent} {c : State} {r : Added} (called : PublicExplain a b m m′ c (added r m′)) where
   pub explain-tellable : (d : State) → r ≡ adding.Counts d → Narrow d
-  explain-tellable d e = narrow m′ d (call-audited (explain-tells a b) m c (storeOf m′ d) tt (sym (called .is .says) ∙ ap (λ (x : Added). added x m′) e))
+  explain-tellable d e = counts-tellable (explain-tells a b) (called .is) d e
 
   pub explain-exported : {w w′ : List ℕ} {k : ℕ} → 6 ≤ length w → c ≡ stateOf w → ToldCounts w w′ r k → ExportedExplain a b m m′ w w′ k
-  explain-exported {w} {w′} {k} room e t = go r refl (t .code) (t .state)
-    where
-      fits : leb 6 (length w) ≡ true
-      fits = le-leb 6 (length w) room
-
-      at : PublicExplain a b m m′ (stateOf w) (added r m′)
-      at = subst (λ (d : State). PublicExplain a b m m′ d (added r m′)) e called
-
-      go : (x : Added) → r ≡ x → k ≡ addedCode x → w′ ≡ addedState x w → ExportedExplain a b m m′ w w′ k
-      go (adding.Counts d) q f g =
-          rw (f, g) (record {
-            is = record {
-              public = told-public fits (sym (ap (λ (x : Added). added x m′) q)) (at .is);
-              state = beyond-written d w room;
-              answer = beyond-same 0 [];
-              state-idle = λ z. absurd (z refl);
-              answer-idle = λ z. refl;
-            };
-            worth = λ z. at .worth (storeOf m′ d) (ap (λ (x : Added). added x m′) q);
-          })
-      go (adding.Refused zero) q f g = absurd (call-stops (explain-tells a b) m c 0 (sym (called .is .says) ∙ ap (λ (x : Added). added x m′) q) refl)
-      go (adding.Refused (suc j)) q f g =
-          rw (f, g) (record {
-            is = record {
-              public = told-public fits (sym (ap (λ (x : Added). added x m′) q)) (at .is);
-              state = beyond-same 6 w;
-              answer = beyond-same 0 [];
-              state-idle = λ z. refl;
-              answer-idle = λ z. refl;
-            };
-            worth = λ z. absurd (omega arith);
-          })
+  explain-exported room e t = record {
+    is = counts-exported (explain-tells a b) (called .is) t room e;
+    worth = counts-worth (explain-tells a b) (called .is) t (λ s′ q. subst (λ (d : State). Explains (storeOf m d) s′ a b) e (called .worth s′ q));
+  }

@@ -37,15 +37,20 @@ pub record Tells {A : Type 0} (fit : Store → Bool) (work : Work A) : Type 0 wh
   pub keeps : (s s′ : Store) (x : A) → Audited s → fit s ≡ true → work s ≡ ok s′ x → Audited s′
   pub stops : (s : Store) (n : ℕ) → Audited s → fit s ≡ true → work s ≡ stop n → n ≡ 0 → ⊥
 
+-- what holds of every store and value that the work leaves holds of the call's
+pub call-gives : {A : Type 0} (fit : Store → Bool) (work : Work A) (m : Lent) (c : State) {P : Store → A → Type 0} → ((s s′ : Store) (x : A) → Audited s → fit s ≡ true → work s ≡ ok s′ x → P s′ x)
+    → (s′ : Store) (x : A) → call fit work m c ≡ ok s′ x → P s′ x
+unfolding call
+call-gives fit work m c {P} f s′ x e = go (audit m c) refl (fit (storeOf m c)) refl e
+  where
+    go : (k : ℕ) → audit m c ≡ k → (b : Bool) → fit (storeOf m c) ≡ b → unless k (checked b work (storeOf m c)) ≡ ok s′ x → P s′ x
+    go zero p true q e = f (storeOf m c) s′ x (ready-of m c p .audited) q e
+    go zero p false q e = stop-not e
+    go (suc k) p b q e = stop-not e
+
 module _ {A : Type 0} {fit : Store → Bool} {work : Work A} (tells : Tells fit work) (m : Lent) (c : State) where
   pub call-audited : (s′ : Store) (x : A) → call fit work m c ≡ ok s′ x → Audited s′
-  unfolding call
-  call-audited s′ x e = go (audit m c) refl (fit (storeOf m c)) refl e
-    where
-      go : (k : ℕ) → audit m c ≡ k → (b : Bool) → fit (storeOf m c) ≡ b → unless k (checked b work (storeOf m c)) ≡ ok s′ x → Audited s′
-      go zero p true q e = tells .keeps (storeOf m c) s′ x (ready-of m c p .audited) q e
-      go zero p false q e = stop-not e
-      go (suc k) p b q e = stop-not e
+  call-audited s′ x e = call-gives fit work m c {P = λ s y. Audited s} (tells .keeps) s′ x e
 
   pub call-stops : (n : ℕ) → call fit work m c ≡ stop n → n ≡ 0 → ⊥
   unfolding call

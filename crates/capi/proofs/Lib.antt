@@ -2,3 +2,10 @@ pub mod Words
 pub mod Exports
 pub mod Tellings
 pub mod Engines
+pub mod Listings
+pub mod FormExports
+pub mod FewAtoms
+pub mod AnswerExports
+pub mod CountExports
+pub mod EqualExports
+pub mod Complements

@@ -2,8 +2,8 @@
 use mathlib.Core.Path.{_≡_}
 use mathlib.Core.Bool.{Bool, _&&_}
 use mathlib.Core.List.{List, []}
-use Prim.Native.Nat.{ℕ, zero, suc}
-use lib.ListN.{length, getD, drop}
+use Prim.Native.Nat.{ℕ, zero, suc, _≤_}
+use lib.ListN.{length, getD, take, drop}
 use lib.Dec.{leb}
 use Rattle.records.specs.declared.State.{State}
 use Rattle.records.specs.Lists.{if_then_else_}
@@ -49,6 +49,16 @@ module _ {A : Type 0} where
     pub answer : Beyond n a a′
     pub state-idle : (k ≡ 0 → ⊥) → w′ ≡ w
     pub answer-idle : (k ≡ 0 → ⊥) → a′ ≡ a
+
+  -- A call whose answer has several cases: `words` gives the number and the values of each. On success they stand first in the answer.
+  pub record Answered (o : Out A) (words : A → List ℕ) (m m′ : Lent) (w w′ a a′ : List ℕ) (x : A) (k : ℕ) : Type 0 where
+    pub is : Exported o m m′ w w′ (length (words x)) a a′ x k
+    pub says : k ≡ 0 → take (length (words x)) a′ ≡ words x
+
+  -- the same of a call that answers a list in a slice of its own, l at entry and l′ at exit: 'Refusals 1 to 5 write nothing'
+  pub record AnsweredList (o : Out A) (words : A → List ℕ) (m m′ : Lent) (l l′ w w′ a a′ : List ℕ) (x : A) (k : ℕ) : Type 0 where
+    pub is : Answered o words m m′ w w′ a a′ x k
+    pub idle : (k ≡ 0 → ⊥) → k ≤ 5 → l′ ≡ l
 
 -- explain told in words, and what it is worth: under the reasons that the call added and the definitional merges the two terms have equal words
 pub record ExportedExplain (a b : ℕ) (m m′ : Lent) (w w′ : List ℕ) (k : ℕ) : Type 0 where

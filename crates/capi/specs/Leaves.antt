@@ -1,13 +1,23 @@
 -- Definitions that only private contracts cite: how an answer is put into words.
 use mathlib.Core.Path.{_≡_}
-use mathlib.Core.List.{List, _∷_}
+use mathlib.Core.List.{List, [], _∷_, _++_}
 use Prim.Native.Nat.{ℕ, _<_}
-use lib.ListN.{drop, set}
+use lib.ListN.{length, drop, set}
+use lib.IntN.{ℤ}
+use mir.Syntax.{w32}
+use mir.Val.{ofZ, SFits}
 use Rattle.records.specs.declared.State.{State}
 use Rattle.records.specs.declared.Made.{Made}
 use Rattle.records.specs.declared.Made.the-variants.{Term, Refused}
 use Rattle.records.specs.declared.Added.{Added}
 use Rattle.records.specs.declared.Added.the-variants as adding
+use Rattle.normalize.specs.declared.Form.{Form}
+use Rattle.normalize.specs.declared.Form.the-variants as form
+use Rattle.normalize.specs.declared.DeepForm.{DeepForm}
+use Rattle.normalize.specs.declared.DeepForm.the-variants as deep
+use Rattle.wordeq.specs.declared.StepResult.{StepResult}
+use Rattle.wordeq.specs.declared.StepResult.the-variants as step
+use Rattle.capi.specs.Equations.{flag}
 
 -- the state's six words written back
 abbrev pub written : State → List ℕ → List ℕ
@@ -51,3 +61,60 @@ addedState (adding.Refused k) w = w
 pub record ToldCounts (w w′ : List ℕ) (r : Added) (k : ℕ) : Type 0 where
   pub code : k ≡ addedCode r
   pub state : w′ ≡ addedState r w
+
+-- An answer of several cases: the counts and the answer's first words, or the refusal.
+pub data Telling : Type 0 where
+  tells : State → List ℕ → Telling
+  refuses : ℕ → Telling
+
+abbrev pub numberOf : Telling → ℕ
+numberOf (tells c v) = 0
+numberOf (refuses k) = k
+
+abbrev pub stateWith : Telling → List ℕ → List ℕ
+stateWith (tells c v) w = written c w
+stateWith (refuses k) w = w
+
+abbrev pub answerWith : Telling → List ℕ → List ℕ
+answerWith (tells c v) a = v ++ drop (length v) a
+answerWith (refuses k) a = a
+
+pub record ToldWords (w w′ a a′ : List ℕ) (r : Telling) (k : ℕ) : Type 0 where
+  pub code : k ≡ numberOf r
+  pub state : w′ ≡ stateWith r w
+  pub answer : a′ ≡ answerWith r a
+
+pub record ToldBy {R : Type 0} (f : R → Telling) (w w′ a a′ : List ℕ) (r : R) (k : ℕ) : Type 0 where
+  pub is : ToldWords w w′ a a′ (f r) k
+
+-- counts that a word holds, with the count of a list
+pub record NarrowList (n : ℕ) (c : State) : Type 0 where
+  pub counts : Narrow c
+  pub list : n < 4294967296
+
+abbrev pub formTelling : Form → Telling
+formTelling (form.List n c) = tells c (1 ∷ n ∷ [])
+formTelling (form.Refused k) = refuses k
+
+abbrev pub deepTelling : DeepForm → Telling
+deepTelling (deep.List n c) = tells c (1 ∷ n ∷ [])
+deepTelling (deep.None c) = tells c (0 ∷ 0 ∷ [])
+deepTelling (deep.Refused k) = refuses k
+
+-- the count of a Split's atoms that a word holds, and its guard within 32 bits
+pub record NarrowSplit (n : ℕ) (g : ℤ) : Type 0 where
+  pub list : n < 4294967296
+  pub guard : SFits w32 g
+
+abbrev pub answerTelling : StepResult → Telling
+answerTelling (step.Done c) = tells c (0 ∷ [])
+answerTelling (step.Saturated c) = tells c (1 ∷ [])
+answerTelling (step.Conflict c) = tells c (2 ∷ [])
+answerTelling (step.Propagate c v w f) = tells c (3 ∷ v ∷ w ∷ flag f ∷ [])
+answerTelling (step.Split c n g) = tells c (4 ∷ n ∷ ofZ w32 g ∷ [])
+answerTelling (step.Refused k) = refuses k
+
+-- counts and a Split that words hold
+pub record NarrowAnswer (r : StepResult) : Type 0 where
+  pub counts : (c : State) (v : List ℕ) → answerTelling r ≡ tells c v → Narrow c
+  pub split : (c : State) (n : ℕ) (g : ℤ) → r ≡ step.Split c n g → NarrowSplit n g

@@ -1,2 +1,4 @@
 pub mod Interface
 pub mod Leaves
+pub mod Forms
+pub mod Equations

@@ -1,93 +1,32 @@
 // The C interface: each call of the store over lent words, the state in six words of its own. A slice is a pointer and a length.
 ghost use mathlib.Core.Path.{_≡_};
-ghost use mathlib.Core.Bool.{true, _&&_};
-ghost use Prim.Native.Nat.{ℕ, _≤_};
+ghost use mathlib.Core.Bool.{_&&_};
 ghost use lib.Dec.{leb};
 ghost use lib.ListN.{length, getD};
-ghost use Rattle.records.specs.declared.State.{State};
-ghost use Rattle.records.specs.declared.Made.the-variants.{Term};
 ghost use Rattle.records.specs.Lists.{all};
 ghost use Rattle.records.specs.Store.{isString};
 ghost use Rattle.records.specs.View.{lent};
 ghost use Rattle.records.specs.Rules.{isChar, isList, isEquatable};
 ghost use Rattle.records.specs.Make.{makeConstant, makeVariable, makeConcat, makeLength, makeEquation};
 ghost use Rattle.records.specs.Calls.{call};
-ghost use Rattle.records.specs.declared.Added.the-variants as adding;
 ghost use Rattle.engine.specs.Explain.{find, findArguments};
 ghost use Rattle.capi.specs.Interface.{stateOf, roomy, audited, over, Exported, ExportedExplain};
-ghost use Rattle.capi.specs.Leaves.{written, Narrow, Told, ToldCounts};
+ghost use Rattle.capi.specs.Forms.{ExportedForm, ExportedDeepForm};
+ghost use Rattle.capi.specs.Equations.{ExportedResolve, ExportedEqual, ExportedEqualExplain};
 use engine::Found;
-use records::Added;
-use records::Made;
-use records::State;
 use records::build;
-use records::fields;
 use records::make;
+use telling::flag_of;
+use telling::is_roomy;
+use telling::state_of;
+use telling::tell;
+use telling::tell_answer;
+use telling::tell_counts;
+use telling::tell_deep_form;
+use telling::tell_form;
+use wordeq::Equality;
 
-// The counts and the name counter in the state's words.
-fn state_of(state: &[u32]) -> State
-    ensures { λ r. ⌜ r ≡ stateOf (now (state .entry)) ⌝ }
-{
-    State {
-        terms: fields::word(state, 0) as usize,
-        cells: fields::word(state, 1) as usize,
-        chars: fields::word(state, 2) as usize,
-        reasons: fields::word(state, 3) as usize,
-        keys: fields::word(state, 4) as usize,
-        names: fields::word(state, 5),
-    }
-}
-
-fn write_state(state: &mut [u32], c: State)
-    requires { ⌜ (6 ≤ length (now state)) × Narrow c ⌝ }
-    ensures { λ _. ⌜ now (state .exit) ≡ written c (now (state .entry)) ⌝ }
-{
-    state[0] = c.terms as u32;
-    state[1] = c.cells as u32;
-    state[2] = c.chars as u32;
-    state[3] = c.reasons as u32;
-    state[4] = c.keys as u32;
-    state[5] = c.names;
-}
-
-// Whether the state has its six words and the answer its eight.
-fn is_roomy(state: &[u32], answer: &[u32]) -> bool
-    ensures { λ r. ⌜ r ≡ roomy (now (state .entry)) (now (answer .entry)) ⌝ }
-{
-    if state.len() < 6 {
-        return false;
-    }
-    8 <= answer.len()
-}
-
-// A making call's answer into the state's and the answer's words.
-fn tell(state: &mut [u32], answer: &mut [u32], made: Made) -> u32
-    requires { ⌜ (roomy (now state) (now answer) ≡ true) × ((t : ℕ) (c : State) → made ≡ Term t c → Narrow c) ⌝ }
-    ensures { λ r. ⌜ Told (now (state .entry)) (now (state .exit)) (now (answer .entry)) (now (answer .exit)) made r ⌝ }
-{
-    match made {
-        Made::Term(t, c) => {
-            write_state(state, c);
-            answer[0] = t;
-            0
-        }
-        Made::Refused(k) => k,
-    }
-}
-
-// The counts after explain into the state's words.
-fn tell_counts(state: &mut [u32], added: Added) -> u32
-    requires { ⌜ (6 ≤ length (now state)) × ((c : State) → added ≡ adding.Counts c → Narrow c) ⌝ }
-    ensures { λ r. ⌜ ToldCounts (now (state .entry)) (now (state .exit)) added r ⌝ }
-{
-    match added {
-        Added::Counts(c) => {
-            write_state(state, c);
-            0
-        }
-        Added::Refused(k) => k,
-    }
-}
+mod telling;
 
 #[no_mangle]
 pub extern "C" fn labels_audit(
@@ -257,5 +196,145 @@ pub extern "C" fn labels_explain(
     }
     let c = state_of(state);
     let added = engine::explain(terms, cells, chars, reasons, keys, c, a, b);
+    tell_counts(state, added)
+}
+
+#[no_mangle]
+pub extern "C" fn labels_normal_form(
+    state: &mut [u32],
+    terms: &mut [u32],
+    cells: &[u32],
+    chars: &mut [u32],
+    reasons: &mut [u32],
+    keys: &[u32],
+    known: &[u32],
+    t: u32,
+    list: &mut [u32],
+    answer: &mut [u32],
+) -> u32
+    ensures { λ r. ⌜ ExportedForm (now (known .entry)) t (lent (now (terms .entry)) (now (cells .entry)) (now (chars .entry)) (now (reasons .entry)) (now (keys .entry))) (lent (now (terms .exit)) (now (cells .entry)) (now (chars .exit)) (now (reasons .exit)) (now (keys .entry))) (now (list .entry)) (now (list .exit)) (now (state .entry)) (now (state .exit)) (now (answer .entry)) (now (answer .exit)) r ⌝ }
+{
+    if !is_roomy(state, answer) {
+        return 1;
+    }
+    let c = state_of(state);
+    let made = normalize::normal_form_cited(terms, cells, chars, reasons, keys, c, known, t, list);
+    tell_form(state, answer, made)
+}
+
+#[no_mangle]
+pub extern "C" fn labels_deep_normal_form(
+    state: &mut [u32],
+    terms: &mut [u32],
+    cells: &[u32],
+    chars: &mut [u32],
+    reasons: &mut [u32],
+    keys: &[u32],
+    known: &[u32],
+    t: u32,
+    list: &mut [u32],
+    answer: &mut [u32],
+) -> u32
+    ensures { λ r. ⌜ ExportedDeepForm (now (known .entry)) t (lent (now (terms .entry)) (now (cells .entry)) (now (chars .entry)) (now (reasons .entry)) (now (keys .entry))) (lent (now (terms .exit)) (now (cells .entry)) (now (chars .exit)) (now (reasons .exit)) (now (keys .entry))) (now (list .entry)) (now (list .exit)) (now (state .entry)) (now (state .exit)) (now (answer .entry)) (now (answer .exit)) r ⌝ }
+{
+    if !is_roomy(state, answer) {
+        return 1;
+    }
+    let c = state_of(state);
+    let made = normalize::deep_normal_form_cited(
+        terms,
+        cells,
+        chars,
+        reasons,
+        keys,
+        c,
+        known,
+        t,
+        list,
+    );
+    tell_deep_form(state, answer, made)
+}
+
+#[no_mangle]
+pub extern "C" fn labels_resolve_equation<'a>(
+    state: &mut [u32],
+    terms: &mut [u32],
+    cells: &mut [u32],
+    chars: &mut [u32],
+    reasons: &mut [u32],
+    keys: &mut [u32],
+    lhs: &'a [u32],
+    rhs: &'a [u32],
+    guard: i32,
+    list: &mut [u32],
+    answer: &mut [u32],
+) -> u32
+    ensures { λ r. ⌜ ExportedResolve (now (lhs .entry)) (now (rhs .entry)) guard (lent (now (terms .entry)) (now (cells .entry)) (now (chars .entry)) (now (reasons .entry)) (now (keys .entry))) (lent (now (terms .exit)) (now (cells .exit)) (now (chars .exit)) (now (reasons .exit)) (now (keys .exit))) (now (list .entry)) (now (list .exit)) (now (state .entry)) (now (state .exit)) (now (answer .entry)) (now (answer .exit)) r ⌝ }
+{
+    if !is_roomy(state, answer) {
+        return 1;
+    }
+    let c = state_of(state);
+    let made = wordeq::resolve_equation(
+        terms,
+        cells,
+        chars,
+        reasons,
+        keys,
+        c,
+        lhs,
+        rhs,
+        guard,
+        list,
+    );
+    tell_answer(state, answer, made)
+}
+
+#[no_mangle]
+pub extern "C" fn labels_nf_equal(
+    state: &[u32],
+    terms: &[u32],
+    cells: &[u32],
+    chars: &[u32],
+    reasons: &[u32],
+    keys: &[u32],
+    lhs: &[u32],
+    rhs: &[u32],
+    answer: &mut [u32],
+) -> u32
+    ensures { λ r. ⌜ ExportedEqual (now (lhs .entry)) (now (rhs .entry)) (lent (now (terms .entry)) (now (cells .entry)) (now (chars .entry)) (now (reasons .entry)) (now (keys .entry))) (now (state .entry)) (now (answer .entry)) (now (answer .exit)) r ⌝ }
+{
+    if !is_roomy(state, answer) {
+        return 1;
+    }
+    let c = state_of(state);
+    let compared = wordeq::nf_equal(terms, cells, chars, reasons, keys, c, lhs, rhs);
+    match compared {
+        Equality::Is(b) => {
+            answer[0] = flag_of(b);
+            0
+        }
+        Equality::Refused(k) => k,
+    }
+}
+
+#[no_mangle]
+pub extern "C" fn labels_nf_equal_explain(
+    state: &mut [u32],
+    terms: &[u32],
+    cells: &[u32],
+    chars: &[u32],
+    reasons: &mut [u32],
+    keys: &[u32],
+    lhs: &[u32],
+    rhs: &[u32],
+) -> u32
+    ensures { λ r. ⌜ ExportedEqualExplain (now (lhs .entry)) (now (rhs .entry)) (lent (now (terms .entry)) (now (cells .entry)) (now (chars .entry)) (now (reasons .entry)) (now (keys .entry))) (lent (now (terms .entry)) (now (cells .entry)) (now (chars .entry)) (now (reasons .exit)) (now (keys .entry))) (now (state .entry)) (now (state .exit)) r ⌝ }
+{
+    if state.len() < 6 {
+        return 1;
+    }
+    let c = state_of(state);
+    let added = wordeq::nf_equal_explain(terms, cells, chars, reasons, keys, c, lhs, rhs);
     tell_counts(state, added)
 }

@@ -5,7 +5,7 @@ use Rattle.capi.proofs.labels_audit.Statement.{statement}
 use Rattle.capi.proofs.labels_audit.Tie as tie
 use Rattle.capi.proofs.labels_audit.Reads as reads
 use Rattle.capi.proofs.labels_audit.Lts as lts
-use Rattle.capi.proofs.state_of.Reads as state-of-reads
+use Rattle.capi.proofs.telling.state_of.Reads as state-of-reads
 use Rattle.records.proofs.audit.Reads as audit-reads
 
 pub labels-audit-spec : {M : Type 1} → statement M

@@ -3,11 +3,11 @@ use lib.ListN.{length-set}
 use Rattle.capi.proofs.Words.{roomy-state, roomy-answer, told-term, told-refused}
 use native.Mathlib.Omega.{arith}
 use borrow.Author.Needs.{needs}
-use Rattle.capi.proofs.tell.Statement.{statement}
-use Rattle.capi.proofs.tell.Tie as tie
-use Rattle.capi.proofs.tell.Reads as reads
-use Rattle.capi.proofs.tell.Lts as lts
-use Rattle.capi.proofs.write_state.Reads as write-state-reads
+use Rattle.capi.proofs.telling.tell.Statement.{statement}
+use Rattle.capi.proofs.telling.tell.Tie as tie
+use Rattle.capi.proofs.telling.tell.Reads as reads
+use Rattle.capi.proofs.telling.tell.Lts as lts
+use Rattle.capi.proofs.telling.write_state.Reads as write-state-reads
 
 pub tell-spec : {M : Type 1} → statement M
 tell-spec =

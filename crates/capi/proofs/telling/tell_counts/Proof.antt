@@ -1,11 +1,11 @@
 use Rattle.capi.proofs.Words.{told-counts, told-no-counts}
 use native.Mathlib.Omega.{arith}
 use borrow.Author.Needs.{needs}
-use Rattle.capi.proofs.tell_counts.Statement.{statement}
-use Rattle.capi.proofs.tell_counts.Tie as tie
-use Rattle.capi.proofs.tell_counts.Reads as reads
-use Rattle.capi.proofs.tell_counts.Lts as lts
-use Rattle.capi.proofs.write_state.Reads as write-state-reads
+use Rattle.capi.proofs.telling.tell_counts.Statement.{statement}
+use Rattle.capi.proofs.telling.tell_counts.Tie as tie
+use Rattle.capi.proofs.telling.tell_counts.Reads as reads
+use Rattle.capi.proofs.telling.tell_counts.Lts as lts
+use Rattle.capi.proofs.telling.write_state.Reads as write-state-reads
 
 pub tell-counts-spec : {M : Type 1} → statement M
 tell-counts-spec =

@@ -1,0 +1,153 @@
+-- An answer of wordeq, told in words.
+use mathlib.Core.Path.{_≡_, refl, sym, ap, subst, _∙_}
+use mathlib.Core.Bool.{Bool, true, false, _&&_}
+use mathlib.Core.List.{List, [], _∷_}
+use mathlib.Core.Logic.{⊎-elim}
+use Prim.Native.Nat.{ℕ, zero, suc, _≤_, _<_}
+use native.Mathlib.Omega.{arith}
+use native.Mathlib.Decide.{decLe}
+use native.Mathlib.Nat.{min-comm, min-eq-left, eq-or-lt-of-le}
+use lib.Seq.{length-take-le}
+use lib.ListN.{length, take, length-take}
+use lib.IntN.{ℤ, pos, negsuc, negℤ}
+use lib.Dec.{eqb, leb}
+use borrow.Author.Tests.{not-true, eqb-false}
+use mir.Syntax.{w32}
+use mir.Val.{toZ, ofZ, SFits}
+use mir.ValLaws.{toZ-ofZ}
+use Rattle.records.specs.declared.State.{State}
+use Rattle.records.specs.Lists.{all}
+use Rattle.records.specs.Store.{Store, Out, ok, stop, isString}
+use Rattle.records.specs.View.{Lent, storeOf}
+use Rattle.records.specs.Rules.{listLimit, isList}
+use Rattle.records.specs.Audited.{Audited}
+use Rattle.records.proofs.Lists.{both-left, both-right}
+use Rattle.normalize.specs.Calls.{listCall, PublicList}
+use Rattle.wordeq.specs.declared.StepResult.{StepResult}
+use Rattle.wordeq.specs.declared.StepResult.the-variants as step
+use Rattle.wordeq.specs.Wordeq.{Answer, done, saturated, conflict, propagate, split, resolve, resolveArguments, isGuard}
+use Rattle.wordeq.specs.Meaning.{Sound}
+use Rattle.wordeq.specs.Results.{resolved}
+use Rattle.wordeq.specs.Calls.{PublicResolve}
+use Rattle.wordeq.proofs.Resolve.{resolve-kept, resolve-stops}
+use Rattle.capi.specs.Interface.{stateOf, roomy}
+use Rattle.capi.specs.Equations.{flag, answerWords, answerRead, ExportedResolve}
+use Rattle.capi.specs.Leaves.{NarrowAnswer, Telling, tells, ToldWords, ToldBy, answerTelling}
+use Rattle.capi.proofs.Exports.{Tells}
+use Rattle.capi.proofs.Listings.{Shows, list-gives, list-room, list-tellable, list-exported, list-worth, untold-list}
+use Rattle.capi.proofs.FewAtoms.{Few, resolve-few}
+
+-- THE WORK
+
+module _ (s : Store) (l r : List ℕ) (b : Bool) (f : isList s l && isList s r && b ≡ true) where
+  pub left-strings : all (isString s) l ≡ true
+  left-strings = both-right (leb (length l) listLimit) _ (both-left (isList s l) _ (both-left (isList s l && isList s r) _ f))
+
+  pub right-strings : all (isString s) r ≡ true
+  right-strings = both-right (leb (length r) listLimit) _ (both-right (isList s l) _ (both-left (isList s l && isList s r) _ f))
+
+pub resolve-tells : (l r : List ℕ) (g : ℤ) → Tells (resolveArguments l r g) (resolve l r g)
+resolve-tells l r g = record {
+  keeps = λ s s′ x a f e. resolve-kept l r g s a (left-strings s l r _ f) (right-strings s l r _ f) s′ x e;
+  stops = λ s n a f e z. let q = resolve-stops l r g s a (left-strings s l r _ f) (right-strings s l r _ f) n e .from in absurd (omega arith);
+}
+
+-- a guard that can be negated fits so
+pub opposite-fits : (g : ℤ) → isGuard g ≡ true → SFits w32 g → SFits w32 (negℤ g)
+unfolding isGuard
+opposite-fits (pos zero) h f = let z : _≡_ {A = Bool} false true = h in let y : _≡_ {A = ℕ} 0 1 = cc in absurd (omega arith)
+opposite-fits (pos (suc n)) h f = let k : suc n < 0x8000_0000 = f .sfits in record { sfits = fits n k }
+  where
+    fits : (n : ℕ) → suc n < 0x8000_0000 → n < 0x8000_0000
+    fits n k = omega arith
+opposite-fits (negsuc n) h f = let k : n < 0x8000_0000 = f .sfits in record { sfits = fits n k (eqb-false n 0x7FFF_FFFF (not-true _ h)) }
+  where
+    fits : (n : ℕ) → n < 0x8000_0000 → (n ≡ 0x7FFF_FFFF → ⊥) → suc n < 0x8000_0000
+    fits n k d = let j : n ≤ 0x7FFF_FFFF = omega arith in ⊎-elim (λ e. absurd (d e)) (λ e. omega arith) (eq-or-lt-of-le j)
+
+-- ITS WORDS
+
+pub flag-back : (f : Bool) → eqb (flag f) 1 ≡ f
+flag-back true = refl
+flag-back false = refl
+
+-- a Split whose atoms stand in the slice
+pub record StandsIn (n : ℕ) (g : ℤ) (k′ : List ℕ) : Type 0 where
+  pub here : n ≤ length k′
+  pub three : n ≤ 3
+  pub guard : SFits w32 g
+
+pub record Stands (r : StepResult) (k′ : List ℕ) : Type 0 where
+  pub split : (c : State) (n : ℕ) (g : ℤ) → r ≡ step.Split c n g → StandsIn n g k′
+
+answer-shows : (r : StepResult) (m′ : Lent) (k′ : List ℕ) → Stands r k′ → Shows answerWords (answerRead k′) m′ (resolved r m′ k′) (answerTelling r)
+answer-shows (step.Done c) m′ k′ i = record { value = done; outcome = refl; spelt = refl; few = omega arith; back = λ z. refl }
+answer-shows (step.Saturated c) m′ k′ i = record { value = saturated; outcome = refl; spelt = refl; few = omega arith; back = λ z. refl }
+answer-shows (step.Conflict c) m′ k′ i = record { value = conflict; outcome = refl; spelt = refl; few = omega arith; back = λ z. refl }
+answer-shows (step.Propagate c v x f) m′ k′ i = record { value = propagate v x f; outcome = refl; spelt = refl; few = omega arith; back = λ z. ap (propagate v x) (flag-back f) }
+answer-shows (step.Split c n g) m′ k′ i =
+    let j = i .split c n g refl in
+    record {
+      value = split (take n k′) g;
+      outcome = refl;
+      spelt = ap (λ (x : ℕ). 4 ∷ x ∷ ofZ w32 g ∷ []) (sym (length-take-le n k′ (j .here)));
+      few = omega arith;
+      back = λ z. ap (split (take n k′)) (toZ-ofZ w32 g (j .guard));
+    }
+answer-shows (step.Refused n) m′ k′ i = refl
+
+-- RESOLVE_EQUATION
+
+pub resolve-untold : (l r : List ℕ) (g : ℤ) (m : Lent) (k w a : List ℕ) → roomy w a ≡ false → ExportedResolve l r g m m k k w w a a 1
+resolve-untold l r g m k w a e = record { is = untold-list _ answerWords m k w a _ e; worth = λ z. absurd (omega arith) }
+
+module _ {l r : List ℕ} {g : ℤ} {m m′ : Lent} {k k′ : List ℕ} {c : State} (o : StepResult) (fit : SFits w32 g)
+    (public : PublicResolve l r (toZ w32 (ofZ w32 g)) m m′ k k′ c (resolved o m′ k′)) (same : length k′ ≡ length k) where
+  here : PublicResolve l r g m m′ k k′ c (resolved o m′ k′)
+  here = subst (λ (x : ℤ). PublicResolve l r x m m′ k k′ c (resolved o m′ k′)) (toZ-ofZ w32 g fit) public
+
+  called : PublicList (listCall k (resolveArguments l r g) (resolve l r g) m c) m m′ k k′ c (resolved o m′ k′)
+  called = here .is
+
+  pub resolve-stands : Stands o k′
+  resolve-stands = record { split = λ d n h e. at d n h (sym (called .store .says) ∙ ap (λ (x : StepResult). resolved x m′ k′) e) }
+    where
+      at : (d : State) (n : ℕ) (h : ℤ) → listCall k (resolveArguments l r g) (resolve l r g) m c ≡ ok (storeOf m′ d) (split (take n k′) h) → StandsIn n h k′
+      at d n h e = by (decLe n (length k′)) (long .0) (list-room (resolve-tells l r g) m k c _ _ e)
+        where
+          long : Few g (split (take n k′) h)
+          long = list-gives (resolve-tells l r g) m k c {P = λ s x. Few g x} (λ s s′ x a f q. resolve-few g l r s .given s′ x q) (storeOf m′ d) (split (take n k′) h) e
+
+          guarded : isGuard g ≡ true
+          guarded = list-gives (resolve-tells l r g) m k c {P = λ s x. isGuard g ≡ true} (λ s s′ x a f q. both-right (isList s l && isList s r) _ f) (storeOf m′ d) (split (take n k′) h) e
+
+          by : Dec (n ≤ length k′) → length (take n k′) ≤ 3 → listLimit ≤ length k → StandsIn n h k′
+          by (yes y) i j = let q = length-take-le n k′ y in record { here = y; three = omega arith; guard = subst (SFits w32) (sym (long .1)) (opposite-fits g guarded fit) }
+          by (no y) i j =
+              let z : length k′ ≤ n = omega arith in
+              let q = length-take n k′ ∙ min-comm n (length k′) ∙ min-eq-left z in
+              let p = same in
+              absurd (omega arith)
+
+  pub resolve-tellable : NarrowAnswer o
+  resolve-tellable = record {
+    counts = λ d v e. list-tellable (resolve-tells l r g) called answerWords (answerRead k′) (answerTelling o) (answer-shows o m′ k′ resolve-stands) d v e;
+    split = λ d n h e. (let j = resolve-stands .split d n h e in let p = j .three in record { list = omega arith; guard = j .guard });
+  }
+
+  pub resolve-exported : {w w′ a a′ : List ℕ} {n : ℕ} → roomy w a ≡ true → c ≡ stateOf w → ToldBy answerTelling w w′ a a′ o n
+      → ExportedResolve l r g m m′ k k′ w w′ a a′ n
+  resolve-exported room e u = record {
+    is = list-exported (resolve-tells l r g) called answerWords (answerRead k′) (answerTelling o) (answer-shows o m′ k′ resolve-stands) room e (u .is);
+    worth = list-worth (resolve-tells l r g) called answerWords (answerRead k′) (answerTelling o) (answer-shows o m′ k′ resolve-stands) room e (u .is) (λ s′ x q. subst (λ (d : State). Sound (storeOf m d) s′ l r x) e (here .worth s′ x q));
+  }
+
+-- TELLING
+
+module _ {r : StepResult} {w w′ a a′ : List ℕ} {k : ℕ} where
+  pub told-propagate : {c : State} {v x : ℕ} {f : Bool} {u : ℕ} → r ≡ step.Propagate c v x f → u ≡ flag f → ToldWords w w′ a a′ (tells c (3 ∷ v ∷ x ∷ u ∷ [])) k → ToldBy answerTelling w w′ a a′ r k
+  told-propagate {c} {v} {x} {f} {u} e q t = record { is = subst (λ (T : Telling). ToldWords w w′ a a′ T k) (ap (λ (y : ℕ). tells c (3 ∷ v ∷ x ∷ y ∷ [])) q ∙ sym (ap answerTelling e)) t }
+
+  pub told-split : {c : State} {n : ℕ} {g : ℤ} {u : ℕ} → r ≡ step.Split c n g → SFits w32 g → u ≡ ofZ w32 (toZ w32 (ofZ w32 g)) → ToldWords w w′ a a′ (tells c (4 ∷ n ∷ u ∷ [])) k → ToldBy answerTelling w w′ a a′ r k
+  told-split {c} {n} {g} {u} e f q t =
+      record { is = subst (λ (T : Telling). ToldWords w w′ a a′ T k) (ap (λ (y : ℕ). tells c (4 ∷ n ∷ y ∷ [])) (q ∙ ap (ofZ w32) (toZ-ofZ w32 g f)) ∙ sym (ap answerTelling e)) t }

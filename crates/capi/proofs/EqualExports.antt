@@ -1,0 +1,101 @@
+-- nf_equal and nf_equal_explain, told in words.
+use mathlib.Core.Path.{_≡_, refl, sym, ap, subst, _∙_}
+use mathlib.Core.Bool.{Bool, true, false, _&&_}
+use mathlib.Core.List.{List, [], _∷_}
+use Prim.Native.Nat.{ℕ, zero, suc, _≤_, _<_}
+use native.Mathlib.Omega.{arith}
+use lib.ListN.{length, set, take}
+use lib.Dec.{eqb, leb}
+use borrow.Author.Tests.{lt-leb}
+use Rattle.records.specs.declared.State.{State}
+use Rattle.records.specs.declared.Added.{Added}
+use Rattle.records.specs.declared.Added.the-variants as adding
+use Rattle.records.specs.Store.{Store, Out, ok, stop}
+use Rattle.records.specs.View.{Lent, storeOf}
+use Rattle.records.specs.Audited.{Audited}
+use Rattle.records.specs.Calls.{call, Public, added}
+use Rattle.wordeq.specs.declared.Equality.{Equality}
+use Rattle.wordeq.specs.declared.Equality.the-variants as equality
+use Rattle.wordeq.specs.Wordeq.{nfExplain, nfArguments}
+use Rattle.wordeq.specs.Meaning.{ExplainsEqual}
+use Rattle.wordeq.specs.Calls.{equalArguments, equalLists, compared, PublicEqualExplain}
+use Rattle.wordeq.proofs.Equal.{explain-equal-kept, explain-equal-stops}
+use Rattle.capi.specs.Interface.{stateOf, roomy, over}
+use Rattle.capi.specs.Equations.{flag, flagWords, flagRead, ExportedEqual, ExportedEqualExplain}
+use Rattle.capi.specs.Leaves.{Narrow, ToldCounts}
+use Rattle.capi.proofs.Words.{beyond-same, beyond-first, first-read, roomy-answer}
+use Rattle.capi.proofs.Exports.{Tells, call-stops, told-public, untold}
+use Rattle.capi.proofs.CountExports.{counts-tellable, counts-exported, counts-worth}
+use Rattle.capi.proofs.AnswerExports.{left-strings, right-strings, flag-back}
+
+-- NF_EQUAL
+
+equal-tells : (l r : List ℕ) → Tells (equalArguments l r) (equalLists l r)
+unfolding equalLists
+equal-tells l r = record {
+  keeps = λ s s′ x a f e. let q : s ≡ s′ = cc in subst Audited q a;
+  stops = λ s n a f e z. let y : _≡_ {A = ℕ} 0 1 = cc in absurd (omega arith);
+}
+
+first-word : (a : List ℕ) (u : ℕ) → 8 ≤ length a → take 1 (set a 0 u) ≡ u ∷ []
+first-word [] u h = absurd (omega arith)
+first-word (x ∷ a) u h = refl
+
+pub equal-short : (l r : List ℕ) (m : Lent) (w a : List ℕ) → roomy w a ≡ false → ExportedEqual l r m w a a 1
+equal-short l r m w a e = record { is = record { is = untold _ m w 1 a (flagRead a) e; says = λ z. absurd (omega arith) } }
+
+module _ (l r : List ℕ) (m : Lent) (c : State) (x : Equality) (called : Public (call (equalArguments l r) (equalLists l r) m c) m m c (compared x m c)) (w a : List ℕ) (room : roomy w a ≡ true) (is : c ≡ stateOf w) where
+  at : Public (call (equalArguments l r) (equalLists l r) m (stateOf w)) m m (stateOf w) (compared x m (stateOf w))
+  at = subst (λ (d : State). Public (call (equalArguments l r) (equalLists l r) m d) m m d (compared x m d)) is called
+
+  pub equal-told : (b : Bool) → x ≡ equality.Is b → (u : ℕ) → u ≡ flag b → ExportedEqual l r m w a (set a 0 u) 0
+  equal-told b e u f =
+      let q : flagRead (set a 0 u) ≡ b = ap (λ (y : ℕ). eqb y 1) (first-read a u (roomy-answer w a room) ∙ f) ∙ flag-back b in
+      record {
+        is = record {
+          is = record {
+            public = told-public room (ap (ok (storeOf m (stateOf w))) q ∙ sym (ap (λ (y : Equality). compared y m (stateOf w)) e)) at;
+            state = beyond-same 6 w;
+            answer = beyond-first a u;
+            state-idle = λ z. refl;
+            answer-idle = λ z. absurd (z refl);
+          };
+          says = λ z. first-word a u (roomy-answer w a room) ∙ ap (λ (y : ℕ). y ∷ []) (f ∙ ap flag (sym q));
+        };
+      }
+
+  pub equal-untold : (k : ℕ) → x ≡ equality.Refused k → ExportedEqual l r m w a a k
+  equal-untold zero e = absurd (call-stops (equal-tells l r) m (stateOf w) 0 (sym (at .says) ∙ ap (λ (y : Equality). compared y m (stateOf w)) e) refl)
+  equal-untold (suc k) e = record {
+    is = record {
+      is = record {
+        public = told-public room (sym (ap (λ (y : Equality). compared y m (stateOf w)) e)) at;
+        state = beyond-same 6 w;
+        answer = beyond-same 1 a;
+        state-idle = λ z. refl;
+        answer-idle = λ z. refl;
+      };
+      says = λ z. absurd (omega arith);
+    };
+  }
+
+-- NF_EQUAL_EXPLAIN
+
+pairs-tells : (l r : List ℕ) → Tells (nfArguments l r) (nfExplain l r)
+pairs-tells l r = record {
+  keeps = λ s s′ x a f e. explain-equal-kept l r s a (left-strings s l r _ f) (right-strings s l r _ f) s′ x e;
+  stops = λ s n a f e z. let q = explain-equal-stops l r s a (left-strings s l r _ f) (right-strings s l r _ f) n e in absurd (omega arith);
+}
+
+pub pairs-short : (l r : List ℕ) (m : Lent) (w : List ℕ) → length w < 6 → ExportedEqualExplain l r m m w w 1
+pairs-short l r m w h = record { is = untold _ m w 0 [] tt (lt-leb 6 (length w) h); worth = λ e. absurd (omega arith) }
+
+module _ {l r : List ℕ} {m m′ : Lent} {c : State} {x : Added} (called : PublicEqualExplain l r m m′ c (added x m′)) where
+  pub pairs-tellable : (d : State) → x ≡ adding.Counts d → Narrow d
+  pairs-tellable d e = counts-tellable (pairs-tells l r) (called .is) d e
+
+  pub pairs-exported : {w w′ : List ℕ} {k : ℕ} → 6 ≤ length w → c ≡ stateOf w → ToldCounts w w′ x k → ExportedEqualExplain l r m m′ w w′ k
+  pairs-exported room e t = record {
+    is = counts-exported (pairs-tells l r) (called .is) t room e;
+    worth = counts-worth (pairs-tells l r) (called .is) t (λ s′ q. subst (λ (d : State). ExplainsEqual (storeOf m d) s′ l r) e (called .worth s′ q));
+  }

@@ -1,0 +1,28 @@
+use Rattle.capi.proofs.EqualExports.{equal-short, equal-told, equal-untold}
+use Rattle.capi.proofs.Words.{roomy-answer}
+use borrow.Author.Tests.{not-true, not-false}
+use mathlib.Core.Path.{sym, _∙_}
+use native.Mathlib.Omega.{arith}
+use borrow.Author.Needs.{needs}
+use Rattle.capi.proofs.labels_nf_equal.Statement.{statement}
+use Rattle.capi.proofs.labels_nf_equal.Tie as tie
+use Rattle.capi.proofs.labels_nf_equal.Reads as reads
+use Rattle.capi.proofs.labels_nf_equal.Lts as lts
+
+pub labels-nf-equal-spec : {M : Type 1} → statement M
+labels-nf-equal-spec =
+    tie.close
+    (tie.spec
+    (λ c κs. search needs)
+    (λ c. search needs)
+    (λ c. equal-short _ _ _ _ _ (sym (c .before .is-roomy .ensures) ∙ not-true _ (c .if1 .taken)))
+    (λ c κs. search needs)
+    (λ c κs. search needs)
+    (λ c. search needs)
+    (λ c κs. search needs)
+    (λ c. let h = roomy-answer _ _ (sym (c .before .before .before .before .before .before .before .is-roomy .ensures) ∙ not-false _ (c .before .before .before .before .before .before .if1 .left)) in omega arith)
+    (λ c. search needs)
+    (λ c. search needs)
+    (λ c. equal-told _ _ _ _ _ (c .before .before .before .before .nf-equal .ensures) _ _ (sym (c .before .before .before .before .before .before .before .is-roomy .ensures) ∙ not-false _ (c .before .before .before .before .before .before .if1 .left)) (c .before .before .before .before .before .state-of .ensures) _ (c .before .before .compared .given .1) _ (c .flag-of .ensures))
+    (λ c. search needs)
+    (λ c. equal-untold _ _ _ _ _ (c .before .before .before .nf-equal .ensures) _ _ (sym (c .before .before .before .before .before .before .is-roomy .ensures) ∙ not-false _ (c .before .before .before .before .before .if1 .left)) (c .before .before .before .before .state-of .ensures) _ (c .before .compared2 .given .1)))

@@ -1,0 +1,45 @@
+use Rattle.capi.proofs.AnswerExports.{told-propagate, told-split}
+use Rattle.capi.proofs.Listings.{told-by, told-refuses}
+use Rattle.capi.specs.Leaves.{answerTelling}
+use mathlib.Core.Path.{ap}
+use native.Mathlib.Omega.{arith}
+use borrow.Author.Needs.{needs}
+use Rattle.capi.proofs.telling.tell_answer.Statement.{statement}
+use Rattle.capi.proofs.telling.tell_answer.Tie as tie
+use Rattle.capi.proofs.telling.tell_answer.Reads as reads
+use Rattle.capi.proofs.telling.tell_answer.Lts as lts
+
+pub tell-answer-spec : {M : Type 1} → statement M
+tell-answer-spec =
+    tie.close
+    (tie.spec
+    (λ c. search needs)
+    (λ c κs. (c .before .before .before .before .before .before .before .pre .0, c .before .before .before .before .before .before .before .pre .1 .counts _ _ (ap answerTelling (c .before .before .before .made .given .1))))
+    (λ c. search needs)
+    (λ c κs. (c .before .before .before .before .before .before .before .pre .0, c .before .before .before .before .before .before .before .pre .1 .counts _ _ (ap answerTelling (c .before .before .before .made2 .given .1))))
+    (λ c. search needs)
+    (λ c κs. (c .before .before .before .before .before .before .before .pre .0, c .before .before .before .before .before .before .before .pre .1 .counts _ _ (ap answerTelling (c .before .before .before .made3 .given .1))))
+    (λ c. search needs)
+    (λ c κs. search needs)
+    (λ c κs. (c .before .before .before .before .before .before .before .before .pre .0, c .before .before .before .before .before .before .before .before .pre .1 .counts _ _ (ap answerTelling (c .before .before .before .before .made4 .given .1))))
+    (λ c. search needs)
+    (λ c. record { fits = c .before .before .before .before .before .before .before .pre .1 .split _ _ _ (c .before .before .before .made5 .given .1) .list })
+    (λ c κs. search needs)
+    (λ c κs. (c .before .before .before .before .before .before .before .before .pre .0, c .before .before .before .before .before .before .before .before .pre .1 .counts _ _ (ap answerTelling (c .before .before .before .before .made5 .given .1))))
+    (λ c. search needs)
+    (λ c. search needs)
+    (λ c. search needs)
+    (λ c. told-by (ap answerTelling (c .before .before .before .before .before .before .before .before .made .given .1)) (c .before .before .before .before .tell-one .ensures))
+    (λ c. search needs)
+    (λ c. search needs)
+    (λ c. told-by (ap answerTelling (c .before .before .before .before .before .before .before .before .made2 .given .1)) (c .before .before .before .before .tell-one2 .ensures))
+    (λ c. search needs)
+    (λ c. search needs)
+    (λ c. told-by (ap answerTelling (c .before .before .before .before .before .before .before .before .made3 .given .1)) (c .before .before .before .before .tell-one3 .ensures))
+    (λ c. search needs)
+    (λ c. search needs)
+    (λ c. told-propagate (c .before .before .before .before .before .before .before .before .before .made4 .given .1) (c .before .before .before .before .before .flag-of .ensures) (c .before .before .before .before .tell-four .ensures))
+    (λ c. search needs)
+    (λ c. search needs)
+    (λ c. told-split (c .before .before .before .before .before .before .before .before .before .made5 .given .1) (c .before .before .before .before .before .before .before .before .before .before .before .before .before .pre .1 .split _ _ _ (c .before .before .before .before .before .before .before .before .before .made5 .given .1) .guard) (c .before .before .before .before .before .bits-of .ensures) (c .before .before .before .before .tell-three .ensures))
+    (λ c. told-refuses (ap answerTelling (c .before .made6 .given .1))))

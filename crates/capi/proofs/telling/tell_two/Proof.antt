@@ -1,0 +1,21 @@
+use Rattle.capi.proofs.Listings.{two-told}
+use Rattle.capi.proofs.Words.{roomy-state, roomy-answer}
+use lib.ListN.{length-set}
+use mathlib.Core.Path.{refl}
+use native.Mathlib.Omega.{arith}
+use borrow.Author.Needs.{needs}
+use Rattle.capi.proofs.telling.tell_two.Statement.{statement}
+use Rattle.capi.proofs.telling.tell_two.Tie as tie
+use Rattle.capi.proofs.telling.tell_two.Reads as reads
+use Rattle.capi.proofs.telling.tell_two.Lts as lts
+
+pub tell-two-spec : {M : Type 1} → statement M
+tell-two-spec =
+    tie.close
+    (tie.spec
+    (λ c κs. (roomy-state _ _ (c .before .before .before .pre .0), c .before .before .before .pre .1))
+    (λ c. let h = roomy-answer _ _ (c .before .before .before .before .before .before .pre .0) in omega arith)
+    (λ c. let h = roomy-answer _ _ (c .before .before .before .before .before .before .pre .0) in simp length-set (omega arith))
+    (λ c. search needs)
+    (λ c. search needs)
+    (λ c. two-told (c .before .before .before .before .before .before .pre .0) (c .before .before .write-state .ensures) refl))

@@ -1,0 +1,204 @@
+// An answer put into the words that a C caller lends: the state's six, and the answer's.
+ghost use mathlib.Core.Path.{_≡_};
+ghost use mathlib.Core.Bool.{true};
+ghost use mathlib.Core.List.{[], _∷_};
+ghost use Prim.Native.Nat.{ℕ, _≤_};
+ghost use lib.ListN.{length};
+ghost use mir.Syntax.{w32};
+ghost use mir.Val.{ofZ};
+ghost use Rattle.records.specs.declared.State.{State};
+ghost use Rattle.records.specs.declared.Made.the-variants.{Term};
+ghost use Rattle.records.specs.declared.Added.the-variants as adding;
+ghost use Rattle.normalize.specs.declared.Form.the-variants as form;
+ghost use Rattle.normalize.specs.declared.DeepForm.the-variants as deep;
+ghost use Rattle.capi.specs.Interface.{stateOf, roomy};
+ghost use Rattle.capi.specs.Equations.{flag};
+ghost use Rattle.capi.specs.Leaves.{written, Narrow, NarrowList, NarrowAnswer, Told, ToldCounts, tells, ToldWords, ToldBy, formTelling, deepTelling, answerTelling};
+use normalize::DeepForm;
+use normalize::Form;
+use records::Added;
+use records::Made;
+use records::State;
+use records::fields;
+use wordeq::StepResult;
+
+// The counts and the name counter in the state's words.
+pub(crate) fn state_of(state: &[u32]) -> State
+    ensures { λ r. ⌜ r ≡ stateOf (now (state .entry)) ⌝ }
+{
+    State {
+        terms: fields::word(state, 0) as usize,
+        cells: fields::word(state, 1) as usize,
+        chars: fields::word(state, 2) as usize,
+        reasons: fields::word(state, 3) as usize,
+        keys: fields::word(state, 4) as usize,
+        names: fields::word(state, 5),
+    }
+}
+
+pub(crate) fn write_state(state: &mut [u32], c: State)
+    requires { ⌜ (6 ≤ length (now state)) × Narrow c ⌝ }
+    ensures { λ _. ⌜ now (state .exit) ≡ written c (now (state .entry)) ⌝ }
+{
+    state[0] = c.terms as u32;
+    state[1] = c.cells as u32;
+    state[2] = c.chars as u32;
+    state[3] = c.reasons as u32;
+    state[4] = c.keys as u32;
+    state[5] = c.names;
+}
+
+// Whether the state has its six words and the answer its eight.
+pub(crate) fn is_roomy(state: &[u32], answer: &[u32]) -> bool
+    ensures { λ r. ⌜ r ≡ roomy (now (state .entry)) (now (answer .entry)) ⌝ }
+{
+    if state.len() < 6 {
+        return false;
+    }
+    8 <= answer.len()
+}
+
+// A making call's answer into the state's and the answer's words.
+pub(crate) fn tell(state: &mut [u32], answer: &mut [u32], made: Made) -> u32
+    requires { ⌜ (roomy (now state) (now answer) ≡ true) × ((t : ℕ) (c : State) → made ≡ Term t c → Narrow c) ⌝ }
+    ensures { λ r. ⌜ Told (now (state .entry)) (now (state .exit)) (now (answer .entry)) (now (answer .exit)) made r ⌝ }
+{
+    match made {
+        Made::Term(t, c) => {
+            write_state(state, c);
+            answer[0] = t;
+            0
+        }
+        Made::Refused(k) => k,
+    }
+}
+
+// The counts after explain into the state's words.
+pub(crate) fn tell_counts(state: &mut [u32], added: Added) -> u32
+    requires { ⌜ (6 ≤ length (now state)) × ((c : State) → added ≡ adding.Counts c → Narrow c) ⌝ }
+    ensures { λ r. ⌜ ToldCounts (now (state .entry)) (now (state .exit)) added r ⌝ }
+{
+    match added {
+        Added::Counts(c) => {
+            write_state(state, c);
+            0
+        }
+        Added::Refused(k) => k,
+    }
+}
+
+// The counts into the state's words, and an answer of one word; two, three and four below.
+pub(crate) fn tell_one(state: &mut [u32], answer: &mut [u32], c: State, x: u32) -> u32
+    requires { ⌜ (roomy (now state) (now answer) ≡ true) × Narrow c ⌝ }
+    ensures { λ r. ⌜ ToldWords (now (state .entry)) (now (state .exit)) (now (answer .entry)) (now (answer .exit)) (tells c (x ∷ [])) r ⌝ }
+{
+    write_state(state, c);
+    answer[0] = x;
+    0
+}
+
+pub(crate) fn tell_two(state: &mut [u32], answer: &mut [u32], c: State, x: u32, y: u32) -> u32
+    requires { ⌜ (roomy (now state) (now answer) ≡ true) × Narrow c ⌝ }
+    ensures { λ r. ⌜ ToldWords (now (state .entry)) (now (state .exit)) (now (answer .entry)) (now (answer .exit)) (tells c (x ∷ y ∷ [])) r ⌝ }
+{
+    write_state(state, c);
+    answer[0] = x;
+    answer[1] = y;
+    0
+}
+
+pub(crate) fn tell_three(
+    state: &mut [u32],
+    answer: &mut [u32],
+    c: State,
+    x: u32,
+    y: u32,
+    z: u32,
+) -> u32
+    requires { ⌜ (roomy (now state) (now answer) ≡ true) × Narrow c ⌝ }
+    ensures { λ r. ⌜ ToldWords (now (state .entry)) (now (state .exit)) (now (answer .entry)) (now (answer .exit)) (tells c (x ∷ y ∷ z ∷ [])) r ⌝ }
+{
+    write_state(state, c);
+    answer[0] = x;
+    answer[1] = y;
+    answer[2] = z;
+    0
+}
+
+pub(crate) fn tell_four(
+    state: &mut [u32],
+    answer: &mut [u32],
+    c: State,
+    x: u32,
+    y: u32,
+    z: u32,
+    u: u32,
+) -> u32
+    requires { ⌜ (roomy (now state) (now answer) ≡ true) × Narrow c ⌝ }
+    ensures { λ r. ⌜ ToldWords (now (state .entry)) (now (state .exit)) (now (answer .entry)) (now (answer .exit)) (tells c (x ∷ y ∷ z ∷ u ∷ [])) r ⌝ }
+{
+    write_state(state, c);
+    answer[0] = x;
+    answer[1] = y;
+    answer[2] = z;
+    answer[3] = u;
+    0
+}
+
+// A normal form's answer into the words.
+pub(crate) fn tell_form(state: &mut [u32], answer: &mut [u32], made: Form) -> u32
+    requires { ⌜ (roomy (now state) (now answer) ≡ true) × ((n : ℕ) (c : State) → made ≡ form.List n c → NarrowList n c) ⌝ }
+    ensures { λ r. ⌜ ToldBy formTelling (now (state .entry)) (now (state .exit)) (now (answer .entry)) (now (answer .exit)) made r ⌝ }
+{
+    match made {
+        Form::List(n, c) => tell_two(state, answer, c, 1, n as u32),
+        Form::Refused(k) => k,
+    }
+}
+
+// A deep form's answer into the words.
+pub(crate) fn tell_deep_form(state: &mut [u32], answer: &mut [u32], made: DeepForm) -> u32
+    requires { ⌜ (roomy (now state) (now answer) ≡ true) × ((n : ℕ) (c : State) → made ≡ deep.List n c → NarrowList n c) × ((c : State) → made ≡ deep.None c → Narrow c) ⌝ }
+    ensures { λ r. ⌜ ToldBy deepTelling (now (state .entry)) (now (state .exit)) (now (answer .entry)) (now (answer .exit)) made r ⌝ }
+{
+    match made {
+        DeepForm::List(n, c) => tell_two(state, answer, c, 1, n as u32),
+        DeepForm::None(c) => tell_two(state, answer, c, 0, 0),
+        DeepForm::Refused(k) => k,
+    }
+}
+
+pub(crate) fn flag_of(b: bool) -> u32
+    ensures { λ r. ⌜ r ≡ flag b ⌝ }
+{
+    if b {
+        return 1;
+    }
+    0
+}
+
+// A number as a 32-bit two's complement.
+pub(crate) fn bits_of(g: i32) -> u32
+    ensures { λ r. ⌜ r ≡ ofZ w32 g ⌝ }
+{
+    if g < 0 {
+        let below = (-1 - g) as u32;
+        return 4294967295 - below;
+    }
+    g as u32
+}
+
+// An answer of wordeq into the words.
+pub(crate) fn tell_answer(state: &mut [u32], answer: &mut [u32], made: StepResult) -> u32
+    requires { ⌜ (roomy (now state) (now answer) ≡ true) × NarrowAnswer made ⌝ }
+    ensures { λ r. ⌜ ToldBy answerTelling (now (state .entry)) (now (state .exit)) (now (answer .entry)) (now (answer .exit)) made r ⌝ }
+{
+    match made {
+        StepResult::Done(c) => tell_one(state, answer, c, 0),
+        StepResult::Saturated(c) => tell_one(state, answer, c, 1),
+        StepResult::Conflict(c) => tell_one(state, answer, c, 2),
+        StepResult::Propagate(c, v, w, f) => tell_four(state, answer, c, 3, v, w, flag_of(f)),
+        StepResult::Split(c, n, g) => tell_three(state, answer, c, 4, n as u32, bits_of(g)),
+        StepResult::Refused(k) => k,
+    }
+}
