@@ -2,20 +2,20 @@
 // known list or runs the step over an equation; what it answers, where it answers, is printed at once.
 ghost use Prim.Native.Nat.{_≤_};
 ghost use Rattle.io.specs.Counts.{Counts};
+
+mod say;
+
+use crate::say::say_bad;
+use crate::say::say_outcome;
+use crate::say::say_refused;
 use commands::Parsed;
 use commands::merge::merge;
 use commands::parse::parse;
-use commands::print::put_guard;
-use commands::print::put_name;
-use commands::print::put_number;
-use commands::print::put_reason;
-use equation::Outcome;
 use records::Made;
 use records::State;
 use records::fields::word;
 use std::num::wrapping_add_u32;
 use std::num::wrapping_add_u64;
-use std::num::wrapping_add_usize;
 
 // What lasts from line to line beside the words: the counts, how many terms are known, the next stamp, the number of the line, how
 // much of it was read, and whether that is more than a line holds.
@@ -58,124 +58,6 @@ fn front(s: &[u32], n: usize) -> &[u32] {
 fn front_of_line(s: &[u8], n: usize) -> &[u8] {
     let e = part_of_line(n, s);
     &s[..e]
-}
-
-// PRINTING
-
-fn say_name(k: u32) {
-    let mut piece = [0u8; 24];
-    let n = put_name(&mut piece, k);
-    io::write_all(1, &piece[..n]);
-}
-
-fn say_number(x: u64) {
-    let mut piece = [0u8; 24];
-    let n = put_number(&mut piece, x);
-    io::write_all(1, &piece[..n]);
-}
-
-fn say_reason(kind: u32, number: u32) {
-    let mut piece = [0u8; 24];
-    let n = put_reason(&mut piece, kind, number);
-    io::write_all(1, &piece[..n]);
-}
-
-fn say_guard(g: i32) {
-    let mut piece = [0u8; 24];
-    let n = put_guard(&mut piece, g);
-    io::write_all(1, &piece[..n]);
-}
-
-fn end_line() {
-    io::write_all(1, b"\n");
-}
-
-fn say_reasons(reasons: &[u32], n: usize) {
-    say_number(n as u64);
-    let mut at: usize = 0;
-    let mut i: usize = 0;
-    while i < n {
-        say_reason(word(reasons, at), word(reasons, wrapping_add_usize(at, 1)));
-        at = wrapping_add_usize(at, 2);
-        i += 1;
-    }
-}
-
-fn say_atoms(list: &[u32], n: usize) {
-    say_number(n as u64);
-    let mut i: usize = 0;
-    while i < n {
-        say_number(word(list, i) as u64);
-        i += 1;
-    }
-}
-
-fn say_refused(k: u32) {
-    say_name(6);
-    say_number(k as u64);
-    end_line();
-}
-
-fn say_bad(line: u64) {
-    say_name(7);
-    say_number(line);
-    end_line();
-}
-
-fn flag(link: bool) -> u64 {
-    if link {
-        return 1;
-    }
-    0
-}
-
-// Prints the step's answer. Answers the counts from here on: the records that were made stay.
-fn say_outcome(o: Outcome, reasons: &[u32], list: &[u32], was: State) -> State {
-    match o {
-        Outcome::Done(c) => {
-            say_name(0);
-            end_line();
-            c
-        }
-        Outcome::Saturated(c) => {
-            say_name(1);
-            say_reasons(reasons, c.reasons);
-            end_line();
-            c
-        }
-        Outcome::Conflict(c) => {
-            say_name(2);
-            say_reasons(reasons, c.reasons);
-            end_line();
-            c
-        }
-        Outcome::Propagate(c, v, w, link) => {
-            say_name(3);
-            say_number(v as u64);
-            say_number(w as u64);
-            say_number(flag(link));
-            say_reasons(reasons, c.reasons);
-            end_line();
-            c
-        }
-        Outcome::Split(c, n, g) => {
-            say_name(4);
-            say_atoms(list, n);
-            say_guard(g);
-            say_reasons(reasons, c.reasons);
-            end_line();
-            c
-        }
-        Outcome::Unexpanded(c) => {
-            say_name(5);
-            end_line();
-            c
-        }
-        Outcome::Refused(k) => {
-            say_refused(k);
-            was
-        }
-    }
 }
 
 // COMMANDS
@@ -321,6 +203,77 @@ fn resolve(
     with_counts(s, without_reasons(d))
 }
 
+// `C text`.
+fn constant(
+    n: usize,
+    list: &[u32; 1024],
+    terms: &mut [u32; 4104],
+    cells: &[u32; 6147],
+    chars: &mut [u32; 16384],
+    reasons: &[u32; 8192],
+    keys: &[u32; 8192],
+    s: Session,
+) -> Session {
+    let c = s.counts;
+    let w = front(list, n);
+    after_making(
+        records::make::make_constant(terms, cells, chars, reasons, keys, c, w),
+        s,
+    )
+}
+
+// `V name`.
+fn variable(
+    n: usize,
+    list: &[u32; 1024],
+    terms: &mut [u32; 4104],
+    cells: &[u32; 6147],
+    chars: &mut [u32; 16384],
+    reasons: &[u32; 8192],
+    keys: &[u32; 8192],
+    s: Session,
+) -> Session {
+    let c = s.counts;
+    let w = front(list, n);
+    after_making(
+        records::make::make_variable(terms, cells, chars, reasons, keys, c, w),
+        s,
+    )
+}
+
+// `P t u ..`.
+fn parts(
+    n: usize,
+    list: &[u32; 1024],
+    terms: &mut [u32; 4104],
+    cells: &mut [u32; 6147],
+    chars: &[u32; 16384],
+    reasons: &[u32; 8192],
+    keys: &[u32; 8192],
+    s: Session,
+) -> Session {
+    let c = s.counts;
+    let w = front(list, n);
+    let r = records::build::make_concatenation(terms, cells, chars, reasons, keys, c, w);
+    after_making(r, s)
+}
+
+// `E t u`.
+fn sides(
+    t: u32,
+    u: u32,
+    terms: &mut [u32; 4104],
+    cells: &[u32; 6147],
+    chars: &[u32; 16384],
+    reasons: &[u32; 8192],
+    keys: &[u32; 8192],
+    s: Session,
+) -> Session {
+    let c = s.counts;
+    let r = records::build::make_equation(terms, cells, chars, reasons, keys, c, t, u);
+    after_making(r, s)
+}
+
 fn act(
     p: Parsed,
     list: &mut [u32; 1024],
@@ -332,38 +285,12 @@ fn act(
     keys: &mut [u32; 8192],
     s: Session,
 ) -> Session {
-    let c = s.counts;
     match p {
-        Parsed::Constant(n) => {
-            let w = front(list, n);
-            let r = records::make::make_constant(terms, cells, chars, reasons, keys, c, w);
-            after_making(r, s)
-        }
-        Parsed::Variable(n) => {
-            let w = front(list, n);
-            let r = records::make::make_variable(terms, cells, chars, reasons, keys, c, w);
-            after_making(r, s)
-        }
-        Parsed::Concatenation(n) => {
-            let w = front(list, n);
-            let r = records::build::make_concatenation(terms, cells, chars, reasons, keys, c, w);
-            after_making(r, s)
-        }
-        Parsed::Equation(t, u) => {
-            let r = records::build::make_equation(terms, cells, chars, reasons, keys, c, t, u);
-            after_making(r, s)
-        }
-        Parsed::Merge(child, parent, n) => join(
-            child,
-            parent,
-            n,
-            terms,
-            cells,
-            chars,
-            reasons,
-            keys,
-            s,
-        ),
+        Parsed::Constant(n) => constant(n, list, terms, cells, chars, reasons, keys, s),
+        Parsed::Variable(n) => variable(n, list, terms, cells, chars, reasons, keys, s),
+        Parsed::Concatenation(n) => parts(n, list, terms, cells, chars, reasons, keys, s),
+        Parsed::Equation(t, u) => sides(t, u, terms, cells, chars, reasons, keys, s),
+        Parsed::Merge(t, u, n) => join(t, u, n, terms, cells, chars, reasons, keys, s),
         Parsed::Known(n) => set_known(list, n, known, terms, s),
         Parsed::Resolve(e, g) => resolve(e, g, list, known, terms, cells, chars, reasons, keys, s),
         Parsed::Bad => {
