@@ -43,6 +43,19 @@ uint32_t labels_normal_form(LABELS_WORDS(state), LABELS_WORDS(terms), LABELS_REA
 uint32_t labels_deep_normal_form(LABELS_WORDS(state), LABELS_WORDS(terms), LABELS_READ(cells), LABELS_WORDS(chars), LABELS_WORDS(reasons),
                                  LABELS_READ(keys), LABELS_READ(known), uint32_t t, LABELS_WORDS(list), LABELS_WORDS(answer));
 
+/* The case stands in word 0 of the answer: 0 Done, 1 Saturated, 2 Conflict, 3 Propagate, 4 Split. Propagate puts the variable, its word and
+ * the link flag into words 1 to 3; Split puts the count of its atoms, which stand first in `list`, and the negated guard as a 32-bit two's
+ * complement into words 1 and 2. */
+uint32_t labels_resolve_equation(LABELS_WORDS(state), LABELS_WORDS(terms), LABELS_WORDS(cells), LABELS_WORDS(chars), LABELS_WORDS(reasons),
+                                 LABELS_WORDS(keys), LABELS_READ(lhs), LABELS_READ(rhs), int32_t guard, LABELS_WORDS(list),
+                                 LABELS_WORDS(answer));
+
+/* Word 0 of the answer is 1 where the lists are equal, else 0. */
+uint32_t labels_nf_equal(LABELS_READ(state), LABELS_READ(terms), LABELS_READ(cells), LABELS_READ(chars), LABELS_READ(reasons),
+                         LABELS_READ(keys), LABELS_READ(lhs), LABELS_READ(rhs), LABELS_WORDS(answer));
+uint32_t labels_nf_equal_explain(LABELS_WORDS(state), LABELS_READ(terms), LABELS_READ(cells), LABELS_READ(chars), LABELS_WORDS(reasons),
+                                 LABELS_READ(keys), LABELS_READ(lhs), LABELS_READ(rhs));
+
 #ifdef __cplusplus
 }
 #endif

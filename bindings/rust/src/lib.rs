@@ -63,6 +63,29 @@ pub enum Reason {
     Interface(u32),
 }
 
+/// What a word equation comes to. After Conflict and Propagate the reasons of the store end with those that the answer rests on.
+#[derive(Clone, PartialEq, Eq, Debug)]
+pub enum Answer {
+    Done,
+    Saturated,
+    /// the sides are unequal
+    Conflict,
+    /// the variable is equal to the word
+    Propagate { variable: Term, word: Term, link: bool },
+    /// one of the atoms is true, or the guard's literal
+    Split { atoms: Vec<Term>, guard: i32 },
+}
+
+fn answered_case(answer: &[u32; 8], list: &List) -> Answer {
+    match answer[0] {
+        0 => Answer::Done,
+        1 => Answer::Saturated,
+        2 => Answer::Conflict,
+        3 => Answer::Propagate { variable: answer[1], word: answer[2], link: answer[3] == 1 },
+        _ => Answer::Split { atoms: list[..answer[1] as usize].to_vec(), guard: answer[2] as i32 },
+    }
+}
+
 /// A store in memory of its own, with room up to every limit. The words are the caller's to change: a call refuses what breaks a rule.
 #[derive(Clone, Debug)]
 pub struct Store {
@@ -145,6 +168,27 @@ impl Store {
         let (mut list, mut answer) = ([0; LIST], [0; 8]);
         outcome(raw::deep_normal_form(self, known, t, &mut list, &mut answer))?;
         Ok((answer[0] == 1).then(|| list[..answer[1] as usize].to_vec()))
+    }
+
+    /// The word equation between two lists of string terms; the guard is neither 0 nor the lowest number.
+    pub fn resolve_equation(&mut self, lhs: &[Term], rhs: &[Term], guard: i32) -> Result<Answer, Refusal> {
+        let (mut list, mut answer) = ([0; LIST], [0; 8]);
+        outcome(raw::resolve_equation(self, lhs, rhs, guard, &mut list, &mut answer))?;
+        Ok(answered_case(&answer, &list))
+    }
+
+    /// Whether two lists are atom by atom the same.
+    pub fn nf_equal(&self, lhs: &[Term], rhs: &[Term]) -> Result<bool, Refusal> {
+        let mut answer = [0; 8];
+        outcome(raw::nf_equal(self, lhs, rhs, &mut answer))?;
+        Ok(answer[0] == 1)
+    }
+
+    /// Appends the reasons why the pairs of one class in two lists of equal length are equal, and gives them.
+    pub fn nf_equal_explain(&mut self, lhs: &[Term], rhs: &[Term]) -> Result<Vec<Reason>, Refusal> {
+        let from = self.state[3] as usize;
+        outcome(raw::nf_equal_explain(self, lhs, rhs))?;
+        Ok(self.reason_list()[from..].to_vec())
     }
 
     /// The reasons of the store. Of a store that no call has audited those are left out that are of no kind or not there.

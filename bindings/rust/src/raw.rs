@@ -38,6 +38,7 @@ interface! {
     &Store, *const u32, as_ptr:
     labels_audit audit_words();
     labels_find root(t: u32, answer: *mut u32, answer_len: usize);
+    labels_nf_equal equal(lhs: *const u32, lhs_len: usize, rhs: *const u32, rhs_len: usize, answer: *mut u32, answer_len: usize);
 }
 
 interface! {
@@ -48,6 +49,8 @@ interface! {
     labels_make_length length(t: u32, answer: *mut u32, answer_len: usize);
     labels_make_equation equation(t: u32, u: u32, answer: *mut u32, answer_len: usize);
     labels_explain reasons_of(a: u32, b: u32);
+    labels_nf_equal_explain reasons_of_lists(lhs: *const u32, lhs_len: usize, rhs: *const u32, rhs_len: usize);
+    labels_resolve_equation resolved(lhs: *const u32, lhs_len: usize, rhs: *const u32, rhs_len: usize, guard: i32, list: *mut u32, list_len: usize, answer: *mut u32, answer_len: usize);
     labels_normal_form form(known: *const u32, known_len: usize, t: u32, list: *mut u32, list_len: usize, answer: *mut u32, answer_len: usize);
     labels_deep_normal_form deep_form(known: *const u32, known_len: usize, t: u32, list: *mut u32, list_len: usize, answer: *mut u32, answer_len: usize);
 }
@@ -90,4 +93,16 @@ pub fn normal_form(s: &mut Store, known: &[u32], t: u32, list: &mut List, answer
 
 pub fn deep_normal_form(s: &mut Store, known: &[u32], t: u32, list: &mut List, answer: &mut [u32; 8]) -> u32 {
     deep_form(s, known.as_ptr(), known.len(), t, list.as_mut_ptr(), list.len(), answer.as_mut_ptr(), answer.len())
+}
+
+pub fn resolve_equation(s: &mut Store, lhs: &[u32], rhs: &[u32], guard: i32, list: &mut List, answer: &mut [u32; 8]) -> u32 {
+    resolved(s, lhs.as_ptr(), lhs.len(), rhs.as_ptr(), rhs.len(), guard, list.as_mut_ptr(), list.len(), answer.as_mut_ptr(), answer.len())
+}
+
+pub fn nf_equal(s: &Store, lhs: &[u32], rhs: &[u32], answer: &mut [u32; 8]) -> u32 {
+    equal(s, lhs.as_ptr(), lhs.len(), rhs.as_ptr(), rhs.len(), answer.as_mut_ptr(), answer.len())
+}
+
+pub fn nf_equal_explain(s: &mut Store, lhs: &[u32], rhs: &[u32]) -> u32 {
+    reasons_of_lists(s, lhs.as_ptr(), lhs.len(), rhs.as_ptr(), rhs.len())
 }

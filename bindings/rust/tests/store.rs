@@ -1,4 +1,9 @@
-use labels::{Reason, Refusal, Store};
+use labels::{Answer, Reason, Refusal, Store, Term};
+
+/// A root joins the class of another root by an asserted equality.
+fn merge(s: &mut Store, child: Term, parent: Term, number: u32) {
+    s.terms[8 * child as usize + 3..8 * child as usize + 8].copy_from_slice(&[parent, parent, 1, number, 1]);
+}
 
 #[test]
 fn terms_are_made_once() {
@@ -38,7 +43,7 @@ fn explanations() {
     let (x, y) = (s.variable("x").unwrap(), s.variable("y").unwrap());
     assert_eq!(s.explain(x, y), Err(Refusal::Argument));
     // y joins x's class by the asserted equality 7
-    s.terms[8 * y as usize + 3..8 * y as usize + 8].copy_from_slice(&[x, x, 1, 7, 1]);
+    merge(&mut s, y, x, 7);
     assert_eq!(s.find(y), Ok(x));
     assert_eq!(s.explain(y, x), Ok(vec![Reason::Asserted(7)]));
     assert_eq!(s.explain(x, x), Ok(vec![]));
@@ -52,7 +57,7 @@ fn normal_forms() {
     let xax = s.concatenation(&[x, a, x]).unwrap();
     assert_eq!(s.normal_form(&[], xax), Ok(vec![x, a, x]));
     // x joins the class of "a" ++ z by the asserted equality 3
-    s.terms[8 * x as usize + 3..8 * x as usize + 8].copy_from_slice(&[az, az, 1, 3, 1]);
+    merge(&mut s, x, az, 3);
     assert_eq!(s.normal_form(&[az], x), Ok(vec![az]));
     assert_eq!(s.reason_list(), [Reason::Asserted(3)]);
     assert_eq!(s.deep_normal_form(&[az], x), Ok(Some(vec![a, z])));
@@ -60,4 +65,38 @@ fn normal_forms() {
     assert_eq!(s.deep_normal_form(&[az], xax), Ok(None));
     assert_eq!(s.normal_form(&[0], x), Err(Refusal::Argument));
     assert_eq!(s.audit(), Ok(()));
+}
+
+#[test]
+fn word_equations() {
+    let mut s = Store::new();
+    let (v, u, x) = (s.variable("v").unwrap(), s.variable("u").unwrap(), s.variable("x").unwrap());
+    let (a, b) = (s.constant("a").unwrap(), s.constant("b").unwrap());
+    assert_eq!(s.resolve_equation(&[], &[], 1), Ok(Answer::Done));
+    assert_eq!(s.resolve_equation(&[v], &[a], 0), Err(Refusal::Argument));
+    assert_eq!(s.resolve_equation(&[v], &[x], 1), Ok(Answer::Propagate { variable: v, word: x, link: false }));
+    merge(&mut s, u, v, 5);
+    assert_eq!(s.resolve_equation(&[v], &[a, u, b], 1), Ok(Answer::Conflict));
+    assert_eq!(s.reason_list(), [Reason::Asserted(5)]);
+    s.state[3] = 0;
+    // x = "" or x = "a" ++ !strk0
+    match s.resolve_equation(&[x, v], &[a, x], 7) {
+        Ok(Answer::Split { atoms, guard: -7 }) => assert_eq!(atoms.len(), 2),
+        other => panic!("{other:?}"),
+    }
+    assert_eq!(s.resolve_equation(&[x, v], &[a, x], 7), Ok(Answer::Saturated));
+    assert_eq!(s.resolve_equation(&[v, x], &[x, v], -3).unwrap(), Answer::Split { atoms: vec![13, 16, 19], guard: 3 });
+    assert_eq!(s.audit(), Ok(()));
+}
+
+#[test]
+fn equal_lists() {
+    let mut s = Store::new();
+    let (x, y, a) = (s.variable("x").unwrap(), s.variable("y").unwrap(), s.constant("a").unwrap());
+    merge(&mut s, y, x, 9);
+    assert_eq!(s.nf_equal(&[x, a], &[y, a]), Ok(true));
+    assert_eq!(s.nf_equal(&[x], &[a]), Ok(false));
+    assert_eq!(s.nf_equal(&[x], &[x, a]), Ok(false));
+    assert_eq!(s.nf_equal_explain(&[x, a], &[y, a]), Ok(vec![Reason::Asserted(9)]));
+    assert_eq!(s.nf_equal_explain(&[x], &[x, a]), Err(Refusal::Argument));
 }

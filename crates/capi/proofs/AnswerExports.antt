@@ -77,6 +77,17 @@ pub record StandsIn (n : ℕ) (g : ℤ) (k′ : List ℕ) : Type 0 where
   pub three : n ≤ 3
   pub guard : SFits w32 g
 
+-- few atoms, in a slice with room for a list
+pub stands-in : (g h : ℤ) → isGuard g ≡ true → SFits w32 g → (n : ℕ) (k k′ : List ℕ) → length (take n k′) ≤ 3 → h ≡ negℤ g → length k′ ≡ length k → listLimit ≤ length k → StandsIn n h k′
+stands-in g h guarded fit n k k′ i q same j = by (decLe n (length k′))
+  where
+    by : Dec (n ≤ length k′) → StandsIn n h k′
+    by (yes y) = let p = length-take-le n k′ y in record { here = y; three = omega arith; guard = subst (SFits w32) (sym q) (opposite-fits g guarded fit) }
+    by (no y) =
+        let z : length k′ ≤ n = omega arith in
+        let p = length-take n k′ ∙ min-comm n (length k′) ∙ min-eq-left z in
+        absurd (omega arith)
+
 pub record Stands (r : StepResult) (k′ : List ℕ) : Type 0 where
   pub split : (c : State) (n : ℕ) (g : ℤ) → r ≡ step.Split c n g → StandsIn n g k′
 
@@ -113,21 +124,13 @@ module _ {l r : List ℕ} {g : ℤ} {m m′ : Lent} {k k′ : List ℕ} {c : Sta
   resolve-stands = record { split = λ d n h e. at d n h (sym (called .store .says) ∙ ap (λ (x : StepResult). resolved x m′ k′) e) }
     where
       at : (d : State) (n : ℕ) (h : ℤ) → listCall k (resolveArguments l r g) (resolve l r g) m c ≡ ok (storeOf m′ d) (split (take n k′) h) → StandsIn n h k′
-      at d n h e = by (decLe n (length k′)) (long .0) (list-room (resolve-tells l r g) m k c _ _ e)
+      at d n h e = stands-in g h guarded fit n k k′ (long .0) (long .1) same (list-room (resolve-tells l r g) m k c _ _ e)
         where
           long : Few g (split (take n k′) h)
           long = list-gives (resolve-tells l r g) m k c {P = λ s x. Few g x} (λ s s′ x a f q. resolve-few g l r s .given s′ x q) (storeOf m′ d) (split (take n k′) h) e
 
           guarded : isGuard g ≡ true
           guarded = list-gives (resolve-tells l r g) m k c {P = λ s x. isGuard g ≡ true} (λ s s′ x a f q. both-right (isList s l && isList s r) _ f) (storeOf m′ d) (split (take n k′) h) e
-
-          by : Dec (n ≤ length k′) → length (take n k′) ≤ 3 → listLimit ≤ length k → StandsIn n h k′
-          by (yes y) i j = let q = length-take-le n k′ y in record { here = y; three = omega arith; guard = subst (SFits w32) (sym (long .1)) (opposite-fits g guarded fit) }
-          by (no y) i j =
-              let z : length k′ ≤ n = omega arith in
-              let q = length-take n k′ ∙ min-comm n (length k′) ∙ min-eq-left z in
-              let p = same in
-              absurd (omega arith)
 
   pub resolve-tellable : NarrowAnswer o
   resolve-tellable = record {
@@ -144,10 +147,10 @@ module _ {l r : List ℕ} {g : ℤ} {m m′ : Lent} {k k′ : List ℕ} {c : Sta
 
 -- TELLING
 
-module _ {r : StepResult} {w w′ a a′ : List ℕ} {k : ℕ} where
-  pub told-propagate : {c : State} {v x : ℕ} {f : Bool} {u : ℕ} → r ≡ step.Propagate c v x f → u ≡ flag f → ToldWords w w′ a a′ (tells c (3 ∷ v ∷ x ∷ u ∷ [])) k → ToldBy answerTelling w w′ a a′ r k
-  told-propagate {c} {v} {x} {f} {u} e q t = record { is = subst (λ (T : Telling). ToldWords w w′ a a′ T k) (ap (λ (y : ℕ). tells c (3 ∷ v ∷ x ∷ y ∷ [])) q ∙ sym (ap answerTelling e)) t }
+module _ {R : Type 0} {f : R → Telling} {r : R} {w w′ a a′ : List ℕ} {k : ℕ} {c : State} where
+  pub told-flag : {x y z u u′ : ℕ} → f r ≡ tells c (x ∷ y ∷ z ∷ u ∷ []) → u′ ≡ u → ToldWords w w′ a a′ (tells c (x ∷ y ∷ z ∷ u′ ∷ [])) k → ToldBy f w w′ a a′ r k
+  told-flag {x} {y} {z} e q t = record { is = subst (λ (T : Telling). ToldWords w w′ a a′ T k) (ap (λ (v : ℕ). tells c (x ∷ y ∷ z ∷ v ∷ [])) q ∙ sym e) t }
 
-  pub told-split : {c : State} {n : ℕ} {g : ℤ} {u : ℕ} → r ≡ step.Split c n g → SFits w32 g → u ≡ ofZ w32 (toZ w32 (ofZ w32 g)) → ToldWords w w′ a a′ (tells c (4 ∷ n ∷ u ∷ [])) k → ToldBy answerTelling w w′ a a′ r k
-  told-split {c} {n} {g} {u} e f q t =
-      record { is = subst (λ (T : Telling). ToldWords w w′ a a′ T k) (ap (λ (y : ℕ). tells c (4 ∷ n ∷ y ∷ [])) (q ∙ ap (ofZ w32) (toZ-ofZ w32 g f)) ∙ sym (ap answerTelling e)) t }
+  pub told-guard : {x y : ℕ} {g : ℤ} {u : ℕ} → f r ≡ tells c (x ∷ y ∷ ofZ w32 g ∷ []) → SFits w32 g → u ≡ ofZ w32 (toZ w32 (ofZ w32 g)) → ToldWords w w′ a a′ (tells c (x ∷ y ∷ u ∷ [])) k → ToldBy f w w′ a a′ r k
+  told-guard {x} {y} {g} e h q t =
+      record { is = subst (λ (T : Telling). ToldWords w w′ a a′ T k) (ap (λ (v : ℕ). tells c (x ∷ y ∷ v ∷ [])) (q ∙ ap (ofZ w32) (toZ-ofZ w32 g h)) ∙ sym e) t }

@@ -9,3 +9,4 @@ pub mod AnswerExports
 pub mod CountExports
 pub mod EqualExports
 pub mod Complements
+pub mod StepExports

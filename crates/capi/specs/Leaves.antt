@@ -17,6 +17,8 @@ use Rattle.normalize.specs.declared.DeepForm.{DeepForm}
 use Rattle.normalize.specs.declared.DeepForm.the-variants as deep
 use Rattle.wordeq.specs.declared.StepResult.{StepResult}
 use Rattle.wordeq.specs.declared.StepResult.the-variants as step
+use Rattle.equation.specs.declared.Outcome.{Outcome}
+use Rattle.equation.specs.declared.Outcome.the-variants as outcome
 use Rattle.capi.specs.Equations.{flag}
 
 -- the state's six words written back
@@ -118,3 +120,16 @@ answerTelling (step.Refused k) = refuses k
 pub record NarrowAnswer (r : StepResult) : Type 0 where
   pub counts : (c : State) (v : List ℕ) → answerTelling r ≡ tells c v → Narrow c
   pub split : (c : State) (n : ℕ) (g : ℤ) → r ≡ step.Split c n g → NarrowSplit n g
+
+abbrev pub outcomeTelling : Outcome → Telling
+outcomeTelling (outcome.Done c) = tells c (0 ∷ [])
+outcomeTelling (outcome.Saturated c) = tells c (1 ∷ [])
+outcomeTelling (outcome.Conflict c) = tells c (2 ∷ [])
+outcomeTelling (outcome.Propagate c v w f) = tells c (3 ∷ v ∷ w ∷ flag f ∷ [])
+outcomeTelling (outcome.Split c n g) = tells c (4 ∷ n ∷ ofZ w32 g ∷ [])
+outcomeTelling (outcome.Unexpanded c) = tells c (5 ∷ [])
+outcomeTelling (outcome.Refused k) = refuses k
+
+pub record NarrowOutcome (r : Outcome) : Type 0 where
+  pub counts : (c : State) (v : List ℕ) → outcomeTelling r ≡ tells c v → Narrow c
+  pub split : (c : State) (n : ℕ) (g : ℤ) → r ≡ outcome.Split c n g → NarrowSplit n g

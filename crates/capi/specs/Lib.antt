@@ -2,3 +2,4 @@ pub mod Interface
 pub mod Leaves
 pub mod Forms
 pub mod Equations
+pub mod Steps

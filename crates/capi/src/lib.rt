@@ -13,6 +13,7 @@ ghost use Rattle.engine.specs.Explain.{find, findArguments};
 ghost use Rattle.capi.specs.Interface.{stateOf, roomy, audited, over, Exported, ExportedExplain};
 ghost use Rattle.capi.specs.Forms.{ExportedForm, ExportedDeepForm};
 ghost use Rattle.capi.specs.Equations.{ExportedResolve, ExportedEqual, ExportedEqualExplain};
+ghost use Rattle.capi.specs.Steps.{ExportedStep};
 use engine::Found;
 use records::build;
 use records::make;
@@ -24,6 +25,7 @@ use telling::tell_answer;
 use telling::tell_counts;
 use telling::tell_deep_form;
 use telling::tell_form;
+use telling::tell_outcome;
 use wordeq::Equality;
 
 mod telling;
@@ -337,4 +339,28 @@ pub extern "C" fn labels_nf_equal_explain(
     let c = state_of(state);
     let added = wordeq::nf_equal_explain(terms, cells, chars, reasons, keys, c, lhs, rhs);
     tell_counts(state, added)
+}
+
+#[no_mangle]
+pub extern "C" fn labels_step(
+    state: &mut [u32],
+    terms: &mut [u32],
+    cells: &mut [u32],
+    chars: &mut [u32],
+    reasons: &mut [u32],
+    keys: &mut [u32],
+    known: &[u32],
+    e: u32,
+    guard: i32,
+    list: &mut [u32],
+    answer: &mut [u32],
+) -> u32
+    ensures { λ r. ⌜ ExportedStep (now (known .entry)) e guard (lent (now (terms .entry)) (now (cells .entry)) (now (chars .entry)) (now (reasons .entry)) (now (keys .entry))) (lent (now (terms .exit)) (now (cells .exit)) (now (chars .exit)) (now (reasons .exit)) (now (keys .exit))) (now (list .entry)) (now (list .exit)) (now (state .entry)) (now (state .exit)) (now (answer .entry)) (now (answer .exit)) r ⌝ }
+{
+    if !is_roomy(state, answer) {
+        return 1;
+    }
+    let c = state_of(state);
+    let made = equation::step(terms, cells, chars, reasons, keys, c, known, e, guard, list);
+    tell_outcome(state, answer, made)
 }

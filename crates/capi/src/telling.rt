@@ -13,7 +13,8 @@ ghost use Rattle.normalize.specs.declared.Form.the-variants as form;
 ghost use Rattle.normalize.specs.declared.DeepForm.the-variants as deep;
 ghost use Rattle.capi.specs.Interface.{stateOf, roomy};
 ghost use Rattle.capi.specs.Equations.{flag};
-ghost use Rattle.capi.specs.Leaves.{written, Narrow, NarrowList, NarrowAnswer, Told, ToldCounts, tells, ToldWords, ToldBy, formTelling, deepTelling, answerTelling};
+ghost use Rattle.capi.specs.Leaves.{written, Narrow, NarrowList, NarrowAnswer, NarrowOutcome, Told, ToldCounts, tells, ToldWords, ToldBy, formTelling, deepTelling, answerTelling, outcomeTelling};
+use equation::Outcome;
 use normalize::DeepForm;
 use normalize::Form;
 use records::Added;
@@ -200,5 +201,21 @@ pub(crate) fn tell_answer(state: &mut [u32], answer: &mut [u32], made: StepResul
         StepResult::Propagate(c, v, w, f) => tell_four(state, answer, c, 3, v, w, flag_of(f)),
         StepResult::Split(c, n, g) => tell_three(state, answer, c, 4, n as u32, bits_of(g)),
         StepResult::Refused(k) => k,
+    }
+}
+
+// An answer of the step over one equation into the words.
+pub(crate) fn tell_outcome(state: &mut [u32], answer: &mut [u32], made: Outcome) -> u32
+    requires { ⌜ (roomy (now state) (now answer) ≡ true) × NarrowOutcome made ⌝ }
+    ensures { λ r. ⌜ ToldBy outcomeTelling (now (state .entry)) (now (state .exit)) (now (answer .entry)) (now (answer .exit)) made r ⌝ }
+{
+    match made {
+        Outcome::Done(c) => tell_one(state, answer, c, 0),
+        Outcome::Saturated(c) => tell_one(state, answer, c, 1),
+        Outcome::Conflict(c) => tell_one(state, answer, c, 2),
+        Outcome::Propagate(c, v, w, f) => tell_four(state, answer, c, 3, v, w, flag_of(f)),
+        Outcome::Split(c, n, g) => tell_three(state, answer, c, 4, n as u32, bits_of(g)),
+        Outcome::Unexpanded(c) => tell_one(state, answer, c, 5),
+        Outcome::Refused(k) => k,
     }
 }

@@ -1,4 +1,4 @@
-use Rattle.capi.proofs.AnswerExports.{told-propagate, told-split}
+use Rattle.capi.proofs.AnswerExports.{told-flag, told-guard}
 use Rattle.capi.proofs.Listings.{told-by, told-refuses}
 use Rattle.capi.specs.Leaves.{answerTelling}
 use mathlib.Core.Path.{ap}
@@ -38,8 +38,8 @@ tell-answer-spec =
     (λ c. told-by (ap answerTelling (c .before .before .before .before .before .before .before .before .made3 .given .1)) (c .before .before .before .before .tell-one3 .ensures))
     (λ c. search needs)
     (λ c. search needs)
-    (λ c. told-propagate (c .before .before .before .before .before .before .before .before .before .made4 .given .1) (c .before .before .before .before .before .flag-of .ensures) (c .before .before .before .before .tell-four .ensures))
+    (λ c. told-flag (ap answerTelling (c .before .before .before .before .before .before .before .before .before .made4 .given .1)) (c .before .before .before .before .before .flag-of .ensures) (c .before .before .before .before .tell-four .ensures))
     (λ c. search needs)
     (λ c. search needs)
-    (λ c. told-split (c .before .before .before .before .before .before .before .before .before .made5 .given .1) (c .before .before .before .before .before .before .before .before .before .before .before .before .before .pre .1 .split _ _ _ (c .before .before .before .before .before .before .before .before .before .made5 .given .1) .guard) (c .before .before .before .before .before .bits-of .ensures) (c .before .before .before .before .tell-three .ensures))
+    (λ c. told-guard (ap answerTelling (c .before .before .before .before .before .before .before .before .before .made5 .given .1)) (c .before .before .before .before .before .before .before .before .before .before .before .before .before .pre .1 .split _ _ _ (c .before .before .before .before .before .before .before .before .before .made5 .given .1) .guard) (c .before .before .before .before .before .bits-of .ensures) (c .before .before .before .before .tell-three .ensures))
     (λ c. told-refuses (ap answerTelling (c .before .made6 .given .1))))
