@@ -50,6 +50,10 @@ uint32_t labels_resolve_equation(LABELS_WORDS(state), LABELS_WORDS(terms), LABEL
                                  LABELS_WORDS(keys), LABELS_READ(lhs), LABELS_READ(rhs), int32_t guard, LABELS_WORDS(list),
                                  LABELS_WORDS(answer));
 
+/* The step over one equation, with the known list: the same words, and 5 in word 0 for Unexpanded. */
+uint32_t labels_step(LABELS_WORDS(state), LABELS_WORDS(terms), LABELS_WORDS(cells), LABELS_WORDS(chars), LABELS_WORDS(reasons),
+                     LABELS_WORDS(keys), LABELS_READ(known), uint32_t e, int32_t guard, LABELS_WORDS(list), LABELS_WORDS(answer));
+
 /* Word 0 of the answer is 1 where the lists are equal, else 0. */
 uint32_t labels_nf_equal(LABELS_READ(state), LABELS_READ(terms), LABELS_READ(cells), LABELS_READ(chars), LABELS_READ(reasons),
                          LABELS_READ(keys), LABELS_READ(lhs), LABELS_READ(rhs), LABELS_WORDS(answer));

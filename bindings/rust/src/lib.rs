@@ -74,6 +74,8 @@ pub enum Answer {
     Propagate { variable: Term, word: Term, link: bool },
     /// one of the atoms is true, or the guard's literal
     Split { atoms: Vec<Term>, guard: i32 },
+    /// a side has no deep form; of the step alone
+    Unexpanded,
 }
 
 fn answered_case(answer: &[u32; 8], list: &List) -> Answer {
@@ -82,6 +84,7 @@ fn answered_case(answer: &[u32; 8], list: &List) -> Answer {
         1 => Answer::Saturated,
         2 => Answer::Conflict,
         3 => Answer::Propagate { variable: answer[1], word: answer[2], link: answer[3] == 1 },
+        5 => Answer::Unexpanded,
         _ => Answer::Split { atoms: list[..answer[1] as usize].to_vec(), guard: answer[2] as i32 },
     }
 }
@@ -174,6 +177,13 @@ impl Store {
     pub fn resolve_equation(&mut self, lhs: &[Term], rhs: &[Term], guard: i32) -> Result<Answer, Refusal> {
         let (mut list, mut answer) = ([0; LIST], [0; 8]);
         outcome(raw::resolve_equation(self, lhs, rhs, guard, &mut list, &mut answer))?;
+        Ok(answered_case(&answer, &list))
+    }
+
+    /// The step over an equation of two string terms: the deep forms of its sides over the known list, then the word equation between them.
+    pub fn step(&mut self, known: &[Term], equation: Term, guard: i32) -> Result<Answer, Refusal> {
+        let (mut list, mut answer) = ([0; LIST], [0; 8]);
+        outcome(raw::step(self, known, equation, guard, &mut list, &mut answer))?;
         Ok(answered_case(&answer, &list))
     }
 

@@ -51,6 +51,7 @@ interface! {
     labels_explain reasons_of(a: u32, b: u32);
     labels_nf_equal_explain reasons_of_lists(lhs: *const u32, lhs_len: usize, rhs: *const u32, rhs_len: usize);
     labels_resolve_equation resolved(lhs: *const u32, lhs_len: usize, rhs: *const u32, rhs_len: usize, guard: i32, list: *mut u32, list_len: usize, answer: *mut u32, answer_len: usize);
+    labels_step stepped(known: *const u32, known_len: usize, e: u32, guard: i32, list: *mut u32, list_len: usize, answer: *mut u32, answer_len: usize);
     labels_normal_form form(known: *const u32, known_len: usize, t: u32, list: *mut u32, list_len: usize, answer: *mut u32, answer_len: usize);
     labels_deep_normal_form deep_form(known: *const u32, known_len: usize, t: u32, list: *mut u32, list_len: usize, answer: *mut u32, answer_len: usize);
 }
@@ -105,4 +106,8 @@ pub fn nf_equal(s: &Store, lhs: &[u32], rhs: &[u32], answer: &mut [u32; 8]) -> u
 
 pub fn nf_equal_explain(s: &mut Store, lhs: &[u32], rhs: &[u32]) -> u32 {
     reasons_of_lists(s, lhs.as_ptr(), lhs.len(), rhs.as_ptr(), rhs.len())
+}
+
+pub fn step(s: &mut Store, known: &[u32], e: u32, guard: i32, list: &mut List, answer: &mut [u32; 8]) -> u32 {
+    stepped(s, known.as_ptr(), known.len(), e, guard, list.as_mut_ptr(), list.len(), answer.as_mut_ptr(), answer.len())
 }

@@ -100,3 +100,39 @@ fn equal_lists() {
     assert_eq!(s.nf_equal_explain(&[x, a], &[y, a]), Ok(vec![Reason::Asserted(9)]));
     assert_eq!(s.nf_equal_explain(&[x], &[x, a]), Err(Refusal::Argument));
 }
+
+/// The program's own example of document 01: three equations, one after the other.
+#[test]
+fn steps() {
+    let mut s = Store::new();
+    let (x, a) = (s.variable("x").unwrap(), s.constant("a").unwrap());
+    let (xa, b) = (s.concatenation(&[x, a]).unwrap(), s.constant("b").unwrap());
+    let e = s.equation(xa, b).unwrap();
+    let known = [x, a, xa, b];
+    assert_eq!(s.step(&known, e, 9), Ok(Answer::Conflict));
+    assert_eq!(s.reason_list(), []);
+    let y = s.variable("y").unwrap();
+    merge(&mut s, y, x, 3);
+    let by = s.concatenation(&[b, y]).unwrap();
+    let e = s.equation(x, by).unwrap();
+    assert_eq!(s.step(&known, e, 10), Ok(Answer::Conflict));
+    assert_eq!(s.reason_list(), [Reason::Asserted(3)]);
+    s.state[3] = 0;
+    let e = s.equation(x, b).unwrap();
+    assert_eq!(s.step(&known, e, 11), Ok(Answer::Propagate { variable: x, word: b, link: false }));
+    assert_eq!(s.step(&known, x, 11), Err(Refusal::Argument));
+    assert_eq!(s.step(&known, e, i32::MIN), Err(Refusal::Argument));
+    assert_eq!(s.audit(), Ok(()));
+}
+
+#[test]
+fn unexpanded() {
+    let mut s = Store::new();
+    let (x, y, a, z) = (s.variable("x").unwrap(), s.variable("y").unwrap(), s.constant("a").unwrap(), s.variable("z").unwrap());
+    let az = s.concatenation(&[a, z]).unwrap();
+    let xyx = s.concatenation(&[x, y, x]).unwrap();
+    let e = s.equation(xyx, y).unwrap();
+    merge(&mut s, x, az, 2);
+    assert_eq!(s.step(&[az], e, 1), Ok(Answer::Unexpanded));
+    assert_eq!(s.reason_list(), []);
+}
