@@ -142,3 +142,29 @@ step-here cs c v o x e = decide (within (length cs) c) found (λ w. clash (sym (
 -- where each next ascends, any other outcome says that no cell is counted at c
 pub step-none : (cs : List Cell) (c : ℕ) → Ascends cs → isCell (linkIn cs c) ≡ false → within (length cs) c ≡ false
 step-none cs c up e = decide (within (length cs) c) (λ w. clash (ap isCell (inside cs c up w)) e) (λ w. w)
+
+-- the same by the words of the slice, as the readers of records give them
+pub record Words (l : List ℕ) (n c v o x : ℕ) : Type 0 where
+  pub counted : true ≡ within n c
+  pub value : v ≡ getD l (3 * c + 0) 0
+  pub other : o ≡ getD l (3 * c + 1) 0
+  pub next : x ≡ getD l (3 * c + 2) 0
+
+module _ (l : List ℕ) (n c : ℕ) where
+  count-is : length (cellsView l n) ≡ n
+  count-is = table-length (λ i. cellAt l (suc i)) n
+
+  pub step-words : (v o x : ℕ) → link.Cell v o x ≡ linkIn (cellsView l n) c → Words l n c v o x
+  step-words v o x e = record { counted = sym w; value = h .value ∙ ap (λ (y : Cell). y .value) cell; other = h .other ∙ ap (λ (y : Cell). y .other) cell; next = h .next ∙ ap (λ (y : Cell). y .next) cell }
+    where
+      h : Here (cellsView l n) c v o x
+      h = step-here (cellsView l n) c v o x e
+
+      w : within n c ≡ true
+      w = rw count-is at (h .counted)
+
+      cell : cellIn (cellsView l n) c ≡ cellAt l c
+      cell = cell-is l n c (within-low n c w) (within-high n c w)
+
+  pub words-none : Ascends (cellsView l n) → isCell (linkIn (cellsView l n) c) ≡ false → false ≡ within n c
+  words-none up e = sym (rw count-is at (step-none (cellsView l n) c up e))
