@@ -1,11 +1,14 @@
 -- Each way through one step along a chain (src/chains.rt), and that a step is a step of the chain.
 use mathlib.Core.Path.{_≡_, refl, sym, ap, subst, _∙_}
 use mathlib.Core.Bool.{Bool, true, false, _||_}
-use mathlib.Core.List.{List}
+use mathlib.Core.List.{List, [], _∷_}
+use mathlib.Core.Logic.{⊎-elim}
 use Prim.Native.Nat.{ℕ, suc, _+_, _*_, _<_, _≤_}
 use native.Mathlib.Omega.{arith}
 use lib.ListN.{length, getD}
 use lib.Dec.{eqb, ltb}
+use types.Run.{OneOf}
+use denote.Enum.Declared.{tagOf}
 use borrow.Author.Tests.{lt-ltb, le-ltb, eq-eqb, ne-eqb, eqb-true, eqb-false, ltb-false, ltb-true}
 use Rattle.records.specs.Store.{Cell, cellIn, within, chainIn}
 use Rattle.records.specs.View.{cellAt, cellsView}
@@ -15,6 +18,7 @@ use Rattle.records.proofs.Views.{cell-is}
 use Rattle.records.proofs.Chains.{chain-is, chain-none}
 use Rattle.held.specs.declared.chains.Link.{Link}
 use Rattle.held.specs.declared.chains.Link.the-variants as link
+use Rattle.held.proofs.chains.Link.{the-type}
 use Rattle.held.specs.Links.{linkOf, linkIn, valuesFrom}
 
 -- ONE CELL
@@ -122,6 +126,13 @@ isCell (link.Cell v o x) = true
 isCell link.End = false
 isCell link.Absent = false
 isCell link.Back = false
+
+-- what a `match` finds where it is no cell
+pub other-tag : (r : Link) → OneOf (1 ∷ 2 ∷ 3 ∷ []) (tagOf the-type r) → isCell r ≡ false
+other-tag (link.Cell v o x) k = ⊎-elim (λ (e : _≡_ {A = ℕ} 0 1). absurd (omega arith)) (λ w. ⊎-elim (λ (e : _≡_ {A = ℕ} 0 2). absurd (omega arith)) (λ (e : _≡_ {A = ℕ} 0 3). absurd (omega arith)) w) k
+other-tag link.End k = refl
+other-tag link.Absent k = refl
+other-tag link.Back k = refl
 
 -- a cell is given only where one is counted
 no-cell : (cs : List Cell) (c : ℕ) → within (length cs) c ≡ false → isCell (linkIn cs c) ≡ false
