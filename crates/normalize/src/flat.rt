@@ -5,6 +5,8 @@ ghost use lib.ListN.{length};
 ghost use Rattle.normalize.specs.Normalize.{atoms};
 ghost use Rattle.records.specs.Rules.{listLimit};
 ghost use Rattle.normalize.specs.Flat.{bare, Nested, Appended};
+use held::chains;
+use held::chains::Link;
 use records::LIST_LIMIT;
 use records::fields;
 use records::rules;
@@ -39,12 +41,15 @@ pub fn flatten_unchecked(
     }
     let mut at = fields::first(terms, t);
     let mut k = count;
-    while rules::is_within(m, at) {
-        k = flatten_unchecked(terms, n, cells, m, fields::value(cells, at), out, k);
+    loop {
+        let link = chains::next_link(cells, at, m);
+        let Link::Cell(v, _, next) = link else {
+            return k;
+        };
+        k = flatten_unchecked(terms, n, cells, m, v, out, k);
         if LIST_LIMIT < k {
             return k;
         }
-        at = fields::next(cells, at);
+        at = next;
     }
-    k
 }

@@ -1,9 +1,11 @@
-use mathlib.Core.Path.{_≡_, refl}
-use native.Mathlib.Omega.{arith}
-use lib.ListN.{length}
-use Rattle.records.specs.Store.{chain}
-use Rattle.normalize.specs.Flat.{bare}
+use mathlib.Core.Bool.{true, false}
+use mathlib.Core.Path.{_≡_, refl, sym, ap, _∙_}
+use Rattle.held.proofs.Linking.{Words, isCell, other-tag, step-words, words-none}
 use Rattle.normalize.proofs.Flats.{one-atom, Left, begin, ended, part-lower, part-passes, part-done, chain-falls}
+use Rattle.normalize.specs.Flat.{bare}
+use Rattle.records.specs.Store.{chain}
+use lib.ListN.{length}
+use native.Mathlib.Omega.{arith}
 use borrow.Author.Needs.{needs}
 use Prim.Native.Nat.{ℕ, _<_}
 use borrow.Fn.Kinds.{In}
@@ -11,11 +13,9 @@ use borrow.Fn.PlainCycle.{Measures, is, falls, and}
 use Rattle.normalize.proofs.flat.flatten_unchecked.Reads as flatten-unchecked
 use Rattle.normalize.proofs.flat.flatten_unchecked.Kinds as flatten-unchecked-kinds
 use Rattle.normalize.proofs.flat.+flatten_unchecked.Lts-flatten_unchecked as flatten-unchecked-lts
+use Rattle.held.proofs.chains.next_link.Reads as next-link-reads
 use Rattle.normalize.proofs.flat.push_atom.Reads as push-atom-reads
 use Rattle.records.proofs.fields.first.Reads as first-reads
-use Rattle.records.proofs.fields.next.Reads as next-reads
-use Rattle.records.proofs.fields.value.Reads as value-reads
-use Rattle.records.proofs.rules.is_within.Reads as is-within-reads
 use Rattle.records.proofs.rules.kind_of.Reads as kind-of-reads
 use Rattle.normalize.proofs.flat.+flatten_unchecked.{statement}
 use Rattle.normalize.proofs.flat.+flatten_unchecked.Tie.{close}
@@ -53,20 +53,16 @@ flatten-unchecked-flatten-unchecked-requires :
       push-atom-reads.Learnt,
       first-reads.Asked,
       first-reads.Learnt,
-      is-within-reads.Asked,
-      is-within-reads.Learnt,
-      value-reads.Asked,
-      value-reads.Learnt,
+      next-link-reads.Asked,
+      next-link-reads.Learnt,
       flatten-unchecked-below t,
       flatten-unchecked.Post,
-      next-reads.Asked,
-      next-reads.Learnt,
     )
     (flatten-unchecked-at t)
     flatten-unchecked.Post
     flatten-unchecked-Inv-loop
     flatten-unchecked-μ-loop
-flatten-unchecked-flatten-unchecked-requires t c κs = ((let h = part-lower _ _ _ _ (c .before .before .before .before .before .before .before .before .before .before .before .pre .1 .0) (c .before .before .before .before .loop .inv .1) _ _ (c .before .before .before .is-within .ensures) (c .before .before .if2 .taken) (c .before .value .ensures) in let e = c .before .before .before .before .before .before .before .before .before .before .before .pre .0 in omega arith), (c .before .before .before .before .before .before .before .before .before .before .before .pre .1 .0, (c .before .before .before .before .loop .inv .1 .from, omega arith)))
+flatten-unchecked-flatten-unchecked-requires t c κs = let w = step-words (c .before .before .before .before .before .before .before .before .before .before .before .before .args .cells .now) (c .before .before .before .before .before .before .before .before .before .before .before .before .args .m) _ (c .before .before .link .given .0 .0) (c .before .before .link .given .0 .1 .0) (c .before .before .link .given .0 .1 .1 .0) (sym (c .before .before .link .given .1) ∙ c .before .before .before .before .next-link .ensures) in ((let h = part-lower _ _ _ _ (c .before .before .before .before .before .before .before .before .before .before .before .before .pre .1 .0) (c .before .before .before .before .before .loop .inv .1) _ true (w .counted) refl (w .value) in let e = c .before .before .before .before .before .before .before .before .before .before .before .before .pre .0 in omega arith), (c .before .before .before .before .before .before .before .before .before .before .before .before .pre .1 .0, (c .before .before .before .before .before .loop .inv .1 .from, omega arith)))
 
 pub +flatten-unchecked-spec : {M : Type 1} → statement M
 +flatten-unchecked-spec = close μ-flatten-unchecked λ t. flatten-unchecked-lts.spec (
@@ -76,14 +72,10 @@ pub +flatten-unchecked-spec : {M : Type 1} → statement M
   push-atom-reads.Learnt,
   first-reads.Asked,
   first-reads.Learnt,
-  is-within-reads.Asked,
-  is-within-reads.Learnt,
-  value-reads.Asked,
-  value-reads.Learnt,
+  next-link-reads.Asked,
+  next-link-reads.Learnt,
   flatten-unchecked-below t,
   flatten-unchecked.Post,
-  next-reads.Asked,
-  next-reads.Learnt,
 )
     (flatten-unchecked-at t)
     flatten-unchecked.Post
@@ -96,12 +88,11 @@ pub +flatten-unchecked-spec : {M : Type 1} → statement M
     (λ c κs. search needs)
     (λ c. (refl, search begin))
     (λ c κs. search needs)
-    (λ c κs. search needs)
+    (λ c. search needs)
+    (λ c. search needs)
+    (λ c. ended _ _ _ _ (c .before .before .before .before .before .before .before .before .before .pre .1 .0) (c .before .before .loop .inv .1) false (words-none (c .before .before .before .before .before .before .before .before .before .args .cells .now) (c .before .before .before .before .before .before .before .before .before .args .m) _ (c .before .before .before .before .before .before .before .before .before .pre .1 .0 .ascends) (ap isCell (sym (c .before .next-link .ensures)) ∙ other-tag (c .before .next-link .result) (c .match .keys2))) refl)
     (flatten-unchecked-flatten-unchecked-requires t)
     (λ c. search needs)
-    (λ c. part-passes _ _ _ _ (c .before .before .before .before .before .before .before .before .before .before .before .before .before .before .before .pre .1 .0) (c .before .before .before .before .before .before .before .before .loop .inv .1) _ _ (c .before .before .before .before .before .before .before .is-within .ensures) (c .before .before .before .before .before .before .if2 .taken) (c .before .before .before .before .before .value .ensures) _ _ (omega arith) (let f = c .before .before .before .before .before .before .before .before .loop .inv .1 .from in let l = c .before .before .before .before .before .before .before .before .loop .inv .0 in let p = c .before .before .before .before .before .before .before .before .before .before .before .before .before .before .before .pre .1 in omega arith) (c .before .before .before .flatten-unchecked .ensures) (c .if3 .taken))
-    (λ c κs. search needs)
-    (λ c. chain-falls _ _ _ _ (c .before .before .before .before .before .before .before .before .before .before .before .before .before .before .before .before .pre .1 .0) (c .before .before .before .before .before .before .before .before .before .loop .inv .1) _ _ (c .before .before .before .before .before .before .before .before .is-within .ensures) (c .before .before .before .before .before .before .before .if2 .taken) (c .before .before .before .before .before .before .value .ensures) _ (c .next .ensures))
-    (λ c. (omega arith, part-done _ _ _ _ (c .before .before .before .before .before .before .before .before .before .before .before .before .before .before .before .before .pre .1 .0) (c .before .before .before .before .before .before .before .before .before .loop .inv .1) _ _ (c .before .before .before .before .before .before .before .before .is-within .ensures) (c .before .before .before .before .before .before .before .if2 .taken) (c .before .before .before .before .before .before .value .ensures) _ (c .next .ensures) _ _ (c .before .before .before .before .flatten-unchecked .ensures) (c .before .if3 .left)))
-    (λ c. search needs)
-    (λ c. search ended)
+    (λ c. let w = step-words (c .before .before .before .before .before .before .before .before .before .before .before .before .before .before .before .before .args .cells .now) (c .before .before .before .before .before .before .before .before .before .before .before .before .before .before .before .before .args .m) _ (c .before .before .before .before .before .before .link .given .0 .0) (c .before .before .before .before .before .before .link .given .0 .1 .0) (c .before .before .before .before .before .before .link .given .0 .1 .1 .0) (sym (c .before .before .before .before .before .before .link .given .1) ∙ c .before .before .before .before .before .before .before .before .next-link .ensures) in part-passes _ _ _ _ (c .before .before .before .before .before .before .before .before .before .before .before .before .before .before .before .before .pre .1 .0) (c .before .before .before .before .before .before .before .before .before .loop .inv .1) _ true (w .counted) refl (w .value) _ _ (omega arith) (let f = c .before .before .before .before .before .before .before .before .before .loop .inv .1 .from in let l = c .before .before .before .before .before .before .before .before .before .loop .inv .0 in let p = c .before .before .before .before .before .before .before .before .before .before .before .before .before .before .before .before .pre .1 in omega arith) (c .before .before .before .flatten-unchecked .ensures) (c .if2 .taken))
+    (λ c. let w = step-words (c .before .before .before .before .before .before .before .before .before .before .before .before .before .before .before .before .args .cells .now) (c .before .before .before .before .before .before .before .before .before .before .before .before .before .before .before .before .args .m) _ (c .before .before .before .before .before .before .link .given .0 .0) (c .before .before .before .before .before .before .link .given .0 .1 .0) (c .before .before .before .before .before .before .link .given .0 .1 .1 .0) (sym (c .before .before .before .before .before .before .link .given .1) ∙ c .before .before .before .before .before .before .before .before .next-link .ensures) in chain-falls _ _ _ _ (c .before .before .before .before .before .before .before .before .before .before .before .before .before .before .before .before .pre .1 .0) (c .before .before .before .before .before .before .before .before .before .loop .inv .1) _ true (w .counted) refl (w .value) _ (w .next))
+    (λ c. let w = step-words (c .before .before .before .before .before .before .before .before .before .before .before .before .before .before .before .before .args .cells .now) (c .before .before .before .before .before .before .before .before .before .before .before .before .before .before .before .before .args .m) _ (c .before .before .before .before .before .before .link .given .0 .0) (c .before .before .before .before .before .before .link .given .0 .1 .0) (c .before .before .before .before .before .before .link .given .0 .1 .1 .0) (sym (c .before .before .before .before .before .before .link .given .1) ∙ c .before .before .before .before .before .before .before .before .next-link .ensures) in (omega arith, part-done _ _ _ _ (c .before .before .before .before .before .before .before .before .before .before .before .before .before .before .before .before .pre .1 .0) (c .before .before .before .before .before .before .before .before .before .loop .inv .1) _ true (w .counted) refl (w .value) _ (w .next) _ _ (c .before .before .before .flatten-unchecked .ensures) (c .if2 .left)))

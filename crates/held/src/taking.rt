@@ -1,0 +1,70 @@
+// 'taking a name advances the counter and hands the name back': the counter of names, lent.
+ghost use mathlib.Core.Path.{_≡_};
+ghost use Rattle.records.specs.View.{lent, namesAt};
+ghost use Rattle.records.specs.Audited.{Ready};
+ghost use Rattle.records.specs.Calls.{Taken};
+use records::Named;
+use records::State;
+use records::names;
+
+pub struct Counter {
+    pub next: u32,
+}
+
+// The first free name from `next` on, by value.
+pub fn name_from(
+    next: u32,
+    terms: &[u32],
+    cells: &[u32],
+    chars: &[u32],
+    reasons: &[u32],
+    keys: &[u32],
+    c: State,
+) -> Named
+    requires { ⌜ Ready (lent (now terms) (now cells) (now chars) (now reasons) (now keys)) (namesAt c next) ⌝ }
+    ensures { λ r. ⌜ Taken (lent (now (terms .entry)) (now (cells .entry)) (now (chars .entry)) (now (reasons .entry)) (now (keys .entry))) (namesAt c next) r ⌝ }
+{
+    let d = State {
+        terms: c.terms,
+        cells: c.cells,
+        chars: c.chars,
+        reasons: c.reasons,
+        keys: c.keys,
+        names: next,
+    };
+    names::take_name_unchecked(terms, cells, chars, reasons, keys, d)
+}
+
+// Takes the next free name: the counter moves past it, and the name is handed back.
+pub fn take(
+    counter: &mut Counter,
+    terms: &[u32],
+    cells: &[u32],
+    chars: &[u32],
+    reasons: &[u32],
+    keys: &[u32],
+    c: State,
+) -> Named
+    requires { ⌜ Ready (lent (now terms) (now cells) (now chars) (now reasons) (now keys)) (namesAt c (now counter .next)) ⌝ }
+    ensures { λ r. ⌜ Taken (lent (now (terms .entry)) (now (cells .entry)) (now (chars .entry)) (now (reasons .entry)) (now (keys .entry))) (namesAt c (now (counter .entry) .next)) r × (now (counter .exit) .next ≡ r .state .names) ⌝ }
+{
+    let r = name_from(counter.next, terms, cells, chars, reasons, keys, c);
+    counter.next = r.state.names;
+    r
+}
+
+// The counter of c is lent to take its next free name. Whoever calls this holds the counts alone.
+pub fn next_name(
+    terms: &[u32],
+    cells: &[u32],
+    chars: &[u32],
+    reasons: &[u32],
+    keys: &[u32],
+    c: State,
+) -> Named
+    requires { ⌜ Ready (lent (now terms) (now cells) (now chars) (now reasons) (now keys)) c ⌝ }
+    ensures { λ r. ⌜ Taken (lent (now (terms .entry)) (now (cells .entry)) (now (chars .entry)) (now (reasons .entry)) (now (keys .entry))) c r ⌝ }
+{
+    let mut counter = Counter { next: c.names };
+    take(&mut counter, terms, cells, chars, reasons, keys, c)
+}
