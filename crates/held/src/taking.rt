@@ -12,7 +12,7 @@ pub struct Counter {
 }
 
 // The first free name from `next` on, by value.
-pub fn name_from(
+pub fn name_from_unchecked(
     next: u32,
     terms: &[u32],
     cells: &[u32],
@@ -36,7 +36,7 @@ pub fn name_from(
 }
 
 // Takes the next free name: the counter moves past it, and the name is handed back.
-pub fn take(
+pub fn take_unchecked(
     counter: &mut Counter,
     terms: &[u32],
     cells: &[u32],
@@ -48,13 +48,13 @@ pub fn take(
     requires { ⌜ Ready (lent (now terms) (now cells) (now chars) (now reasons) (now keys)) (namesAt c (now counter .next)) ⌝ }
     ensures { λ r. ⌜ Taken (lent (now (terms .entry)) (now (cells .entry)) (now (chars .entry)) (now (reasons .entry)) (now (keys .entry))) (namesAt c (now (counter .entry) .next)) r × (now (counter .exit) .next ≡ r .state .names) ⌝ }
 {
-    let r = name_from(counter.next, terms, cells, chars, reasons, keys, c);
+    let r = name_from_unchecked(counter.next, terms, cells, chars, reasons, keys, c);
     counter.next = r.state.names;
     r
 }
 
 // The counter of c is lent to take its next free name. Whoever calls this holds the counts alone.
-pub fn next_name(
+pub fn next_name_unchecked(
     terms: &[u32],
     cells: &[u32],
     chars: &[u32],
@@ -66,5 +66,5 @@ pub fn next_name(
     ensures { λ r. ⌜ Taken (lent (now (terms .entry)) (now (cells .entry)) (now (chars .entry)) (now (reasons .entry)) (now (keys .entry))) c r ⌝ }
 {
     let mut counter = Counter { next: c.names };
-    take(&mut counter, terms, cells, chars, reasons, keys, c)
+    take_unchecked(&mut counter, terms, cells, chars, reasons, keys, c)
 }

@@ -48,7 +48,7 @@ pub fn fresh_str_unchecked(
     requires { ⌜ Ready (lent (now terms) (now cells) (now chars) (now reasons) (now keys)) c ⌝ }
     ensures { λ r. ⌜ Working freshVariable (lent (now (terms .entry)) (now (cells .entry)) (now (chars .entry)) (now (reasons .entry)) (now (keys .entry))) (lent (now (terms .exit)) (now (cells .entry)) (now (chars .exit)) (now (reasons .entry)) (now (keys .entry))) c (made r (lent (now (terms .exit)) (now (cells .entry)) (now (chars .exit)) (now (reasons .entry)) (now (keys .entry)))) ⌝ }
 {
-    let named = taking::next_name(terms, cells, chars, reasons, keys, c);
+    let named = taking::next_name_unchecked(terms, cells, chars, reasons, keys, c);
     if named.code != 0 {
         return Made::Refused(named.code);
     }

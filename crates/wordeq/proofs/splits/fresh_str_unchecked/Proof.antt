@@ -5,7 +5,7 @@ use Rattle.wordeq.proofs.splits.fresh_str_unchecked.Statement.{statemen
 use Rattle.wordeq.proofs.splits.fresh_str_unchecked.Tie as tie
 use Rattle.wordeq.proofs.splits.fresh_str_unchecked.Reads as reads
 use Rattle.wordeq.proofs.splits.fresh_str_unchecked.Lts as lts
-use Rattle.held.proofs.taking.next_name.Reads as next-name-reads
+use Rattle.held.proofs.taking.next_name_unchecked.Reads as next-name-unchecked-reads
 use Rattle.wordeq.proofs.splits.make_named.Reads as make-named-reads
 
 pub fresh-str-unchecked-spec : {M : Type 1} → statement M
@@ -15,8 +15,8 @@ fresh-str-unchecked-spec =
     (λ c κs. search needs)
     (λ c. search needs)
     (λ c. search needs)
-    (λ c. named-stop _ (c .before .before .next-name .ensures) (c .if1 .taken))
-    (λ c κs. (named-ready _ (c .before .before .before .before .before .before .next-name .ensures) (c .before .before .before .before .before .before .before .before .before .before .before .before .before .before .pre) (c .before .before .before .before .if1 .left), c .before .before .before .before .before .before .next-name .ensures .fits))
+    (λ c. named-stop _ (c .before .before .next-name-unchecked .ensures) (c .if1 .taken))
+    (λ c κs. (named-ready _ (c .before .before .before .before .before .before .next-name-unchecked .ensures) (c .before .before .before .before .before .before .before .before .before .before .before .before .before .before .pre) (c .before .before .before .before .if1 .left), c .before .before .before .before .before .before .next-name-unchecked .ensures .fits))
     (λ c. search needs)
     (λ c. search needs)
-    (λ c. named-then _ (c .before .before .before .before .before .before .before .before .before .before .before .next-name .ensures) (c .before .before .before .before .before .before .before .before .before .if1 .left) (c .before .before .before .before .make-named .ensures)))
+    (λ c. named-then _ (c .before .before .before .before .before .before .before .before .before .before .before .next-name-unchecked .ensures) (c .before .before .before .before .before .before .before .before .before .if1 .left) (c .before .before .before .before .make-named .ensures)))

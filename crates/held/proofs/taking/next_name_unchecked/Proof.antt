@@ -1,4 +1,4 @@
--- `taking::next_name` meets its contract: a walk of its MIR, by hand. A counter is made in a local, lent to `take` for a lifetime that is made for the call, and taken back at its last value. All that the proof knows of `take` is that it meets its contract.
+-- `taking::next_name_unchecked` meets its contract: a walk of its MIR, by hand. A counter is made in a local, lent to `take_unchecked` for a lifetime that is made for the call, and taken back at its last value. All that the proof knows of `take_unchecked` is that it meets its contract.
 -- What the slices and the counts own is had twice: one copy goes to the callee, and one is kept for the exit.
 use mathlib.Core.Path.{_≡_, refl}
 use Prim.Native.Nat.{ℕ, _<_, _^_}
@@ -55,14 +55,14 @@ use Rattle.records.proofs.Named.Laws as Nm′
 use Rattle.held.specs.declared.taking.Counter.{Counter}
 use Rattle.held.proofs.taking.Counter as T
 use Rattle.held.proofs.taking.Counter.Laws as T′
-use Rattle.held.proofs.taking.take as work
-use Rattle.held.proofs.taking.take.Symbol as work-def
-use Rattle.held.proofs.taking.take.Symbol.{name as #take}
-use Rattle.held.proofs.taking.take.Met as work-thm
-use Rattle.held.proofs.taking.next_name.Key.{name as #next-name}
-use Rattle.held.proofs.taking.next_name as fn
-use Rattle.held.proofs.taking.next_name.Statement as stated
-use Rattle.held.proofs.taking.next_name.Code as code
+use Rattle.held.proofs.taking.take_unchecked as work
+use Rattle.held.proofs.taking.take_unchecked.Symbol as work-def
+use Rattle.held.proofs.taking.take_unchecked.Symbol.{name as #take}
+use Rattle.held.proofs.taking.take_unchecked.Met as work-thm
+use Rattle.held.proofs.taking.next_name_unchecked.Key.{name as #next-name}
+use Rattle.held.proofs.taking.next_name_unchecked as fn
+use Rattle.held.proofs.taking.next_name_unchecked.Statement as stated
+use Rattle.held.proofs.taking.next_name_unchecked.Code as code
 
 abbrev stayed : Stays (fn.ended .signature .params) (fn.ended .kept)
 stayed = (stay-none-slice (0 ∷ []) tt (plain (λ _. u32)) yes, (stay-none-slice (1 ∷ []) tt (plain (λ _. u32)) yes, (stay-none-slice (2 ∷ []) tt (plain (λ _. u32)) yes, (stay-none-slice (3 ∷ []) tt (plain (λ _. u32)) yes, (stay-none-slice (4 ∷ []) tt (plain (λ _. u32)) yes, (stay-none (λ _. St.the-row) yes, tt))))))
@@ -202,10 +202,10 @@ next-meets : {M : Type 1} (𝓤 : URA M) (H : Heap 𝓤) (A : Atoms 𝓤) (W : G
 next-meets 𝓤 H A W at-mem run 𝓣 known = walk-meets 𝓤 H A fn.ended stayed W (goes 𝓤 H A W at-mem run) (fn.clauses 𝓤 H A at-mem run) (WpFn 𝓤 H (𝓣 .C) (𝓣 .Λ) code.function) (WpFn-mono 𝓤 H (W .laws) 𝓣 code.function)
     (next-walks 𝓤 H A W at-mem run (𝓣 .C) (𝓣 .Λ) (fmOf 𝓤 H (W .laws) 𝓣) known)
 
-pub next-name-spec : {M : Type 1} → stated.statement M
+pub next-name-unchecked-spec : {M : Type 1} → stated.statement M
 unfolding code.routine tablesOf
-next-name-spec 𝓤 H 𝓜 𝓖 𝓡 =
+next-name-unchecked-spec 𝓤 H 𝓜 𝓖 𝓡 =
     entered 𝓤 H (tripleOf 𝓤 H (𝓖 .A) fn.signature (fn.spec 𝓤 H (𝓖 .A) (𝓜 .mem) (𝓡 .run)))
     (tables 𝓤 H 𝓜 𝓡 code.env .C) (tables 𝓤 H 𝓜 𝓡 code.env .Λ) #next-name code.function (code.unfolded 𝓤 H 𝓜 𝓡)
     (next-meets 𝓤 H (𝓖 .A) (givenOf 𝓤 H 𝓜 𝓖) (𝓜 .mem) (𝓡 .run) (tablesOf 𝓤 H 𝓜 (tables 𝓤 H 𝓜 𝓡 code.env))
-    (cited 𝓤 H (Take 𝓤 H (𝓖 .A) (𝓜 .mem) (𝓡 .run)) 𝓜 𝓡 code.env #take work-def.routine code.calls-held·taking·take (work-thm.met 𝓤 H 𝓜 𝓖 𝓡)))
+    (cited 𝓤 H (Take 𝓤 H (𝓖 .A) (𝓜 .mem) (𝓡 .run)) 𝓜 𝓡 code.env #take work-def.routine code.calls-held·taking·take-unchecked (work-thm.met 𝓤 H 𝓜 𝓖 𝓡)))

@@ -1,4 +1,4 @@
--- `taking::take` meets its contract: a walk of its MIR, by hand. The borrow of the counter is opened, `name_from` is called at the number that it holds, the counter of the answer is stored in it, and the borrow is closed at the counter with the new number. All that the proof knows of `name_from` is that it meets its contract.
+-- `taking::take_unchecked` meets its contract: a walk of its MIR, by hand. The borrow of the counter is opened, `name_from_unchecked` is called at the number that it holds, the counter of the answer is stored in it, and the borrow is closed at the counter with the new number. All that the proof knows of `name_from_unchecked` is that it meets its contract.
 -- What the slices and the counts own is had twice: one copy goes to the callee, and one is kept for the exit.
 use mathlib.Core.Path.{_≡_, refl, ap, subst}
 use Prim.Native.Nat.{ℕ, _<_, _^_}
@@ -55,14 +55,14 @@ use Rattle.records.proofs.Named.Laws as Nm′
 use Rattle.held.specs.declared.taking.Counter.{Counter}
 use Rattle.held.proofs.taking.Counter as T
 use Rattle.held.proofs.taking.Counter.Laws as T′
-use Rattle.held.proofs.taking.name_from as work
-use Rattle.held.proofs.taking.name_from.Symbol as work-def
-use Rattle.held.proofs.taking.name_from.Symbol.{name as #name-from}
-use Rattle.held.proofs.taking.name_from.Met as work-thm
-use Rattle.held.proofs.taking.take.Key.{name as #take}
-use Rattle.held.proofs.taking.take as fn
-use Rattle.held.proofs.taking.take.Statement as stated
-use Rattle.held.proofs.taking.take.Code as code
+use Rattle.held.proofs.taking.name_from_unchecked as work
+use Rattle.held.proofs.taking.name_from_unchecked.Symbol as work-def
+use Rattle.held.proofs.taking.name_from_unchecked.Symbol.{name as #name-from}
+use Rattle.held.proofs.taking.name_from_unchecked.Met as work-thm
+use Rattle.held.proofs.taking.take_unchecked.Key.{name as #take}
+use Rattle.held.proofs.taking.take_unchecked as fn
+use Rattle.held.proofs.taking.take_unchecked.Statement as stated
+use Rattle.held.proofs.taking.take_unchecked.Code as code
 
 abbrev stayed : Stays (fn.ended .signature .params) (fn.ended .kept)
 stayed = (stay-ref (0 ∷ []) tt (plain (λ _. T.the-row)), (stay-none-slice (1 ∷ []) tt (plain (λ _. u32)) yes, (stay-none-slice (2 ∷ []) tt (plain (λ _. u32)) yes, (stay-none-slice (3 ∷ []) tt (plain (λ _. u32)) yes, (stay-none-slice (4 ∷ []) tt (plain (λ _. u32)) yes, (stay-none-slice (5 ∷ []) tt (plain (λ _. u32)) yes, (stay-none (λ _. St.the-row) yes, tt)))))))
@@ -196,10 +196,10 @@ take-meets : {M : Type 1} (𝓤 : URA M) (H : Heap 𝓤) (A : Atoms 𝓤) (W : G
 take-meets 𝓤 H A W at-mem run 𝓣 known = walk-meets 𝓤 H A fn.ended stayed W (goes 𝓤 H A W at-mem run) (fn.clauses 𝓤 H A at-mem run) (WpFn 𝓤 H (𝓣 .C) (𝓣 .Λ) code.function) (WpFn-mono 𝓤 H (W .laws) 𝓣 code.function)
     (take-walks 𝓤 H A W at-mem run (𝓣 .C) (𝓣 .Λ) (fmOf 𝓤 H (W .laws) 𝓣) known)
 
-pub take-spec : {M : Type 1} → stated.statement M
+pub take-unchecked-spec : {M : Type 1} → stated.statement M
 unfolding code.routine tablesOf
-take-spec 𝓤 H 𝓜 𝓖 𝓡 =
+take-unchecked-spec 𝓤 H 𝓜 𝓖 𝓡 =
     entered 𝓤 H (tripleOf 𝓤 H (𝓖 .A) fn.signature (fn.spec 𝓤 H (𝓖 .A) (𝓜 .mem) (𝓡 .run)))
     (tables 𝓤 H 𝓜 𝓡 code.env .C) (tables 𝓤 H 𝓜 𝓡 code.env .Λ) #take code.function (code.unfolded 𝓤 H 𝓜 𝓡)
     (take-meets 𝓤 H (𝓖 .A) (givenOf 𝓤 H 𝓜 𝓖) (𝓜 .mem) (𝓡 .run) (tablesOf 𝓤 H 𝓜 (tables 𝓤 H 𝓜 𝓡 code.env))
-    (cited 𝓤 H (NameFrom 𝓤 H (𝓖 .A) (𝓜 .mem) (𝓡 .run)) 𝓜 𝓡 code.env #name-from work-def.routine code.calls-held·taking·name-from (work-thm.met 𝓤 H 𝓜 𝓖 𝓡)))
+    (cited 𝓤 H (NameFrom 𝓤 H (𝓖 .A) (𝓜 .mem) (𝓡 .run)) 𝓜 𝓡 code.env #name-from work-def.routine code.calls-held·taking·name-from-unchecked (work-thm.met 𝓤 H 𝓜 𝓖 𝓡)))
