@@ -15,3 +15,5 @@ pub mod port;
 pub mod random;
 pub mod shrink;
 pub mod speed;
+#[cfg(feature = "port")]
+pub mod stack;

@@ -52,7 +52,7 @@ struct Options {
 
 fn usage() -> ! {
     eprintln!(
-        "differential compare|damaged|claims|faults|speed|worst [--seed S] [--count N] [--from ROUND] [--threads T] [--kinds A,B] [--of port|model|rust]"
+        "differential compare|damaged|claims|faults|speed|worst|stack [--seed S] [--count N] [--from ROUND] [--threads T] [--kinds A,B] [--of port|model|rust]"
     );
     exit(2);
 }
@@ -395,6 +395,8 @@ fn main() {
         "faults" => return faults(&o),
         "speed" => return speed::table(o.seed),
         "worst" => return speed::worst(),
+        #[cfg(feature = "port")]
+        "stack" => return differential::stack::table(),
         _ => usage(),
     };
     if tally.differences > 0 {
