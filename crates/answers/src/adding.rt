@@ -1,4 +1,4 @@
-// The commands that change the store, the known list or what is lent.
+// The commands that change the store, the list or what is lent.
 use crate::Counts;
 use crate::building::narrow;
 use crate::building::put;
@@ -7,6 +7,7 @@ use crate::building::put_class;
 use crate::building::put_edge;
 use crate::building::put_expansions;
 use crate::building::put_line;
+use crate::building::put_pairs;
 use crate::building::put_reason;
 use crate::building::put_same;
 use crate::building::put_term;
@@ -25,6 +26,8 @@ pub fn none() -> Counts {
         cells: 0,
         chars: 513,
         reasons: 0,
+        keys: 0,
+        names: 0,
         room: 8194,
         known: 0,
         list: 1024,
@@ -184,6 +187,20 @@ fn reason(reasons: &mut [u32], kind: u32, value: u32, c: Counts) -> Counts {
     reasoned(c, wrapping_add_usize(c.reasons, 1), c.room)
 }
 
+// The key (a, b) m times more.
+fn key(keys: &mut [u32], m: u32, a: u32, b: u32, c: Counts) -> Counts {
+    put_pairs(keys, c.keys, m, a, b);
+    let mut d = c;
+    d.keys = wrapping_add_usize(c.keys, m as usize);
+    d
+}
+
+fn named(c: Counts, names: u32) -> Counts {
+    let mut d = c;
+    d.names = names;
+    d
+}
+
 fn list(to: &mut [u32], n: &[u32], last: usize, c: Counts) -> Counts {
     put_words(to, 0, n, last);
     known(c, last)
@@ -200,13 +217,24 @@ fn lent(c: Counts, list: usize) -> Counts {
     d
 }
 
-// The commands that change what is counted or lent, reasons and the known list.
-fn set(l: u8, n: &[u32], last: usize, reasons: &mut [u32], known: &mut [u32], c: Counts) -> Counts {
+// The commands that change what is counted or lent, reasons, keys and the list.
+fn set(
+    l: u8,
+    n: &[u32],
+    last: usize,
+    reasons: &mut [u32],
+    keys: &mut [u32],
+    known: &mut [u32],
+    c: Counts,
+) -> Counts {
     let a = word(n, 1);
     let b = word(n, 2);
     match l {
         78 => none(),
         77 => counted(c, a, c.cells),
+        99 => counted(c, c.terms, a),
+        105 => named(c, a),
+        107 => key(keys, a, b, word(n, 3), c),
         82 => reason(reasons, a, b, c),
         87 => reasoned(c, c.reasons, a as usize),
         76 => list(known, n, last, c),
@@ -254,10 +282,11 @@ pub fn apply(
     cells: &mut [u32],
     chars: &mut [u32],
     reasons: &mut [u32],
+    keys: &mut [u32],
     known: &mut [u32],
     c: Counts,
 ) -> Counts {
     change(l, n, terms, cells);
     let d = add(l, n, last, terms, cells, chars, c);
-    set(l, n, last, reasons, known, d)
+    set(l, n, last, reasons, keys, known, d)
 }

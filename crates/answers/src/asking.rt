@@ -5,6 +5,7 @@ use crate::saying::say;
 use crate::saying::say_after;
 use crate::saying::say_list;
 use crate::saying::say_reasons;
+use crate::solving::solve;
 use engine::Found;
 use normalize::DeepForm;
 use normalize::Form;
@@ -12,14 +13,14 @@ use records::Added;
 use records::State;
 use records::fields::word;
 
-fn state(c: Counts) -> State {
+pub fn state(c: Counts) -> State {
     State {
         terms: c.terms as usize,
         cells: c.cells as usize,
         chars: c.chars as usize,
         reasons: c.reasons,
-        keys: 0,
-        names: 0,
+        keys: c.keys,
+        names: c.names,
     }
 }
 
@@ -135,10 +136,10 @@ pub fn ask(
     l: u8,
     n: &[u32],
     terms: &mut [u32],
-    cells: &[u32],
+    cells: &mut [u32],
     chars: &mut [u32],
     reasons: &mut [u32],
-    keys: &[u32],
+    keys: &mut [u32],
     known: &[u32],
     list: &mut [u32],
     c: Counts,
@@ -148,19 +149,20 @@ pub fn ask(
         102 => ask_find(terms, cells, chars, reasons, keys, state(c), a),
         110 => ask_form(terms, cells, chars, reasons, keys, known, list, c, a),
         100 => ask_deep_form(terms, cells, chars, reasons, keys, known, list, c, a),
-        _ => {
+        101 | 69 => {
             let count = ask_explain(terms, cells, chars, reasons, keys, state(c), a, word(n, 2));
             if l == 69 {
                 return reasoned(c, count, c.room);
             }
         }
+        _ => return solve(l, n, terms, cells, chars, reasons, keys, known, list, c),
     }
     c
 }
 
 pub fn is_ask(l: u8) -> bool {
     match l {
-        102 | 101 | 69 | 110 | 100 => true,
+        102 | 101 | 69 | 110 | 100 | 114 | 66 | 115 | 113 | 81 => true,
         _ => false,
     }
 }

@@ -188,6 +188,15 @@ pub fn put_same(to: &mut [u32], at: usize, n: u32, x: u32) {
     }
 }
 
+// The pair (a, b) n times, from record i on.
+pub fn put_pairs(to: &mut [u32], i: usize, n: u32, a: u32, b: u32) {
+    let mut j: u32 = 0;
+    while j < n {
+        put_reason(to, wrapping_add_usize(i, j as usize), a, b);
+        j += 1;
+    }
+}
+
 // The concatenation of xi and xn, in cells e + 2i and the next, equal to the variable before xi by asserted reason i.
 fn put_expansion(terms: &mut [u32], cells: &mut [u32], first: u32, n: u32, e: u32, i: u32) {
     let x = wrapping_add_u32(first, i);

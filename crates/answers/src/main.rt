@@ -1,4 +1,4 @@
-// Stores of many shapes, and what find, explain and the normal forms answer on them. Standard input has the cases, a command to a line: a
+// Stores of many shapes, and what each call answers on them. Standard input has the cases, a command to a line: a
 // letter, then decimal numbers, each after one space, or a text after one space, a byte to a character.
 //
 //   N               no record counted
@@ -18,23 +18,34 @@
 //   U n d           n times two concatenations t and t + 1 of the terms d and 6 - d before each, joined by congruence with stamp t
 //   Y n             variables x0 to xn and, for i from 1 to n, the concatenation of xi and xn, equal to the variable before xi by ai
 //   R k v           one reason more
+//   k n a b         n times the key (a, b) more
+//   i n             n is the name counter
 //   W n             n words are lent for reasons
 //   M n             n terms are counted
+//   c n             n cells are counted
 //   T t i x         word i of term t becomes x
 //   D c i x         word i of cell c becomes x
-//   L t u ..        the known list
-//   J n t           n times t more in the known list
-//   Z n             n words are lent for a form's list
+//   L t u ..        the list: the known list, or two sides
+//   J n t           n times t more in the list
+//   Z n             n words are lent for a list that is answered
 //   f t             find
 //   e a b           explain
 //   E a b           explain, and the reasons added stay
 //   n t             the normal form of t over the known list
 //   d t             the deep form of t over the known list
+//   r p g           resolve_equation, the list's first p atoms against the rest, with the guard g: from 2147483648 on a number stands
+//                   for a negative guard, so that 4294967295 is -1
+//   B p g           the same, and what it added stays
+//   s e g           the step over the equation e and the known list, with the guard g
+//   q p             nf_equal, the list's first p atoms and the rest
+//   Q p             nf_equal_explain of the same
 //   #               a remark, which is printed
 //
 // What is asked is printed with its answer: the root, or the refusal; the count of reasons and the reasons, with a3-5 for a3 a4 a5; for
 // the forms the count of atoms and the atoms, with 7*3 for 7 7 7, or none; then the reasons, how many terms and characters are counted
-// after the call, and the texts of the constants made. What a form made is not counted from then on.
+// after the call, and the texts of the constants made. What a form made is not counted from then on. For resolve_equation and the step: the
+// case with its values (the variable, the word and the link flag; the count of atoms, the atoms and the guard), the reasons, the counts
+// of terms, cells, characters and keys, the name counter, and each term made, a concatenation as t+u, a length as |t|, an equation as t=u.
 use asking::ask;
 use asking::is_ask;
 use reading::letter;
@@ -47,20 +58,24 @@ pub mod asking;
 pub mod building;
 pub mod reading;
 pub mod saying;
+pub mod solving;
+pub mod stating;
 
-// How many terms, cells, characters and reasons are counted, how many words are lent for reasons, how many atoms the known list has, and
-// how many words are lent for a form's list.
+// How many terms, cells, characters, reasons and keys are counted, the name counter, how many words are lent for reasons, how many atoms
+// the list has, and how many words are lent for a list that is answered.
 pub struct Counts {
     pub terms: u32,
     pub cells: u32,
     pub chars: u32,
     pub reasons: usize,
+    pub keys: usize,
+    pub names: u32,
     pub room: usize,
     pub known: usize,
     pub list: usize,
 }
 
-fn least(a: usize, b: usize) -> usize
+pub fn least(a: usize, b: usize) -> usize
     ensures { λ r. ⌜ r ≤ b ⌝ }
 {
     if a < b {
@@ -69,16 +84,16 @@ fn least(a: usize, b: usize) -> usize
     b
 }
 
-// With as many words lent for a form's list as the counts say.
+// With as many words lent for a list that is answered as the counts say.
 fn ask_list(
     l: u8,
     n: &[u32],
     terms: &mut [u32],
-    cells: &[u32],
+    cells: &mut [u32],
     chars: &mut [u32],
     reasons: &mut [u32],
-    keys: &[u32],
-    known: &mut [u32],
+    keys: &mut [u32],
+    known: &[u32],
     list: &mut [u32],
     c: Counts,
 ) -> Counts {
@@ -97,16 +112,16 @@ fn ask_list(
     )
 }
 
-// With a known list as long as the counts say.
+// With a list as long as the counts say.
 fn ask_known(
     l: u8,
     n: &[u32],
     terms: &mut [u32],
-    cells: &[u32],
+    cells: &mut [u32],
     chars: &mut [u32],
     reasons: &mut [u32],
-    keys: &[u32],
-    known: &mut [u32],
+    keys: &mut [u32],
+    known: &[u32],
     list: &mut [u32],
     c: Counts,
 ) -> Counts {
@@ -119,7 +134,7 @@ fn ask_known(
         chars,
         reasons,
         keys,
-        &mut known[..of],
+        &known[..of],
         list,
         c,
     )
@@ -130,11 +145,11 @@ fn ask_room(
     l: u8,
     n: &[u32],
     terms: &mut [u32],
-    cells: &[u32],
+    cells: &mut [u32],
     chars: &mut [u32],
     reasons: &mut [u32],
-    keys: &[u32],
-    known: &mut [u32],
+    keys: &mut [u32],
+    known: &[u32],
     list: &mut [u32],
     c: Counts,
 ) -> Counts {
@@ -159,7 +174,7 @@ fn step(
     cells: &mut [u32],
     chars: &mut [u32],
     reasons: &mut [u32],
-    keys: &[u32],
+    keys: &mut [u32],
     known: &mut [u32],
     c: Counts,
 ) -> Counts {
@@ -189,7 +204,7 @@ fn step(
         io::write_all(1, b"\n");
         return d;
     }
-    adding::apply(l, &n, last, terms, cells, chars, reasons, known, c)
+    adding::apply(l, &n, last, terms, cells, chars, reasons, keys, known, c)
 }
 
 fn run(
@@ -198,7 +213,7 @@ fn run(
     cells: &mut [u32],
     chars: &mut [u32],
     reasons: &mut [u32],
-    keys: &[u32],
+    keys: &mut [u32],
     known: &mut [u32],
 ) {
     let mut c = adding::none();
@@ -217,15 +232,15 @@ fn main() {
     let mut cells: [u32; 6147] = [0; 6147];
     let mut chars: [u32; 16386] = [0; 16386];
     let mut reasons: [u32; 8194] = [0; 8194];
-    let keys: [u32; 2] = [0; 2];
-    let mut known: [u32; 1026] = [0; 1026];
+    let mut keys: [u32; 8194] = [0; 8194];
+    let mut known: [u32; 2304] = [0; 2304];
     run(
         &text[..len],
         &mut terms,
         &mut cells,
         &mut chars,
         &mut reasons,
-        &keys,
+        &mut keys,
         &mut known,
     );
 }

@@ -102,7 +102,7 @@ fn say_char(x: u32) {
     io::write_all(1, b">");
 }
 
-fn say_text(chars: &[u32], from: u32, n: u32) {
+pub fn say_text(chars: &[u32], from: u32, n: u32) {
     let mut i: u32 = 0;
     while i < n {
         say_char(word(chars, wrapping_add_u32(from, i) as usize));
@@ -110,7 +110,7 @@ fn say_text(chars: &[u32], from: u32, n: u32) {
     }
 }
 
-fn say_constant(terms: &[u32], chars: &[u32], t: u32) {
+pub fn say_constant(terms: &[u32], chars: &[u32], t: u32) {
     io::write_all(1, b" \"");
     say_text(chars, fields::first(terms, t), fields::second(terms, t));
     io::write_all(1, b"\"");

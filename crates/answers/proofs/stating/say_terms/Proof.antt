@@ -1,0 +1,24 @@
+use Prim.Native.Nat.{_-_}
+use native.Mathlib.Omega.{arith}
+use borrow.Author.Needs.{needs}
+use Rattle.answers.proofs.stating.say_terms.Statement.{statement}
+use Rattle.answers.proofs.stating.say_terms.Tie as tie
+
+abbrev Inv-loop : tie.InvT-loop
+Inv-loop terms cells chars above n t₀ t = Unit {0}
+
+abbrev μ-loop : tie.MeasureT-loop
+μ-loop terms cells chars above n t₀ t = n - t
+
+pub say-terms-spec : {M : Type 1} → statement M
+say-terms-spec =
+    tie.close
+    (tie.spec
+    Inv-loop
+    μ-loop
+    (λ c. search needs)
+    (λ c. search needs)
+    (λ c κs. search needs)
+    (λ c. search needs)
+    (λ c. search needs)
+    (λ c. search needs))

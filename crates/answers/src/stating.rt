@@ -1,0 +1,86 @@
+// What is printed of a store after resolve_equation and the step.
+use crate::Counts;
+use crate::building::narrow;
+use crate::saying::say;
+use crate::saying::say_constant;
+use crate::saying::say_reasons;
+use crate::saying::say_text;
+use records::State;
+use records::fields;
+use records::fields::word;
+
+pub fn say_count(x: usize) {
+    io::write_all(1, b" ");
+    io::print_decimal(1, x as u64);
+}
+
+// A concatenation made has two parts.
+fn say_concatenation(cells: &[u32], e: u32) {
+    let at = 3 * (e as usize);
+    say(b" ", word(cells, at));
+    say(b"+", word(cells, 3 * (word(cells, at + 2) as usize)));
+}
+
+fn say_term(terms: &[u32], cells: &[u32], chars: &[u32], t: u32) {
+    let first = fields::first(terms, t);
+    let second = fields::second(terms, t);
+    match fields::kind(terms, t) {
+        1 => say_constant(terms, chars, t),
+        2 => {
+            io::write_all(1, b" ");
+            say_text(chars, first, second);
+        }
+        3 => say_concatenation(cells, first),
+        4 => {
+            say(b" |", first);
+            io::write_all(1, b"|");
+        }
+        _ => {
+            say(b" ", first);
+            say(b"=", second);
+        }
+    }
+}
+
+// The terms above `above`, to n.
+fn say_terms(terms: &[u32], cells: &[u32], chars: &[u32], above: u32, n: u32) {
+    let mut t = above;
+    while t < n {
+        t += 1;
+        say_term(terms, cells, chars, t);
+    }
+}
+
+fn kept(c: Counts, d: State) -> Counts {
+    let mut e = c;
+    e.terms = narrow(d.terms);
+    e.cells = narrow(d.cells);
+    e.chars = narrow(d.chars);
+    e.reasons = d.reasons;
+    e.keys = d.keys;
+    e.names = d.names;
+    e
+}
+
+// The case, the reasons, the new counts and the terms made. Answers what is counted after the call.
+pub fn say_store(
+    case: &[u8],
+    terms: &[u32],
+    cells: &[u32],
+    chars: &[u32],
+    reasons: &[u32],
+    c: Counts,
+    d: State,
+) -> Counts {
+    io::write_all(1, case);
+    io::write_all(1, b", ");
+    say_reasons(reasons, d.reasons);
+    io::write_all(1, b",");
+    say_count(d.terms);
+    say_count(d.cells);
+    say_count(d.chars);
+    say_count(d.keys);
+    say(b" ", d.names);
+    say_terms(terms, cells, chars, c.terms, narrow(d.terms));
+    kept(c, d)
+}
