@@ -74,7 +74,7 @@ pub fn read(l: u8, line: &[u8], n: &mut [u32]) -> usize {
     }
 }
 
-pub fn line_end(text: &[u8], from: usize) -> usize
+pub(crate) fn line_end(text: &[u8], from: usize) -> usize
     requires { ⌜ from ≤ length (now text) ⌝ }
     ensures { λ r. ⌜ (from ≤ r) × (r ≤ length (now (text .entry))) ⌝ }
 {
