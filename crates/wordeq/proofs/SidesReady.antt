@@ -1,20 +1,20 @@
 -- What the tests of two lists require follows from an audited store, and they say the same of the whole store: they read its terms and
 -- characters alone.
-use mathlib.Core.Path.{_≡_, refl, sym, ap, _∙_}
-use mathlib.Core.Bool.{Bool, true, false, _&&_}
-use mathlib.Core.List.{List, [], _∷_, _++_}
-use Prim.Native.Nat.{ℕ, suc, _+_, _≤_}
+use mathlib.Core.Path.{_≡_, refl, ap, _∙_}
+use mathlib.Core.Bool.{Bool, true, _&&_}
+use mathlib.Core.List.{List, [], _∷_}
+use Prim.Native.Nat.{ℕ, suc}
 use native.Mathlib.Omega.{arith}
 use lib.ListN.{length, getD, length-append}
 use lib.Dec.{ltb}
 use Rattle.records.specs.declared.State.{State}
-use Rattle.records.specs.Lists.{if_then_else_, all, joined}
-use Rattle.records.specs.Store.{Store, isString, within, classUp}
+use Rattle.records.specs.Lists.{joined}
+use Rattle.records.specs.Store.{isString, within, classUp}
 use Rattle.records.specs.View.{Lent, storeOf, termAt, termsView}
 use Rattle.records.specs.Audited.{Ready, Closed}
 use Rattle.records.proofs.Lists.{table-length}
 use Rattle.records.proofs.Grown.{string-term}
-use Rattle.wordeq.specs.Wordeq.{same, fixed, lettersOf, letters, unequal, short, isPlain}
+use Rattle.wordeq.specs.Wordeq.{fixed, lettersOf, letters, short}
 use Rattle.wordeq.specs.Sides.{termed, spelled, Texts, Spelled, constantSide, otherSide}
 use Rattle.wordeq.proofs.SidesWalk.{count-same}
 
@@ -57,18 +57,6 @@ module _ (m : Lent) (c : State) where
   pub letters-whole : (l : List ℕ) → letters (spelled (m .terms) (m .chars) c) l ≡ letters (storeOf m c) l
   unfolding letters lettersOf
   letters-whole l = refl
-
-  pub unequal-whole : (l r : List ℕ) → unequal (spelled (m .terms) (m .chars) c) l r ≡ unequal (storeOf m c) l r
-  unfolding unequal fixed letters lettersOf
-  unequal-whole l r = refl
-
-  pub same-whole : (a b : ℕ) → same (spelled (m .terms) (m .chars) c) a b ≡ same (storeOf m c) a b
-  unfolding same
-  same-whole a b = refl
-
-  pub plain-whole : (v : ℕ) → isPlain (spelled (m .terms) (m .chars) c) v ≡ isPlain (storeOf m c) v
-  unfolding isPlain
-  plain-whole v = refl
 
   -- how many letters there are does not depend on the characters
   module _ (x : Texts (m .terms) c) where

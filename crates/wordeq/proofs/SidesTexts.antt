@@ -2,7 +2,7 @@
 use mathlib.Core.Path.{_≡_, refl, sym, ap, _∙_}
 use mathlib.Core.Bool.{Bool, true, false, not, _&&_, _||_}
 use mathlib.Core.List.{List, [], _∷_, _++_}
-use Prim.Native.Nat.{ℕ, zero, suc, _+_, _*_, _-_, _<_, _≤_}
+use Prim.Native.Nat.{ℕ, suc, _+_, _*_, _-_, _<_, _≤_}
 use native.Mathlib.Numerals.{add-one}
 use native.Mathlib.Omega.{arith}
 use lib.ListN.{length, getD, take, drop, length-take, drop-of-length-le}
@@ -10,15 +10,14 @@ use lib.Seq.{drop-cons, take-append-seam}
 use lib.Dec.{eqb}
 use borrow.Author.Tests.{eqb-true, eq-eqb, ne-eqb}
 use Rattle.records.specs.declared.State.{State}
-use Rattle.records.specs.Lists.{if_then_else_, table, sameWord}
-use Rattle.records.specs.Store.{Store, Term, textIn, kind, term, isConstant, isVariable, text, sameClass, root}
-use Rattle.records.specs.View.{span, termAt, termsView, charsView}
+use Rattle.records.specs.Lists.{table, sameWord}
+use Rattle.records.specs.Store.{Term, kind, term, isConstant, text}
+use Rattle.records.specs.View.{span}
 use Rattle.records.specs.Make.{strk}
-use Rattle.records.proofs.Lists.{and-stop, and-next, both-left, both-right, both-true, left-false, right-false, failed, passed, table-at, table-length, table-add, word-differs}
+use Rattle.records.proofs.Lists.{and-stop, and-next, both-left, both-right, both-true, failed, table-at, table-length, table-add, word-differs}
 use Rattle.records.proofs.Views.{text-span}
-use Rattle.records.proofs.Joins.{agree-part}
-use Rattle.wordeq.specs.Wordeq.{same, isPlain, differ}
-use Rattle.wordeq.specs.Sides.{termed, spelled, Texts, Spelled}
+use Rattle.wordeq.specs.Wordeq.{isPlain, differ}
+use Rattle.wordeq.specs.Sides.{termed, spelled, Spelled}
 use Rattle.wordeq.proofs.SidesLetters.{term-there}
 
 -- A CHARACTER THAT DIFFERS
@@ -89,13 +88,6 @@ text-room w h c a k x e q =
     let g = ap (λ (t : Term). t .second) t in
     let r = x .room in omega arith
 
-pub both-stop : (w : List ℕ) (c : State) (a b k : ℕ) → k ≡ kind (termed w c) a → (k ≡ 1 → ⊥) → false ≡ (isConstant (termed w c) a && isConstant (termed w c) b)
-both-stop w c a b k e n = and-stop _ _ (ne-eqb _ 1 (λ z. n (e ∙ z)))
-
-pub both-is : (w : List ℕ) (c : State) (a b k j : ℕ) (r : Bool) → k ≡ kind (termed w c) a → k ≡ 1 → j ≡ kind (termed w c) b → r ≡ eqb j 1
-    → r ≡ (isConstant (termed w c) a && isConstant (termed w c) b)
-both-is w c a b k j r e n f g = and-next _ _ r (eq-eqb _ 1 (sym e ∙ n)) (g ∙ ap (λ (z : ℕ). eqb z 1) f)
-
 module _ (w h : List ℕ) (c : State) (a b : ℕ) (x : Spelled w h c) (y : (isConstant (termed w c) a && isConstant (termed w c) b) ≡ true) where
   one-kind : kind (termed w c) a ≡ 1
   one-kind = eqb-true _ 1 (both-left _ _ y)
@@ -118,24 +110,6 @@ module _ (w h : List ℕ) (c : State) (a b : ℕ) (x : Spelled w h c) (y : (isCo
   pub differ-is : (p n q m : ℕ) (r : Bool) → p ≡ getD w (8 * a + 1) 0 → n ≡ getD w (8 * a + 2) 0 → q ≡ getD w (8 * b + 1) 0 → m ≡ getD w (8 * b + 2) 0
       → r ≡ differ (span h p n) (span h q m) → r ≡ (isConstant (spelled w h c) a && isConstant (spelled w h c) b && differ (text (spelled w h c) a) (text (spelled w h c) b))
   differ-is p n q m r e f g i d = and-next _ _ r y (d ∙ (rw (e, f, g, i, one-text, other-text)))
-
-  pub texts-long : (n m : ℕ) → n ≡ getD w (8 * a + 2) 0 → m ≡ getD w (8 * b + 2) 0 → (n ≡ m → ⊥) → false ≡ sameWord (text (spelled w h c) a) (text (spelled w h c) b)
-  texts-long n m e f d = sym (word-differs _ _ (λ z. d (e ∙ (long ∙ ap length z ∙ sym tall) ∙ sym f)))
-    where
-      long : getD w (8 * a + 2) 0 ≡ length (text (spelled w h c) a)
-      long = sym (ap length one-text ∙ table-length (λ i. getD h (getD w (8 * a + 1) 0 + i) 0) (getD w (8 * a + 2) 0))
-
-      tall : getD w (8 * b + 2) 0 ≡ length (text (spelled w h c) b)
-      tall = sym (ap length other-text ∙ table-length (λ i. getD h (getD w (8 * b + 1) 0 + i) 0) (getD w (8 * b + 2) 0))
-
-  pub texts-is : (n m p q k : ℕ) (r : Bool) → n ≡ getD w (8 * a + 2) 0 → m ≡ getD w (8 * b + 2) 0 → n ≡ m → q ≡ getD w (8 * b + 1) 0 → k ≡ m → p ≡ getD w (8 * a + 1) 0
-      → r ≡ sameWord (span h p (length (take (q + k - q) (drop q h)))) (take (q + k - q) (drop q h)) → r ≡ sameWord (text (spelled w h c) a) (text (spelled w h c) b)
-  texts-is n m p q k r e f d g i j z =
-      let o = other-room in
-      agree-part h p q k r (omega arith) z
-      ∙ (let u : k ≡ getD w (8 * b + 2) 0 = i ∙ f in
-      let v : k ≡ getD w (8 * a + 2) 0 = i ∙ sym d ∙ e in
-      ap (λ (t : List ℕ). sameWord t (span h q k)) ((rw (j, v)) ∙ sym one-text) ∙ ap (sameWord (text (spelled w h c) a)) ((rw (g, u)) ∙ sym other-text))
 
 pub differ-not : (w h : List ℕ) (c : State) (a b : ℕ) (x : Bool) → x ≡ (isConstant (termed w c) a && isConstant (termed w c) b) → not x ≡ true
     → false ≡ (isConstant (spelled w h c) a && isConstant (spelled w h c) b && differ (text (spelled w h c) a) (text (spelled w h c) b))
@@ -176,19 +150,3 @@ module _ (w h : List ℕ) (c : State) (v k : ℕ) (x : Spelled w h c) (e : k ≡
             ∙ ap (take 5) (table-add at 5 (getD w (8 * v + 2) 0 - 5))
             ∙ ap (λ (z : ℕ). take z (table at 5 ++ table (λ i. at (5 + i)) (getD w (8 * v + 2) 0 - 5))) (sym (table-length at 5))
             ∙ take-append-seam (table at 5) (table (λ i. at (5 + i)) (getD w (8 * v + 2) 0 - 5))
-
--- SAME
-
-module _ (s : Store) (a b : ℕ) where
-  pub same-number : a ≡ b → true ≡ same s a b
-  unfolding same
-  same-number e = rw (eq-eqb a b e)
-
-  module _ (d : a ≡ b → ⊥) (x : Bool) (e : x ≡ (isConstant s a && isConstant s b)) where
-    pub same-texts : x ≡ true → (r : Bool) → r ≡ sameWord (text s a) (text s b) → r ≡ same s a b
-    unfolding same
-    same-texts t r q = rw (ne-eqb a b d, sym e ∙ t) q
-
-    pub same-class : x ≡ false → (p q : ℕ) (r : Bool) → p ≡ root s a → q ≡ root s b → r ≡ eqb p q → r ≡ same s a b
-    unfolding same
-    same-class t p q r f g i = rw (ne-eqb a b d, sym e ∙ t) (i ∙ ap (λ (z : ℕ). eqb z q) f ∙ ap (eqb (root s a)) g)

@@ -2,7 +2,7 @@
 ghost use mathlib.Core.Path.{_≡_};
 ghost use mathlib.Core.Bool.{true};
 ghost use mathlib.Core.List.{_∷_};
-ghost use Prim.Native.Nat.{ℕ, _≤_};
+ghost use Prim.Native.Nat.{_≤_};
 ghost use lib.ListN.{length, drop};
 ghost use lib.IntN.{negℤ};
 ghost use Rattle.records.specs.Store.{text};
@@ -18,6 +18,7 @@ ghost use Rattle.wordeq.specs.Heads.{HeadsApart, HeadPair, atomsOf, spli
 use crate::StepResult;
 use crate::sides;
 use crate::splits;
+use crate::stripping;
 use normalize::Form;
 use records::Added;
 use records::State;
@@ -140,7 +141,7 @@ pub(crate) fn split_unchecked(
     if sides::constants_differ(terms, chars, c, a, b) {
         return StepResult::Conflict(c);
     }
-    if sides::both_constant(terms, c, a, b) {
+    if stripping::both_constant(terms, c.terms, a, b) {
         return StepResult::Done(c);
     }
     if added {

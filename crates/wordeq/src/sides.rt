@@ -2,17 +2,16 @@
 ghost use mathlib.Core.Path.{_≡_};
 ghost use mathlib.Core.Bool.{true, _&&_};
 ghost use mathlib.Core.List.{[], _∷_};
-ghost use Prim.Native.Nat.{ℕ, _+_, _<_, _≤_};
+ghost use Prim.Native.Nat.{_+_, _<_, _≤_};
 ghost use lib.ListN.{length, take};
 ghost use Rattle.records.specs.Lists.{sameWord};
-ghost use Rattle.records.specs.Store.{isConstant, text, within, classUp};
-ghost use Rattle.records.specs.View.{charLimit, span, termsView};
-ghost use Rattle.records.specs.Audited.{Closed};
+ghost use Rattle.records.specs.Store.{isConstant, text};
+ghost use Rattle.records.specs.View.{charLimit, span};
 ghost use Rattle.records.specs.Rules.{listLimit};
-ghost use Rattle.wordeq.specs.Wordeq.{same, fixed, lettersOf, letters, unequal, short, isPlain, filled, differ};
+ghost use Rattle.wordeq.specs.Wordeq.{fixed, lettersOf, letters, unequal, short, isPlain, filled, differ};
 ghost use Rattle.wordeq.specs.Sides.{termed, spelled, Texts, Spelled, constantSide, otherSide, rest, next, There, Settled, headsAgree, fillCount, fillStart, fillSource, Ended, Tiling};
+use crate::stripping;
 use records::State;
-use records::classes::root_unchecked;
 use records::fields;
 use records::rules;
 use records::text::text_is;
@@ -182,7 +181,7 @@ pub(crate) fn constants_differ(terms: &[u32], chars: &[u32], c: State, a: u32, b
       let s = spelled (now (terms .entry)) (now (chars .entry)) c
       ⌜ r ≡ (isConstant s a && isConstant s b && differ (text s a) (text s b)) ⌝ }
 {
-    if !both_constant(terms, c, a, b) {
+    if !stripping::both_constant(terms, c.terms, a, b) {
         return false;
     }
     let p = fields::wide(fields::first(terms, a));
@@ -205,50 +204,6 @@ pub(crate) fn is_plain(terms: &[u32], chars: &[u32], c: State, v: u32) -> bool
     }
     let strk: [u32; 5] = [33, 115, 116, 114, 107];
     !text_is(chars, fields::first(terms, v), &strk)
-}
-
-pub(crate) fn both_constant(terms: &[u32], c: State, a: u32, b: u32) -> bool
-    ensures { λ r. do
-      let s = termed (now (terms .entry)) c
-      ⌜ r ≡ (isConstant s a && isConstant s b) ⌝ }
-{
-    if rules::kind_of(terms, c.terms, a) != 1 {
-        return false;
-    }
-    rules::kind_of(terms, c.terms, b) == 1
-}
-
-// Two constants of equal characters.
-fn same_text(terms: &[u32], chars: &[u32], c: State, a: u32, b: u32) -> bool
-    requires { ⌜ Spelled (now terms) (now chars) c × ((isConstant (termed (now terms) c) a && isConstant (termed (now terms) c) b) ≡ true) ⌝ }
-    ensures { λ r. do
-      let s = spelled (now (terms .entry)) (now (chars .entry)) c
-      ⌜ r ≡ sameWord (text s a) (text s b) ⌝ }
-{
-    let n = fields::second(terms, a);
-    let m = fields::second(terms, b);
-    if n != m {
-        return false;
-    }
-    let q = fields::wide(fields::first(terms, b));
-    let k = fields::wide(m);
-    text_is(chars, fields::first(terms, a), &chars[q..q + k])
-}
-
-// The same number; for two constants, equal characters; else the same class.
-pub(crate) fn same(terms: &[u32], chars: &[u32], c: State, a: u32, b: u32) -> bool
-    requires { ⌜ Spelled (now terms) (now chars) c × (within (c .terms) a ≡ true) × (within (c .terms) b ≡ true) × Closed (classUp (termsView (now terms) (c .terms))) (c .terms) ⌝ }
-    ensures { λ r. ⌜ r ≡ same (spelled (now (terms .entry)) (now (chars .entry)) c) a b ⌝ }
-{
-    if a == b {
-        return true;
-    }
-    if both_constant(terms, c, a, b) {
-        return same_text(terms, chars, c, a, b);
-    }
-    let x = root_unchecked(terms, c.terms, a);
-    let y = root_unchecked(terms, c.terms, b);
-    x == y
 }
 
 // THE SIDE OVER THE WORD

@@ -10,7 +10,7 @@ use Rattle.wordeq.proofs.sides.constants_differ.Lts as lts
 use Rattle.records.proofs.fields.first.Reads as first-reads
 use Rattle.records.proofs.fields.second.Reads as second-reads
 use Rattle.records.proofs.fields.wide.Reads as wide-reads
-use Rattle.wordeq.proofs.sides.both_constant.Reads as both-constant-reads
+use Rattle.wordeq.proofs.stripping.both_constant.Reads as both-constant-reads
 use Rattle.wordeq.proofs.sides.spans_differ.Reads as spans-differ-reads
 
 -- src/sides.rt:185:9
