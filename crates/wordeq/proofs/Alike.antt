@@ -1,6 +1,6 @@
 -- Two string terms compared: the ways of `same`.
-use mathlib.Core.Path.{_≡_, refl, sym, ap, _∙_}
-use mathlib.Core.Bool.{Bool, true, false, not, _&&_, _||_}
+use mathlib.Core.Path.{_≡_, sym, ap, _∙_}
+use mathlib.Core.Bool.{Bool, true, false, _&&_}
 use mathlib.Core.List.{List, []}
 use Prim.Native.Nat.{ℕ, suc, _+_, _-_, _*_, _≤_}
 use native.Mathlib.Omega.{arith}
@@ -8,9 +8,9 @@ use lib.ListN.{length, take, drop, getD}
 use lib.Dec.{eqb}
 use borrow.Author.Tests.{eqb-true, eq-eqb, ne-eqb}
 use Rattle.records.specs.declared.State.{State}
-use Rattle.records.specs.Lists.{if_then_else_, sameWord}
-use Rattle.records.specs.Store.{Store, within, term, kind, classUp, rootIn, isConstant, isString, textIn, text, sameClass}
-use Rattle.records.specs.View.{lent, termAt, termsView, charsView, span}
+use Rattle.records.specs.Lists.{sameWord}
+use Rattle.records.specs.Store.{Store, within, term, kind, classUp, rootIn, isConstant, isString, text, sameClass}
+use Rattle.records.specs.View.{lent, termAt, termsView, span}
 use Rattle.records.specs.Audited.{Closed}
 use Rattle.records.proofs.Lists.{both-left, both-right, left-false, table-length, word-differs}
 use Rattle.records.proofs.Views.{first-at, second-at, text-span}
@@ -18,7 +18,7 @@ use Rattle.records.proofs.Grown.{kind-term, string-term}
 use Rattle.records.proofs.Climbs.{ready-roots}
 use Rattle.records.proofs.Joins.{agree-part}
 use Rattle.wordeq.specs.Wordeq.{same}
-use Rattle.wordeq.specs.Stripping.{readIn, Readable, Pair}
+use Rattle.wordeq.specs.Stripping.{readIn, Readable}
 
 -- TWO CONSTANTS
 

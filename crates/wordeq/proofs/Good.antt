@@ -4,7 +4,7 @@ use mathlib.Core.Bool.{Bool, false}
 use mathlib.Core.List.{List, [], _++_, append-assoc, append-nil}
 use mathlib.Core.Option.{Option, none, some}
 use Prim.Native.Nat.{ℕ, _≤_}
-use Rattle.records.specs.Lists.{joined, and}
+use Rattle.records.specs.Lists.{joined}
 use Rattle.records.specs.Store.{Store, count}
 use Rattle.records.specs.Meaning.{Words}
 use Rattle.records.specs.Audited.{Audited}

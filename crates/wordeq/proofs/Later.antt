@@ -1,8 +1,8 @@
 -- Departure B: the loop that explains each variable of a side with one.
 use mathlib.Core.Path.{_≡_, refl, sym, ap, subst, _∙_}
-use mathlib.Core.Bool.{Bool, true, false, not, _&&_}
+use mathlib.Core.Bool.{Bool, true, false, not}
 use mathlib.Core.List.{List, [], _∷_}
-use Prim.Native.Nat.{ℕ, zero, suc, _+_, _-_, _≤_, _<_}
+use Prim.Native.Nat.{ℕ, _+_, _-_, _≤_, _<_}
 use native.Mathlib.Omega.{arith}
 use lib.ListN.{length, drop, getD, length-drop}
 use lib.Dec.{eqb}
@@ -11,7 +11,7 @@ use Rattle.records.specs.declared.State.{State}
 use Rattle.records.specs.declared.Added.{Added as Answered}
 use Rattle.records.specs.declared.Added.the-variants as adding
 use Rattle.records.specs.Lists.{if_then_else_, all, keep, Every, none-left, and}
-use Rattle.records.specs.Store.{Store, Term, Out, ok, stop, andThen, give, termIn, isConstant, isString, root, sameClass}
+use Rattle.records.specs.Store.{Store, Term, Out, ok, stop, andThen, termIn, isConstant, isString, root, sameClass}
 use Rattle.records.specs.View.{Lent, lent, storeOf, termsView}
 use Rattle.records.specs.Audited.{Audited, Ready}
 use Rattle.records.specs.Calls.{Working, added}

@@ -2,16 +2,15 @@
 use mathlib.Core.Path.{_≡_, refl, sym, ap, _∙_}
 use mathlib.Core.Bool.{Bool, true, false, not, _&&_}
 use mathlib.Core.List.{List, [], _∷_}
-use Prim.Native.Nat.{ℕ, zero, suc, _+_, _-_, _≤_, _<_}
+use Prim.Native.Nat.{ℕ, suc, _+_, _-_, _≤_, _<_}
 use native.Mathlib.Omega.{arith}
 use lib.ListN.{length, drop, getD, length-drop}
 use borrow.Author.Tests.{not-true, not-false}
-use Rattle.records.specs.declared.State.{State}
 use Rattle.records.specs.Lists.{all}
 use Rattle.records.specs.Store.{Store, isString}
 use Rattle.records.proofs.Lists.{all-every, every-at}
 use Rattle.wordeq.specs.Wordeq.{same, nfEqual}
-use Rattle.wordeq.specs.Stripping.{readIn, Readable, Pair}
+use Rattle.wordeq.specs.Stripping.{Pair}
 use Rattle.wordeq.proofs.Strips.{drop-head}
 
 pub strings-pair : (s : Store) (l r : List ℕ) → all (isString s) l ≡ true → all (isString s) r ≡ true → (i : ℕ) → i < length l → i < length r → Pair s (getD l i 0) (getD r i 0)

@@ -13,7 +13,7 @@ use Rattle.records.specs.declared.State.{State}
 use Rattle.records.specs.declared.Added.{Added as Answered}
 use Rattle.records.specs.declared.Added.the-variants as adding
 use Rattle.records.specs.Lists.{if_then_else_, all}
-use Rattle.records.specs.Store.{Store, ok, stop, andThen, termIn, within, classUp, isConstant, isString}
+use Rattle.records.specs.Store.{Store, ok, andThen, termIn, within, classUp, isConstant, isString}
 use Rattle.records.specs.View.{Lent, lent, storeOf, termsView}
 use Rattle.records.specs.Audited.{Audited, Ready, Closed}
 use Rattle.records.specs.Calls.{Working, added}
@@ -29,7 +29,8 @@ use Rattle.wordeq.specs.Results.{BothLists, tried, Tries}
 use Rattle.wordeq.specs.Sides.{termed, Texts}
 use Rattle.wordeq.specs.Occurring.{atPlace}
 use Rattle.wordeq.proofs.SidesReady.{ready-spelled, ready-classes, string-within}
-use Rattle.wordeq.proofs.Sequence.{Higher, grows-give, agree-below}
+use Rattle.normalize.proofs.Carried.{Higher, agree-below}
+use Rattle.wordeq.proofs.Sequence.{grows-give}
 use Rattle.wordeq.proofs.Elsewhere.{place-in, place-past, occurrence-whole, occurrence-class}
 
 unless-lone : (l o : List ℕ) (s : Store) → (length l ≡ 1 → ⊥) → occurs l o s ≡ ok s none

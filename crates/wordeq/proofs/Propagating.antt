@@ -1,14 +1,14 @@
 -- The ways of step 4 that make a term.
-use mathlib.Core.Path.{_≡_, refl, sym, ap, _∙_}
+use mathlib.Core.Path.{_≡_, ap, _∙_}
 use mathlib.Core.Bool.{Bool, true, false, _&&_}
 use mathlib.Core.List.{List, [], _∷_}
-use mathlib.Core.Option.{Option, some}
+use mathlib.Core.Option.{some}
 use Prim.Native.Nat.{ℕ}
 use Rattle.records.specs.declared.State.{State}
 use Rattle.records.specs.declared.Made.{Made}
 use Rattle.records.specs.declared.Made.the-variants.{Term, Refused}
 use Rattle.records.specs.Lists.{if_then_else_, all, joined}
-use Rattle.records.specs.Store.{Store, Out, ok, stop, Work, andThen, isConstant, isVariable, text}
+use Rattle.records.specs.Store.{Store, Out, ok, stop, andThen, isConstant, isVariable, text}
 use Rattle.records.specs.View.{Lent, storeOf}
 use Rattle.records.specs.Make.{makeConstant}
 use Rattle.records.specs.Calls.{Working, made}

@@ -1,39 +1,27 @@
 -- Working functions in sequence: the second goes on from the slices and counts that the first left, and what was counted at entry is kept.
-use mathlib.Core.Path.{_≡_, refl, sym, ap, subst, _∙_}
+use mathlib.Core.Path.{_≡_, sym, ap, subst, _∙_}
 use mathlib.Core.Bool.{Bool, true, false}
 use mathlib.Core.List.{List, [], _∷_, _++_}
 use mathlib.Core.Option.{Option, none, some}
-use Prim.Native.Nat.{ℕ, suc, _+_, _≤_, _<_}
+use Prim.Native.Nat.{ℕ, suc, _+_}
 use native.Mathlib.Omega.{arith}
-use lib.ListN.{length, getD, length-append}
+use lib.ListN.{length, length-append}
 use lib.Dec.{ltb, leb}
 use Rattle.records.specs.declared.State.{State}
 use Rattle.records.specs.declared.Made.{Made}
 use Rattle.records.specs.declared.Made.the-variants.{Term, Refused}
-use Rattle.records.specs.declared.Added.{Added}
 use Rattle.records.specs.declared.Added.the-variants as adding
-use Rattle.records.specs.Lists.{if_then_else_, table}
-use Rattle.records.specs.Store.{Term as TermOf, Cell, Room, Store, Out, ok, stop, Work, andThen, _>>=_, _>>_, give, refuse, put, count}
-use Rattle.records.specs.View.{Lent, storeOf, termAt, cellAt, pairAt}
+use Rattle.records.specs.Lists.{if_then_else_}
+use Rattle.records.specs.Store.{Store, Out, ok, stop, Work, andThen, _>>=_, _>>_, give, refuse, put, count}
+use Rattle.records.specs.View.{Lent, storeOf}
 use Rattle.records.specs.Rules.{named}
-use Rattle.records.specs.Make.{withKeys, withChars, withCells, withTerms, withNames, own, ordered, addKey, addText, addChain, chainFrom, addTerm, lookup, orMake, lowest, constantOf, concatOf, lengthOf, equationOf, makeConstant, makeVariable, makeConcat, makeLength, makeEquation, takeName}
-use Rattle.records.specs.Audited.{Audited, Ready}
-use Rattle.records.specs.Calls.{Working, made, added}
-use Rattle.records.proofs.Lists.{table-same, table-length}
-use Rattle.records.proofs.Views.{table-is}
+use Rattle.records.specs.Make.{withKeys, withChars, withCells, withTerms, own, ordered, addKey, addText, addChain, chainFrom, addTerm, lookup, orMake, lowest, constantOf, concatOf, lengthOf, equationOf, makeConstant, makeVariable, makeConcat, makeLength, makeEquation, takeName}
+use Rattle.records.specs.Calls.{Working, made}
 use Rattle.records.proofs.Works.{stop-not, via}
-use Rattle.records.proofs.Passed.{ready-after}
 use Rattle.records.proofs.Kept.{name-taken}
+use Rattle.normalize.proofs.Carried.{Higher, agree-below}
 
--- COUNTS
-
--- no count is lower
-pub record Higher (s s′ : Store) : Type 0 where
-  pub terms : count s ≤ count s′
-  pub cells : length (s .cells) ≤ length (s′ .cells)
-  pub chars : length (s .chars) ≤ length (s′ .chars)
-  pub reasons : length (s .reasons) ≤ length (s′ .reasons)
-  pub keys : length (s .keys) ≤ length (s′ .keys)
+-- COUNTS, OF WHICH NONE IS LOWER
 
 pub higher-none : (s : Store) → Higher s s
 higher-none s = record { terms = omega arith; cells = omega arith; chars = omega arith; reasons = omega arith; keys = omega arith }
@@ -136,35 +124,6 @@ grows-name = record {
 }
 
 -- SLICES
-
-table-lower : {A : Type 0} (f g : ℕ → A) (k n : ℕ) → k ≤ n → table f n ≡ table g n → table f k ≡ table g k
-table-lower f g k n h e = table-same f g k (λ i l. table-is f g n i e (omega arith))
-
-same-store : {t t′ : List TermOf} {e e′ : List Cell} {h h′ : List ℕ} {r r′ k k′ : List (ℕ × ℕ)} {n : ℕ} {o o′ : Room} → t ≡ t′ → e ≡ e′ → h ≡ h′ → r ≡ r′ → k ≡ k′ → o ≡ o′
-    → _≡_ {A = Store} (record { terms = t; cells = e; chars = h; reasons = r; keys = k; names = n; room = o }) (record { terms = t′; cells = e′; chars = h′; reasons = r′; keys = k′; names = n; room = o′ })
-same-store p q i j l z = cc
-
--- slices that agree up to some counts agree up to lower ones
-pub agree-below : (m₀ m m′ : Lent) (c d : State) → Higher (storeOf m₀ c) (storeOf m d) → storeOf m′ d ≡ storeOf m d → storeOf m′ c ≡ storeOf m c
-agree-below m₀ m m′ c d x q =
-    let t₁ = table-length (λ i. termAt (m₀ .terms) (suc i)) (c .terms) in
-    let t₂ = table-length (λ i. termAt (m .terms) (suc i)) (d .terms) in
-    let e₁ = table-length (λ i. cellAt (m₀ .cells) (suc i)) (c .cells) in
-    let e₂ = table-length (λ i. cellAt (m .cells) (suc i)) (d .cells) in
-    let h₁ = table-length (λ i. getD (m₀ .chars) i 0) (c .chars) in
-    let h₂ = table-length (λ i. getD (m .chars) i 0) (d .chars) in
-    let r₁ = table-length (pairAt (m₀ .reasons)) (c .reasons) in
-    let r₂ = table-length (pairAt (m .reasons)) (d .reasons) in
-    let k₁ = table-length (pairAt (m₀ .keys)) (c .keys) in
-    let k₂ = table-length (pairAt (m .keys)) (d .keys) in
-    let a = x .terms in let b = x .cells in let g = x .chars in let i = x .reasons in let j = x .keys in
-    same-store
-    (table-lower (λ i. termAt (m′ .terms) (suc i)) (λ i. termAt (m .terms) (suc i)) _ _ (omega arith) (ap (λ (s : Store). s .terms) q))
-    (table-lower (λ i. cellAt (m′ .cells) (suc i)) (λ i. cellAt (m .cells) (suc i)) _ _ (omega arith) (ap (λ (s : Store). s .cells) q))
-    (table-lower (λ i. getD (m′ .chars) i 0) (λ i. getD (m .chars) i 0) _ _ (omega arith) (ap (λ (s : Store). s .chars) q))
-    (table-lower (pairAt (m′ .reasons)) (pairAt (m .reasons)) _ _ (omega arith) (ap (λ (s : Store). s .reasons) q))
-    (table-lower (pairAt (m′ .keys)) (pairAt (m .keys)) _ _ (omega arith) (ap (λ (s : Store). s .keys) q))
-    (ap (λ (s : Store). s .room) q)
 
 -- SEQUENCE
 

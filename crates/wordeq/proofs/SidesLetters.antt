@@ -1,23 +1,23 @@
 -- The constants of a side, and their characters counted.
-use mathlib.Core.Path.{_≡_, refl, sym, ap, _∙_}
+use mathlib.Core.Path.{_≡_, sym, ap, _∙_}
 use mathlib.Core.Bool.{Bool, true, false, not, _&&_}
-use mathlib.Core.List.{List, [], _∷_, _++_}
-use Prim.Native.Nat.{ℕ, zero, suc, _+_, _*_, _-_, _<_, _≤_}
+use mathlib.Core.List.{List, [], _++_}
+use Prim.Native.Nat.{ℕ, suc, _+_, _*_, _-_, _<_, _≤_}
 use native.Mathlib.Numerals.{add-one}
 use native.Mathlib.Omega.{arith}
 use lib.ListN.{length, getD, take, drop, length-append, length-take, length-drop, drop-of-length-le}
 use lib.Seq.{drop-cons, take-all}
-use lib.Dec.{eqb, ltb}
-use borrow.Author.Tests.{eq-eqb, ne-eqb, eqb-true, lt-ltb, le-ltb, not-true, not-false}
+use lib.Dec.{ltb}
+use borrow.Author.Tests.{eq-eqb, ne-eqb}
 use Rattle.records.specs.declared.State.{State}
-use Rattle.records.specs.Lists.{if_then_else_, all, joined, table}
+use Rattle.records.specs.Lists.{if_then_else_, all, joined}
 use Rattle.records.specs.Store.{Store, Term, textIn, kind, term, isConstant, text}
 use Rattle.records.specs.View.{charLimit, termAt}
 use Rattle.records.proofs.Lists.{and-stop, and-next, left-false, table-length, failed, passed, within-low, within-high}
 use Rattle.records.proofs.Grown.{kind-term}
 use Rattle.records.proofs.Views.{term-is}
 use Rattle.wordeq.specs.Wordeq.{fixed, lettersOf, letters, short}
-use Rattle.wordeq.specs.Sides.{termed, spelled, Texts, Spelled, constantSide, otherSide}
+use Rattle.wordeq.specs.Sides.{termed, spelled, Texts, constantSide, otherSide}
 
 -- ALL CONSTANTS
 

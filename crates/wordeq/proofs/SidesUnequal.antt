@@ -1,17 +1,14 @@
 -- Two constant sides compared: the walk of one over the other.
 use mathlib.Core.Path.{_≡_, refl, sym, ap, _∙_}
-use mathlib.Core.Bool.{Bool, true, false, not, _&&_}
-use mathlib.Core.List.{List, [], _∷_, _++_}
-use Prim.Native.Nat.{ℕ, _≤_}
-use native.Mathlib.Omega.{arith}
-use lib.ListN.{length, take, drop}
-use borrow.Author.Tests.{not-true, not-false}
+use mathlib.Core.Bool.{Bool, true, false, not}
+use mathlib.Core.List.{List, [], _∷_}
+use Prim.Native.Nat.{ℕ}
 use Rattle.records.specs.declared.State.{State}
-use Rattle.records.specs.Lists.{if_then_else_, all, joined, sameWord}
-use Rattle.records.specs.Store.{Store, isConstant, text}
-use Rattle.records.proofs.Lists.{both-left, both-right, both-true, left-false, right-false, failed, passed, word-is, word-same, same-test}
+use Rattle.records.specs.Lists.{all, joined, sameWord}
+use Rattle.records.specs.Store.{Store, isConstant}
+use Rattle.records.proofs.Lists.{both-left, both-right, left-false, right-false, failed, passed, word-is, word-same, same-test}
 use Rattle.wordeq.specs.Wordeq.{fixed, lettersOf, letters, unequal, filled}
-use Rattle.wordeq.specs.Sides.{termed, spelled, Spelled, rest, Tiling}
+use Rattle.wordeq.specs.Sides.{termed, spelled}
 
 -- a side of constants has no place to fill
 pub filled-fixed : (s : Store) (u l : List ℕ) → fixed s l ≡ true → filled s u l ≡ letters s l

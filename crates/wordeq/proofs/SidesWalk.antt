@@ -1,17 +1,16 @@
 -- A place in the constant characters of a side: moved on, read, and compared with another.
 use mathlib.Core.Path.{_≡_, refl, sym, ap, _∙_}
-use mathlib.Core.Bool.{Bool, true, false}
+use mathlib.Core.Bool.{Bool, false}
 use mathlib.Core.List.{List, [], _∷_, _++_}
-use Prim.Native.Nat.{ℕ, zero, suc, _+_, _*_, _-_, _<_, _≤_}
+use Prim.Native.Nat.{ℕ, suc, _+_, _*_, _-_, _<_, _≤_}
 use native.Mathlib.Numerals.{add-one}
 use native.Mathlib.Omega.{arith}
-use lib.ListN.{length, getD, take, drop, length-append, drop-of-length-le, List·getD-append}
+use lib.ListN.{length, getD, drop, length-append, drop-of-length-le, List·getD-append}
 use lib.Seq.{drop-cons, drop-append-add}
 use lib.Dec.{eqb}
 use borrow.Author.Tests.{eqb-true, eq-eqb}
 use Rattle.records.specs.declared.State.{State}
-use Rattle.records.specs.Lists.{if_then_else_}
-use Rattle.records.specs.Store.{Store, Term, kind, term, isConstant, text}
+use Rattle.records.specs.Store.{Store, Term, kind, term, isConstant}
 use Rattle.records.specs.View.{charLimit, span, termAt}
 use Rattle.records.proofs.Lists.{decide, table-at, clash}
 use Rattle.records.proofs.Views.{text-span}

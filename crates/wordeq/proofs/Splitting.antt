@@ -1,31 +1,30 @@
 -- The ways of making step 7's atoms: each make goes on from where the one before it ended.
-use mathlib.Core.Path.{_≡_, refl, sym, ap, subst, _∙_}
-use mathlib.Core.Bool.{Bool, true, false, _&&_}
+use mathlib.Core.Path.{_≡_, refl, sym, ap, _∙_}
+use mathlib.Core.Bool.{Bool, true}
 use mathlib.Core.List.{List, [], _∷_}
-use mathlib.Core.Option.{Option, some}
+use mathlib.Core.Option.{some}
 use Prim.Native.Nat.{ℕ, _≤_}
 use native.Mathlib.Omega.{arith}
 use lib.ListN.{length, take, set}
 use lib.IntN.{ℤ, negℤ}
-use lib.Dec.{eqb}
 use borrow.Author.Tests.{eq-eqb, ne-eqb}
 use Rattle.records.specs.declared.State.{State}
 use Rattle.records.specs.declared.Made.{Made}
 use Rattle.records.specs.declared.Made.the-variants.{Term, Refused}
 use Rattle.records.specs.declared.Named.{Named}
 use Rattle.records.specs.Lists.{if_then_else_, all, none-left, and}
-use Rattle.records.specs.Store.{Store, Out, ok, stop, Work, andThen, _>>=_, give, within, kind, isString}
-use Rattle.records.specs.View.{Lent, lent, storeOf}
+use Rattle.records.specs.Store.{Store, Out, ok, stop, Work, andThen, _>>=_, give, within, isString}
+use Rattle.records.specs.View.{Lent, storeOf}
 use Rattle.records.specs.Rules.{isChar, isEquatable}
 use Rattle.records.specs.Make.{makeConstant, makeVariable, makeConcat, makeLength, makeEquation, takeName}
 use Rattle.records.specs.Audited.{Audited, Ready}
-use Rattle.records.specs.Calls.{Working, made, taken, Taken}
+use Rattle.records.specs.Calls.{Working, made, Taken}
 use Rattle.records.proofs.Lists.{both-true, every-all}
 use Rattle.records.proofs.Works.{via}
 use Rattle.records.proofs.Grown.{Grown, grown-string, grown-kind, grown-then}
 use Rattle.records.proofs.Kept.{MadeIn, made-string, constant-kept, concat-kept, length-kept, equation-kept, name-audited, fresh-kept}
 use Rattle.records.proofs.Passed.{ready-after}
-use Rattle.wordeq.specs.Wordeq.{Answer, split, Tried, answer, freshVariable, splitCharacter, splitHeads}
+use Rattle.wordeq.specs.Wordeq.{split, Tried, answer, freshVariable, splitCharacter, splitHeads}
 use Rattle.normalize.specs.declared.Form.{Form}
 use Rattle.normalize.specs.declared.Form.the-variants as form
 use Rattle.wordeq.specs.Splits.{listed, prefixAtom, emptyAtom, characterAtom, lengthsAtom, characterAtoms, prefixAtoms, headAtoms}

@@ -32,7 +32,7 @@ use Rattle.wordeq.proofs.LackingTries.{constants-need, constants-confli
 use Rattle.wordeq.proofs.Strip.{strip-ends}
 use Rattle.wordeq.proofs.Strip as strip
 use Rattle.wordeq.proofs.SplitHeads.{heads-apart}
-use Rattle.wordeq.proofs.Sequence.{Higher, agree-below}
+use Rattle.normalize.proofs.Carried.{Higher, agree-below}
 use Rattle.wordeq.proofs.Trying.{Lined, Last, occursBoth, conflicts, propagates, tiles, grouped, occurs-goes, conflicts-goes, propagates-goes, after-groups, tiles-goes, strings-of, done-is, else-works, else-tries, else-last}
 
 -- STEPS 2 AND 3

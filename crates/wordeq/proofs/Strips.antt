@@ -1,19 +1,19 @@
 -- The loops of step 1: matches explained one after the other, heads and tails.
 use mathlib.Core.Path.{_≡_, refl, sym, ap, subst, _∙_}
-use mathlib.Core.Bool.{Bool, true, false, not, _&&_, _||_}
-use mathlib.Core.List.{List, [], _∷_, _++_, reverse, reverse-append, reverse-reverse}
-use Prim.Native.Nat.{ℕ, zero, suc, _+_, _-_, _≤_, _<_, min}
+use mathlib.Core.Bool.{Bool, true, false, not, _&&_}
+use mathlib.Core.List.{List, [], _∷_, reverse, reverse-append, reverse-reverse}
+use Prim.Native.Nat.{ℕ, suc, _+_, _-_, _≤_, _<_, min}
 use native.Mathlib.Numerals.{add-one}
 use native.Mathlib.Omega.{arith}
 use lib.ListN.{length, take, drop, getD, length-append, length-take, length-drop, length-reverse}
 use lib.Seq.{take-suc, take-all, drop-cons, getD-drop}
-use lib.Dec.{eqb, leb}
+use lib.Dec.{leb}
 use borrow.Author.Tests.{not-true, not-false, eq-eqb, ne-eqb, leb-true, leb-false}
 use Rattle.records.specs.declared.State.{State}
 use Rattle.records.specs.declared.Added.{Added as Answered}
 use Rattle.records.specs.declared.Added.the-variants as adding
-use Rattle.records.specs.Lists.{if_then_else_, all}
-use Rattle.records.specs.Store.{Store, Room, Term, Out, ok, stop, andThen, give, within, termIn, isConstant, isString, text, sameClass}
+use Rattle.records.specs.Lists.{all}
+use Rattle.records.specs.Store.{Store, Room, Term, Out, ok, stop, andThen, within, termIn, isConstant, isString}
 use Rattle.records.specs.View.{Lent, lent, storeOf, pairAt, roomOf, termsView, cellsView, charsView, pairsView}
 use Rattle.records.specs.Audited.{Ready}
 use Rattle.records.specs.Calls.{Working, added}

@@ -35,7 +35,8 @@ use Rattle.wordeq.proofs.Good.{Good, passes, Later, Step, step-else, st
 use Rattle.wordeq.proofs.Occurs.{occurs-step}
 use Rattle.wordeq.proofs.Constants.{constants-step, alias-step, empties-step, assigns-step}
 use Rattle.wordeq.proofs.Tile.{tile-step}
-use Rattle.wordeq.proofs.Sequence.{Higher, higher-none, higher-then, grows-constant, agree-below}
+use Rattle.normalize.proofs.Carried.{Higher, agree-below}
+use Rattle.wordeq.proofs.Sequence.{higher-none, higher-then, grows-constant}
 
 -- ORDER
 

@@ -1,5 +1,4 @@
 -- Step 2 place by place: what its working functions answer.
-use mathlib.Core.Bool.{true, false}
 use mathlib.Core.List.{List}
 use mathlib.Core.Option.{Option, none, some}
 use Prim.Native.Nat.{ℕ}

@@ -1,10 +1,10 @@
 -- What the tests of two lists read: the terms and characters alone, and a place within a side's constant characters.
 use mathlib.Core.Path.{_≡_}
-use mathlib.Core.Bool.{Bool, true, false, _&&_}
+use mathlib.Core.Bool.{Bool, false}
 use mathlib.Core.List.{List, [], _∷_}
 use Prim.Native.Nat.{ℕ, _+_, _≤_, _<_}
-use lib.ListN.{length, take, drop, getD}
-use lib.Dec.{eqb, leb}
+use lib.ListN.{length, drop, getD}
+use lib.Dec.{eqb}
 use Rattle.records.specs.declared.State.{State}
 use Rattle.records.specs.Lists.{if_then_else_, sameWord}
 use Rattle.records.specs.Store.{Store, kind, term, isConstant}

@@ -6,7 +6,7 @@ use Prim.Native.Nat.{ℕ, suc, _≤_, _<_}
 use lib.ListN.{length, take, getD}
 use Rattle.records.specs.Lists.{all}
 use Rattle.records.specs.Store.{Store, isConstant}
-use Rattle.wordeq.specs.Wordeq.{same, fixed, letters, fits, variables}
+use Rattle.wordeq.specs.Wordeq.{same, fixed, letters, fits}
 
 -- the place of the first variable of a side; where there is none, the side's end
 pub record FirstVariable (s : Store) (r : List ℕ) (i : ℕ) : Type 0 where

@@ -2,12 +2,12 @@
 use mathlib.Core.Bool.{Bool, true, false, not, _&&_, _||_}
 use mathlib.Core.List.{List, [], _∷_, _++_, reverse}
 use mathlib.Core.Option.{Option, none, some}
-use Prim.Native.Nat.{ℕ, zero, suc, _+_, _-_, _*_, _/_}
+use Prim.Native.Nat.{ℕ, suc, _+_, _-_, _*_, _/_}
 use lib.ListN.{length, take, drop}
 use lib.IntN.{ℤ, pos, negsuc, negℤ}
-use lib.Dec.{eqb, ltb, leb}
+use lib.Dec.{eqb, ltb}
 use Rattle.records.specs.Lists.{if_then_else_, all, any, firstOf, keep, joined, sameWord, isIn}
-use Rattle.records.specs.Store.{Store, Out, ok, stop, Work, _>>=_, _>>_, give, refuse, store, isConstant, isVariable, isConcat, isString, text, sameClass}
+use Rattle.records.specs.Store.{Store, ok, Work, _>>=_, _>>_, give, store, isConstant, isVariable, isConcat, text, sameClass}
 use Rattle.records.specs.Make.{withReasons, addKey, isKey, makeConstant, makeVariable, makeConcat, makeLength, makeEquation, strk, takeName}
 use Rattle.engine.specs.Explain.{explain}
 use Rattle.normalize.specs.Normalize.{flatten}

@@ -1,8 +1,5 @@
 // Departure B: the later variables of a side are explained with the first.
-ghost use mathlib.Core.Path.{_≡_};
-ghost use mathlib.Core.Bool.{true};
-ghost use Rattle.records.specs.Lists.{all, Every};
-ghost use Rattle.records.specs.Store.{isString};
+ghost use Rattle.records.specs.Lists.{Every};
 ghost use Rattle.records.specs.View.{termsView, lent};
 ghost use Rattle.records.specs.Audited.{Ready};
 ghost use Rattle.records.specs.Calls.{Working, added};

@@ -1,8 +1,8 @@
 // Step 3: the constant characters of two sides against each other. A side has up to 1,024 times 16,384 of them, but constants share the
 // store's 16,384, so a table marks places there: an atom marks each of its places once, and the character of a place is looked for once.
 ghost use mathlib.Core.Path.{_≡_};
-ghost use mathlib.Core.List.{[], _∷_};
-ghost use Prim.Native.Nat.{ℕ, _+_, _<_, _≤_};
+ghost use mathlib.Core.List.{[]};
+ghost use Prim.Native.Nat.{_+_, _<_, _≤_};
 ghost use lib.ListN.{length, getD};
 ghost use Rattle.records.specs.View.{charLimit, span};
 ghost use Rattle.records.specs.Rules.{listLimit};

@@ -2,12 +2,12 @@
 ghost use mathlib.Core.Path.{_≡_};
 ghost use mathlib.Core.Bool.{true, _&&_};
 ghost use mathlib.Core.List.{[]};
-ghost use Prim.Native.Nat.{ℕ, min, _≤_};
+ghost use Prim.Native.Nat.{min, _≤_};
 ghost use lib.ListN.{length, drop};
 ghost use lib.Dec.{eqb};
 ghost use Rattle.records.specs.Lists.{all, sameWord};
-ghost use Rattle.records.specs.Store.{within, termIn, isConstant, isString, text, sameClass};
-ghost use Rattle.records.specs.View.{termsView, lent, storeOf};
+ghost use Rattle.records.specs.Store.{termIn, isConstant, isString, text, sameClass};
+ghost use Rattle.records.specs.View.{termsView, lent};
 ghost use Rattle.records.specs.Audited.{Ready};
 ghost use Rattle.records.specs.Calls.{Working, added};
 ghost use Rattle.wordeq.specs.Wordeq.{same, explainMatch, strip};

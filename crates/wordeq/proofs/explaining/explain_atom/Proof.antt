@@ -1,5 +1,4 @@
 use Rattle.wordeq.proofs.Later.{atom-constant, atom-arguments, atom-explained}
-use native.Mathlib.Omega.{arith}
 use borrow.Author.Needs.{needs}
 use Rattle.wordeq.proofs.explaining.explain_atom.Statement.{statement}
 use Rattle.wordeq.proofs.explaining.explain_atom.Tie as tie

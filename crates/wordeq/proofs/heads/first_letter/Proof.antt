@@ -1,5 +1,4 @@
 use Rattle.wordeq.proofs.SplitHeads.{letter-first}
-use native.Mathlib.Omega.{arith}
 use borrow.Author.Needs.{needs}
 use Rattle.wordeq.proofs.heads.first_letter.Statement.{statement}
 use Rattle.wordeq.proofs.heads.first_letter.Tie as tie

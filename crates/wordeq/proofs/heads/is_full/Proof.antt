@@ -1,6 +1,5 @@
 use mathlib.Core.Path.{refl}
 use Rattle.wordeq.proofs.SplitHeads.{full-none, full-some}
-use native.Mathlib.Omega.{arith}
 use borrow.Author.Needs.{needs}
 use Rattle.wordeq.proofs.heads.is_full.Statement.{statement}
 use Rattle.wordeq.proofs.heads.is_full.Tie as tie

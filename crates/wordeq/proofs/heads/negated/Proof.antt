@@ -1,6 +1,4 @@
 use Rattle.wordeq.proofs.SplitHeads.{opposite-fits, opposite-is}
-use native.Mathlib.Omega.{arith}
-use borrow.Author.Needs.{needs}
 use Rattle.wordeq.proofs.heads.negated.Statement.{statement}
 use Rattle.wordeq.proofs.heads.negated.Tie as tie
 use Rattle.wordeq.proofs.heads.negated.Reads as reads

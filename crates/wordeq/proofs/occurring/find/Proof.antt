@@ -3,7 +3,6 @@ use lib.ListN.{length}
 use Rattle.wordeq.specs.Sides.{termed}
 use Rattle.records.proofs.Lists.{all-every, every-at}
 use Rattle.wordeq.proofs.Elsewhere.{Seeking, seeking-none, seeking-hit, seeking-turn, seeking-end}
-use native.Mathlib.Omega.{arith}
 use borrow.Author.Needs.{needs}
 use Rattle.wordeq.proofs.occurring.find.Statement.{statement}
 use Rattle.wordeq.proofs.occurring.find.Tie as tie

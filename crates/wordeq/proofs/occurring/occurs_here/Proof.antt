@@ -1,8 +1,6 @@
 use mathlib.Core.Path.{refl}
 use Rattle.wordeq.specs.Sides.{termed}
 use Rattle.wordeq.proofs.Elsewhere.{here-not, here-is}
-use native.Mathlib.Omega.{arith}
-use borrow.Author.Needs.{needs}
 use Rattle.wordeq.proofs.occurring.occurs_here.Statement.{statement}
 use Rattle.wordeq.proofs.occurring.occurs_here.Tie as tie
 use Rattle.wordeq.proofs.occurring.occurs_here.Reads as reads

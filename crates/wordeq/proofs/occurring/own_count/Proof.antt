@@ -1,5 +1,4 @@
 use Rattle.wordeq.proofs.Elsewhere.{own-other, own-full, own-empty}
-use native.Mathlib.Omega.{arith}
 use borrow.Author.Needs.{needs}
 use Rattle.wordeq.proofs.occurring.own_count.Statement.{statement}
 use Rattle.wordeq.proofs.occurring.own_count.Tie as tie

@@ -1,6 +1,5 @@
 use Rattle.wordeq.proofs.Propagated.{side-fixed, assigned-done, assigned-stop}
 use Rattle.records.specs.View.{lent}
-use native.Mathlib.Omega.{arith}
 use borrow.Author.Needs.{needs}
 use Rattle.wordeq.proofs.propagate.assigns_unchecked.Statement.{statement}
 use Rattle.wordeq.proofs.propagate.assigns_unchecked.Tie as tie

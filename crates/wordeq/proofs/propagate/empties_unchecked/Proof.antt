@@ -1,6 +1,5 @@
 use Rattle.wordeq.proofs.Propagated.{empties-able, empties-pairs, empties-done, empties-stop}
 use mathlib.Core.Path.{refl}
-use native.Mathlib.Omega.{arith}
 use borrow.Author.Needs.{needs}
 use Rattle.wordeq.proofs.propagate.empties_unchecked.Statement.{statement}
 use Rattle.wordeq.proofs.propagate.empties_unchecked.Tie as tie

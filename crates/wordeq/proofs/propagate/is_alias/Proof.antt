@@ -1,6 +1,5 @@
 use Rattle.wordeq.proofs.Propagated.{aliased-left, aliased-right, aliased-first, aliased-last}
 use Rattle.wordeq.specs.Sides.{spelled}
-use native.Mathlib.Omega.{arith}
 use borrow.Author.Needs.{needs}
 use Rattle.wordeq.proofs.propagate.is_alias.Statement.{statement}
 use Rattle.wordeq.proofs.propagate.is_alias.Tie as tie

@@ -1,6 +1,5 @@
 use Rattle.wordeq.proofs.Propagated.{assigned-left, assigned-kind, assigned-last}
 use Rattle.wordeq.specs.Sides.{termed}
-use native.Mathlib.Omega.{arith}
 use borrow.Author.Needs.{needs}
 use Rattle.wordeq.proofs.propagate.is_assigned.Statement.{statement}
 use Rattle.wordeq.proofs.propagate.is_assigned.Tie as tie

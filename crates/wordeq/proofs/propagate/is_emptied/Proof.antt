@@ -1,6 +1,5 @@
 use Rattle.wordeq.proofs.Propagated.{emptied-left, emptied-short, emptied-last}
 use Rattle.wordeq.specs.Sides.{termed}
-use native.Mathlib.Omega.{arith}
 use borrow.Author.Needs.{needs}
 use Rattle.wordeq.proofs.propagate.is_emptied.Statement.{statement}
 use Rattle.wordeq.proofs.propagate.is_emptied.Tie as tie

@@ -1,5 +1,4 @@
 use Rattle.wordeq.proofs.Propagating.{fixed-all, word-made}
-use native.Mathlib.Omega.{arith}
 use borrow.Author.Needs.{needs}
 use Rattle.wordeq.proofs.propagate.side_word_unchecked.Statement.{statement}
 use Rattle.wordeq.proofs.propagate.side_word_unchecked.Tie as tie

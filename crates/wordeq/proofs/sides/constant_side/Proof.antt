@@ -1,5 +1,4 @@
 use Rattle.wordeq.proofs.SidesLetters.{constant-left, constant-right, constant-none}
-use native.Mathlib.Omega.{arith}
 use borrow.Author.Needs.{needs}
 use Rattle.wordeq.proofs.sides.constant_side.Statement.{statement}
 use Rattle.wordeq.proofs.sides.constant_side.Tie as tie

@@ -1,6 +1,5 @@
 use mathlib.Core.Path.{refl}
 use Rattle.wordeq.proofs.SidesTile.{ended-before, ended-after}
-use native.Mathlib.Omega.{arith}
 use borrow.Author.Needs.{needs}
 use Rattle.wordeq.proofs.sides.ended.Statement.{statement}
 use Rattle.wordeq.proofs.sides.ended.Tie as tie

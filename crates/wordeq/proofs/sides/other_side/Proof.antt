@@ -1,5 +1,4 @@
 use Rattle.wordeq.proofs.SidesLetters.{other-left, other-right, other-none}
-use native.Mathlib.Omega.{arith}
 use borrow.Author.Needs.{needs}
 use Rattle.wordeq.proofs.sides.other_side.Statement.{statement}
 use Rattle.wordeq.proofs.sides.other_side.Tie as tie

@@ -1,7 +1,6 @@
 use Rattle.wordeq.specs.Sides.{spelled, rest}
 use mathlib.Core.Path.{refl}
 use Rattle.wordeq.proofs.SidesWalk.{heads-left, heads-right, heads-both}
-use native.Mathlib.Omega.{arith}
 use borrow.Author.Needs.{needs}
 use Rattle.wordeq.proofs.sides.same_letter.Statement.{statement}
 use Rattle.wordeq.proofs.sides.same_letter.Tie as tie

@@ -1,6 +1,5 @@
 use mathlib.Core.Path.{refl}
 use Rattle.wordeq.proofs.SidesLetters.{short-not, short-is}
-use native.Mathlib.Omega.{arith}
 use borrow.Author.Needs.{needs}
 use Rattle.wordeq.proofs.sides.short.Statement.{statement}
 use Rattle.wordeq.proofs.sides.short.Tie as tie

@@ -1,6 +1,5 @@
 use Rattle.wordeq.proofs.Splitting.{character-ready, character-string, character-done, character-stop}
 use mathlib.Core.Path.{refl}
-use native.Mathlib.Omega.{arith}
 use borrow.Author.Needs.{needs}
 use Rattle.wordeq.proofs.splits.character_unchecked.Statement.{statement}
 use Rattle.wordeq.proofs.splits.character_unchecked.Tie as tie

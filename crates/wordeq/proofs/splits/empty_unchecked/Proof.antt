@@ -1,6 +1,5 @@
 use Rattle.wordeq.proofs.Splitting.{empty-ready, empty-done, empty-stop}
 use mathlib.Core.Path.{refl}
-use native.Mathlib.Omega.{arith}
 use borrow.Author.Needs.{needs}
 use Rattle.wordeq.proofs.splits.empty_unchecked.Statement.{statement}
 use Rattle.wordeq.proofs.splits.empty_unchecked.Tie as tie

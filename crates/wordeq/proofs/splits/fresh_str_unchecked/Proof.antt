@@ -1,5 +1,4 @@
 use Rattle.wordeq.proofs.Splitting.{named-stop, named-ready, named-then}
-use native.Mathlib.Omega.{arith}
 use borrow.Author.Needs.{needs}
 use Rattle.wordeq.proofs.splits.fresh_str_unchecked.Statement.{statement}
 use Rattle.wordeq.proofs.splits.fresh_str_unchecked.Tie as tie

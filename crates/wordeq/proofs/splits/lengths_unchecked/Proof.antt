@@ -1,6 +1,5 @@
 use Rattle.wordeq.proofs.Splitting.{lengths-ready, lengths-ready-2, lengths-done, lengths-stop, lengths-stop-2}
 use mathlib.Core.Path.{refl}
-use native.Mathlib.Omega.{arith}
 use borrow.Author.Needs.{needs}
 use Rattle.wordeq.proofs.splits.lengths_unchecked.Statement.{statement}
 use Rattle.wordeq.proofs.splits.lengths_unchecked.Tie as tie

@@ -1,6 +1,5 @@
 use Rattle.wordeq.proofs.Splitting.{prefix-ready, prefix-ready-2, prefix-done, prefix-stop, prefix-stop-2}
 use mathlib.Core.Path.{refl, _∙_}
-use native.Mathlib.Omega.{arith}
 use borrow.Author.Needs.{needs}
 use Rattle.wordeq.proofs.splits.prefix_unchecked.Statement.{statement}
 use Rattle.wordeq.proofs.splits.prefix_unchecked.Tie as tie

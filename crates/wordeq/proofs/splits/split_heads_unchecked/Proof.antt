@@ -1,6 +1,5 @@
 use Rattle.wordeq.proofs.Splitting.{heads-ready, heads-string, heads-string-2, heads-done, heads-stop}
 use mathlib.Core.Path.{refl}
-use native.Mathlib.Omega.{arith}
 use borrow.Author.Needs.{needs}
 use Rattle.wordeq.proofs.splits.split_heads_unchecked.Statement.{statement}
 use Rattle.wordeq.proofs.splits.split_heads_unchecked.Tie as tie

@@ -3,7 +3,6 @@ use Rattle.wordeq.specs.Wordeq.{isGuard}
 use mir.Facts.{toZ-ofZ}
 use Rattle.wordeq.proofs.Steps.{after-early, after-known, after-tiled, after-split}
 use Rattle.wordeq.proofs.Trying.{lined, passed-on, conflicts-goes, propagates-goes, tiles-goes, last-of}
-use native.Mathlib.Omega.{arith}
 use borrow.Author.Needs.{needs}
 use Rattle.wordeq.proofs.stepping.after_unchecked.Statement.{statement}
 use Rattle.wordeq.proofs.stepping.after_unchecked.Tie as tie

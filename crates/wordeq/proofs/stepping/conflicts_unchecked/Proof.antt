@@ -2,7 +2,6 @@ use mathlib.Core.Path.{refl}
 use Rattle.wordeq.proofs.Steps.{lined-spelled, conflicts-found, conflicts-none}
 use Rattle.wordeq.proofs.Trying.{lined, passed-on, occurs-goes, last-of, else-last}
 use Rattle.wordeq.specs.Wordeq.{constants}
-use native.Mathlib.Omega.{arith}
 use borrow.Author.Needs.{needs}
 use Rattle.wordeq.proofs.stepping.conflicts_unchecked.Statement.{statement}
 use Rattle.wordeq.proofs.stepping.conflicts_unchecked.Tie as tie

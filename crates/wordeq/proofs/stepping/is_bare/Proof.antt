@@ -1,6 +1,4 @@
 use Rattle.wordeq.proofs.Steps.{not-bare, bare-right}
-use native.Mathlib.Omega.{arith}
-use borrow.Author.Needs.{needs}
 use Rattle.wordeq.proofs.stepping.is_bare.Statement.{statement}
 use Rattle.wordeq.proofs.stepping.is_bare.Tie as tie
 use Rattle.wordeq.proofs.stepping.is_bare.Reads as reads

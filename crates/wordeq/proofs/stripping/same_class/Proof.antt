@@ -1,6 +1,4 @@
 use Rattle.wordeq.proofs.Alike.{string-within, roots-closed, classes-compared}
-use native.Mathlib.Omega.{arith}
-use borrow.Author.Needs.{needs}
 use Rattle.wordeq.proofs.stripping.same_class.Statement.{statement}
 use Rattle.wordeq.proofs.stripping.same_class.Tie as tie
 use Rattle.wordeq.proofs.stripping.same_class.Reads as reads

@@ -1,6 +1,5 @@
 use Rattle.wordeq.proofs.Alike.{same-number, same-constants, same-classes}
 use mathlib.Core.Path.{sym, _∙_}
-use native.Mathlib.Omega.{arith}
 use borrow.Author.Needs.{needs}
 use Rattle.wordeq.proofs.stripping.same_unchecked.Statement.{statement}
 use Rattle.wordeq.proofs.stripping.same_unchecked.Tie as tie

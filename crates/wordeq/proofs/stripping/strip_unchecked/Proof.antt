@@ -1,5 +1,4 @@
 use Rattle.wordeq.proofs.Strips.{strip-refused, strip-from, strip-going, strip-both, going-strings}
-use native.Mathlib.Omega.{arith}
 use borrow.Author.Needs.{needs}
 use Rattle.wordeq.proofs.stripping.strip_unchecked.Statement.{statement}
 use Rattle.wordeq.proofs.stripping.strip_unchecked.Tie as tie
