@@ -13,7 +13,9 @@ pub mod oracle;
 #[cfg(feature = "port")]
 pub mod port;
 pub mod random;
+pub mod script;
 pub mod shrink;
 pub mod speed;
 #[cfg(feature = "port")]
 pub mod stack;
+pub mod vectors;

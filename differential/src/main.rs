@@ -12,9 +12,9 @@ use differential::{
     model,
     oracle::{self, Mode},
     random::Random,
-    shrink, speed,
+    shrink, speed, vectors,
 };
-use std::{env, process::exit, thread};
+use std::{env, path::PathBuf, process::exit, thread};
 
 /// Who answers.
 #[derive(Clone, Copy, PartialEq, Debug)]
@@ -48,17 +48,26 @@ struct Options {
     threads: u64,
     kinds: Vec<usize>,
     of: Subject,
+    out: PathBuf,
 }
 
 fn usage() -> ! {
     eprintln!(
-        "differential compare|damaged|claims|faults|speed|worst|stack [--seed S] [--count N] [--from ROUND] [--threads T] [--kinds A,B] [--of port|model|rust]"
+        "differential compare|damaged|claims|faults|vectors|speed|worst|stack [--seed S] [--count N] [--from ROUND] [--threads T] [--kinds A,B] [--of port|model|rust] [--out FOLDER]"
     );
     exit(2);
 }
 
 fn options(arguments: &[String]) -> Options {
-    let mut o = Options { seed: 1, count: 10_000, from: 0, threads: 1, kinds: (0..NAMES.len()).collect(), of: Subject::USUAL };
+    let mut o = Options {
+        seed: 1,
+        count: 10_000,
+        from: 0,
+        threads: 1,
+        kinds: (0..NAMES.len()).collect(),
+        of: Subject::USUAL,
+        out: "../vectors".into(),
+    };
     let mut rest = arguments.iter();
     while let Some(name) = rest.next() {
         let Some(value) = rest.next() else { usage() };
@@ -68,6 +77,7 @@ fn options(arguments: &[String]) -> Options {
             "--count" => o.count = number(),
             "--from" => o.from = number(),
             "--threads" => o.threads = number().max(1),
+            "--out" => o.out = value.into(),
             "--kinds" => o.kinds = value.split(',').map(|k| NAMES.iter().position(|n| *n == k).unwrap_or_else(|| usage())).collect(),
             "--of" => {
                 o.of = match value.as_str() {
@@ -384,6 +394,20 @@ fn faults(o: &Options) {
     }
 }
 
+// answers of the unchanged Rust as input and output of the program `answers`; `--count` calls of each case
+fn stored(o: &Options) {
+    let (files, tally) = vectors::draw(o.seed, o.count);
+    if let Err(e) = vectors::write(&files, &tally, &o.out) {
+        eprintln!("{}: {e}", o.out.display());
+        exit(1);
+    }
+    println!("{}", tally.summary(&files));
+    if !tally.missing().is_empty() {
+        println!("no call of these cases: {}", tally.missing().join("; "));
+        exit(1);
+    }
+}
+
 fn main() {
     let arguments: Vec<String> = env::args().skip(1).collect();
     let Some((command, rest)) = arguments.split_first() else { usage() };
@@ -393,6 +417,7 @@ fn main() {
         "damaged" => damaged(&o),
         "claims" => claims(&o),
         "faults" => return faults(&o),
+        "vectors" => return stored(&o),
         "speed" => return speed::table(o.seed),
         "worst" => return speed::worst(),
         #[cfg(feature = "port")]
