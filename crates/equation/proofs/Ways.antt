@@ -2,33 +2,31 @@
 use mathlib.Core.Path.{_≡_, refl, sym, ap, subst, _∙_}
 use mathlib.Core.Bool.{Bool, true, false, not, _&&_}
 use mathlib.Core.List.{List, []}
-use mathlib.Core.Option.{Option, none, some}
+use mathlib.Core.Option.{none, some}
 use Prim.Native.Nat.{ℕ, _+_, _*_, _≤_, _<_}
 use native.Mathlib.Omega.{arith}
 use lib.ListN.{length, take, getD, length-take}
 use lib.Seq.{ext-getD, getD-take}
 use lib.IntN.{ℤ}
-use lib.Dec.{eqb, leb}
+use lib.Dec.{leb}
 use borrow.Author.Tests.{eq-eqb, ne-eqb, eqb-true, le-leb, not-true, not-false}
 use Rattle.records.specs.declared.State.{State}
-use Rattle.records.specs.Lists.{table, all}
-use Rattle.records.specs.Store.{Term, Store, Out, ok, stop, Work, andThen, _>>=_, term, kind, isString, isEquation, isTerm}
+use Rattle.records.specs.Store.{Term, Store, Out, ok, stop, Work, andThen, _>>=_, term, kind, isString, isEquation}
 use Rattle.records.specs.View.{Lent, lent, storeOf, termAt, pairAt, pairsView}
 use Rattle.records.specs.Rules.{audit, listLimit, isList}
-use Rattle.records.specs.Audited.{Audited, Ready}
+use Rattle.records.specs.Audited.{Ready}
 use Rattle.records.specs.Calls.{Working}
 use Rattle.records.proofs.Lists.{both-left, both-right, both-true, left-false, right-false, and-next, all-every, every-all, table-same, table-length, table-at}
 use Rattle.records.proofs.Works.{stop-not}
 use Rattle.records.proofs.Views.{table-is}
 use Rattle.records.proofs.Climbs.{view-term, term-within}
-use Rattle.records.proofs.Grown.{Grown, kind-term, grown-string}
-use Rattle.records.proofs.Passed.{ready-after}
+use Rattle.records.proofs.Grown.{kind-term, grown-string}
 use Rattle.records.proofs.Public.{passed-ready}
 use Rattle.normalize.specs.declared.DeepForm.{DeepForm}
 use Rattle.normalize.specs.declared.DeepForm.the-variants as deep
 use Rattle.normalize.specs.Normalize.{deepForm, formArguments}
 use Rattle.normalize.specs.Calls.{firstWords, deepened}
-use Rattle.normalize.proofs.Rewritten.{Later, Strings, strings-later}
+use Rattle.normalize.proofs.Rewritten.{Later, strings-later}
 use Rattle.normalize.proofs.Deep.{deep-gives, deep-kept}
 use Rattle.normalize.proofs.Carried.{Carried, carried-none, carried-then, carried-ready, carried-kept, later-below}
 use Rattle.normalize.proofs.FormCalls.{listed-short, listed-unready, listed-unfit, listed-works}
@@ -36,7 +34,7 @@ use Rattle.wordeq.specs.declared.StepResult.{StepResult}
 use Rattle.wordeq.specs.declared.StepResult.the-variants as wordeq
 use Rattle.wordeq.specs.Wordeq.{isGuard, resolve}
 use Rattle.wordeq.specs.Resolving.{reasonsAt}
-use Rattle.wordeq.specs.Results.{BothLists, resolved}
+use Rattle.wordeq.specs.Results.{resolved}
 use Rattle.equation.specs.declared.Outcome.{Outcome}
 use Rattle.equation.specs.Equation.{Stepped, unexpanded, returned, orUnexpanded, step, stepArguments}
 use Rattle.equation.specs.Calls.{stepped, PublicStep, resolveForms, rightForm, carried}

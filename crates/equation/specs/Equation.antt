@@ -1,10 +1,10 @@
 -- Document 01, 'One equation'.
-use mathlib.Core.Bool.{Bool, true, false, _&&_}
+use mathlib.Core.Bool.{Bool, _&&_}
 use mathlib.Core.List.{List}
 use mathlib.Core.Option.{Option, none, some}
 use Prim.Native.Nat.{ℕ}
 use lib.IntN.{ℤ}
-use Rattle.records.specs.Store.{Store, Out, ok, stop, Work, _>>=_, give, store, term, isEquation, isString}
+use Rattle.records.specs.Store.{Store, ok, Work, _>>=_, give, store, term, isEquation, isString}
 use Rattle.records.specs.Make.{withReasons}
 use Rattle.normalize.specs.Normalize.{deepForm}
 use Rattle.records.specs.Rules.{isList}

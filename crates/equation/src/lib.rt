@@ -4,12 +4,12 @@ ghost use mathlib.Core.Bool.{true};
 ghost use mathlib.Core.List.{[]};
 ghost use Prim.Native.Nat.{_≤_};
 ghost use lib.ListN.{length};
-ghost use Rattle.records.specs.Store.{isString};
 ghost use Rattle.records.specs.View.{lent, storeOf, pairsView};
 ghost use Rattle.records.specs.Rules.{listLimit, isList};
 ghost use Rattle.records.specs.Audited.{Ready};
 ghost use Rattle.records.specs.Calls.{Working};
-ghost use Rattle.normalize.specs.Normalize.{formArguments};
+ghost use Rattle.normalize.specs.Normalize.{deepForm, formArguments};
+ghost use Rattle.normalize.specs.Calls.{deepened};
 ghost use Rattle.wordeq.specs.Wordeq.{isGuard};
 ghost use Rattle.wordeq.specs.Results.{BothLists};
 ghost use Rattle.equation.specs.Equation.{step, stepArguments};
@@ -72,6 +72,24 @@ fn resolve_forms<'a>(
     carried(o, incoming)
 }
 
+// The deep form of one side.
+fn deep_form(
+    terms: &mut [u32],
+    cells: &[u32],
+    chars: &mut [u32],
+    reasons: &mut [u32],
+    keys: &[u32],
+    c: State,
+    known: &[u32],
+    t: u32,
+    list: &mut [u32],
+) -> DeepForm
+    requires { ⌜ Ready (lent (now terms) (now cells) (now chars) (now reasons) (now keys)) c ⌝ ∗ ⌜ formArguments (now known) t (storeOf (lent (now terms) (now cells) (now chars) (now reasons) (now keys)) c) ≡ true ⌝ ∗ ⌜ listLimit ≤ length (now list) ⌝ }
+    ensures { λ x. ⌜ Working (deepForm (now (known .entry)) t) (lent (now (terms .entry)) (now (cells .entry)) (now (chars .entry)) (now (reasons .entry)) (now (keys .entry))) (lent (now (terms .exit)) (now (cells .entry)) (now (chars .exit)) (now (reasons .exit)) (now (keys .entry))) c (deepened x (lent (now (terms .exit)) (now (cells .entry)) (now (chars .exit)) (now (reasons .exit)) (now (keys .entry))) (now (list .exit))) ⌝ }
+{
+    deep_normal_form_cited_unchecked(terms, cells, chars, reasons, keys, c, known, t, list)
+}
+
 // From the deep form of the right side on.
 fn right_form(
     terms: &mut [u32],
@@ -91,24 +109,14 @@ fn right_form(
     ensures { λ o. ⌜ Working (rightForm (now (known .entry)) t guard (now (lhs .entry)) (pairsView (now (reasons .entry)) incoming)) (lent (now (terms .entry)) (now (cells .entry)) (now (chars .entry)) (now (reasons .entry)) (now (keys .entry))) (lent (now (terms .exit)) (now (cells .exit)) (now (chars .exit)) (now (reasons .exit)) (now (keys .exit))) c (stepped o (lent (now (terms .exit)) (now (cells .exit)) (now (chars .exit)) (now (reasons .exit)) (now (keys .exit))) (now (list .exit))) ⌝ }
 {
     let mut right: [u32; 1024] = [0; 1024];
-    match deep_normal_form_cited_unchecked(
-        terms,
-        cells,
-        chars,
-        reasons,
-        keys,
-        c,
-        known,
-        t,
-        &mut right,
-    ) {
-        DeepForm::List(n, d) => resolve_forms(
+    match deep_form(terms, cells, chars, reasons, keys, c, known, t, &mut right) {
+        DeepForm::List(n, both) => resolve_forms(
             terms,
             cells,
             chars,
             reasons,
             keys,
-            d,
+            both,
             lhs,
             &right[..n],
             guard,
@@ -139,17 +147,7 @@ pub fn step_unchecked(
     let mut left: [u32; 1024] = [0; 1024];
     let a = fields::first(terms, e);
     let b = fields::second(terms, e);
-    match deep_normal_form_cited_unchecked(
-        terms,
-        cells,
-        chars,
-        reasons,
-        keys,
-        c,
-        known,
-        a,
-        &mut left,
-    ) {
+    match deep_form(terms, cells, chars, reasons, keys, c, known, a, &mut left) {
         DeepForm::List(n, d) => right_form(
             terms,
             cells,

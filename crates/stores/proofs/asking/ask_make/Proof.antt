@@ -1,0 +1,21 @@
+use borrow.Author.Needs.{needs}
+use Rattle.stores.proofs.asking.ask_make.Statement.{statement}
+use Rattle.stores.proofs.asking.ask_make.Tie as tie
+
+pub ask-make-spec : {M : Type 1} → statement M
+ask-make-spec =
+    tie.close
+    (tie.spec
+    (λ c κs. search needs)
+    (λ c κs. search needs)
+    (λ c κs. search needs)
+    (λ c κs. search needs)
+    (λ c κs. search needs)
+    (λ c κs. search needs)
+    (λ c κs. search needs)
+    (λ c κs. search needs)
+    (λ c. c .before .before .before .before .before .before .before .before .before .before .before .before .before .before .before .make-of .kept .1 .1 .0)
+    (λ c. search needs)
+    (λ c. search needs)
+    (λ c. c .before .before .before .before .before .before .before .before .before .before .before .before .before .before .before .before .before .before .before .before .before .save .kept .1 .1 .1 .0)
+    (λ c. search needs))

@@ -1,0 +1,75 @@
+// Whether a call left the words as they were that it has to leave so.
+use crate::changing::copy;
+use records::State;
+use records::fields::word;
+use std::num::wrapping_add_usize;
+
+// The words before a call stand in one slice: terms, then cells, then characters.
+const OLD_CELLS: usize = 4112;
+
+const OLD_CHARS: usize = 10262;
+
+pub(crate) fn save(terms: &[u32], cells: &[u32], chars: &[u32], old: &mut [u32]) {
+    copy(terms, old, 0);
+    copy(cells, old, OLD_CELLS);
+    copy(chars, old, OLD_CHARS);
+}
+
+// Whether n words are those of b from word `at` on.
+fn agree(a: &[u32], b: &[u32], at: usize, n: usize) -> bool {
+    let mut i: usize = 0;
+    while i < n {
+        if word(a, i) != word(b, wrapping_add_usize(at, i)) {
+            return false;
+        }
+        i += 1;
+    }
+    true
+}
+
+fn term_words(n: usize) -> usize {
+    if 512 < n {
+        return 4104;
+    }
+    8 * (n + 1)
+}
+
+fn cell_words(n: usize) -> usize {
+    if 2048 < n {
+        return 6147;
+    }
+    3 * (n + 1)
+}
+
+// The words that have to be as they were: all of them after refusals 1 to 5, else those of the records counted.
+fn held(k: u32, counted: usize, len: usize) -> usize {
+    if k == 0 {
+        return counted;
+    }
+    if k <= 5 {
+        return len;
+    }
+    counted
+}
+
+pub(crate) fn kept(
+    k: u32,
+    c: State,
+    terms: &[u32],
+    cells: &[u32],
+    chars: &[u32],
+    old: &[u32],
+) -> bool {
+    if !agree(terms, old, 0, held(k, term_words(c.terms), terms.len())) {
+        return false;
+    }
+    if !agree(
+        cells,
+        old,
+        OLD_CELLS,
+        held(k, cell_words(c.cells), cells.len()),
+    ) {
+        return false;
+    }
+    agree(chars, old, OLD_CHARS, held(k, c.chars, chars.len()))
+}
