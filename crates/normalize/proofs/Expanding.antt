@@ -2,6 +2,7 @@
 use mathlib.Core.Path.{_≡_, refl, sym, ap, subst, _∙_}
 use mathlib.Core.Bool.{Bool, true, false, not}
 use mathlib.Core.List.{List, [], _∷_, _++_}
+use mathlib.Core.Logic.{⊎-elim}
 use mathlib.Core.Option.{Option, none, some}
 use Prim.Native.Nat.{ℕ, suc, _+_, _*_, _≤_, _<_}
 use native.Mathlib.Numerals.{add-one}
@@ -9,6 +10,8 @@ use native.Mathlib.Omega.{arith}
 use lib.ListN.{length, drop, getD, set, length-set, length-append}
 use lib.Seq.{drop-cons, getD-set-same, getD-set-other}
 use lib.Dec.{eqb, ltb}
+use types.Run.{OneOf}
+use denote.Enum.Declared.{tagOf}
 use borrow.Author.Tests.{eqb-true, eqb-false, eq-eqb, ne-eqb, ltb-false, lt-ltb, le-ltb, not-true, not-false}
 use Rattle.records.specs.declared.State.{State}
 use Rattle.records.specs.Lists.{if_then_else_, all, any, isIn, none-left, and}
@@ -24,6 +27,7 @@ use Rattle.normalize.specs.declared.Form.{Form}
 use Rattle.normalize.specs.declared.Form.the-variants as form
 use Rattle.normalize.specs.declared.DeepForm.{DeepForm}
 use Rattle.normalize.specs.declared.DeepForm.the-variants as deep
+use Rattle.normalize.proofs.DeepForm.{the-type}
 use Rattle.normalize.specs.Normalize.{deepLimit, normalForm, opens, Round, expand}
 use Rattle.records.specs.Rules.{listLimit}
 use Rattle.normalize.specs.Pushes.{Candidates}
@@ -343,17 +347,26 @@ module _ (list : List ℕ) (count′ : ℕ) {known : List ℕ} {t : ℕ} {next�
         rest = λ met z. record { now = one met z .met; marks = one met z .marks n d′ e; is = rw add-one (rest-says met z (deep.List n d′) e) };
       }
 
-    pub walking-none-met : (d′ : State) → x ≡ deep.None d′ → Expands known t (firstWords list count′) next₀ 0 table₀ m₀ m′ c next′ table′ (deep.None d′)
+    walking-none-met : (d′ : State) → x ≡ deep.None d′ → Expands known t (firstWords list count′) next₀ 0 table₀ m₀ m′ c next′ table′ (deep.None d′)
     walking-none-met d′ e = record {
       kept = carried-kept (g .carried) m′ (w .kept);
       is = λ met z. record { met = []; is = sym (rest-says met z (deep.None d′) e); marks = λ n f y. no-list y };
     }
 
-    pub walking-stopped : (j : ℕ) → x ≡ deep.Refused j → Expands known t (firstWords list count′) next₀ 0 table₀ m₀ m′ c next′ table′ (deep.Refused j)
+    walking-stopped : (j : ℕ) → x ≡ deep.Refused j → Expands known t (firstWords list count′) next₀ 0 table₀ m₀ m′ c next′ table′ (deep.Refused j)
     walking-stopped j e = record {
       kept = carried-kept (g .carried) m′ (w .kept);
       is = λ met z. record { met = []; is = sym (rest-says met z (deep.Refused j) e); marks = λ n f y. no-refusal y };
     }
+
+    -- an answer that is no list ends the loop
+    pub walking-ended : OneOf (1 ∷ 2 ∷ []) (tagOf the-type x) → Expands known t (firstWords list count′) next₀ 0 table₀ m₀ m′ c next′ table′ x
+    walking-ended k = go x refl k
+      where
+        go : (y : DeepForm) → x ≡ y → OneOf (1 ∷ 2 ∷ []) (tagOf the-type y) → Expands known t (firstWords list count′) next₀ 0 table₀ m₀ m′ c next′ table′ y
+        go (deep.List n d′) e k = ⊎-elim (λ (z : _≡_ {A = ℕ} 0 1). absurd (omega arith)) (λ (z : _≡_ {A = ℕ} 0 2). absurd (omega arith)) k
+        go (deep.None d′) e k = walking-none-met d′ e
+        go (deep.Refused j) e k = walking-stopped j e
 
 pub walking-done : (list : List ℕ) (n : ℕ) {known : List ℕ} {t : ℕ} {next₀ table₀ : List ℕ} {m₀ m : Lent} {c d : State} {next : List ℕ} {k : ℕ} {table : List ℕ} {i : ℕ}
     → Walking known t (firstWords list n) next₀ table₀ m₀ c m d next k table i → n ≤ i → Expands known t (firstWords list n) next₀ 0 table₀ m₀ m c next table (deep.List k d)

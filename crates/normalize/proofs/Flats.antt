@@ -28,15 +28,6 @@ atom-fits l n t h k = record { fits = λ i. rw add-one (take-suc-set l n t (omeg
 pub atom-passes : (l : List ℕ) (n t : ℕ) → listLimit ≤ n → Appended l l n (t ∷ []) (listLimit + 1)
 atom-passes l n t h = record { fits = λ i. absurd (omega arith); passes = λ i. omega arith }
 
--- how long the list is then
-pub appended-length : {l l′ : List ℕ} {n : ℕ} {w : List ℕ} {r : ℕ} → Appended l l′ n w r → n ≤ length l → r ≤ listLimit → listLimit ≤ length l′ → r ≡ n + length w
-appended-length {l} {l′} {n} {w} {r} a h i k =
-    let e = ap length (a .fits i) in
-    let f : length (take r l′) ≡ length (take n l) + length w = e ∙ length-append (take n l) w in
-    let p = length-take r l′ in
-    let q = length-take n l in
-    omega arith
-
 module _ (l : List ℕ) (n : ℕ) (e : List ℕ) (m : ℕ) where
   abbrev s : Store
   s = bare l n e m

@@ -177,10 +177,6 @@ rewritten-before {l = l} {m = m} k i p = record {
   words = λ w r h. joined-append w l k ∙ ap (λ (x : List ℕ). x ++ joined w k) (p .words w r h) ∙ sym (joined-append w m k);
 }
 
--- what was known of the words in the store before
-pub rewritten-from : {s s′ : Store} {l m n : List ℕ} → ((w : Words) → Reading s w → joined w l ≡ joined w m) → Rewritten s s′ m n → Rewritten s s′ l n
-rewritten-from f p = record { later = p .later; strings = p .strings; words = λ w r h. f w (p .later .grown .down w r) ∙ p .words w r h }
-
 -- a term replaced by an equal one
 pub rewritten-explained : {s s′ : Store} {a b : ℕ} → Gave s s′ a b → isString s b ≡ true → Rewritten s s′ (a ∷ []) (b ∷ [])
 unfolding later-explained joined

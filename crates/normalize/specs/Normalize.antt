@@ -1,12 +1,12 @@
 -- Document 01, 'Normalize': flatten, representatives, the cited normal form and the deep form.
-use mathlib.Core.Bool.{Bool, true, false, not, _&&_, _||_}
+use mathlib.Core.Bool.{Bool, true, false, not, _&&_}
 use mathlib.Core.List.{List, [], _∷_, _++_, reverse}
 use mathlib.Core.Option.{Option, none, some}
 use Prim.Native.Nat.{ℕ, zero, suc}
 use lib.ListN.{length}
 use lib.Dec.{eqb, ltb, leb}
-use Rattle.records.specs.Lists.{if_then_else_, all, any, firstOf, joined, sameWord, isIn}
-use Rattle.records.specs.Store.{Store, Out, ok, stop, Work, _>>=_, _>>_, give, refuse, store, isConstant, isConcat, isString, text, parts, sameClass}
+use Rattle.records.specs.Lists.{if_then_else_, any, firstOf, joined, sameWord, isIn}
+use Rattle.records.specs.Store.{Store, Work, _>>=_, _>>_, give, refuse, store, isConstant, isConcat, isString, text, parts, sameClass}
 use Rattle.records.specs.Rules.{listLimit, isList}
 use Rattle.records.specs.Make.{makeConstant}
 use Rattle.engine.specs.Explain.{explain}

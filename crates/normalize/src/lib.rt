@@ -11,10 +11,12 @@ use records::State;
 use records::rules;
 
 pub mod deeper;
+pub mod expands;
 pub mod flat;
 pub mod nodes;
 pub mod normal;
 pub mod pushes;
+pub mod slices;
 
 pub const DEEP_NF_ATOM_CAP: usize = 256;
 

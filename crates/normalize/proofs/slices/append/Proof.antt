@@ -6,8 +6,8 @@ use Rattle.normalize.specs.Calls.{firstWords}
 use Rattle.normalize.proofs.Words.{append-none, append-turn, append-done}
 use native.Mathlib.Omega.{arith}
 use borrow.Author.Needs.{needs}
-use Rattle.normalize.proofs.deeper.append.Statement.{statement}
-use Rattle.normalize.proofs.deeper.append.Tie as tie
+use Rattle.normalize.proofs.slices.append.Statement.{statement}
+use Rattle.normalize.proofs.slices.append.Tie as tie
 
 abbrev Inv-loop : tie.InvT-loop
 Inv-loop to₀ k from n i₀ to i = (i ≤ n) × (length to ≡ length to₀) × (firstWords to (k + i) ≡ firstWords to₀ k ++ firstWords from i)

@@ -1,7 +1,7 @@
 use Rattle.normalize.proofs.Expanding.{opens-other, opens-concat}
 use borrow.Author.Needs.{needs}
-use Rattle.normalize.proofs.deeper.opens.Statement.{statement}
-use Rattle.normalize.proofs.deeper.opens.Tie as tie
+use Rattle.normalize.proofs.expands.opens.Statement.{statement}
+use Rattle.normalize.proofs.expands.opens.Tie as tie
 
 pub opens-spec : {M : Type 1} → statement M
 opens-spec = tie.close (tie.spec (λ c κs. search needs) (λ c. opens-other _ _ _ _ (c .before .kind-of .ensures) (c .if1 .taken)) (λ c. opens-concat _ _ _ _ (c .before .kind-of .ensures) (c .if1 .left)))

@@ -1,8 +1,8 @@
 use Rattle.normalize.proofs.Expanding.{atom-place, one-plain, one-again, one-opened}
 use native.Mathlib.Omega.{arith}
 use borrow.Author.Needs.{needs}
-use Rattle.normalize.proofs.deeper.expand_one.Statement.{statement}
-use Rattle.normalize.proofs.deeper.expand_one.Tie as tie
+use Rattle.normalize.proofs.expands.expand_one.Statement.{statement}
+use Rattle.normalize.proofs.expands.expand_one.Tie as tie
 
 pub expand-one-spec : {M : Type 1} → statement M
 expand-one-spec =

@@ -9,8 +9,8 @@ use Rattle.records.specs.Lists.{any}
 use Rattle.records.proofs.Lists.{any-zero, any-turn, any-stop, any-done}
 use native.Mathlib.Omega.{arith}
 use borrow.Author.Needs.{needs}
-use Rattle.normalize.proofs.deeper.any_opens.Statement.{statement}
-use Rattle.normalize.proofs.deeper.any_opens.Tie as tie
+use Rattle.normalize.proofs.expands.any_opens.Statement.{statement}
+use Rattle.normalize.proofs.expands.any_opens.Tie as tie
 
 abbrev Inv-loop : tie.InvT-loop
 Inv-loop terms n t list count i₀ i = (i ≤ count) × (any (opensIn (termsView terms n) t) (firstWords list i) ≡ false)

@@ -1,8 +1,8 @@
 use Rattle.normalize.proofs.Expanding.{form-short, atom-none, atom-some, atom-stopped}
 use native.Mathlib.Omega.{arith}
 use borrow.Author.Needs.{needs}
-use Rattle.normalize.proofs.deeper.expand_atom.Statement.{statement}
-use Rattle.normalize.proofs.deeper.expand_atom.Tie as tie
+use Rattle.normalize.proofs.expands.expand_atom.Statement.{statement}
+use Rattle.normalize.proofs.expands.expand_atom.Tie as tie
 
 pub expand-atom-spec : {M : Type 1} → statement M
 expand-atom-spec =

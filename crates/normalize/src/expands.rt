@@ -1,0 +1,179 @@
+// One round of the deep form: each concatenation atom but the term itself is replaced by its own normal form.
+ghost use mathlib.Core.Path.{_≡_};
+ghost use mathlib.Core.Bool.{true};
+ghost use mathlib.Core.List.{[], _∷_};
+ghost use Prim.Native.Nat.{_≤_, _<_};
+ghost use lib.ListN.{length};
+ghost use Rattle.records.specs.Lists.{any};
+ghost use Rattle.records.specs.Store.{isString};
+ghost use Rattle.records.specs.View.{lent, storeOf, termsView};
+ghost use Rattle.records.specs.Audited.{Ready};
+ghost use Rattle.records.specs.Calls.{Working};
+ghost use Rattle.normalize.specs.Normalize.{deepLimit};
+ghost use Rattle.normalize.specs.Pushes.{Candidates};
+ghost use Rattle.normalize.specs.Calls.{firstWords, deepened};
+ghost use Rattle.normalize.specs.Deeps.{opensIn, RoundOf, expandAtom, Expands};
+use crate::DEEP_NF_ATOM_CAP;
+use crate::DeepForm;
+use crate::Form;
+use crate::normal;
+use crate::slices;
+use records::State;
+use records::rules;
+
+// Whether a is expanded: a concatenation, and not the term itself.
+fn opens(terms: &[u32], n: usize, t: u32, a: u32) -> bool
+    ensures { λ r. ⌜ r ≡ opensIn (termsView (now (terms .entry)) n) t a ⌝ }
+{
+    if rules::kind_of(terms, n, a) != 3 {
+        return false;
+    }
+    a != t
+}
+
+// Whether an atom of the list is expanded.
+pub(crate) fn any_opens(terms: &[u32], n: usize, t: u32, list: &[u32], count: usize) -> bool
+    requires { ⌜ count ≤ length (now list) ⌝ }
+    ensures { λ r. ⌜ r ≡ any (opensIn (termsView (now (terms .entry)) n) t) (firstWords (now (list .entry)) count) ⌝ }
+{
+    let mut i: usize = 0;
+    while i < count {
+        if opens(terms, n, t, list[i]) {
+            return true;
+        }
+        i += 1;
+    }
+    false
+}
+
+// The normal form of a concatenation after the first k words of the round's list.
+fn expand_atom(
+    terms: &mut [u32],
+    cells: &[u32],
+    chars: &mut [u32],
+    reasons: &mut [u32],
+    keys: &[u32],
+    c: State,
+    known: &[u32],
+    table: &[u32; 513],
+    a: u32,
+    next: &mut [u32],
+    k: usize,
+) -> DeepForm
+    requires { ⌜ Ready (lent (now terms) (now cells) (now chars) (now reasons) (now keys)) c ⌝ ∗ ⌜ Candidates (storeOf (lent (now terms) (now cells) (now chars) (now reasons) (now keys)) c) (now known) (now table) ⌝ ∗ ⌜ isString (storeOf (lent (now terms) (now cells) (now chars) (now reasons) (now keys)) c) a ≡ true ⌝ ∗ ⌜ k < length (now next) ⌝ ∗ ⌜ deepLimit ≤ length (now next) ⌝ }
+    ensures { λ x. ⌜ Working (expandAtom (now (known .entry)) a (firstWords (now (next .entry)) k)) (lent (now (terms .entry)) (now (cells .entry)) (now (chars .entry)) (now (reasons .entry)) (now (keys .entry))) (lent (now (terms .exit)) (now (cells .entry)) (now (chars .exit)) (now (reasons .exit)) (now (keys .entry))) c (deepened x (lent (now (terms .exit)) (now (cells .entry)) (now (chars .exit)) (now (reasons .exit)) (now (keys .entry))) (now (next .exit))) ⌝ }
+{
+    let mut form: [u32; 1024] = [0; 1024];
+    let made = normal::form_by(
+        terms,
+        cells,
+        chars,
+        reasons,
+        keys,
+        c,
+        known,
+        table,
+        a,
+        &mut form,
+    );
+    match made {
+        Form::List(n, d) => {
+            if DEEP_NF_ATOM_CAP < k + n {
+                return DeepForm::None(d);
+            }
+            slices::append(next, k, &form, n);
+            DeepForm::List(k + n, d)
+        }
+        Form::Refused(e) => DeepForm::Refused(e),
+    }
+}
+
+// One atom of a round: as it stands, or expanded. A concatenation met again gives None.
+fn expand_one(
+    terms: &mut [u32],
+    cells: &[u32],
+    chars: &mut [u32],
+    reasons: &mut [u32],
+    keys: &[u32],
+    c: State,
+    known: &[u32],
+    table: &[u32; 513],
+    t: u32,
+    a: u32,
+    met: &mut [u8; 513],
+    next: &mut [u32],
+    k: usize,
+) -> DeepForm
+    requires { ⌜ Ready (lent (now terms) (now cells) (now chars) (now reasons) (now keys)) c ⌝ ∗ ⌜ Candidates (storeOf (lent (now terms) (now cells) (now chars) (now reasons) (now keys)) c) (now known) (now table) ⌝ ∗ ⌜ isString (storeOf (lent (now terms) (now cells) (now chars) (now reasons) (now keys)) c) a ≡ true ⌝ ∗ ⌜ k < length (now next) ⌝ ∗ ⌜ deepLimit ≤ length (now next) ⌝ }
+    ensures { λ x. ⌜ Expands (now (known .entry)) t (a ∷ []) (now (next .entry)) k (now (met .entry)) (lent (now (terms .entry)) (now (cells .entry)) (now (chars .entry)) (now (reasons .entry)) (now (keys .entry))) (lent (now (terms .exit)) (now (cells .entry)) (now (chars .exit)) (now (reasons .exit)) (now (keys .entry))) c (now (next .exit)) (now (met .exit)) x ⌝ }
+{
+    if !opens(terms, c.terms, t, a) {
+        next[k] = a;
+        return DeepForm::List(k + 1, c);
+    }
+    if met[a as usize] == 1 {
+        return DeepForm::None(c);
+    }
+    met[a as usize] = 1;
+    expand_atom(
+        terms,
+        cells,
+        chars,
+        reasons,
+        keys,
+        c,
+        known,
+        table,
+        a,
+        next,
+        k,
+    )
+}
+
+// One round over a list. The round's list passes 256 atoms only by those that stand as they are, so 512 words hold it.
+pub(crate) fn expand(
+    terms: &mut [u32],
+    cells: &[u32],
+    chars: &mut [u32],
+    reasons: &mut [u32],
+    keys: &[u32],
+    c: State,
+    known: &[u32],
+    table: &[u32; 513],
+    t: u32,
+    list: &[u32],
+    count: usize,
+    met: &mut [u8; 513],
+    next: &mut [u32],
+) -> DeepForm
+    requires { ⌜ Ready (lent (now terms) (now cells) (now chars) (now reasons) (now keys)) c ⌝ ∗ ⌜ Candidates (storeOf (lent (now terms) (now cells) (now chars) (now reasons) (now keys)) c) (now known) (now table) ⌝ ∗ ⌜ RoundOf (storeOf (lent (now terms) (now cells) (now chars) (now reasons) (now keys)) c) (now list) count (now met) (now next) ⌝ }
+    ensures { λ x. ⌜ Expands (now (known .entry)) t (firstWords (now (list .entry)) count) (now (next .entry)) 0 (now (met .entry)) (lent (now (terms .entry)) (now (cells .entry)) (now (chars .entry)) (now (reasons .entry)) (now (keys .entry))) (lent (now (terms .exit)) (now (cells .entry)) (now (chars .exit)) (now (reasons .exit)) (now (keys .entry))) c (now (next .exit)) (now (met .exit)) x ⌝ }
+{
+    let mut d = c;
+    let mut k: usize = 0;
+    let mut i: usize = 0;
+    while i < count {
+        let made = expand_one(
+            terms,
+            cells,
+            chars,
+            reasons,
+            keys,
+            d,
+            known,
+            table,
+            t,
+            list[i],
+            met,
+            next,
+            k,
+        );
+        let DeepForm::List(n, e) = made else {
+            return made;
+        };
+        k = n;
+        d = e;
+        i += 1;
+    }
+    DeepForm::List(k, d)
+}
