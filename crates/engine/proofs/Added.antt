@@ -1,6 +1,6 @@
 -- A store with more reasons.
 use mathlib.Core.Path.{_≡_, sym, ap, _∙_}
-use mathlib.Core.List.{List, [], _∷_, _++_, append-nil, append-assoc}
+use mathlib.Core.List.{List, [], _++_, append-nil, append-assoc}
 use Prim.Native.Nat.{ℕ}
 use Rattle.records.specs.Store.{Store}
 use Rattle.records.specs.Make.{withReasons}

@@ -1,21 +1,21 @@
 -- Each way through `find` and `explain`.
 use mathlib.Core.Path.{_≡_, refl, sym, ap, _∙_}
 use mathlib.Core.Bool.{Bool, true, false, not, _&&_}
-use Prim.Native.Nat.{ℕ, zero, suc, _≤_}
+use Prim.Native.Nat.{ℕ}
 use native.Mathlib.Omega.{arith}
 use lib.Dec.{eqb}
-use borrow.Author.Tests.{not-true, not-false, eqb-true}
+use borrow.Author.Tests.{not-true, not-false}
 use Rattle.records.specs.declared.State.{State}
-use Rattle.records.specs.Store.{Store, Out, ok, stop, isString, isTerm, sameClass, within, root, rootIn, classUp, termIn}
-use Rattle.records.specs.View.{Lent, storeOf, sizes, termsView}
-use Rattle.records.specs.Lists.{if_then_else_, Every}
-use Rattle.records.specs.Rules.{recordsRule, classesRule, congruencesRule, auditStore, audit}
+use Rattle.records.specs.Store.{Store, Out, ok, stop, isString, sameClass, within, rootIn, classUp, termIn}
+use Rattle.records.specs.View.{Lent, storeOf, termsView}
+use Rattle.records.specs.Lists.{Every}
+use Rattle.records.specs.Rules.{audit}
 use Rattle.records.specs.Audited.{Audited, Ready, Closed}
-use Rattle.records.specs.Calls.{Working, Public, call, unless, checked}
+use Rattle.records.specs.Calls.{Working, Public, call}
 use lib.Seq.{drop-append-seam}
-use Rattle.records.proofs.Lists.{every-map, both-left, both-right, both-true, left-false, right-false}
+use Rattle.records.proofs.Lists.{both-left, both-right, left-false, right-false}
 use Rattle.records.proofs.Passed.{ready-of}
-use Rattle.records.proofs.Public.{call-unready, call-unfit, call-works}
+use Rattle.records.proofs.Public.{call-unready, call-unfit, call-works, audit-low}
 use Rattle.records.proofs.Grown.{string-term}
 use Rattle.records.proofs.Climbs.{term-within, ready-roots}
 use Rattle.engine.specs.Explain.{find, findArguments, explain, explainArguments}
@@ -46,18 +46,6 @@ module _ (m : Lent) (c : State) (t k : ℕ) (v : k ≡ audit m c) where
 
 -- EXPLAIN
 
--- the audit's refusals are 1 to 4
-audit-low : (m : Lent) (c : State) → audit m c ≤ 4
-unfolding audit auditStore
-audit-low m c = go (sizes m c) (recordsRule (storeOf m c)) (classesRule (storeOf m c)) (congruencesRule (storeOf m c))
-  where
-    go : (a b d e : Bool) → (if a then (if b then (if d then (if e then 0 else 4) else 3) else 2) else 1) ≤ 4
-    go false b d e = omega arith
-    go true false d e = omega arith
-    go true true false e = omega arith
-    go true true true false = omega arith
-    go true true true true = omega arith
-
 module _ (m : Lent) (c : State) (a b : ℕ) (d : Ready m c) where
   pub can-here : (t : ℕ) (x : Bool) → x ≡ within 3 (termIn (termsView (m .terms) (c .terms)) t .kind) → not x ≡ false
       → (within (c .terms) t ≡ true) × Closed (classUp (termsView (m .terms) (c .terms))) (c .terms)
@@ -79,7 +67,7 @@ module _ (m : Lent) (c : State) (a b : ℕ) (d : Ready m c) where
 labelled : (s s′ : Store) → {a b : ℕ} → Gave s s′ a b → Every (Labels s) (addedTo s s′)
 labelled s s′ g =
     rw (ap (λ (x : Store). x .reasons) (g .added .is), drop-append-seam (s .reasons) (g .added .more))
-    (every-map (λ r x. record { at = x .at; edge = x .edge; is = x .is; good = x .good }) (g .causes))
+    (g .causes)
 
 module _ (m : Lent) (c : State) (a b k : ℕ) (v : k ≡ audit m c) where
   pub explain-unready : (k ≡ 0 → ⊥) → PublicExplain a b m m c (stop k)

@@ -11,9 +11,9 @@ use Rattle.records.specs.Store.{Store, term, chain, parts, path, isEdge}
 use Rattle.records.specs.Make.{ordered}
 use Rattle.records.specs.Meaning.{Words, Reading, Joins, Holds}
 use Rattle.records.specs.Audited.{Audited, Pairs, Congruent}
-use Rattle.records.proofs.Lists.{every-map}
+use Rattle.records.proofs.Lists.{every-map, every-both}
 use Rattle.engine.specs.Explain.{Seen}
-use Rattle.engine.proofs.Paths.{every-both, path-edges, path-joins}
+use Rattle.engine.proofs.Paths.{path-edges, path-joins}
 use Rattle.engine.proofs.Fits.{Fit, fit-turned, pairs-fit}
 use Rattle.engine.proofs.Run.{Joined, Accounted, by-reason, by-pairs, by-definition, Settled}
 

@@ -1,17 +1,15 @@
 -- Pairs that explain walks: two terms of one tree, the stamps of their path below a number.
 use mathlib.Core.Path.{_≡_}
-use mathlib.Core.Bool.{true}
 use mathlib.Core.List.{List, [], _∷_}
-use mathlib.Core.Logic.{⊎-elim}
 use Prim.Native.Nat.{ℕ, _≤_, _<_}
 use native.Mathlib.Omega.{arith}
-use Rattle.records.specs.Lists.{firsts, seconds, Every, none-left, and}
-use Rattle.records.specs.Store.{Store, term, kind, isTerm, chain, parts, path}
-use Rattle.records.specs.Audited.{Audited, Pairs, Congruent}
-use Rattle.records.proofs.Lists.{every-map}
-use Rattle.records.proofs.Grown.{string-term}
+use Rattle.records.specs.Lists.{Every, none-left, and}
+use Rattle.records.specs.Store.{Store, term, chain, path}
+use Rattle.records.specs.Audited.{Audited, Congruent}
+use Rattle.records.proofs.Lists.{every-map, every-both}
+use Rattle.records.proofs.Readings.{pairs-terms}
 use Rattle.engine.specs.Explain.{highest, height}
-use Rattle.engine.proofs.Paths.{every-both, Together, together-turned, path-turned, path-joins}
+use Rattle.engine.proofs.Paths.{Together, together-turned, path-turned, path-joins}
 
 pub record Fit (s : Store) (m : ℕ) (p : ℕ × ℕ) : Type 0 where
   pub together : Together s p
@@ -48,32 +46,7 @@ fit-zero {s} {p} d f = path-joins s d (λ (x : ℕ). x) p (f .together) (every-m
 
 -- THE PAIRS OF A CONGRUENCE EDGE
 
-every-firsts : {P : ℕ → Type 0} {l : List (ℕ × ℕ)} → Every (λ p. P (p .0)) l → Every P (firsts l)
-unfolding firsts
-every-firsts none-left = none-left
-every-firsts (and p k) = and p (every-firsts k)
-
-firsts-every : {P : ℕ → Type 0} (l : List (ℕ × ℕ)) → Every P (firsts l) → Every (λ p. P (p .0)) l
-unfolding firsts
-firsts-every [] k = none-left
-firsts-every (p ∷ l) (and q k) = and q (firsts-every l k)
-
-seconds-every : {P : ℕ → Type 0} (l : List (ℕ × ℕ)) → Every P (seconds l) → Every (λ p. P (p .1)) l
-unfolding seconds
-seconds-every [] k = none-left
-seconds-every (p ∷ l) (and q k) = and q (seconds-every l k)
-
-module _ (s : Store) (d : Audited s) where
-  -- a concatenation's parts are terms
-  parts-terms : (t : ℕ) → kind s t ≡ 3 → Every (λ x. isTerm s x ≡ true) (parts s t)
-  parts-terms t k = every-firsts (every-map (λ p q. string-term s (p .0) (q .string)) (d .recorded .partsGood t k))
-
-  pairs-terms : (l : List (ℕ × ℕ)) (t u : ℕ) → kind s t ≡ 3 → kind s u ≡ 3 → Pairs s l t u → Every (λ p. (isTerm s (p .0) ≡ true) × (isTerm s (p .1) ≡ true)) l
-  pairs-terms l t u h k p = every-both (firsts-every l (rw (p .one) (parts-terms t h))) (seconds-every l (rw (p .other) (parts-terms u k)))
-
-  pub pairs-fit : (t : ℕ) → Congruent s t → Every (Fit s (term s t .stamp)) (chain s (term s t .labelValue))
-  pairs-fit t c =
-      let u : ℕ = term s t .forestParent in
-      let l : List (ℕ × ℕ) = chain s (term s t .labelValue) in
-      let e = ⊎-elim (pairs-terms l t u (c .child) (c .parent)) (pairs-terms l u t (c .parent) (c .child)) (c .pairs) in
-      every-map (λ p q. record { together = record { left = q .0 .0; right = q .0 .1; tree = q .1 .tree }; stamps = q .1 .stamps }) (every-both e (c .falls))
+pub pairs-fit : (s : Store) → Audited s → (t : ℕ) → Congruent s t → Every (Fit s (term s t .stamp)) (chain s (term s t .labelValue))
+pairs-fit s d t c =
+    every-map (λ p q. record { together = record { left = q .0 .0; right = q .0 .1; tree = q .1 .tree }; stamps = q .1 .stamps })
+    (every-both (pairs-terms s (d .recorded) t c) (c .falls))

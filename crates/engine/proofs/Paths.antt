@@ -13,22 +13,10 @@ pub use Rattle.engine.specs.Walks.{Together}
 use Rattle.records.specs.Lists.{any, firstOf, isIn, upTo, Every, none-left, and}
 use Rattle.records.specs.Store.{Term, Store, term, isTerm, climb, forestUp, top, aboveBy, aboveIn, orNone, nearestIn, pathIn, path, isEdge}
 use Rattle.records.specs.Audited.{Audited}
-use Rattle.records.proofs.Lists.{every-append, either, or-left, or-right, clash}
+use Rattle.records.proofs.Lists.{every-append, every-left, every-right, either, or-left, or-right, clash}
 use Rattle.records.proofs.Climbs.{climb-stays}
 
--- LISTS
-
-pub every-left : {A : Type 0} {P : A → Type 0} (l m : List A) → Every P (l ++ m) → Every P l
-every-left [] m e = none-left
-every-left (x ∷ l) m (and p e) = and p (every-left l m e)
-
-pub every-right : {A : Type 0} {P : A → Type 0} (l m : List A) → Every P (l ++ m) → Every P m
-every-right [] m e = e
-every-right (x ∷ l) m (and p e) = every-right l m e
-
-pub every-both : {A : Type 0} {P Q : A → Type 0} {l : List A} → Every P l → Every Q l → Every (λ a. P a × Q a) l
-every-both none-left none-left = none-left
-every-both (and p h) (and q k) = and (p, q) (every-both h k)
+-- MEMBERS
 
 pub is-in : (x : ℕ) (l : List ℕ) → isIn x l ≡ true → List·Memᴰ x l
 unfolding isIn any

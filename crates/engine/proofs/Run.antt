@@ -12,9 +12,10 @@ use Rattle.records.specs.Store.{Store, Out, ok, stop, Work, andThen, _>>=_, giv
 use Rattle.records.specs.Rules.{reasonRule}
 use Rattle.records.specs.Make.{addReason, withReasons, ordered, samePair}
 use Rattle.records.specs.Audited.{Audited, Label, asserted, interface, congruence, definitional}
-use Rattle.records.proofs.Lists.{every-map, every-append, either, both-left, both-right, clash}
+use Rattle.records.proofs.Lists.{every-map, every-append, either, both-left, both-right, clash, every-both}
 use Rattle.engine.specs.Explain.{Seen, wasSeen, each, edge, walk}
-use Rattle.engine.proofs.Paths.{every-both, path-edges}
+use Rattle.engine.specs.Meaning.{Labels}
+use Rattle.engine.proofs.Paths.{path-edges}
 use Rattle.engine.proofs.Fits.{Fit, fit-zero, fit-more, pairs-fit}
 use Rattle.engine.proofs.Cites.{cites, citing, citing-then}
 
@@ -32,13 +33,6 @@ joined-more m p (inl e) = inl e
 joined-more m p (inr k) = inr (m .pairs _ k)
 
 module _ (s : Store) where
-  -- a reason that labels an edge
-  pub record Cause (r : ℕ × ℕ) : Type 0 where
-    pub at : ℕ
-    pub edge : isEdge s at ≡ true
-    pub is : r ≡ (term s at .labelKind, term s at .labelValue)
-    pub good : reasonRule r ≡ true
-
   -- how an edge is accounted for: by its reason, by its pairs, or it is definitional
   pub data Accounted (l : List (ℕ × ℕ)) (seen : Seen) (e : ℕ) : Type 0 where
     by-reason : List·Memᴰ (term s e .labelKind, term s e .labelValue) l → Accounted l seen e
@@ -64,7 +58,7 @@ module _ (s : Store) where
     pub cited : List (ℕ × ℕ)
     pub after : Seen
     pub is : (rs : List (ℕ × ℕ)) → f (withReasons s rs) ≡ citing s cited after rs
-    pub causes : Every Cause cited
+    pub causes : Every (Labels s) cited
     pub grows : (q : ℕ × ℕ) → List·Memᴰ q seen → List·Memᴰ q after
     pub fresh : (q : ℕ × ℕ) → List·Memᴰ q after → List·Memᴰ q seen ⊎ Settled cited after q
     pub ends : J cited after

@@ -2,7 +2,7 @@
 -- it gives explains.
 use mathlib.Core.Path.{_≡_, refl, sym, ap, subst, _∙_}
 use mathlib.Core.Bool.{true}
-use mathlib.Core.List.{List, [], _∷_, _++_, List·Memᴰ·not-nil}
+use mathlib.Core.List.{List, [], _++_, List·Memᴰ·not-nil}
 use mathlib.Core.Logic.{⊎-elim}
 use Prim.Native.Nat.{ℕ, _+_, _≤_, _<_}
 use native.Mathlib.Omega.{arith}
@@ -21,12 +21,12 @@ use Rattle.records.proofs.Works.{stop-not}
 use Rattle.records.proofs.Grown.{Grown, string-term}
 use Rattle.records.proofs.Beside.{audited-beside, grown-beside}
 use Rattle.engine.specs.Explain.{Seen, walked, height, explain}
-use Rattle.engine.specs.Meaning.{Explains}
+use Rattle.engine.specs.Meaning.{Explains, Labels}
 use Rattle.engine.proofs.Paths.{Together}
 use Rattle.engine.proofs.Fits.{height-fit}
 use Rattle.engine.proofs.Cites.{cites, cites-ok, cites-full}
 use Rattle.engine.proofs.Added.{Added}
-use Rattle.engine.proofs.Run.{Cause, walk-run}
+use Rattle.engine.proofs.Run.{walk-run}
 use Rattle.engine.proofs.Equal.{words-equal}
 
 -- string terms of one class are in one tree
@@ -40,7 +40,7 @@ class-together s d a b p q c =
 pub record Explained (s : Store) (a b : ℕ) : Type 0 where
   pub cited : List (ℕ × ℕ)
   pub is : (rs : List (ℕ × ℕ)) → explain a b (withReasons s rs) ≡ cites cited (withReasons s rs)
-  pub causes : Every (Cause s) cited
+  pub causes : Every (Labels s) cited
   pub equal : (w : Words) → Reading s w → Holds s cited w → w a ≡ w b
 
 answer-none : (o : Out (Unit {0})) (seen : Seen) → andThen (λ (v : Seen). give tt) (andThen (λ (u : Unit {0}). give seen) o) ≡ o
@@ -71,7 +71,7 @@ module _ {s : Store} {a b : ℕ} (x : Explained s a b) where
 -- an explanation given
 pub record Gave (s s′ : Store) (a b : ℕ) : Type 0 where
   pub added : Added s s′
-  pub causes : Every (Cause s) (added .more)
+  pub causes : Every (Labels s) (added .more)
   pub audited : Audited s′
   pub grown : Grown s s′
   pub equal : (w : Words) → Reading s w → Holds s (added .more) w → w a ≡ w b

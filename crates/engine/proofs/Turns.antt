@@ -1,6 +1,6 @@
 -- Each way through `explain_rec` and `expand_edge`.
 use mathlib.Core.Path.{_≡_, refl, sym, ap, _∙_}
-use mathlib.Core.Bool.{Bool, true, false, not, _&&_, _||_}
+use mathlib.Core.Bool.{Bool, true, false, _&&_, _||_}
 use mathlib.Core.List.{List, [], _∷_, _++_, List·Memᴰ, List·Memᴰ·cases-cons, List·Memᴰ·not-nil}
 use mathlib.Core.Logic.{_⊎_, inl, inr, ⊎-elim}
 use Prim.Native.Nat.{ℕ, zero, suc, _+_, _*_, _/_, _%_, _^_, _≤_, _<_, min, max}
@@ -9,9 +9,9 @@ use native.Mathlib.Omega.{arith}
 use native.Mathlib.Decide.{ℕ-discrete}
 use lib.ListN.{length, getD, replicate, length-replicate}
 use lib.Dec.{eqb, ltb}
-use borrow.Author.Tests.{eqb-true, eqb-false, eq-eqb, ne-eqb, ltb-true}
-use Rattle.records.specs.Lists.{if_then_else_, any, firsts, upTo, table, Every, none-left, and}
-use Rattle.records.specs.Store.{Term, Cell, Store, Out, ok, stop, Work, andThen, store, term, cell, count, isTerm, isEdge, isString, sameClass, within, kind, parts, chain, chainIn, top, path, pathIn, forestUp, topIn, aboveBy, aboveIn, nearestIn, termIn, cellIn}
+use borrow.Author.Tests.{eqb-true, eq-eqb, ne-eqb, ltb-true}
+use Rattle.records.specs.Lists.{any, firsts, upTo, Every, and}
+use Rattle.records.specs.Store.{Term, Cell, Store, Out, ok, stop, Work, andThen, store, term, cell, count, isTerm, isEdge, isString, within, kind, parts, chain, chainIn, path, pathIn, forestUp, topIn, aboveBy, aboveIn, nearestIn, termIn, cellIn}
 use Rattle.records.specs.declared.State.{State}
 use Rattle.records.specs.declared.Added.the-variants.{Counts, Refused}
 use Rattle.records.specs.Calls.{Working, added}
@@ -19,7 +19,7 @@ use Rattle.records.specs.View.{Lent, lent, storeOf, termAt, cellAt, termsView, 
 use Rattle.records.specs.Make.{withReasons, addReason, ordered, samePair}
 use Rattle.records.specs.Audited.{Audited, Ready, Closed, Label, asserted, interface, congruence, definitional, Next, last, later}
 use Rattle.records.specs.Puts.{Pushed}
-use Rattle.records.proofs.Lists.{either, or-left, or-right, clash, decide, same-test, both-left, both-right, both-true, within-low, within-high, within-is, within-zero, table-length, table-at}
+use Rattle.records.proofs.Lists.{or-left, or-right, clash, decide, both-left, both-right, both-true, within-low, within-high, within-is, within-zero, table-length, every-both}
 use Rattle.records.proofs.Views.{term-is, cell-is, table-is}
 use Rattle.records.proofs.Climbs.{above-root, above-is, classed-tops}
 use Rattle.records.proofs.Chains.{chain-none, chain-is}
@@ -29,7 +29,7 @@ use Rattle.engine.specs.Marks.{place, bit, marked, Marked, Marks}
 use Rattle.engine.specs.Walks.{Standing, Together, Edge, Wide, Walkable, Shows, came, refused, Walks, Gives, ahead, Comes, explained, stopped, Explained, Explainable}
 use Rattle.engine.proofs.Bits.{place-pair, place-small}
 use Rattle.engine.proofs.Fits.{Fit, fit-height, pairs-fit, highest-high}
-use Rattle.engine.proofs.Paths.{nearest, path-edges, every-both}
+use Rattle.engine.proofs.Paths.{nearest, path-edges}
 use Rattle.engine.proofs.Walk.{walked-same}
 use Rattle.engine.proofs.Sound.{class-together}
 

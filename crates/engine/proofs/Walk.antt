@@ -10,8 +10,9 @@ use Rattle.records.specs.Lists.{if_then_else_, Every, none-left, and}
 use Rattle.records.specs.Store.{Store, Work, andThen, give, term, isTerm, path, isEdge}
 use Rattle.records.specs.Make.{withReasons, ordered}
 use Rattle.records.specs.Audited.{Audited, Label, asserted, interface, congruence, definitional}
+use Rattle.records.proofs.Lists.{every-both}
 use Rattle.engine.specs.Explain.{Seen, wasSeen, each, edge, walk, walked, height}
-use Rattle.engine.proofs.Paths.{every-both, Together, path-edges}
+use Rattle.engine.proofs.Paths.{Together, path-edges}
 use Rattle.engine.proofs.Fits.{Fit, fit-zero, fit-more, fit-height, height-fit, highest-high, pairs-fit}
 use Rattle.engine.proofs.Cites.{citing-same}
 use Rattle.engine.proofs.Added.{Added}
@@ -96,6 +97,3 @@ module _ (s : Store) (d : Audited s) where
 -- the equation without the height, in a store with more reasons than the one that was audited
 pub walk-is : {s s₁ : Store} → Audited s → Added s s₁ → (p : ℕ × ℕ) → Together s p → (seen : Seen) → walked p seen s₁ ≡ level s₁ p seen s₁
 walk-is {s} d a p t seen = rw (a .is) (walked-same s d p t seen (s .reasons ++ a .more))
-
-pub walk-here : {s : Store} → Audited s → (p : ℕ × ℕ) → Together s p → (seen : Seen) → walked p seen s ≡ level s p seen s
-walk-here {s} d p t seen = walked-same s d p t seen (s .reasons)

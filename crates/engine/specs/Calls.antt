@@ -1,6 +1,5 @@
 -- What the public calls of find and explain promise.
 use mathlib.Core.Path.{_≡_}
-use mathlib.Core.List.{List}
 use Prim.Native.Nat.{ℕ, _<_}
 use Rattle.records.specs.declared.State.{State}
 use Rattle.records.specs.Lists.{Every}

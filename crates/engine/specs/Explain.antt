@@ -1,10 +1,10 @@
 -- Document 01, 'Engine': find and explain.
-use mathlib.Core.Bool.{Bool, true, false, not, _&&_, _||_}
+use mathlib.Core.Bool.{Bool, _&&_, _||_}
 use mathlib.Core.List.{List, [], _∷_}
 use Prim.Native.Nat.{ℕ, zero, suc, max}
 use lib.Dec.{eqb}
 use Rattle.records.specs.Lists.{if_then_else_, any}
-use Rattle.records.specs.Store.{Term, Store, Out, ok, Work, _>>=_, _>>_, give, refuse, store, termIn, term, isString, chain, root, sameClass, path}
+use Rattle.records.specs.Store.{Term, Store, ok, Work, _>>=_, _>>_, give, refuse, store, termIn, term, isString, chain, root, sameClass, path}
 use Rattle.records.specs.Make.{addReason, ordered, samePair}
 
 -- find: the class root
@@ -51,7 +51,7 @@ highest ts (e ∷ l) = max (suc (termIn ts e .stamp)) (highest ts l)
 abbrev pub height : Store → ℕ × ℕ → ℕ
 height s p = highest (s .terms) (path s (p .0) (p .1))
 
--- 'explain walks a to the nearest shared forest ancestor, then b to it, giving each edge's reasons in that order. Walking a pair and
+-- '`explain` walks a to the nearest shared forest ancestor, then b to it, giving each edge's reasons in that order. Walking a pair and
 -- expanding an edge call each other, the stamp falling': h is no lower than the pair's height (proofs/Walk.antt has the equation without it)
 unfoldable pub walk : ℕ → ℕ × ℕ → Seen → Work Seen
 walk zero p seen = give seen

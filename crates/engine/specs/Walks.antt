@@ -5,13 +5,13 @@ use mathlib.Core.List.{List, [], _∷_, _++_}
 use Prim.Native.Nat.{ℕ, _+_, _*_, _≤_}
 use lib.ListN.{length}
 use lib.Dec.{ltb}
-use Rattle.records.specs.Lists.{if_then_else_, upTo}
+use Rattle.records.specs.Lists.{upTo}
 use Rattle.records.specs.Store.{Term, Store, Out, ok, stop, Work, isTerm, isEdge, top, aboveIn}
 use Rattle.records.specs.View.{termsView, cellsView, pairsView, reasonRoom}
 use Rattle.records.specs.Make.{withReasons}
 use Rattle.records.specs.Audited.{Audited}
 use Rattle.engine.specs.declared.Walked.{Walked}
-use Rattle.engine.specs.Explain.{Seen, walked, edge, explain}
+use Rattle.engine.specs.Explain.{Seen, explain}
 use Rattle.engine.specs.Marks.{Marks}
 
 -- an audited store with the lent terms and cells and the room of the lent reasons

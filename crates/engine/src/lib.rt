@@ -1,17 +1,15 @@
 // Classes and explanations: find and explain.
 ghost use mathlib.Core.Path.{_≡_};
 ghost use mathlib.Core.Bool.{true, false};
-ghost use Prim.Native.Nat.{ℕ, _+_, _*_, _≤_, _<_};
+ghost use Prim.Native.Nat.{_+_, _*_, _≤_, _<_};
 ghost use lib.ListN.{length};
-ghost use Rattle.records.specs.View.{pairsView};
-ghost use Rattle.engine.specs.Explain.{walked, edge};
-ghost use Rattle.engine.specs.Marks.{place, marked, Marked};
-ghost use Rattle.engine.specs.Walks.{Walkable, Together, Edge, Walks, Gives, Explainable, Explained};
-ghost use Rattle.engine.specs.Explain.{find, findArguments, explain, explainArguments};
-ghost use Rattle.engine.specs.Calls.{found, PublicExplain};
 ghost use Rattle.records.specs.View.{lent, storeOf};
 ghost use Rattle.records.specs.Audited.{Ready};
 ghost use Rattle.records.specs.Calls.{Working, Public, call, added};
+ghost use Rattle.engine.specs.Explain.{find, findArguments, walked, edge, explain, explainArguments};
+ghost use Rattle.engine.specs.Marks.{place, marked, Marked};
+ghost use Rattle.engine.specs.Walks.{Walkable, Together, Edge, Walks, Gives, Explainable, Explained};
+ghost use Rattle.engine.specs.Calls.{found, PublicExplain};
 use records::Added;
 use records::State;
 use records::classes;

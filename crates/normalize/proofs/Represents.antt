@@ -14,8 +14,7 @@ use Rattle.records.specs.Lists.{if_then_else_, firstOf, Every, none-left, and}
 use Rattle.records.specs.Store.{Store, Term, within, kind, termIn, rootIn, classUp}
 use Rattle.records.specs.View.{termLimit, termsView}
 use Rattle.records.specs.Audited.{Closed}
-use Rattle.records.proofs.Lists.{both-right, left-false, decide, clash, within-high, every-map, every-append}
-use Rattle.engine.proofs.Paths.{every-both}
+use Rattle.records.proofs.Lists.{both-right, left-false, decide, clash, within-high, every-map, every-append, every-both}
 use Rattle.records.proofs.Paths.{first-same}
 use Rattle.records.proofs.Climbs.{climb-within}
 use Rattle.normalize.specs.Normalize.{orFirst, representative}

@@ -1,18 +1,18 @@
--- Adding a reason or a key, and a term: the ways through, over the store that is seen.
-use mathlib.Core.Path.{_≡_, refl, sym, ap, _∙_}
+-- Adding a reason or a key: the ways through, over the store that is seen.
+use mathlib.Core.Path.{_≡_, refl}
 use mathlib.Core.Bool.{Bool, true, false}
 use mathlib.Core.List.{List, [], _∷_, _++_}
-use Prim.Native.Nat.{ℕ, zero, suc, _+_, _*_, _/_, _≤_, _<_, min, max}
+use Prim.Native.Nat.{ℕ, _+_, _*_, _<_, min, max}
 use native.Mathlib.Numerals.{add-one}
 use native.Mathlib.Omega.{arith}
 use lib.ListN.{length, getD}
-use lib.Dec.{eqb, ltb, leb}
+use lib.Dec.{eqb, ltb}
 use borrow.Author.Tests.{eq-eqb, ne-eqb}
 use Rattle.records.specs.declared.State.{State}
-use Rattle.records.specs.Lists.{table, any}
-use Rattle.records.specs.Store.{Store, Out, ok, stop, Work}
-use Rattle.records.specs.View.{reasonLimit, keyLimit, Lent, lent, storeOf, pairAt, pairsView, reasonRoom, keyRoom, oneReason, oneKey}
-use Rattle.records.specs.Make.{addReason, addKey, withReasons, withKeys, ordered, samePair}
+use Rattle.records.specs.Lists.{any}
+use Rattle.records.specs.Store.{ok, stop}
+use Rattle.records.specs.View.{reasonLimit, lent, storeOf, pairAt, pairsView, keyRoom, oneReason, oneKey}
+use Rattle.records.specs.Make.{addReason, addKey, ordered, samePair}
 use Rattle.records.specs.Puts.{PairPut, Pushed}
 use Rattle.records.specs.Calls.{Working}
 use Rattle.records.proofs.Lists.{table-length}

@@ -11,18 +11,18 @@ use lib.ListN.{length, length-append, List·getD-append}
 use lib.Seq.{getD-append-seam}
 use lib.Dec.{eqb, ltb}
 use borrow.Author.Tests.{eqb-true, eq-eqb, ne-eqb}
-use Rattle.records.specs.Lists.{all, firstOf, isIn, firsts, seconds, upTo, Every, none-left, and}
+use Rattle.records.specs.Lists.{all, firstOf, isIn, firsts, upTo, Every}
 use Rattle.records.specs.Store.{Term, noTerm, Cell, Store, termIn, term, count, kind, within, isTerm, isString, isLength, textIn, text, chainIn, chain, parts, climb, classUp, forestUp, root, top, sameClass, sameTree, aboveBy, aboveIn, orNone, nearestIn, pathIn, path, isEdge}
 use Rattle.records.specs.Make.{own}
 use Rattle.records.specs.Rules.{isChar, isNumber, keyRule, isEquatable}
 use Rattle.records.specs.Audited
 use Rattle.records.specs.Audited.{Part, Ascends, Closed, Label, Unlabelled, Falls, Pairs, Congruent, Recorded, Classed, Congruences, Audited}
-use Rattle.records.proofs.Lists.{both-left, both-right, both-true, either, or-left, or-right, within-low, within-high, within-is, decide, clash, every-map, all-every, every-all}
+use Rattle.records.proofs.Lists.{both-left, both-right, both-true, either, or-left, or-right, within-low, within-high, within-is, decide, clash, every-map, every-both, all-every, every-all}
 use Rattle.records.proofs.Climbs.{climb-last, classed-roots, classed-tops, root-self, top-self, root-term, top-term}
 use Rattle.records.proofs.Chains
 use Rattle.records.proofs.Chains.{chain-extends, chain-none}
-use Rattle.records.proofs.Readings.{parts-strings}
-use Rattle.records.proofs.Grown.{term-past, used, present, string-term, string-here}
+use Rattle.records.proofs.Readings.{pairs-terms}
+use Rattle.records.proofs.Grown.{term-past, used, present, string-here}
 
 -- WALKS
 
@@ -69,22 +69,6 @@ unfolding isEquatable
 equatable-here s t u e =
     ⊎-elim (λ h. (string-here s t (both-left _ _ h), string-here s u (both-right (isString s t) _ h)))
     (λ h. (present s t 3 (eqb-true _ _ (both-left _ _ h)), present s u 3 (eqb-true _ _ (both-right (isLength s t) _ h)))) (either _ _ e)
-
--- two facts of each element
-every-both : {P Q R : ℕ × ℕ → Type 0} {l : List (ℕ × ℕ)} → ((p : ℕ × ℕ) → P p → Q p → R p) → Every P l → Every Q l → Every R l
-every-both f none-left k = none-left
-every-both f (and {a} p h) (and q k) = and (f a p q) (every-both f h k)
-
--- a fact of the first values, or of the second
-from-firsts : {P : ℕ → Type 0} (l : List (ℕ × ℕ)) → Every P (firsts l) → Every (λ p. P (p .0)) l
-unfolding firsts
-from-firsts [] k = none-left
-from-firsts (p ∷ l) (and h k) = and h (from-firsts l k)
-
-from-seconds : {P : ℕ → Type 0} (l : List (ℕ × ℕ)) → Every P (seconds l) → Every (λ p. P (p .1)) l
-unfolding seconds
-from-seconds [] k = none-left
-from-seconds (p ∷ l) (and h k) = and h (from-seconds l k)
 
 firsts-length : (l : List (ℕ × ℕ)) → length (firsts l) ≡ length l
 unfolding firsts
@@ -300,7 +284,8 @@ module _ (s : Store) (ds : List Cell) (hs : List ℕ) (k a b : ℕ) where
 
     new-parts : k ≡ 3 → Every (Part s′ n) (chainIn ds a)
     new-parts i =
-        every-both (λ p q r. record { string = old-string (p .0) q; lower = (let h = string-here s (p .0) q in omega arith); plain = r }) (new .concat i .strings) (new .concat i .plain)
+        every-map (λ p q. record { string = old-string (p .0) (q .0); lower = (let h = string-here s (p .0) (q .0) in omega arith); plain = q .1 })
+        (every-both (new .concat i .strings) (new .concat i .plain))
 
     pub kept-recorded : Recorded s′
     kept-recorded = record {
@@ -390,13 +375,6 @@ module _ (s : Store) (ds : List Cell) (hs : List ℕ) (k a b : ℕ) where
     pairs-kept : (l : List (ℕ × ℕ)) (t u : ℕ) → kind s t ≡ 3 → kind s u ≡ 3 → Pairs s l t u → Pairs s′ l t u
     pairs-kept l t u e f p = record { one = p .one ∙ sym (old-parts recorded more t e); other = p .other ∙ sym (old-parts recorded more u f) }
 
-    -- both values of each pair are terms
-    pair-terms : (l : List (ℕ × ℕ)) (t u : ℕ) → kind s t ≡ 3 → kind s u ≡ 3 → Pairs s l t u → Every (λ p. (isTerm s (p .0) ≡ true) × (isTerm s (p .1) ≡ true)) l
-    pair-terms l t u e f p =
-        every-both (λ q h i. (string-term s (q .0) h, string-term s (q .1) i))
-        (from-firsts l (subst (λ (m : List ℕ). Every (λ x. isString s x ≡ true) m) (sym (p .one)) (parts-strings s recorded t e)))
-        (from-seconds l (subst (λ (m : List ℕ). Every (λ x. isString s x ≡ true) m) (sym (p .other)) (parts-strings s recorded u f)))
-
     pairs-some : (l : List (ℕ × ℕ)) (t u : ℕ) → kind s t ≡ 3 → Pairs s l t u → 1 ≤ length l
     pairs-some l t u e p =
         let h = recorded .twoParts t e in
@@ -419,7 +397,7 @@ module _ (s : Store) (ds : List Cell) (hs : List ℕ) (k a b : ℕ) where
           (subst (λ (m : List (ℕ × ℕ)). Pairs s′ m t u ⊎ Pairs s′ m u t) (sym same)
           (⊎-elim (λ p. inl (pairs-kept l t u (c .child) (c .parent) p)) (λ p. inr (pairs-kept l u t (c .parent) (c .child) p)) (c .pairs)));
       falls = at-old (λ x. Every (Falls s′ (x .stamp)) (chain s′ (x .labelValue))) t h
-          (subst (λ (m : List (ℕ × ℕ)). Every (Falls s′ (term s t .stamp)) m) (sym same) (every-both (falls-kept (term s t .stamp)) terms (c .falls)));
+          (subst (λ (m : List (ℕ × ℕ)). Every (Falls s′ (term s t .stamp)) m) (sym same) (every-map (λ p q. falls-kept (term s t .stamp) p (q .0) (q .1)) (every-both (pairs-terms s recorded t c) (c .falls))));
     }
       where
         old-kind : (t j : ℕ) → kind s t ≡ suc j → kind s′ t ≡ suc j
@@ -433,9 +411,6 @@ module _ (s : Store) (ds : List Cell) (hs : List ℕ) (k a b : ℕ) where
 
         same : chain s′ (term s t .labelValue) ≡ chain s (term s t .labelValue)
         same = old-chain recorded more (term s t .labelValue) (⊎-elim (pairs-some l t u (c .child)) (pairs-some l u t (c .parent)) (c .pairs))
-
-        terms : Every (λ p. (isTerm s (p .0) ≡ true) × (isTerm s (p .1) ≡ true)) l
-        terms = ⊎-elim (pair-terms l t u (c .child) (c .parent)) (pair-terms l u t (c .parent) (c .child)) (c .pairs)
 
     pub kept-congruences : Congruences s′
     kept-congruences t q r =

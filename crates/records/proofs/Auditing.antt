@@ -1,14 +1,12 @@
 -- Each answer of `audit`.
-use mathlib.Core.Path.{_≡_, refl, sym, ap, _∙_}
+use mathlib.Core.Path.{_≡_, sym, _∙_}
 use mathlib.Core.Bool.{Bool, true, false, not}
-use mathlib.Core.List.{List, []}
-use Prim.Native.Nat.{ℕ, _≤_}
+use mathlib.Core.List.{[]}
 use borrow.Author.Tests.{not-true, not-false}
 use Rattle.records.specs.declared.State.{State}
-use Rattle.records.specs.Lists.{if_then_else_}
-use Rattle.records.specs.View.{Lent, lent, storeOf, sizes, termLimit}
+use Rattle.records.specs.View.{Lent, lent, storeOf, sizes}
 use Rattle.records.specs.Rules.{recordsRule, classesRule, congruencesRule, auditStore, audit}
-use Rattle.records.specs.Audited.{Sized, Recorded, Classed, Congruable}
+use Rattle.records.specs.Audited.{Sized, Congruable}
 use Rattle.records.proofs.RuleLaws.{sized-of}
 use Rattle.records.proofs.ClassLaws.{classes-seen}
 use Rattle.records.proofs.PairLaws.{congruences-both, congruable}

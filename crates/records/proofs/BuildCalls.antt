@@ -1,16 +1,16 @@
 -- The public calls that make concatenations, lengths and equations: their arguments, and the ways through.
 use mathlib.Core.Path.{_≡_, refl, sym, ap, _∙_}
 use mathlib.Core.Bool.{Bool, true, false, not, _&&_}
-use mathlib.Core.List.{List, [], _∷_}
-use Prim.Native.Nat.{ℕ, zero, suc, _+_, _<_, _≤_}
+use mathlib.Core.List.{List, []}
+use Prim.Native.Nat.{ℕ, _<_, _≤_}
 use native.Mathlib.Omega.{arith}
 use lib.ListN.{length, getD}
 use lib.Dec.{leb}
-use borrow.Author.Tests.{not-true, not-false, le-leb, lt-leb}
+use borrow.Author.Tests.{le-leb, lt-leb}
 use Rattle.records.specs.declared.State.{State}
 use Rattle.records.specs.Lists.{all, allBelow}
-use Rattle.records.specs.Store.{Store, Out, stop, isString, within, termIn}
-use Rattle.records.specs.View.{Lent, lent, storeOf, termsView}
+use Rattle.records.specs.Store.{Store, Out, stop, isString}
+use Rattle.records.specs.View.{Lent, lent, storeOf}
 use Rattle.records.specs.Rules.{listLimit, isList, isEquatable, audit}
 use Rattle.records.specs.Make.{makeConcat, makeLength, makeEquation}
 use Rattle.records.specs.Calls.{call, Public, Working}

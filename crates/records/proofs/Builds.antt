@@ -1,9 +1,9 @@
 -- Making concatenations, lengths and equations.
 use mathlib.Core.Path.{_≡_, refl, sym, ap, _∙_}
 use mathlib.Core.Bool.{Bool, true, false, not, _&&_}
-use mathlib.Core.List.{List, [], _∷_, _++_}
+use mathlib.Core.List.{List, [], _∷_}
 use mathlib.Core.Option.{Option, none, some}
-use Prim.Native.Nat.{ℕ, zero, suc, _+_, _*_, _-_, _<_, _≤_}
+use Prim.Native.Nat.{ℕ, suc, _+_, _*_, _-_, _<_, _≤_}
 use native.Mathlib.Numerals.{add-one}
 use native.Mathlib.Omega.{arith}
 use lib.ListN.{length, getD, drop, drop-of-length-le}
@@ -13,8 +13,8 @@ use borrow.Author.Tests.{not-true, not-false, eqb-true, eq-eqb, ne-eqb}
 use Rattle.records.specs.Lists.{sameWord, firsts, firstBelow}
 use Rattle.records.specs.declared.State.{State}
 use Rattle.records.specs.declared.Made.the-variants.{Term, Refused}
-use Rattle.records.specs.Store.{Term as Record, Cell, Store, Out, ok, stop, Work, term, kind, count, within, termIn, cellIn, chainIn}
-use Rattle.records.specs.View.{Lent, lent, storeOf, termLimit, cellLimit, termRoom, cellRoom, termAt, cellAt, termsView, cellsView, oneTerm, moreCells}
+use Rattle.records.specs.Store.{Term as Record, Cell, Store, Out, ok, stop, Work, term, kind, count, within, chainIn}
+use Rattle.records.specs.View.{Lent, lent, storeOf, termLimit, cellLimit, termRoom, cellRoom, termAt, cellAt, cellsView, oneTerm, moreCells}
 use Rattle.records.specs.Make.{lookup, lowest, orMake, addChain, addTerm, concatOf, makeConcat, lengthOf, equationOf, makeLength, makeEquation}
 use Rattle.records.specs.Leaves.{numberOf, appendParts, hasParts, sidesOf, hasSides, makeSides}
 use Rattle.records.specs.Puts.{TermPut, ChainPut}

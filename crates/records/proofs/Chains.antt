@@ -82,9 +82,6 @@ extends-append cs ds = record { longer = simp length-append (omega arith); same 
     same zero h = refl
     same (suc c) h = List·getD-append cs ds noCell c h
 
-pub chain-append : (cs ds : List Cell) (c : ℕ) → Ascends cs → c ≤ length cs → chainIn (cs ++ ds) c ≡ chainIn cs c
-chain-append cs ds c up h = chain-extends cs (cs ++ ds) up (extends-append cs ds) c h
-
 -- a chain is its first cell and the chain of its next
 pub chain-is : (cs : List Cell) (c : ℕ) → Ascends cs → within (length cs) c ≡ true → chainIn cs c ≡ valuesAt cs c ∷ chainIn cs (cellIn cs c .next)
 chain-is cs c up w =

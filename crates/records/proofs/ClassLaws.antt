@@ -18,9 +18,6 @@ use Rattle.records.specs.Audited.{Closed, Rooted}
 use Rattle.records.proofs.Lists.{both-left, both-right, both-true, right-false, right-falsum, or-stop, or-next, either, or-left, or-right, decide, clash, same-test, and-stop, and-next, failed, passed}
 use Rattle.records.proofs.Climbs.{climb-up, climb-stays, climb-within, rule-at, rule-all, parents-roots, parents-tops, view-count, view-term, view-class, view-forest}
 
-pub not-eqb : (x y : ℕ) → not (eqb x y) ≡ true → x ≡ y → ⊥
-not-eqb x y h e = clash h (ap not (eq-eqb x y e))
-
 module _ (s : Store) (roots : Closed (classUp (s .terms)) (count s)) (tops : Closed (forestUp (s .terms)) (count s))
     (ends : (t : ℕ) → isTerm s t ≡ true → endsRule s t ≡ true) where
   pub class-end : (t : ℕ) → isTerm s t ≡ true → term s (root s t) .classParent ≡ root s t

@@ -93,14 +93,7 @@ unfolding parentsRule
 parents-tops s h = record { stays = λ t w. both-right (isTerm s (term s t .classParent)) _ (rule-at s (parentsRule s) h t w) }
 
 module _ (s : Store) (a : Classed s) (t : ℕ) (w : isTerm s t ≡ true) where
-  -- a step up changes neither root
-  pub root-up : rootIn (s .terms) (classUp (s .terms) t) ≡ rootIn (s .terms) t
-  root-up = climb-up (classUp (s .terms)) (count s) t (a .classEnds t w)
-
-  pub top-up : topIn (s .terms) (forestUp (s .terms) t) ≡ topIn (s .terms) t
-  top-up = climb-up (forestUp (s .terms)) (count s) t (a .forestEnds t w)
-
-  -- and the root's root is itself
+  -- the root's root is itself
   pub root-root : rootIn (s .terms) (rootIn (s .terms) t) ≡ rootIn (s .terms) t
   root-root = climb-stays (classUp (s .terms)) (count s) (rootIn (s .terms) t) (a .classEnds t w)
 

@@ -9,19 +9,16 @@ use lib.Dec.{leb}
 use borrow.Author.Tests.{eqb-true}
 use Rattle.records.specs.declared.State.{State}
 use Rattle.records.specs.Lists.{all, joined, sameWord, Every}
-use Rattle.records.specs.Store.{Store, Out, ok, isConstant, kind, termIn, textIn, text}
+use Rattle.records.specs.Store.{Out, isConstant, kind, termIn, textIn, text}
 use Rattle.records.specs.View.{lent, Lent, storeOf, charRoom, termAt, textAt, termsView, charsView, span, lengths}
 use Rattle.records.specs.Make.{makeConstant}
 use Rattle.records.specs.Leaves.{hasText, makeText}
 use Rattle.records.specs.Puts.{TextsWithin}
-use Rattle.records.specs.Audited.{Audited, Ready}
+use Rattle.records.specs.Audited.{Ready}
 use Rattle.records.specs.Calls.{Working}
-use Rattle.records.proofs.Lists.{all-joined, within-low, within-high, all-every, every-map, joined-same, table-length}
+use Rattle.records.proofs.Lists.{within-low, within-high, all-every, every-map, joined-same, table-length}
 use Rattle.records.proofs.Views.{term-is, text-span}
 use Rattle.records.proofs.Grown.{kind-term}
-use Rattle.records.specs.Rules.{isChar}
-use Rattle.records.proofs.Readings.{text-characters}
-use Rattle.records.proofs.Kept.{ConstantMade, constant-kept}
 use Rattle.records.proofs.Joins.{lengths-joined}
 use Rattle.records.proofs.Making.{other-length, same-kind, constant-made, long-room}
 
@@ -84,7 +81,3 @@ module _ {t e h r ks : List ℕ} {c : State} (ready : Ready (lent t e h r ks) c)
 
   pub total-room : (f : Bool) → not f ≡ false → f ≡ leb (c .chars + total) (charRoom h) → c .chars + lengths t ts ≤ length h
   total-room f q e = rw sum at (long-room ready f q total e)
-
--- the joined word has characters alone, so the store stays audited
-pub joined-kept : (ts : List ℕ) (s s′ : Store) (t : ℕ) → Audited s → makeConstant (joined (text s) ts) s ≡ ok s′ t → ConstantMade (joined (text s) ts) s s′ t
-joined-kept ts s s′ t a e = constant-kept (joined (text s) ts) s s′ t a (all-joined isChar (text s) ts (text-characters s (a .recorded))) e

@@ -6,30 +6,21 @@ use Prim.Native.Nat.{ℕ, zero, suc, _+_, _*_, _-_, _<_, _≤_}
 use native.Mathlib.Numerals.{add-one}
 use native.Mathlib.Nat.{add-assoc, add-zero}
 use native.Mathlib.Omega.{arith}
-use lib.ListN.{length, getD, set, take, drop, length-append, length-take, length-drop}
-use lib.Seq.{ext-getD, getD-take, getD-drop, drop-cons, take-suc, take-all, split-at}
+use lib.ListN.{length, getD, set, take, drop, length-append}
+use lib.Seq.{drop-cons, take-suc, take-all, split-at}
 use borrow.Author.Tests.{not-true, not-false}
-use Rattle.records.specs.Lists.{table, joined, sameWord, and}
+use Rattle.records.specs.Lists.{table, joined, sameWord}
 use Rattle.records.specs.View.{span, textAt, termAt, lengths, charsView}
 use Rattle.records.specs.Puts.{CharsPut, TextsWithin}
 use Rattle.records.proofs.Lists.{left-false, word-append, every-at, table-at, table-same, table-add, table-length, joined-append}
+use Rattle.records.proofs.Views.{part-span}
 use Rattle.records.proofs.Texts.{Copied, copied-one, copied-all, put-both}
-
--- A SPAN is a part of the slice
-
-pub part-span : (l : List ℕ) (a n : ℕ) → a + n ≤ length l → take (a + n - a) (drop a l) ≡ span l a n
-part-span l a n h =
-    let q : a + n - a ≡ n = omega arith in
-    let e : length (take n (drop a l)) ≡ length (span l a n) = simp (length-take, length-drop, table-length) (omega arith) in
-    let m = table-length (λ i. getD l (a + i) 0) n in
-    rw q (ext-getD 0 (take n (drop a l)) (span l a n) e (λ i b.
-    let r : i < n = omega arith in
-    getD-take n (drop a l) i 0 r ∙ getD-drop a l i 0 ∙ sym (table-at (λ j. getD l (a + j) 0) n i 0 r)))
 
 pub agree-part : (l : List ℕ) (p a n : ℕ) (r : Bool) → a + n ≤ length l
     → r ≡ sameWord (span l p (length (take (a + n - a) (drop a l)))) (take (a + n - a) (drop a l)) → r ≡ sameWord (span l p n) (span l a n)
 agree-part l p a n r h e =
-    let f = rw (part-span l a n h) at e in
+    let q : a + n - a ≡ n = omega arith in
+    let f = rw (q, part-span l a n h) at e in
     rw (table-length (λ i. getD l (a + i) 0) n) at f
 
 drop-all : (j : ℕ) (us : List ℕ) → length us ≤ j → drop j us ≡ []

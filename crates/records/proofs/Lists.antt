@@ -10,7 +10,7 @@ use native.Mathlib.Numerals.{add-one}
 use native.Mathlib.Omega.{arith}
 use lib.ListN.{length, take, drop, getD, length-append, List·getD-append, List·getD-eq-default}
 use lib.Seq.{getD-at}
-use lib.Dec.{eqb, ltb, leb}
+use lib.Dec.{eqb, ltb}
 use borrow.Author.Tests.{not-true, not-false, eqb-true, eq-eqb, ltb-true, leb-true, lt-ltb, le-leb, le-ltb, lt-leb}
 use Rattle.records.specs.Lists.{if_then_else_, all, any, joined, table, sameWord, firsts, seconds, allBelow, firstBelow, Every, none-left, and}
 use Rattle.records.specs.Store.{within}
@@ -183,12 +183,6 @@ below-turn p i b e h q = rw add-one (below-suc p i q (sym e ∙ not-false b h))
 
 pub below-done : (p : ℕ → Bool) (n i : ℕ) → i ≤ n → n ≤ i → allBelow p i ≡ true → true ≡ allBelow p n
 below-done p n i a b h = let e : i ≡ n = le-antisymm a b in sym (rw e at h)
-
--- two tests of every number below n that agree
-pub below-same : (p q : ℕ → Bool) (n : ℕ) → ((k : ℕ) → k < n → p k ≡ q k) → allBelow p n ≡ allBelow q n
-unfolding allBelow
-below-same p q zero f = refl
-below-same p q (suc n) f = let a = below-same p q n (λ k l. f k (omega arith)) in let b = f n (omega arith) in cc
 
 -- THE LOWEST NUMBER BELOW
 
@@ -407,6 +401,14 @@ module _ {A : Type 0} where
   every-append none-left k = k
   every-append (and p h) k = and p (every-append h k)
 
+  pub every-left : {P : A → Type 0} (l m : List A) → Every P (l ++ m) → Every P l
+  every-left [] m e = none-left
+  every-left (x ∷ l) m (and p e) = and p (every-left l m e)
+
+  pub every-right : {P : A → Type 0} (l m : List A) → Every P (l ++ m) → Every P m
+  every-right [] m e = e
+  every-right (x ∷ l) m (and p e) = every-right l m e
+
   pub every-at : {P : A → Type 0} (l : List A) (i : ℕ) (d : A) → Every P l → i < length l → P (getD l i d)
   every-at (x ∷ l) zero d (and p k) h = p
   every-at (x ∷ l) (suc i) d (and p k) h = every-at l i d k (le-of-suc-le-suc h)
@@ -448,3 +450,13 @@ pub every-firsts : {P : ℕ × ℕ → Type 0} {Q : ℕ → Type 0} {l : List (�
 unfolding firsts
 every-firsts f none-left = none-left
 every-firsts f (and {a} p k) = and (f a p) (every-firsts f k)
+
+pub firsts-every : {P : ℕ → Type 0} (l : List (ℕ × ℕ)) → Every P (firsts l) → Every (λ p. P (p .0)) l
+unfolding firsts
+firsts-every [] k = none-left
+firsts-every (p ∷ l) (and h k) = and h (firsts-every l k)
+
+pub seconds-every : {P : ℕ → Type 0} (l : List (ℕ × ℕ)) → Every P (seconds l) → Every (λ p. P (p .1)) l
+unfolding seconds
+seconds-every [] k = none-left
+seconds-every (p ∷ l) (and h k) = and h (seconds-every l k)

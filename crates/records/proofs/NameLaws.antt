@@ -5,8 +5,7 @@ use mathlib.Core.List.{List, _∷_, _++_, []}
 use Prim.Native.Nat.{ℕ, suc, _+_, _-_, _*_, _/_, _%_, _<_, _≤_}
 use native.Mathlib.Numerals.{add-one}
 use native.Mathlib.Omega.{arith}
-use lib.ListN.{length, getD, take, drop, length-take, length-drop}
-use lib.Seq.{ext-getD, getD-take, getD-drop}
+use lib.ListN.{length, getD, take, drop}
 use lib.Dec.{eqb, ltb}
 use borrow.Author.Tests.{eqb-true, eq-eqb, ne-eqb, leb-true, lt-ltb, le-ltb}
 use Rattle.records.specs.declared.State.{State}
@@ -16,8 +15,8 @@ use Rattle.records.specs.View.{lent, storeOf, termAt, charsView, span}
 use Rattle.records.specs.Leaves.{hasText}
 use Rattle.records.specs.Rules.{textRule, named, nameRule}
 use Rattle.records.specs.Marks.{mixed, markFrom, mark, Naming}
-use Rattle.records.proofs.Lists.{both-left, both-right, right-false, and-stop, and-next, decide, failed, passed, within-high, below-false, below-suc, below-zero, below-done, table-length, table-at, word-is}
-use Rattle.records.proofs.Views.{term-is, text-span, kind-at, first-at, second-at}
+use Rattle.records.proofs.Lists.{both-left, both-right, right-false, and-stop, and-next, decide, failed, passed, within-high, below-false, below-suc, below-zero, below-done, table-length, word-is}
+use Rattle.records.proofs.Views.{term-is, part-span, text-span, kind-at, first-at, second-at}
 use Rattle.records.proofs.Grown.{kind-term}
 
 -- MARKS
@@ -37,15 +36,6 @@ mark-turn l p i h x e q = rw (add-one i, mark-append 1 (getD l (p + i) 0) (span 
 
 pub mark-done : (l : List ℕ) (p n i h : ℕ) → h ≡ markFrom 1 (span l p i) → i ≤ n → n ≤ i → h ≡ markFrom 1 (span l p n)
 mark-done l p n i h e a b = let q : i ≡ n = omega arith in rw q at e
-
--- a part of a slice is a span
-pub part-span : (l : List ℕ) (p n : ℕ) → p + n ≤ length l → take n (drop p l) ≡ span l p n
-part-span l p n h =
-    let m = table-length (λ i. getD l (p + i) 0) n in
-    let e : length (take n (drop p l)) ≡ length (span l p n) = simp (length-take, length-drop, table-length) (omega arith) in
-    ext-getD 0 _ _ e (λ i q.
-    let r : i < n = omega arith in
-    getD-take n (drop p l) i 0 r ∙ getD-drop p l i 0 ∙ sym (table-at (λ j. getD l (p + j) 0) n i 0 r))
 
 -- whether a text is within the count is read from the terms and the count alone
 pub text-anywhere : (l e h e′ h′ : List ℕ) (c : State) (t : ℕ) → textRule (storeOf (lent l e h [] []) c) t ≡ textRule (storeOf (lent l e′ h′ [] []) c) t

@@ -3,19 +3,19 @@ use mathlib.Core.Path.{_≡_, refl, sym, ap, _∙_}
 use mathlib.Core.Bool.{Bool, true, false, not}
 use mathlib.Core.List.{List, [], _∷_, _++_, append-assoc, append-nil}
 use mathlib.Core.Option.{Option, none, some}
-use Prim.Native.Nat.{ℕ, zero, suc, _+_, _*_, _-_, _/_, _%_, _<_, _≤_}
+use Prim.Native.Nat.{ℕ, zero, suc, _+_, _-_, _/_, _%_, _<_, _≤_}
 use native.Mathlib.Numerals.{add-one}
 use native.Mathlib.Nat.{add-zero}
 use native.Mathlib.Omega.{arith}
 use native.Mathlib.Decide.{decLt}
-use lib.ListN.{length, take, set, length-append, length-set}
-use lib.Dec.{eqb, ltb, leb}
+use lib.ListN.{length, take, set, length-append}
+use lib.Dec.{eqb}
 use lib.Seq.{sets, sets-eq, take-suc-set, length-take-le}
 use borrow.Author.Tests.{lt-ltb, le-ltb, ne-eqb, not-true, not-false}
 use Rattle.records.specs.declared.State.{State}
 use Rattle.records.specs.Lists.{firstBelow}
-use Rattle.records.specs.Store.{Store, Out, ok, stop, count, within}
-use Rattle.records.specs.View.{Lent, lent, storeOf, namesAt}
+use Rattle.records.specs.Store.{Store, ok, count, within}
+use Rattle.records.specs.View.{lent, storeOf, namesAt}
 use Rattle.records.specs.Rules.{named}
 use Rattle.records.specs.Make.{strk, decimalBy, nameOf, isTaken, withNames, nameLimit, takeNameBy, takeName, lookup, isSome}
 use Rattle.records.specs.Leaves.{numberOf, textOf, hasText}
@@ -23,7 +23,7 @@ use Rattle.records.specs.Audited.{Ready}
 use Rattle.records.specs.Calls.{Taken}
 use Rattle.records.specs.Leaves.{Free}
 use Rattle.records.specs.Puts.{Written}
-use Rattle.records.proofs.Lists.{first-same}
+use Rattle.records.proofs.Lists.{clash, first-same}
 use Rattle.records.proofs.Making.{texts-within, found-text}
 
 -- DECIMALS
@@ -161,7 +161,7 @@ module _ (t e h r ks : List ℕ) (c : State) (x : ℕ) (f : Free (storeOf (lent 
   name-taken l l′ n d p k s w q =
       let g : take n l′ ≡ nameOf x = w .words in
       let b = name-here l l′ x n k s w in
-      record { says = f .free p ∙ rw (q, add-one x, g); fits = omega arith }
+      record { says = f .free p ∙ rw (q, add-one x, g); fits = omega arith; stays = λ z. clash refl z }
 
   pub name-spent : (l : List ℕ) → nameLimit ≤ x → Taken (lent t e h r ks) c (record { code = 9; state = c; name = l; len = 0 })
-  name-spent l p = record { says = f .spent p; fits = omega arith }
+  name-spent l p = record { says = f .spent p; fits = omega arith; stays = λ z. refl }

@@ -9,13 +9,13 @@ use lib.ListN.{length, getD}
 use lib.Dec.{eqb}
 use borrow.Author.Tests.{eq-eqb, ne-eqb, not-false}
 use Rattle.records.specs.declared.State.{State}
-use Rattle.records.specs.Lists.{all, upTo, sameWord, firsts, seconds, Every, none-left, and}
+use Rattle.records.specs.Lists.{all, upTo, sameWord, firsts, seconds, Every, and}
 use Rattle.records.specs.Store.{Store, Cell, cellIn, term, kind, within, chainBy, chainIn, chain, aboveIn, nearestIn, pathIn, sameTree}
 use Rattle.records.specs.View.{Lent, lent, storeOf, termLimit, termsView, cellAt, cellsView}
 use Rattle.records.specs.Rules.{stampBelow, fallsRule, pairsOf, congruenceRule, edgeRule, congruencesRule}
 use Rattle.records.specs.Leaves.{pairWords, pairMeets}
 use Rattle.records.specs.Audited.{Classed, Recorded, Part, Pathed, TermPair, Congruable}
-use Rattle.records.proofs.Lists.{both-left, both-right, both-true, either, every-map, word-is, and-stop, and-next, or-stop, or-next, left-false, right-false, failed, passed, decide, table-length}
+use Rattle.records.proofs.Lists.{both-left, both-right, both-true, either, every-map, every-both, every-firsts, firsts-every, seconds-every, word-is, and-stop, and-next, or-stop, or-next, left-false, right-false, failed, passed, decide, table-length}
 use Rattle.records.proofs.Views.{kind-at, first-at, value-at, other-at, next-at}
 use Rattle.records.proofs.Climbs.{view-count, view-term, view-forest, ready-tops, within-term, term-within}
 use Rattle.records.proofs.Paths.{nearest-tree, path-sides}
@@ -231,18 +231,13 @@ both l e c = storeOf (lent l e [] [] []) c
 pub pathed-seen : (l e : List ℕ) (c : State) → Pathed (both l e c) (c .terms) → Pathed (seen l c) (c .terms)
 pathed-seen l e c h = record { limited = h .limited; tops = h .tops; ends = h .ends }
 
-pairs-every : {P : ℕ → Type 0} (l : List (ℕ × ℕ)) → Every P (firsts l) → Every P (seconds l) → Every (λ p. P (p .0) × P (p .1)) l
-unfolding firsts seconds
-pairs-every [] none-left none-left = none-left
-pairs-every (p ∷ l) (and a h) (and b k) = and (a, b) (pairs-every l h k)
-
 -- pairs of the values of two chains of terms are pairs of terms
 words-terms : (n : ℕ) (l p q : List (ℕ × ℕ)) → Every (λ x. within n x ≡ true) (firsts p) → Every (λ x. within n x ≡ true) (firsts q) → pairWords l p q ≡ true → Every (TermPair n) l
 unfolding pairWords
 words-terms n l p q hp hq e =
     let a = word-is (firsts l) (firsts p) (both-left _ _ e) in
     let b = word-is (seconds l) (firsts q) (both-right (sameWord (firsts l) (firsts p)) _ e) in
-    every-map (λ r h. record { one = h .0; other = h .1 }) (pairs-every l (rw a hp) (rw b hq))
+    every-map (λ r h. record { one = h .0; other = h .1 }) (every-both (firsts-every l (rw a hp)) (seconds-every l (rw b hq)))
 
 module _ (l e : List ℕ) (c : State) (t u : ℕ) (h : Congruable (both l e c) (c .terms)) (w : within (c .terms) t ≡ true) (eu : u ≡ getD l (8 * t + 4) 0) where
   parent-is : u ≡ term (both l e c) t .forestParent
@@ -326,9 +321,7 @@ unfolding congruencesRule congruenceRule pairsOf fallsRule
 congruences-both m c = refl
 
 part-terms : (m : Lent) (c : State) (t : ℕ) (q : List (ℕ × ℕ)) → Every (Part (storeOf m c) t) q → Every (λ x. within (c .terms) x ≡ true) (firsts q)
-unfolding firsts
-part-terms m c t [] none-left = none-left
-part-terms m c t (p ∷ q) (and h k) = and (term-within m c (p .0) (string-term (storeOf m c) (p .0) (h .string))) (part-terms m c t q k)
+part-terms m c t q = every-firsts (λ p h. term-within m c (p .0) (string-term (storeOf m c) (p .0) (h .string)))
 
 -- what the audit of congruence edges may rely on, from refusals 1 to 3
 pub congruable : (m : Lent) (c : State) → c .terms ≤ termLimit → Recorded (storeOf m c) → Classed (storeOf m c) → Congruable (both (m .terms) (m .cells) c) (c .terms)

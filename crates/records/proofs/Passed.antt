@@ -7,16 +7,16 @@ use Prim.Native.Nat.{ℕ, zero, suc, _≤_, _<_}
 use native.Mathlib.Omega.{arith}
 use lib.ListN.{length}
 use lib.Dec.{eqb, ltb, leb}
-use borrow.Author.Tests.{not-true, eqb-true, eq-eqb, ltb-true, ltb-false, lt-ltb, leb-true, leb-false, le-leb}
+use borrow.Author.Tests.{not-true, eqb-true, eq-eqb, ltb-true, ltb-false, lt-ltb, leb-true, le-leb}
 use Rattle.records.specs.declared.State.{State}
 use Rattle.records.specs.Lists.{if_then_else_, all, allBelow}
-use Rattle.records.specs.Store.{Term, noTerm, Store, term, cell, count, kind, within, isTerm, isString, text, chain, root, sameClass, isEdge}
+use Rattle.records.specs.Store.{Store, term, cell, count, kind, within, isTerm, isString, text, chain, root, sameClass, isEdge}
 use Rattle.records.specs.View.{Lent, storeOf, sizes}
 use Rattle.records.specs.Rules.{eachTerm, isNumber, cellRule, textRule, named, nameRule, partRule, concatRule, lengthRule, isEquatable, equationRule, termRule, recordsRule, parentsRule, endsRule, alikeRule, aloneRule, edgeLabel, labelRule, classesRule, pairsOf, fallsRule, congruenceRule, isCongruence, congruencesRule, auditStore, audit}
 use Rattle.records.specs.Audited.{Part, Next, last, later, Label, asserted, interface, congruence, definitional, Unlabelled, Falls, Pairs, Congruent, Recorded, Classed, Congruences, Roomy, Audited, Sized, Ready, Verdict, ready, short, unrecorded, unclassed, incongruent}
 use Rattle.records.proofs.Lists.{both-left, both-right, both-true, either, or-left, or-right, clash, decide, within-low, within-high, within-is, below-at, below-all, table-length, word-is, word-same, every-map, all-every, every-all}
 use Rattle.records.proofs.RuleLaws.{sized-of, sizes-of}
-use Rattle.records.proofs.Grown.{term-past, term-zero, kind-term}
+use Rattle.records.proofs.Grown.{used, kind-term}
 
 -- TESTS
 
@@ -68,16 +68,6 @@ sized-after m m′ c c′ z e f r =
     let h = rw table-length at (r .chars) in
     let g = rw table-length at (r .reasons) in
     let k = rw table-length at (r .keys) in omega arith
-
--- NUMBERS OF TERMS
-
-pub no-term : (s : Store) (t : ℕ) → isTerm s t ≡ false → term s t ≡ noTerm
-no-term s zero w = term-zero s
-no-term s (suc t) w = decide (leb (suc t) (count s)) (λ h. clash (within-is (count s) (suc t) (omega arith) (leb-true _ _ h)) w) (λ h. term-past s (suc t) (leb-false _ _ h))
-
--- a number whose record has a word other than 0 names a term
-pub word-term : (s : Store) (word : Term → ℕ) (t k : ℕ) → word noTerm ≡ 0 → word (term s t) ≡ suc k → isTerm s t ≡ true
-word-term s word t k z e = decide (isTerm s t) (λ w. w) (λ w. let p = ap word (no-term s t w) in absurd (omega arith))
 
 -- RECORDS
 
@@ -334,7 +324,7 @@ module _ (s : Store) where
   unfolding congruencesRule
   congruences-of e t q k =
       ⊎-elim (λ z. clash (both-true _ _ q (eq-eqb _ _ k)) (not-true _ z)) (λ z. congruent-at t z)
-      (either _ _ (each-at (λ x. not (isCongruence s x) || congruenceRule s x) (count s) t e (word-term s (λ x. x .labelKind) t 2 refl k)))
+      (either _ _ (each-at (λ x. not (isCongruence s x) || congruenceRule s x) (count s) t e (used (λ x. x .labelKind) refl s t 2 k)))
 
   pub congruent-of : Congruences s → congruencesRule s ≡ true
   unfolding congruencesRule

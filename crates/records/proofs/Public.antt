@@ -4,9 +4,10 @@ use mathlib.Core.Bool.{Bool, true, false}
 use Prim.Native.Nat.{ℕ, zero, suc, _≤_}
 use native.Mathlib.Omega.{arith}
 use Rattle.records.specs.declared.State.{State}
+use Rattle.records.specs.Lists.{if_then_else_}
 use Rattle.records.specs.Store.{Store, Out, stop, Work}
-use Rattle.records.specs.View.{Lent, storeOf}
-use Rattle.records.specs.Rules.{audit}
+use Rattle.records.specs.View.{Lent, storeOf, sizes}
+use Rattle.records.specs.Rules.{recordsRule, classesRule, congruencesRule, auditStore, audit}
 use Rattle.records.specs.Audited.{Ready}
 use Rattle.records.specs.Calls.{call, checked, unless, Public, Working}
 use Rattle.records.proofs.Passed.{ready-of}
@@ -33,6 +34,18 @@ module _ {A : Type 0} (fit : Store → Bool) (work : Work A) (m : Lent) (c : Sta
         let a : audit m c ≡ 0 = sym verdict ∙ ready in
         let g : fit (storeOf m c) ≡ true = sym e ∙ f in
         record { says = rw (a, g) (sym (w .says)); idle = λ j h l. let q = stops j (w .says ∙ h) in absurd (omega arith); kept = w .kept }
+
+-- the audit's refusals are 1 to 4
+pub audit-low : (m : Lent) (c : State) → audit m c ≤ 4
+unfolding audit auditStore
+audit-low m c = go (sizes m c) (recordsRule (storeOf m c)) (classesRule (storeOf m c)) (congruencesRule (storeOf m c))
+  where
+    go : (a b d e : Bool) → (if a then (if b then (if d then (if e then 0 else 4) else 3) else 2) else 1) ≤ 4
+    go false b d e = omega arith
+    go true false d e = omega arith
+    go true true false e = omega arith
+    go true true true false = omega arith
+    go true true true true = omega arith
 
 -- where the audit passes, what the work requires holds
 pub passed-ready : (m : Lent) (c : State) (k : ℕ) → k ≡ audit m c → k ≡ 0 → Ready m c

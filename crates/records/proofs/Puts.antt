@@ -2,13 +2,12 @@
 use mathlib.Core.Path.{_≡_, refl, sym, ap, _∙_}
 use mathlib.Core.Bool.{Bool, true, false, false≢true}
 use mathlib.Core.List.{List, [], _∷_, _++_, append-assoc, append-nil}
-use Prim.Native.Nat.{ℕ, zero, suc, _+_, _*_, _/_, _≤_, _<_, min}
+use Prim.Native.Nat.{ℕ, suc, _+_, _*_, _/_, _≤_, _<_}
 use native.Mathlib.Numerals.{add-one}
 use native.Mathlib.Omega.{arith}
-use lib.ListN.{length, getD, set, take, drop, length-set, length-take, drop-of-length-le, List·getD-append}
-use lib.Dec.{ltb, leb}
+use lib.ListN.{length, getD, set, take, drop, drop-of-length-le, List·getD-append}
+use lib.Dec.{ltb}
 use lib.Seq.{sets, sets-eq, getD-append-add, getD-take, length-take-le, drop-cons}
-use Rattle.records.specs.Lists.{table}
 use Rattle.records.specs.View.{reasonRoom, termAt, cellAt, pairAt, termsView, cellsView, pairsView}
 use Rattle.records.specs.Make.{own, chainFrom}
 use Rattle.records.specs.Puts.{TermPut, CellPut, ChainPut, PairPut, Pushed}

@@ -1,20 +1,22 @@
--- Each assignment of words to the variables has exactly one reading: words computed from it, and any two readings that agree on the
--- variables agree on every string term.
+-- Each assignment of words to the variables has a reading, the words computed from it, and any two readings that agree on the variables
+-- agree on every string term.
 use mathlib.Core.Path.{_≡_, refl, sym, ap, _∙_}
 use mathlib.Core.Bool.{Bool, true, false}
 use mathlib.Core.List.{List, []}
+use mathlib.Core.Logic.{⊎-elim}
 use Prim.Native.Nat.{ℕ, zero, suc, _≤_, _<_}
 use native.Mathlib.Omega.{arith}
 use lib.Dec.{eqb}
 use borrow.Author.Tests.{eqb-true, eq-eqb}
 use Rattle.records.specs.Lists.{if_then_else_, all, joined, Every, none-left, and}
-use Rattle.records.specs.Store.{Store, term, kind, isString, isConstant, isConcat, textIn, text, parts}
+use Rattle.records.specs.Store.{Store, term, kind, isTerm, isString, isConstant, isConcat, textIn, text, chain, parts}
 use Rattle.records.specs.Rules.{isChar}
 use Rattle.records.specs.Meaning.{Words, Reading}
-use Rattle.records.specs.Audited.{Recorded}
-use Rattle.records.proofs.Lists.{within-low, within-high, every-map, every-firsts, all-take, all-drop, all-joined, joined-same}
+use Rattle.records.specs.Audited.{Pairs, Congruent, Recorded}
+use Rattle.records.proofs.Lists.{within-low, within-high, every-map, every-both, every-firsts, firsts-every, seconds-every, all-take, all-drop, all-joined, joined-same}
+use Rattle.records.proofs.Grown.{string-term}
 
--- the characters of a constant
+-- the characters of a text
 pub text-characters : (s : Store) → Recorded s → (t : ℕ) → all isChar (text s t) ≡ true
 unfolding textIn
 text-characters s r t = all-take isChar (term s t .second) _ (all-drop isChar (term s t .first) (s .chars) (r .characters))
@@ -25,6 +27,21 @@ parts-lower s r t e = every-firsts (λ p k. k .lower) (r .partsGood t e)
 
 pub parts-strings : (s : Store) → Recorded s → (t : ℕ) → kind s t ≡ 3 → Every (λ p. isString s p ≡ true) (parts s t)
 parts-strings s r t e = every-firsts (λ p k. k .string) (r .partsGood t e)
+
+-- both values of each pair of a congruence edge are terms
+pub pairs-terms : (s : Store) → Recorded s → (t : ℕ) → Congruent s t → Every (λ p. (isTerm s (p .0) ≡ true) × (isTerm s (p .1) ≡ true)) (chain s (term s t .labelValue))
+pairs-terms s r t c = ⊎-elim (of t u (c .child) (c .parent)) (of u t (c .parent) (c .child)) (c .pairs)
+  where
+    u : ℕ
+    u = term s t .forestParent
+
+    l : List (ℕ × ℕ)
+    l = chain s (term s t .labelValue)
+
+    of : (t u : ℕ) → kind s t ≡ 3 → kind s u ≡ 3 → Pairs s l t u → Every (λ p. (isTerm s (p .0) ≡ true) × (isTerm s (p .1) ≡ true)) l
+    of t u e f p =
+        every-map (λ q h. (string-term s (q .0) (h .0), string-term s (q .1) (h .1)))
+        (every-both (firsts-every l (rw (p .one) (parts-strings s r t e))) (seconds-every l (rw (p .other) (parts-strings s r u f))))
 
 -- the word of a term, at most f deep
 val : ℕ → Store → Words → ℕ → List ℕ

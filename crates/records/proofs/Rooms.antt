@@ -1,13 +1,13 @@
 -- Room: the code's tests of a slice and a limit say what the definitions ask.
-use mathlib.Core.Path.{_≡_, refl, sym, ap, _∙_}
+use mathlib.Core.Path.{_≡_, refl, sym, _∙_}
 use mathlib.Core.Bool.{Bool, true, false}
 use mathlib.Core.List.{List}
-use Prim.Native.Nat.{ℕ, suc, _+_, _*_, _-_, _/_, _≤_, _<_, min}
+use Prim.Native.Nat.{ℕ, _+_, _*_, _-_, _/_, _≤_, _<_, min}
 use native.Mathlib.Omega.{arith}
 use lib.ListN.{length}
 use lib.Dec.{ltb, leb}
-use borrow.Author.Tests.{ltb-true, ltb-false, leb-true, leb-false, lt-ltb, le-ltb, le-leb, lt-leb}
-use Rattle.records.specs.View.{termLimit, cellLimit, charLimit, reasonLimit, keyLimit, termRoom, cellRoom, charRoom, reasonRoom, keyRoom}
+use borrow.Author.Tests.{ltb-true, leb-true, lt-ltb, le-ltb, le-leb, lt-leb}
+use Rattle.records.specs.View.{termLimit, cellLimit, charLimit, termRoom, cellRoom, charRoom}
 use Rattle.records.proofs.Lists.{same-test}
 
 -- one term more
@@ -23,9 +23,6 @@ module _ (l : List ℕ) (n : ℕ) where
 
   pub term-over : termLimit ≤ n → ltb n (termRoom l) ≡ false
   term-over h = le-ltb n (termRoom l) (omega arith)
-
-  pub term-short : length l < 8 * (n + 2) → ltb n (termRoom l) ≡ false
-  term-short h = le-ltb n (termRoom l) (omega arith)
 
   -- the code's test, once the limit is known to leave room
   pub term-test : n < termLimit → leb (8 * (n + 2)) (length l) ≡ ltb n (termRoom l)
@@ -52,9 +49,6 @@ module _ (l : List ℕ) (n k : ℕ) (room : 3 * (n + 1) ≤ length l) where
   pub cells-over : cellLimit < n + k → leb (n + k) (cellRoom l) ≡ false
   cells-over h = lt-leb (n + k) (cellRoom l) (omega arith)
 
-  pub cells-short : length l < 3 * (n + k + 1) → leb (n + k) (cellRoom l) ≡ false
-  cells-short h = lt-leb (n + k) (cellRoom l) (omega arith)
-
   pub cells-test : k ≤ cellLimit - n → n ≤ cellLimit → leb (3 * (n + k + 1)) (length l) ≡ leb (n + k) (cellRoom l)
   cells-test h g =
       same-test _ _ (λ e. cells-fit (omega arith) (leb-true (3 * (n + k + 1)) (length l) e))
@@ -76,9 +70,6 @@ module _ (l : List ℕ) (n k : ℕ) where
 
   pub chars-over : charLimit < n + k → leb (n + k) (charRoom l) ≡ false
   chars-over h = lt-leb (n + k) (charRoom l) (omega arith)
-
-  pub chars-short : length l < n + k → leb (n + k) (charRoom l) ≡ false
-  chars-short h = lt-leb (n + k) (charRoom l) (omega arith)
 
 -- one reason or key more, under its limit
 module _ (l : List ℕ) (limit n : ℕ) where

@@ -1,7 +1,7 @@
 -- The views: what a record of the store is in the lent words.
 use mathlib.Core.Path.{_≡_, refl, sym, ap, _∙_}
-use mathlib.Core.Bool.{Bool, true, false}
-use mathlib.Core.List.{List, [], _∷_, _++_}
+use mathlib.Core.Bool.{true}
+use mathlib.Core.List.{List}
 use Prim.Native.Nat.{ℕ, zero, suc, _+_, _*_, _/_, _%_, _<_, _≤_}
 use native.Mathlib.Nat.{mod-lt, mul-div-le, lt-mul-div-succ, lt-of-mul-lt-mul-left, div-add-mod}
 use native.Mathlib.Omega.{arith}
@@ -33,11 +33,6 @@ unfolding cellIn
 cell-is l n zero p q = absurd (omega arith)
 cell-is l n (suc c) p q = table-at (λ i. cellAt l (suc i)) n c noCell q
 
-pub cell-past : (l : List ℕ) (n c : ℕ) → n < c → cellIn (cellsView l n) c ≡ noCell
-unfolding cellIn
-cell-past l n zero q = absurd (omega arith)
-cell-past l n (suc c) q = table-past (λ i. cellAt l (suc i)) n c noCell (omega arith)
-
 -- the fields of a counted record, as the readers of src/fields.rt give them
 module _ (l : List ℕ) (n t x : ℕ) (h : within n t ≡ true) where
   term-at : termIn (termsView l n) t ≡ termAt l t
@@ -63,6 +58,15 @@ module _ (l : List ℕ) (n t x : ℕ) (h : within n t ≡ true) where
 
   pub next-at : x ≡ getD l (3 * t + 2) 0 → x ≡ cellIn (cellsView l n) t .next
   next-at e = rw cell-at e
+
+-- a part of a slice is a span
+pub part-span : (l : List ℕ) (p n : ℕ) → p + n ≤ length l → take n (drop p l) ≡ span l p n
+part-span l p n h =
+    let m = table-length (λ i. getD l (p + i) 0) n in
+    let e : length (take n (drop p l)) ≡ length (span l p n) = simp (length-take, length-drop, table-length) (omega arith) in
+    ext-getD 0 _ _ e (λ i q.
+    let r : i < n = omega arith in
+    getD-take n (drop p l) i 0 r ∙ getD-drop p l i 0 ∙ sym (table-at (λ j. getD l (p + j) 0) n i 0 r))
 
 -- a text within the count is read from its words
 pub text-span : (l : List ℕ) (n : ℕ) (t : Term) → t .first + t .second ≤ n → textIn (charsView l n) t ≡ span l (t .first) (t .second)

@@ -1,8 +1,8 @@
 -- What every call promises: one shape for the public calls, one for the working functions.
 use mathlib.Core.Path.{_≡_}
-use mathlib.Core.Bool.{Bool, true, false}
+use mathlib.Core.Bool.{Bool, false}
 use mathlib.Core.List.{List}
-use Prim.Native.Nat.{ℕ, zero, suc, _≤_, _<_}
+use Prim.Native.Nat.{ℕ, zero, suc, _≤_}
 use lib.ListN.{take}
 use lib.Dec.{eqb}
 use Rattle.records.specs.declared.State.{State}
@@ -15,7 +15,7 @@ use Rattle.records.specs.Lists.{if_then_else_}
 use Rattle.records.specs.Store.{Store, Out, ok, stop, Work}
 use Rattle.records.specs.View.{Lent, storeOf}
 use Rattle.records.specs.Rules.{audit}
-use Rattle.records.specs.Make.{withNames, nameLimit, nameOf, takeName}
+use Rattle.records.specs.Make.{takeName}
 
 -- what a public call answers: refusals 1 to 4 by the audit, 5 where an argument is wrong, else its work
 module _ {A : Type 0} where
@@ -54,6 +54,8 @@ added (adding.Refused k) m = stop k
 abbrev pub taken : Named → Lent → Out (List ℕ)
 taken r m = if eqb (r .code) 0 then ok (storeOf m (r .state)) (take (r .len) (r .name)) else stop (r .code)
 
+-- and after refusal 9 the counts and the name counter are those of entry
 pub record Taken (m : Lent) (c : State) (r : Named) : Type 0 where
   pub says : takeName (storeOf m c) ≡ taken r m
   pub fits : r .len ≤ 15
+  pub stays : eqb (r .code) 0 ≡ false → r .state ≡ c

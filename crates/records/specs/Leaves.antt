@@ -1,13 +1,13 @@
 -- What the contracts of private functions cite, each tied by a law to the definition that it serves. No public contract cites these.
 use mathlib.Core.Path.{_≡_}
-use mathlib.Core.Bool.{Bool, true, false, not, _&&_, _||_}
-use mathlib.Core.List.{List, [], _∷_, _++_}
+use mathlib.Core.Bool.{Bool, _&&_, _||_}
+use mathlib.Core.List.{List, [], _∷_}
 use mathlib.Core.Option.{Option, none, some}
-use Prim.Native.Nat.{ℕ, zero, suc, _≤_, _<_}
+use Prim.Native.Nat.{ℕ, suc, _≤_, _<_}
 use lib.ListN.{length, getD, set}
 use lib.Dec.{eqb}
 use Rattle.records.specs.Lists.{sameWord, firsts, seconds}
-use Rattle.records.specs.Store.{Term, Cell, Store, Out, ok, stop, Work, _>>=_, term, kind, isString, within, cellIn, chainIn, text, root, top}
+use Rattle.records.specs.Store.{Cell, Store, ok, stop, Work, _>>=_, term, kind, isString, within, cellIn, chainIn, text, root, top}
 use Rattle.records.specs.View.{termAt, textAt}
 use Rattle.records.specs.Rules.{endsRule, labelRule}
 use Rattle.records.specs.Make.{withNames, addText, addChain, addTerm, lowest, nameOf, nameLimit, takeName}
@@ -34,11 +34,11 @@ aloneAt s t = eqb (term s t .classParent) t || (isString s t && isString s (term
 unfoldable pub classTest : Store → ℕ → Bool
 classTest s t = endsRule s t && alikeAt s t && labelRule s t && aloneAt s t
 
--- the same of three chains
+-- the pairs l are of the values of the chains p and q in order
 unfoldable pub pairWords : List (ℕ × ℕ) → List (ℕ × ℕ) → List (ℕ × ℕ) → Bool
 pairWords l p q = sameWord (firsts l) (firsts p) && sameWord (seconds l) (firsts q)
 
--- the cells y and z, and the cell x of their values
+-- y and z are cells, and the pair at cell x is of their values
 unfoldable pub pairMeets : List Cell → ℕ → ℕ → ℕ → Bool
 pairMeets cs x y z =
     within (length cs) y && within (length cs) z && eqb (cellIn cs x .value) (cellIn cs y .value) && eqb (cellIn cs x .other) (cellIn cs z .value)
@@ -68,7 +68,7 @@ hasSides l k a b t = eqb (termAt l t .kind) k && eqb (termAt l t .first) a && eq
 unfoldable pub hasParts : List ℕ → List Cell → List ℕ → ℕ → Bool
 hasParts l cs w t = eqb (termAt l t .kind) 3 && sameWord (firsts (chainIn cs (termAt l t .first))) w
 
--- the two in one
+-- a constant (kind 1) or a variable (kind 2): `makeConstant` and `makeVariable` in one
 unfoldable pub makeText : ℕ → List ℕ → Work ℕ
 makeText k w = lowest (textOf k w) (do
   p ← addText w
@@ -80,7 +80,7 @@ appendParts l = do
   c ← addChain l
   addTerm 3 c 0
 
--- the two in one, where a length's second word is 0
+-- a length (kind 4, its second word 0) or an equation (kind 5): `makeLength` and `makeEquation` in one
 unfoldable pub makeSides : ℕ → ℕ → ℕ → Work ℕ
 makeSides k a b = lowest (sidesOf k a b) (addTerm k a b)
 

@@ -1,9 +1,8 @@
 -- Lists, words and numbers, with nothing of a store: tests of each element, the first that passes, words joined.
-use mathlib.Core.Bool.{Bool, true, false, not, _&&_, _||_}
+use mathlib.Core.Bool.{Bool, true, false, _&&_, _||_}
 use mathlib.Core.List.{List, [], _∷_, _++_}
 use mathlib.Core.Option.{Option, none, some}
 use Prim.Native.Nat.{ℕ, zero, suc}
-use lib.ListN.{getD, set}
 use lib.Dec.{eqb}
 
 module _ {A : Type 0} where

@@ -1,13 +1,12 @@
 -- Adding records: a reason, a key, and a term, which is the lowest-numbered equal record, else one appended.
-use mathlib.Core.Bool.{Bool, true, false, not, _&&_, _||_}
+use mathlib.Core.Bool.{Bool, true, false, _&&_}
 use mathlib.Core.List.{List, [], _∷_, _++_}
 use mathlib.Core.Option.{Option, none, some}
 use Prim.Native.Nat.{ℕ, zero, suc, _+_, _-_, _/_, _%_, min, max}
 use lib.ListN.{length}
 use lib.Dec.{eqb, ltb, leb}
-use Rattle.records.specs.Lists.{if_then_else_, any, sameWord, firsts, firstBelow}
-use Rattle.records.specs.Store.{Term, Cell, Store, Out, ok, stop, Work, _>>=_, _>>_, give, refuse, store, put, term, count, kind, isConstant, isConcat, isLength, isEquation, text, chainIn, parts}
-use Rattle.records.specs.View.{termAt, span, textAt}
+use Rattle.records.specs.Lists.{if_then_else_, any, sameWord, firstBelow}
+use Rattle.records.specs.Store.{Term, Cell, Store, ok, stop, Work, _>>=_, _>>_, give, refuse, store, put, term, count, isConstant, isConcat, isLength, isEquation, text, parts}
 use Rattle.records.specs.Rules.{named}
 
 abbrev pub withReasons : Store → List (ℕ × ℕ) → Store

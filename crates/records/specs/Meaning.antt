@@ -1,6 +1,6 @@
 -- Words, and when an edge, a reason, a definitional merge or an atom holds for given words.
 use mathlib.Core.Path.{_≡_}
-use mathlib.Core.Bool.{Bool, true}
+use mathlib.Core.Bool.{true}
 use mathlib.Core.List.{List, List·Memᴰ}
 use Prim.Native.Nat.{ℕ}
 use lib.ListN.{length}
@@ -13,8 +13,8 @@ abbrev pub Words : Type 0
 Words = ℕ → List ℕ
 
 -- 'a variable's word is any finite list of characters; a constant's is its own, and a concatenation's or a list's is its parts'
--- words in order' (SMT-LIB: str.++ is concatenation, str.len is length). Each assignment of words to the variables has exactly
--- one reading (proofs/Readings.antt)
+-- words in order' (SMT-LIB: str.++ is concatenation, str.len is length). Each assignment of words to the variables has a reading, and
+-- any two of its readings agree on every string term (proofs/Readings.antt)
 pub record Reading (s : Store) (w : Words) : Type 0 where
   pub characters : (t : ℕ) → all isChar (w t) ≡ true
   pub constants : (t : ℕ) → kind s t ≡ 1 → w t ≡ text s t

@@ -1,11 +1,10 @@
 -- What writing a record above the count does to the records that are seen.
 use mathlib.Core.Path.{_≡_}
-use mathlib.Core.Bool.{Bool, true, false}
+use mathlib.Core.Bool.{Bool, true}
 use mathlib.Core.List.{List, [], _∷_, _++_}
 use Prim.Native.Nat.{ℕ, suc, _+_, _≤_}
 use lib.ListN.{length, take}
 use lib.Dec.{ltb}
-use Rattle.records.specs.Store.{Cell}
 use Rattle.records.specs.View.{termsView, cellsView, charsView, pairsView, reasonRoom, termAt}
 use Rattle.records.specs.Lists.{Every}
 use Rattle.records.specs.Make.{own, chainFrom}

@@ -1,12 +1,12 @@
 -- Document 01, 'The records': each rule as a test, and the audit in the order of 'Where each refusal is checked'.
-use mathlib.Core.Bool.{Bool, true, false, not, _&&_, _||_}
-use mathlib.Core.List.{List, [], _∷_}
+use mathlib.Core.Bool.{Bool, not, _&&_, _||_}
+use mathlib.Core.List.{List}
 use Prim.Native.Nat.{ℕ, suc, _+_}
 use lib.ListN.{length}
 use lib.Dec.{eqb, ltb, leb}
 use Rattle.records.specs.declared.State.{State}
 use Rattle.records.specs.Lists.{if_then_else_, all, sameWord, firsts, seconds, allBelow}
-use Rattle.records.specs.Store.{Term, Cell, Store, termIn, cellIn, term, cell, count, kind, within, isTerm, isConstant, isVariable, isConcat, isLength, isEquation, isString, text, chain, parts, root, top, sameClass, sameTree, path, isEdge}
+use Rattle.records.specs.Store.{Term, Store, termIn, term, cell, count, isTerm, isConstant, isVariable, isConcat, isLength, isEquation, isString, text, chain, parts, root, top, sameClass, sameTree, path, isEdge}
 use Rattle.records.specs.View.{Lent, storeOf, sizes}
 
 -- a rule of every term, of every cell
@@ -26,7 +26,7 @@ isChar c = ltb c 0xD800 || (leb 0xE000 c && leb c 0x10FFFF)
 unfoldable pub isNumber : ℕ → Bool
 isNumber v = ltb v 0x8000_0000
 
--- 'Reasons, two words (1 asserted or 2 interface; a number below 2^31)'
+-- 'Reasons, two words (1 asserted or 2 interface; a number below 2^31, on edges too)'
 unfoldable pub reasonRule : ℕ × ℕ → Bool
 reasonRule p = (eqb (p .0) 1 || eqb (p .0) 2) && isNumber (p .1)
 
@@ -65,13 +65,6 @@ lengthRule s t = isString s (term s t .first) && ltb (term s t .first) t && eqb 
 -- '5 equation (two string terms or two lengths)'
 unfoldable pub isEquatable : Store → ℕ → ℕ → Bool
 isEquatable s a b = (isString s a && isString s b) || (isLength s a && isLength s b)
-
--- refusal 5: 'a list above 1,024', 'term absent or of the wrong kind': a list of string terms
-abbrev pub listLimit : ℕ
-listLimit = 1024
-
-abbrev pub isList : Store → List ℕ → Bool
-isList s l = leb (length l) listLimit && all (isString s) l
 
 unfoldable pub equationRule : Store → ℕ → Bool
 equationRule s t = isEquatable s (term s t .first) (term s t .second) && ltb (term s t .first) t && ltb (term s t .second) t
@@ -149,6 +142,15 @@ edgeRule s t = not (isCongruence s t) || congruenceRule s t
 
 unfoldable pub congruencesRule : Store → Bool
 congruencesRule s = eachTerm s (edgeRule s)
+
+-- REFUSAL 5: arguments that are lists
+
+-- 'a list above 1,024', 'term absent or of the wrong kind': a list of string terms
+abbrev pub listLimit : ℕ
+listLimit = 1024
+
+abbrev pub isList : Store → List ℕ → Bool
+isList s l = leb (length l) listLimit && all (isString s) l
 
 -- THE AUDIT: 0, or the first refusal of 1 to 4 that is due
 

@@ -1,11 +1,11 @@
 -- The store: what is counted of the lent slices, as lists of records; and work on it, which can stop.
-use mathlib.Core.Bool.{Bool, true, false, not, _&&_, _||_}
+use mathlib.Core.Bool.{Bool, true, false, not, _&&_}
 use mathlib.Core.List.{List, [], _∷_, _++_}
+use mathlib.Core.Option.{Option, none, some}
 use Prim.Native.Nat.{ℕ, zero, suc, _+_}
 use lib.ListN.{length, take, drop, getD}
 use lib.Dec.{eqb, ltb, leb}
-use Rattle.records.specs.Lists.{if_then_else_, isIn, firstOf, firsts, upTo}
-use mathlib.Core.Option.{Option, none, some}
+use Rattle.records.specs.Lists.{isIn, firstOf, firsts, upTo}
 
 -- 'Terms, eight words: kind, first, second, class parent, forest parent, label kind, label value, stamp.'
 pub record Term : Type 0 where
@@ -113,7 +113,7 @@ within n t = ltb 0 t && leb t n
 abbrev pub isTerm : Store → ℕ → Bool
 isTerm s t = within (count s) t
 
--- 'Kinds: 1 constant and 2 variable; 3 concatenation; 4 length; 5 equation.'
+-- 'Kinds: 1 constant and 2 variable (..); 3 concatenation (..); 4 length (..); 5 equation (..)'
 abbrev pub isConstant : Store → ℕ → Bool
 isConstant s t = eqb (kind s t) 1
 

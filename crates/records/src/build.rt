@@ -1,7 +1,7 @@
 // Making concatenations, lengths and equations: the lowest-numbered equal record, else one appended.
 ghost use mathlib.Core.Path.{_≡_};
 ghost use mathlib.Core.Bool.{_&&_};
-ghost use Prim.Native.Nat.{ℕ, suc, _≤_};
+ghost use Prim.Native.Nat.{suc, _≤_};
 ghost use lib.Dec.{leb};
 ghost use lib.ListN.{length};
 ghost use Rattle.records.specs.Lists.{sameWord, firsts, firstBelow};

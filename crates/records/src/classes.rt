@@ -2,7 +2,7 @@
 ghost use mathlib.Core.Path.{_≡_};
 ghost use mathlib.Core.Bool.{true, not, _&&_, _||_};
 ghost use mathlib.Core.List.{[]};
-ghost use Prim.Native.Nat.{ℕ, _≤_};
+ghost use Prim.Native.Nat.{_≤_};
 ghost use Rattle.records.specs.Lists.{all, firstOf, upTo, Every};
 ghost use Rattle.records.specs.Leaves.{marked, isMarked};
 ghost use Rattle.records.specs.Store.{within, chainIn, classUp, forestUp, rootIn, topIn, aboveIn, orNone, nearestIn};

@@ -1,9 +1,7 @@
 // Reading the records. Each reader is total: a word past the end of its slice reads as 0.
 ghost use mathlib.Core.Path.{_≡_};
-ghost use Prim.Native.Nat.{ℕ, _+_, _*_};
+ghost use Prim.Native.Nat.{_+_, _*_};
 ghost use lib.ListN.{getD};
-ghost use Rattle.records.specs.Store.{termIn};
-ghost use Rattle.records.specs.View.{termsView};
 
 pub fn wide(x: u32) -> usize
     ensures { λ r. ⌜ r ≡ x ⌝ }

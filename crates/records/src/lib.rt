@@ -1,6 +1,6 @@
 // The store of labels: its layout in lent slices, its audit, its counts, and the calls that make terms.
 ghost use mathlib.Core.Path.{_≡_};
-ghost use Prim.Native.Nat.{ℕ, _+_, _<_, _≤_};
+ghost use Prim.Native.Nat.{_+_, _<_, _≤_};
 ghost use Rattle.records.specs.Rules.{audit};
 ghost use Rattle.records.specs.View.{lent, termLimit, cellLimit, charLimit, reasonLimit, keyLimit, oneTerm, moreCells, moreChars, oneReason, oneKey, namesAt};
 
@@ -69,13 +69,13 @@ pub enum Made {
     Refused(u32),
 }
 
-// What adding a reason or a key answers: the new counts, or the refusal.
+// What adding reasons or a key answers: the new counts, or the refusal.
 pub enum Added {
     Counts(State),
     Refused(u32),
 }
 
-// What taking a name answers: 0, or the refusal; the counts with the counter past the name; the name and its length.
+// What taking a name answers: 0, or the refusal; the counts with the counter past the name, or those of entry; the name and its length.
 pub struct Named {
     pub code: u32,
     pub state: State,

@@ -1,6 +1,6 @@
 // Names for new variables: `!strk` and a counter in decimal.
 ghost use mathlib.Core.Path.{_≡_};
-ghost use Prim.Native.Nat.{ℕ, _+_, _≤_};
+ghost use Prim.Native.Nat.{_+_, _≤_};
 ghost use lib.ListN.{length};
 ghost use Rattle.records.specs.View.{lent, storeOf};
 ghost use Rattle.records.specs.Make.{decimalBy, nameOf, isTaken};

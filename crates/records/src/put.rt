@@ -1,13 +1,12 @@
 // Writing records above the counts: terms, cells, reasons and keys.
 ghost use mathlib.Core.Path.{_≡_};
-ghost use Prim.Native.Nat.{ℕ, suc, _+_, _*_, _/_, _<_, _≤_, min, max};
+ghost use Prim.Native.Nat.{_+_, _*_, _/_, _<_, _≤_, min, max};
 ghost use lib.Dec.{ltb, leb};
 ghost use lib.ListN.{length};
 ghost use Rattle.records.specs.Lists.{any};
 ghost use Rattle.records.specs.View.{termLimit, cellLimit, termRoom, cellRoom, pairAt, pairsView, lent};
 ghost use Rattle.records.specs.Make.{addReason, addKey, ordered, samePair};
 ghost use Rattle.records.specs.Puts.{TermPut, CellPut, ChainPut, PairPut, Pushed};
-ghost use Rattle.records.specs.Audited.{Sized};
 ghost use Rattle.records.specs.Calls.{Working, added};
 
 // One term more fits.

@@ -6,7 +6,7 @@ ghost use Prim.Native.Nat.{_+_, _*_, _<_, _≤_};
 ghost use lib.ListN.{length};
 ghost use lib.Dec.{leb};
 ghost use Rattle.records.specs.Lists.{all};
-ghost use Rattle.records.specs.Store.{termIn, within, term, cell, chain, isVariable, text};
+ghost use Rattle.records.specs.Store.{termIn, within, cell, chain, isVariable, text};
 ghost use Rattle.records.specs.View.{lent, storeOf, termsView, charsView, pairsView, span, termLimit, cellLimit, charLimit, reasonLimit, keyLimit, sizes};
 ghost use Rattle.records.specs.Rules.{isChar, isNumber, reasonRule, keyRule, cellRule, textRule, named, nameRule, partRule, concatRule, lengthRule, isEquatable, equationRule, termRule, recordsRule, eachTerm, eachCell, isList};
 ghost use Rattle.records.specs.Marks.{markFrom, mark, Marking, Naming};

@@ -7,22 +7,6 @@ use Rattle.engine.proofs.explain_many.Reads as reads
 use Rattle.engine.proofs.explain_many.Lts as lts
 use Rattle.engine.proofs.explain_rec.Reads as explain-rec-reads
 
--- src/lib.rt:182:43
-slice-aggregate-explain-rec : tie.Need-slice-aggregate-explain-rec
-slice-aggregate-explain-rec c = search needs
-
--- src/lib.rt:182:5
-explain-rec-requires : tie.Need-explain-rec-requires
-explain-rec-requires c κs = explainable-walk _ _ _ _ _ _ _ 512 8225 (c .before .before .before .before .before .pre .0) (omega arith) (omega arith) (c .before .before .before .before .before .pre .1)
-
--- src/lib.rt:177:1
-same-length : tie.Need-same-length
-same-length c = search needs
-
--- src/lib.rt:177:1
-returns : tie.Need-returns
-returns c = explained-by _ _ _ _ _ _ _ _ _ _ 8225 _ (c .before .before .before .explain-rec .ensures)
-
 pub explain-many-spec : {M : Type 1} → statement M
 explain-many-spec =
-    tie.close (tie.spec slice-aggregate-explain-rec explain-rec-requires same-length returns)
+    tie.close (tie.spec (λ c. search needs) (λ c κs. explainable-walk _ _ _ _ _ _ _ 512 8225 (c .before .before .before .before .before .pre .0) (omega arith) (omega arith) (c .before .before .before .before .before .pre .1)) (λ c. search needs) (λ c. explained-by _ _ _ _ _ _ _ _ _ _ 8225 _ (c .before .before .before .explain-rec .ensures)))

@@ -7,22 +7,6 @@ use Rattle.engine.proofs.explain_some.Reads as reads
 use Rattle.engine.proofs.explain_some.Lts as lts
 use Rattle.engine.proofs.explain_rec.Reads as explain-rec-reads
 
--- src/lib.rt:174:43
-slice-aggregate-explain-rec : tie.Need-slice-aggregate-explain-rec
-slice-aggregate-explain-rec c = search needs
-
--- src/lib.rt:174:5
-explain-rec-requires : tie.Need-explain-rec-requires
-explain-rec-requires c κs = explainable-walk _ _ _ _ _ _ _ 127 512 (c .before .before .before .before .before .pre .0) (omega arith) (omega arith) (c .before .before .before .before .before .pre .1)
-
--- src/lib.rt:169:1
-same-length : tie.Need-same-length
-same-length c = search needs
-
--- src/lib.rt:169:1
-returns : tie.Need-returns
-returns c = explained-by _ _ _ _ _ _ _ _ _ _ 512 _ (c .before .before .before .explain-rec .ensures)
-
 pub explain-some-spec : {M : Type 1} → statement M
 explain-some-spec =
-    tie.close (tie.spec slice-aggregate-explain-rec explain-rec-requires same-length returns)
+    tie.close (tie.spec (λ c. search needs) (λ c κs. explainable-walk _ _ _ _ _ _ _ 127 512 (c .before .before .before .before .before .pre .0) (omega arith) (omega arith) (c .before .before .before .before .before .pre .1)) (λ c. search needs) (λ c. explained-by _ _ _ _ _ _ _ _ _ _ 512 _ (c .before .before .before .explain-rec .ensures)))

@@ -7,26 +7,9 @@ use Rattle.engine.proofs.is_marked.Tie as tie
 use Rattle.engine.proofs.is_marked.Reads as reads
 use Rattle.engine.proofs.is_marked.Lts as lts
 
--- src/marks.rt:24:13
-mul-w : tie.Need-mul-w
-mul-w c = search needs
-
--- src/marks.rt:24:13
-shared-slice-read-w : tie.Need-shared-slice-read-w
-shared-slice-read-w c = search needs
-
--- src/marks.rt:26:11
-cast-result : tie.Need-cast-result
-cast-result c = search needs
-
--- src/marks.rt:26:6
-shr-result : tie.Need-shr-result
-shr-result c = search needs
-
--- src/marks.rt:20:1
 returns : tie.Need-returns
 unfolding marked bit
 returns c = refl
 
 pub is-marked-spec : {M : Type 1} → statement M
-is-marked-spec = tie.close (tie.spec mul-w shared-slice-read-w cast-result shr-result returns)
+is-marked-spec = tie.close (tie.spec (λ c. search needs) (λ c. search needs) (λ c. search needs) (λ c. search needs) returns)
