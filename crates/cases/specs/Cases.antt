@@ -1,15 +1,15 @@
 -- Document 01, 'Label cases (starred: proved)', as one table, and one fact: the definition that the contracts cite gives each answer.
-use mathlib.Core.Bool.{Bool, true, false, not, _&&_, _||_, Bool·beq}
-use mathlib.Core.List.{List, [], _∷_, _++_}
-use Prim.Native.Nat.{ℕ, zero, suc, _+_, _-_, _*_}
+use mathlib.Core.Bool.{Bool, true, false, _&&_}
+use mathlib.Core.List.{List, [], _∷_}
+use Prim.Native.Nat.{ℕ, _-_}
 use Prim.Native.Char.{code}
 use Prim.Native.String.{String}
 use Prim.Native.String
 use lib.ListN.{length, set}
 use lib.IntN.{ℤ, pos, negsuc}
 use lib.Dec.{eqb, T}
-use Rattle.records.specs.Lists.{if_then_else_, all, any, firstOf, keep, joined, table, sameWord, isIn, firsts, seconds, upTo, allBelow, firstBelow}
-use Rattle.records.specs.Store.{Room, Store, Out, ok, stop, Work, _>>=_, _>>_, give, store, put, term, termIn, cellIn, within, textIn, chainBy, climb, aboveBy, nearestIn, pathIn}
+use Rattle.records.specs.Lists.{all, any, firstOf, keep, joined, table, sameWord, isIn, firsts, seconds, upTo, allBelow, firstBelow}
+use Rattle.records.specs.Store.{Store, Out, ok, stop, Work, _>>=_, _>>_, give, store, put, term, termIn, cellIn, within, textIn, chainBy, climb, aboveBy, nearestIn, pathIn}
 use Rattle.records.specs.Rules.{isChar, isNumber, reasonRule, keyRule, cellRule, textRule, named, nameRule, partRule, concatRule, lengthRule, isEquatable, equationRule, termRule, recordsRule, parentsRule, endsRule, alikeRule, aloneRule, edgeLabel, labelRule, classesRule, pairsOf, fallsRule, congruenceRule, congruencesRule, auditStore}
 use Rattle.records.specs.Make.{withTerms, withReasons, addReason, samePair, isKey, addKey, addText, chainFrom, addChain, addTerm, lookup, lowest, constantOf, concatOf, lengthOf, equationOf, makeConstant, makeVariable, makeConcat, makeLength, makeEquation, decimalBy, nameOf, isTaken, takeNameBy, takeName}
 use Rattle.engine.specs.Explain.{wasSeen, each, edge, highest, walk, walked, explain}
@@ -65,7 +65,7 @@ sameGuard (pos a) (negsuc b) = false
 sameGuard (negsuc a) (pos b) = false
 sameGuard (negsuc a) (negsuc b) = eqb a b
 
--- document 01's number and values of an answer: 0 Done, 1 Saturated, 2 Conflict, 3 Propagate, 4 Split
+-- an answer's number, as the C interface has it, and its values
 abbrev pub number : Answer → ℕ
 number done = 0
 number saturated = 1
@@ -91,6 +91,14 @@ guardOf conflict = pos 0
 guardOf (propagate v w k) = pos 0
 guardOf (split l g) = g
 
+-- a Split adds the key of its heads, and no other answer adds one
+abbrev pub keysOf : Answer → ℕ
+keysOf done = 0
+keysOf saturated = 0
+keysOf conflict = 0
+keysOf (propagate v w k) = 0
+keysOf (split l g) = 1
+
 unfoldable pub samePairs : List (ℕ × ℕ) → List (ℕ × ℕ) → Bool
 samePairs [] [] = true
 samePairs [] (y ∷ ys) = false
@@ -115,6 +123,7 @@ caseAfter rs₀ ls l r x rs = record { lines = ls; left = l; right = r; incoming
 abbrev pub agrees : Case → Out Answer → Bool
 agrees c (ok s x) = eqb (number x) (number (c .expected)) && sameWord (values x) (values (c .expected)) && sameGuard (guardOf x) (guardOf (c .expected))
     && samePairs (s .reasons) (c .reasons)
+    && eqb (length (s .keys)) (keysOf (c .expected))
 agrees c (stop n) = false
 
 -- guard 9, on a store that passes the audit

@@ -1,18 +1,18 @@
 -- Other cases of document 01, of the deep form and of the step over one equation, by computing.
-use mathlib.Core.Bool.{Bool, true, false, not, _&&_, _||_}
+use mathlib.Core.Bool.{Bool, true, false, _&&_}
 use mathlib.Core.List.{List, [], _∷_, _++_}
 use mathlib.Core.Option.{Option, none, some}
 use Prim.Native.Nat.{ℕ, zero, suc}
 use lib.ListN.{length}
-use lib.IntN.{ℤ, pos, negsuc}
+use lib.IntN.{pos}
 use lib.Dec.{eqb, T}
-use Rattle.records.specs.Lists.{if_then_else_, all, any, firstOf, keep, joined, table, sameWord, isIn, firsts, seconds, upTo, allBelow, firstBelow}
-use Rattle.records.specs.Store.{Room, Store, Out, ok, stop, Work, _>>=_, _>>_, give, termIn, cellIn, within, textIn, chainBy, climb, aboveBy, nearestIn, pathIn}
+use Rattle.records.specs.Lists.{all, any, firstOf, keep, joined, table, sameWord, isIn, firsts, seconds, upTo, allBelow, firstBelow}
+use Rattle.records.specs.Store.{Out, ok, stop, _>>=_, _>>_, termIn, cellIn, within, textIn, chainBy, climb, aboveBy, nearestIn, pathIn}
 use Rattle.records.specs.Rules.{isChar, isNumber, reasonRule, keyRule, cellRule, textRule, named, nameRule, partRule, concatRule, lengthRule, isEquatable, equationRule, termRule, recordsRule, parentsRule, endsRule, alikeRule, aloneRule, edgeLabel, labelRule, classesRule, pairsOf, fallsRule, congruenceRule, congruencesRule, auditStore}
 use Rattle.records.specs.Make.{addReason, samePair, isKey, addKey, addText, chainFrom, addChain, addTerm, lookup, lowest, constantOf, concatOf, lengthOf, equationOf, makeConstant, makeVariable, makeConcat, makeLength, makeEquation, decimalBy, nameOf, isTaken, takeNameBy, takeName}
 use Rattle.engine.specs.Explain.{wasSeen, each, edge, highest, walk, walked, explain}
 use Rattle.normalize.specs.Normalize.{atomsBy, flatten, representative, substitute, join, push, pushAll, pushForms, normalForm, expand, settle, rounds, deepForm}
-use Rattle.wordeq.specs.Wordeq.{Answer, done, saturated, conflict, propagate, split, same, fixed, lettersOf, letters, explainMatch, stripHeads, strip, isFull, occurrence, occurs, unequal, short, absent, constants, isPlain, alias, empties, assigns, filled, lead, firstSpan, fits, explainAll, tileBy, tile, differ, clashes, freshVariable, splitCharacter, splitHeads, splits, after, steps, resolve}
+use Rattle.wordeq.specs.Wordeq.{Answer, conflict, propagate, same, fixed, lettersOf, letters, explainMatch, stripHeads, strip, isFull, occurrence, occurs, unequal, short, absent, constants, isPlain, alias, empties, assigns, filled, lead, firstSpan, fits, explainAll, tileBy, tile, differ, clashes, freshVariable, splitCharacter, splitHeads, splits, after, steps, resolve}
 use Rattle.equation.specs.Equation.{Stepped, unexpanded, answered, step}
 use Rattle.cases.specs.Cases.{empty, codes, Line, con, var, cat, by, merged, line, build, number, values, guardOf, sameGuard, samePairs}
 
