@@ -2,7 +2,7 @@
 use mathlib.Core.Path.{_≡_, refl, sym, ap, subst, _∙_}
 use mathlib.Core.Bool.{Bool, true}
 use mathlib.Core.List.{List, []}
-use Prim.Native.Nat.{ℕ, zero, suc, _≤_}
+use Prim.Native.Nat.{ℕ, zero, suc, _≤_, _<_}
 use native.Mathlib.Omega.{arith}
 use lib.ListN.{length}
 use lib.Dec.{leb}
@@ -58,3 +58,11 @@ module _ {fit : Store → Bool} {work : Work (Unit {0})} (can : Tells fit work) 
         go (adding.Counts d) q p g = rw g (f (storeOf m′ d) (ap (λ (x : Added). added x m′) q))
         go (adding.Refused zero) q p g = absurd (call-stops can m c 0 (sym (called .says) ∙ ap (λ (x : Added). added x m′) q) refl)
         go (adding.Refused (suc j)) q p g = absurd (omega arith)
+
+    -- what holds of every stop's number holds of the result, where it is a refusal
+    pub counts-full : ((j : ℕ) → added r m′ ≡ stop j → 5 < j → j ≡ 7) → 5 < k → k ≡ 7
+    counts-full f h = go r refl (t .code)
+      where
+        go : (x : Added) → r ≡ x → k ≡ addedCode x → k ≡ 7
+        go (adding.Counts d) q p = absurd (omega arith)
+        go (adding.Refused j) q p = let i : 5 < j = omega arith in p ∙ f j (ap (λ (x : Added). added x m′) q) i

@@ -9,6 +9,7 @@ use borrow.Author.Tests.{lt-leb}
 use Rattle.records.specs.declared.State.{State}
 use Rattle.records.specs.declared.Added.{Added}
 use Rattle.records.specs.declared.Added.the-variants as adding
+use Rattle.records.specs.Lists.{Every}
 use Rattle.records.specs.Store.{Store, Out, ok, stop, Work, isString, sameClass}
 use Rattle.records.specs.View.{Lent, storeOf}
 use Rattle.records.specs.Audited.{Audited}
@@ -17,14 +18,14 @@ use Rattle.records.proofs.Lists.{both-left, both-right}
 use Rattle.engine.specs.declared.Found.{Found}
 use Rattle.engine.specs.declared.Found.the-variants.{Root, Refused}
 use Rattle.engine.specs.Explain.{find, findArguments, explain, explainArguments}
-use Rattle.engine.specs.Meaning.{Explains}
+use Rattle.engine.specs.Meaning.{Explains, addedTo, Labels}
 use Rattle.engine.specs.Calls.{found, PublicExplain}
 use Rattle.engine.proofs.Sound.{explain-kept, explain-stops}
 use Rattle.capi.specs.Interface.{stateOf, Beyond, roomy, over, told, Exported, ExportedExplain}
 use Rattle.capi.specs.Leaves.{Narrow, ToldCounts}
 use Rattle.capi.proofs.Words.{beyond-same, beyond-first, first-read, roomy-answer}
 use Rattle.capi.proofs.Exports.{Tells, call-stops, told-public, untold}
-use Rattle.capi.proofs.CountExports.{counts-tellable, counts-exported, counts-worth}
+use Rattle.capi.proofs.CountExports.{counts-tellable, counts-exported, counts-worth, counts-full}
 
 -- FIND
 
@@ -77,7 +78,7 @@ explain-tells a b = record {
     three s f = both-right (isString s a && isString s b) _ f
 
 pub explain-short : (a b : ℕ) (m : Lent) (w : List ℕ) → length w < 6 → ExportedExplain a b m m w w 1
-explain-short a b m w h = record { is = untold _ m w 0 [] tt (lt-leb 6 (length w) h); worth = λ e. absurd (omega arith) }
+explain-short a b m w h = record { is = untold _ m w 0 [] tt (lt-leb 6 (length w) h); worth = λ e. absurd (omega arith); edges = λ e. absurd (omega arith); full = λ e. absurd (omega arith) }
 
 module _ {a b : ℕ} {m m′ : Lent} {c : State} {r : Added} (called : PublicExplain a b m m′ c (added r m′)) where
   pub explain-tellable : (d : State) → r ≡ adding.Counts d → Narrow d
@@ -87,4 +88,6 @@ module _ {a b : ℕ} {m m′ : Lent} {c : State} {r : Added} (called : PublicExp
   explain-exported room e t = record {
     is = counts-exported (explain-tells a b) (called .is) t room e;
     worth = counts-worth (explain-tells a b) (called .is) t (λ s′ q. subst (λ (d : State). Explains (storeOf m d) s′ a b) e (called .worth s′ q));
+    edges = counts-worth (explain-tells a b) (called .is) t (λ s′ q. subst (λ (d : State). Every (Labels (storeOf m d)) (addedTo (storeOf m d) s′)) e (called .edges s′ q));
+    full = counts-full (explain-tells a b) (called .is) t (called .full);
   }

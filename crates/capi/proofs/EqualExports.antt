@@ -25,7 +25,7 @@ use Rattle.capi.specs.Equations.{flag, flagWords, flagRead, ExportedEqua
 use Rattle.capi.specs.Leaves.{Narrow, ToldCounts}
 use Rattle.capi.proofs.Words.{beyond-same, beyond-first, first-read, roomy-answer}
 use Rattle.capi.proofs.Exports.{Tells, call-stops, told-public, untold}
-use Rattle.capi.proofs.CountExports.{counts-tellable, counts-exported, counts-worth}
+use Rattle.capi.proofs.CountExports.{counts-tellable, counts-exported, counts-worth, counts-full}
 use Rattle.capi.proofs.AnswerExports.{left-strings, right-strings, flag-back}
 
 -- NF_EQUAL
@@ -88,7 +88,7 @@ pairs-tells l r = record {
 }
 
 pub pairs-short : (l r : List ℕ) (m : Lent) (w : List ℕ) → length w < 6 → ExportedEqualExplain l r m m w w 1
-pairs-short l r m w h = record { is = untold _ m w 0 [] tt (lt-leb 6 (length w) h); worth = λ e. absurd (omega arith) }
+pairs-short l r m w h = record { is = untold _ m w 0 [] tt (lt-leb 6 (length w) h); worth = λ e. absurd (omega arith); full = λ e. absurd (omega arith) }
 
 module _ {l r : List ℕ} {m m′ : Lent} {c : State} {x : Added} (called : PublicEqualExplain l r m m′ c (added x m′)) where
   pub pairs-tellable : (d : State) → x ≡ adding.Counts d → Narrow d
@@ -98,4 +98,5 @@ module _ {l r : List ℕ} {m m′ : Lent} {c : State} {x : Added} (called : Publ
   pairs-exported room e t = record {
     is = counts-exported (pairs-tells l r) (called .is) t room e;
     worth = counts-worth (pairs-tells l r) (called .is) t (λ s′ q. subst (λ (d : State). ExplainsEqual (storeOf m d) s′ l r) e (called .worth s′ q));
+    full = counts-full (pairs-tells l r) (called .is) t (called .full);
   }

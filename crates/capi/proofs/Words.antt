@@ -9,7 +9,7 @@ use lib.Dec.{leb}
 use borrow.Author.Tests.{leb-true, lt-leb, le-leb}
 use Rattle.records.specs.declared.State.{State}
 use Rattle.records.specs.declared.Made.{Made}
-use Rattle.records.specs.declared.Made.the-variants.{Term, Refused}
+use Rattle.records.specs.declared.Made.the-variants.{Term}
 use Rattle.records.specs.View.{Lent}
 use Rattle.records.specs.Rules.{audit}
 use Rattle.records.proofs.Lists.{both-left, both-right, left-false, and-next}
@@ -88,11 +88,5 @@ module _ {w w′ a a′ : List ℕ} {r : Made} where
   pub told-term : {t : ℕ} {c : State} → r ≡ Term t c → w′ ≡ written c w → a′ ≡ set a 0 t → Told w w′ a a′ r 0
   told-term e p q = rw e (record { code = refl; state = p; answer = q })
 
-pub told-refused : {w a : List ℕ} {r : Made} {k : ℕ} → r ≡ Refused k → Told w w a a r k
-told-refused e = rw e (record { code = refl; state = refl; answer = refl })
-
 pub told-counts : {w w′ : List ℕ} {r : Added} {c : State} → r ≡ adding.Counts c → w′ ≡ written c w → ToldCounts w w′ r 0
 told-counts e p = rw e (record { code = refl; state = p })
-
-pub told-no-counts : {w : List ℕ} {r : Added} {k : ℕ} → r ≡ adding.Refused k → ToldCounts w w r k
-told-no-counts e = rw e (record { code = refl; state = refl })

@@ -2,7 +2,7 @@
 use mathlib.Core.Path.{_≡_}
 use mathlib.Core.Bool.{Bool, true, false}
 use mathlib.Core.List.{List, [], _∷_}
-use Prim.Native.Nat.{ℕ, zero, suc}
+use Prim.Native.Nat.{ℕ, zero, suc, _<_}
 use lib.ListN.{length, getD, take}
 use lib.IntN.{ℤ}
 use lib.Dec.{eqb, leb}
@@ -58,7 +58,8 @@ pub record ExportedEqual (l r : List ℕ) (m : Lent) (w a a′ : List ℕ) (k : 
   pub is : Answered (over (roomy w a) (call (equalArguments l r) (equalLists l r) m (stateOf w))) flagWords m m w w a a′ (flagRead a′) k
 
 -- nf_equal_explain told in words, and what it is worth: under the reasons that the call added and the definitional merges two lists that
--- nf_equal calls equal have equal words
+-- nf_equal calls equal have equal words. Once the arguments pass, refusal 7 alone is given
 pub record ExportedEqualExplain (l r : List ℕ) (m m′ : Lent) (w w′ : List ℕ) (k : ℕ) : Type 0 where
   pub is : Exported (over (leb 6 (length w)) (call (nfArguments l r) (nfExplain l r) m (stateOf w))) m m′ w w′ 0 [] [] tt k
   pub worth : k ≡ 0 → ExplainsEqual (storeOf m (stateOf w)) (storeOf m′ (stateOf w′)) l r
+  pub full : 5 < k → k ≡ 7

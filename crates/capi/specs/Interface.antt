@@ -2,17 +2,17 @@
 use mathlib.Core.Path.{_≡_}
 use mathlib.Core.Bool.{Bool, _&&_}
 use mathlib.Core.List.{List, []}
-use Prim.Native.Nat.{ℕ, zero, suc, _≤_}
+use Prim.Native.Nat.{ℕ, zero, suc, _≤_, _<_}
 use lib.ListN.{length, getD, take, drop}
 use lib.Dec.{leb}
 use Rattle.records.specs.declared.State.{State}
-use Rattle.records.specs.Lists.{if_then_else_}
+use Rattle.records.specs.Lists.{if_then_else_, Every}
 use Rattle.records.specs.Store.{Out, ok, stop}
 use Rattle.records.specs.View.{Lent, storeOf}
 use Rattle.records.specs.Rules.{audit}
 use Rattle.records.specs.Calls.{Public, call}
 use Rattle.engine.specs.Explain.{explain, explainArguments}
-use Rattle.engine.specs.Meaning.{Explains}
+use Rattle.engine.specs.Meaning.{Explains, addedTo, Labels}
 
 -- the state's six words: the counts of terms, cells, characters, reasons and keys, and the name counter
 abbrev pub stateOf : List ℕ → State
@@ -60,7 +60,10 @@ module _ {A : Type 0} where
     pub is : Answered o words m m′ w w′ a a′ x k
     pub idle : (k ≡ 0 → ⊥) → k ≤ 5 → l′ ≡ l
 
--- explain told in words, and what it is worth: under the reasons that the call added and the definitional merges the two terms have equal words
+-- explain told in words, and what it is worth: under the reasons that the call added and the definitional merges the two terms have equal
+-- words. Every reason added labels an edge of the store; once the arguments pass, refusal 7 alone is given
 pub record ExportedExplain (a b : ℕ) (m m′ : Lent) (w w′ : List ℕ) (k : ℕ) : Type 0 where
   pub is : Exported (over (leb 6 (length w)) (call (explainArguments a b) (explain a b) m (stateOf w))) m m′ w w′ 0 [] [] tt k
   pub worth : k ≡ 0 → Explains (storeOf m (stateOf w)) (storeOf m′ (stateOf w′)) a b
+  pub edges : k ≡ 0 → Every (Labels (storeOf m (stateOf w))) (addedTo (storeOf m (stateOf w)) (storeOf m′ (stateOf w′)))
+  pub full : 5 < k → k ≡ 7

@@ -1,6 +1,6 @@
 use mathlib.Core.Path.{refl}
 use lib.ListN.{length-set}
-use Rattle.capi.proofs.Words.{roomy-state, roomy-answer, told-term, told-refused}
+use Rattle.capi.proofs.Words.{roomy-state, roomy-answer, told-term}
 use native.Mathlib.Omega.{arith}
 use borrow.Author.Needs.{needs}
 use Rattle.capi.proofs.telling.tell.Statement.{statement}
