@@ -14,7 +14,7 @@ use Rattle.records.specs.Rules.{isChar, listLimit, isList}
 use Rattle.records.specs.Make.{makeConstant}
 use Rattle.records.specs.Meaning.{Words, Reading, Holds}
 use Rattle.records.specs.Audited.{Audited}
-use Rattle.records.proofs.Lists.{both-left, both-right, both-true, every-map, every-append, all-every, all-append}
+use Rattle.records.proofs.Lists.{both-left, both-right, both-true, every-map, every-append, all-every, all-append, every-left}
 use Rattle.records.proofs.Readings.{text-characters}
 use Rattle.records.proofs.Kept.{made-string, constant-kept, constant-stops}
 use Rattle.records.proofs.Meant.{constant-word}
@@ -90,10 +90,6 @@ joined-pair t u c s s′ audited p q e =
           ap (λ (x : List ℕ). x ++ (w t ++ [])) (r₀ .constants u (eqb-true _ _ q)) ∙ ap (λ (x : List ℕ). text s u ++ (x ++ [])) (r₀ .constants t (eqb-true _ _ p))
           ∙ sym (append-assoc (text s u) (text s t) []) ∙ ap (λ (x : List ℕ). x ++ []) (sym (constant-word m r));
     }
-
-every-left : {P : ℕ → Type 0} (l m : List ℕ) → Every P (l ++ m) → Every P l
-every-left [] m k = none-left
-every-left (a ∷ l) m (and p k) = and p (every-left l m k)
 
 join-ends : (t : ℕ) (out : List ℕ) (s : Store) → Audited s → isString s t ≡ true → Strings s (reverse out) → Ends (λ s′ out′. Pushed s s′ (t ∷ []) out out′) (join t out s)
 unfolding join

@@ -1,7 +1,7 @@
 -- The ways of replacing an atom, and of the loop over the atoms.
 use mathlib.Core.Path.{_≡_, refl, sym, ap, subst, _∙_}
 use mathlib.Core.Bool.{true, _&&_}
-use mathlib.Core.List.{List, [], _∷_, _++_, reverse}
+use mathlib.Core.List.{List, [], _∷_, reverse}
 use Prim.Native.Nat.{ℕ, suc, _+_, _-_, _≤_, _<_}
 use native.Mathlib.Numerals.{add-one}
 use native.Mathlib.Omega.{arith}
@@ -12,7 +12,7 @@ use borrow.Author.Tests.{eq-eqb, ne-eqb}
 use Rattle.records.specs.declared.State.{State}
 use Rattle.records.specs.declared.Added.{Added}
 use Rattle.records.specs.declared.Added.the-variants.{Counts, Refused}
-use Rattle.records.specs.Lists.{if_then_else_, table, Every, none-left, and}
+use Rattle.records.specs.Lists.{if_then_else_, table, none-left}
 use Rattle.records.specs.Store.{Term, Store, Out, ok, stop, andThen, _>>=_, give, count, within, termIn, rootIn, classUp, isString}
 use Rattle.records.specs.View.{Lent, storeOf, termsView, termLimit}
 use Rattle.records.specs.Audited.{Ready, Closed}
@@ -69,10 +69,6 @@ module _ {m m′ : Lent} {c : State} (ready : Ready m c) (a r : ℕ) (x : Added)
   push-for-stopped k out e = record { says = ap (andThen (λ (u : Unit {0}). push r out)) (says (Refused k) e); kept = w .kept }
 
 -- THE LOOP
-
-pub every-right : {P : ℕ → Type 0} (l m : List ℕ) → Every P (l ++ m) → Every P m
-every-right [] m k = k
-every-right (a ∷ l) m (and p k) = every-right l m k
 
 -- what is left of the atoms, after the list so far, is what is asked
 pub record Going (m₀ : Lent) (c : State) (cs flat : List ℕ) (m : Lent) (d : State) (list : List ℕ) (count i : ℕ) : Type 0 where

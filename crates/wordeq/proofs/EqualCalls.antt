@@ -2,21 +2,21 @@
 use mathlib.Core.Path.{_≡_, refl, sym, ap, _∙_}
 use mathlib.Core.Bool.{Bool, true, false, not, _&&_}
 use mathlib.Core.List.{List, [], _∷_}
-use Prim.Native.Nat.{ℕ, _≤_}
+use Prim.Native.Nat.{ℕ}
 use native.Mathlib.Omega.{arith}
 use lib.ListN.{length}
 use lib.Dec.{eqb, leb}
 use borrow.Author.Tests.{not-true, not-false, eqb-true}
 use Rattle.records.specs.declared.State.{State}
-use Rattle.records.specs.Lists.{if_then_else_, all}
+use Rattle.records.specs.Lists.{all}
 use Rattle.records.specs.Store.{Store, Out, ok, stop, isString}
-use Rattle.records.specs.View.{Lent, storeOf, sizes}
-use Rattle.records.specs.Rules.{recordsRule, classesRule, congruencesRule, auditStore, audit, listLimit, isList}
+use Rattle.records.specs.View.{Lent, storeOf}
+use Rattle.records.specs.Rules.{audit, listLimit, isList}
 use Rattle.records.specs.Audited.{Ready}
 use Rattle.records.specs.Calls.{Working, Public, call}
 use Rattle.records.proofs.Lists.{both-left, both-right, left-false, and-next}
 use Rattle.records.proofs.Passed.{ready-of}
-use Rattle.records.proofs.Public.{call-unready, call-unfit, call-works}
+use Rattle.records.proofs.Public.{call-unready, call-unfit, call-works, audit-low}
 use Rattle.records.proofs.Works.{stop-not}
 use Rattle.wordeq.specs.Wordeq.{same, nfEqual, nfExplain, nfArguments}
 use Rattle.wordeq.specs.Stripping.{readIn, Readable}
@@ -41,18 +41,6 @@ module _ (s : Store) (l r : List ℕ) (b : Bool) (e : b ≡ equalArguments l r s
 
 pub list-strings : (s : Store) (l : List ℕ) → isList s l ≡ true → all (isString s) l ≡ true
 list-strings s l e = both-right (leb (length l) listLimit) _ e
-
--- the audit's refusals are 1 to 4
-pub audit-low : (m : Lent) (c : State) → audit m c ≤ 4
-unfolding audit auditStore
-audit-low m c = go (sizes m c) (recordsRule (storeOf m c)) (classesRule (storeOf m c)) (congruencesRule (storeOf m c))
-  where
-    go : (a b d e : Bool) → (if a then (if b then (if d then (if e then 0 else 4) else 3) else 2) else 1) ≤ 4
-    go false b d e = omega arith
-    go true false d e = omega arith
-    go true true false e = omega arith
-    go true true true false = omega arith
-    go true true true true = omega arith
 
 -- terms and characters alone give the same test
 equal-read : (m : Lent) (c : State) (l r : List ℕ) → nfEqual (readIn (m .terms) (m .chars) c) l r ≡ nfEqual (storeOf m c) l r

@@ -9,7 +9,7 @@ use Rattle.records.specs.Lists.{if_then_else_, joined, sameWord, Every, none-le
 use Rattle.records.specs.Store.{Store, ok, isConstant, isString, text, sameClass}
 use Rattle.records.specs.Meaning.{Words, Reading}
 use Rattle.records.specs.Audited.{Audited}
-use Rattle.records.proofs.Lists.{word-is, clash, every-append}
+use Rattle.records.proofs.Lists.{word-is, clash, every-append, every-left, every-right}
 use Rattle.normalize.proofs.Ends.{ends-give, ends-map, ends-if, ends-then}
 use Rattle.normalize.proofs.Rewritten.{Strings, strings-later}
 use Rattle.wordeq.specs.Wordeq.{same, explainMatch, stripHeads, strip}
@@ -115,14 +115,6 @@ pub record Stripped (l r : List ℕ) (s s′ : Store) (v : List ℕ × List ℕ)
   pub left : Strings s′ (v .0)
   pub right : Strings s′ (v .1)
   pub apart : Apart (v .0) (v .1)
-
-every-right : {A : Type 0} {P : A → Type 0} (l m : List A) → Every P (l ++ m) → Every P m
-every-right [] m k = k
-every-right (x ∷ l) m (and p k) = every-right l m k
-
-every-left : {A : Type 0} {P : A → Type 0} (l m : List A) → Every P (l ++ m) → Every P l
-every-left [] m k = none-left
-every-left (x ∷ l) m (and p k) = and p (every-left l m k)
 
 every-reverse : {A : Type 0} {P : A → Type 0} {l : List A} → Every P l → Every P (reverse l)
 every-reverse none-left = none-left
