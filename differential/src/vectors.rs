@@ -4,7 +4,7 @@
 use crate::{
     audit::audit,
     call::*,
-    draft::{lay_out, Draft, Spec},
+    draft::{lay_out, Draft, Label, Spec},
     generate::{self, Profile},
     lent::*,
     oracle::{self, Departures, Mode},
@@ -74,6 +74,7 @@ pub fn draw(seed: u64, count: u64) -> (Vec<File>, Tally) {
             let random = &mut Random::new(seed.wrapping_mul(1 << 40) ^ (number as u64) << 32 ^ i);
             match name {
                 "kept" => drawing.kept(random),
+                "limits" if i % 8 == 0 => drawing.at_bound(random, count),
                 "limits" => drawing.at_limit(random, count),
                 _ => drawing.of_kind(random, number + 6, count),
             }
@@ -86,7 +87,7 @@ pub fn draw(seed: u64, count: u64) -> (Vec<File>, Tally) {
 }
 
 /// Cases that are to be there, each as the start of a case's name.
-const DUE: [&str; 52] = [
+const DUE: [&str; 63] = [
     "find: root, 0",
     "find: root, 1",
     "find: root, 3",
@@ -122,6 +123,10 @@ const DUE: [&str; 52] = [
     "limits, atoms: deep_normal_form: refused 6",
     "limits, atoms: resolve_equation: refused 6",
     "limits, atoms: step: refused 6",
+    "limits, 256 atoms: deep_normal_form: list",
+    "limits, 256 atoms: deep_normal_form: none",
+    "limits, 64 expansions: deep_normal_form: list",
+    "limits, 65 expansions: deep_normal_form: list",
     "limits, reasons: explain: refused 7",
     "limits, reasons: normal_form: refused 7",
     "limits, reasons: deep_normal_form: refused 7",
@@ -138,6 +143,13 @@ const DUE: [&str; 52] = [
     "limits, keys: resolve_equation: refused 8",
     "limits, keys: step: refused 8",
     "limits, names: resolve_equation: refused 9",
+    "limits, terms: normal_form: the last taken",
+    "limits, terms: resolve_equation: the last taken",
+    "limits, cells: resolve_equation: the last taken",
+    "limits, characters: normal_form: the last taken",
+    "limits, reasons: explain: the last taken",
+    "limits, keys: resolve_equation: the last taken",
+    "limits, names: resolve_equation: the last taken",
     "limits, names: step: refused 9",
 ];
 
@@ -294,15 +306,28 @@ impl Drawing {
     }
 
     fn at_limit(&mut self, random: &mut Random, count: u64) {
-        let (limit, mut script, calls) = limited(random);
+        let (sort, mut script, calls) = limited(random);
         for call in calls {
             let Some(o) = self.outcome(&script.store, &call) else { continue };
-            let answer = match o.code {
+            let (answer, count) = match o.code {
                 0 if o.exit.state == script.store.state => continue,
-                0 => format!("{}: added to", call.name()),
-                _ => answer(&call, &o),
+                0 if full(&o.exit, sort) && !full(&script.store, sort) => (format!("{}: the last taken", call.name()), count.div_ceil(2)),
+                0 => (format!("{}: added to", call.name()), count.div_ceil(4)),
+                _ => (answer(&call, &o), count.div_ceil(2)),
             };
-            if self.wanted(format!("limits, {limit}: {answer}"), count.div_ceil(2)) {
+            if self.wanted(format!("limits, {}: {answer}", SORTS[sort]), count) {
+                script.ask(&call, &o, false);
+            }
+        }
+        self.finish(script);
+    }
+
+    // deep forms about as long as can be, and about as many expansions
+    fn at_bound(&mut self, random: &mut Random, count: u64) {
+        let (bound, mut script, calls) = bounded(random);
+        for call in calls {
+            let Some(o) = self.outcome(&script.store, &call) else { continue };
+            if self.wanted(format!("limits, {bound}: {}", answer(&call, &o)), count.div_ceil(4)) {
                 script.ask(&call, &o, false);
             }
         }
@@ -310,10 +335,36 @@ impl Drawing {
     }
 }
 
+/// A store over whose last equation and the term on its left a form comes to a bound, and the calls. `doubled` and `chained` end with it.
+fn bounded(random: &mut Random) -> (&'static str, Script, Vec<Call>) {
+    let more = random.between(1, 2);
+    let (bound, d) = match random.below(3) {
+        0 => ("256 atoms", generate::doubled(random, 8, more)),
+        1 => ("64 expansions", generate::chained(random, 64, Label::Asserted(5))),
+        _ => ("65 expansions", generate::chained(random, 65, Label::Interface(7))),
+    };
+    let (known, equation) = (d.strings(), d.count());
+    let Spec::Equation(left, right) = d.spec(equation) else { panic!("an equation stands last") };
+    let deep = |t: u32| Call::DeepNormalForm { known: known.clone(), t };
+    let calls = vec![deep(*left), deep(*right), Call::Step { known: known.clone(), equation, guard: 9 }];
+    (bound, Script::of(&lay_out(&d), false), calls)
+}
+
+// what there may be little room for, in the state's order, and lists of atoms
+const SORTS: [&str; 7] = ["terms", "cells", "characters", "reasons", "keys", "names", "atoms"];
+
+fn full(s: &Lent, sort: usize) -> bool {
+    match sort {
+        0..=4 => s.state[sort] as usize == s.room()[sort],
+        5 => s.state[5] == u32::MAX,
+        _ => false,
+    }
+}
+
 /// A store with little room of one sort left, and calls that were drawn before it was filled. find and nf_equal add nothing.
-fn limited(random: &mut Random) -> (&'static str, Script, Vec<Call>) {
-    let limit = random.below(7);
-    let mut script = if limit == 0 {
+fn limited(random: &mut Random) -> (usize, Script, Vec<Call>) {
+    let sort = random.below(SORTS.len());
+    let mut script = if sort == 6 {
         let (height, more) = (random.between(10, 11), random.below(4));
         Script::of(&lay_out(&generate::doubled(random, height, more)), false)
     } else {
@@ -323,22 +374,25 @@ fn limited(random: &mut Random) -> (&'static str, Script, Vec<Call>) {
         let kind = *random.pick(&[7, 8, 9, 10, 10, 11, 11, 13]);
         generate::call(random, &script.store, kind)
     });
-    let calls: Vec<Call> = calls.collect();
+    let calls = calls.collect();
+    fill(random, &mut script, sort);
+    (sort, script, calls)
+}
+
+fn fill(random: &mut Random, script: &mut Script, sort: usize) {
     let counts = script.store.state.clone();
-    let name = ["atoms", "reasons", "terms", "cells", "characters", "keys", "names"][limit];
-    match limit {
-        0 => {}
-        1 => script.reason_words(2 * (counts[3] as usize + random.below(4)) + random.below(2)),
-        2 => script.variables((TERMS - random.below(12)) as u32 - counts[0]),
-        3 => script.cells((CELLS - random.below(6)) as u32),
-        4 => script.repeated((CHARS - random.below(18)) as u32 - counts[2], 'q'),
-        5 => {
+    match sort {
+        0 => script.variables((TERMS - random.below(12)) as u32 - counts[0]),
+        1 => script.cells((CELLS - random.below(6)) as u32),
+        2 => script.repeated((CHARS - random.below(18)) as u32 - counts[2], 'q'),
+        3 => script.reason_words(2 * (counts[3] as usize + random.below(4)) + random.below(2)),
+        4 => {
             let strings: Vec<u32> = (1..=counts[0]).filter(|&t| script.store.is_string(t)).collect();
             if let [a, b, ..] = strings[..] {
                 script.keys((KEYS - random.below(2)) as u32 - counts[4], a, b);
             }
         }
-        _ => script.names(u32::MAX - random.below(3) as u32),
+        5 => script.names(u32::MAX - random.below(3) as u32),
+        _ => {}
     }
-    (name, script, calls)
 }
