@@ -2,6 +2,7 @@
 use mathlib.Core.Path.{_≡_, refl, sym, ap, subst, _∙_}
 use mathlib.Core.Bool.{Bool, true, false, not}
 use mathlib.Core.List.{List, [], _∷_, _++_, reverse, reverse-reverse}
+use mathlib.Core.Logic.{⊎-elim}
 use mathlib.Core.Option.{Option, none, some}
 use Prim.Native.Nat.{ℕ, suc, _+_, _-_, _≤_, _<_}
 use native.Mathlib.Nat.{zero-add}
@@ -10,6 +11,8 @@ use native.Mathlib.Omega.{arith}
 use lib.ListN.{length, drop, getD, length-reverse}
 use lib.Seq.{drop-cons}
 use lib.Dec.{ltb}
+use types.Run.{OneOf}
+use denote.Enum.Declared.{tagOf}
 use borrow.Author.Tests.{lt-ltb, le-ltb, not-true, not-false}
 use Rattle.records.specs.declared.State.{State}
 use Rattle.records.specs.Lists.{if_then_else_, all, any, table, sameWord, none-left}
@@ -22,11 +25,12 @@ use Rattle.normalize.specs.declared.Form.{Form}
 use Rattle.normalize.specs.declared.Form.the-variants as form
 use Rattle.normalize.specs.declared.DeepForm.{DeepForm}
 use Rattle.normalize.specs.declared.DeepForm.the-variants as deep
+use Rattle.normalize.proofs.DeepForm.{the-type}
 use Rattle.normalize.specs.declared.Turn.{Turn}
 use Rattle.normalize.specs.declared.Turn.the-variants as turn
 use Rattle.normalize.specs.Normalize.{deepLimit, normalForm, push, pushAll, expand, settle, afterExpand, rounds, deepForm}
 use Rattle.normalize.specs.Pushes.{pushed, Candidates}
-use Rattle.normalize.specs.Calls.{firstWords, formed}
+use Rattle.normalize.specs.Calls.{firstWords, formed, deepened}
 use Rattle.normalize.specs.Deeps.{opensIn, Met, Marked, expanded, Expands, settled, settling, Settles, roundThen, TurnedTo, Turns}
 use Rattle.normalize.proofs.Rewritten.{Strings, strings-later}
 use Rattle.normalize.proofs.Formed.{Pushed, push-ends, Formed, form-ends}
@@ -111,7 +115,7 @@ module _ {m m′ : Lent} {c : State} (before list out : List ℕ) (x : Form) (w 
       ap (andThen (λ l. settle before more (reverse l))) (w .says ∙ ap (λ (v : Form). pushed v m′ out) e) ∙ ap (λ (l : List ℕ). settle before more l (storeOf m′ d)) (reverse-reverse (firstWords out n))
 
   module _ (n : ℕ) (d : State) (e : x ≡ form.List n d) where
-    pub settle-long : deepLimit < n → (l : List ℕ) → Settles before list m m′ c l (turn.None d)
+    pub settle-long : deepLimit < n → (l : List ℕ) → Settles before list m m′ c l (turn.Ends (deep.None d))
     unfolding settle
     settle-long h l = record { kept = w .kept; is = λ more. joined-says n d e more ∙ rw (lt-ltb deepLimit (length (firstWords out n)) (let z = words-length out n in omega arith)) }
 
@@ -119,7 +123,7 @@ module _ {m m′ : Lent} {c : State} (before list out : List ℕ) (x : Form) (w 
       short : ltb deepLimit (length (firstWords out n)) ≡ false
       short = le-ltb deepLimit (length (firstWords out n)) (let z = words-length out n in omega arith)
 
-      pub settle-same : b ≡ true → (l : List ℕ) (k : ℕ) → before ≡ firstWords l k → Settles before list m m′ c l (turn.Stands k d)
+      pub settle-same : b ≡ true → (l : List ℕ) (k : ℕ) → before ≡ firstWords l k → Settles before list m m′ c l (turn.Ends (deep.List k d))
       unfolding settle
       settle-same i l k j = record {
         kept = w .kept;
@@ -133,13 +137,13 @@ module _ {m m′ : Lent} {c : State} (before list out : List ℕ) (x : Form) (w 
         is = λ more. joined-says n d e more ∙ rw (short, sym f ∙ i) (ap (λ (v : List ℕ). more v (storeOf m′ d)) (sym (ap (firstWords l′) (sym (zero-add n)) ∙ j ∙ ap (λ (v : List ℕ). v ++ firstWords out n) (words-none l))));
       }
 
-  pub settle-stopped : (j : ℕ) → x ≡ form.Refused j → (l : List ℕ) → Settles before list m m′ c l (turn.Refused j)
+  pub settle-stopped : (j : ℕ) → x ≡ form.Refused j → (l : List ℕ) → Settles before list m m′ c l (turn.Ends (deep.Refused j))
   settle-stopped j e l = record { kept = w .kept; is = λ more. ap (andThen (λ u. settle before more (reverse u))) (w .says ∙ ap (λ (v : Form). pushed v m′ out) e) }
 
 -- A ROUND
 
 module _ {m : Lent} {c : State} (known : List ℕ) (t : ℕ) (list : List ℕ) (n : ℕ) (table : List ℕ) (b : Bool) (e : b ≡ any (opensIn (storeOf m c .terms) t) (firstWords list n)) where
-  pub round-stands : not b ≡ true → Turns known t (firstWords list n) table m m c list table (turn.Stands n c)
+  pub round-stands : not b ≡ true → Turns known t (firstWords list n) table m m c list table (turn.Ends (deep.List n c))
   unfolding roundThen
   round-stands h = record {
     kept = refl;
@@ -154,11 +158,20 @@ module _ {m : Lent} {c : State} (known : List ℕ) (t : ℕ) (list : List ℕ) (
         rw (sym e ∙ not-false b h) (ap (λ (l : List ℕ). andThen (afterExpand (firstWords list n) more) (expand known t (firstWords list n) (record { list = l; met = met }) (storeOf m c))) (sym (words-none next))
         ∙ ap (andThen (afterExpand (firstWords list n) more)) (w .is met q .is ∙ ap (λ (u : DeepForm). expanded u (w .is met q .met) m′ next′) i))
 
-    pub round-none : (d : State) → x ≡ deep.None d → (l : List ℕ) → Turns known t (firstWords list n) table m m′ c l table′ (turn.None d)
+    round-none : (d : State) → x ≡ deep.None d → (l : List ℕ) → Turns known t (firstWords list n) table m m′ c l table′ (turn.Ends (deep.None d))
     round-none d i l = record { kept = w .kept; is = λ met q. record { met = []; is = λ more. round-says met q (deep.None d) i more; marks = λ k f z. (let y : _≡_ {A = ℕ} 0 1 = cc in absurd (omega arith)) } }
 
-    pub round-stopped : (j : ℕ) → x ≡ deep.Refused j → (l : List ℕ) → Turns known t (firstWords list n) table m m′ c l table′ (turn.Refused j)
+    round-stopped : (j : ℕ) → x ≡ deep.Refused j → (l : List ℕ) → Turns known t (firstWords list n) table m m′ c l table′ (turn.Ends (deep.Refused j))
     round-stopped j i l = record { kept = w .kept; is = λ met q. record { met = []; is = λ more. round-says met q (deep.Refused j) i more; marks = λ k f z. (let y : _≡_ {A = ℕ} 0 1 = cc in absurd (omega arith)) } }
+
+    -- an answer that is no list ends the round
+    pub round-ended : OneOf (1 ∷ 2 ∷ []) (tagOf the-type x) → (l : List ℕ) → Turns known t (firstWords list n) table m m′ c l table′ (turn.Ends x)
+    round-ended k l = go x refl k
+      where
+        go : (y : DeepForm) → x ≡ y → OneOf (1 ∷ 2 ∷ []) (tagOf the-type y) → Turns known t (firstWords list n) table m m′ c l table′ (turn.Ends y)
+        go (deep.List j d) i k = ⊎-elim (λ (z : _≡_ {A = ℕ} 0 1). absurd (omega arith)) (λ (z : _≡_ {A = ℕ} 0 2). absurd (omega arith)) k
+        go (deep.None d) i k = round-none d i l
+        go (deep.Refused j) i k = round-stopped j i l
 
     pub round-settled : (k : ℕ) (d : State) → x ≡ deep.List k d → Carried m c m′ d → {m″ : Lent} (l : List ℕ) (y : Turn) → Settles (firstWords list n) (firstWords next′ k) m′ m″ d l y → Turns known t (firstWords list n) table m m″ c l table′ y
     round-settled k d i a {m″} l y v = record {
@@ -210,14 +223,8 @@ module _ {known : List ℕ} {t : ℕ} {l : List ℕ} {m₀ m : Lent} {c d : Stat
         let z : 64 - i ≡ suc (64 - (i + 1)) = omega arith in
         sym (round-is (64 - (i + 1)) y e) ∙ ap (λ (j : ℕ). rounds j known t (g .rest .met) (firstWords list n) (storeOf m d)) (sym z) ∙ g .rest .is
 
-    pub rounds-stand : (k : ℕ) (f : State) → x ≡ turn.Stands k f → Working (rounds 64 known t [] l) m₀ m′ c (ok (storeOf m′ f) (some (firstWords list′ k)))
-    rounds-stand k f e = record { says = sym (turn-rest (turn.Stands k f) e); kept = carried-kept (g .carried) m′ (w .kept) }
-
-    pub rounds-none : (f : State) → x ≡ turn.None f → Working (rounds 64 known t [] l) m₀ m′ c (ok (storeOf m′ f) none)
-    rounds-none f e = record { says = sym (turn-rest (turn.None f) e); kept = carried-kept (g .carried) m′ (w .kept) }
-
-    pub rounds-stopped : (j : ℕ) → x ≡ turn.Refused j → Working (rounds 64 known t [] l) m₀ m′ c (stop j)
-    rounds-stopped j e = record { says = sym (turn-rest (turn.Refused j) e); kept = carried-kept (g .carried) m′ (w .kept) }
+    pub rounds-ended : (a : DeepForm) → x ≡ turn.Ends a → Working (rounds 64 known t [] l) m₀ m′ c (deepened a m′ list′)
+    rounds-ended a e = record { says = sym (turn-rest (turn.Ends a) e); kept = carried-kept (g .carried) m′ (w .kept) }
 
     answers : (k : ℕ) (f : State) → x ≡ turn.Again k f → Answers (storeOf m d) (firstWords list n) (storeOf m′ f) (some (firstWords list′ k))
     unfolding rounds

@@ -11,7 +11,7 @@ use Rattle.records.specs.Lists.{if_then_else_, all, any, isIn}
 use Rattle.records.specs.Store.{Term, Store, Out, ok, stop, Work, _>>=_, give, store, termIn, isString}
 use Rattle.records.specs.View.{Lent, storeOf, termLimit}
 use Rattle.normalize.specs.Normalize.{normalForm, pushAll, deepLimit, opens, Round, expand, settle, afterExpand}
-use Rattle.normalize.specs.Calls.{firstWords}
+use Rattle.normalize.specs.Calls.{firstWords, deepened}
 use Rattle.normalize.specs.declared.DeepForm.{DeepForm}
 use Rattle.normalize.specs.declared.DeepForm.the-variants as deep
 use Rattle.normalize.specs.declared.Turn.{Turn}
@@ -62,12 +62,10 @@ pub record Expands (known : List ℕ) (t : ℕ) (l next : List ℕ) (k : ℕ) (t
   pub kept : storeOf m′ c ≡ storeOf m c
   pub is : (met : List ℕ) → Met table met → ExpandedTo (expand known t l (record { list = firstWords next k; met = met }) (storeOf m c)) m′ next′ table′ x
 
--- what a round ends with: the list stands, or another round follows; None, or the refusal
+-- what a round ends with: another round over its list, or the answer
 abbrev pub settled : Turn → (List ℕ → Work (Option (List ℕ))) → Lent → List ℕ → Out (Option (List ℕ))
-settled (turn.Stands n c) more m l = ok (storeOf m c) (some (firstWords l n))
 settled (turn.Again n c) more m l = more (firstWords l n) (storeOf m c)
-settled (turn.None c) more m l = ok (storeOf m c) none
-settled (turn.Refused k) more m l = stop k
+settled (turn.Ends x) more m l = deepened x m l
 
 -- the joining after a round that began with `before`
 abbrev pub settling : List ℕ → List ℕ → (List ℕ → Work (Option (List ℕ))) → Work (Option (List ℕ))

@@ -80,15 +80,15 @@ fn settle(
     match made {
         Form::List(n, d) => {
             if DEEP_NF_ATOM_CAP < n {
-                return Turn::None(d);
+                return Turn::Ends(DeepForm::None(d));
             }
             if slices::same_words(&out, n, list, count) {
-                return Turn::Stands(count, d);
+                return Turn::Ends(DeepForm::List(count, d));
             }
             slices::append(list, 0, &out, n);
             Turn::Again(n, d)
         }
-        Form::Refused(e) => Turn::Refused(e),
+        Form::Refused(e) => Turn::Ends(DeepForm::Refused(e)),
     }
 }
 
@@ -111,7 +111,7 @@ fn round(
     ensures { λ x. ⌜ Turns (now (known .entry)) t (firstWords (now (list .entry)) count) (now (met .entry)) (lent (now (terms .entry)) (now (cells .entry)) (now (chars .entry)) (now (reasons .entry)) (now (keys .entry))) (lent (now (terms .exit)) (now (cells .entry)) (now (chars .exit)) (now (reasons .exit)) (now (keys .entry))) c (now (list .exit)) (now (met .exit)) x ⌝ }
 {
     if !expands::any_opens(terms, c.terms, t, list, count) {
-        return Turn::Stands(count, c);
+        return Turn::Ends(DeepForm::List(count, c));
     }
     let mut next: [u32; 512] = [0; 512];
     let made = expands::expand(
@@ -129,13 +129,10 @@ fn round(
         met,
         &mut next,
     );
-    match made {
-        DeepForm::List(k, d) => {
-            settle(terms, cells, chars, reasons, keys, d, &next, k, list, count)
-        }
-        DeepForm::None(d) => Turn::None(d),
-        DeepForm::Refused(e) => Turn::Refused(e),
-    }
+    let DeepForm::List(k, d) = made else {
+        return Turn::Ends(made);
+    };
+    settle(terms, cells, chars, reasons, keys, d, &next, k, list, count)
 }
 
 // At most 64 rounds.
@@ -175,18 +172,12 @@ fn rounds(
             &mut met,
         );
         match turn {
-            Turn::Stands(k, e) => {
-                return DeepForm::List(k, e);
-            }
             Turn::Again(k, e) => {
                 n = k;
                 d = e;
             }
-            Turn::None(e) => {
-                return DeepForm::None(e);
-            }
-            Turn::Refused(e) => {
-                return DeepForm::Refused(e);
+            Turn::Ends(answer) => {
+                return answer;
             }
         }
         i += 1;

@@ -33,12 +33,10 @@ pub enum DeepForm {
     Refused(u32),
 }
 
-// How a round of the deep form ended: its list stands, or another round follows; None, or the refusal.
+// How a round of the deep form ended: another round follows over its list, or the answer is known.
 pub enum Turn {
-    Stands(usize, State),
     Again(usize, State),
-    None(State),
-    Refused(u32),
+    Ends(DeepForm),
 }
 
 // A list of string terms, at most 1,024, and a string term.
