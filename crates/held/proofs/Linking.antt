@@ -9,7 +9,7 @@ use lib.ListN.{length, getD}
 use lib.Dec.{eqb, ltb}
 use types.Run.{OneOf}
 use denote.Enum.Declared.{tagOf}
-use borrow.Author.Tests.{lt-ltb, le-ltb, eq-eqb, ne-eqb, eqb-true, eqb-false, ltb-false, ltb-true}
+use borrow.Author.Tests.{lt-ltb, le-ltb, eq-eqb, ne-eqb, eqb-false, ltb-false}
 use Rattle.records.specs.Store.{Cell, cellIn, within, chainIn}
 use Rattle.records.specs.View.{cellAt, cellsView}
 use Rattle.records.specs.Audited.{Next, last, later, Ascends}
