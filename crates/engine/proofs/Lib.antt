@@ -8,4 +8,6 @@ pub mod Walk
 pub mod Equal
 pub mod Sound
 pub mod Turns
+pub mod Rises
+pub mod Starts
 pub mod EngineCalls

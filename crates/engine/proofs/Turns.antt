@@ -1,37 +1,28 @@
--- Each way through `explain_rec` and `expand_edge`.
+-- Each way through `expand_edge`: an edge by its label, and the pairs of a congruence edge in turn.
 use mathlib.Core.Path.{_≡_, refl, sym, ap, _∙_}
-use mathlib.Core.Bool.{Bool, true, false, _&&_, _||_}
-use mathlib.Core.List.{List, [], _∷_, _++_, List·Memᴰ, List·Memᴰ·cases-cons, List·Memᴰ·not-nil}
+use mathlib.Core.Bool.{Bool, true, false}
+use mathlib.Core.List.{List, [], _∷_, _++_}
 use mathlib.Core.Logic.{_⊎_, inl, inr, ⊎-elim}
-use Prim.Native.Nat.{ℕ, zero, suc, _+_, _*_, _/_, _%_, _^_, _≤_, _<_, min, max}
+use Prim.Native.Nat.{ℕ, suc, _+_, _*_, _/_, _^_, _≤_, _<_, min}
 use native.Mathlib.Numerals.{add-one}
 use native.Mathlib.Omega.{arith}
-use native.Mathlib.Decide.{ℕ-discrete}
-use lib.ListN.{length, getD, replicate, length-replicate}
-use lib.Dec.{eqb, ltb}
-use borrow.Author.Tests.{eqb-true, eq-eqb, ne-eqb, ltb-true}
-use Rattle.records.specs.Lists.{any, firsts, upTo, Every, and}
-use Rattle.records.specs.Store.{Term, Cell, Store, Out, ok, stop, Work, andThen, store, term, cell, count, isTerm, isEdge, isString, within, kind, parts, chain, chainIn, path, pathIn, forestUp, topIn, aboveBy, aboveIn, nearestIn, termIn, cellIn}
-use Rattle.records.specs.declared.State.{State}
-use Rattle.records.specs.declared.Added.the-variants.{Counts, Refused}
-use Rattle.records.specs.Calls.{Working, added}
-use Rattle.records.specs.View.{Lent, lent, storeOf, termAt, cellAt, termsView, cellsView, pairsView, reasonRoom, reasonLimit}
-use Rattle.records.specs.Make.{withReasons, addReason, ordered, samePair}
-use Rattle.records.specs.Audited.{Audited, Ready, Closed, Label, asserted, interface, congruence, definitional, Next, last, later}
+use lib.ListN.{length, getD}
+use lib.Dec.{ltb}
+use borrow.Author.Tests.{ltb-true}
+use Rattle.records.specs.Lists.{firsts, Every, and}
+use Rattle.records.specs.Store.{Term, Cell, Store, Out, ok, stop, Work, andThen, store, term, cell, count, isTerm, isEdge, within, kind, parts, chain, chainIn, pathIn, termIn, cellIn}
+use Rattle.records.specs.View.{termAt, cellAt, termsView, cellsView, pairsView, reasonRoom, reasonLimit}
+use Rattle.records.specs.Make.{withReasons, addReason}
+use Rattle.records.specs.Audited.{Audited, Label, asserted, interface, congruence, definitional, Next, last, later}
 use Rattle.records.specs.Puts.{Pushed}
-use Rattle.records.proofs.Lists.{or-left, or-right, clash, decide, both-left, both-right, both-true, within-low, within-high, within-is, within-zero, table-length, every-both}
+use Rattle.records.proofs.Lists.{clash, decide, within-low, within-high, within-is, within-zero, table-length}
 use Rattle.records.proofs.Views.{term-is, cell-is, table-is}
-use Rattle.records.proofs.Climbs.{above-root, above-is, classed-tops}
 use Rattle.records.proofs.Chains.{chain-none, chain-is}
 use Rattle.engine.specs.declared.Walked.{Walked}
-use Rattle.engine.specs.Explain.{Seen, wasSeen, each, edge, highest, height, walked, explain, explainArguments}
-use Rattle.engine.specs.Marks.{place, bit, marked, Marked, Marks}
-use Rattle.engine.specs.Walks.{Standing, Together, Edge, Wide, Walkable, Shows, came, refused, Walks, Gives, ahead, Comes, explained, stopped, Explained, Explainable}
-use Rattle.engine.proofs.Bits.{place-pair, place-small}
-use Rattle.engine.proofs.Fits.{Fit, fit-height, pairs-fit, highest-high}
-use Rattle.engine.proofs.Paths.{nearest, path-edges}
-use Rattle.engine.proofs.Walk.{walked-same}
-use Rattle.engine.proofs.Sound.{class-together}
+use Rattle.engine.specs.Explain.{Seen, each, edge, highest, walked}
+use Rattle.engine.specs.Marks.{Marks}
+use Rattle.engine.specs.Walks.{Standing, Together, Edge, Wide, Walkable, Shows, came, refused, Walks, Gives}
+use Rattle.engine.proofs.Fits.{Fit, fit-height, pairs-fit}
 
 -- THE LENT WORDS
 
@@ -179,17 +170,17 @@ pub record Left {A : Type 0} (f : A → Seen → Work Seen) (s : Store) (n : ℕ
 
 module _ {A : Type 0} (f : A → Seen → Work Seen) (s : Store) (n : ℕ) where
   -- one in turn that came to something, that was refused, and none left
-  left-turn : {tab tab′ reasons reasons′ : List ℕ} {c : ℕ} {r : Walked} {x : A} {l : List A} {o : Out Seen} (v : Left f s n tab reasons c (x ∷ l) o)
+  pub left-turn : {tab tab′ reasons reasons′ : List ℕ} {c : ℕ} {r : Walked} {x : A} {l : List A} {o : Out Seen} (v : Left f s n tab reasons c (x ∷ l) o)
       → Shows s n tab′ reasons′ r (f x (v .seen) (withReasons s (pairsView reasons c))) → r .code ≡ 0 → Left f s n tab′ reasons′ (r .count) l o
   left-turn {x = x} {l = l} v (came h seen m i) z = record { seen = seen; marks = m; is = sym (each-first f x l (v .seen) seen _ _ i) ∙ v .is }
   left-turn v (refused h i) z = absurd (h z)
 
-  left-stopped : {tab tab′ reasons reasons′ : List ℕ} {c : ℕ} {r : Walked} {x : A} {l : List A} {o : Out Seen} (v : Left f s n tab reasons c (x ∷ l) o)
+  pub left-stopped : {tab tab′ reasons reasons′ : List ℕ} {c : ℕ} {r : Walked} {x : A} {l : List A} {o : Out Seen} (v : Left f s n tab reasons c (x ∷ l) o)
       → Shows s n tab′ reasons′ r (f x (v .seen) (withReasons s (pairsView reasons c))) → (r .code ≡ 0 → ⊥) → Shows s n tab′ reasons′ r o
   left-stopped v (came h seen m i) d = absurd (d h)
   left-stopped {x = x} {l = l} v (refused h i) d = refused h (sym (v .is) ∙ each-stopped f x l (v .seen) _ _ i)
 
-  left-none : {tab reasons : List ℕ} {c : ℕ} {o : Out Seen} → Left f s n tab reasons c [] o → Shows s n tab reasons (record { code = 0; count = c }) o
+  pub left-none : {tab reasons : List ℕ} {c : ℕ} {o : Out Seen} → Left f s n tab reasons c [] o → Shows s n tab reasons (record { code = 0; count = c }) o
   left-none v = came refl (v .seen) (v .marks) (sym (v .is) ∙ each-none f (v .seen) _)
 
 -- from a table, reasons and a count to others: what was counted stays
@@ -199,10 +190,10 @@ pub record Along (tab tab′ reasons reasons′ : List ℕ) (count count′ : �
   pub kept : pairsView reasons′ count ≡ pairsView reasons count
   pub more : count ≤ count′
 
-along-none : (tab reasons : List ℕ) (count : ℕ) → Along tab tab reasons reasons count count
+pub along-none : (tab reasons : List ℕ) (count : ℕ) → Along tab tab reasons reasons count count
 along-none tab reasons count = record { tables = refl; long = refl; kept = refl; more = omega arith }
 
-along-then : {tab tab₁ tab₂ reasons reasons₁ reasons₂ : List ℕ} {count count₁ count₂ : ℕ} → Along tab tab₁ reasons reasons₁ count count₁
+pub along-then : {tab tab₁ tab₂ reasons reasons₁ reasons₂ : List ℕ} {count count₁ count₂ : ℕ} → Along tab tab₁ reasons reasons₁ count count₁
     → length tab₂ ≡ length tab₁ → length reasons₂ ≡ length reasons₁ → pairsView reasons₂ count₁ ≡ pairsView reasons₁ count₁ → count₁ ≤ count₂
     → Along tab tab₂ reasons reasons₂ count count₂
 along-then {reasons₁ = r₁} {reasons₂ = r₂} {count = c} {count₁ = c₁} a t l v m = record {
@@ -293,10 +284,10 @@ module _ {terms cells reasons : List ℕ} {n k at x y z : ℕ} (e : Standing ter
       let d : cell (e .store) at .next ≡ z = ap (λ (b : Cell). b .next) (standing-cell e at w) ∙ sym (p .next-is) in
       rw d at (at-next (e .store) (e .audited) at w)
 
-every-head : {A : Type 0} {P : A → Type 0} {a : A} {l : List A} → Every P (a ∷ l) → P a
+pub every-head : {A : Type 0} {P : A → Type 0} {a : A} {l : List A} → Every P (a ∷ l) → P a
 every-head (and p k) = p
 
-every-tail : {A : Type 0} {P : A → Type 0} {a : A} {l : List A} → Every P (a ∷ l) → Every P l
+pub every-tail : {A : Type 0} {P : A → Type 0} {a : A} {l : List A} → Every P (a ∷ l) → Every P l
 every-tail (and p k) = k
 
 module _ (terms cells tab tab₁ reasons reasons₁ : List ℕ) (n k node first at x y z c c₁ : ℕ) (g : Pairing terms cells tab tab₁ reasons reasons₁ n k node first at c c₁) (d : at ≡ 0 → ⊥)
@@ -347,249 +338,9 @@ pairing-done terms cells tab tab₁ reasons reasons₁ n k node first at c c₁ 
   shows = λ e q seen v. edge-shows c e q l j u seen (left-none walked (e .store) n (rw (ap (chain (e .store)) z ∙ chain-none (e .store .cells) 0 (within-zero _ 0 refl)) at (g .left e q seen v)));
 }
 
--- A PAIR
-
--- the pairs of a walk that is not worth a step
-pub pair-same : (terms cells tab reasons : List ℕ) (n k a b c : ℕ) → a ≡ b → Walks (walked (a, b)) (λ s. Together s (a, b)) terms cells tab tab reasons reasons n k c (record { code = 0; count = c })
-pair-same terms cells tab reasons n k a b c i = record {
-  kept = refl;
-  more = omega arith;
-  shows = λ e q seen m. came refl seen m (walked-same (e .store) (e .audited) (a, b) q seen (pairsView reasons c) ∙ rw (or-left (eqb a b) (wasSeen (a, b) seen) (eq-eqb a b i)));
-}
-
-module _ {terms cells reasons : List ℕ} {n k a b : ℕ} (e : Standing terms cells reasons n k) (q : Together (e .store) (a, b)) where
-  left-low : a ≤ n
-  left-low = within-high n a (standing-within e a (q .left))
-
-  right-low : b ≤ n
-  right-low = within-high n b (standing-within e b (q .right))
-
-pub pair-seen : (terms cells tab reasons : List ℕ) (n k a b c at : ℕ) (v : Bool) → at ≡ place n a b → v ≡ marked tab at → v ≡ true
-    → Walks (walked (a, b)) (λ s. Together s (a, b)) terms cells tab tab reasons reasons n k c (record { code = 0; count = c })
-pair-seen terms cells tab reasons n k a b c at v i j h = record {
-  kept = refl;
-  more = omega arith;
-  shows = λ e q seen m.
-      let w : wasSeen (a, b) seen ≡ true = sym (m .says a b (left-low e q) (right-low e q)) ∙ ap (marked tab) (sym i) ∙ sym j ∙ h in
-      came refl seen m (walked-same (e .store) (e .audited) (a, b) q seen (pairsView reasons c) ∙ rw (or-right (eqb a b) (wasSeen (a, b) seen) w));
-}
-
-pub place-inside : (terms cells tab reasons : List ℕ) (n k a b at : ℕ) → Walkable terms cells tab reasons n k (λ s. Together s (a, b)) → at ≡ place n a b → at < 32 * length tab
-place-inside terms cells tab reasons n k a b at w i =
-    let z = place-small n a b (left-low (w .standing) (w .fit)) (right-low (w .standing) (w .fit)) in
-    let l = w .wide .long in omega arith
-
-pub nearest-fit : (terms cells tab reasons : List ℕ) (n k a b : ℕ) → Walkable terms cells tab reasons n k (λ s. Together s (a, b))
-    → (n ≤ 512) × (within n a ≡ true) × (within n b ≡ true) × Closed (forestUp (termsView terms n)) n
-nearest-fit terms cells tab reasons n k a b w =
-    let e = w .standing in
-    (w .wide .few, standing-within e a (w .fit .left), standing-within e b (w .fit .right), closed)
-  where
-    closed : Closed (forestUp (termsView terms n)) n
-    closed = rw (w .standing .terms-are, table-length (λ i. termAt terms (suc i)) n) at (classed-tops (w .standing .store) (w .standing .audited .classed))
-
--- marking a pair
-same-place : (n x y a b : ℕ) → min x y ≡ min a b → max x y ≡ max a b → place n x y ≡ place n a b
-same-place n x y a b i j = rw (i, j)
-
-same-pair-is : (p q : ℕ × ℕ) → samePair p q ≡ true → (p .0 ≡ q .0) × (p .1 ≡ q .1)
-unfolding samePair
-same-pair-is p q e = (eqb-true _ _ (both-left _ _ e), eqb-true _ _ (both-right (eqb (p .0) (q .0)) _ e))
-
-same-pair : (p q : ℕ × ℕ) → p .0 ≡ q .0 → p .1 ≡ q .1 → samePair p q ≡ true
-unfolding samePair
-same-pair p q i j = both-true _ _ (eq-eqb _ _ i) (eq-eqb _ _ j)
-
-pub marks-more : (n : ℕ) (tab tab′ : List ℕ) (a b : ℕ) (seen : Seen) → a ≤ n → b ≤ n → Marked tab tab′ (place n a b) → Marks n tab seen → Marks n tab′ (ordered a b ∷ seen)
-unfolding wasSeen any
-marks-more n tab tab′ a b seen ha hb d m = record { says = λ x y hx hy. go x y hx hy (ℕ-discrete (place n x y) (place n a b)) }
-  where
-    go : (x y : ℕ) → x ≤ n → y ≤ n → Dec (place n x y ≡ place n a b) → marked tab′ (place n x y) ≡ (samePair (ordered x y) (ordered a b) || any (samePair (ordered x y)) seen)
-    go x y hx hy (yes i) =
-        let z = place-pair n x y a b hx hy ha hb i in
-        ap (marked tab′) i ∙ d .here ∙ sym (or-left _ _ (same-pair (ordered x y) (ordered a b) (z .0) (z .1)))
-    go x y hx hy (no i) =
-        d .elsewhere (place n x y) i ∙ m .says x y hx hy ∙ sym (apart (samePair (ordered x y) (ordered a b)) refl)
-      where
-        apart : (v : Bool) → samePair (ordered x y) (ordered a b) ≡ v → (v || any (samePair (ordered x y)) seen) ≡ any (samePair (ordered x y)) seen
-        apart true j =
-            let z = same-pair-is (ordered x y) (ordered a b) j in
-            absurd (i (same-place n x y a b (z .0) (z .1)))
-        apart false j = refl
-
--- THE PATH OF A PAIR
-
-up-here : (ts : List Term) (x m : ℕ) → x ≡ m → upTo m (aboveIn ts x) ≡ []
-unfolding aboveBy upTo
-up-here ts x m i = rw (eq-eqb x m i, upTo)
-
-up-past : (m x : ℕ) (l : List ℕ) → (x ≡ m → ⊥) → upTo m (x ∷ l) ≡ x ∷ upTo m l
-unfolding upTo
-up-past m x l d = rw (ne-eqb x m d, upTo)
-
-module _ (ts : List Term) (x m : ℕ) (ends : forestUp ts (topIn ts x) ≡ topIn ts x) (on : List·Memᴰ m (aboveIn ts x)) (d : x ≡ m → ⊥) where
-  -- a term below m has a parent of its own
-  not-root : forestUp ts x ≡ x → ⊥
-  not-root i = ⊎-elim (λ j. d (sym j)) (λ j. List·Memᴰ·not-nil j) (List·Memᴰ·cases-cons (rw (above-root ts x i) at on))
-
-  up-next : aboveIn ts x ≡ x ∷ aboveIn ts (forestUp ts x)
-  up-next = above-is ts x ends not-root
-
-  up-on : List·Memᴰ m (aboveIn ts (forestUp ts x))
-  up-on = ⊎-elim (λ j. absurd (d (sym j))) (λ j. j) (List·Memᴰ·cases-cons (rw up-next at on))
-
-  up-step : upTo m (aboveIn ts x) ≡ x ∷ upTo m (aboveIn ts (forestUp ts x))
-  up-step = ap (upTo m) up-next ∙ up-past m x (aboveIn ts (forestUp ts x)) d
-
-  ahead-step : (b : ℕ) (late : Bool) → ahead ts m b late x ≡ x ∷ ahead ts m b late (forestUp ts x)
-  ahead-step b true = up-step
-  ahead-step b false = ap (λ (l : List ℕ). l ++ upTo m (aboveIn ts b)) up-step
-
--- an edge of the path of a pair
-pub record On (s : Store) (p : ℕ × ℕ) (t : ℕ) : Type 0 where
-  pub edge-is : Edge s t
-  pub low : term s t .stamp < height s p
-
--- the loop over the edges, first from a up to m, then from b
-pub record Rising (terms cells tab tab′ reasons reasons′ : List ℕ) (n k a b m x : ℕ) (late : Bool) (c c′ : ℕ) : Type 0 where
-  pub along : Along tab tab′ reasons reasons′ c c′
-  pub here : (e : Standing terms cells reasons n k) → Together (e .store) (a, b) → isTerm (e .store) x ≡ true
-  pub above : (e : Standing terms cells reasons n k) → Together (e .store) (a, b) → List·Memᴰ m (aboveIn (e .store .terms) x)
-  pub beside : (e : Standing terms cells reasons n k) → Together (e .store) (a, b) → List·Memᴰ m (aboveIn (e .store .terms) b)
-  pub edges : (e : Standing terms cells reasons n k) → Together (e .store) (a, b) → Every (On (e .store) (a, b)) (ahead (e .store .terms) m b late x)
-  pub left : (e : Standing terms cells reasons n k) → Together (e .store) (a, b) → (seen : Seen) → Marks n tab seen
-      → Left (edge walked) (e .store) n tab′ reasons′ c′ (ahead (e .store .terms) m b late x) (each (edge walked) (path (e .store) a b) seen (withReasons (e .store) (pairsView reasons c)))
-
-pub rising-begin : (terms cells tab reasons : List ℕ) (n k a b m c : ℕ) → m ≡ nearestIn (termsView terms n) a b → Rising terms cells tab tab reasons reasons n k a b m a false c c
-unfolding pathIn
-rising-begin terms cells tab reasons n k a b m c i = record {
-  along = along-none tab reasons c;
-  here = λ e q. q .left;
-  above = λ e q. let z = nearest (e .store) (e .audited) (a, b) q in rw (sym (z .is) ∙ near e) at (z .left);
-  beside = λ e q. let z = nearest (e .store) (e .audited) (a, b) q in rw (sym (z .is) ∙ near e) at (z .right);
-  edges = λ e q.
-      let k₁ = every-both (path-edges (e .store) (e .audited) (a, b) q) (highest-high (e .store) (height (e .store) (a, b)) (path (e .store) a b) (omega arith)) in
-      rw (near e) at (Rattle.records.proofs.Lists.every-map {Q = On (e .store) (a, b)} (λ t z. record { edge-is = record { here = z .0 .0; joins = z .0 .1 }; low = z .1 }) k₁);
-  left = λ e q seen v. record { seen = seen; marks = v; is = ap (λ (j : ℕ). each (edge walked) (upTo j (aboveIn (e .store .terms) a) ++ upTo j (aboveIn (e .store .terms) b)) seen (withReasons (e .store) (pairsView reasons c))) (sym (near e)) };
-}
-  where
-    near : (e : Standing terms cells reasons n k) → nearestIn (e .store .terms) a b ≡ m
-    near e = ap (λ (l : List Term). nearestIn l a b) (e .terms-are) ∙ sym i
-
-module _ (terms cells tab tab₁ reasons reasons₁ : List ℕ) (n k a b m x : ℕ) (c c₁ : ℕ) where
-  pub rising-switch : (late : Bool) → Rising terms cells tab tab₁ reasons reasons₁ n k a b m x late c c₁ → late ≡ false → x ≡ m
-      → Rising terms cells tab tab₁ reasons reasons₁ n k a b m b true c c₁
-  rising-switch true g z i = clash refl z
-  rising-switch false g z i = record {
-    along = g .along;
-    here = λ e q. q .right;
-    above = g .beside;
-    beside = g .beside;
-    edges = λ e q. rw (up-here (e .store .terms) x m i) at (g .edges e q);
-    left = λ e q seen v. rw (up-here (e .store .terms) x m i) at (g .left e q seen v);
-  }
-
-  module _ (late : Bool) (g : Rising terms cells tab tab₁ reasons reasons₁ n k a b m x late c c₁) (d : x ≡ m → ⊥) (e : Standing terms cells reasons n k) (q : Together (e .store) (a, b)) where
-    rising-step : ahead (e .store .terms) m b late x ≡ x ∷ ahead (e .store .terms) m b late (forestUp (e .store .terms) x)
-    rising-step = ahead-step (e .store .terms) x m (e .audited .classed .forestEnds x (g .here e q)) (g .above e q) d b late
-
-    pub rising-on : On (e .store) (a, b) x
-    rising-on = every-head (rw rising-step at (g .edges e q))
-
-  module _ (late : Bool) (g : Rising terms cells tab tab₁ reasons reasons₁ n k a b m x late c c₁) (d : x ≡ m → ⊥) (tab₂ reasons₂ : List ℕ) (r : Walked)
-      (t : length tab₂ ≡ length tab₁) (l : length reasons₂ ≡ length reasons₁) (w : Walks (edge walked x) (λ s. Edge s x) terms cells tab₁ tab₂ reasons₁ reasons₂ n k c₁ r) where
-    rising-along : Along tab tab₂ reasons reasons₂ c (r .count)
-    rising-along = along-then (g .along) t l (w .kept) (w .more)
-
-    rising-left : (e : Standing terms cells reasons n k) (q : Together (e .store) (a, b)) (seen : Seen) → Marks n tab seen
-        → Left (edge walked) (e .store) n tab₁ reasons₁ c₁ (x ∷ ahead (e .store .terms) m b late (forestUp (e .store .terms) x)) (each (edge walked) (path (e .store) a b) seen (withReasons (e .store) (pairsView reasons c)))
-    rising-left e q seen v = rw (rising-step late g d e q) at (g .left e q seen v)
-
-    rising-shows : (e : Standing terms cells reasons n k) → Together (e .store) (a, b) → (seen : Seen) → Marks n tab₁ seen
-        → Shows (e .store) n tab₂ reasons₂ r (edge walked x seen (withReasons (e .store) (pairsView reasons₁ c₁)))
-    rising-shows e q seen v = w .shows (standing-on reasons₁ (g .along .long) e) (rising-on late g d e q .edge-is) seen v
-
-    pub rising-turn : r .code ≡ 0 → (y : ℕ) → y ≡ getD terms (8 * x + 4) 0 → Rising terms cells tab tab₂ reasons reasons₂ n k a b m y late c (r .count)
-    rising-turn i y j = record {
-      along = rising-along;
-      here = λ e q. rw (parent e q) at (e .audited .classed .forestParents x (g .here e q));
-      above = λ e q. rw (parent e q) at (up-on (e .store .terms) x m (e .audited .classed .forestEnds x (g .here e q)) (g .above e q) d);
-      beside = g .beside;
-      edges = λ e q. rw (parent e q) at (every-tail (rw (rising-step late g d e q) at (g .edges e q)));
-      left = λ e q seen v. let f = rising-left e q seen v in rw (parent e q) at (left-turn (edge walked) (e .store) n f (rising-shows e q (f .seen) (f .marks)) i);
-    }
-      where
-        parent : (e : Standing terms cells reasons n k) → Together (e .store) (a, b) → term (e .store) x .forestParent ≡ y
-        parent e q = ap (λ (z : Term). z .forestParent) (standing-term e x (g .here e q)) ∙ sym j
-
-    rising-refused : (r .code ≡ 0 → ⊥) → (e : Standing terms cells reasons n k) → Together (e .store) (a, b) → (seen : Seen) → Marks n tab seen
-        → Shows (e .store) n tab₂ reasons₂ r (each (edge walked) (path (e .store) a b) seen (withReasons (e .store) (pairsView reasons c)))
-    rising-refused i e q seen v = let f = rising-left e q seen v in left-stopped (edge walked) (e .store) n f (rising-shows e q (f .seen) (f .marks)) i
-
--- THE WHOLE WALK OF A PAIR
-
-module _ (terms cells tab tab₁ reasons : List ℕ) (n k a b c at : ℕ) (apart : a ≡ b → ⊥) (v : Bool) (i : at ≡ place n a b) (j : v ≡ marked tab at) (h : v ≡ false) (d : Marked tab tab₁ at) where
-  -- a pair not seen before does what its path's edges do in turn
-  pair-shows : (tab′ reasons′ : List ℕ) (r : Walked) (e : Standing terms cells reasons n k) (q : Together (e .store) (a, b)) (seen : Seen) → Marks n tab seen
-      → ((seen₁ : Seen) → Marks n tab₁ seen₁ → Shows (e .store) n tab′ reasons′ r (each (edge walked) (path (e .store) a b) seen₁ (withReasons (e .store) (pairsView reasons c))))
-      → Shows (e .store) n tab′ reasons′ r (walked (a, b) seen (withReasons (e .store) (pairsView reasons c)))
-  pair-shows tab′ reasons′ r e q seen m f =
-      let unseen : wasSeen (a, b) seen ≡ false = sym (m .says a b (left-low e q) (right-low e q)) ∙ ap (marked tab) (sym i) ∙ sym j ∙ h in
-      let z : walked (a, b) seen (withReasons (e .store) (pairsView reasons c)) ≡ each (edge walked) (path (e .store) a b) (ordered a b ∷ seen) (withReasons (e .store) (pairsView reasons c))
-      = walked-same (e .store) (e .audited) (a, b) q seen (pairsView reasons c) ∙ rw (ne-eqb a b apart, unseen) in
-      rw z (f (ordered a b ∷ seen) (marks-more n tab tab₁ a b seen (left-low e q) (right-low e q) (rw i at d) m))
-
-  pub rising-stop : (tab₁′ reasons₁ : List ℕ) (m x : ℕ) (late : Bool) (c₁ : ℕ) (g : Rising terms cells tab₁ tab₁′ reasons reasons₁ n k a b m x late c c₁) → (x ≡ m → ⊥)
-      → (tab₂ reasons₂ : List ℕ) (r : Walked) → length tab₂ ≡ length tab₁′ → length reasons₂ ≡ length reasons₁
-      → Walks (edge walked x) (λ s. Edge s x) terms cells tab₁′ tab₂ reasons₁ reasons₂ n k c₁ r → (r .code ≡ 0 → ⊥)
-      → Walks (walked (a, b)) (λ s. Together s (a, b)) terms cells tab tab₂ reasons reasons₂ n k c r
-  rising-stop tab₁′ reasons₁ m x late c₁ g u tab₂ reasons₂ r t l w z = record {
-    kept = on .kept;
-    more = on .more;
-    shows = λ e q seen v₁. pair-shows tab₂ reasons₂ r e q seen v₁ (rising-refused terms cells tab₁ tab₁′ reasons reasons₁ n k a b m x c c₁ late g u tab₂ reasons₂ r t l w z e q);
-  }
-    where
-      on : Along tab₁ tab₂ reasons reasons₂ c (r .count)
-      on = rising-along terms cells tab₁ tab₁′ reasons reasons₁ n k a b m x c c₁ late g u tab₂ reasons₂ r t l w
-
-  pub rising-done : (tab₂ reasons₂ : List ℕ) (m x c₂ : ℕ) (late : Bool) → Rising terms cells tab₁ tab₂ reasons reasons₂ n k a b m x late c c₂ → late ≡ true → x ≡ m
-      → Walks (walked (a, b)) (λ s. Together s (a, b)) terms cells tab tab₂ reasons reasons₂ n k c (record { code = 0; count = c₂ })
-  rising-done tab₂ reasons₂ m x c₂ true g z u = record {
-    kept = g .along .kept;
-    more = g .along .more;
-    shows = λ e q seen v₁. pair-shows tab₂ reasons₂ _ e q seen v₁ (λ seen₁ v₂. left-none (edge walked) (e .store) n (rw (up-here (e .store .terms) x m u) at (g .left e q seen₁ v₂)));
-  }
-  rising-done tab₂ reasons₂ m x c₂ false g z u = clash z refl
-
--- HOW FAR
-
--- the edges ahead, and one more before b's side begins
-abbrev pub far : List Term → ℕ → ℕ → Bool → ℕ → ℕ
-far ts m b true x = length (ahead ts m b true x)
-far ts m b false x = suc (length (ahead ts m b false x))
-
-pub far-switch : (ts : List Term) (m b x : ℕ) (late : Bool) → x ≡ m → late ≡ false → far ts m b true b < far ts m b late x
-far-switch ts m b x true i j = clash refl j
-far-switch ts m b x false i j = rw (up-here ts x m i) (omega arith)
-
-pub far-turn : (terms cells tab₀ tab tab₁ reasons reasons₁ : List ℕ) (n k a b m x : ℕ) (late : Bool) (c c₁ : ℕ) → Walkable terms cells tab₀ reasons n k (λ s. Together s (a, b))
-    → Rising terms cells tab tab₁ reasons reasons₁ n k a b m x late c c₁ → (x ≡ m → ⊥) → (y : ℕ) → y ≡ getD terms (8 * x + 4) 0
-    → far (termsView terms n) m b late y < far (termsView terms n) m b late x
-far-turn terms cells tab₀ tab tab₁ reasons reasons₁ n k a b m x late c c₁ w g d y j =
-    let e = w .standing in
-    let q = w .fit in
-    let parent : term (e .store) x .forestParent ≡ y = ap (λ (z : Term). z .forestParent) (standing-term e x (g .here e q)) ∙ sym j in
-    let z : ahead (termsView terms n) m b late x ≡ x ∷ ahead (termsView terms n) m b late y
-    = rw (e .terms-are, ap (λ (t : List Term). termIn t x .forestParent) (sym (e .terms-are)) ∙ parent) at (rising-step terms cells tab tab₁ reasons reasons₁ n k a b m x c c₁ late g d e q) in
-    go late z
-  where
-    go : (l : Bool) → ahead (termsView terms n) m b l x ≡ x ∷ ahead (termsView terms n) m b l y → far (termsView terms n) m b l y < far (termsView terms n) m b l x
-    go true z = rw z (omega arith)
-    go false z = rw z (omega arith)
-
 -- WHAT THE CALLS ASK, AND WHAT FALLS
 
-wide-on : {n : ℕ} {tab tab₁ : List ℕ} → length tab₁ ≡ length tab → Wide n tab → Wide n tab₁
+pub wide-on : {n : ℕ} {tab tab₁ : List ℕ} → length tab₁ ≡ length tab → Wide n tab → Wide n tab₁
 wide-on i w = record { few = w .few; long = (let l = w .long in omega arith) }
 
 module _ (terms cells tab tab₁ reasons reasons₁ : List ℕ) (n k node first at x y c c₁ : ℕ) (u : Walkable terms cells tab reasons n k (λ s. Edge s node))
@@ -609,89 +360,3 @@ module _ (terms cells tab tab₁ reasons reasons₁ : List ℕ) (n k node first 
   pairing-less z i =
       let p = pair-chain (u .standing) (at-here _ at (g .at-is (u .standing) (u .fit)) d) (record { one = refl; other = refl; next-is = i }) in
       let q = ap length (rw (u .standing .cells-are) at p) in omega arith
-
-module _ (terms cells tab₀ tab tab₁ reasons reasons₁ : List ℕ) (n k a b m x : ℕ) (late : Bool) (c c₁ : ℕ) (u : Walkable terms cells tab₀ reasons n k (λ s. Together s (a, b)))
-    (g : Rising terms cells tab tab₁ reasons reasons₁ n k a b m x late c c₁) (d : x ≡ m → ⊥) where
-  pub rising-walkable : length tab ≡ length tab₀ → Walkable terms cells tab₁ reasons₁ n k (λ s. Edge s x)
-  rising-walkable i = record {
-    standing = standing-on reasons₁ (g .along .long) (u .standing);
-    fit = rising-on terms cells tab tab₁ reasons reasons₁ n k a b m x c c₁ late g d (u .standing) (u .fit) .edge-is;
-    wide = wide-on (g .along .tables ∙ i) (u .wide);
-  }
-
-  pub rising-low : termIn (termsView terms n) x .stamp < highest (termsView terms n) (pathIn (termsView terms n) a b)
-  rising-low = rw (u .standing .terms-are) at (rising-on terms cells tab tab₁ reasons reasons₁ n k a b m x c c₁ late g d (u .standing) (u .fit) .low)
-
--- FROM NO PAIR SEEN
-
-no-bit : (j : ℕ) → bit 0 j ≡ false
-unfolding bit
-no-bit j = rw (native.Mathlib.Nat.zero-div (2 ^ j)) refl
-
--- a table of zeros marks nothing
-pub no-marks : (n w : ℕ) → Marks n (replicate w 0) []
-unfolding marked wasSeen any
-no-marks n w = record { says = λ a b ha hb. ap (λ (x : ℕ). bit x (place n a b % 32)) (zero-at w (place n a b / 32)) ∙ no-bit (place n a b % 32) }
-  where
-    zero-at : (w i : ℕ) → _≡_ {A = ℕ} (getD (replicate w 0) i 0) 0
-    zero-at zero i = refl
-    zero-at (suc w) zero = refl
-    zero-at (suc w) (suc i) = zero-at w i
-
-pub explained-by : (terms cells tab′ reasons reasons′ : List ℕ) (n k a b c w : ℕ) (r : Walked)
-    → Walks (walked (a, b)) (λ s. Together s (a, b)) terms cells (replicate w 0) tab′ reasons reasons′ n k c r → Explained terms cells reasons reasons′ n k a b c r
-unfolding explain
-explained-by terms cells tab′ reasons reasons′ n k a b c w r g = record { kept = g .kept; comes = λ e q. go e (g .shows e q [] (no-marks n w)) }
-  where
-    go : (e : Standing terms cells reasons n k) → Shows (e .store) n tab′ reasons′ r (walked (a, b) [] (withReasons (e .store) (pairsView reasons c)))
-        → Comes (e .store) reasons′ r (explain a b (withReasons (e .store) (pairsView reasons c)))
-    go e (came h seen m i) = explained h (ap (andThen (λ v. λ s. ok s tt)) i)
-    go e (refused h i) = stopped h (ap (andThen (λ v. λ s. ok s tt)) i)
-
-pub explainable-walk : (terms cells reasons : List ℕ) (n k a b m w : ℕ) → n ≤ m → m ≤ 512 → (m + 1) * (m + 1) ≤ 32 * w → Explainable terms cells reasons n k a b
-    → Walkable terms cells (replicate w 0) reasons n k (λ s. Together s (a, b))
-explainable-walk terms cells reasons n k a b m w i j h e =
-    let q = native.Mathlib.Nat.mul-le-mul {n₁ = n + 1} {m₁ = n + 1} {n₂ = m + 1} {m₂ = m + 1} (omega arith) (omega arith) in
-    record { standing = e .standing; fit = e .together; wide = record { few = omega arith; long = rw (length-replicate {A = ℕ} w 0) (omega arith) } }
-
--- THE LENT STORE
-
-module _ (m : Lent) (c : State) where
-  abbrev pub standing-of : Ready m c → Standing (m .terms) (m .cells) (m .reasons) (c .terms) (c .cells)
-  standing-of d = record { store = storeOf m c; audited = d .audited; terms-are = refl; cells-are = refl; room-is = refl }
-
-  abbrev pub explainable-of : (a b : ℕ) → Ready m c → explainArguments a b (storeOf m c) ≡ true → Explainable (m .terms) (m .cells) (m .reasons) (c .terms) (c .cells) a b
-  explainable-of a b d h =
-      let i = both-left (isString (storeOf m c) a && isString (storeOf m c) b) _ h in
-      record {
-        standing = standing-of d;
-        together = class-together (storeOf m c) (d .audited) a b (both-left _ _ i) (both-right (isString (storeOf m c) a) _ i) (both-right (isString (storeOf m c) a && isString (storeOf m c) b) _ h);
-      }
-
-  -- the counts with other reasons
-  abbrev pub reasonsAt : ℕ → State
-  reasonsAt n = record { terms = c .terms; cells = c .cells; chars = c .chars; reasons = n; keys = c .keys; names = c .names }
-
-  module _ (a b : ℕ) (d : Ready m c) (h : explainArguments a b (storeOf m c) ≡ true) (reasons′ : List ℕ) (l : length reasons′ ≡ length (m .reasons)) (r : Walked)
-      (x : Explained (m .terms) (m .cells) (m .reasons) reasons′ (c .terms) (c .cells) a b (c .reasons) r) where
-    store-after : (n : ℕ) → storeOf (lent (m .terms) (m .cells) (m .chars) reasons′ (m .keys)) (reasonsAt n) ≡ withReasons (storeOf m c) (pairsView reasons′ n)
-    store-after n = rw l
-
-    still : storeOf (lent (m .terms) (m .cells) (m .chars) reasons′ (m .keys)) c ≡ storeOf m c
-    still = store-after (c .reasons) ∙ ap (withReasons (storeOf m c)) (x .kept)
-
-    pub explain-came : r .code ≡ 0 → Working (explain a b) m (lent (m .terms) (m .cells) (m .chars) reasons′ (m .keys)) c
-        (added (Counts (reasonsAt (r .count))) (lent (m .terms) (m .cells) (m .chars) reasons′ (m .keys)))
-    explain-came z = record { says = go (x .comes (standing-of d) (explainable-of a b d h .together)); kept = still }
-      where
-        go : Comes (storeOf m c) reasons′ r (explain a b (storeOf m c)) → explain a b (storeOf m c) ≡ ok (storeOf (lent (m .terms) (m .cells) (m .chars) reasons′ (m .keys)) (reasonsAt (r .count))) tt
-        go (explained i e) = e ∙ ap (λ (s : Store). ok s tt) (sym (store-after (r .count)))
-        go (stopped i e) = absurd (i z)
-
-    pub explain-refused : (r .code ≡ 0 → ⊥) → Working (explain a b) m (lent (m .terms) (m .cells) (m .chars) reasons′ (m .keys)) c
-        (added (Refused (r .code)) (lent (m .terms) (m .cells) (m .chars) reasons′ (m .keys)))
-    explain-refused z = record { says = go (x .comes (standing-of d) (explainable-of a b d h .together)); kept = still }
-      where
-        go : Comes (storeOf m c) reasons′ r (explain a b (storeOf m c)) → explain a b (storeOf m c) ≡ stop (r .code)
-        go (explained i e) = absurd (z i)
-        go (stopped i e) = e

@@ -1,12 +1,12 @@
-use Rattle.engine.proofs.Turns.{pairing-walkable, pairing-low, pairing-less, rising-walkable, rising-low}
+use Rattle.engine.proofs.Turns.{pairing-walkable, pairing-low, pairing-less, Pairing, pairing-begin, pairing-turn, pairing-stop, pairing-done, edge-gives, edge-nothing, edge-other}
+use Rattle.engine.proofs.Rises.{rising-walkable, rising-low, pair-same, pair-seen, place-inside, nearest-fit, Rising, rising-begin, rising-switch, rising-turn, rising-stop, rising-done, far, far-switch, far-turn}
 use mathlib.Core.Logic.{inl, inr}
-use mathlib.Core.Path.{_≡_, refl, sym, ap, _∙_}
+use mathlib.Core.Path.{refl, sym, _∙_}
 use lib.ListN.{length}
 use Prim.Native.Nat.{_+_, _*_}
 use Rattle.records.specs.View.{termsView, cellsView}
 use Rattle.records.specs.Store.{termIn, pathIn, chainIn}
 use Rattle.engine.specs.Explain.{highest}
-use Rattle.engine.proofs.Turns.{Labelled, Pair, Pairing, pairing-begin, pairing-fit, pairing-turn, pairing-stop, pairing-done, edge-gives, edge-nothing, edge-other, pair-same, pair-seen, place-inside, nearest-fit, Rising, rising-begin, rising-switch, rising-on, rising-turn, rising-stop, rising-done, far, far-switch, far-turn, standing-on}
 use native.Mathlib.Omega.{arith}
 use borrow.Author.Needs.{needs}
 use Prim.Native.Nat.{ℕ, _<_}

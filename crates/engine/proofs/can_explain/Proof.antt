@@ -1,12 +1,7 @@
 use Rattle.engine.proofs.EngineCalls.{can-here, can-not-first, can-not-second, can-classes}
-use native.Mathlib.Omega.{arith}
 use borrow.Author.Needs.{needs}
 use Rattle.engine.proofs.can_explain.Statement.{statement}
 use Rattle.engine.proofs.can_explain.Tie as tie
-use Rattle.engine.proofs.can_explain.Reads as reads
-use Rattle.engine.proofs.can_explain.Lts as lts
-use Rattle.records.proofs.classes.root_unchecked.Reads as root-unchecked-reads
-use Rattle.records.proofs.rules.is_string.Reads as is-string-reads
 
 pub can-explain-spec : {M : Type 1} → statement M
 can-explain-spec =

@@ -1,15 +1,9 @@
 use mathlib.Core.Path.{sym, _∙_}
 use Rattle.records.proofs.Passed.{ready-of}
 use Rattle.engine.proofs.EngineCalls.{explain-unready, explain-unfit, explain-fit, explain-called}
-use native.Mathlib.Omega.{arith}
 use borrow.Author.Needs.{needs}
 use Rattle.engine.proofs.explain.Statement.{statement}
 use Rattle.engine.proofs.explain.Tie as tie
-use Rattle.engine.proofs.explain.Reads as reads
-use Rattle.engine.proofs.explain.Lts as lts
-use Rattle.engine.proofs.can_explain.Reads as can-explain-reads
-use Rattle.engine.proofs.explain_unchecked.Reads as explain-unchecked-reads
-use Rattle.records.proofs.audit.Reads as audit-reads
 
 pub explain-spec : {M : Type 1} → statement M
 explain-spec =

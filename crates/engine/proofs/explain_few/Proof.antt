@@ -1,11 +1,8 @@
-use Rattle.engine.proofs.Turns.{explained-by, explainable-walk}
+use Rattle.engine.proofs.Starts.{explained-by, explainable-walk}
 use native.Mathlib.Omega.{arith}
 use borrow.Author.Needs.{needs}
 use Rattle.engine.proofs.explain_few.Statement.{statement}
 use Rattle.engine.proofs.explain_few.Tie as tie
-use Rattle.engine.proofs.explain_few.Reads as reads
-use Rattle.engine.proofs.explain_few.Lts as lts
-use Rattle.engine.proofs.explain_rec.Reads as explain-rec-reads
 
 pub explain-few-spec : {M : Type 1} → statement M
 explain-few-spec =

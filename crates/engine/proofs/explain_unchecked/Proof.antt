@@ -1,12 +1,7 @@
-use Rattle.records.specs.View.{lent}
-use Rattle.engine.proofs.Turns.{explainable-of, explain-came, explain-refused}
-use native.Mathlib.Omega.{arith}
+use Rattle.engine.proofs.Starts.{explainable-of, explain-came, explain-refused}
 use borrow.Author.Needs.{needs}
 use Rattle.engine.proofs.explain_unchecked.Statement.{statement}
 use Rattle.engine.proofs.explain_unchecked.Tie as tie
-use Rattle.engine.proofs.explain_unchecked.Reads as reads
-use Rattle.engine.proofs.explain_unchecked.Lts as lts
-use Rattle.engine.proofs.explain_pair.Reads as explain-pair-reads
 
 pub explain-unchecked-spec : {M : Type 1} → statement M
 explain-unchecked-spec =

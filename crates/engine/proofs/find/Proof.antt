@@ -1,13 +1,7 @@
 use Rattle.engine.proofs.EngineCalls.{find-unready, find-unfit, find-here, find-gives}
-use native.Mathlib.Omega.{arith}
 use borrow.Author.Needs.{needs}
 use Rattle.engine.proofs.find.Statement.{statement}
 use Rattle.engine.proofs.find.Tie as tie
-use Rattle.engine.proofs.find.Reads as reads
-use Rattle.engine.proofs.find.Lts as lts
-use Rattle.records.proofs.audit.Reads as audit-reads
-use Rattle.records.proofs.classes.root_unchecked.Reads as root-unchecked-reads
-use Rattle.records.proofs.rules.is_string.Reads as is-string-reads
 
 pub find-spec : {M : Type 1} → statement M
 find-spec =

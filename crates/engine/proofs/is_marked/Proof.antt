@@ -1,11 +1,8 @@
 use mathlib.Core.Path.{refl}
 use Rattle.engine.specs.Marks.{marked, bit}
-use native.Mathlib.Omega.{arith}
 use borrow.Author.Needs.{needs}
 use Rattle.engine.proofs.is_marked.Statement.{statement}
 use Rattle.engine.proofs.is_marked.Tie as tie
-use Rattle.engine.proofs.is_marked.Reads as reads
-use Rattle.engine.proofs.is_marked.Lts as lts
 
 returns : tie.Need-returns
 unfolding marked bit

@@ -1,13 +1,9 @@
 use Prim.Native.Nat.{_/_}
 use Rattle.engine.proofs.Bits.{shifted-fits, mark-shifted}
 use Rattle.engine.specs.Marks.{marked}
-use Rattle.engine.proofs.Bits.{bit-fits, mark-set}
-use native.Mathlib.Omega.{arith}
 use borrow.Author.Needs.{needs}
 use Rattle.engine.proofs.mark.Statement.{statement}
 use Rattle.engine.proofs.mark.Tie as tie
-use Rattle.engine.proofs.mark.Reads as reads
-use Rattle.engine.proofs.mark.Lts as lts
 
 add-table : tie.Need-add-table
 unfolding marked

@@ -3,8 +3,6 @@ use native.Mathlib.Omega.{arith}
 use borrow.Author.Needs.{needs}
 use Rattle.engine.proofs.place.Statement.{statement}
 use Rattle.engine.proofs.place.Tie as tie
-use Rattle.engine.proofs.place.Reads as reads
-use Rattle.engine.proofs.place.Lts as lts
 
 pub place-spec : {M : Type 1} → statement M
 place-spec =

@@ -1,0 +1,95 @@
+-- Each way through `explain_unchecked`: a walk that starts from no pair seen, over the lent store.
+use mathlib.Core.Path.{_≡_, refl, sym, ap, _∙_}
+use mathlib.Core.Bool.{true, false, _&&_}
+use mathlib.Core.List.{List, []}
+use Prim.Native.Nat.{ℕ, zero, suc, _+_, _*_, _/_, _%_, _^_, _≤_}
+use native.Mathlib.Omega.{arith}
+use lib.ListN.{length, getD, replicate, length-replicate}
+use Rattle.records.specs.Lists.{any}
+use Rattle.records.specs.Store.{Store, ok, stop, andThen, store, count, isString}
+use Rattle.records.specs.declared.State.{State}
+use Rattle.records.specs.declared.Added.the-variants.{Counts, Refused}
+use Rattle.records.specs.Calls.{Working, added}
+use Rattle.records.specs.View.{Lent, lent, storeOf, pairsView}
+use Rattle.records.specs.Make.{withReasons}
+use Rattle.records.specs.Audited.{Ready}
+use Rattle.records.proofs.Lists.{both-left, both-right}
+use Rattle.engine.specs.declared.Walked.{Walked}
+use Rattle.engine.specs.Explain.{wasSeen, walked, explain, explainArguments}
+use Rattle.engine.specs.Marks.{place, bit, marked, Marks}
+use Rattle.engine.specs.Walks.{Standing, Together, Walkable, Shows, came, refused, Walks, Comes, explained, stopped, Explained, Explainable}
+use Rattle.engine.proofs.Sound.{class-together}
+
+-- FROM NO PAIR SEEN
+
+no-bit : (j : ℕ) → bit 0 j ≡ false
+unfolding bit
+no-bit j = rw (native.Mathlib.Nat.zero-div (2 ^ j)) refl
+
+-- a table of zeros marks nothing
+pub no-marks : (n w : ℕ) → Marks n (replicate w 0) []
+unfolding marked wasSeen any
+no-marks n w = record { says = λ a b ha hb. ap (λ (x : ℕ). bit x (place n a b % 32)) (zero-at w (place n a b / 32)) ∙ no-bit (place n a b % 32) }
+  where
+    zero-at : (w i : ℕ) → _≡_ {A = ℕ} (getD (replicate w 0) i 0) 0
+    zero-at zero i = refl
+    zero-at (suc w) zero = refl
+    zero-at (suc w) (suc i) = zero-at w i
+
+pub explained-by : (terms cells tab′ reasons reasons′ : List ℕ) (n k a b c w : ℕ) (r : Walked)
+    → Walks (walked (a, b)) (λ s. Together s (a, b)) terms cells (replicate w 0) tab′ reasons reasons′ n k c r → Explained terms cells reasons reasons′ n k a b c r
+unfolding explain
+explained-by terms cells tab′ reasons reasons′ n k a b c w r g = record { kept = g .kept; comes = λ e q. go e (g .shows e q [] (no-marks n w)) }
+  where
+    go : (e : Standing terms cells reasons n k) → Shows (e .store) n tab′ reasons′ r (walked (a, b) [] (withReasons (e .store) (pairsView reasons c)))
+        → Comes (e .store) reasons′ r (explain a b (withReasons (e .store) (pairsView reasons c)))
+    go e (came h seen m i) = explained h (ap (andThen (λ v. λ s. ok s tt)) i)
+    go e (refused h i) = stopped h (ap (andThen (λ v. λ s. ok s tt)) i)
+
+pub explainable-walk : (terms cells reasons : List ℕ) (n k a b m w : ℕ) → n ≤ m → m ≤ 512 → (m + 1) * (m + 1) ≤ 32 * w → Explainable terms cells reasons n k a b
+    → Walkable terms cells (replicate w 0) reasons n k (λ s. Together s (a, b))
+explainable-walk terms cells reasons n k a b m w i j h e =
+    let q = native.Mathlib.Nat.mul-le-mul {n₁ = n + 1} {m₁ = n + 1} {n₂ = m + 1} {m₂ = m + 1} (omega arith) (omega arith) in
+    record { standing = e .standing; fit = e .together; wide = record { few = omega arith; long = rw (length-replicate {A = ℕ} w 0) (omega arith) } }
+
+-- THE LENT STORE
+
+module _ (m : Lent) (c : State) where
+  abbrev pub standing-of : Ready m c → Standing (m .terms) (m .cells) (m .reasons) (c .terms) (c .cells)
+  standing-of d = record { store = storeOf m c; audited = d .audited; terms-are = refl; cells-are = refl; room-is = refl }
+
+  abbrev pub explainable-of : (a b : ℕ) → Ready m c → explainArguments a b (storeOf m c) ≡ true → Explainable (m .terms) (m .cells) (m .reasons) (c .terms) (c .cells) a b
+  explainable-of a b d h =
+      let i = both-left (isString (storeOf m c) a && isString (storeOf m c) b) _ h in
+      record {
+        standing = standing-of d;
+        together = class-together (storeOf m c) (d .audited) a b (both-left _ _ i) (both-right (isString (storeOf m c) a) _ i) (both-right (isString (storeOf m c) a && isString (storeOf m c) b) _ h);
+      }
+
+  -- the counts with other reasons
+  abbrev pub reasonsAt : ℕ → State
+  reasonsAt n = record { terms = c .terms; cells = c .cells; chars = c .chars; reasons = n; keys = c .keys; names = c .names }
+
+  module _ (a b : ℕ) (d : Ready m c) (h : explainArguments a b (storeOf m c) ≡ true) (reasons′ : List ℕ) (l : length reasons′ ≡ length (m .reasons)) (r : Walked)
+      (x : Explained (m .terms) (m .cells) (m .reasons) reasons′ (c .terms) (c .cells) a b (c .reasons) r) where
+    store-after : (n : ℕ) → storeOf (lent (m .terms) (m .cells) (m .chars) reasons′ (m .keys)) (reasonsAt n) ≡ withReasons (storeOf m c) (pairsView reasons′ n)
+    store-after n = rw l
+
+    still : storeOf (lent (m .terms) (m .cells) (m .chars) reasons′ (m .keys)) c ≡ storeOf m c
+    still = store-after (c .reasons) ∙ ap (withReasons (storeOf m c)) (x .kept)
+
+    pub explain-came : r .code ≡ 0 → Working (explain a b) m (lent (m .terms) (m .cells) (m .chars) reasons′ (m .keys)) c
+        (added (Counts (reasonsAt (r .count))) (lent (m .terms) (m .cells) (m .chars) reasons′ (m .keys)))
+    explain-came z = record { says = go (x .comes (standing-of d) (explainable-of a b d h .together)); kept = still }
+      where
+        go : Comes (storeOf m c) reasons′ r (explain a b (storeOf m c)) → explain a b (storeOf m c) ≡ ok (storeOf (lent (m .terms) (m .cells) (m .chars) reasons′ (m .keys)) (reasonsAt (r .count))) tt
+        go (explained i e) = e ∙ ap (λ (s : Store). ok s tt) (sym (store-after (r .count)))
+        go (stopped i e) = absurd (i z)
+
+    pub explain-refused : (r .code ≡ 0 → ⊥) → Working (explain a b) m (lent (m .terms) (m .cells) (m .chars) reasons′ (m .keys)) c
+        (added (Refused (r .code)) (lent (m .terms) (m .cells) (m .chars) reasons′ (m .keys)))
+    explain-refused z = record { says = go (x .comes (standing-of d) (explainable-of a b d h .together)); kept = still }
+      where
+        go : Comes (storeOf m c) reasons′ r (explain a b (storeOf m c)) → explain a b (storeOf m c) ≡ stop (r .code)
+        go (explained i e) = absurd (z i)
+        go (stopped i e) = e
