@@ -1,15 +1,8 @@
 use mathlib.Core.Path.{_≡_}
 use lib.ListN.{length}
-use native.Mathlib.Omega.{arith}
 use borrow.Author.Needs.{needs}
 use Rattle.labelstep.proofs.run.Statement.{statement}
 use Rattle.labelstep.proofs.run.Tie as tie
-use Rattle.labelstep.proofs.run.Reads as reads
-use Rattle.labelstep.proofs.run.Lts as lts
-use Rattle.io.proofs.buffer.Reads as buffer-reads
-use Rattle.io.proofs.count.Reads as count-reads
-use Rattle.labelstep.proofs.take_bytes.Reads as take-bytes-reads
-use Rattle.libc.proofs.read.Reads as read-reads
 
 abbrev Inv-loop : tie.InvT-loop
 Inv-loop line₀ list₀ known₀ terms₀ cells₀ chars₀ reasons₀ keys₀ text₀ s₀ left₀ line list known terms cells chars reasons keys text s left = 4096 ≡ length text
@@ -28,6 +21,7 @@ run-spec =
     (λ c. search needs)
     (λ c κs. search needs)
     (λ c. search needs)
+    (λ c κs. search needs)
     (λ c κs. search needs)
     (λ c. search needs)
     (λ c. search needs)

@@ -1,12 +1,7 @@
 use Prim.Native.Nat.{_≤_, _-_}
-use native.Mathlib.Omega.{arith}
 use borrow.Author.Needs.{needs}
 use Rattle.labelstep.proofs.say.say_atoms.Statement.{statement}
 use Rattle.labelstep.proofs.say.say_atoms.Tie as tie
-use Rattle.labelstep.proofs.say.say_atoms.Reads as reads
-use Rattle.labelstep.proofs.say.say_atoms.Lts as lts
-use Rattle.labelstep.proofs.say.say_number.Reads as say-number-reads
-use Rattle.records.proofs.fields.word.Reads as word-reads
 
 abbrev Inv-loop : tie.InvT-loop
 Inv-loop list n i₀ i = i ≤ n

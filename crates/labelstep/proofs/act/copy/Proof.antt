@@ -1,11 +1,7 @@
 use Prim.Native.Nat.{_≤_, _-_}
-use native.Mathlib.Omega.{arith}
 use borrow.Author.Needs.{needs}
-use Rattle.labelstep.proofs.copy.Statement.{statement}
-use Rattle.labelstep.proofs.copy.Tie as tie
-use Rattle.labelstep.proofs.copy.Reads as reads
-use Rattle.labelstep.proofs.copy.Lts as lts
-use Rattle.records.proofs.fields.word.Reads as word-reads
+use Rattle.labelstep.proofs.act.copy.Statement.{statement}
+use Rattle.labelstep.proofs.act.copy.Tie as tie
 
 abbrev Inv-loop : tie.InvT-loop
 Inv-loop from to₀ i₀ to i = i ≤ 1024

@@ -1,12 +1,8 @@
 use Prim.Native.Nat.{_≤_, _-_}
 use lib.ListN.{length}
-use native.Mathlib.Omega.{arith}
 use borrow.Author.Needs.{needs}
-use Rattle.labelstep.proofs.take_bytes.Statement.{statement}
-use Rattle.labelstep.proofs.take_bytes.Tie as tie
-use Rattle.labelstep.proofs.take_bytes.Reads as reads
-use Rattle.labelstep.proofs.take_bytes.Lts as lts
-use Rattle.labelstep.proofs.take_byte.Reads as take-byte-reads
+use Rattle.labelstep.proofs.read.take_bytes.Statement.{statement}
+use Rattle.labelstep.proofs.read.take_bytes.Tie as tie
 
 abbrev Inv-loop : tie.InvT-loop
 Inv-loop text line₀ list₀ known₀ terms₀ cells₀ chars₀ reasons₀ keys₀ s₀ i₀ line list known terms cells chars reasons keys s i = i ≤ length text

@@ -1,0 +1,195 @@
+// What each command does.
+use crate::front::front;
+use crate::say::say_bad;
+use crate::say::say_outcome;
+use crate::say::say_refused;
+use crate::session::Session;
+use crate::session::with_counts;
+use crate::session::with_known;
+use crate::session::with_stamp;
+use crate::session::without_reasons;
+use commands::Parsed;
+use commands::merge::merge;
+use records::Made;
+use records::build::make_concatenation;
+use records::build::make_equation;
+use records::fields::word;
+use records::make::make_constant;
+use records::make::make_variable;
+use records::rules::is_list;
+
+// A line that finds the store full is refused; another that makes no term is bad.
+fn after_making(r: Made, s: Session) -> Session {
+    match r {
+        Made::Term(t, c) => with_counts(s, c),
+        Made::Refused(k) => {
+            if k == 8 {
+                say_refused(8);
+                return s;
+            }
+            say_bad(s.line);
+            s
+        }
+    }
+}
+
+// `C text`.
+fn constant(
+    n: usize,
+    list: &[u32; 1024],
+    terms: &mut [u32; 4104],
+    cells: &[u32; 6147],
+    chars: &mut [u32; 16384],
+    reasons: &[u32; 8192],
+    keys: &[u32; 8192],
+    s: Session,
+) -> Session {
+    let c = s.counts;
+    let w = front(list, n);
+    let r = make_constant(terms, cells, chars, reasons, keys, c, w);
+    after_making(r, s)
+}
+
+// `V name`.
+fn variable(
+    n: usize,
+    list: &[u32; 1024],
+    terms: &mut [u32; 4104],
+    cells: &[u32; 6147],
+    chars: &mut [u32; 16384],
+    reasons: &[u32; 8192],
+    keys: &[u32; 8192],
+    s: Session,
+) -> Session {
+    let c = s.counts;
+    let w = front(list, n);
+    let r = make_variable(terms, cells, chars, reasons, keys, c, w);
+    after_making(r, s)
+}
+
+// `P t u ..`.
+fn parts(
+    n: usize,
+    list: &[u32; 1024],
+    terms: &mut [u32; 4104],
+    cells: &mut [u32; 6147],
+    chars: &[u32; 16384],
+    reasons: &[u32; 8192],
+    keys: &[u32; 8192],
+    s: Session,
+) -> Session {
+    let c = s.counts;
+    let w = front(list, n);
+    let r = make_concatenation(terms, cells, chars, reasons, keys, c, w);
+    after_making(r, s)
+}
+
+// `E t u`.
+fn sides(
+    t: u32,
+    u: u32,
+    terms: &mut [u32; 4104],
+    cells: &[u32; 6147],
+    chars: &[u32; 16384],
+    reasons: &[u32; 8192],
+    keys: &[u32; 8192],
+    s: Session,
+) -> Session {
+    let c = s.counts;
+    let r = make_equation(terms, cells, chars, reasons, keys, c, t, u);
+    after_making(r, s)
+}
+
+// `M child parent n`.
+fn join(
+    child: u32,
+    parent: u32,
+    n: u32,
+    terms: &mut [u32; 4104],
+    cells: &[u32; 6147],
+    chars: &[u32; 16384],
+    reasons: &[u32; 8192],
+    keys: &[u32; 8192],
+    s: Session,
+) -> Session {
+    let c = s.counts;
+    let m = s.stamp;
+    let k = merge(terms, cells, chars, reasons, keys, c, child, parent, n, m);
+    if k != 0 {
+        say_bad(s.line);
+        return s;
+    }
+    with_stamp(s)
+}
+
+fn copy(from: &[u32], to: &mut [u32; 1024]) {
+    let mut i: usize = 0;
+    while i < 1024 {
+        to[i] = word(from, i);
+        i += 1;
+    }
+}
+
+// `K ..`: a list of string terms.
+fn set_known(
+    list: &[u32; 1024],
+    n: usize,
+    known: &mut [u32; 1024],
+    terms: &[u32; 4104],
+    s: Session,
+) -> Session {
+    let c = s.counts;
+    let w = front(list, n);
+    if !is_list(terms, c, w) {
+        say_bad(s.line);
+        return s;
+    }
+    copy(w, known);
+    with_known(s, w.len())
+}
+
+// `R e g`.
+fn resolve(
+    e: u32,
+    g: i32,
+    list: &mut [u32; 1024],
+    known: &[u32; 1024],
+    terms: &mut [u32; 4104],
+    cells: &mut [u32; 6147],
+    chars: &mut [u32; 16384],
+    reasons: &mut [u32; 8192],
+    keys: &mut [u32; 8192],
+    s: Session,
+) -> Session {
+    let c = s.counts;
+    let w = front(known, s.known);
+    let o = equation::step(terms, cells, chars, reasons, keys, c, w, e, g, list);
+    let d = say_outcome(o, reasons, list, c);
+    with_counts(s, without_reasons(d))
+}
+
+pub(crate) fn act(
+    p: Parsed,
+    list: &mut [u32; 1024],
+    known: &mut [u32; 1024],
+    terms: &mut [u32; 4104],
+    cells: &mut [u32; 6147],
+    chars: &mut [u32; 16384],
+    reasons: &mut [u32; 8192],
+    keys: &mut [u32; 8192],
+    s: Session,
+) -> Session {
+    match p {
+        Parsed::Constant(n) => constant(n, list, terms, cells, chars, reasons, keys, s),
+        Parsed::Variable(n) => variable(n, list, terms, cells, chars, reasons, keys, s),
+        Parsed::Concatenation(n) => parts(n, list, terms, cells, chars, reasons, keys, s),
+        Parsed::Equation(t, u) => sides(t, u, terms, cells, chars, reasons, keys, s),
+        Parsed::Merge(t, u, n) => join(t, u, n, terms, cells, chars, reasons, keys, s),
+        Parsed::Known(n) => set_known(list, n, known, terms, s),
+        Parsed::Resolve(e, g) => resolve(e, g, list, known, terms, cells, chars, reasons, keys, s),
+        Parsed::Bad => {
+            say_bad(s.line);
+            s
+        }
+    }
+}
