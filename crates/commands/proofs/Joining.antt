@@ -1,5 +1,5 @@
 -- Joining two classes: the tests, the words written, and the three ways of the call.
-use mathlib.Core.Path.{_≡_, refl, sym, ap, _∙_}
+use mathlib.Core.Path.{_≡_, refl, sym, ap, subst, _∙_}
 use mathlib.Core.Bool.{Bool, true, false, not, _&&_}
 use mathlib.Core.List.{List}
 use mathlib.Core.Logic.{⊎-elim}
@@ -14,15 +14,17 @@ use Rattle.records.specs.declared.State.{State}
 use Rattle.records.specs.Store.{Term, Store, Out, ok, stop, termIn, noTerm, within, isString, sameClass, rootIn, classUp}
 use Rattle.records.specs.View.{Lent, lent, storeOf, termAt, termsView}
 use Rattle.records.specs.Rules.{audit, isNumber}
-use Rattle.records.specs.Audited.{Ready, Closed}
+use Rattle.records.specs.Make.{withTerms}
+use Rattle.records.specs.Audited.{Ready, Closed, Audited}
 use Rattle.records.specs.Calls.{call, unless, checked}
 use Rattle.records.proofs.Lists.{failed, passed, and-stop, and-next, five-1, five-2, five-3, five-4, five-last, both-left, table-length, table-at, within-low, within-high}
 use Rattle.records.proofs.Views.{term-is}
-use Rattle.records.proofs.Passed.{ready-of}
+use Rattle.records.proofs.Passed.{ready-of, ready-after, audit-of}
 use Rattle.records.proofs.Public.{call-unready, call-unfit}
 use Rattle.records.proofs.Grown.{string-term}
 use Rattle.records.proofs.Climbs.{term-within, ready-roots}
 use Rattle.commands.specs.Merge.{isRootIn, canJoin, under, joinIn, joinClasses, Joined, joined, Merged}
+use Rattle.commands.proofs.JoinedKept.{join-kept}
 
 -- A ROOT
 
@@ -185,7 +187,7 @@ module _ (l : List ℕ) (t p v s : ℕ) (room : 8 * t + 8 ≤ length l) where
 
 module _ (m : Lent) (c : State) (child parent n stamp k : ℕ) (v : k ≡ audit m c) where
   pub merge-unready : (k ≡ 0 → ⊥) → Merged m m c child parent n stamp k
-  merge-unready z = record { says = go k z ∙ call-unready (canJoin child parent n) (joinClasses child parent n stamp) m c k v z .says; idle = λ e. refl }
+  merge-unready z = record { says = go k z ∙ call-unready (canJoin child parent n) (joinClasses child parent n stamp) m c k v z .says; idle = λ e. refl; kept = λ e. absurd (z e) }
     where
       go : (j : ℕ) → (j ≡ 0 → ⊥) → joined j m c ≡ stop j
       go zero q = absurd (q refl)
@@ -193,7 +195,7 @@ module _ (m : Lent) (c : State) (child parent n stamp k : ℕ) (v : k ≡ audit 
 
   module _ (z : k ≡ 0) (b : Bool) (e : b ≡ canJoin child parent n (storeOf m c)) where
     pub merge-unfit : not b ≡ true → Merged m m c child parent n stamp 5
-    merge-unfit h = record { says = call-unfit (canJoin child parent n) (joinClasses child parent n stamp) m c k v z b e (not-true b h) .says; idle = λ q. refl }
+    merge-unfit h = record { says = call-unfit (canJoin child parent n) (joinClasses child parent n stamp) m c k v z b e (not-true b h) .says; idle = λ q. refl; kept = λ q. absurd (omega arith) }
 
     -- the child's record is within the slice
     pub merge-room : not b ≡ false → 8 * child + 8 ≤ length (m .terms)
@@ -220,8 +222,18 @@ module _ (t e h r ks t′ : List ℕ) (c : State) (child parent n stamp k : ℕ)
       let w = term-within m c child (string-term (storeOf m c) child i) in
       let p = j .terms (c .terms) w in
       let q = j .long in
-      record { says = stored p q ∙ sym (rw (a, g)); idle = λ o. absurd (o refl) }
+      let d = ready-of m c a in
+      let k = joined-store p q in
+      record {
+        says = stored p q ∙ sym (rw (a, g));
+        idle = λ o. absurd (o refl);
+        kept = λ o. audit-of (lent t′ e h r ks) c (ready-after d q refl (subst Audited (sym k) (join-kept (storeOf m c) child parent n stamp (d .audited) g)));
+      }
     where
+      joined-store : termsView t′ (c .terms) ≡ joinIn (termsView t (c .terms)) child parent n stamp → length t′ ≡ length t
+          → storeOf (lent t′ e h r ks) c ≡ withTerms (storeOf (lent t e h r ks) c) (joinIn (termsView t (c .terms)) child parent n stamp)
+      joined-store p q = cc
+
       stored : termsView t′ (c .terms) ≡ joinIn (termsView t (c .terms)) child parent n stamp → length t′ ≡ length t
           → ok (storeOf (lent t′ e h r ks) c) tt ≡ joinClasses child parent n stamp (storeOf (lent t e h r ks) c)
       stored p q = cc

@@ -4,4 +4,8 @@ pub mod Numbering
 pub mod Guards
 pub mod Parsing
 pub mod Printing
+pub mod Repeats
+pub mod Rerooted
+pub mod Trees
+pub mod JoinedKept
 pub mod Joining

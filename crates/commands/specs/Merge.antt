@@ -8,7 +8,7 @@ use lib.Dec.{eqb}
 use Rattle.records.specs.declared.State.{State}
 use Rattle.records.specs.Store.{Term, Store, Out, ok, stop, Work, termIn, term, within, isString, sameClass}
 use Rattle.records.specs.View.{Lent, storeOf, termsView}
-use Rattle.records.specs.Rules.{isNumber}
+use Rattle.records.specs.Rules.{isNumber, audit}
 use Rattle.records.specs.Make.{withTerms}
 use Rattle.records.specs.Calls.{call}
 use mathlib.Core.Bool.{true}
@@ -50,6 +50,8 @@ abbrev pub joined : ℕ → Lent → State → Out (Unit {0})
 joined zero m c = ok (storeOf m c) tt
 joined (suc k) m c = stop (suc k)
 
+-- joining is the call's outcome, a refusal changes nothing, and what is joined passes the audit again
 pub record Merged (m m′ : Lent) (c : State) (child parent n stamp r : ℕ) : Type 0 where
   pub says : joined r m′ c ≡ call (canJoin child parent n) (joinClasses child parent n stamp) m c
   pub idle : (r ≡ 0 → ⊥) → m′ ≡ m
+  pub kept : r ≡ 0 → audit m′ c ≡ 0

@@ -1,0 +1,372 @@
+-- Joining two classes keeps a store audited.
+use mathlib.Core.Path.{_≡_, refl, sym, ap, subst, _∙_}
+use mathlib.Core.Bool.{Bool, true, false, not, _&&_}
+use mathlib.Core.List.{List, [], _∷_}
+use mathlib.Core.Logic.{_⊎_, inl, inr, ⊎-elim}
+use Prim.Native.Nat.{ℕ, zero, suc, _+_, _-_, _≤_, _<_}
+use native.Mathlib.Decide.{ℕ-discrete}
+use native.Mathlib.Omega.{arith}
+use lib.ListN.{length, set, getD, length-set}
+use lib.Seq.{getD-set-same, getD-set-other}
+use lib.Dec.{eqb}
+use borrow.Author.Tests.{eqb-true, eq-eqb, ne-eqb}
+use Rattle.records.specs.Lists.{all, firsts, seconds, Every, none-left, and}
+use Rattle.records.specs.Store.{Term, Store, termIn, noTerm, term, count, kind, within, isTerm, isString, textIn, text, chain, parts, climb, classUp, forestUp, root, top, sameClass, isEdge, path}
+use Rattle.records.specs.Rules.{isNumber, keyRule, isEquatable}
+use Rattle.records.specs.Make.{withTerms}
+use Rattle.records.specs.Audited.{Part, Label, asserted, interface, congruence, definitional, Unlabelled, Falls, Pairs, Congruent, Recorded, Classed, Congruences, Roomy, Audited}
+use Rattle.records.proofs.Lists.{clash, both-left, both-right, within-low, within-high, every-map, every-both, all-every, every-all}
+use Rattle.records.proofs.Climbs.{classed-roots, classed-tops, root-self, top-self}
+use Rattle.records.proofs.ClassLaws.{not-eqb}
+use Rattle.records.proofs.Grown.{string-term}
+use Rattle.records.proofs.Readings.{parts-strings}
+use Rattle.commands.specs.Merge.{isRootIn, canJoin, under, joinIn}
+use Rattle.commands.proofs.Rerooted.{Moved, other-walk, moved-ends, moved-root}
+use Rattle.commands.proofs.Trees.{path-moved, path-not}
+
+-- RECORDS
+
+module _ (ts : List Term) (t : ℕ) (x : Term) (w : within (length ts) t ≡ true) where
+  set-in : termIn (set ts (t - 1) x) t ≡ x
+  unfolding termIn
+  set-in = go t (within-low (length ts) t w) (within-high (length ts) t w)
+    where
+      go : (u : ℕ) → 0 < u → u ≤ length ts → getD (noTerm ∷ set ts (u - 1) x) u noTerm ≡ x
+      go zero l h = absurd (omega arith)
+      go (suc i) l h = let e : suc i - 1 ≡ i = omega arith in ap (λ (j : ℕ). getD (set ts j x) i noTerm) e ∙ getD-set-same ts i x noTerm (omega arith)
+
+  set-away : (u : ℕ) → (u ≡ t → ⊥) → termIn (set ts (t - 1) x) u ≡ termIn ts u
+  unfolding termIn
+  set-away zero d = refl
+  set-away (suc j) d = let l = within-low (length ts) t w in getD-set-other ts (t - 1) j x noTerm (λ e. d (omega arith))
+
+from-firsts : {P : ℕ → Type 0} (l : List (ℕ × ℕ)) → Every P (firsts l) → Every (λ p. P (p .0)) l
+unfolding firsts
+from-firsts [] k = none-left
+from-firsts (p ∷ l) (and h k) = and h (from-firsts l k)
+
+from-seconds : {P : ℕ → Type 0} (l : List (ℕ × ℕ)) → Every P (seconds l) → Every (λ p. P (p .1)) l
+unfolding seconds
+from-seconds [] k = none-left
+from-seconds (p ∷ l) (and h k) = and h (from-seconds l k)
+
+-- what the test of joining says
+record Joinable (s : Store) (child parent n : ℕ) : Type 0 where
+  child-string : isString s child ≡ true
+  parent-string : isString s parent ≡ true
+  number : isNumber n ≡ true
+  class-self : term s child .classParent ≡ child
+  forest-self : term s child .forestParent ≡ child
+  apart : root s child ≡ root s parent → ⊥
+
+joinable : (s : Store) (child parent n : ℕ) → canJoin child parent n s ≡ true → Joinable s child parent n
+unfolding canJoin isRootIn
+joinable s child parent n can =
+    let e₄ = both-left (isString s child && isString s parent && isNumber n && (eqb (term s child .classParent) child && eqb (term s child .forestParent) child)) (not (sameClass s child parent)) can in
+    let e₃ = both-left (isString s child && isString s parent && isNumber n) _ e₄ in
+    let e₂ = both-left (isString s child && isString s parent) _ e₃ in
+    let r = both-right (isString s child && isString s parent && isNumber n) _ e₄ in
+    record {
+      child-string = both-left _ _ e₂;
+      parent-string = both-right (isString s child) _ e₂;
+      number = both-right (isString s child && isString s parent) _ e₃;
+      class-self = eqb-true _ _ (both-left _ _ r);
+      forest-self = eqb-true _ _ (both-right (eqb (term s child .classParent) child) _ r);
+      apart = not-eqb _ _ (both-right (isString s child && isString s parent && isNumber n && (eqb (term s child .classParent) child && eqb (term s child .forestParent) child)) _ can);
+    }
+
+module _ (s : Store) (audited : Audited s) (child parent n stamp : ℕ) (j : Joinable s child parent n) where
+  abbrev s′ : Store
+  s′ = withTerms s (joinIn (s .terms) child parent n stamp)
+
+  long : count s′ ≡ count s
+  long = length-set (s .terms) (child - 1) _
+
+  child-term : isTerm s child ≡ true
+  child-term = string-term s child (j .child-string)
+
+  parent-term : isTerm s parent ≡ true
+  parent-term = string-term s parent (j .parent-string)
+
+  at-child : term s′ child ≡ under (term s child) parent n stamp
+  at-child = set-in (s .terms) child _ child-term
+
+  away : (t : ℕ) → (t ≡ child → ⊥) → term s′ t ≡ term s t
+  away t d = set-away (s .terms) child _ child-term t d
+
+  -- the first three words are as they were
+  shape : (f : Term → ℕ) → ((x : Term) → f (under x parent n stamp) ≡ f x) → (t : ℕ) → f (term s′ t) ≡ f (term s t)
+  shape f h t = go (ℕ-discrete t child)
+    where
+      go : Dec (t ≡ child) → f (term s′ t) ≡ f (term s t)
+      go (yes e) = ap (λ (u : ℕ). f (term s′ u)) e ∙ ap f at-child ∙ h (term s child) ∙ ap (λ (u : ℕ). f (term s u)) (sym e)
+      go (no d) = ap f (away t d)
+
+  kind-same : (t : ℕ) → kind s′ t ≡ kind s t
+  kind-same = shape (λ x. x .kind) (λ x. refl)
+
+  first-same : (t : ℕ) → term s′ t .first ≡ term s t .first
+  first-same = shape (λ x. x .first) (λ x. refl)
+
+  second-same : (t : ℕ) → term s′ t .second ≡ term s t .second
+  second-same = shape (λ x. x .second) (λ x. refl)
+
+  string-same : (t : ℕ) → isString s′ t ≡ isString s t
+  string-same t = ap (within 3) (kind-same t)
+
+  term-same : (t : ℕ) → isTerm s′ t ≡ isTerm s t
+  term-same t = ap (λ (k : ℕ). within k t) long
+
+  was-term : (t : ℕ) → isTerm s′ t ≡ true → isTerm s t ≡ true
+  was-term t w = sym (term-same t) ∙ w
+
+  text-same : (t : ℕ) → text s′ t ≡ text s t
+  unfolding textIn
+  text-same t = rw (first-same t, second-same t)
+
+  equatable-same : (x y : ℕ) → isEquatable s′ x y ≡ isEquatable s x y
+  unfolding isEquatable
+  equatable-same x y = rw (kind-same x, kind-same y)
+
+  key-same : (p : ℕ × ℕ) → keyRule s′ p ≡ keyRule s p
+  unfolding keyRule
+  key-same p = rw (kind-same (p .0), kind-same (p .1))
+
+  parts-same : (t : ℕ) → parts s′ t ≡ parts s t
+  parts-same t = ap (λ (x : ℕ). firsts (chain s x)) (first-same t)
+
+  was : (t : ℕ) {k : ℕ} → kind s′ t ≡ k → kind s t ≡ k
+  was t e = sym (kind-same t) ∙ e
+
+  joined-recorded : Recorded s′
+  joined-recorded =
+      let r = audited .recorded in
+      record {
+        kinds = λ t w. ap (within 5) (kind-same t) ∙ r .kinds t (was-term t w);
+        constants = λ t e. let h = r .constants t (was t e) in let p = first-same t in let q = second-same t in omega arith;
+        variables = λ t e. let h = r .variables t (was t e) in let p = first-same t in let q = second-same t in omega arith;
+        longNames = λ t e. let h = r .longNames t (was t e) in let q = second-same t in omega arith;
+        uniqueNames = λ t u e f g. r .uniqueNames t u (was t e) (was u f) (sym (text-same t) ∙ g ∙ text-same u);
+        twoParts = λ t e. subst (λ (x : ℕ). 2 ≤ length (chain s x)) (sym (first-same t)) (r .twoParts t (was t e));
+        partsGood = λ t e. subst (λ (x : ℕ). Every (Part s′ t) (chain s x)) (sym (first-same t))
+            (every-map (λ p h. record { string = string-same (p .0) ∙ h .string; lower = h .lower; plain = h .plain }) (r .partsGood t (was t e)));
+        concatSecond = λ t e. second-same t ∙ r .concatSecond t (was t e);
+        lengthFirst = λ t e. ap (isString s′) (first-same t) ∙ string-same (term s t .first) ∙ r .lengthFirst t (was t e);
+        lengthLower = λ t e. subst (λ (x : ℕ). x < t) (sym (first-same t)) (r .lengthLower t (was t e));
+        lengthSecond = λ t e. second-same t ∙ r .lengthSecond t (was t e);
+        equationSides = λ t e. ap (λ (x : ℕ). isEquatable s′ x (term s′ t .second)) (first-same t) ∙ ap (isEquatable s′ (term s t .first)) (second-same t)
+            ∙ equatable-same (term s t .first) (term s t .second) ∙ r .equationSides t (was t e);
+        equationFirst = λ t e. subst (λ (x : ℕ). x < t) (sym (first-same t)) (r .equationFirst t (was t e));
+        equationSecond = λ t e. subst (λ (x : ℕ). x < t) (sym (second-same t)) (r .equationSecond t (was t e));
+        nexts = r .nexts;
+        characters = r .characters;
+        reasons = r .reasons;
+        keys = every-all (every-map (λ p h. key-same p ∙ h) (all-every (keyRule s) (s .keys) (r .keys)));
+      }
+
+  -- CLASSES
+
+  abbrev q : Classed s
+  q = audited .classed
+
+  root-child : root s child ≡ child
+  root-child = root-self (s .terms) child (j .class-self)
+
+  top-child : top s child ≡ child
+  top-child = top-self (s .terms) child (j .forest-self)
+
+  -- a step up leads from a term to a term
+  step : (up : Term → ℕ) → up (under (term s child) parent n stamp) ≡ parent → ((t : ℕ) → isTerm s t ≡ true → isTerm s (up (term s t)) ≡ true) → (t : ℕ) → isTerm s t ≡ true → isTerm s (up (term s′ t)) ≡ true
+  step up e h t w = go (ℕ-discrete t child)
+    where
+      go : Dec (t ≡ child) → isTerm s (up (term s′ t)) ≡ true
+      go (yes z) = ap (λ (u : ℕ). isTerm s (up (term s′ u))) z ∙ ap (λ (x : Term). isTerm s (up x)) at-child ∙ ap (isTerm s) e ∙ parent-term
+      go (no d) = ap (λ (x : Term). isTerm s (up x)) (away t d) ∙ h t w
+
+  class-moved : Moved (classUp (s .terms)) (classUp (s′ .terms)) (count s) child parent
+  class-moved = record {
+    closed = classed-roots s q;
+    closed′ = record { stays = step (λ x. x .classParent) refl (q .classParents) };
+    ends = q .classEnds;
+    self = j .class-self;
+    at = ap (λ (x : Term). x .classParent) at-child;
+    away = λ t d. ap (λ (x : Term). x .classParent) (away t d);
+    here = parent-term;
+    apart = λ e. j .apart (root-child ∙ sym e);
+  }
+
+  forest-moved : Moved (forestUp (s .terms)) (forestUp (s′ .terms)) (count s) child parent
+  forest-moved = record {
+    closed = classed-tops s q;
+    closed′ = record { stays = step (λ x. x .forestParent) refl (q .forestParents) };
+    ends = q .forestEnds;
+    self = j .forest-self;
+    at = ap (λ (x : Term). x .forestParent) at-child;
+    away = λ t d. ap (λ (x : Term). x .forestParent) (away t d);
+    here = parent-term;
+    apart = λ e. j .apart (eqb-true _ _ (q .alike child parent child-term parent-term ∙ eq-eqb _ _ (top-child ∙ sym e)));
+  }
+
+  root-counted : (t : ℕ) → root s′ t ≡ climb (classUp (s′ .terms)) (count s) t
+  root-counted t = ap (λ (k : ℕ). climb (classUp (s′ .terms)) k t) long
+
+  top-counted : (t : ℕ) → top s′ t ≡ climb (forestUp (s′ .terms)) (count s) t
+  top-counted t = ap (λ (k : ℕ). climb (forestUp (s′ .terms)) k t) long
+
+  module _ (t : ℕ) (w : isTerm s t ≡ true) where
+    root-joined : root s t ≡ child → root s′ t ≡ root s parent
+    root-joined e = root-counted t ∙ moved-root class-moved t w e
+
+    root-other : (root s t ≡ child → ⊥) → root s′ t ≡ root s t
+    root-other o = root-counted t ∙ other-walk class-moved (count s) t w o
+
+    top-joined : top s t ≡ child → top s′ t ≡ top s parent
+    top-joined e = top-counted t ∙ moved-root forest-moved t w e
+
+    top-other : (top s t ≡ child → ⊥) → top s′ t ≡ top s t
+    top-other o = top-counted t ∙ other-walk forest-moved (count s) t w o
+
+    to-top : root s t ≡ child → top s t ≡ child
+    to-top e = eqb-true _ _ (sym (q .alike t child w child-term) ∙ eq-eqb _ _ (e ∙ sym root-child)) ∙ top-child
+
+    to-root : top s t ≡ child → root s t ≡ child
+    to-root e = eqb-true _ _ (q .alike t child w child-term ∙ eq-eqb _ _ (e ∙ sym top-child)) ∙ root-child
+
+    -- a term whose roots were what this one's are
+    record Like : Type 0 where
+      at : ℕ
+      is-term : isTerm s at ≡ true
+      root-is : root s′ t ≡ root s at
+      top-is : top s′ t ≡ top s at
+
+    like : Like
+    like = go (ℕ-discrete (root s t) child)
+      where
+        go : Dec (root s t ≡ child) → Like
+        go (yes e) = record { at = parent; is-term = parent-term; root-is = root-joined e; top-is = top-joined (to-top e) }
+        go (no o) = record { at = t; is-term = w; root-is = root-other o; top-is = top-other (λ e. o (to-root e)) }
+
+  joined-alike : (t u : ℕ) → isTerm s t ≡ true → isTerm s u ≡ true → eqb (root s′ t) (root s′ u) ≡ eqb (top s′ t) (top s′ u)
+  joined-alike t u w v =
+      let x = like t w in
+      let y = like u v in
+      ap (λ (k : ℕ). eqb k (root s′ u)) (x .root-is) ∙ ap (eqb (root s (x .at))) (y .root-is) ∙ q .alike (x .at) (y .at) (x .is-term) (y .is-term)
+      ∙ sym (ap (λ (k : ℕ). eqb k (top s′ u)) (x .top-is) ∙ ap (eqb (top s (x .at))) (y .top-is))
+
+  -- a term of kind 4 or 5 is in neither class
+  not-string : (t u : ℕ) → isTerm s t ≡ true → isTerm s u ≡ true → isString s t ≡ false → isString s u ≡ true → root s t ≡ root s u → ⊥
+  not-string t u w v f g e = let z = q .alone t u w v f e in clash g (ap (isString s) (sym z) ∙ f)
+
+  joined-alone : (t u : ℕ) → isTerm s t ≡ true → isTerm s u ≡ true → isString s t ≡ false → root s′ t ≡ root s′ u → t ≡ u
+  joined-alone t u w v f e =
+      let o : root s t ≡ child → ⊥ = λ h. not-string t child w child-term f (j .child-string) (h ∙ sym root-child) in
+      go (sym (root-other t w o) ∙ e) (ℕ-discrete (root s u) child)
+    where
+      go : root s t ≡ root s′ u → Dec (root s u ≡ child) → t ≡ u
+      go g (yes h) = absurd (not-string t parent w parent-term f (j .parent-string) (g ∙ root-joined u v h))
+      go g (no h) = q .alone t u w v f (g ∙ root-other u v h)
+
+  other-edge : (t : ℕ) → (t ≡ child → ⊥) → isEdge s′ t ≡ isEdge s t
+  other-edge t d = ap (λ (x : Term). not (eqb (x .forestParent) t)) (away t d)
+
+  child-edge : isEdge s′ child ≡ true
+  child-edge = ap (λ (x : Term). not (eqb (x .forestParent) child)) at-child ∙ ap not (ne-eqb parent child (λ e. j .apart (ap (root s) (sym e))))
+
+  label-same : (t : ℕ) → (t ≡ child → ⊥) → Label s t → Label s′ t
+  label-same t d (asserted p k) = asserted (ap (λ (x : Term). x .labelKind) (away t d) ∙ p) (ap (λ (x : Term). isNumber (x .labelValue)) (away t d) ∙ k)
+  label-same t d (interface p k) = interface (ap (λ (x : Term). x .labelKind) (away t d) ∙ p) (ap (λ (x : Term). isNumber (x .labelValue)) (away t d) ∙ k)
+  label-same t d (congruence p) = congruence (ap (λ (x : Term). x .labelKind) (away t d) ∙ p)
+  label-same t d (definitional p k) = definitional (ap (λ (x : Term). x .labelKind) (away t d) ∙ p) (ap (λ (x : Term). x .labelValue) (away t d) ∙ k)
+
+  joined-label : (t : ℕ) → isTerm s t ≡ true → isEdge s′ t ≡ true → Label s′ t
+  joined-label t w e = go (ℕ-discrete t child)
+    where
+      go : Dec (t ≡ child) → Label s′ t
+      go (yes z) = subst (Label s′) (sym z) (asserted (ap (λ (x : Term). x .labelKind) at-child) (ap (λ (x : Term). isNumber (x .labelValue)) at-child ∙ j .number))
+      go (no d) = label-same t d (q .labels t w (sym (other-edge t d) ∙ e))
+
+  joined-root : (t : ℕ) → isTerm s t ≡ true → isEdge s′ t ≡ false → Unlabelled s′ t
+  joined-root t w e = go (ℕ-discrete t child)
+    where
+      go : Dec (t ≡ child) → Unlabelled s′ t
+      go (yes z) = clash child-edge (ap (isEdge s′) (sym z) ∙ e)
+      go (no d) =
+          let u = q .roots t w (sym (other-edge t d) ∙ e) in
+          record {
+            kind-is = ap (λ (x : Term). x .labelKind) (away t d) ∙ u .kind-is;
+            value-is = ap (λ (x : Term). x .labelValue) (away t d) ∙ u .value-is;
+            stamp-is = ap (λ (x : Term). x .stamp) (away t d) ∙ u .stamp-is;
+          }
+
+  joined-classed : Classed s′
+  joined-classed = record {
+    classParents = λ t w. term-same (term s′ t .classParent) ∙ step (λ x. x .classParent) refl (q .classParents) t (was-term t w);
+    forestParents = λ t w. term-same (term s′ t .forestParent) ∙ step (λ x. x .forestParent) refl (q .forestParents) t (was-term t w);
+    classEnds = λ t w. subst (λ (r : ℕ). term s′ r .classParent ≡ r) (sym (root-counted t)) (moved-ends class-moved t (was-term t w));
+    forestEnds = λ t w. subst (λ (r : ℕ). term s′ r .forestParent ≡ r) (sym (top-counted t)) (moved-ends forest-moved t (was-term t w));
+    alike = λ t u w v. joined-alike t u (was-term t w) (was-term u v);
+    alone = λ t u w v f e. joined-alone t u (was-term t w) (was-term u v) (sym (string-same t) ∙ f) e;
+    labels = λ t w e. joined-label t (was-term t w) e;
+    roots = λ t w e. joined-root t (was-term t w) e;
+  }
+
+  -- CONGRUENCES
+
+  pairs-same : (l : List (ℕ × ℕ)) (t u : ℕ) → Pairs s l t u → Pairs s′ l t u
+  pairs-same l t u p = record { one = p .one ∙ sym (parts-same t); other = p .other ∙ sym (parts-same u) }
+
+  -- both values of each pair are terms
+  pair-terms : (l : List (ℕ × ℕ)) (t u : ℕ) → kind s t ≡ 3 → kind s u ≡ 3 → Pairs s l t u → Every (λ p. (isTerm s (p .0) ≡ true) × (isTerm s (p .1) ≡ true)) l
+  pair-terms l t u e f p =
+      every-both
+      (every-map (λ x h. string-term s (x .0) h) (from-firsts l (subst (λ (m : List ℕ). Every (λ x. isString s x ≡ true) m) (sym (p .one)) (parts-strings s (audited .recorded) t e))))
+      (every-map (λ x h. string-term s (x .1) h) (from-seconds l (subst (λ (m : List ℕ). Every (λ x. isString s x ≡ true) m) (sym (p .other)) (parts-strings s (audited .recorded) u f))))
+
+  falls-same : (m : ℕ) (p : ℕ × ℕ) → (isTerm s (p .0) ≡ true) × (isTerm s (p .1) ≡ true) → Falls s m p → Falls s′ m p
+  falls-same m p w f = record {
+    tree = go (ℕ-discrete (top s (p .0)) child);
+    stamps = subst (λ (l : List ℕ). Every (λ e. term s′ e .stamp < m) l) (sym (path-moved (s .terms) (s′ .terms) child parent long forest-moved (p .0) (p .1) (w .0) (w .1) (f .tree)))
+        (every-map (λ e h. subst (λ (x : Term). x .stamp < m) (sym (away e (h .1))) (h .0))
+        (every-both (f .stamps) (path-not (s .terms) (s′ .terms) child parent long forest-moved (p .0) (p .1) (w .0) (w .1) (f .tree))));
+  }
+    where
+      go : Dec (top s (p .0) ≡ child) → top s′ (p .0) ≡ top s′ (p .1)
+      go (yes e) = top-joined (p .0) (w .0) e ∙ sym (top-joined (p .1) (w .1) (sym (f .tree) ∙ e))
+      go (no o) = top-other (p .0) (w .0) o ∙ f .tree ∙ sym (top-other (p .1) (w .1) (λ e. o (f .tree ∙ e)))
+
+  congruent-same : (t : ℕ) → (t ≡ child → ⊥) → Congruent s t → Congruent s′ t
+  congruent-same t d c = record {
+    child = kind-same t ∙ c .child;
+    parent = ap (λ (x : Term). kind s′ (x .forestParent)) (away t d) ∙ kind-same u ∙ c .parent;
+    pairs = subst (λ (x : Term). Pairs s′ (chain s (x .labelValue)) t (x .forestParent) ⊎ Pairs s′ (chain s (x .labelValue)) (x .forestParent) t) (sym (away t d))
+        (⊎-elim (λ p. inl (pairs-same l t u p)) (λ p. inr (pairs-same l u t p)) (c .pairs));
+    falls = subst (λ (x : Term). Every (Falls s′ (x .stamp)) (chain s (x .labelValue))) (sym (away t d))
+        (every-map (λ p h. falls-same (term s t .stamp) p (h .1) (h .0)) (every-both (c .falls) terms));
+  }
+    where
+      u : ℕ
+      u = term s t .forestParent
+
+      l : List (ℕ × ℕ)
+      l = chain s (term s t .labelValue)
+
+      terms : Every (λ p. (isTerm s (p .0) ≡ true) × (isTerm s (p .1) ≡ true)) l
+      terms = ⊎-elim (pair-terms l t u (c .child) (c .parent)) (pair-terms l u t (c .parent) (c .child)) (c .pairs)
+
+  joined-congruences : Congruences s′
+  joined-congruences t e k = go (ℕ-discrete t child)
+    where
+      go : Dec (t ≡ child) → Congruent s′ t
+      go (yes z) = let h : term s′ child .labelKind ≡ 1 = ap (λ (x : Term). x .labelKind) at-child in let i = ap (λ (x : ℕ). term s′ x .labelKind) (sym z) ∙ k in absurd (omega arith)
+      go (no d) = congruent-same t d (audited .congruences t (sym (other-edge t d) ∙ e) (sym (ap (λ (x : Term). x .labelKind) (away t d)) ∙ k))
+
+  joined-roomy : Roomy s′
+  joined-roomy =
+      let r = audited .roomy in
+      record { terms = subst (λ (k : ℕ). k ≤ s .room .terms) (sym long) (r .terms); cells = r .cells; chars = r .chars; reasons = r .reasons; keys = r .keys }
+
+  joined-audited : Audited s′
+  joined-audited = record { roomy = joined-roomy; recorded = joined-recorded; classed = joined-classed; congruences = joined-congruences }
+
+pub join-kept : (s : Store) (child parent n stamp : ℕ) → Audited s → canJoin child parent n s ≡ true → Audited (withTerms s (joinIn (s .terms) child parent n stamp))
+join-kept s child parent n stamp a can = joined-audited s a child parent n stamp (joinable s child parent n can)
