@@ -28,9 +28,9 @@ pub fn none() -> Counts {
         reasons: 0,
         keys: 0,
         names: 0,
-        room: 8194,
         known: 0,
-        list: 1024,
+        short: 0,
+        words: 0,
     }
 }
 
@@ -54,10 +54,9 @@ fn known(c: Counts, known: usize) -> Counts {
     d
 }
 
-pub fn reasoned(c: Counts, reasons: usize, room: usize) -> Counts {
+pub fn reasoned(c: Counts, reasons: usize) -> Counts {
     let mut d = c;
     d.reasons = reasons;
-    d.room = room;
     d
 }
 
@@ -184,7 +183,7 @@ fn add(
 
 fn reason(reasons: &mut [u32], kind: u32, value: u32, c: Counts) -> Counts {
     put_reason(reasons, c.reasons, kind, value);
-    reasoned(c, wrapping_add_usize(c.reasons, 1), c.room)
+    reasoned(c, wrapping_add_usize(c.reasons, 1))
 }
 
 // The key (a, b) m times more.
@@ -211,9 +210,11 @@ fn same(to: &mut [u32], m: u32, t: u32, c: Counts) -> Counts {
     known(c, wrapping_add_usize(c.known, m as usize))
 }
 
-fn lent(c: Counts, list: usize) -> Counts {
+// So many words of the slice `short` are lent, and the others whole.
+fn lent(c: Counts, short: u32, words: usize) -> Counts {
     let mut d = c;
-    d.list = list;
+    d.short = short;
+    d.words = words;
     d
 }
 
@@ -236,10 +237,9 @@ fn set(
         105 => named(c, a),
         107 => key(keys, a, b, word(n, 3), c),
         82 => reason(reasons, a, b, c),
-        87 => reasoned(c, c.reasons, a as usize),
+        87 => lent(c, a, b as usize),
         76 => list(known, n, last, c),
         74 => same(known, a, b, c),
-        90 => lent(c, a as usize),
         _ => c,
     }
 }

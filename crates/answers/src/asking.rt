@@ -152,7 +152,7 @@ pub fn ask(
         101 | 69 => {
             let count = ask_explain(terms, cells, chars, reasons, keys, state(c), a, word(n, 2));
             if l == 69 {
-                return reasoned(c, count, c.room);
+                return reasoned(c, count);
             }
         }
         _ => return solve(l, n, terms, cells, chars, reasons, keys, known, list, c),

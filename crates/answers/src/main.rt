@@ -20,14 +20,14 @@
 //   R k v           one reason more
 //   k n a b         n times the key (a, b) more
 //   i n             n is the name counter
-//   W n             n words are lent for reasons
+//   W s n           n words are lent of slice s, and the others whole: 1 terms, 2 cells, 3 characters, 4 reasons, 5 keys, 6 the list that is
+//                   answered
 //   M n             n terms are counted
 //   c n             n cells are counted
 //   T t i x         word i of term t becomes x
 //   D c i x         word i of cell c becomes x
 //   L t u ..        the list: the known list, or two sides
 //   J n t           n times t more in the list
-//   Z n             n words are lent for a list that is answered
 //   f t             find
 //   e a b           explain
 //   E a b           explain, and the reasons added stay
@@ -48,21 +48,23 @@
 // of terms, cells, characters and keys, the name counter, and each term made, a concatenation as t+u, a length as |t|, an equation as t=u.
 use asking::ask;
 use asking::is_ask;
+use lending::part;
+use lending::words_of;
 use reading::letter;
 use reading::line_end;
 use reading::read;
-ghost use Prim.Native.Nat.{_≤_};
 
 pub mod adding;
 pub mod asking;
 pub mod building;
+pub mod lending;
 pub mod reading;
 pub mod saying;
 pub mod solving;
 pub mod stating;
 
-// How many terms, cells, characters, reasons and keys are counted, the name counter, how many words are lent for reasons, how many atoms
-// the list has, and how many words are lent for a list that is answered.
+// How many terms, cells, characters, reasons and keys are counted, the name counter, how many atoms the list has, and which slice is not
+// lent whole, and how many of its words are.
 pub struct Counts {
     pub terms: u32,
     pub cells: u32,
@@ -70,22 +72,13 @@ pub struct Counts {
     pub reasons: usize,
     pub keys: usize,
     pub names: u32,
-    pub room: usize,
     pub known: usize,
-    pub list: usize,
+    pub short: u32,
+    pub words: usize,
 }
 
-pub fn least(a: usize, b: usize) -> usize
-    ensures { λ r. ⌜ r ≤ b ⌝ }
-{
-    if a < b {
-        return a;
-    }
-    b
-}
-
-// With as many words lent for a list that is answered as the counts say.
-fn ask_list(
+// With as many words lent of each slice as the counts say.
+fn ask_lent(
     l: u8,
     n: &[u32],
     terms: &mut [u32],
@@ -97,73 +90,23 @@ fn ask_list(
     list: &mut [u32],
     c: Counts,
 ) -> Counts {
-    let wide = least(c.list, list.len());
+    let t = part(words_of(c.short, c.words, 1), terms);
+    let e = part(words_of(c.short, c.words, 2), cells);
+    let h = part(words_of(c.short, c.words, 3), chars);
+    let r = part(words_of(c.short, c.words, 4), reasons);
+    let k = part(words_of(c.short, c.words, 5), keys);
+    let w = part(words_of(c.short, c.words, 6), list);
+    let o = part(c.known, known);
     ask(
         l,
         n,
-        terms,
-        cells,
-        chars,
-        reasons,
-        keys,
-        known,
-        &mut list[..wide],
-        c,
-    )
-}
-
-// With a list as long as the counts say.
-fn ask_known(
-    l: u8,
-    n: &[u32],
-    terms: &mut [u32],
-    cells: &mut [u32],
-    chars: &mut [u32],
-    reasons: &mut [u32],
-    keys: &mut [u32],
-    known: &[u32],
-    list: &mut [u32],
-    c: Counts,
-) -> Counts {
-    let of = least(c.known, known.len());
-    ask_list(
-        l,
-        n,
-        terms,
-        cells,
-        chars,
-        reasons,
-        keys,
-        &known[..of],
-        list,
-        c,
-    )
-}
-
-// With as many words lent for reasons as the counts say.
-fn ask_room(
-    l: u8,
-    n: &[u32],
-    terms: &mut [u32],
-    cells: &mut [u32],
-    chars: &mut [u32],
-    reasons: &mut [u32],
-    keys: &mut [u32],
-    known: &[u32],
-    list: &mut [u32],
-    c: Counts,
-) -> Counts {
-    let room = least(c.room, reasons.len());
-    ask_known(
-        l,
-        n,
-        terms,
-        cells,
-        chars,
-        &mut reasons[..room],
-        keys,
-        known,
-        list,
+        &mut terms[..t],
+        &mut cells[..e],
+        &mut chars[..h],
+        &mut reasons[..r],
+        &mut keys[..k],
+        &known[..o],
+        &mut list[..w],
         c,
     )
 }
@@ -189,7 +132,7 @@ fn step(
     if is_ask(l) {
         io::write_all(1, line);
         let mut list: [u32; 1024] = [0; 1024];
-        let d = ask_room(
+        let d = ask_lent(
             l,
             &n,
             terms,

@@ -5,7 +5,7 @@ ghost use lib.IntN.{pos};
 ghost use Rattle.commands.specs.Texts.{negated};
 use crate::Counts;
 use crate::asking::state;
-use crate::least;
+use crate::lending::least;
 use crate::saying::say;
 use crate::saying::say_list;
 use crate::saying::say_reasons;

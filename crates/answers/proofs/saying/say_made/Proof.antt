@@ -1,5 +1,4 @@
 use Prim.Native.Nat.{_-_}
-use native.Mathlib.Omega.{arith}
 use borrow.Author.Needs.{needs}
 use Rattle.answers.proofs.saying.say_made.Statement.{statement}
 use Rattle.answers.proofs.saying.say_made.Tie as tie

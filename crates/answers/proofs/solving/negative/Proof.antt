@@ -1,11 +1,7 @@
 use Rattle.commands.proofs.Guards.{negative-zero, negative-fits, negative-is}
-use native.Mathlib.Omega.{arith}
 use borrow.Author.Needs.{needs}
 use Rattle.answers.proofs.solving.negative.Statement.{statement}
 use Rattle.answers.proofs.solving.negative.Tie as tie
-use Rattle.answers.proofs.solving.negative.Reads as reads
-use Rattle.answers.proofs.solving.negative.Lts as lts
-use Rattle.answers.proofs.solving.positive.Reads as positive-reads
 
 pub negative-spec : {M : Type 1} → statement M
 negative-spec = tie.close (tie.spec (λ c. negative-zero (c .before .args .x) (c .if1 .taken)) (λ c. search needs) (λ c κs. search needs) (λ c. negative-fits (c .before .before .args .x) _ (c .before .if1 .left) (c .before .before .pre) (c .positive .ensures)) (λ c. negative-is (c .before .before .args .x) _ (c .before .if1 .left) (c .before .before .pre) (c .positive .ensures)))

@@ -1,5 +1,4 @@
 use Prim.Native.Nat.{_-_}
-use native.Mathlib.Omega.{arith}
 use borrow.Author.Needs.{needs}
 use Rattle.answers.proofs.stating.say_terms.Statement.{statement}
 use Rattle.answers.proofs.stating.say_terms.Tie as tie
