@@ -52,7 +52,7 @@ struct Options {
 
 fn usage() -> ! {
     eprintln!(
-        "differential compare|damaged|claims|faults|speed|worst|stack [--seed S] [--count N] [--from ROUND] [--threads T] [--kinds A,B] [--of port|model|rust]"
+        "differential compare|damaged|claims|faults|speed|count|worst|stack [--seed S] [--count N] [--from ROUND] [--threads T] [--kinds A,B] [--of port|model|rust]"
     );
     exit(2);
 }
@@ -397,6 +397,8 @@ fn main() {
         "worst" => return speed::worst(),
         #[cfg(feature = "port")]
         "stack" => return differential::stack::table(),
+        #[cfg(feature = "port")]
+        "count" => return differential::count::table(o.seed, &o.kinds, "target/count"),
         _ => usage(),
     };
     if tally.differences > 0 {
