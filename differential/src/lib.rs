@@ -4,6 +4,8 @@ pub mod audit;
 pub mod call;
 pub mod claim;
 pub mod compare;
+#[cfg(feature = "port")]
+pub mod count;
 pub mod damage;
 pub mod draft;
 pub mod generate;

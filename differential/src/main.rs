@@ -53,7 +53,7 @@ struct Options {
 
 fn usage() -> ! {
     eprintln!(
-        "differential compare|damaged|claims|faults|vectors|speed|worst|stack [--seed S] [--count N] [--from ROUND] [--threads T] [--kinds A,B] [--of port|model|rust] [--out FOLDER]"
+        "differential compare|damaged|claims|faults|vectors|speed|count|worst|stack [--seed S] [--count N] [--from ROUND] [--threads T] [--kinds A,B] [--of port|model|rust] [--out FOLDER]"
     );
     exit(2);
 }
@@ -422,6 +422,8 @@ fn main() {
         "worst" => return speed::worst(),
         #[cfg(feature = "port")]
         "stack" => return differential::stack::table(),
+        #[cfg(feature = "port")]
+        "count" => return differential::count::table(o.seed, &o.kinds, "target/count"),
         _ => usage(),
     };
     if tally.differences > 0 {

@@ -8,30 +8,32 @@ use crate::{
     oracle::{refused_at_entry, World},
     random::Random,
 };
-use std::time::{Duration, Instant};
+use std::time::Instant;
 
-const SIZES: [usize; 4] = [8, 64, 256, 512];
-const KINDS: [(usize, &str); 5] = [(7, "explain"), (8, "normal_form"), (9, "deep_normal_form"), (10, "resolve_equation"), (11, "step")];
-const FOR: Duration = Duration::from_millis(150);
+pub(crate) const SIZES: [usize; 4] = [8, 64, 256, 512];
+pub(crate) const KINDS: [(usize, &str); 5] =
+    [(7, "explain"), (8, "normal_form"), (9, "deep_normal_form"), (10, "resolve_equation"), (11, "step")];
+const REPEATS: usize = 40;
 
-// calls a second of a round of calls, repeated
-fn rate(calls: usize, mut round: impl FnMut()) -> f64 {
-    round();
-    let start = Instant::now();
-    let mut rounds = 0;
-    while start.elapsed() < FOR {
-        round();
-        rounds += 1;
+// the seconds that each of three takes at the least, of many times in turn: what else the machine does only adds to a time
+fn least(mut works: [&mut dyn FnMut(); 3]) -> [f64; 3] {
+    let mut best = [f64::INFINITY; 3];
+    for _ in 0..REPEATS {
+        for (work, best) in works.iter_mut().zip(&mut best) {
+            let start = Instant::now();
+            work();
+            *best = start.elapsed().as_secs_f64().min(*best);
+        }
     }
-    (rounds * calls) as f64 / start.elapsed().as_secs_f64()
+    best
 }
 
-struct Sample {
-    store: Lent,
-    calls: Vec<Call>,
+pub(crate) struct Sample {
+    pub store: Lent,
+    pub calls: Vec<Call>,
 }
 
-fn samples(random: &mut Random, terms: usize, kind: usize) -> Vec<Sample> {
+pub(crate) fn samples(random: &mut Random, terms: usize, kind: usize) -> Vec<Sample> {
     (0..20)
         .map(|_| {
             let p = Profile { terms, merges: 8, letters: 3, longest: 5 };
@@ -59,24 +61,16 @@ fn fit(mut d: crate::draft::Draft) -> crate::draft::Draft {
 }
 
 pub fn table(seed: u64) {
-    println!("terms  call               Rust calls/s  port calls/s  port without its audit  port/Rust  without audit/Rust");
+    println!("terms  call               Rust calls/s  port calls/s    audits/s  port/Rust  without audit/Rust");
     for terms in SIZES {
         let mut random = Random::new(seed);
-        audit_alone(&samples(&mut random, terms, 0), terms);
         for (kind, name) in KINDS {
             let samples = samples(&mut random, terms, kind);
             let calls: usize = samples.iter().map(|s| s.calls.len()).sum();
-            let mut worlds: Vec<World> = samples.iter().map(|s| World::load(&s.store)).collect();
-            let rust = rate(calls, || {
-                for (w, s) in worlds.iter_mut().zip(&samples) {
-                    for c in &s.calls {
-                        w.timed(&s.store, c);
-                    }
-                }
-            });
-            print!("{terms:5}  {name:17} {rust:13.0}");
-            port(&samples, calls, rust);
-            println!();
+            let [rust, port, audit] = samples.iter().map(|s| times(s)).fold([0.0; 3], |a, b| [a[0] + b[0], a[1] + b[1], a[2] + b[2]]);
+            let rate = |seconds: f64| calls as f64 / seconds;
+            print!("{terms:5}  {name:17} {:13.0}", rate(rust));
+            println!(" {:13.0} {:11.0} {:10.2} {:19.2}", rate(port), rate(audit), rust / port, rust / (port - audit).max(1e-9));
         }
     }
 }
@@ -117,54 +111,31 @@ fn worst_port(_: &Lent, _: &crate::call::Request, _: &crate::call::Outcome) {
     print!("                    ");
 }
 
+// seconds that the calls on one store take: the Rust, the port, and the port's audit as often, which the Rust does not have
 #[cfg(feature = "port")]
-fn port(samples: &[Sample], calls: usize, rust: f64) {
-    use crate::{
-        call::Request,
-        port::{self, call, Lending},
-    };
-    let (mut list, mut answer) = ([0; 1024], [0; 8]);
-    let mut stores: Vec<Lent> = samples.iter().map(|s| s.store.clone()).collect();
-    let lacks = |s: &Sample| s.calls.iter().any(|c| port::run(&s.store, &Request::new(c.clone())).is_none());
-    if samples.iter().any(lacks) {
-        print!("  (the port lacks it)");
-        return;
-    }
-    let mut run = |audit: bool| {
-        rate(calls, || {
-            for (store, s) in stores.iter_mut().zip(samples) {
-                for c in &s.calls {
-                    call(&mut Lending { store, list: &mut list, answer: &mut answer }, if audit { &Call::Audit } else { c });
-                    store.state.copy_from_slice(&s.store.state);
-                }
-            }
-        })
-    };
-    // in turn, the best of each: their difference is small beside what else the machine does
-    let (mut whole, mut audit) = (0.0, 0.0);
-    for _ in 0..5 {
-        whole = run(false).max(whole);
-        audit = run(true).max(audit);
-    }
-    let work = 1.0 / (1.0 / whole - 1.0 / audit).max(1e-9);
-    print!(" {whole:13.0} {work:23.0} {:10.2} {:19.2}", whole / rust, work / rust);
-}
-
-#[cfg(not(feature = "port"))]
-fn port(_: &[Sample], _: usize, _: f64) {}
-
-// the audit, which the unchanged Rust does not have
-#[cfg(feature = "port")]
-fn audit_alone(samples: &[Sample], terms: usize) {
+fn times(s: &Sample) -> [f64; 3] {
     use crate::port::{call, Lending};
-    let mut stores: Vec<Lent> = samples.iter().map(|s| s.store.clone()).collect();
-    let audits = rate(stores.len(), || {
-        for store in &mut stores {
-            call(&mut Lending { store, list: &mut [], answer: &mut [] }, &Call::Audit);
+    let (mut world, mut list, mut answer) = (World::load(&s.store), [0; 1024], [0; 8]);
+    let mut stores = [s.store.clone(), s.store.clone()];
+    let [store, audited] = &mut stores;
+    let mut rust = || s.calls.iter().for_each(|c| world.timed(&s.store, c));
+    let mut port = || {
+        for c in &s.calls {
+            call(&mut Lending { store, list: &mut list, answer: &mut answer }, c);
+            store.state.copy_from_slice(&s.store.state);
         }
-    });
-    println!("{terms:5}  audit                          {audits:13.0}");
+    };
+    let mut audit = || {
+        for _ in &s.calls {
+            call(&mut Lending { store: audited, list: &mut [], answer: &mut [] }, &Call::Audit);
+        }
+    };
+    least([&mut rust, &mut port, &mut audit])
 }
 
 #[cfg(not(feature = "port"))]
-fn audit_alone(_: &[Sample], _: usize) {}
+fn times(s: &Sample) -> [f64; 3] {
+    let mut world = World::load(&s.store);
+    let mut rust = || s.calls.iter().for_each(|c| world.timed(&s.store, c));
+    least([&mut rust, &mut || (), &mut || ()])
+}
