@@ -1,17 +1,17 @@
 -- Joining two classes keeps a store audited.
 use mathlib.Core.Path.{_≡_, refl, sym, ap, subst, _∙_}
-use mathlib.Core.Bool.{Bool, true, false, not, _&&_}
+use mathlib.Core.Bool.{true, false, not, _&&_}
 use mathlib.Core.List.{List, [], _∷_}
 use mathlib.Core.Logic.{_⊎_, inl, inr, ⊎-elim}
-use Prim.Native.Nat.{ℕ, zero, suc, _+_, _-_, _≤_, _<_}
+use Prim.Native.Nat.{ℕ, zero, suc, _-_, _≤_, _<_}
 use native.Mathlib.Decide.{ℕ-discrete}
 use native.Mathlib.Omega.{arith}
 use lib.ListN.{length, set, getD, length-set}
 use lib.Seq.{getD-set-same, getD-set-other}
 use lib.Dec.{eqb}
 use borrow.Author.Tests.{eqb-true, eq-eqb, ne-eqb}
-use Rattle.records.specs.Lists.{all, firsts, seconds, Every, none-left, and}
-use Rattle.records.specs.Store.{Term, Store, termIn, noTerm, term, count, kind, within, isTerm, isString, textIn, text, chain, parts, climb, classUp, forestUp, root, top, sameClass, isEdge, path}
+use Rattle.records.specs.Lists.{firsts, seconds, Every, none-left, and}
+use Rattle.records.specs.Store.{Term, Store, termIn, noTerm, term, count, kind, within, isTerm, isString, textIn, text, chain, parts, climb, classUp, forestUp, root, top, sameClass, isEdge}
 use Rattle.records.specs.Rules.{isNumber, keyRule, isEquatable}
 use Rattle.records.specs.Make.{withTerms}
 use Rattle.records.specs.Audited.{Part, Label, asserted, interface, congruence, definitional, Unlabelled, Falls, Pairs, Congruent, Recorded, Classed, Congruences, Roomy, Audited}

@@ -2,7 +2,6 @@
 use mathlib.Core.Path.{_≡_, refl, sym, ap, subst, _∙_}
 use mathlib.Core.Bool.{Bool, true, false, not, _&&_}
 use mathlib.Core.List.{List}
-use mathlib.Core.Logic.{⊎-elim}
 use Prim.Native.Nat.{ℕ, zero, suc, _+_, _-_, _*_, _<_, _≤_}
 use native.Mathlib.Decide.{ℕ-discrete}
 use native.Mathlib.Omega.{arith}
@@ -16,7 +15,7 @@ use Rattle.records.specs.View.{Lent, lent, storeOf, termAt, termsView}
 use Rattle.records.specs.Rules.{audit, isNumber}
 use Rattle.records.specs.Make.{withTerms}
 use Rattle.records.specs.Audited.{Ready, Closed, Audited}
-use Rattle.records.specs.Calls.{call, unless, checked}
+use Rattle.records.specs.Calls.{call}
 use Rattle.records.proofs.Lists.{failed, passed, and-stop, and-next, five-1, five-2, five-3, five-4, five-last, both-left, table-length, table-at, within-low, within-high}
 use Rattle.records.proofs.Views.{term-is}
 use Rattle.records.proofs.Passed.{ready-of, ready-after, audit-of}

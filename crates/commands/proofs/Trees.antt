@@ -11,7 +11,7 @@ use lib.ListN.{length}
 use lib.Dec.{eqb}
 use borrow.Author.Tests.{eqb-true, eqb-false, eq-eqb, ne-eqb}
 use Rattle.records.specs.Lists.{any, firstOf, isIn, upTo, Every, none-left, and}
-use Rattle.records.specs.Store.{Term, within, climb, forestUp, topIn, aboveBy, aboveIn, orNone, nearestIn, pathIn}
+use Rattle.records.specs.Store.{Term, within, forestUp, topIn, aboveBy, aboveIn, orNone, nearestIn, pathIn}
 use Rattle.records.proofs.Lists.{clash, either, or-left, or-right, any-append, right-falsum, every-map, every-append}
 use Rattle.records.proofs.Climbs.{climb-stays, above-step}
 use Rattle.records.proofs.Paths.{first-same, first-has, first-any, in-any, top-above, above-top}
