@@ -17,15 +17,14 @@ use mir.Val.{toZ, ofZ, SFits}
 use mir.ValLaws.{toZ-ofZ}
 use Rattle.records.specs.declared.State.{State}
 use Rattle.records.specs.Lists.{all}
-use Rattle.records.specs.Store.{Store, Out, ok, stop, isString}
+use Rattle.records.specs.Store.{Store, ok, isString}
 use Rattle.records.specs.View.{Lent, storeOf}
 use Rattle.records.specs.Rules.{listLimit, isList}
-use Rattle.records.specs.Audited.{Audited}
 use Rattle.records.proofs.Lists.{both-left, both-right}
 use Rattle.normalize.specs.Calls.{listCall, PublicList}
 use Rattle.wordeq.specs.declared.StepResult.{StepResult}
 use Rattle.wordeq.specs.declared.StepResult.the-variants as step
-use Rattle.wordeq.specs.Wordeq.{Answer, done, saturated, conflict, propagate, split, resolve, resolveArguments, isGuard}
+use Rattle.wordeq.specs.Wordeq.{done, saturated, conflict, propagate, split, resolve, resolveArguments, isGuard}
 use Rattle.wordeq.specs.Meaning.{Sound}
 use Rattle.wordeq.specs.Results.{resolved}
 use Rattle.wordeq.specs.Calls.{PublicResolve}

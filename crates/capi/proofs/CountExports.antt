@@ -10,7 +10,7 @@ use borrow.Author.Tests.{le-leb}
 use Rattle.records.specs.declared.State.{State}
 use Rattle.records.specs.declared.Added.{Added}
 use Rattle.records.specs.declared.Added.the-variants as adding
-use Rattle.records.specs.Store.{Store, Out, ok, stop, Work}
+use Rattle.records.specs.Store.{Store, ok, stop, Work}
 use Rattle.records.specs.View.{Lent, storeOf}
 use Rattle.records.specs.Calls.{call, Public, added}
 use Rattle.capi.specs.Interface.{stateOf, over, Exported}

@@ -1,6 +1,6 @@
 -- find and explain, told in words.
 use mathlib.Core.Path.{_≡_, refl, sym, ap, subst, _∙_}
-use mathlib.Core.Bool.{Bool, true, false, _&&_}
+use mathlib.Core.Bool.{true, _&&_}
 use mathlib.Core.List.{List, []}
 use Prim.Native.Nat.{ℕ, zero, suc, _≤_, _<_}
 use native.Mathlib.Omega.{arith}
@@ -10,7 +10,7 @@ use Rattle.records.specs.declared.State.{State}
 use Rattle.records.specs.declared.Added.{Added}
 use Rattle.records.specs.declared.Added.the-variants as adding
 use Rattle.records.specs.Lists.{Every}
-use Rattle.records.specs.Store.{Store, Out, ok, stop, Work, isString, sameClass}
+use Rattle.records.specs.Store.{Store, ok, isString, sameClass}
 use Rattle.records.specs.View.{Lent, storeOf}
 use Rattle.records.specs.Audited.{Audited}
 use Rattle.records.specs.Calls.{call, Public, added}
@@ -21,7 +21,7 @@ use Rattle.engine.specs.Explain.{find, findArguments, explain, explainArguments
 use Rattle.engine.specs.Meaning.{Explains, addedTo, Labels}
 use Rattle.engine.specs.Calls.{found, PublicExplain}
 use Rattle.engine.proofs.Sound.{explain-kept, explain-stops}
-use Rattle.capi.specs.Interface.{stateOf, Beyond, roomy, over, told, Exported, ExportedExplain}
+use Rattle.capi.specs.Interface.{stateOf, roomy, over, Exported, ExportedExplain}
 use Rattle.capi.specs.Leaves.{Narrow, ToldCounts}
 use Rattle.capi.proofs.Words.{beyond-same, beyond-first, first-read, roomy-answer}
 use Rattle.capi.proofs.Exports.{Tells, call-stops, told-public, untold}

@@ -1,16 +1,16 @@
 -- nf_equal and nf_equal_explain, told in words.
 use mathlib.Core.Path.{_≡_, refl, sym, ap, subst, _∙_}
-use mathlib.Core.Bool.{Bool, true, false, _&&_}
+use mathlib.Core.Bool.{Bool, true, false}
 use mathlib.Core.List.{List, [], _∷_}
 use Prim.Native.Nat.{ℕ, zero, suc, _≤_, _<_}
 use native.Mathlib.Omega.{arith}
 use lib.ListN.{length, set, take}
-use lib.Dec.{eqb, leb}
+use lib.Dec.{eqb}
 use borrow.Author.Tests.{lt-leb}
 use Rattle.records.specs.declared.State.{State}
 use Rattle.records.specs.declared.Added.{Added}
 use Rattle.records.specs.declared.Added.the-variants as adding
-use Rattle.records.specs.Store.{Store, Out, ok, stop}
+use Rattle.records.specs.Store.{ok}
 use Rattle.records.specs.View.{Lent, storeOf}
 use Rattle.records.specs.Audited.{Audited}
 use Rattle.records.specs.Calls.{call, Public, added}
@@ -20,8 +20,8 @@ use Rattle.wordeq.specs.Wordeq.{nfExplain, nfArguments}
 use Rattle.wordeq.specs.Meaning.{ExplainsEqual}
 use Rattle.wordeq.specs.Calls.{equalArguments, equalLists, compared, PublicEqualExplain}
 use Rattle.wordeq.proofs.Equal.{explain-equal-kept, explain-equal-stops}
-use Rattle.capi.specs.Interface.{stateOf, roomy, over}
-use Rattle.capi.specs.Equations.{flag, flagWords, flagRead, ExportedEqual, ExportedEqualExplain}
+use Rattle.capi.specs.Interface.{stateOf, roomy}
+use Rattle.capi.specs.Equations.{flag, flagRead, ExportedEqual, ExportedEqualExplain}
 use Rattle.capi.specs.Leaves.{Narrow, ToldCounts}
 use Rattle.capi.proofs.Words.{beyond-same, beyond-first, first-read, roomy-answer}
 use Rattle.capi.proofs.Exports.{Tells, call-stops, told-public, untold}

@@ -1,11 +1,10 @@
 -- An exported call: the public call's outcome, told in words.
 use mathlib.Core.Path.{_≡_, refl, sym, ap, subst, _∙_}
-use mathlib.Core.Bool.{Bool, true, false, not}
+use mathlib.Core.Bool.{Bool, true, false}
 use mathlib.Core.List.{List}
-use Prim.Native.Nat.{ℕ, zero, suc, _≤_}
+use Prim.Native.Nat.{ℕ, zero, suc}
 use native.Mathlib.Omega.{arith}
-use lib.ListN.{length, getD, set}
-use borrow.Author.Tests.{not-true, not-false}
+use lib.ListN.{getD}
 use Rattle.records.specs.declared.State.{State}
 use Rattle.records.specs.declared.Made.{Made}
 use Rattle.records.specs.declared.Made.the-variants.{Term, Refused}
@@ -17,8 +16,8 @@ use Rattle.records.specs.Calls.{call, checked, unless, Public, made}
 use Rattle.records.proofs.Lists.{table-length}
 use Rattle.records.proofs.Works.{stop-not}
 use Rattle.records.proofs.Passed.{ready-of}
-use Rattle.capi.specs.Interface.{stateOf, Beyond, roomy, over, told, Exported}
-use Rattle.capi.specs.Leaves.{written, Narrow, codeOf, stateAfter, answerAfter, Told}
+use Rattle.capi.specs.Interface.{stateOf, roomy, over, Exported}
+use Rattle.capi.specs.Leaves.{Narrow, codeOf, stateAfter, answerAfter, Told}
 use Rattle.capi.proofs.Words.{beyond-same, beyond-written, beyond-first, first-read, roomy-state, roomy-answer}
 
 -- the counts of an audited store are within their limits

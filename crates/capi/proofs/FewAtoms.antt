@@ -10,7 +10,7 @@ use lib.IntN.{ℤ, negℤ}
 use lib.Dec.{ltb}
 use Rattle.records.specs.Lists.{if_then_else_, all, any, firstOf}
 use Rattle.records.specs.Store.{Store, Out, ok, stop, Work, andThen, isConstant, isVariable, isConcat, text, term}
-use Rattle.records.specs.Make.{addKey, isKey, makeConstant, makeVariable, makeConcat, makeLength, makeEquation, takeName}
+use Rattle.records.specs.Make.{addKey, isKey, makeConstant, makeConcat, makeLength, makeEquation}
 use Rattle.records.proofs.Works.{stop-not}
 use Rattle.engine.specs.Explain.{explain}
 use Rattle.normalize.specs.Normalize.{flatten, deepForm}

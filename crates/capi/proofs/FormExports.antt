@@ -7,7 +7,7 @@ use Prim.Native.Nat.{ℕ, _≤_, _<_}
 use native.Mathlib.Omega.{arith}
 use lib.ListN.{length, getD}
 use Rattle.records.specs.declared.State.{State}
-use Rattle.records.specs.Store.{Store, Out, ok, stop}
+use Rattle.records.specs.Store.{Store, ok}
 use Rattle.records.specs.View.{Lent, storeOf}
 use Rattle.records.specs.Rules.{listLimit}
 use Rattle.records.specs.Audited.{Audited}

@@ -2,8 +2,7 @@
 use mathlib.Core.Path.{_≡_, refl, sym, ap, subst, _∙_}
 use mathlib.Core.Bool.{Bool, true, false}
 use mathlib.Core.List.{List, [], _∷_, _++_}
-use mathlib.Core.Option.{Option, none, some}
-use Prim.Native.Nat.{ℕ, zero, suc, _≤_, _<_}
+use Prim.Native.Nat.{ℕ, zero, suc, _≤_}
 use native.Mathlib.Omega.{arith}
 use lib.ListN.{length, take, drop, set, length-append, length-drop}
 use lib.Dec.{leb}
@@ -14,10 +13,10 @@ use Rattle.records.specs.Store.{Store, Out, ok, stop, Work}
 use Rattle.records.specs.View.{Lent, storeOf}
 use Rattle.records.specs.Rules.{listLimit}
 use Rattle.records.specs.Audited.{Audited}
-use Rattle.records.specs.Calls.{Public, call}
+use Rattle.records.specs.Calls.{call}
 use Rattle.records.proofs.Works.{stop-not}
 use Rattle.normalize.specs.Calls.{listCall, PublicList}
-use Rattle.capi.specs.Interface.{stateOf, Beyond, roomy, over, told, Exported, Answered, AnsweredList}
+use Rattle.capi.specs.Interface.{stateOf, Beyond, roomy, over, AnsweredList}
 use Rattle.capi.specs.Leaves.{written, Narrow, Telling, tells, refuses, numberOf, stateWith, answerWith, ToldWords, ToldBy}
 use Rattle.capi.proofs.Words.{beyond-same, beyond-written, roomy-state, roomy-answer}
 use Rattle.capi.proofs.Exports.{Tells, narrow, call-gives, call-stops, told-public, untold}

@@ -2,7 +2,7 @@
 use mathlib.Core.Path.{_≡_, refl, sym, ap, subst, _∙_}
 use mathlib.Core.Bool.{Bool, true, false, _&&_}
 use mathlib.Core.List.{List, [], _∷_}
-use Prim.Native.Nat.{ℕ, _≤_}
+use Prim.Native.Nat.{ℕ}
 use native.Mathlib.Omega.{arith}
 use lib.ListN.{length, take}
 use lib.Seq.{length-take-le}
@@ -11,7 +11,7 @@ use mir.Syntax.{w32}
 use mir.Val.{toZ, ofZ, SFits}
 use mir.ValLaws.{toZ-ofZ}
 use Rattle.records.specs.declared.State.{State}
-use Rattle.records.specs.Store.{Store, ok, stop, term, isEquation, isString}
+use Rattle.records.specs.Store.{ok, term, isEquation, isString}
 use Rattle.records.specs.View.{Lent, storeOf}
 use Rattle.records.specs.Rules.{isList}
 use Rattle.records.proofs.Lists.{both-right}
@@ -19,7 +19,7 @@ use Rattle.normalize.specs.Calls.{listCall, PublicList}
 use Rattle.wordeq.specs.Wordeq.{done, saturated, conflict, propagate, split, isGuard}
 use Rattle.equation.specs.declared.Outcome.{Outcome}
 use Rattle.equation.specs.declared.Outcome.the-variants as outcome
-use Rattle.equation.specs.Equation.{Stepped, unexpanded, answered, step, stepArguments, StepSound}
+use Rattle.equation.specs.Equation.{unexpanded, answered, step, stepArguments, StepSound}
 use Rattle.equation.specs.Calls.{stepped, PublicStep}
 use Rattle.equation.proofs.Sound.{step-kept, step-stops}
 use Rattle.capi.specs.Interface.{stateOf, roomy}

@@ -1,6 +1,5 @@
 -- The works behind the exported calls: each keeps a store audited and stops with a number.
-use mathlib.Core.Path.{_≡_}
-use mathlib.Core.Bool.{true, _&&_}
+use mathlib.Core.Bool.{_&&_}
 use mathlib.Core.List.{List}
 use Prim.Native.Nat.{ℕ}
 use native.Mathlib.Omega.{arith}
@@ -8,7 +7,7 @@ use lib.ListN.{length}
 use lib.Dec.{leb}
 use borrow.Author.Tests.{leb-true}
 use Rattle.records.specs.Lists.{all}
-use Rattle.records.specs.Store.{Store, isString}
+use Rattle.records.specs.Store.{isString}
 use Rattle.records.specs.Rules.{isChar, listLimit, isList, isEquatable}
 use Rattle.records.specs.Make.{makeConstant, makeVariable, makeConcat, makeLength, makeEquation}
 use Rattle.records.proofs.Lists.{both-left, both-right}

@@ -1,6 +1,6 @@
 -- The state's six words read and written, and the answer's.
 use mathlib.Core.Path.{_≡_, refl, sym, ap, _∙_}
-use mathlib.Core.Bool.{Bool, true, false, _&&_}
+use mathlib.Core.Bool.{true, false}
 use mathlib.Core.List.{List, [], _∷_}
 use Prim.Native.Nat.{ℕ, _≤_, _<_}
 use native.Mathlib.Omega.{arith}
@@ -16,7 +16,7 @@ use Rattle.records.proofs.Lists.{both-left, both-right, left-false, and-next}
 use Rattle.records.specs.declared.Added.{Added}
 use Rattle.records.specs.declared.Added.the-variants as adding
 use Rattle.capi.specs.Interface.{stateOf, Beyond, roomy, audited}
-use Rattle.capi.specs.Leaves.{written, codeOf, stateAfter, answerAfter, Told, addedCode, addedState, ToldCounts}
+use Rattle.capi.specs.Leaves.{written, Told, ToldCounts}
 
 -- six words one after the other
 pub sets-written : (c : State) (w : List ℕ) → 6 ≤ length w

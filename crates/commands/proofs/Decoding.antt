@@ -1,26 +1,25 @@
 -- UTF-8: a byte's tests, a character by its first byte, and the loop over characters.
 use mathlib.Core.Path.{_≡_, refl, sym, ap, _∙_}
 use mathlib.Core.Bool.{Bool, true, false, not, _&&_}
-use mathlib.Core.List.{List, [], _∷_, _++_}
+use mathlib.Core.List.{List, [], _∷_}
 use mathlib.Core.Option.{Option, none, some}
 use Prim.Native.Nat.{ℕ, zero, suc, _+_, _-_, _<_, _≤_}
-use native.Mathlib.Numerals.{add-one}
 use native.Mathlib.Nat.{add-zero, sub-zero}
 use native.Mathlib.Omega.{arith}
-use lib.ListN.{length, take, drop, getD, set}
+use lib.ListN.{length, drop, getD, set}
 use lib.Seq.{drop-cons, drop-drop, getD-drop}
 use lib.ListN.{drop-of-length-le}
 use lib.Dec.{ltb, leb}
 use borrow.Author.Tests.{ltb-true, ltb-false, lt-ltb, le-ltb, le-leb, lt-leb, not-true, not-false}
 use Rattle.records.specs.Rules.{isChar}
-use Rattle.records.proofs.Lists.{decide, and-stop, and-next, three-1, three-2, three-3, left-false, right-false, both-true}
+use Rattle.records.proofs.Lists.{decide, and-stop, and-next, three-1, left-false, right-false, both-true}
 use Rattle.commands.specs.declared.Char.{Char}
 use Rattle.commands.specs.declared.Char.the-variants as char
 use Rattle.commands.specs.declared.Listing.the-variants as listing
 use Rattle.commands.specs.Texts.{onto}
 use Rattle.commands.specs.Utf8.{isNext, sixMore, shaped, charBy, charOf, decodeBy, decode}
 use Rattle.commands.specs.Readings.{charIs, Listed}
-use Rattle.commands.proofs.Listings.{before, Filled, filled-none, filled-one, filled-all, filled-bad}
+use Rattle.commands.proofs.Listings.{Filled, filled-none, filled-one, filled-all, filled-bad}
 
 -- A BYTE THAT GOES ON
 

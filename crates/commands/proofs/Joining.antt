@@ -1,6 +1,6 @@
 -- Joining two classes: the tests, the words written, and the three ways of the call.
 use mathlib.Core.Path.{_≡_, refl, sym, ap, subst, _∙_}
-use mathlib.Core.Bool.{Bool, true, false, not, _&&_}
+use mathlib.Core.Bool.{Bool, true, false, not}
 use mathlib.Core.List.{List}
 use Prim.Native.Nat.{ℕ, zero, suc, _+_, _-_, _*_, _<_, _≤_}
 use native.Mathlib.Decide.{ℕ-discrete}
@@ -10,7 +10,7 @@ use lib.Seq.{ext-getD, getD-set-same, getD-set-other}
 use lib.Dec.{eqb}
 use borrow.Author.Tests.{eq-eqb, ne-eqb, not-true, not-false}
 use Rattle.records.specs.declared.State.{State}
-use Rattle.records.specs.Store.{Term, Store, Out, ok, stop, termIn, noTerm, within, isString, sameClass, rootIn, classUp}
+use Rattle.records.specs.Store.{Term, ok, stop, termIn, noTerm, within, isString, sameClass, rootIn, classUp}
 use Rattle.records.specs.View.{Lent, lent, storeOf, termAt, termsView}
 use Rattle.records.specs.Rules.{audit, isNumber}
 use Rattle.records.specs.Make.{withTerms}

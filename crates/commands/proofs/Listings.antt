@@ -2,16 +2,15 @@
 use mathlib.Core.Path.{_≡_, refl, sym, ap, _∙_}
 use mathlib.Core.List.{List, [], _∷_, _++_, append-assoc, append-nil}
 use mathlib.Core.Option.{Option, none, some}
-use Prim.Native.Nat.{ℕ, suc, _+_, _-_, _<_, _≤_}
+use Prim.Native.Nat.{ℕ, _+_, _-_, _<_, _≤_}
 use native.Mathlib.Numerals.{add-one}
 use native.Mathlib.Omega.{arith}
 use lib.ListN.{length, take, set}
 use lib.ListN.{drop, length-drop}
 use lib.Seq.{take-suc-set, take-all}
-use Rattle.commands.specs.declared.Listing.{Listing}
 use Rattle.commands.specs.declared.Listing.the-variants as listing
 use Rattle.commands.specs.Texts.{onto}
-use Rattle.commands.specs.Readings.{listingIs, Listed}
+use Rattle.commands.specs.Readings.{Listed}
 
 abbrev pub before : List ℕ → Option (List ℕ) → Option (List ℕ)
 before w none = none

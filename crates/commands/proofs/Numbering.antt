@@ -1,25 +1,24 @@
 -- Decimal numbers and fields: the loop over digits, the loop over bytes up to a space, the loop over fields.
 use mathlib.Core.Path.{_≡_, refl, sym, ap, _∙_}
-use mathlib.Core.Bool.{Bool, true, false, not, _&&_}
-use mathlib.Core.List.{List, [], _∷_, _++_}
+use mathlib.Core.Bool.{Bool, true, false, _&&_}
+use mathlib.Core.List.{List, [], _∷_}
 use mathlib.Core.Option.{Option, none, some}
-use Prim.Native.Nat.{ℕ, zero, suc, _+_, _-_, _*_, _<_, _≤_}
+use Prim.Native.Nat.{ℕ, suc, _+_, _-_, _*_, _<_, _≤_}
 use native.Mathlib.Numerals.{add-one}
-use native.Mathlib.Nat.{add-zero, sub-zero}
 use native.Mathlib.Omega.{arith}
 use lib.ListN.{length, take, drop, getD, set, drop-of-length-le, length-drop}
-use lib.Seq.{drop-cons, drop-drop, getD-drop}
+use lib.Seq.{drop-cons, drop-drop}
 use lib.Dec.{eqb, ltb, leb}
 use borrow.Author.Tests.{ltb-true, ltb-false, lt-ltb, le-ltb, le-leb, lt-leb, eq-eqb, ne-eqb, eqb-true, eqb-false}
 use Rattle.records.specs.Lists.{if_then_else_, all, upTo}
-use Rattle.records.proofs.Lists.{decide, clash, left-false, right-false, both-true, both-left, both-right}
+use Rattle.records.proofs.Lists.{decide, left-false, right-false, both-true, both-left, both-right}
 use Rattle.commands.specs.declared.Number.{Number}
 use Rattle.commands.specs.declared.Number.the-variants as number
 use Rattle.commands.specs.declared.Listing.the-variants as listing
-use Rattle.commands.specs.Texts.{onto, both, space, withFirst, parted, fields, isDigit, valueFrom, numberBelow, wordLimit, numbers}
-use Rattle.commands.specs.Commands.{through, numbersAfter}
+use Rattle.commands.specs.Texts.{both, space, withFirst, parted, fields, isDigit, valueFrom, numberBelow, wordLimit, numbers}
+use Rattle.commands.specs.Commands.{numbersAfter}
 use Rattle.commands.specs.Readings.{numberIs, Listed}
-use Rattle.commands.proofs.Listings.{before, Filled, filled-none, filled-one, filled-all, filled-bad}
+use Rattle.commands.proofs.Listings.{Filled, filled-none, filled-one, filled-all, filled-bad}
 
 -- DIGITS
 

@@ -1,13 +1,12 @@
 -- A line to a command: what the functions that read it make of a list, of two fields, and of the line's letter.
 use mathlib.Core.Path.{_≡_, refl, sym, ap, _∙_}
-use mathlib.Core.Bool.{Bool, true, false}
 use mathlib.Core.List.{List, [], _∷_}
 use mathlib.Core.Option.{Option, none, some}
-use Prim.Native.Nat.{ℕ, zero, suc, _+_, _-_, _<_, _≤_}
+use Prim.Native.Nat.{ℕ, suc, _+_, _-_, _<_, _≤_}
 use native.Mathlib.Numerals.{add-one}
 use native.Mathlib.Omega.{arith}
 use lib.ListN.{length, take, drop, getD}
-use lib.Seq.{drop-cons, length-take-le}
+use lib.Seq.{length-take-le}
 use lib.IntN.{ℤ}
 use mir.Syntax.{w32}
 use mir.Val.{SFits, toZ, ofZ}
@@ -25,7 +24,7 @@ use Rattle.commands.specs.Utf8.{decode}
 use Rattle.commands.specs.Commands.{Command, equation, merge, resolve, lineLimit, through, textAfter, numbersAfter, asConstant, asVariable, asConcatenation, asKnown, asEquation, asMerge, asResolve, resolveBy, byLetter, command}
 use Rattle.commands.specs.Readings.{numberIs, guardIs, listingIs, countOf, Listed}
 use Rattle.commands.proofs.Listings.{tail-is}
-use Rattle.commands.proofs.Numbering.{field-is, last-field, next-field, field-within}
+use Rattle.commands.proofs.Numbering.{field-is, last-field, next-field}
 
 -- a text
 pub text-none : (l m : List ℕ) → length l ≡ 0 → Listed (textAfter l) listing.Bad m

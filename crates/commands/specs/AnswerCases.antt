@@ -1,10 +1,10 @@
 -- Document 01's printed lines and others, by computing.
 use mathlib.Core.Path.{_≡_, refl}
-use mathlib.Core.List.{List, [], _∷_}
+use mathlib.Core.List.{[], _∷_}
 use lib.IntN.{pos, negsuc}
 use Rattle.records.specs.Lists.{joined}
 use Rattle.records.specs.Make.{decimalBy}
-use Rattle.commands.specs.Answers.{numberText, guardText, reasonText, reasonsText, atomsText, Answer, done, saturated, conflict, propagate, split, unexpanded, refused, bad, rest, line}
+use Rattle.commands.specs.Answers.{numberText, guardText, reasonText, reasonsText, atomsText, done, saturated, conflict, propagate, split, unexpanded, refused, bad, rest, line}
 
 line-1 : line (conflict []) ≡ (99 ∷ 111 ∷ 110 ∷ 102 ∷ 108 ∷ 105 ∷ 99 ∷ 116 ∷ 32 ∷ 48 ∷ 10 ∷ [])
 unfolding joined decimalBy numberText guardText reasonText reasonsText atomsText rest line

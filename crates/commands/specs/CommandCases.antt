@@ -1,13 +1,13 @@
 -- Document 01's example lines and others, and what each asks for, by computing.
 use mathlib.Core.Path.{_≡_, refl}
-use mathlib.Core.List.{List, [], _∷_}
+use mathlib.Core.List.{[], _∷_}
 use mathlib.Core.Option.{none, some}
 use lib.IntN.{pos, negsuc}
 use Rattle.records.specs.Lists.{all}
 use Rattle.records.specs.Rules.{isChar}
 use Rattle.commands.specs.Texts.{withFirst, parted, fields, isDigit, valueFrom, numberBelow, numbers, guardOf}
 use Rattle.commands.specs.Utf8.{isNext, shaped, charBy, charOf, decodeBy, decode}
-use Rattle.commands.specs.Commands.{Command, constant, variable, concatenation, equation, merge, known, resolve, textAfter, byLetter, command}
+use Rattle.commands.specs.Commands.{constant, variable, concatenation, equation, merge, known, resolve, textAfter, byLetter, command}
 
 line-1 : command (86 ∷ 32 ∷ 120 ∷ []) ≡ some (variable (120 ∷ []))
 unfolding all isChar withFirst parted fields isDigit valueFrom numberBelow numbers guardOf isNext shaped charBy charOf decodeBy decode textAfter byLetter command

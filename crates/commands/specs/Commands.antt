@@ -1,12 +1,11 @@
 -- Document 01, 'Program `labelstep`': what a line of standard input asks for.
-use mathlib.Core.Bool.{Bool, true, false, _&&_}
+use mathlib.Core.Bool.{true, false}
 use mathlib.Core.List.{List, [], _∷_}
 use mathlib.Core.Option.{Option, none, some}
 use Prim.Native.Nat.{ℕ}
-use lib.ListN.{length, take}
+use lib.ListN.{length}
 use lib.Dec.{eqb, leb}
 use lib.IntN.{ℤ}
-use Rattle.records.specs.Lists.{if_then_else_}
 use Rattle.commands.specs.Texts.{space, fields, numbers, numberBelow, wordLimit, guardOf}
 use Rattle.commands.specs.Utf8.{decode}
 

@@ -6,7 +6,7 @@ use Prim.Native.Nat.{ℕ, zero, suc, _-_}
 use lib.ListN.{length, set}
 use lib.Dec.{eqb}
 use Rattle.records.specs.declared.State.{State}
-use Rattle.records.specs.Store.{Term, Store, Out, ok, stop, Work, termIn, term, within, isString, sameClass}
+use Rattle.records.specs.Store.{Term, Store, Out, ok, stop, Work, termIn, within, isString, sameClass}
 use Rattle.records.specs.View.{Lent, storeOf, termsView}
 use Rattle.records.specs.Rules.{isNumber, audit}
 use Rattle.records.specs.Make.{withTerms}

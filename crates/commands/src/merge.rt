@@ -1,7 +1,7 @@
 // `M child parent n`: two classes joined under an asserted reason.
 ghost use mathlib.Core.Path.{_≡_};
 ghost use mathlib.Core.Bool.{true};
-ghost use Prim.Native.Nat.{ℕ, _+_, _*_, _≤_};
+ghost use Prim.Native.Nat.{_+_, _*_, _≤_};
 ghost use lib.ListN.{length};
 ghost use Rattle.records.specs.Store.{within};
 ghost use Rattle.records.specs.View.{lent, storeOf, termsView};

@@ -1,6 +1,6 @@
 // The fields of a line and its decimal numbers.
 ghost use mathlib.Core.Path.{_≡_};
-ghost use Prim.Native.Nat.{ℕ, _+_, _<_, _≤_};
+ghost use Prim.Native.Nat.{_+_, _<_, _≤_};
 ghost use lib.ListN.{length, drop};
 ghost use lib.IntN.{pos};
 ghost use Rattle.records.specs.Lists.{upTo};

@@ -1,6 +1,6 @@
 // A line to a command.
 ghost use mathlib.Core.Path.{_≡_};
-ghost use Prim.Native.Nat.{ℕ, _≤_};
+ghost use Prim.Native.Nat.{_≤_};
 ghost use lib.ListN.{length};
 ghost use Rattle.commands.specs.Commands.{lineLimit, through, textAfter, numbersAfter, asConstant, asVariable, asConcatenation, asEquation, asMerge, asKnown, byLetter, command};
 ghost use Rattle.commands.specs.Readings.{Listed, parsedIs};

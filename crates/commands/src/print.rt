@@ -1,6 +1,6 @@
 // An answer to its printed line, piece by piece: each piece goes to the start of a small buffer, and its length is answered.
 ghost use mathlib.Core.Path.{_≡_};
-ghost use Prim.Native.Nat.{ℕ, _+_, _≤_};
+ghost use Prim.Native.Nat.{_+_, _≤_};
 ghost use lib.ListN.{length};
 ghost use Rattle.records.specs.Puts.{Written};
 ghost use Rattle.records.specs.Make.{decimalBy};

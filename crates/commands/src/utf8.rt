@@ -1,7 +1,7 @@
 // Characters in UTF-8.
 ghost use mathlib.Core.Bool.{true, _&&_};
 ghost use mathlib.Core.Path.{_≡_};
-ghost use Prim.Native.Nat.{ℕ, _+_, _-_, _<_, _≤_};
+ghost use Prim.Native.Nat.{_+_, _-_, _<_, _≤_};
 ghost use lib.ListN.{length, drop, getD};
 ghost use Rattle.commands.specs.Utf8.{isNext, sixMore, shaped, charBy, charOf, decode};
 ghost use Rattle.commands.specs.Readings.{charIs, Listed};

@@ -1,5 +1,4 @@
 use Rattle.capi.proofs.Words.{audit-unstated, audit-stated}
-use native.Mathlib.Omega.{arith}
 use borrow.Author.Needs.{needs}
 use Rattle.capi.proofs.labels_audit.Statement.{statement}
 use Rattle.capi.proofs.labels_audit.Tie as tie

@@ -2,7 +2,6 @@ use mathlib.Core.Path.{sym, _∙_}
 use borrow.Author.Tests.{not-true, not-false}
 use Rattle.capi.proofs.Exports.{untold, tellable, exported}
 use Rattle.capi.proofs.Tellings.{equation-tells}
-use native.Mathlib.Omega.{arith}
 use borrow.Author.Needs.{needs}
 use Rattle.capi.proofs.labels_make_equation.Statement.{statement}
 use Rattle.capi.proofs.labels_make_equation.Tie as tie

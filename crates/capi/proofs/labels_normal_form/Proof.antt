@@ -1,7 +1,6 @@
 use Rattle.capi.proofs.FormExports.{form-untold, form-tellable, form-exported}
 use borrow.Author.Tests.{not-true, not-false}
 use mathlib.Core.Path.{sym, _∙_}
-use native.Mathlib.Omega.{arith}
 use borrow.Author.Needs.{needs}
 use Rattle.capi.proofs.labels_normal_form.Statement.{statement}
 use Rattle.capi.proofs.labels_normal_form.Tie as tie

@@ -1,6 +1,4 @@
 use Rattle.capi.proofs.Complements.{low-fits, low-cast, low-under, low-is, high-cast, high-is}
-use native.Mathlib.Omega.{arith}
-use borrow.Author.Needs.{needs}
 use Rattle.capi.proofs.telling.bits_of.Statement.{statement}
 use Rattle.capi.proofs.telling.bits_of.Tie as tie
 use Rattle.capi.proofs.telling.bits_of.Reads as reads

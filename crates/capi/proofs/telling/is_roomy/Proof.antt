@@ -1,5 +1,4 @@
 use Rattle.capi.proofs.Words.{unroomy, roomy-is}
-use native.Mathlib.Omega.{arith}
 use borrow.Author.Needs.{needs}
 use Rattle.capi.proofs.telling.is_roomy.Statement.{statement}
 use Rattle.capi.proofs.telling.is_roomy.Tie as tie

@@ -1,5 +1,4 @@
 use Rattle.capi.proofs.Words.{state-read}
-use native.Mathlib.Omega.{arith}
 use borrow.Author.Needs.{needs}
 use Rattle.capi.proofs.telling.state_of.Statement.{statement}
 use Rattle.capi.proofs.telling.state_of.Tie as tie

@@ -1,5 +1,4 @@
 use mathlib.Core.Path.{refl}
-use lib.ListN.{length-set}
 use Rattle.capi.proofs.Words.{roomy-state, roomy-answer, told-term}
 use native.Mathlib.Omega.{arith}
 use borrow.Author.Needs.{needs}

@@ -2,7 +2,6 @@ use Rattle.capi.proofs.AnswerExports.{told-flag, told-guard}
 use Rattle.capi.proofs.Listings.{told-by, told-refuses}
 use Rattle.capi.specs.Leaves.{answerTelling}
 use mathlib.Core.Path.{ap}
-use native.Mathlib.Omega.{arith}
 use borrow.Author.Needs.{needs}
 use Rattle.capi.proofs.telling.tell_answer.Statement.{statement}
 use Rattle.capi.proofs.telling.tell_answer.Tie as tie

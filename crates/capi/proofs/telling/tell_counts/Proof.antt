@@ -1,5 +1,4 @@
 use Rattle.capi.proofs.Words.{told-counts}
-use native.Mathlib.Omega.{arith}
 use borrow.Author.Needs.{needs}
 use Rattle.capi.proofs.telling.tell_counts.Statement.{statement}
 use Rattle.capi.proofs.telling.tell_counts.Tie as tie

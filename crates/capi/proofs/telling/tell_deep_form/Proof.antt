@@ -1,7 +1,6 @@
 use Rattle.capi.proofs.Listings.{told-by}
 use Rattle.capi.specs.Leaves.{deepTelling}
 use mathlib.Core.Path.{ap}
-use native.Mathlib.Omega.{arith}
 use borrow.Author.Needs.{needs}
 use Rattle.capi.proofs.telling.tell_deep_form.Statement.{statement}
 use Rattle.capi.proofs.telling.tell_deep_form.Tie as tie

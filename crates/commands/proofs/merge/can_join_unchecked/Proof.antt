@@ -1,6 +1,5 @@
 use Rattle.commands.proofs.Joining.{join-1, join-2, join-3, join-4, join-last, string-within, can-climb}
 use Rattle.records.specs.View.{lent}
-use native.Mathlib.Omega.{arith}
 use borrow.Author.Needs.{needs}
 use Rattle.commands.proofs.merge.can_join_unchecked.Statement.{statement}
 use Rattle.commands.proofs.merge.can_join_unchecked.Tie as tie

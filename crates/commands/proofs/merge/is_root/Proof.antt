@@ -1,5 +1,4 @@
 use Rattle.commands.proofs.Joining.{root-not, root-by}
-use native.Mathlib.Omega.{arith}
 use borrow.Author.Needs.{needs}
 use Rattle.commands.proofs.merge.is_root.Statement.{statement}
 use Rattle.commands.proofs.merge.is_root.Tie as tie

@@ -1,7 +1,6 @@
 use Rattle.commands.proofs.Joining.{merge-unready, merge-unfit, merge-room, merge-is}
 use Rattle.records.proofs.Public.{passed-ready}
 use Rattle.records.specs.View.{lent}
-use native.Mathlib.Omega.{arith}
 use borrow.Author.Needs.{needs}
 use Rattle.commands.proofs.merge.merge.Statement.{statement}
 use Rattle.commands.proofs.merge.merge.Tie as tie

@@ -1,7 +1,6 @@
 use Rattle.commands.proofs.Numbering.{Passed, passed-none, passed-here, passed-one, passed-all}
 use lib.ListN.{length}
 use Prim.Native.Nat.{_-_}
-use native.Mathlib.Omega.{arith}
 use borrow.Author.Needs.{needs}
 use Rattle.commands.proofs.numbers.field_end.Statement.{statement}
 use Rattle.commands.proofs.numbers.field_end.Tie as tie

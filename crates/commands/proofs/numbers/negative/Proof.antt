@@ -1,5 +1,4 @@
 use Rattle.commands.proofs.Guards.{negative-zero, negative-fits, negative-is}
-use native.Mathlib.Omega.{arith}
 use borrow.Author.Needs.{needs}
 use Rattle.commands.proofs.numbers.negative.Statement.{statement}
 use Rattle.commands.proofs.numbers.negative.Tie as tie

@@ -1,5 +1,4 @@
 use Rattle.commands.proofs.Guards.{positive-is}
-use native.Mathlib.Omega.{arith}
 use borrow.Author.Needs.{needs}
 use Rattle.commands.proofs.numbers.positive.Statement.{statement}
 use Rattle.commands.proofs.numbers.positive.Tie as tie

@@ -1,5 +1,3 @@
-use Prim.Native.Nat.{ℕ}
-use mathlib.Core.Path.{_≡_}
 use Rattle.commands.proofs.Parsing.{resolve-none, resolve-odd, resolve-one, resolve-more, resolve-bad, resolve-free, resolve-is}
 use Rattle.commands.proofs.Numbering.{field-within}
 use native.Mathlib.Omega.{arith}

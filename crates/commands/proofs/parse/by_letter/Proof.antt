@@ -1,5 +1,4 @@
 use Rattle.commands.proofs.Parsing.{letter-constant, letter-variable, letter-concatenation, letter-equation, letter-merge, letter-known, letter-resolve, other-letter}
-use native.Mathlib.Omega.{arith}
 use borrow.Author.Needs.{needs}
 use Rattle.commands.proofs.parse.by_letter.Statement.{statement}
 use Rattle.commands.proofs.parse.by_letter.Tie as tie

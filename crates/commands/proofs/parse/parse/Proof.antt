@@ -1,5 +1,4 @@
 use Rattle.commands.proofs.Parsing.{line-none, line-long, line-is}
-use native.Mathlib.Omega.{arith}
 use borrow.Author.Needs.{needs}
 use Rattle.commands.proofs.parse.parse.Statement.{statement}
 use Rattle.commands.proofs.parse.parse.Tie as tie

@@ -1,6 +1,5 @@
 use Rattle.commands.proofs.Parsing.{listed-bad, listed-count}
 use Rattle.commands.specs.Commands.{asConcatenation}
-use native.Mathlib.Omega.{arith}
 use borrow.Author.Needs.{needs}
 use Rattle.commands.proofs.parse.read_concatenation.Statement.{statement}
 use Rattle.commands.proofs.parse.read_concatenation.Tie as tie

@@ -1,6 +1,5 @@
 use Rattle.commands.proofs.Parsing.{listed-bad, listed-count}
 use Rattle.commands.specs.Commands.{asConstant}
-use native.Mathlib.Omega.{arith}
 use borrow.Author.Needs.{needs}
 use Rattle.commands.proofs.parse.read_constant.Statement.{statement}
 use Rattle.commands.proofs.parse.read_constant.Tie as tie

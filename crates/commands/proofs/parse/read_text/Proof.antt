@@ -1,5 +1,4 @@
 use Rattle.commands.proofs.Parsing.{text-none, text-odd, text-is}
-use native.Mathlib.Omega.{arith}
 use borrow.Author.Needs.{needs}
 use Rattle.commands.proofs.parse.read_text.Statement.{statement}
 use Rattle.commands.proofs.parse.read_text.Tie as tie

@@ -1,6 +1,5 @@
 use Rattle.commands.proofs.Parsing.{listed-bad, listed-count}
 use Rattle.commands.specs.Commands.{asVariable}
-use native.Mathlib.Omega.{arith}
 use borrow.Author.Needs.{needs}
 use Rattle.commands.proofs.parse.read_variable.Statement.{statement}
 use Rattle.commands.proofs.parse.read_variable.Tie as tie

@@ -1,6 +1,4 @@
 use Rattle.commands.proofs.Printing.{below-test}
-use native.Mathlib.Omega.{arith}
-use borrow.Author.Needs.{needs}
 use Rattle.commands.proofs.print.is_below.Statement.{statement}
 use Rattle.commands.proofs.print.is_below.Tie as tie
 use Rattle.commands.proofs.print.is_below.Reads as reads

@@ -1,5 +1,4 @@
 use Rattle.commands.proofs.Printing.{guard-same}
-use native.Mathlib.Omega.{arith}
 use borrow.Author.Needs.{needs}
 use Rattle.commands.proofs.print.put_guard.Statement.{statement}
 use Rattle.commands.proofs.print.put_guard.Tie as tie

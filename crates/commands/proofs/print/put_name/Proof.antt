@@ -1,5 +1,4 @@
 use Rattle.commands.proofs.Printing.{name-is, other-name}
-use native.Mathlib.Omega.{arith}
 use borrow.Author.Needs.{needs}
 use Rattle.commands.proofs.print.put_name.Statement.{statement}
 use Rattle.commands.proofs.print.put_name.Tie as tie

@@ -1,6 +1,4 @@
 use Rattle.commands.proofs.Printing.{letter-asserted, letter-interface}
-use native.Mathlib.Omega.{arith}
-use borrow.Author.Needs.{needs}
 use Rattle.commands.proofs.print.reason_letter.Statement.{statement}
 use Rattle.commands.proofs.print.reason_letter.Tie as tie
 use Rattle.commands.proofs.print.reason_letter.Reads as reads

@@ -1,6 +1,5 @@
 use lib.ListN.{List·getD-eq-default}
 use mathlib.Core.Path.{sym}
-use native.Mathlib.Omega.{arith}
 use borrow.Author.Needs.{needs}
 use Rattle.commands.proofs.utf8.byte.Statement.{statement}
 use Rattle.commands.proofs.utf8.byte.Tie as tie

@@ -1,5 +1,4 @@
 use Rattle.commands.proofs.Decoding.{char-at}
-use native.Mathlib.Omega.{arith}
 use borrow.Author.Needs.{needs}
 use Rattle.commands.proofs.utf8.char_at.Statement.{statement}
 use Rattle.commands.proofs.utf8.char_at.Tie as tie

@@ -1,5 +1,4 @@
 use Rattle.commands.proofs.Decoding.{by-one, by-none, by-two, by-three, by-four, by-more}
-use native.Mathlib.Omega.{arith}
 use borrow.Author.Needs.{needs}
 use Rattle.commands.proofs.utf8.char_by.Statement.{statement}
 use Rattle.commands.proofs.utf8.char_by.Tie as tie

@@ -1,6 +1,4 @@
 use Rattle.commands.proofs.Decoding.{next-low, next-high}
-use native.Mathlib.Omega.{arith}
-use borrow.Author.Needs.{needs}
 use Rattle.commands.proofs.utf8.is_next.Statement.{statement}
 use Rattle.commands.proofs.utf8.is_next.Tie as tie
 use Rattle.commands.proofs.utf8.is_next.Reads as reads

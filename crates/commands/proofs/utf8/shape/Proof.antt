@@ -1,5 +1,4 @@
 use Rattle.commands.proofs.Decoding.{shape-low, shape-odd, shape-is}
-use native.Mathlib.Omega.{arith}
 use borrow.Author.Needs.{needs}
 use Rattle.commands.proofs.utf8.shape.Statement.{statement}
 use Rattle.commands.proofs.utf8.shape.Tie as tie

@@ -3,7 +3,6 @@ use Rattle.commands.specs.Utf8.{shaped}
 use Rattle.records.proofs.Lists.{failed, passed}
 use mathlib.Core.Bool.{true}
 use mathlib.Core.Path.{_∙_, ap}
-use native.Mathlib.Omega.{arith}
 use borrow.Author.Needs.{needs}
 use Rattle.commands.proofs.utf8.two_bytes.Statement.{statement}
 use Rattle.commands.proofs.utf8.two_bytes.Tie as tie
