@@ -9,7 +9,7 @@ use native.Mathlib.Omega.{arith}
 use lib.ListN.{length, set, getD, length-set}
 use lib.Seq.{getD-set-same, getD-set-other}
 use lib.Dec.{eqb}
-use borrow.Author.Tests.{eqb-true, eq-eqb, ne-eqb}
+use borrow.Author.Tests.{eqb-true, eqb-false, not-true, eq-eqb, ne-eqb}
 use Rattle.records.specs.Lists.{firsts, seconds, Every, none-left, and}
 use Rattle.records.specs.Store.{Term, Store, termIn, noTerm, term, count, kind, within, isTerm, isString, textIn, text, chain, parts, climb, classUp, forestUp, root, top, sameClass, isEdge}
 use Rattle.records.specs.Rules.{isNumber, keyRule, isEquatable}
@@ -17,7 +17,6 @@ use Rattle.records.specs.Make.{withTerms}
 use Rattle.records.specs.Audited.{Part, Label, asserted, interface, congruence, definitional, Unlabelled, Falls, Pairs, Congruent, Recorded, Classed, Congruences, Roomy, Audited}
 use Rattle.records.proofs.Lists.{clash, both-left, both-right, within-low, within-high, every-map, every-both, all-every, every-all}
 use Rattle.records.proofs.Climbs.{classed-roots, classed-tops, root-self, top-self}
-use Rattle.records.proofs.ClassLaws.{not-eqb}
 use Rattle.records.proofs.Grown.{string-term}
 use Rattle.records.proofs.Readings.{parts-strings}
 use Rattle.commands.specs.Merge.{isRootIn, canJoin, under, joinIn}
@@ -72,7 +71,7 @@ joinable s child parent n can =
       number = both-right (isString s child && isString s parent) _ e₃;
       class-self = eqb-true _ _ (both-left _ _ r);
       forest-self = eqb-true _ _ (both-right (eqb (term s child .classParent) child) _ r);
-      apart = not-eqb _ _ (both-right (isString s child && isString s parent && isNumber n && (eqb (term s child .classParent) child && eqb (term s child .forestParent) child)) _ can);
+      apart = eqb-false _ _ (not-true _ (both-right (isString s child && isString s parent && isNumber n && (eqb (term s child .classParent) child && eqb (term s child .forestParent) child)) _ can));
     }
 
 module _ (s : Store) (audited : Audited s) (child parent n stamp : ℕ) (j : Joinable s child parent n) where
