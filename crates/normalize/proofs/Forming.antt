@@ -20,7 +20,7 @@ use Rattle.normalize.specs.declared.Form.the-variants as form
 use Rattle.normalize.specs.Normalize.{atoms, flatten, pushForms, normalForm, formArguments}
 use Rattle.records.specs.Rules.{listLimit, isList}
 use Rattle.normalize.specs.Flat.{bare, Nested, Appended}
-use Rattle.normalize.specs.Nodes.{NodeOf, withNodes}
+use Rattle.normalize.specs.Nodes.{NodeOf, withNodes, Rooting}
 use Rattle.normalize.specs.Pushes.{pushed, Candidates}
 use Rattle.normalize.specs.Calls.{firstWords, formed}
 use Rattle.normalize.proofs.Atoms.{same-atoms, recorded-nested, atoms-strings, flatten-fits, flatten-full}
@@ -35,6 +35,9 @@ module _ {m : Lent} {c : State} (ready : Ready m c) where
 
   pub ready-closed : Closed (classUp (termsView (m .terms) (c .terms))) (c .terms)
   ready-closed = ready-roots m c (ready .audited .classed)
+
+  pub ready-rooting : Rooting (termsView (m .terms) (c .terms)) (c .terms)
+  ready-rooting = record { stays = ready-closed; ends = λ t w. ready .audited .classed .classEnds t (rw (view-count (m .terms) (c .terms)) w) }
 
   -- string terms are counted, and their roots are places of the table
   placed : (t : ℕ) → isString s t ≡ true → (0 < t) × (rootIn (s .terms) t ≤ termLimit)

@@ -1,13 +1,14 @@
 -- Working definitions: representatives in a table by class root, 0 where a class has none.
 use mathlib.Core.Path.{_≡_}
-use mathlib.Core.Bool.{Bool, _&&_, _||_}
+use mathlib.Core.Bool.{Bool, true, _&&_, _||_}
 use mathlib.Core.List.{List, [], _∷_}
 use Prim.Native.Nat.{ℕ, _≤_}
 use lib.ListN.{length, getD, set}
 use lib.Dec.{eqb, ltb}
 use Rattle.records.specs.Lists.{if_then_else_, firstOf}
-use Rattle.records.specs.Store.{Term, termIn, rootIn}
+use Rattle.records.specs.Store.{Term, termIn, rootIn, classUp, within}
 use Rattle.records.specs.View.{termLimit}
+use Rattle.records.specs.Audited.{Closed}
 use Rattle.normalize.specs.Normalize.{orFirst}
 
 abbrev pub isConstantIn : List Term → ℕ → Bool
@@ -38,3 +39,18 @@ withNodes ts (t ∷ l) node = withNodes ts l (withNode ts t node)
 -- what the table has for a term, or the term itself
 unfoldable pub nodeAt : List Term → List ℕ → ℕ → ℕ
 nodeAt ts node t = if eqb (getD node (rootIn ts t) 0) 0 then t else getD node (rootIn ts t) 0
+
+-- following class parents leads from a term to a term, and ends
+pub record Rooting (ts : List Term) (n : ℕ) : Type 0 where
+  pub stays : Closed (classUp ts) n
+  pub ends : (t : ℕ) → within n t ≡ true → classUp ts (rootIn ts t) ≡ rootIn ts t
+
+-- roots kept by number, 0 where none is
+pub record Roots (ts : List Term) (n : ℕ) (roots : List ℕ) : Type 0 where
+  pub size : length roots ≡ 513
+  pub entries : (t : ℕ) → within n t ≡ true → (getD roots t 0 ≡ 0 → ⊥) → getD roots t 0 ≡ rootIn ts t
+
+-- one candidate more, and its root kept
+pub record Keeps (ts : List Term) (n t : ℕ) (node node′ roots : List ℕ) : Type 0 where
+  pub adds : node′ ≡ withNode ts t node
+  pub kept : Roots ts n roots

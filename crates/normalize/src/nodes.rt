@@ -1,13 +1,14 @@
 // Representatives, in a table by class root: 0 where a class has none.
 ghost use mathlib.Core.Path.{_≡_};
 ghost use mathlib.Core.Bool.{true};
-ghost use Prim.Native.Nat.{_≤_};
+ghost use Prim.Native.Nat.{_≤_, _<_};
 ghost use Rattle.records.specs.Lists.{Every};
-ghost use Rattle.records.specs.Store.{within, classUp};
+ghost use Rattle.records.specs.Store.{within, classUp, rootIn};
 ghost use Rattle.records.specs.View.{termLimit, termsView};
 ghost use Rattle.records.specs.Audited.{Closed};
-ghost use Rattle.normalize.specs.Nodes.{rank, withNode, withNodes, nodeAt};
+ghost use Rattle.normalize.specs.Nodes.{rank, withNode, withNodes, nodeAt, Rooting, Roots, Keeps};
 use records::classes;
+use records::fields;
 use records::rules;
 
 // Constants before others.
@@ -20,26 +21,65 @@ fn rep_rank(terms: &[u32], n: usize, t: u32) -> u32
     0
 }
 
-// One candidate more.
-fn add_node(terms: &[u32], n: usize, t: u32, nodes: &mut [u32; 513])
-    requires { ⌜ n ≤ termLimit ⌝ ∗ ⌜ within n t ≡ true ⌝ ∗ ⌜ Closed (classUp (termsView (now terms) n)) n ⌝ }
+// One candidate more, of the class of this root.
+fn put_node(terms: &[u32], n: usize, t: u32, root: u32, nodes: &mut [u32; 513])
+    requires { ⌜ root < 513 ⌝ ∗ ⌜ root ≡ rootIn (termsView (now terms) n) t ⌝ }
     ensures { λ _. ⌜ now (nodes .exit) ≡ withNode (termsView (now (terms .entry)) n) t (now (nodes .entry)) ⌝ }
 {
-    let root = classes::root_unchecked(terms, n, t) as usize;
-    let prev = nodes[root];
+    let at = root as usize;
+    let prev = nodes[at];
     if prev == 0 {
-        nodes[root] = t;
+        nodes[at] = t;
         return;
     }
     let old = rep_rank(terms, n, prev);
     let new = rep_rank(terms, n, t);
     if old < new {
-        nodes[root] = t;
+        nodes[at] = t;
     }
 }
 
-// The candidates of a list, in order.
-pub(crate) fn build_node_of(terms: &[u32], n: usize, known: &[u32], nodes: &mut [u32; 513])
+fn add_node(terms: &[u32], n: usize, t: u32, nodes: &mut [u32; 513])
+    requires { ⌜ n ≤ termLimit ⌝ ∗ ⌜ within n t ≡ true ⌝ ∗ ⌜ Closed (classUp (termsView (now terms) n)) n ⌝ }
+    ensures { λ _. ⌜ now (nodes .exit) ≡ withNode (termsView (now (terms .entry)) n) t (now (nodes .entry)) ⌝ }
+{
+    let root = classes::root_unchecked(terms, n, t);
+    put_node(terms, n, t, root, nodes);
+}
+
+// The root of t's class. The climb stops at a term whose root is kept.
+fn kept_root(terms: &[u32], n: usize, t: u32, roots: &[u32; 513]) -> u32
+    requires { ⌜ n ≤ termLimit ⌝ ∗ ⌜ within n t ≡ true ⌝ ∗ ⌜ Rooting (termsView (now terms) n) n ⌝ ∗ ⌜ Roots (termsView (now terms) n) n (now roots) ⌝ }
+    ensures { λ r. ⌜ r ≡ rootIn (termsView (now (terms .entry)) n) t ⌝ }
+{
+    let mut x = t;
+    let mut i: usize = 0;
+    while i < n {
+        let r = roots[x as usize];
+        if r != 0 {
+            return r;
+        }
+        let y = fields::class_parent(terms, x);
+        if y == x {
+            return x;
+        }
+        x = y;
+        i += 1;
+    }
+    x
+}
+
+// The same as add_node, and the root is kept.
+fn keep_node(terms: &[u32], n: usize, t: u32, nodes: &mut [u32; 513], roots: &mut [u32; 513])
+    requires { ⌜ n ≤ termLimit ⌝ ∗ ⌜ within n t ≡ true ⌝ ∗ ⌜ Rooting (termsView (now terms) n) n ⌝ ∗ ⌜ Roots (termsView (now terms) n) n (now roots) ⌝ }
+    ensures { λ _. ⌜ Keeps (termsView (now (terms .entry)) n) n t (now (nodes .entry)) (now (nodes .exit)) (now (roots .exit)) ⌝ }
+{
+    let root = kept_root(terms, n, t, roots);
+    roots[t as usize] = root;
+    put_node(terms, n, t, root, nodes);
+}
+
+fn build_few(terms: &[u32], n: usize, known: &[u32], nodes: &mut [u32; 513])
     requires { ⌜ n ≤ termLimit ⌝ ∗ ⌜ Every (λ t. within n t ≡ true) (now known) ⌝ ∗ ⌜ Closed (classUp (termsView (now terms) n)) n ⌝ }
     ensures { λ _. ⌜ now (nodes .exit) ≡ withNodes (termsView (now (terms .entry)) n) (now (known .entry)) (now (nodes .entry)) ⌝ }
 {
@@ -48,6 +88,31 @@ pub(crate) fn build_node_of(terms: &[u32], n: usize, known: &[u32], nodes: &mut 
         add_node(terms, n, known[i], nodes);
         i += 1;
     }
+}
+
+// Terms of one class share their way up to its root, and it can be as long as there are terms: so roots are kept by number.
+fn build_many(terms: &[u32], n: usize, known: &[u32], nodes: &mut [u32; 513])
+    requires { ⌜ n ≤ termLimit ⌝ ∗ ⌜ Every (λ t. within n t ≡ true) (now known) ⌝ ∗ ⌜ Rooting (termsView (now terms) n) n ⌝ }
+    ensures { λ _. ⌜ now (nodes .exit) ≡ withNodes (termsView (now (terms .entry)) n) (now (known .entry)) (now (nodes .entry)) ⌝ }
+{
+    let mut roots: [u32; 513] = [0; 513];
+    let mut i: usize = 0;
+    while i < known.len() {
+        keep_node(terms, n, known[i], nodes, &mut roots);
+        i += 1;
+    }
+}
+
+// The candidates of a list, in order. The table of roots is cleared at each call, so few candidates go without.
+pub(crate) fn build_node_of(terms: &[u32], n: usize, known: &[u32], nodes: &mut [u32; 513])
+    requires { ⌜ n ≤ termLimit ⌝ ∗ ⌜ Every (λ t. within n t ≡ true) (now known) ⌝ ∗ ⌜ Rooting (termsView (now terms) n) n ⌝ }
+    ensures { λ _. ⌜ now (nodes .exit) ≡ withNodes (termsView (now (terms .entry)) n) (now (known .entry)) (now (nodes .entry)) ⌝ }
+{
+    if known.len() < 16 {
+        build_few(terms, n, known, nodes);
+        return;
+    }
+    build_many(terms, n, known, nodes);
 }
 
 // The representative of t's class, or t itself where the class has none.

@@ -7,8 +7,8 @@ use Rattle.records.proofs.Lists.{every-at}
 use Rattle.normalize.proofs.Represents.{nodes-turn, nodes-done}
 use native.Mathlib.Omega.{arith}
 use borrow.Author.Needs.{needs}
-use Rattle.normalize.proofs.nodes.build_node_of.Statement.{statement}
-use Rattle.normalize.proofs.nodes.build_node_of.Tie as tie
+use Rattle.normalize.proofs.nodes.build_few.Statement.{statement}
+use Rattle.normalize.proofs.nodes.build_few.Tie as tie
 
 abbrev Inv-loop : tie.InvT-loop
 Inv-loop terms n known nodes₀ i₀ nodes i = (i ≤ length known) × (withNodes (termsView terms n) (drop i known) nodes ≡ withNodes (termsView terms n) known nodes₀)
@@ -16,8 +16,8 @@ Inv-loop terms n known nodes₀ i₀ nodes i = (i ≤ length known) × (withNode
 abbrev μ-loop : tie.MeasureT-loop
 μ-loop terms n known nodes₀ i₀ nodes i = length known - i
 
-pub build-node-of-spec : {M : Type 1} → statement M
-build-node-of-spec =
+pub build-few-spec : {M : Type 1} → statement M
+build-few-spec =
     tie.close
     (tie.spec
     Inv-loop
