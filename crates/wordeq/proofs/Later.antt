@@ -8,7 +8,6 @@ use lib.ListN.{length, drop, getD, length-drop}
 use lib.Dec.{eqb}
 use borrow.Author.Tests.{eqb-true, eq-eqb, ne-eqb}
 use Rattle.records.specs.declared.State.{State}
-use Rattle.records.specs.declared.Added.{Added as Answered}
 use Rattle.records.specs.declared.Added.the-variants as adding
 use Rattle.records.specs.Lists.{if_then_else_, all, keep, Every, none-left, and}
 use Rattle.records.specs.Store.{Store, Term, Out, ok, stop, andThen, termIn, isConstant, isString, root, sameClass}

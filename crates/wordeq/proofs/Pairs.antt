@@ -7,7 +7,6 @@ use native.Mathlib.Omega.{arith}
 use lib.ListN.{length, drop, getD, length-drop}
 use borrow.Author.Tests.{not-true, not-false, eq-eqb, ne-eqb}
 use Rattle.records.specs.declared.State.{State}
-use Rattle.records.specs.declared.Added.{Added as Answered}
 use Rattle.records.specs.declared.Added.the-variants as adding
 use Rattle.records.specs.Lists.{all, sameWord}
 use Rattle.records.specs.Store.{Store, Out, ok, stop, andThen, isConstant, isString, text, sameClass}

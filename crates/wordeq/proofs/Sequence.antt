@@ -10,7 +10,6 @@ use lib.Dec.{ltb, leb}
 use Rattle.records.specs.declared.State.{State}
 use Rattle.records.specs.declared.Made.{Made}
 use Rattle.records.specs.declared.Made.the-variants.{Term, Refused}
-use Rattle.records.specs.declared.Added.the-variants as adding
 use Rattle.records.specs.Lists.{if_then_else_}
 use Rattle.records.specs.Store.{Store, Out, ok, stop, Work, andThen, _>>=_, _>>_, give, refuse, put, count}
 use Rattle.records.specs.View.{Lent, storeOf}

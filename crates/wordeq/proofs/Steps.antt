@@ -25,7 +25,6 @@ use Rattle.wordeq.specs.declared.Stripped.the-variants.{Parts, Refused}
 use Rattle.wordeq.specs.Wordeq.{Answer, done, Tried, answer, _orElse_, clashes, splits, after, isBare, orDone, strip, steps}
 use Rattle.wordeq.specs.Results.{resolved, tried, Tries}
 use Rattle.wordeq.specs.Sides.{spelled, Spelled}
-use Rattle.wordeq.specs.Lacking.{conflicts as lacks}
 use Rattle.wordeq.specs.Heads.{HeadsApart}
 use Rattle.wordeq.specs.Stripping.{readIn, part, stripped, Inside, Strips}
 use Rattle.wordeq.proofs.LackingTries.{constants-need, constants-conflict, constants-pass}

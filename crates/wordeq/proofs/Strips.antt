@@ -10,7 +10,6 @@ use lib.Seq.{take-suc, take-all, drop-cons, getD-drop}
 use lib.Dec.{leb}
 use borrow.Author.Tests.{not-true, not-false, eq-eqb, ne-eqb, leb-true, leb-false}
 use Rattle.records.specs.declared.State.{State}
-use Rattle.records.specs.declared.Added.{Added as Answered}
 use Rattle.records.specs.declared.Added.the-variants as adding
 use Rattle.records.specs.Lists.{all}
 use Rattle.records.specs.Store.{Store, Room, Term, Out, ok, stop, andThen, within, termIn, isConstant, isString}

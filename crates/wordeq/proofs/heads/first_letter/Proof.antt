@@ -2,8 +2,6 @@ use Rattle.wordeq.proofs.SplitHeads.{letter-first}
 use borrow.Author.Needs.{needs}
 use Rattle.wordeq.proofs.heads.first_letter.Statement.{statement}
 use Rattle.wordeq.proofs.heads.first_letter.Tie as tie
-use Rattle.wordeq.proofs.heads.first_letter.Reads as reads
-use Rattle.wordeq.proofs.heads.first_letter.Lts as lts
 
 first-requires : tie.Need-first-requires
 first-requires c κs = search needs

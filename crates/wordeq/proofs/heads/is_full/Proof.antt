@@ -3,8 +3,6 @@ use Rattle.wordeq.proofs.SplitHeads.{full-none, full-some}
 use borrow.Author.Needs.{needs}
 use Rattle.wordeq.proofs.heads.is_full.Statement.{statement}
 use Rattle.wordeq.proofs.heads.is_full.Tie as tie
-use Rattle.wordeq.proofs.heads.is_full.Reads as reads
-use Rattle.wordeq.proofs.heads.is_full.Lts as lts
 
 kind-of-requires : tie.Need-kind-of-requires
 kind-of-requires c κs = search needs

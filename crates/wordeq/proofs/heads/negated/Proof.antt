@@ -1,8 +1,6 @@
 use Rattle.wordeq.proofs.SplitHeads.{opposite-fits, opposite-is}
 use Rattle.wordeq.proofs.heads.negated.Statement.{statement}
 use Rattle.wordeq.proofs.heads.negated.Tie as tie
-use Rattle.wordeq.proofs.heads.negated.Reads as reads
-use Rattle.wordeq.proofs.heads.negated.Lts as lts
 
 sub-result : tie.Need-sub-result
 sub-result c = opposite-fits (c .args .guard) (c .pre) (c .fits .guard)

@@ -4,8 +4,6 @@ use native.Mathlib.Omega.{arith}
 use borrow.Author.Needs.{needs}
 use Rattle.wordeq.proofs.heads.put_atoms.Statement.{statement}
 use Rattle.wordeq.proofs.heads.put_atoms.Tie as tie
-use Rattle.wordeq.proofs.heads.put_atoms.Reads as reads
-use Rattle.wordeq.proofs.heads.put_atoms.Lts as lts
 
 is-full-requires : tie.Need-is-full-requires
 is-full-requires c κs = texts-of (c .before .before .before .before .before .before .before .pre .0)

@@ -3,8 +3,6 @@ use Rattle.wordeq.proofs.SplitHeads.{opposite-kept, new-ready, new-pair
 use borrow.Author.Needs.{needs}
 use Rattle.wordeq.proofs.heads.split_new.Statement.{statement}
 use Rattle.wordeq.proofs.heads.split_new.Tie as tie
-use Rattle.wordeq.proofs.heads.split_new.Reads as reads
-use Rattle.wordeq.proofs.heads.split_new.Lts as lts
 
 negated-requires : tie.Need-negated-requires
 negated-requires c κs = search needs

@@ -10,8 +10,6 @@ use native.Mathlib.Omega.{arith}
 use borrow.Author.Needs.{needs}
 use Rattle.wordeq.proofs.heads.split_unchecked.Statement.{statement}
 use Rattle.wordeq.proofs.heads.split_unchecked.Tie as tie
-use Rattle.wordeq.proofs.heads.split_unchecked.Reads as reads
-use Rattle.wordeq.proofs.heads.split_unchecked.Lts as lts
 
 returns : tie.Need-returns
 returns c = left-none (c .before .before .before .before .before .before .before .before .before .args .guard) (c .before .before .before .before .before .before .before .before .before .args .added) (c .before .before .before .before .before .before .before .before .before .args .lhs .now) (c .before .before .before .before .before .before .before .before .before .args .rhs .now) (c .if1 .taken)

@@ -6,11 +6,6 @@ use Rattle.wordeq.proofs.Elsewhere.{Seeking, seeking-none, seeking-hit,
 use borrow.Author.Needs.{needs}
 use Rattle.wordeq.proofs.occurring.find.Statement.{statement}
 use Rattle.wordeq.proofs.occurring.find.Tie as tie
-use Rattle.wordeq.proofs.occurring.find.Reads as reads
-use Rattle.wordeq.proofs.occurring.find.Lts as lts
-use Rattle.records.proofs.classes.root_unchecked.Reads as root-unchecked-reads
-use Rattle.wordeq.proofs.occurring.count_full.Reads as count-full-reads
-use Rattle.wordeq.proofs.occurring.occurs_here.Reads as occurs-here-reads
 
 abbrev Inv-loop : tie.InvT-loop
 Inv-loop terms c l x n root i₀ i = Seeking (termed terms c) x l i

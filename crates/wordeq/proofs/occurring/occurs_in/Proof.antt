@@ -2,8 +2,6 @@ use Rattle.wordeq.proofs.Lone.{not-lone, lone-constant, texts-known, cl
 use borrow.Author.Needs.{needs}
 use Rattle.wordeq.proofs.occurring.occurs_in.Statement.{statement}
 use Rattle.wordeq.proofs.occurring.occurs_in.Tie as tie
-use Rattle.wordeq.proofs.occurring.occurs_in.Reads as reads
-use Rattle.wordeq.proofs.occurring.occurs_in.Lts as lts
 
 returns : tie.Need-returns
 returns c = not-lone (c .before .before .before .before .before .before .before .before .args .terms .now) (c .before .before .before .before .before .before .before .before .args .cells .now) (c .before .before .before .before .before .before .before .before .args .chars .now) (c .before .before .before .before .before .before .before .before .args .reasons .now) (c .before .before .before .before .before .before .before .before .args .keys .now) (c .before .before .before .before .before .before .before .before .args .c) (c .before .before .before .before .before .before .before .before .args .lone .now) (c .before .before .before .before .before .before .before .before .args .side .now) (c .if1 .taken)

@@ -5,8 +5,6 @@ use Rattle.wordeq.proofs.Lone.{not-done, first-answers, second-ready, s
 use borrow.Author.Needs.{needs}
 use Rattle.wordeq.proofs.occurring.occurs_unchecked.Statement.{statement}
 use Rattle.wordeq.proofs.occurring.occurs_unchecked.Tie as tie
-use Rattle.wordeq.proofs.occurring.occurs_unchecked.Reads as reads
-use Rattle.wordeq.proofs.occurring.occurs_unchecked.Lts as lts
 
 occurs-in-requires : tie.Need-occurs-in-requires
 occurs-in-requires c κs = search needs

@@ -3,9 +3,6 @@ use Rattle.records.specs.View.{lent}
 use borrow.Author.Needs.{needs}
 use Rattle.wordeq.proofs.propagate.assigns_unchecked.Statement.{statement}
 use Rattle.wordeq.proofs.propagate.assigns_unchecked.Tie as tie
-use Rattle.wordeq.proofs.propagate.assigns_unchecked.Reads as reads
-use Rattle.wordeq.proofs.propagate.assigns_unchecked.Lts as lts
-use Rattle.wordeq.proofs.propagate.side_word_unchecked.Reads as side-word-unchecked-reads
 
 pub assigns-unchecked-spec : {M : Type 1} → statement M
 assigns-unchecked-spec =

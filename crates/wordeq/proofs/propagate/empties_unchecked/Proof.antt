@@ -3,10 +3,6 @@ use mathlib.Core.Path.{refl}
 use borrow.Author.Needs.{needs}
 use Rattle.wordeq.proofs.propagate.empties_unchecked.Statement.{statement}
 use Rattle.wordeq.proofs.propagate.empties_unchecked.Tie as tie
-use Rattle.wordeq.proofs.propagate.empties_unchecked.Reads as reads
-use Rattle.wordeq.proofs.propagate.empties_unchecked.Lts as lts
-use Rattle.records.proofs.make.make_constant_unchecked.Reads as make-constant-unchecked-reads
-use Rattle.wordeq.proofs.propagate.link_first.Reads as link-first-reads
 
 pub empties-unchecked-spec : {M : Type 1} → statement M
 empties-unchecked-spec =

@@ -3,9 +3,6 @@ use Rattle.wordeq.specs.Sides.{termed}
 use borrow.Author.Needs.{needs}
 use Rattle.wordeq.proofs.propagate.is_emptied.Statement.{statement}
 use Rattle.wordeq.proofs.propagate.is_emptied.Tie as tie
-use Rattle.wordeq.proofs.propagate.is_emptied.Reads as reads
-use Rattle.wordeq.proofs.propagate.is_emptied.Lts as lts
-use Rattle.wordeq.proofs.propagate.are_variables.Reads as are-variables-reads
 
 returns : tie.Need-returns
 returns c = emptied-left (termed (c .before .before .before .before .args .terms .now) (c .before .before .before .before .args .c)) (c .before .before .before .before .args .l .now) (c .before .before .before .before .args .r .now) (c .if1 .taken)

@@ -6,13 +6,6 @@ use native.Mathlib.Omega.{arith}
 use borrow.Author.Needs.{needs}
 use Rattle.wordeq.proofs.propagate.propagate_unchecked.Statement.{statement}
 use Rattle.wordeq.proofs.propagate.propagate_unchecked.Tie as tie
-use Rattle.wordeq.proofs.propagate.propagate_unchecked.Reads as reads
-use Rattle.wordeq.proofs.propagate.propagate_unchecked.Lts as lts
-use Rattle.wordeq.proofs.propagate.assigns_unchecked.Reads as assigns-unchecked-reads
-use Rattle.wordeq.proofs.propagate.empties_unchecked.Reads as empties-unchecked-reads
-use Rattle.wordeq.proofs.propagate.is_alias.Reads as is-alias-reads
-use Rattle.wordeq.proofs.propagate.is_assigned.Reads as is-assigned-reads
-use Rattle.wordeq.proofs.propagate.is_emptied.Reads as is-emptied-reads
 
 pub propagate-unchecked-spec : {M : Type 1} → statement M
 propagate-unchecked-spec =

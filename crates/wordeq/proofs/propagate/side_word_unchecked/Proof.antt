@@ -2,9 +2,6 @@ use Rattle.wordeq.proofs.Propagating.{fixed-all, word-made}
 use borrow.Author.Needs.{needs}
 use Rattle.wordeq.proofs.propagate.side_word_unchecked.Statement.{statement}
 use Rattle.wordeq.proofs.propagate.side_word_unchecked.Tie as tie
-use Rattle.wordeq.proofs.propagate.side_word_unchecked.Reads as reads
-use Rattle.wordeq.proofs.propagate.side_word_unchecked.Lts as lts
-use Rattle.records.proofs.make.join_constants_unchecked.Reads as join-constants-unchecked-reads
 
 pub side-word-unchecked-spec : {M : Type 1} → statement M
 side-word-unchecked-spec =

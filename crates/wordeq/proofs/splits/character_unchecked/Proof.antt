@@ -3,10 +3,6 @@ use mathlib.Core.Path.{refl}
 use borrow.Author.Needs.{needs}
 use Rattle.wordeq.proofs.splits.character_unchecked.Statement.{statement}
 use Rattle.wordeq.proofs.splits.character_unchecked.Tie as tie
-use Rattle.wordeq.proofs.splits.character_unchecked.Reads as reads
-use Rattle.wordeq.proofs.splits.character_unchecked.Lts as lts
-use Rattle.records.proofs.make.make_constant_unchecked.Reads as make-constant-unchecked-reads
-use Rattle.wordeq.proofs.splits.prefix_unchecked.Reads as prefix-unchecked-reads
 
 pub character-unchecked-spec : {M : Type 1} → statement M
 character-unchecked-spec =

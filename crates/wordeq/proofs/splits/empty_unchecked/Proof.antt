@@ -3,10 +3,6 @@ use mathlib.Core.Path.{refl}
 use borrow.Author.Needs.{needs}
 use Rattle.wordeq.proofs.splits.empty_unchecked.Statement.{statement}
 use Rattle.wordeq.proofs.splits.empty_unchecked.Tie as tie
-use Rattle.wordeq.proofs.splits.empty_unchecked.Reads as reads
-use Rattle.wordeq.proofs.splits.empty_unchecked.Lts as lts
-use Rattle.records.proofs.build.make_equation_unchecked.Reads as make-equation-unchecked-reads
-use Rattle.records.proofs.make.make_constant_unchecked.Reads as make-constant-unchecked-reads
 
 pub empty-unchecked-spec : {M : Type 1} → statement M
 empty-unchecked-spec =

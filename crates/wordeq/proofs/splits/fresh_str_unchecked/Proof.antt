@@ -2,10 +2,6 @@ use Rattle.wordeq.proofs.Splitting.{named-stop, named-ready, named-then
 use borrow.Author.Needs.{needs}
 use Rattle.wordeq.proofs.splits.fresh_str_unchecked.Statement.{statement}
 use Rattle.wordeq.proofs.splits.fresh_str_unchecked.Tie as tie
-use Rattle.wordeq.proofs.splits.fresh_str_unchecked.Reads as reads
-use Rattle.wordeq.proofs.splits.fresh_str_unchecked.Lts as lts
-use Rattle.held.proofs.taking.next_name_unchecked.Reads as next-name-unchecked-reads
-use Rattle.wordeq.proofs.splits.make_named.Reads as make-named-reads
 
 pub fresh-str-unchecked-spec : {M : Type 1} → statement M
 fresh-str-unchecked-spec =

@@ -3,10 +3,6 @@ use mathlib.Core.Path.{refl}
 use borrow.Author.Needs.{needs}
 use Rattle.wordeq.proofs.splits.lengths_unchecked.Statement.{statement}
 use Rattle.wordeq.proofs.splits.lengths_unchecked.Tie as tie
-use Rattle.wordeq.proofs.splits.lengths_unchecked.Reads as reads
-use Rattle.wordeq.proofs.splits.lengths_unchecked.Lts as lts
-use Rattle.records.proofs.build.make_equation_unchecked.Reads as make-equation-unchecked-reads
-use Rattle.records.proofs.build.make_length_unchecked.Reads as make-length-unchecked-reads
 
 pub lengths-unchecked-spec : {M : Type 1} → statement M
 lengths-unchecked-spec =

@@ -4,9 +4,6 @@ use native.Mathlib.Omega.{arith}
 use borrow.Author.Needs.{needs}
 use Rattle.wordeq.proofs.splits.make_named.Statement.{statement}
 use Rattle.wordeq.proofs.splits.make_named.Tie as tie
-use Rattle.wordeq.proofs.splits.make_named.Reads as reads
-use Rattle.wordeq.proofs.splits.make_named.Lts as lts
-use Rattle.records.proofs.make.make_variable_unchecked.Reads as make-variable-unchecked-reads
 
 pub make-named-spec : {M : Type 1} → statement M
 make-named-spec =

@@ -3,11 +3,6 @@ use mathlib.Core.Path.{refl, _∙_}
 use borrow.Author.Needs.{needs}
 use Rattle.wordeq.proofs.splits.prefix_unchecked.Statement.{statement}
 use Rattle.wordeq.proofs.splits.prefix_unchecked.Tie as tie
-use Rattle.wordeq.proofs.splits.prefix_unchecked.Reads as reads
-use Rattle.wordeq.proofs.splits.prefix_unchecked.Lts as lts
-use Rattle.records.proofs.build.make_concatenation_unchecked.Reads as make-concatenation-unchecked-reads
-use Rattle.records.proofs.build.make_equation_unchecked.Reads as make-equation-unchecked-reads
-use Rattle.wordeq.proofs.splits.fresh_str_unchecked.Reads as fresh-str-unchecked-reads
 
 slice-aggregate-make-concatenation-unchecked :
     tie.Need-slice-aggregate-make-concatenation-unchecked

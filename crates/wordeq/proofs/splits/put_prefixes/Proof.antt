@@ -4,9 +4,6 @@ use native.Mathlib.Omega.{arith}
 use borrow.Author.Needs.{needs}
 use Rattle.wordeq.proofs.splits.put_prefixes.Statement.{statement}
 use Rattle.wordeq.proofs.splits.put_prefixes.Tie as tie
-use Rattle.wordeq.proofs.splits.put_prefixes.Reads as reads
-use Rattle.wordeq.proofs.splits.put_prefixes.Lts as lts
-use Rattle.wordeq.proofs.splits.prefix_unchecked.Reads as prefix-unchecked-reads
 
 pub put-prefixes-spec : {M : Type 1} → statement M
 put-prefixes-spec =

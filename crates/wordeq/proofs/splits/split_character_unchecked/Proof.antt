@@ -5,10 +5,6 @@ use native.Mathlib.Omega.{arith}
 use borrow.Author.Needs.{needs}
 use Rattle.wordeq.proofs.splits.split_character_unchecked.Statement.{statement}
 use Rattle.wordeq.proofs.splits.split_character_unchecked.Tie as tie
-use Rattle.wordeq.proofs.splits.split_character_unchecked.Reads as reads
-use Rattle.wordeq.proofs.splits.split_character_unchecked.Lts as lts
-use Rattle.wordeq.proofs.splits.character_unchecked.Reads as character-unchecked-reads
-use Rattle.wordeq.proofs.splits.empty_unchecked.Reads as empty-unchecked-reads
 
 pub split-character-unchecked-spec : {M : Type 1} → statement M
 split-character-unchecked-spec =

@@ -3,10 +3,6 @@ use mathlib.Core.Path.{refl}
 use borrow.Author.Needs.{needs}
 use Rattle.wordeq.proofs.splits.split_heads_unchecked.Statement.{statement}
 use Rattle.wordeq.proofs.splits.split_heads_unchecked.Tie as tie
-use Rattle.wordeq.proofs.splits.split_heads_unchecked.Reads as reads
-use Rattle.wordeq.proofs.splits.split_heads_unchecked.Lts as lts
-use Rattle.wordeq.proofs.splits.lengths_unchecked.Reads as lengths-unchecked-reads
-use Rattle.wordeq.proofs.splits.put_prefixes.Reads as put-prefixes-reads
 
 pub split-heads-unchecked-spec : {M : Type 1} → statement M
 split-heads-unchecked-spec =

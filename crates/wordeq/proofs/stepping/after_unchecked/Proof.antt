@@ -6,12 +6,6 @@ use Rattle.wordeq.proofs.Trying.{lined, passed-on, conflicts-goes, prop
 use borrow.Author.Needs.{needs}
 use Rattle.wordeq.proofs.stepping.after_unchecked.Statement.{statement}
 use Rattle.wordeq.proofs.stepping.after_unchecked.Tie as tie
-use Rattle.wordeq.proofs.stepping.after_unchecked.Reads as reads
-use Rattle.wordeq.proofs.stepping.after_unchecked.Lts as lts
-use Rattle.wordeq.proofs.heads.split_unchecked.Reads as split-unchecked-reads
-use Rattle.wordeq.proofs.propagate.propagate_unchecked.Reads as propagate-unchecked-reads
-use Rattle.wordeq.proofs.spans.tile_unchecked.Reads as tile-unchecked-reads
-use Rattle.wordeq.proofs.stepping.conflicts_unchecked.Reads as conflicts-unchecked-reads
 
 pub after-unchecked-spec : {M : Type 1} → statement M
 after-unchecked-spec =

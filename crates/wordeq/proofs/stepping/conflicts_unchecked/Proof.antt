@@ -5,10 +5,6 @@ use Rattle.wordeq.specs.Wordeq.{constants}
 use borrow.Author.Needs.{needs}
 use Rattle.wordeq.proofs.stepping.conflicts_unchecked.Statement.{statement}
 use Rattle.wordeq.proofs.stepping.conflicts_unchecked.Tie as tie
-use Rattle.wordeq.proofs.stepping.conflicts_unchecked.Reads as reads
-use Rattle.wordeq.proofs.stepping.conflicts_unchecked.Lts as lts
-use Rattle.wordeq.proofs.lacking.constants.Reads as constants-reads
-use Rattle.wordeq.proofs.occurring.occurs_unchecked.Reads as occurs-unchecked-reads
 
 pub conflicts-unchecked-spec : {M : Type 1} → statement M
 conflicts-unchecked-spec =

@@ -1,8 +1,6 @@
 use Rattle.wordeq.proofs.Steps.{not-bare, bare-right}
 use Rattle.wordeq.proofs.stepping.is_bare.Statement.{statement}
 use Rattle.wordeq.proofs.stepping.is_bare.Tie as tie
-use Rattle.wordeq.proofs.stepping.is_bare.Reads as reads
-use Rattle.wordeq.proofs.stepping.is_bare.Lts as lts
 
 pub is-bare-spec : {M : Type 1} → statement M
 is-bare-spec = tie.close (tie.spec (λ c. not-bare (c .before .args .l .now) (c .before .args .r .now) (c .if1 .taken)) (λ c. bare-right (c .before .args .l .now) (c .before .args .r .now) (c .if1 .left)))

@@ -6,11 +6,6 @@ use Rattle.wordeq.proofs.Trying.{lined}
 use borrow.Author.Needs.{needs}
 use Rattle.wordeq.proofs.stepping.steps_unchecked.Statement.{statement}
 use Rattle.wordeq.proofs.stepping.steps_unchecked.Tie as tie
-use Rattle.wordeq.proofs.stepping.steps_unchecked.Reads as reads
-use Rattle.wordeq.proofs.stepping.steps_unchecked.Lts as lts
-use Rattle.wordeq.proofs.stepping.after_unchecked.Reads as after-unchecked-reads
-use Rattle.wordeq.proofs.stepping.is_bare.Reads as is-bare-reads
-use Rattle.wordeq.proofs.stripping.strip_unchecked.Reads as strip-unchecked-reads
 
 pub steps-unchecked-spec : {M : Type 1} → statement M
 steps-unchecked-spec =
