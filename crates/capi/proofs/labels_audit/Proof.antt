@@ -2,10 +2,6 @@ use Rattle.capi.proofs.Words.{audit-unstated, audit-stated}
 use borrow.Author.Needs.{needs}
 use Rattle.capi.proofs.labels_audit.Statement.{statement}
 use Rattle.capi.proofs.labels_audit.Tie as tie
-use Rattle.capi.proofs.labels_audit.Reads as reads
-use Rattle.capi.proofs.labels_audit.Lts as lts
-use Rattle.capi.proofs.telling.state_of.Reads as state-of-reads
-use Rattle.records.proofs.audit.Reads as audit-reads
 
 pub labels-audit-spec : {M : Type 1} → statement M
 labels-audit-spec = tie.close (tie.spec (λ c. search (audit-unstated, needs)) (λ c κs. search needs) (λ c κs. search needs) (λ c. search (audit-stated, needs)))

@@ -4,8 +4,6 @@ use mathlib.Core.Path.{sym, _∙_}
 use borrow.Author.Needs.{needs}
 use Rattle.capi.proofs.labels_deep_normal_form.Statement.{statement}
 use Rattle.capi.proofs.labels_deep_normal_form.Tie as tie
-use Rattle.capi.proofs.labels_deep_normal_form.Reads as reads
-use Rattle.capi.proofs.labels_deep_normal_form.Lts as lts
 
 pub labels-deep-normal-form-spec : {M : Type 1} → statement M
 labels-deep-normal-form-spec =

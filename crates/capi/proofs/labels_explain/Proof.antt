@@ -3,11 +3,6 @@ use native.Mathlib.Omega.{arith}
 use borrow.Author.Needs.{needs}
 use Rattle.capi.proofs.labels_explain.Statement.{statement}
 use Rattle.capi.proofs.labels_explain.Tie as tie
-use Rattle.capi.proofs.labels_explain.Reads as reads
-use Rattle.capi.proofs.labels_explain.Lts as lts
-use Rattle.capi.proofs.telling.state_of.Reads as state-of-reads
-use Rattle.capi.proofs.telling.tell_counts.Reads as tell-counts-reads
-use Rattle.engine.proofs.explain.Reads as explain-reads
 
 pub labels-explain-spec : {M : Type 1} → statement M
 labels-explain-spec =

@@ -7,11 +7,6 @@ use native.Mathlib.Omega.{arith}
 use borrow.Author.Needs.{needs}
 use Rattle.capi.proofs.labels_find.Statement.{statement}
 use Rattle.capi.proofs.labels_find.Tie as tie
-use Rattle.capi.proofs.labels_find.Reads as reads
-use Rattle.capi.proofs.labels_find.Lts as lts
-use Rattle.capi.proofs.telling.is_roomy.Reads as is-roomy-reads
-use Rattle.capi.proofs.telling.state_of.Reads as state-of-reads
-use Rattle.engine.proofs.find.Reads as find-reads
 
 pub labels-find-spec : {M : Type 1} → statement M
 labels-find-spec =

@@ -5,12 +5,6 @@ use Rattle.capi.proofs.Tellings.{concat-tells}
 use borrow.Author.Needs.{needs}
 use Rattle.capi.proofs.labels_make_concatenation.Statement.{statement}
 use Rattle.capi.proofs.labels_make_concatenation.Tie as tie
-use Rattle.capi.proofs.labels_make_concatenation.Reads as reads
-use Rattle.capi.proofs.labels_make_concatenation.Lts as lts
-use Rattle.capi.proofs.telling.is_roomy.Reads as is-roomy-reads
-use Rattle.capi.proofs.telling.state_of.Reads as state-of-reads
-use Rattle.capi.proofs.telling.tell.Reads as tell-reads
-use Rattle.records.proofs.build.make_concatenation.Reads as make-concatenation-reads
 
 pub labels-make-concatenation-spec : {M : Type 1} → statement M
 labels-make-concatenation-spec =

@@ -5,12 +5,6 @@ use Rattle.capi.proofs.Tellings.{constant-tells}
 use borrow.Author.Needs.{needs}
 use Rattle.capi.proofs.labels_make_constant.Statement.{statement}
 use Rattle.capi.proofs.labels_make_constant.Tie as tie
-use Rattle.capi.proofs.labels_make_constant.Reads as reads
-use Rattle.capi.proofs.labels_make_constant.Lts as lts
-use Rattle.capi.proofs.telling.is_roomy.Reads as is-roomy-reads
-use Rattle.capi.proofs.telling.state_of.Reads as state-of-reads
-use Rattle.capi.proofs.telling.tell.Reads as tell-reads
-use Rattle.records.proofs.make.make_constant.Reads as make-constant-reads
 
 pub labels-make-constant-spec : {M : Type 1} → statement M
 labels-make-constant-spec =

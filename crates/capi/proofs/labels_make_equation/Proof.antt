@@ -5,12 +5,6 @@ use Rattle.capi.proofs.Tellings.{equation-tells}
 use borrow.Author.Needs.{needs}
 use Rattle.capi.proofs.labels_make_equation.Statement.{statement}
 use Rattle.capi.proofs.labels_make_equation.Tie as tie
-use Rattle.capi.proofs.labels_make_equation.Reads as reads
-use Rattle.capi.proofs.labels_make_equation.Lts as lts
-use Rattle.capi.proofs.telling.is_roomy.Reads as is-roomy-reads
-use Rattle.capi.proofs.telling.state_of.Reads as state-of-reads
-use Rattle.capi.proofs.telling.tell.Reads as tell-reads
-use Rattle.records.proofs.build.make_equation.Reads as make-equation-reads
 
 pub labels-make-equation-spec : {M : Type 1} → statement M
 labels-make-equation-spec =

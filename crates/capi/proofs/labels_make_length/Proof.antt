@@ -5,12 +5,6 @@ use Rattle.capi.proofs.Tellings.{length-tells}
 use borrow.Author.Needs.{needs}
 use Rattle.capi.proofs.labels_make_length.Statement.{statement}
 use Rattle.capi.proofs.labels_make_length.Tie as tie
-use Rattle.capi.proofs.labels_make_length.Reads as reads
-use Rattle.capi.proofs.labels_make_length.Lts as lts
-use Rattle.capi.proofs.telling.is_roomy.Reads as is-roomy-reads
-use Rattle.capi.proofs.telling.state_of.Reads as state-of-reads
-use Rattle.capi.proofs.telling.tell.Reads as tell-reads
-use Rattle.records.proofs.build.make_length.Reads as make-length-reads
 
 pub labels-make-length-spec : {M : Type 1} → statement M
 labels-make-length-spec =

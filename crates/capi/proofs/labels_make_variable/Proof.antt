@@ -5,12 +5,6 @@ use Rattle.capi.proofs.Tellings.{variable-tells}
 use borrow.Author.Needs.{needs}
 use Rattle.capi.proofs.labels_make_variable.Statement.{statement}
 use Rattle.capi.proofs.labels_make_variable.Tie as tie
-use Rattle.capi.proofs.labels_make_variable.Reads as reads
-use Rattle.capi.proofs.labels_make_variable.Lts as lts
-use Rattle.capi.proofs.telling.is_roomy.Reads as is-roomy-reads
-use Rattle.capi.proofs.telling.state_of.Reads as state-of-reads
-use Rattle.capi.proofs.telling.tell.Reads as tell-reads
-use Rattle.records.proofs.make.make_variable.Reads as make-variable-reads
 
 pub labels-make-variable-spec : {M : Type 1} → statement M
 labels-make-variable-spec =

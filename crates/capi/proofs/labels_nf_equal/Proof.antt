@@ -6,8 +6,6 @@ use native.Mathlib.Omega.{arith}
 use borrow.Author.Needs.{needs}
 use Rattle.capi.proofs.labels_nf_equal.Statement.{statement}
 use Rattle.capi.proofs.labels_nf_equal.Tie as tie
-use Rattle.capi.proofs.labels_nf_equal.Reads as reads
-use Rattle.capi.proofs.labels_nf_equal.Lts as lts
 
 pub labels-nf-equal-spec : {M : Type 1} → statement M
 labels-nf-equal-spec =

@@ -3,8 +3,6 @@ use native.Mathlib.Omega.{arith}
 use borrow.Author.Needs.{needs}
 use Rattle.capi.proofs.labels_nf_equal_explain.Statement.{statement}
 use Rattle.capi.proofs.labels_nf_equal_explain.Tie as tie
-use Rattle.capi.proofs.labels_nf_equal_explain.Reads as reads
-use Rattle.capi.proofs.labels_nf_equal_explain.Lts as lts
 
 pub labels-nf-equal-explain-spec : {M : Type 1} → statement M
 labels-nf-equal-explain-spec =

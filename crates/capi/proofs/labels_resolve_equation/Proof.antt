@@ -5,8 +5,6 @@ use native.Mathlib.Omega.{arith}
 use borrow.Author.Needs.{needs}
 use Rattle.capi.proofs.labels_resolve_equation.Statement.{statement}
 use Rattle.capi.proofs.labels_resolve_equation.Tie as tie
-use Rattle.capi.proofs.labels_resolve_equation.Reads as reads
-use Rattle.capi.proofs.labels_resolve_equation.Lts as lts
 
 pub labels-resolve-equation-spec : {M : Type 1} → statement M
 labels-resolve-equation-spec =

@@ -5,8 +5,6 @@ use native.Mathlib.Omega.{arith}
 use borrow.Author.Needs.{needs}
 use Rattle.capi.proofs.labels_step.Statement.{statement}
 use Rattle.capi.proofs.labels_step.Tie as tie
-use Rattle.capi.proofs.labels_step.Reads as reads
-use Rattle.capi.proofs.labels_step.Lts as lts
 
 pub labels-step-spec : {M : Type 1} → statement M
 labels-step-spec =

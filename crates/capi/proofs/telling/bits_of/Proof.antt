@@ -1,8 +1,6 @@
 use Rattle.capi.proofs.Complements.{low-fits, low-cast, low-under, low-is, high-cast, high-is}
 use Rattle.capi.proofs.telling.bits_of.Statement.{statement}
 use Rattle.capi.proofs.telling.bits_of.Tie as tie
-use Rattle.capi.proofs.telling.bits_of.Reads as reads
-use Rattle.capi.proofs.telling.bits_of.Lts as lts
 
 pub bits-of-spec : {M : Type 1} → statement M
 bits-of-spec = tie.close (tie.spec (λ c. low-fits (c .before .args .g) (c .before .fits .g) (c .if1 .taken)) (λ c. low-cast (c .before .args .g) (c .before .fits .g) (c .if1 .taken)) (λ c. low-under (c .before .args .g) (c .before .fits .g) (c .if1 .taken)) (λ c. low-is (c .before .args .g) (c .before .fits .g) (c .if1 .taken)) (λ c. high-cast (c .before .args .g) (c .before .fits .g) (c .if1 .left)) (λ c. high-is (c .before .args .g) (c .before .fits .g) (c .if1 .left)))

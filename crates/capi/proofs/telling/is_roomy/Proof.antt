@@ -2,8 +2,6 @@ use Rattle.capi.proofs.Words.{unroomy, roomy-is}
 use borrow.Author.Needs.{needs}
 use Rattle.capi.proofs.telling.is_roomy.Statement.{statement}
 use Rattle.capi.proofs.telling.is_roomy.Tie as tie
-use Rattle.capi.proofs.telling.is_roomy.Reads as reads
-use Rattle.capi.proofs.telling.is_roomy.Lts as lts
 
 pub is-roomy-spec : {M : Type 1} → statement M
 is-roomy-spec = tie.close (tie.spec (λ c. search (unroomy, needs)) (λ c. search (roomy-is, needs)))

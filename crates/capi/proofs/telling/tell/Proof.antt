@@ -4,9 +4,6 @@ use native.Mathlib.Omega.{arith}
 use borrow.Author.Needs.{needs}
 use Rattle.capi.proofs.telling.tell.Statement.{statement}
 use Rattle.capi.proofs.telling.tell.Tie as tie
-use Rattle.capi.proofs.telling.tell.Reads as reads
-use Rattle.capi.proofs.telling.tell.Lts as lts
-use Rattle.capi.proofs.telling.write_state.Reads as write-state-reads
 
 pub tell-spec : {M : Type 1} → statement M
 tell-spec =

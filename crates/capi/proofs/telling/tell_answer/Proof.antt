@@ -5,8 +5,6 @@ use mathlib.Core.Path.{ap}
 use borrow.Author.Needs.{needs}
 use Rattle.capi.proofs.telling.tell_answer.Statement.{statement}
 use Rattle.capi.proofs.telling.tell_answer.Tie as tie
-use Rattle.capi.proofs.telling.tell_answer.Reads as reads
-use Rattle.capi.proofs.telling.tell_answer.Lts as lts
 
 pub tell-answer-spec : {M : Type 1} → statement M
 tell-answer-spec =

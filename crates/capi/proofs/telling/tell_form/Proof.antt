@@ -4,8 +4,6 @@ use mathlib.Core.Path.{ap}
 use borrow.Author.Needs.{needs}
 use Rattle.capi.proofs.telling.tell_form.Statement.{statement}
 use Rattle.capi.proofs.telling.tell_form.Tie as tie
-use Rattle.capi.proofs.telling.tell_form.Reads as reads
-use Rattle.capi.proofs.telling.tell_form.Lts as lts
 
 pub tell-form-spec : {M : Type 1} → statement M
 tell-form-spec =

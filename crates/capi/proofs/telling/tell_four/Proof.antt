@@ -6,8 +6,6 @@ use native.Mathlib.Omega.{arith}
 use borrow.Author.Needs.{needs}
 use Rattle.capi.proofs.telling.tell_four.Statement.{statement}
 use Rattle.capi.proofs.telling.tell_four.Tie as tie
-use Rattle.capi.proofs.telling.tell_four.Reads as reads
-use Rattle.capi.proofs.telling.tell_four.Lts as lts
 
 pub tell-four-spec : {M : Type 1} → statement M
 tell-four-spec =

@@ -5,8 +5,6 @@ use native.Mathlib.Omega.{arith}
 use borrow.Author.Needs.{needs}
 use Rattle.capi.proofs.telling.tell_one.Statement.{statement}
 use Rattle.capi.proofs.telling.tell_one.Tie as tie
-use Rattle.capi.proofs.telling.tell_one.Reads as reads
-use Rattle.capi.proofs.telling.tell_one.Lts as lts
 
 pub tell-one-spec : {M : Type 1} → statement M
 tell-one-spec =

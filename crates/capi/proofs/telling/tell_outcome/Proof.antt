@@ -5,8 +5,6 @@ use mathlib.Core.Path.{ap}
 use borrow.Author.Needs.{needs}
 use Rattle.capi.proofs.telling.tell_outcome.Statement.{statement}
 use Rattle.capi.proofs.telling.tell_outcome.Tie as tie
-use Rattle.capi.proofs.telling.tell_outcome.Reads as reads
-use Rattle.capi.proofs.telling.tell_outcome.Lts as lts
 
 pub tell-outcome-spec : {M : Type 1} → statement M
 tell-outcome-spec =

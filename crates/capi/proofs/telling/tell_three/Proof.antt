@@ -6,8 +6,6 @@ use native.Mathlib.Omega.{arith}
 use borrow.Author.Needs.{needs}
 use Rattle.capi.proofs.telling.tell_three.Statement.{statement}
 use Rattle.capi.proofs.telling.tell_three.Tie as tie
-use Rattle.capi.proofs.telling.tell_three.Reads as reads
-use Rattle.capi.proofs.telling.tell_three.Lts as lts
 
 pub tell-three-spec : {M : Type 1} → statement M
 tell-three-spec =

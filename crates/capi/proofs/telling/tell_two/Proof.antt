@@ -6,8 +6,6 @@ use native.Mathlib.Omega.{arith}
 use borrow.Author.Needs.{needs}
 use Rattle.capi.proofs.telling.tell_two.Statement.{statement}
 use Rattle.capi.proofs.telling.tell_two.Tie as tie
-use Rattle.capi.proofs.telling.tell_two.Reads as reads
-use Rattle.capi.proofs.telling.tell_two.Lts as lts
 
 pub tell-two-spec : {M : Type 1} → statement M
 tell-two-spec =

@@ -4,8 +4,6 @@ use native.Mathlib.Omega.{arith}
 use borrow.Author.Needs.{needs}
 use Rattle.capi.proofs.telling.write_state.Statement.{statement}
 use Rattle.capi.proofs.telling.write_state.Tie as tie
-use Rattle.capi.proofs.telling.write_state.Reads as reads
-use Rattle.capi.proofs.telling.write_state.Lts as lts
 
 pub write-state-spec : {M : Type 1} → statement M
 write-state-spec =

@@ -3,12 +3,6 @@ use Rattle.records.specs.View.{lent}
 use borrow.Author.Needs.{needs}
 use Rattle.commands.proofs.merge.can_join_unchecked.Statement.{statement}
 use Rattle.commands.proofs.merge.can_join_unchecked.Tie as tie
-use Rattle.commands.proofs.merge.can_join_unchecked.Reads as reads
-use Rattle.commands.proofs.merge.can_join_unchecked.Lts as lts
-use Rattle.commands.proofs.merge.is_root.Reads as is-root-reads
-use Rattle.records.proofs.classes.root_unchecked.Reads as root-unchecked-reads
-use Rattle.records.proofs.rules.is_number.Reads as is-number-reads
-use Rattle.records.proofs.rules.is_string.Reads as is-string-reads
 
 pub can-join-unchecked-spec : {M : Type 1} → statement M
 can-join-unchecked-spec =

@@ -2,10 +2,6 @@ use Rattle.commands.proofs.Joining.{root-not, root-by}
 use borrow.Author.Needs.{needs}
 use Rattle.commands.proofs.merge.is_root.Statement.{statement}
 use Rattle.commands.proofs.merge.is_root.Tie as tie
-use Rattle.commands.proofs.merge.is_root.Reads as reads
-use Rattle.commands.proofs.merge.is_root.Lts as lts
-use Rattle.records.proofs.fields.class_parent.Reads as class-parent-reads
-use Rattle.records.proofs.fields.forest_parent.Reads as forest-parent-reads
 
 pub is-root-spec : {M : Type 1} → statement M
 is-root-spec = tie.close (tie.spec (λ c κs. search needs) (λ c. root-not (c .before .before .before .args .terms .now) (c .before .before .before .args .n) (c .before .before .before .args .t) _ (c .before .before .before .pre) (c .before .class-parent .ensures) (c .if1 .taken)) (λ c κs. search needs) (λ c. root-by (c .before .before .before .before .args .terms .now) (c .before .before .before .before .args .n) (c .before .before .before .before .args .t) _ (c .before .before .before .before .pre) _ (c .before .before .class-parent .ensures) (c .before .if1 .left) (c .forest-parent .ensures)))

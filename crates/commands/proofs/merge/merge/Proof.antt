@@ -4,11 +4,6 @@ use Rattle.records.specs.View.{lent}
 use borrow.Author.Needs.{needs}
 use Rattle.commands.proofs.merge.merge.Statement.{statement}
 use Rattle.commands.proofs.merge.merge.Tie as tie
-use Rattle.commands.proofs.merge.merge.Reads as reads
-use Rattle.commands.proofs.merge.merge.Lts as lts
-use Rattle.commands.proofs.merge.can_join_unchecked.Reads as can-join-unchecked-reads
-use Rattle.commands.proofs.merge.put_under_unchecked.Reads as put-under-unchecked-reads
-use Rattle.records.proofs.audit.Reads as audit-reads
 
 pub merge-spec : {M : Type 1} → statement M
 merge-spec =

@@ -4,8 +4,6 @@ use native.Mathlib.Omega.{arith}
 use borrow.Author.Needs.{needs}
 use Rattle.commands.proofs.merge.put_under_unchecked.Statement.{statement}
 use Rattle.commands.proofs.merge.put_under_unchecked.Tie as tie
-use Rattle.commands.proofs.merge.put_under_unchecked.Reads as reads
-use Rattle.commands.proofs.merge.put_under_unchecked.Lts as lts
 
 pub put-under-unchecked-spec : {M : Type 1} → statement M
 put-under-unchecked-spec =

@@ -4,8 +4,6 @@ use Prim.Native.Nat.{_-_}
 use borrow.Author.Needs.{needs}
 use Rattle.commands.proofs.numbers.field_end.Statement.{statement}
 use Rattle.commands.proofs.numbers.field_end.Tie as tie
-use Rattle.commands.proofs.numbers.field_end.Reads as reads
-use Rattle.commands.proofs.numbers.field_end.Lts as lts
 
 abbrev Inv-loop : tie.InvT-loop
 Inv-loop line at i₀ i = Passed line at i

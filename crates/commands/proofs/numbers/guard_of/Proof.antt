@@ -3,11 +3,6 @@ use native.Mathlib.Omega.{arith}
 use borrow.Author.Needs.{needs}
 use Rattle.commands.proofs.numbers.guard_of.Statement.{statement}
 use Rattle.commands.proofs.numbers.guard_of.Tie as tie
-use Rattle.commands.proofs.numbers.guard_of.Reads as reads
-use Rattle.commands.proofs.numbers.guard_of.Lts as lts
-use Rattle.commands.proofs.numbers.negative.Reads as negative-reads
-use Rattle.commands.proofs.numbers.number_of.Reads as number-of-reads
-use Rattle.commands.proofs.numbers.positive.Reads as positive-reads
 
 pub guard-of-spec : {M : Type 1} → statement M
 guard-of-spec =

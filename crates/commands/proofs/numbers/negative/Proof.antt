@@ -2,9 +2,6 @@ use Rattle.commands.proofs.Guards.{negative-zero, negative-fits, negati
 use borrow.Author.Needs.{needs}
 use Rattle.commands.proofs.numbers.negative.Statement.{statement}
 use Rattle.commands.proofs.numbers.negative.Tie as tie
-use Rattle.commands.proofs.numbers.negative.Reads as reads
-use Rattle.commands.proofs.numbers.negative.Lts as lts
-use Rattle.commands.proofs.numbers.positive.Reads as positive-reads
 
 pub negative-spec : {M : Type 1} → statement M
 negative-spec = tie.close (tie.spec (λ c. negative-zero (c .before .args .x) (c .if1 .taken)) (λ c. search needs) (λ c κs. search needs) (λ c. negative-fits (c .before .before .args .x) _ (c .before .if1 .left) (c .before .before .pre) (c .positive .ensures)) (λ c. negative-is (c .before .before .args .x) _ (c .before .if1 .left) (c .before .before .pre) (c .positive .ensures)))

@@ -5,8 +5,6 @@ use native.Mathlib.Omega.{arith}
 use borrow.Author.Needs.{needs}
 use Rattle.commands.proofs.numbers.number_of.Statement.{statement}
 use Rattle.commands.proofs.numbers.number_of.Tie as tie
-use Rattle.commands.proofs.numbers.number_of.Reads as reads
-use Rattle.commands.proofs.numbers.number_of.Lts as lts
 
 abbrev Inv-loop : tie.InvT-loop
 Inv-loop w limit x₀ i₀ x i = Read limit w x i

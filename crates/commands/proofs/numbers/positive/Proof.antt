@@ -2,8 +2,6 @@ use Rattle.commands.proofs.Guards.{positive-is}
 use borrow.Author.Needs.{needs}
 use Rattle.commands.proofs.numbers.positive.Statement.{statement}
 use Rattle.commands.proofs.numbers.positive.Tie as tie
-use Rattle.commands.proofs.numbers.positive.Reads as reads
-use Rattle.commands.proofs.numbers.positive.Lts as lts
 
 pub positive-spec : {M : Type 1} → statement M
 positive-spec = tie.close (tie.spec (λ c. search needs) (λ c. positive-is (c .args .x) (c .pre)))

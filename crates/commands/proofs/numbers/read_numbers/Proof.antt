@@ -5,10 +5,6 @@ use native.Mathlib.Omega.{arith}
 use borrow.Author.Needs.{needs}
 use Rattle.commands.proofs.numbers.read_numbers.Statement.{statement}
 use Rattle.commands.proofs.numbers.read_numbers.Tie as tie
-use Rattle.commands.proofs.numbers.read_numbers.Reads as reads
-use Rattle.commands.proofs.numbers.read_numbers.Lts as lts
-use Rattle.commands.proofs.numbers.field_end.Reads as field-end-reads
-use Rattle.commands.proofs.numbers.number_of.Reads as number-of-reads
 
 abbrev Inv-loop : tie.InvT-loop
 Inv-loop rest list₀ at₀ n₀ list at n = Numbered rest list₀ list at n

@@ -4,11 +4,6 @@ use native.Mathlib.Omega.{arith}
 use borrow.Author.Needs.{needs}
 use Rattle.commands.proofs.numbers.read_resolve.Statement.{statement}
 use Rattle.commands.proofs.numbers.read_resolve.Tie as tie
-use Rattle.commands.proofs.numbers.read_resolve.Reads as reads
-use Rattle.commands.proofs.numbers.read_resolve.Lts as lts
-use Rattle.commands.proofs.numbers.field_end.Reads as field-end-reads
-use Rattle.commands.proofs.numbers.guard_of.Reads as guard-of-reads
-use Rattle.commands.proofs.numbers.number_of.Reads as number-of-reads
 
 pub read-resolve-spec : {M : Type 1} → statement M
 read-resolve-spec =

@@ -2,15 +2,6 @@ use Rattle.commands.proofs.Parsing.{letter-constant, letter-variable, l
 use borrow.Author.Needs.{needs}
 use Rattle.commands.proofs.parse.by_letter.Statement.{statement}
 use Rattle.commands.proofs.parse.by_letter.Tie as tie
-use Rattle.commands.proofs.parse.by_letter.Reads as reads
-use Rattle.commands.proofs.parse.by_letter.Lts as lts
-use Rattle.commands.proofs.numbers.read_resolve.Reads as read-resolve-reads
-use Rattle.commands.proofs.parse.read_concatenation.Reads as read-concatenation-reads
-use Rattle.commands.proofs.parse.read_constant.Reads as read-constant-reads
-use Rattle.commands.proofs.parse.read_equation.Reads as read-equation-reads
-use Rattle.commands.proofs.parse.read_known.Reads as read-known-reads
-use Rattle.commands.proofs.parse.read_merge.Reads as read-merge-reads
-use Rattle.commands.proofs.parse.read_variable.Reads as read-variable-reads
 
 pub by-letter-spec : {M : Type 1} → statement M
 by-letter-spec =

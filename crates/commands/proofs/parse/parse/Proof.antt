@@ -2,9 +2,6 @@ use Rattle.commands.proofs.Parsing.{line-none, line-long, line-is}
 use borrow.Author.Needs.{needs}
 use Rattle.commands.proofs.parse.parse.Statement.{statement}
 use Rattle.commands.proofs.parse.parse.Tie as tie
-use Rattle.commands.proofs.parse.parse.Reads as reads
-use Rattle.commands.proofs.parse.parse.Lts as lts
-use Rattle.commands.proofs.parse.by_letter.Reads as by-letter-reads
 
 pub parse-spec : {M : Type 1} → statement M
 parse-spec =

@@ -3,9 +3,6 @@ use Rattle.commands.specs.Commands.{asConcatenation}
 use borrow.Author.Needs.{needs}
 use Rattle.commands.proofs.parse.read_concatenation.Statement.{statement}
 use Rattle.commands.proofs.parse.read_concatenation.Tie as tie
-use Rattle.commands.proofs.parse.read_concatenation.Reads as reads
-use Rattle.commands.proofs.parse.read_concatenation.Lts as lts
-use Rattle.commands.proofs.numbers.read_numbers.Reads as read-numbers-reads
 
 pub read-concatenation-spec : {M : Type 1} → statement M
 read-concatenation-spec =

@@ -3,9 +3,6 @@ use Rattle.commands.specs.Commands.{asConstant}
 use borrow.Author.Needs.{needs}
 use Rattle.commands.proofs.parse.read_constant.Statement.{statement}
 use Rattle.commands.proofs.parse.read_constant.Tie as tie
-use Rattle.commands.proofs.parse.read_constant.Reads as reads
-use Rattle.commands.proofs.parse.read_constant.Lts as lts
-use Rattle.commands.proofs.parse.read_text.Reads as read-text-reads
 
 pub read-constant-spec : {M : Type 1} → statement M
 read-constant-spec =

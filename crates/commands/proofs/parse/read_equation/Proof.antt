@@ -4,9 +4,6 @@ use native.Mathlib.Omega.{arith}
 use borrow.Author.Needs.{needs}
 use Rattle.commands.proofs.parse.read_equation.Statement.{statement}
 use Rattle.commands.proofs.parse.read_equation.Tie as tie
-use Rattle.commands.proofs.parse.read_equation.Reads as reads
-use Rattle.commands.proofs.parse.read_equation.Lts as lts
-use Rattle.commands.proofs.numbers.read_numbers.Reads as read-numbers-reads
 
 pub read-equation-spec : {M : Type 1} → statement M
 read-equation-spec =

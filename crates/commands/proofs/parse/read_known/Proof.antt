@@ -3,9 +3,6 @@ use Rattle.commands.specs.Commands.{asKnown}
 use borrow.Author.Needs.{needs}
 use Rattle.commands.proofs.parse.read_known.Statement.{statement}
 use Rattle.commands.proofs.parse.read_known.Tie as tie
-use Rattle.commands.proofs.parse.read_known.Reads as reads
-use Rattle.commands.proofs.parse.read_known.Lts as lts
-use Rattle.commands.proofs.numbers.read_numbers.Reads as read-numbers-reads
 
 pub read-known-spec : {M : Type 1} → statement M
 read-known-spec =

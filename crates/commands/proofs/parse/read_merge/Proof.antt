@@ -4,9 +4,6 @@ use native.Mathlib.Omega.{arith}
 use borrow.Author.Needs.{needs}
 use Rattle.commands.proofs.parse.read_merge.Statement.{statement}
 use Rattle.commands.proofs.parse.read_merge.Tie as tie
-use Rattle.commands.proofs.parse.read_merge.Reads as reads
-use Rattle.commands.proofs.parse.read_merge.Lts as lts
-use Rattle.commands.proofs.numbers.read_numbers.Reads as read-numbers-reads
 
 pub read-merge-spec : {M : Type 1} → statement M
 read-merge-spec =

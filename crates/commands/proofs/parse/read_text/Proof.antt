@@ -2,9 +2,6 @@ use Rattle.commands.proofs.Parsing.{text-none, text-odd, text-is}
 use borrow.Author.Needs.{needs}
 use Rattle.commands.proofs.parse.read_text.Statement.{statement}
 use Rattle.commands.proofs.parse.read_text.Tie as tie
-use Rattle.commands.proofs.parse.read_text.Reads as reads
-use Rattle.commands.proofs.parse.read_text.Lts as lts
-use Rattle.commands.proofs.utf8.read_chars.Reads as read-chars-reads
 
 pub read-text-spec : {M : Type 1} → statement M
 read-text-spec =

@@ -3,9 +3,6 @@ use Rattle.commands.specs.Commands.{asVariable}
 use borrow.Author.Needs.{needs}
 use Rattle.commands.proofs.parse.read_variable.Statement.{statement}
 use Rattle.commands.proofs.parse.read_variable.Tie as tie
-use Rattle.commands.proofs.parse.read_variable.Reads as reads
-use Rattle.commands.proofs.parse.read_variable.Lts as lts
-use Rattle.commands.proofs.parse.read_text.Reads as read-text-reads
 
 pub read-variable-spec : {M : Type 1} → statement M
 read-variable-spec =

@@ -8,11 +8,6 @@ use native.Mathlib.Omega.{arith}
 use borrow.Author.Needs.{needs}
 use Rattle.commands.proofs.print.guard_into.Statement.{statement}
 use Rattle.commands.proofs.print.guard_into.Tie as tie
-use Rattle.commands.proofs.print.guard_into.Reads as reads
-use Rattle.commands.proofs.print.guard_into.Lts as lts
-use Rattle.commands.proofs.print.is_below.Reads as is-below-reads
-use Rattle.commands.proofs.print.put_digits.Reads as put-digits-reads
-use Rattle.commands.proofs.print.size_of.Reads as size-of-reads
 
 pub guard-into-spec : {M : Type 1} → statement M
 guard-into-spec =

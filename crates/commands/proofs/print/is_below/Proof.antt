@@ -1,8 +1,6 @@
 use Rattle.commands.proofs.Printing.{below-test}
 use Rattle.commands.proofs.print.is_below.Statement.{statement}
 use Rattle.commands.proofs.print.is_below.Tie as tie
-use Rattle.commands.proofs.print.is_below.Reads as reads
-use Rattle.commands.proofs.print.is_below.Lts as lts
 
 pub is-below-spec : {M : Type 1} → statement M
 is-below-spec = tie.close (tie.spec (λ c. below-test (c .args .g) (c .fits .g)))

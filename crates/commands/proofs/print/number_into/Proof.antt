@@ -5,9 +5,6 @@ use native.Mathlib.Omega.{arith}
 use borrow.Author.Needs.{needs}
 use Rattle.commands.proofs.print.number_into.Statement.{statement}
 use Rattle.commands.proofs.print.number_into.Tie as tie
-use Rattle.commands.proofs.print.number_into.Reads as reads
-use Rattle.commands.proofs.print.number_into.Lts as lts
-use Rattle.commands.proofs.print.put_digits.Reads as put-digits-reads
 
 pub number-into-spec : {M : Type 1} → statement M
 number-into-spec = tie.close (tie.spec (λ c. search needs) (λ c κs. simp length-set (omega arith)) (λ c. c .before .before .put-digits .kept .0 ∙ simp length-set) (λ c. number-put (c .before .before .before .before .before .args .out .now) _ (c .before .before .before .before .before .args .x) _ (c .before .before .before .before .before .pre) (c .before .before .put-digits .kept .0) (c .before .before .put-digits .ensures)))

@@ -5,8 +5,6 @@ use native.Mathlib.Omega.{arith}
 use borrow.Author.Needs.{needs}
 use Rattle.commands.proofs.print.put_bytes.Statement.{statement}
 use Rattle.commands.proofs.print.put_bytes.Tie as tie
-use Rattle.commands.proofs.print.put_bytes.Reads as reads
-use Rattle.commands.proofs.print.put_bytes.Lts as lts
 
 abbrev Inv-loop : tie.InvT-loop
 Inv-loop out₀ w i₀ out i = Copying out₀ out w i

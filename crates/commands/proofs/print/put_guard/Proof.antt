@@ -2,9 +2,6 @@ use Rattle.commands.proofs.Printing.{guard-same}
 use borrow.Author.Needs.{needs}
 use Rattle.commands.proofs.print.put_guard.Statement.{statement}
 use Rattle.commands.proofs.print.put_guard.Tie as tie
-use Rattle.commands.proofs.print.put_guard.Reads as reads
-use Rattle.commands.proofs.print.put_guard.Lts as lts
-use Rattle.commands.proofs.print.guard_into.Reads as guard-into-reads
 
 pub put-guard-spec : {M : Type 1} → statement M
 put-guard-spec = tie.close (tie.spec (λ c κs. search needs) (λ c. guard-same _ _ (c .before .before .args .g) (c .before .before .fits .g) (c .guard-into .ensures)))

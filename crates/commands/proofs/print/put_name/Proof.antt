@@ -2,9 +2,6 @@ use Rattle.commands.proofs.Printing.{name-is, other-name}
 use borrow.Author.Needs.{needs}
 use Rattle.commands.proofs.print.put_name.Statement.{statement}
 use Rattle.commands.proofs.print.put_name.Tie as tie
-use Rattle.commands.proofs.print.put_name.Reads as reads
-use Rattle.commands.proofs.print.put_name.Lts as lts
-use Rattle.commands.proofs.print.put_bytes.Reads as put-bytes-reads
 
 pub put-name-spec : {M : Type 1} → statement M
 put-name-spec =

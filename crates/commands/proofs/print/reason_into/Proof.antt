@@ -5,10 +5,6 @@ use native.Mathlib.Omega.{arith}
 use borrow.Author.Needs.{needs}
 use Rattle.commands.proofs.print.reason_into.Statement.{statement}
 use Rattle.commands.proofs.print.reason_into.Tie as tie
-use Rattle.commands.proofs.print.reason_into.Reads as reads
-use Rattle.commands.proofs.print.reason_into.Lts as lts
-use Rattle.commands.proofs.print.put_digits.Reads as put-digits-reads
-use Rattle.commands.proofs.print.reason_letter.Reads as reason-letter-reads
 
 pub reason-into-spec : {M : Type 1} → statement M
 reason-into-spec =

@@ -1,8 +1,6 @@
 use Rattle.commands.proofs.Printing.{letter-asserted, letter-interface}
 use Rattle.commands.proofs.print.reason_letter.Statement.{statement}
 use Rattle.commands.proofs.print.reason_letter.Tie as tie
-use Rattle.commands.proofs.print.reason_letter.Reads as reads
-use Rattle.commands.proofs.print.reason_letter.Lts as lts
 
 pub reason-letter-spec : {M : Type 1} → statement M
 reason-letter-spec = tie.close (tie.spec (λ c. letter-asserted (c .before .args .kind) (c .if1 .taken)) (λ c. letter-interface (c .before .args .kind) (c .if1 .left)))

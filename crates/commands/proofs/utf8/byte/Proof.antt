@@ -3,8 +3,6 @@ use mathlib.Core.Path.{sym}
 use borrow.Author.Needs.{needs}
 use Rattle.commands.proofs.utf8.byte.Statement.{statement}
 use Rattle.commands.proofs.utf8.byte.Tie as tie
-use Rattle.commands.proofs.utf8.byte.Reads as reads
-use Rattle.commands.proofs.utf8.byte.Lts as lts
 
 pub byte-spec : {M : Type 1} → statement M
 byte-spec = tie.close (tie.spec (λ c. search needs) (λ c. search needs) (λ c. sym (List·getD-eq-default (c .before .args .s .now) 0 (c .if1 .left))))

@@ -2,10 +2,6 @@ use Rattle.commands.proofs.Decoding.{char-at}
 use borrow.Author.Needs.{needs}
 use Rattle.commands.proofs.utf8.char_at.Statement.{statement}
 use Rattle.commands.proofs.utf8.char_at.Tie as tie
-use Rattle.commands.proofs.utf8.char_at.Reads as reads
-use Rattle.commands.proofs.utf8.char_at.Lts as lts
-use Rattle.commands.proofs.utf8.byte.Reads as byte-reads
-use Rattle.commands.proofs.utf8.char_by.Reads as char-by-reads
 
 pub char-at-spec : {M : Type 1} → statement M
 char-at-spec =

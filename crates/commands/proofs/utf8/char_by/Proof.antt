@@ -2,11 +2,6 @@ use Rattle.commands.proofs.Decoding.{by-one, by-none, by-two, by-three,
 use borrow.Author.Needs.{needs}
 use Rattle.commands.proofs.utf8.char_by.Statement.{statement}
 use Rattle.commands.proofs.utf8.char_by.Tie as tie
-use Rattle.commands.proofs.utf8.char_by.Reads as reads
-use Rattle.commands.proofs.utf8.char_by.Lts as lts
-use Rattle.commands.proofs.utf8.four_bytes.Reads as four-bytes-reads
-use Rattle.commands.proofs.utf8.three_bytes.Reads as three-bytes-reads
-use Rattle.commands.proofs.utf8.two_bytes.Reads as two-bytes-reads
 
 pub char-by-spec : {M : Type 1} → statement M
 char-by-spec =

@@ -8,11 +8,6 @@ use native.Mathlib.Omega.{arith}
 use borrow.Author.Needs.{needs}
 use Rattle.commands.proofs.utf8.four_bytes.Statement.{statement}
 use Rattle.commands.proofs.utf8.four_bytes.Tie as tie
-use Rattle.commands.proofs.utf8.four_bytes.Reads as reads
-use Rattle.commands.proofs.utf8.four_bytes.Lts as lts
-use Rattle.commands.proofs.utf8.is_next.Reads as is-next-reads
-use Rattle.commands.proofs.utf8.shape.Reads as shape-reads
-use Rattle.commands.proofs.utf8.six_more.Reads as six-more-reads
 
 pub four-bytes-spec : {M : Type 1} → statement M
 four-bytes-spec =

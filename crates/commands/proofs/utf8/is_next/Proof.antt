@@ -1,8 +1,6 @@
 use Rattle.commands.proofs.Decoding.{next-low, next-high}
 use Rattle.commands.proofs.utf8.is_next.Statement.{statement}
 use Rattle.commands.proofs.utf8.is_next.Tie as tie
-use Rattle.commands.proofs.utf8.is_next.Reads as reads
-use Rattle.commands.proofs.utf8.is_next.Lts as lts
 
 pub is-next-spec : {M : Type 1} → statement M
 is-next-spec = tie.close (tie.spec (λ c. next-low (c .before .args .b) (c .if1 .taken)) (λ c. next-high (c .before .args .b) (c .if1 .left)))

@@ -5,9 +5,6 @@ use native.Mathlib.Omega.{arith}
 use borrow.Author.Needs.{needs}
 use Rattle.commands.proofs.utf8.read_chars.Statement.{statement}
 use Rattle.commands.proofs.utf8.read_chars.Tie as tie
-use Rattle.commands.proofs.utf8.read_chars.Reads as reads
-use Rattle.commands.proofs.utf8.read_chars.Lts as lts
-use Rattle.commands.proofs.utf8.char_at.Reads as char-at-reads
 
 abbrev Inv-loop : tie.InvT-loop
 Inv-loop s list₀ at₀ n₀ list at n = Decoded s list₀ list at n

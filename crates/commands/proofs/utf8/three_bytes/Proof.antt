@@ -11,11 +11,6 @@ use native.Mathlib.Omega.{arith}
 use borrow.Author.Needs.{needs}
 use Rattle.commands.proofs.utf8.three_bytes.Statement.{statement}
 use Rattle.commands.proofs.utf8.three_bytes.Tie as tie
-use Rattle.commands.proofs.utf8.three_bytes.Reads as reads
-use Rattle.commands.proofs.utf8.three_bytes.Lts as lts
-use Rattle.commands.proofs.utf8.is_next.Reads as is-next-reads
-use Rattle.commands.proofs.utf8.shape.Reads as shape-reads
-use Rattle.commands.proofs.utf8.six_more.Reads as six-more-reads
 
 pub three-bytes-spec : {M : Type 1} → statement M
 three-bytes-spec =

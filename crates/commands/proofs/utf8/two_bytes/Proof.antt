@@ -6,11 +6,6 @@ use mathlib.Core.Path.{_∙_, ap}
 use borrow.Author.Needs.{needs}
 use Rattle.commands.proofs.utf8.two_bytes.Statement.{statement}
 use Rattle.commands.proofs.utf8.two_bytes.Tie as tie
-use Rattle.commands.proofs.utf8.two_bytes.Reads as reads
-use Rattle.commands.proofs.utf8.two_bytes.Lts as lts
-use Rattle.commands.proofs.utf8.is_next.Reads as is-next-reads
-use Rattle.commands.proofs.utf8.shape.Reads as shape-reads
-use Rattle.commands.proofs.utf8.six_more.Reads as six-more-reads
 
 pub two-bytes-spec : {M : Type 1} → statement M
 two-bytes-spec =

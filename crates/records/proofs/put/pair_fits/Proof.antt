@@ -1,5 +1,4 @@
 use Rattle.records.proofs.Rooms.{pair-test, pair-over}
-use borrow.Author.Needs.{needs}
 use Rattle.records.proofs.put.pair_fits.Statement.{statement}
 use Rattle.records.proofs.put.pair_fits.Tie as tie
 

@@ -4,8 +4,6 @@ use native.Mathlib.Omega.{arith}
 use borrow.Author.Needs.{needs}
 use Rattle.records.proofs.put.put_term_unchecked.Statement.{statement}
 use Rattle.records.proofs.put.put_term_unchecked.Tie as tie
-use Rattle.records.proofs.put.put_term_unchecked.Reads as reads
-use Rattle.records.proofs.put.put_term_unchecked.Lts as lts
 
 pub put-term-unchecked-spec : {M : Type 1} → statement M
 put-term-unchecked-spec =

@@ -1,10 +1,7 @@
 use Rattle.records.proofs.Rooms.{term-test, term-over}
-use native.Mathlib.Omega.{arith}
 use borrow.Author.Needs.{needs}
 use Rattle.records.proofs.put.term_fits.Statement.{statement}
 use Rattle.records.proofs.put.term_fits.Tie as tie
-use Rattle.records.proofs.put.term_fits.Reads as reads
-use Rattle.records.proofs.put.term_fits.Lts as lts
 
 pub term-fits-spec : {M : Type 1} → statement M
 term-fits-spec = tie.close (tie.spec (λ c. search needs) (λ c. search needs) (λ c. search term-test) (λ c. search term-over))
