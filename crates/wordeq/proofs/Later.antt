@@ -24,6 +24,7 @@ use Rattle.wordeq.proofs.Ends.{Ends}
 use Rattle.wordeq.proofs.Cited.{Cited, cited-none, cited-map, explain-ends}
 use Rattle.wordeq.proofs.Strip.{same-class}
 use Rattle.wordeq.proofs.Strips.{Going, going-none, going-then, going-string, kept-down, terms-kept, drop-head}
+use Rattle.records.specs.declared.Added.{Added as Answered}
 
 -- ONE ATOM
 

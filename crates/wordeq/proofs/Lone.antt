@@ -31,6 +31,7 @@ use Rattle.wordeq.proofs.SidesReady.{ready-spelled, ready-classes, stri
 use Rattle.normalize.proofs.Carried.{Higher, agree-below}
 use Rattle.wordeq.proofs.Sequence.{grows-give}
 use Rattle.wordeq.proofs.Elsewhere.{place-in, place-past, occurrence-whole, occurrence-class}
+use Rattle.records.specs.declared.Added.{Added as Answered}
 
 unless-lone : (l o : List ℕ) (s : Store) → (length l ≡ 1 → ⊥) → occurs l o s ≡ ok s none
 unfolding occurs

@@ -19,6 +19,7 @@ use Rattle.wordeq.specs.Wordeq.{explainPair, nfExplain}
 use Rattle.wordeq.specs.Stripping.{readIn, Readable, Pair}
 use Rattle.wordeq.proofs.Strips.{Going, going-none, going-then, kept-down, pair-of, drop-head}
 use Rattle.wordeq.proofs.Equal.{pair-ends}
+use Rattle.records.specs.declared.Added.{Added as Answered}
 
 pub ready-readable : {m : Lent} {c : State} → Ready m c → Readable (m .terms) (m .chars) c
 ready-readable {m} {c} d = record { cells = m .cells; reasons = m .reasons; keys = m .keys; ready = d }

@@ -27,6 +27,7 @@ use Rattle.wordeq.specs.Wordeq.{same, explainMatch, stripHeads, strip}
 use Rattle.wordeq.specs.Stripping.{readIn, Readable, Pair, part, stripped, Inside, Strips, Whole, StripsHeads, stripTails}
 use Rattle.wordeq.proofs.Cited.{Cited}
 use Rattle.wordeq.proofs.Strip.{plainly, same-class, match-ends, heads-ends}
+use Rattle.records.specs.declared.Added.{Added as Answered}
 
 -- ONE MATCH
 

@@ -29,6 +29,7 @@ use Rattle.wordeq.proofs.Strips.{part-whole}
 use Rattle.wordeq.proofs.SidesReady.{ready-spelled, constant-side-whole, other-side-whole}
 use Rattle.wordeq.proofs.Later.{same-classes}
 use Rattle.wordeq.proofs.Fitting.{fixed-variables, variables-from, variables-none, variables-short, agree-variables, fits-whole}
+use Rattle.records.specs.declared.Added.{Added as Answered}
 
 -- A LIST
 

@@ -51,7 +51,9 @@ use Rattle.held.proofs.chains.Link as S
 use Rattle.held.proofs.chains.Link.Laws as S′
 use Rattle.held.proofs.chains.step as one
 use Rattle.held.proofs.chains.step.Symbol as one-def
+use Rattle.held.proofs.chains.step.Symbol.{name as #step}
 use Rattle.held.proofs.chains.step.Met as one-thm
+use Rattle.held.proofs.chains.next_link.Key.{name as #next-link}
 use Rattle.held.proofs.chains.next_link as fn
 use Rattle.held.proofs.chains.next_link.Statement as stated
 use Rattle.held.proofs.chains.next_link.Code as code

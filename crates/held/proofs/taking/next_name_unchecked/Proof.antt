@@ -57,7 +57,9 @@ use Rattle.held.proofs.taking.Counter as T
 use Rattle.held.proofs.taking.Counter.Laws as T′
 use Rattle.held.proofs.taking.take_unchecked as work
 use Rattle.held.proofs.taking.take_unchecked.Symbol as work-def
+use Rattle.held.proofs.taking.take_unchecked.Symbol.{name as #take}
 use Rattle.held.proofs.taking.take_unchecked.Met as work-thm
+use Rattle.held.proofs.taking.next_name_unchecked.Key.{name as #next-name}
 use Rattle.held.proofs.taking.next_name_unchecked as fn
 use Rattle.held.proofs.taking.next_name_unchecked.Statement as stated
 use Rattle.held.proofs.taking.next_name_unchecked.Code as code
