@@ -161,7 +161,7 @@ impl Script {
 
     /// n words lent for reasons.
     pub fn reason_words(&mut self, n: usize) {
-        self.line('W', &[n as u32]);
+        self.line('W', &[4, n as u32]);
         self.store.reasons.resize(n, 0);
     }
 
