@@ -60,6 +60,26 @@ fn fit(mut d: crate::draft::Draft) -> crate::draft::Draft {
     d
 }
 
+// the pairs of explain's calls as one call of nf_equal_explain, which explains them one by one after one audit
+fn together(samples: &[Sample]) -> Vec<Sample> {
+    let pair = |c: &Call| match c {
+        Call::Explain { a, b } => (*a, *b),
+        _ => unreachable!(),
+    };
+    let call = |s: &Sample| {
+        let (lhs, rhs) = s.calls.iter().map(pair).unzip();
+        Call::NfEqualExplain { lhs, rhs }
+    };
+    samples.iter().map(|s| Sample { store: s.store.clone(), calls: vec![call(s)] }).collect()
+}
+
+fn row(terms: usize, name: &str, samples: &[Sample], calls: usize) {
+    let [rust, port, audit] = samples.iter().map(times).fold([0.0; 3], |a, b| [a[0] + b[0], a[1] + b[1], a[2] + b[2]]);
+    let rate = |seconds: f64| calls as f64 / seconds;
+    print!("{terms:5}  {name:17} {:13.0}", rate(rust));
+    println!(" {:13.0} {:11.0} {:10.2} {:19.2}", rate(port), rate(audit), rust / port, rust / (port - audit).max(1e-9));
+}
+
 pub fn table(seed: u64) {
     println!("terms  call               Rust calls/s  port calls/s    audits/s  port/Rust  without audit/Rust");
     for terms in SIZES {
@@ -67,10 +87,10 @@ pub fn table(seed: u64) {
         for (kind, name) in KINDS {
             let samples = samples(&mut random, terms, kind);
             let calls: usize = samples.iter().map(|s| s.calls.len()).sum();
-            let [rust, port, audit] = samples.iter().map(|s| times(s)).fold([0.0; 3], |a, b| [a[0] + b[0], a[1] + b[1], a[2] + b[2]]);
-            let rate = |seconds: f64| calls as f64 / seconds;
-            print!("{terms:5}  {name:17} {:13.0}", rate(rust));
-            println!(" {:13.0} {:11.0} {:10.2} {:19.2}", rate(port), rate(audit), rust / port, rust / (port - audit).max(1e-9));
+            row(terms, name, &samples, calls);
+            if name == "explain" {
+                row(terms, "explain, together", &together(&samples), calls);
+            }
         }
     }
 }

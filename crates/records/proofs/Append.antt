@@ -17,7 +17,7 @@ use Rattle.records.specs.Make.{own}
 use Rattle.records.specs.Rules.{isChar, isNumber, keyRule, isEquatable}
 use Rattle.records.specs.Audited
 use Rattle.records.specs.Audited.{Part, Ascends, Closed, Label, Unlabelled, Falls, Pairs, Congruent, Recorded, Classed, Congruences, Audited}
-use Rattle.records.proofs.Lists.{both-left, both-right, both-true, either, or-left, or-right, within-low, within-high, within-is, decide, clash, every-map, every-both, all-every, every-all}
+use Rattle.records.proofs.Lists.{both-left, both-right, both-true, either, or-left, or-right, within-low, within-high, within-is, decide, clash, every-map, every-both, all-every, every-all, firsts-length}
 use Rattle.records.proofs.Climbs.{climb-last, classed-roots, classed-tops, root-self, top-self, root-term, top-term}
 use Rattle.records.proofs.Chains
 use Rattle.records.proofs.Chains.{chain-extends, chain-none}
@@ -69,11 +69,6 @@ unfolding isEquatable
 equatable-here s t u e =
     ⊎-elim (λ h. (string-here s t (both-left _ _ h), string-here s u (both-right (isString s t) _ h)))
     (λ h. (present s t 3 (eqb-true _ _ (both-left _ _ h)), present s u 3 (eqb-true _ _ (both-right (isLength s t) _ h)))) (either _ _ e)
-
-firsts-length : (l : List (ℕ × ℕ)) → length (firsts l) ≡ length l
-unfolding firsts
-firsts-length [] = refl
-firsts-length (p ∷ l) = ap suc (firsts-length l)
 
 -- THE STORE
 

@@ -1,48 +1,30 @@
 -- Making concatenations, lengths and equations.
-use mathlib.Core.Path.{_≡_, refl, sym, ap, _∙_}
+use mathlib.Core.Path.{_≡_, refl, sym, ap, subst, _∙_}
 use mathlib.Core.Bool.{Bool, true, false, not, _&&_}
 use mathlib.Core.List.{List, [], _∷_}
-use mathlib.Core.Option.{Option, none, some}
-use Prim.Native.Nat.{ℕ, suc, _+_, _*_, _-_, _<_, _≤_}
+use mathlib.Core.Logic.{_⊎_, inl, inr}
+use Prim.Native.Nat.{ℕ, suc, _+_, _*_, _-_, _<_, _≤_, min, max}
 use native.Mathlib.Numerals.{add-one}
 use native.Mathlib.Omega.{arith}
 use lib.ListN.{length, getD, drop, drop-of-length-le}
 use lib.Seq.{drop-cons}
 use lib.Dec.{eqb, ltb, leb}
 use borrow.Author.Tests.{not-true, not-false, eqb-true, eq-eqb, ne-eqb}
-use Rattle.records.specs.Lists.{sameWord, firsts, firstBelow}
+use Rattle.records.specs.Lists.{sameWord, firsts, firstBelow, Every}
 use Rattle.records.specs.declared.State.{State}
 use Rattle.records.specs.declared.Made.the-variants.{Term, Refused}
 use Rattle.records.specs.Store.{Term as Record, Cell, Store, Out, ok, stop, Work, term, kind, count, within, chainIn}
 use Rattle.records.specs.View.{Lent, lent, storeOf, termLimit, cellLimit, termRoom, cellRoom, termAt, cellAt, cellsView, oneTerm, moreCells}
-use Rattle.records.specs.Make.{lookup, lowest, orMake, addChain, addTerm, concatOf, makeConcat, lengthOf, equationOf, makeLength, makeEquation}
-use Rattle.records.specs.Leaves.{numberOf, appendParts, hasParts, sidesOf, hasSides, makeSides}
+use Rattle.records.specs.Make.{lookup, lowest, addChain, addTerm, concatOf, makeConcat, lengthOf, equationOf, makeLength, makeEquation}
+use Rattle.records.specs.Leaves.{numberOf, Passed, appendParts, hasParts, sidesOf, hasSides, makeSides}
 use Rattle.records.specs.Puts.{TermPut, ChainPut}
 use Rattle.records.specs.Audited.{Ready, Sized, Recorded, Ascends}
 use Rattle.records.specs.Calls.{Working, made}
-use Rattle.records.proofs.Lists.{left-false, right-false, decide, within-low, within-high, table-length, first-same}
+use Rattle.records.proofs.Lists.{left-false, right-false, both-left, both-right, decide, within-low, within-high, table-length, first-same, word-is, every-at, firsts-length, every-firsts}
 use Rattle.records.proofs.Views.{term-is, cell-is}
 use Rattle.records.proofs.Chains.{chain-none, chain-is}
+use Rattle.records.proofs.Making.{passed-up-to, lowest-old, lowest-new}
 use Rattle.records.proofs.Rooms.{term-limit, term-room, cells-limit, cells-room}
-
--- THE LOWEST EQUAL RECORD, OR A NEW ONE
-
-module _ (equal : Store → ℕ → Bool) (make : Work ℕ) (s : Store) (t : ℕ) (look : t ≡ numberOf (lookup equal s)) where
-  pub lowest-old : (t ≡ 0 → ⊥) → lowest equal make s ≡ ok s t
-  unfolding lowest
-  lowest-old d = go (lookup equal s) look
-    where
-      go : (o : Option ℕ) → t ≡ numberOf o → orMake make o s ≡ ok s t
-      go none e = absurd (d e)
-      go (some i) e = rw e
-
-  pub lowest-new : t ≡ 0 → lowest equal make s ≡ make s
-  unfolding lowest
-  lowest-new z = go (lookup equal s) look
-    where
-      go : (o : Option ℕ) → t ≡ numberOf o → orMake make o s ≡ make s
-      go none e = refl
-      go (some i) e = absurd (omega arith)
 
 -- ONE TERM MORE
 
@@ -94,6 +76,23 @@ module _ (m : Lent) (c : State) where
       rw (table-length (λ i. termAt (m .terms) (suc i)) (c .terms))
       (first-same (λ i. hasSides (m .terms) k a b (suc i)) (λ i. sidesOf k a b (storeOf m c) (suc i)) (c .terms) (λ i h.
       ap (λ (y : Record). eqb (y .kind) k && eqb (y .first) a && eqb (y .second) b) (sym (term-is (m .terms) (c .terms) (suc i) (omega arith) h))))
+
+-- a length's or an equation's sides are below it
+sides-lower : (s : Store) → Recorded s → (k t : ℕ) → (k ≡ 4) ⊎ (k ≡ 5) → kind s t ≡ k → (term s t .first < t) × (term s t .second < t)
+sides-lower s good k t (inl e) q = let f = good .lengthLower t (q ∙ e) in let z = good .lengthSecond t (q ∙ e) in (f, omega arith)
+sides-lower s good k t (inr e) q = (good .equationFirst t (q ∙ e), good .equationSecond t (q ∙ e))
+
+pub sides-from : (m : Lent) (c : State) (k a b x r : ℕ) → Ready m c → (k ≡ 4) ⊎ (k ≡ 5) → x ≡ max a b → r ≡ min (c .terms) x → Passed (hasSides (m .terms) k a b) (c .terms) r
+unfolding hasSides
+sides-from m c k a b x r good two e f = passed-up-to (hasSides (m .terms) k a b) (c .terms) x r f (λ i h l q.
+    let is = term-is (m .terms) (c .terms) (suc i) (omega arith) h in
+    let y = both-left _ _ q in
+    let low = sides-lower (storeOf m c) (good .audited .recorded) k (suc i) two (ap (λ (z : Record). z .kind) is ∙ eqb-true _ _ (both-left _ _ y)) in
+    let p : term (storeOf m c) (suc i) .first ≡ a = ap (λ (z : Record). z .first) is ∙ eqb-true _ _ (both-right (eqb (termAt (m .terms) (suc i) .kind) k) _ y) in
+    let g : term (storeOf m c) (suc i) .second ≡ b = ap (λ (z : Record). z .second) is ∙ eqb-true _ _ (both-right (eqb (termAt (m .terms) (suc i) .kind) k && eqb (termAt (m .terms) (suc i) .first) a) _ q) in
+    let n₁ = low .0 in
+    let n₂ = low .1 in
+    omega arith)
 
 module _ (t e h r ks : List ℕ) (c : State) (k a b : ℕ) (u : ℕ) (look : u ≡ numberOf (firstBelow (λ i. hasSides t k a b (suc i)) (c .terms))) where
   looked : u ≡ numberOf (lookup (sidesOf k a b) (storeOf (lent t e h r ks) c))
@@ -199,6 +198,11 @@ module _ (e : List ℕ) (n : ℕ) (w : List ℕ) (c at i : ℕ) (up : Ascends (c
 
 -- CONCATENATIONS
 
+-- no part is the last of none
+pub last-none : (w : List ℕ) (n : ℕ) → length w ≡ 0 → 0 ≡ min n (getD w (length w - 1) 0)
+last-none [] n e = omega arith
+last-none (x ∷ w) n e = absurd (omega arith)
+
 module _ (l : List ℕ) (cs : List Cell) (w : List ℕ) (t x : ℕ) (ex : x ≡ getD l (8 * t + 0) 0) where
   pub parts-kind : (x ≡ 3 → ⊥) → false ≡ hasParts l cs w t
   unfolding hasParts
@@ -218,6 +222,20 @@ module _ (m : Lent) (c : State) (w : List ℕ) where
       (first-same (λ i. hasParts (m .terms) (cellsView (m .cells) (c .cells)) w (suc i)) (λ i. concatOf w (storeOf m c) (suc i)) (c .terms) (λ i h.
       ap (λ (y : Record). eqb (y .kind) 3 && sameWord (firsts (chainIn (cellsView (m .cells) (c .cells)) (y .first))) w)
       (sym (term-is (m .terms) (c .terms) (suc i) (omega arith) h))))
+
+pub parts-from : (m : Lent) (c : State) (w : List ℕ) (r : ℕ) → Ready m c → r ≡ min (c .terms) (getD w (length w - 1) 0)
+    → Passed (hasParts (m .terms) (cellsView (m .cells) (c .cells)) w) (c .terms) r
+unfolding hasParts
+parts-from m c w r good e = passed-up-to (hasParts (m .terms) (cellsView (m .cells) (c .cells)) w) (c .terms) (getD w (length w - 1) 0) r e (λ i h l q.
+    let is = term-is (m .terms) (c .terms) (suc i) (omega arith) h in
+    let k : kind (storeOf m c) (suc i) ≡ 3 = ap (λ (z : Record). z .kind) is ∙ eqb-true _ _ (both-left _ _ q) in
+    let p : firsts (chainIn (cellsView (m .cells) (c .cells)) (termAt (m .terms) (suc i) .first)) ≡ w = word-is _ w (both-right (eqb (termAt (m .terms) (suc i) .kind) 3) _ q) in
+    let two = rw is at (good .audited .recorded .twoParts (suc i) k) in
+    let low : Every (λ x. x < suc i) w = subst (Every (λ x. x < suc i)) p (every-firsts (λ x a. a .lower) (rw is at (good .audited .recorded .partsGood (suc i) k))) in
+    let n = firsts-length (chainIn (cellsView (m .cells) (c .cells)) (termAt (m .terms) (suc i) .first)) in
+    let j = ap length p in
+    let v = every-at w (length w - 1) 0 low (omega arith) in
+    omega arith)
 
 module _ (t e h r ks : List ℕ) (c : State) (w : List ℕ) (f : Bool) (cells-here : f ≡ leb (c .cells + length w) (cellRoom e)) where
   pub append-long : not f ≡ true → Working (appendParts w) (lent t e h r ks) (lent t e h r ks) c (made (Refused 8) (lent t e h r ks))

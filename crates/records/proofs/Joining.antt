@@ -80,4 +80,4 @@ module _ {t e h r ks : List ℕ} {c : State} (ready : Ready (lent t e h r ks) c)
   total-long = sum ∙ sym (lengths-joined t h ts)
 
   pub total-room : (f : Bool) → not f ≡ false → f ≡ leb (c .chars + total) (charRoom h) → c .chars + lengths t ts ≤ length h
-  total-room f q e = rw sum at (long-room ready f q total e)
+  total-room f q e = rw sum at (long-room (ready .sized) f q total e)

@@ -96,17 +96,18 @@ grow-in s ds hs k a b audited more new = record {
 abbrev pub Absent : (Store → ℕ → Bool) → Store → Type 0
 Absent equal s = (t : ℕ) → isTerm s t ≡ true → equal s t ≡ false
 
+none-absent : (equal : Store → ℕ → Bool) (s : Store) → lookup equal s ≡ none → Absent equal s
+unfolding lookup
+none-absent equal s q zero h = let l = within-low (count s) 0 h in absurd (omega arith)
+none-absent equal s q (suc t) h = first-none (λ i. equal s (suc i)) (count s) q t (within-high (count s) (suc t) h)
+
 -- making finds an equal term, or makes one where there is none
 found-or-made : {X : Type 0} (equal : Store → ℕ → Bool) (make : Work ℕ) (s s′ : Store) (t : ℕ) → (s′ ≡ s → equal s t ≡ true → X) → (Absent equal s → make s ≡ ok s′ t → X) → lowest equal make s ≡ ok s′ t → X
 unfolding lowest lookup
 found-or-made {X} equal make s s′ t f g e = go (firstBelow (λ i. equal s (suc i)) (count s)) refl e
   where
-    none-is : firstBelow (λ i. equal s (suc i)) (count s) ≡ none → (t : ℕ) → isTerm s t ≡ true → equal s t ≡ false
-    none-is q zero h = let l = within-low (count s) 0 h in absurd (omega arith)
-    none-is q (suc t) h = first-none (λ i. equal s (suc i)) (count s) q t (within-high (count s) (suc t) h)
-
     go : (o : Option ℕ) → firstBelow (λ i. equal s (suc i)) (count s) ≡ o → orMake make o s ≡ ok s′ t → X
-    go none q d = g (none-is q) d
+    go none q d = g (none-absent equal s q) d
     go (some i) q d =
         let h = first-some (λ i. equal s (suc i)) (count s) i q .passes in
         let u : suc i ≡ t = cc in
@@ -570,23 +571,19 @@ pub record NameTaken (s s′ : Store) (w : List ℕ) : Type 0 where
   pub counter : s .names ≤ number
   pub name-is : w ≡ nameOf number
   pub is : s′ ≡ withNames s (suc number)
-  pub absent : Absent (named w) s′
+  pub new : lookup (named w) s′ ≡ none
 
-absent-free : (x : ℕ) (s : Store) → isTaken s x ≡ false → Absent (named (nameOf x)) s
-unfolding isTaken lookup
-absent-free x s e = go (firstBelow (λ i. named (nameOf x) s (suc i)) (count s)) refl e
+free-none : (x : ℕ) (s : Store) → isTaken s x ≡ false → lookup (named (nameOf x)) s ≡ none
+unfolding isTaken
+free-none x s e = go (lookup (named (nameOf x)) s) e
   where
-    none-is : firstBelow (λ i. named (nameOf x) s (suc i)) (count s) ≡ none → (t : ℕ) → isTerm s t ≡ true → named (nameOf x) s t ≡ false
-    none-is q zero h = let l = within-low (count s) 0 h in absurd (omega arith)
-    none-is q (suc t) h = first-none (λ i. named (nameOf x) s (suc i)) (count s) q t (within-high (count s) (suc t) h)
+    go : (o : Option ℕ) → isSome o ≡ false → o ≡ none
+    go none d = refl
+    go (some i) d = absurd (false≢true (sym d))
 
-    go : (o : Option ℕ) → firstBelow (λ i. named (nameOf x) s (suc i)) (count s) ≡ o → isSome o ≡ false → (t : ℕ) → isTerm s t ≡ true → named (nameOf x) s t ≡ false
-    go none q d = none-is q
-    go (some i) q d = absurd (false≢true (sym d))
-
-named-beside : (w : List ℕ) (s : Store) (m t : ℕ) → named w (withNames s m) t ≡ named w s t
-unfolding named
-named-beside w s m t = refl
+lookup-beside : (w : List ℕ) (s : Store) (m : ℕ) → lookup (named w) (withNames s m) ≡ lookup (named w) s
+unfolding lookup named
+lookup-beside w s m = refl
 
 taken-by : (n : ℕ) (s s′ : Store) (w : List ℕ) → takeNameBy n s ≡ ok s′ w → NameTaken s s′ w
 unfolding takeNameBy
@@ -599,12 +596,12 @@ taken-by (suc n) s s′ w e = go (isTaken s (s .names)) refl (taken-by n (withNa
       counter = omega arith;
       name-is = sym q;
       is = sym p;
-      absent = subst (λ (x : Store). Absent (named w) x) p (subst (λ (v : List ℕ). Absent (named v) (withNames s (suc (s .names)))) q (λ t h. named-beside (nameOf (s .names)) s (suc (s .names)) t ∙ absent-free (s .names) s f t h));
+      new = rw (← p, ← q) (lookup-beside (nameOf (s .names)) s (suc (s .names)) ∙ free-none (s .names) s f);
     }
 
     go : (b : Bool) → isTaken s (s .names) ≡ b → (takeNameBy n (withNames s (suc (s .names))) ≡ ok s′ w → NameTaken (withNames s (suc (s .names))) s′ w)
         → _≡_ {A = Out (List ℕ)} (elim b [ true ↦ takeNameBy n (withNames s (suc (s .names))) | false ↦ ok (withNames s (suc (s .names))) (nameOf (s .names)) ]) (ok s′ w) → NameTaken s s′ w
-    go true f ih d = let x = ih d in record { number = x .number; counter = (let h = x .counter in omega arith); name-is = x .name-is; is = x .is; absent = x .absent }
+    go true f ih d = let x = ih d in record { number = x .number; counter = (let h = x .counter in omega arith); name-is = x .name-is; is = x .is; new = x .new }
     go false f ih d = here (cc) (cc) f
 
 pub name-taken : (s s′ : Store) (w : List ℕ) → takeName s ≡ ok s′ w → NameTaken s s′ w
@@ -638,7 +635,7 @@ pub fresh-kept : (s s′ : Store) (z : ℕ) → Audited s → (takeName >>= make
 fresh-kept s s′ z a e =
     via makeVariable (takeName s) e (λ s₁ w p q.
     let x = name-taken s s₁ w p in
-    go s₁ w (suc (x .number)) (x .is) (x .absent) (ap (all isChar) (x .name-is) ∙ name-characters (x .number)) (subst (λ (v : List ℕ). 1 ≤ length v) (sym (x .name-is)) (name-filled (x .number))) q)
+    go s₁ w (suc (x .number)) (x .is) (none-absent (named w) s₁ (x .new)) (ap (all isChar) (x .name-is) ∙ name-characters (x .number)) (subst (λ (v : List ℕ). 1 ≤ length v) (sym (x .name-is)) (name-filled (x .number))) q)
   where
     here : (w : List ℕ) (m : ℕ) → Fresh (withNames s m) s′ z → Fresh s s′ z
     here w m f = record {

@@ -214,6 +214,10 @@ first-none p (suc n) h k l = go (first-none p n) (firstBelow p n) (p n) refl ref
     go ih none true e q z = let y : _≡_ {A = ℕ} 0 1 = cc in absurd (omega arith)
     go ih none false e q z = ⊎-elim (λ d. ap p d ∙ q) (λ lt. ih e k lt) (eq-or-lt-of-le (le-of-suc-le-suc l))
 
+pub first-absent : (p : ℕ → Bool) (n : ℕ) → ((k : ℕ) → k < n → p k ≡ false) → firstBelow p n ≡ none
+first-absent p zero f = first-zero p
+first-absent p (suc n) f = first-pass p n (first-absent p n (λ k h. f k (omega arith))) (f n (omega arith))
+
 pub first-same : (p q : ℕ → Bool) (n : ℕ) → ((k : ℕ) → k < n → p k ≡ q k) → firstBelow p n ≡ firstBelow q n
 unfolding firstBelow
 first-same p q zero f = refl
@@ -445,6 +449,11 @@ module _ {A : Type 0} where
   unfolding all joined
   all-joined p f [] h = refl
   all-joined p f (x ∷ l) h = all-append p (f x) (joined f l) ∙ both-true _ _ (h x) (all-joined p f l h)
+
+pub firsts-length : (l : List (ℕ × ℕ)) → length (firsts l) ≡ length l
+unfolding firsts
+firsts-length [] = refl
+firsts-length (p ∷ l) = ap suc (firsts-length l)
 
 pub every-firsts : {P : ℕ × ℕ → Type 0} {Q : ℕ → Type 0} {l : List (ℕ × ℕ)} → ((p : ℕ × ℕ) → P p → Q (p .0)) → Every P l → Every Q (firsts l)
 unfolding firsts

@@ -3,7 +3,7 @@ use mathlib.Core.Path.{_≡_, refl, sym, ap, _∙_}
 use mathlib.Core.Bool.{Bool, true, false, not, _&&_}
 use mathlib.Core.List.{List, [], _∷_, _++_}
 use mathlib.Core.Option.{Option, none, some}
-use Prim.Native.Nat.{ℕ, zero, suc, _+_, _*_, _-_, _<_, _≤_}
+use Prim.Native.Nat.{ℕ, zero, suc, _+_, _*_, _-_, _<_, _≤_, min}
 use native.Mathlib.Numerals.{add-one}
 use native.Mathlib.Nat.{le-antisymm}
 use native.Mathlib.Omega.{arith}
@@ -12,18 +12,18 @@ use lib.Dec.{eqb, ltb, leb}
 use borrow.Author.Tests.{not-true, not-false, leb-true, le-leb, eqb-true, eq-eqb, ne-eqb}
 use Rattle.records.specs.Lists.{sameWord, firstBelow}
 use Rattle.records.specs.declared.State.{State}
-use Rattle.records.specs.Store.{Term as Record, Store, Out, ok, stop, count, within, term, kind, termIn, textIn}
+use Rattle.records.specs.Store.{Term as Record, Store, Out, ok, stop, Work, count, within, term, kind, termIn, textIn}
 use Rattle.records.specs.declared.Made.the-variants.{Term, Refused}
 use Rattle.records.specs.View.{lent, termLimit, charLimit, charRoom, termRoom, oneTerm, moreChars, Lent, storeOf, termAt, termsView, charsView, span}
-use Rattle.records.specs.Audited.{Ready}
+use Rattle.records.specs.Audited.{Ready, Sized}
 use Rattle.records.specs.Calls.{Working, made}
 use Rattle.records.specs.Puts.{CharsPut, TermPut}
-use Rattle.records.specs.Make.{lookup, lowest, addText, addTerm, withChars, withTerms, own, makeConstant, makeVariable, constantOf}
-use Rattle.records.specs.Leaves.{numberOf, textOf, hasText, makeText}
+use Rattle.records.specs.Make.{lookup, orMake, lowest, addText, addTerm, withChars, withTerms, own, makeConstant, makeVariable, constantOf}
+use Rattle.records.specs.Leaves.{numberOf, Passed, textOf, hasText, appendText, makeText}
 use Rattle.records.specs.Rules.{named}
 use Rattle.records.proofs.Views.{term-is, text-span}
 use Rattle.records.proofs.Rooms.{chars-fit, chars-limit, chars-room, chars-over, term-limit, term-room}
-use Rattle.records.proofs.Lists.{same-test, decide, within-low, within-high, first-same, left-false, right-false, word-differs, table-length, first-zero, first-pass, first-hit, first-stays}
+use Rattle.records.proofs.Lists.{same-test, decide, within-low, within-high, first-same, left-false, right-false, word-differs, table-length, first-zero, first-pass, first-hit, first-stays, first-absent}
 
 -- WHETHER A TERM HAS A TEXT
 
@@ -49,21 +49,24 @@ module _ (l h : List ℕ) (k : ℕ) (w : List ℕ) (t x : ℕ) (ex : x ≡ getD 
 -- THE LOWEST-NUMBERED of n terms that passes: t terms are passed by
 
 module _ (p : ℕ → Bool) where
-  pub record Passed (n t : ℕ) : Type 0 where
-    pub within : t ≤ n
-    pub none-yet : firstBelow (λ i. p (suc i)) t ≡ none
+  pub passed-none : (n : ℕ) → Passed p n 0
+  passed-none n = record { upto = omega arith; none-yet = first-zero (λ i. p (suc i)) }
 
-  pub passed-none : (n : ℕ) → Passed n 0
-  passed-none n = record { within = omega arith; none-yet = first-zero (λ i. p (suc i)) }
+  -- a search starts past terms none of which passes
+  pub passed-up-to : (n x r : ℕ) → r ≡ min n x → ((i : ℕ) → i < n → i < x → p (suc i) ≡ true → ⊥) → Passed p n r
+  passed-up-to n x r e f = record {
+    upto = omega arith;
+    none-yet = first-absent (λ i. p (suc i)) r (λ i h. decide (p (suc i)) (λ q. absurd (f i (omega arith) (omega arith) q)) (λ q. q));
+  }
 
-  module _ (n t : ℕ) (a : Passed n t) where
-    pub passed-one : (b : Bool) → t < n → b ≡ p (t + 1) → b ≡ false → Passed n (t + 1)
+  module _ (n t : ℕ) (a : Passed p n t) where
+    pub passed-one : (b : Bool) → t < n → b ≡ p (t + 1) → b ≡ false → Passed p n (t + 1)
     passed-one b q e f =
         let g = rw add-one at e in
-        record { within = omega arith; none-yet = rw add-one (first-pass (λ i. p (suc i)) t (a .none-yet) (sym g ∙ f)) }
+        record { upto = omega arith; none-yet = rw add-one (first-pass (λ i. p (suc i)) t (a .none-yet) (sym g ∙ f)) }
 
     pub passed-all : n ≤ t → 0 ≡ numberOf (firstBelow (λ i. p (suc i)) n)
-    passed-all q = let e : t ≡ n = le-antisymm (a .within) q in sym (ap numberOf (rw e at (a .none-yet)))
+    passed-all q = let e : t ≡ n = le-antisymm (a .upto) q in sym (ap numberOf (rw e at (a .none-yet)))
 
     pub hit : (b : Bool) → t < n → b ≡ p (t + 1) → b ≡ true → t + 1 ≡ numberOf (firstBelow (λ i. p (suc i)) n)
     hit b q e f =
@@ -107,27 +110,42 @@ module _ (m : Lent) (c : State) (k : ℕ) (w : List ℕ) where
       rw (table-length (λ i. termAt (m .terms) (suc i)) (c .terms))
       (first-same (λ i. hasText (m .terms) (m .chars) k w (suc i)) (λ i. textOf k w (storeOf m c) (suc i)) (c .terms) (has-text texts))
 
--- THE WAYS OF MAKING in the store
+-- THE LOWEST EQUAL RECORD, OR A NEW ONE
+
+module _ (equal : Store → ℕ → Bool) (make : Work ℕ) (s : Store) (t : ℕ) (look : t ≡ numberOf (lookup equal s)) where
+  pub lowest-old : (t ≡ 0 → ⊥) → lowest equal make s ≡ ok s t
+  unfolding lowest
+  lowest-old d = go (lookup equal s) look
+    where
+      go : (o : Option ℕ) → t ≡ numberOf o → orMake make o s ≡ ok s t
+      go none e = absurd (d e)
+      go (some i) e = rw e
+
+  pub lowest-new : t ≡ 0 → lowest equal make s ≡ make s
+  unfolding lowest
+  lowest-new z = go (lookup equal s) look
+    where
+      go : (o : Option ℕ) → t ≡ numberOf o → orMake make o s ≡ make s
+      go none e = refl
+      go (some i) e = absurd (omega arith)
+
+-- A NEW TEXT in the store
 
 module _ (k : ℕ) (w : List ℕ) (s : Store) where
-  pub make-old : (i : ℕ) → lookup (textOf k w) s ≡ some i → makeText k w s ≡ ok s (suc i)
-  unfolding makeText lowest
-  make-old i e = rw e
+  append-long : leb (length (s .chars) + length w) (s .room .chars) ≡ false → appendText k w s ≡ stop 8
+  unfolding addText
+  append-long e = rw e
 
-  module _ (new : lookup (textOf k w) s ≡ none) where
-    pub make-long : leb (length (s .chars) + length w) (s .room .chars) ≡ false → makeText k w s ≡ stop 8
-    unfolding makeText lowest addText
-    make-long e = rw (new, e)
+  module _ (e : leb (length (s .chars) + length w) (s .room .chars) ≡ true) where
+    append-full : ltb (count s) (s .room .terms) ≡ false → appendText k w s ≡ stop 8
+    unfolding addText addTerm
+    append-full f = rw (e, f)
 
-    pub make-full : leb (length (s .chars) + length w) (s .room .chars) ≡ true → ltb (count s) (s .room .terms) ≡ false → makeText k w s ≡ stop 8
-    unfolding makeText lowest addText addTerm
-    make-full e f = rw (new, e, f)
-
-    pub make-new : leb (length (s .chars) + length w) (s .room .chars) ≡ true → ltb (count s) (s .room .terms) ≡ true
-        → makeText k w s
+    append-new : ltb (count s) (s .room .terms) ≡ true
+        → appendText k w s
         ≡ ok (withTerms (withChars s (s .chars ++ w)) (s .terms ++ (own (suc (count s)) k (length (s .chars)) (length w) ∷ []))) (suc (count s))
-    unfolding makeText lowest addText addTerm
-    make-new e f = rw (new, e, f)
+    unfolding addText addTerm
+    append-new f = rw (e, f)
 
 -- ROOM for k characters more
 
@@ -139,51 +157,45 @@ module _ (l : List ℕ) (n k : ℕ) (limit : n ≤ charLimit) where
   text-test h =
       same-test _ _ (λ e. chars-fit l n k (omega arith) (leb-true (n + k) (length l) e)) (λ e. le-leb (n + k) (length l) (chars-room l n k e))
 
--- THE WAYS OF MAKING in the words: t₀ is what the search of the words found
+-- A NEW TEXT in the words: the tests of room, for n characters
+
+module _ {t e h r ks : List ℕ} {c : State} (k : ℕ) (w : List ℕ) (n : ℕ) (long : n ≡ length w) (f : Bool) (fits : f ≡ leb (c .chars + n) (charRoom h)) where
+  pub text-long : not f ≡ true → Working (appendText k w) (lent t e h r ks) (lent t e h r ks) c (made (Refused 8) (lent t e h r ks))
+  text-long q = record { says = append-long k w _ (rw (table-length, ← long) (sym fits ∙ not-true f q)); kept = refl }
+
+  module _ (q : not f ≡ false) (g : Bool) (one : g ≡ ltb (c .terms) (termRoom t)) where
+    pub text-full : not g ≡ true → Working (appendText k w) (lent t e h r ks) (lent t e h r ks) c (made (Refused 8) (lent t e h r ks))
+    text-full u =
+        record { says = append-full k w _ (rw (table-length, ← long) (sym fits ∙ not-false f q)) (rw table-length (sym one ∙ not-true g u)); kept = refl }
+
+    pub text-made : not g ≡ false → {t′ h′ : List ℕ} {d d′ : State} → CharsPut h h′ (c .chars) w → length h′ ≡ length h
+        → TermPut t t′ (c .terms) k (c .chars) n → length t′ ≡ length t → d ≡ moreChars c n → d′ ≡ oneTerm d
+        → Working (appendText k w) (lent t e h r ks) (lent t′ e h′ r ks) c (made (Term (c .terms + 1) d′) (lent t′ e h′ r ks))
+    text-made u p lp v lv x y =
+        record {
+          says =
+              append-new k w _ (rw (table-length, ← long) (sym fits ∙ not-false f q)) (rw table-length (sym one ∙ not-false g u))
+              ∙ rw (y, x, add-one, v .grown, long, p .grown, lp, lv, table-length, table-length);
+          kept = let a = v .kept in let b = p .kept in cc;
+        }
+
+-- THE TEXT SOUGHT in the words: t₀ is what the search found
 
 module _ {t e h r ks : List ℕ} {c : State} (ready : Ready (lent t e h r ks) c) (k : ℕ) (text : within 2 k ≡ true) (w : List ℕ) (t₀ : ℕ)
     (look : t₀ ≡ numberOf (firstBelow (λ i. hasText t h k w (suc i)) (c .terms))) where
   looked : t₀ ≡ numberOf (lookup (textOf k w) (storeOf (lent t e h r ks) c))
   looked = look ∙ ap numberOf (found-text (lent t e h r ks) c k w (texts-within (lent t e h r ks) c k ready text))
 
-  old-text : (o : Option ℕ) → lookup (textOf k w) (storeOf (lent t e h r ks) c) ≡ o → t₀ ≡ numberOf o → (t₀ ≡ 0 → ⊥)
-      → makeText k w (storeOf (lent t e h r ks) c) ≡ ok (storeOf (lent t e h r ks) c) t₀
-  old-text none q z d = absurd (d z)
-  old-text (some i) q z d = rw z (make-old k w (storeOf (lent t e h r ks) c) i q)
-
-  new-text : (o : Option ℕ) → t₀ ≡ 0 → t₀ ≡ numberOf o → o ≡ none
-  new-text none z q = refl
-  new-text (some i) z q = absurd (omega arith)
-
   pub text-found : (t₀ ≡ 0 → ⊥) → Working (makeText k w) (lent t e h r ks) (lent t e h r ks) c (made (Term t₀ c) (lent t e h r ks))
-  text-found d = record { says = old-text _ refl looked d; kept = refl }
+  unfolding makeText
+  text-found d = record { says = lowest-old (textOf k w) (appendText k w) (storeOf (lent t e h r ks) c) t₀ looked d; kept = refl }
 
-  -- the tests of room, for n characters
-  module _ (z : t₀ ≡ 0) (n : ℕ) (long : n ≡ length w) (f : Bool) (fits : f ≡ leb (c .chars + n) (charRoom h)) where
-    is-new : lookup (textOf k w) (storeOf (lent t e h r ks) c) ≡ none
-    is-new = new-text _ z looked
-
-    pub text-long : not f ≡ true → Working (makeText k w) (lent t e h r ks) (lent t e h r ks) c (made (Refused 8) (lent t e h r ks))
-    text-long q = record { says = make-long k w _ is-new (rw (table-length, ← long) (sym fits ∙ not-true f q)); kept = refl }
-
-    module _ (q : not f ≡ false) (g : Bool) (one : g ≡ ltb (c .terms) (termRoom t)) where
-      pub text-full : not g ≡ true → Working (makeText k w) (lent t e h r ks) (lent t e h r ks) c (made (Refused 8) (lent t e h r ks))
-      text-full u =
-          record { says = make-full k w _ is-new (rw (table-length, ← long) (sym fits ∙ not-false f q)) (rw table-length (sym one ∙ not-true g u)); kept = refl }
-
-      pub text-made : not g ≡ false → {t′ h′ : List ℕ} {d d′ : State} → CharsPut h h′ (c .chars) w → length h′ ≡ length h
-          → TermPut t t′ (c .terms) k (c .chars) n → length t′ ≡ length t → d ≡ moreChars c n → d′ ≡ oneTerm d
-          → Working (makeText k w) (lent t e h r ks) (lent t′ e h′ r ks) c (made (Term (c .terms + 1) d′) (lent t′ e h′ r ks))
-      text-made u p lp v lv x y =
-          record {
-            says =
-                make-new k w _ is-new (rw (table-length, ← long) (sym fits ∙ not-false f q)) (rw table-length (sym one ∙ not-false g u))
-                ∙ rw (y, x, add-one, v .grown, long, p .grown, lp, lv, table-length, table-length);
-            kept = let a = v .kept in let b = p .kept in cc;
-          }
+  pub text-new : {m′ : Lent} {o : Out ℕ} → t₀ ≡ 0 → Working (appendText k w) (lent t e h r ks) m′ c o → Working (makeText k w) (lent t e h r ks) m′ c o
+  unfolding makeText
+  text-new z p = record { says = lowest-new (textOf k w) (appendText k w) (storeOf (lent t e h r ks) c) t₀ looked z ∙ p .says; kept = p .kept }
 
 -- what the tests of room say of the numbers
-module _ {t e h r ks : List ℕ} {c : State} (ready : Ready (lent t e h r ks) c) (f : Bool) (q : not f ≡ false) where
+module _ {t e h r ks : List ℕ} {c : State} (sized : Sized (lent t e h r ks) c) (f : Bool) (q : not f ≡ false) where
   pub long-limit : (n : ℕ) → f ≡ leb (c .chars + n) (charRoom h) → c .chars + n ≤ charLimit
   long-limit n e = chars-limit h (c .chars) n (sym e ∙ not-false f q)
 
@@ -208,3 +220,8 @@ module _ (w : List ℕ) {m m′ : Lent} {c : State} {o : Out ℕ} where
   pub variable-made : Working (makeText 2 w) m m′ c o → Working (makeVariable w) m m′ c o
   unfolding makeText makeVariable lowest lookup textOf named
   variable-made r = record { says = r .says; kept = r .kept }
+
+  -- a variable of a name that is not found
+  pub variable-new : lookup (named w) (storeOf m c) ≡ none → Working (appendText 2 w) m m′ c o → Working (makeVariable w) m m′ c o
+  unfolding makeVariable lowest
+  variable-new e r = record { says = rw e (r .says); kept = r .kept }

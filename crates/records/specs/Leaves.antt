@@ -6,7 +6,7 @@ use mathlib.Core.Option.{Option, none, some}
 use Prim.Native.Nat.{ℕ, suc, _≤_, _<_}
 use lib.ListN.{length, getD, set}
 use lib.Dec.{eqb}
-use Rattle.records.specs.Lists.{sameWord, firsts, seconds}
+use Rattle.records.specs.Lists.{sameWord, firsts, seconds, firstBelow}
 use Rattle.records.specs.Store.{Cell, Store, ok, stop, Work, _>>=_, term, kind, isString, within, cellIn, chainIn, text, root, top}
 use Rattle.records.specs.View.{termAt, textAt}
 use Rattle.records.specs.Rules.{endsRule, labelRule}
@@ -50,6 +50,11 @@ abbrev pub numberOf : Option ℕ → ℕ
 numberOf none = 0
 numberOf (some i) = suc i
 
+-- t of n terms are passed by: none of them is the one looked for
+pub record Passed (p : ℕ → Bool) (n t : ℕ) : Type 0 where
+  pub upto : t ≤ n
+  pub none-yet : firstBelow (λ i. p (suc i)) t ≡ none
+
 -- a constant or a variable by its text, in the store and in the lent words: kind k, characters w
 unfoldable pub textOf : ℕ → List ℕ → Store → ℕ → Bool
 textOf k w s t = eqb (kind s t) k && sameWord (text s t) w
@@ -68,11 +73,15 @@ hasSides l k a b t = eqb (termAt l t .kind) k && eqb (termAt l t .first) a && eq
 unfoldable pub hasParts : List ℕ → List Cell → List ℕ → ℕ → Bool
 hasParts l cs w t = eqb (termAt l t .kind) 3 && sameWord (firsts (chainIn cs (termAt l t .first))) w
 
--- a constant (kind 1) or a variable (kind 2): `makeConstant` and `makeVariable` in one
-unfoldable pub makeText : ℕ → List ℕ → Work ℕ
-makeText k w = lowest (textOf k w) (do
+-- a new constant (kind 1) or variable (kind 2)
+abbrev pub appendText : ℕ → List ℕ → Work ℕ
+appendText k w = do
   p ← addText w
-  addTerm k p (length w))
+  addTerm k p (length w)
+
+-- `makeConstant` and `makeVariable` in one
+unfoldable pub makeText : ℕ → List ℕ → Work ℕ
+makeText k w = lowest (textOf k w) (appendText k w)
 
 -- a new concatenation
 abbrev pub appendParts : List ℕ → Work ℕ

@@ -1,15 +1,16 @@
 // Making concatenations, lengths and equations: the lowest-numbered equal record, else one appended.
 ghost use mathlib.Core.Path.{_≡_};
 ghost use mathlib.Core.Bool.{_&&_};
-ghost use Prim.Native.Nat.{suc, _≤_};
+ghost use mathlib.Core.Logic.{_⊎_};
+ghost use Prim.Native.Nat.{suc, _-_, _≤_, min};
 ghost use lib.Dec.{leb};
-ghost use lib.ListN.{length};
+ghost use lib.ListN.{length, getD};
 ghost use Rattle.records.specs.Lists.{sameWord, firsts, firstBelow};
 ghost use Rattle.records.specs.Store.{chainIn, isString};
 ghost use Rattle.records.specs.View.{termLimit, cellsView, lent};
 ghost use Rattle.records.specs.Rules.{isList, isEquatable};
 ghost use Rattle.records.specs.Make.{makeConcat, makeLength, makeEquation};
-ghost use Rattle.records.specs.Leaves.{numberOf, appendParts, hasParts, hasSides, makeSides};
+ghost use Rattle.records.specs.Leaves.{numberOf, Passed, appendParts, hasParts, hasSides, makeSides};
 ghost use Rattle.records.specs.Audited.{Ready, Sized, Ascends};
 ghost use Rattle.records.specs.Calls.{call, Public, Working, made};
 use crate::Made;
@@ -19,7 +20,9 @@ use crate::fields::kind;
 use crate::fields::next;
 use crate::fields::second;
 use crate::fields::value;
+use crate::fields::wide;
 use crate::put::cells_fit;
+use crate::put::higher;
 use crate::put::put_chain_unchecked;
 use crate::put::put_term_unchecked;
 use crate::put::term_fits;
@@ -59,12 +62,35 @@ fn has_parts(terms: &[u32], cells: &[u32], n: usize, t: u32, l: &[u32]) -> bool
     chain_is(cells, n, first(terms, t), l)
 }
 
-// The lowest-numbered of n terms that is a concatenation of l; 0 where there is none.
-fn find_parts(terms: &[u32], cells: &[u32], n: usize, k: usize, l: &[u32]) -> u32
-    requires { ⌜ n ≤ termLimit ⌝ ∗ ⌜ Ascends (cellsView (now cells) k) ⌝ }
+// Where to look for a whole among n terms: parts have lower numbers than the whole, so it is none of the terms up to its part x.
+fn up_to_part(n: usize, x: u32) -> u32
+    requires { ⌜ n ≤ termLimit ⌝ }
+    ensures { λ r. ⌜ r ≡ min n x ⌝ }
+{
+    if wide(x) < n {
+        return x;
+    }
+    n as u32
+}
+
+// The same for a concatenation of l, by its last part.
+fn up_to_last(n: usize, l: &[u32]) -> u32
+    requires { ⌜ n ≤ termLimit ⌝ }
+    ensures { λ r. ⌜ r ≡ min n (getD (now (l .entry)) (length (now (l .entry)) - 1) 0) ⌝ }
+{
+    if l.len() == 0 {
+        return 0;
+    }
+    let last = l.len() - 1;
+    up_to_part(n, l[last])
+}
+
+// The lowest-numbered of n terms that is a concatenation of l, which none up to `from` is; 0 where there is none.
+fn find_parts(terms: &[u32], cells: &[u32], n: usize, k: usize, from: u32, l: &[u32]) -> u32
+    requires { ⌜ n ≤ termLimit ⌝ ∗ ⌜ Ascends (cellsView (now cells) k) ⌝ ∗ ⌜ Passed (hasParts (now terms) (cellsView (now cells) k) (now l)) n from ⌝ }
     ensures { λ r. ⌜ r ≡ numberOf (firstBelow (λ i. hasParts (now (terms .entry)) (cellsView (now (cells .entry)) k) (now (l .entry)) (suc i)) n) ⌝ }
 {
-    let mut t: u32 = 0;
+    let mut t = from;
     while (t as usize) < n {
         t += 1;
         if has_parts(terms, cells, k, t, l) {
@@ -112,7 +138,8 @@ pub fn make_concatenation_unchecked(
     requires { ⌜ Ready (lent (now terms) (now cells) (now chars) (now reasons) (now keys)) c ⌝ }
     ensures { λ r. ⌜ Working (makeConcat (now (l .entry))) (lent (now (terms .entry)) (now (cells .entry)) (now (chars .entry)) (now (reasons .entry)) (now (keys .entry))) (lent (now (terms .exit)) (now (cells .exit)) (now (chars .entry)) (now (reasons .entry)) (now (keys .entry))) c (made r (lent (now (terms .exit)) (now (cells .exit)) (now (chars .entry)) (now (reasons .entry)) (now (keys .entry)))) ⌝ }
 {
-    let t = find_parts(terms, cells, c.terms, c.cells, l);
+    let from = up_to_last(c.terms, l);
+    let t = find_parts(terms, cells, c.terms, c.cells, from, l);
     if t != 0 {
         return Made::Term(t, c);
     }
@@ -132,12 +159,12 @@ fn has_sides(terms: &[u32], t: u32, k: u32, a: u32, b: u32) -> bool
     second(terms, t) == b
 }
 
-// The lowest-numbered of n terms that is of kind k and has these two words; 0 where there is none.
-fn find_sides(terms: &[u32], n: usize, k: u32, a: u32, b: u32) -> u32
-    requires { ⌜ n ≤ termLimit ⌝ }
+// The lowest-numbered of n terms that is of kind k and has these two words, which none up to `from` is; 0 where there is none.
+fn find_sides(terms: &[u32], n: usize, from: u32, k: u32, a: u32, b: u32) -> u32
+    requires { ⌜ n ≤ termLimit ⌝ ∗ ⌜ Passed (hasSides (now terms) k a b) n from ⌝ }
     ensures { λ r. ⌜ r ≡ numberOf (firstBelow (λ i. hasSides (now (terms .entry)) k a b (suc i)) n) ⌝ }
 {
-    let mut t: u32 = 0;
+    let mut t = from;
     while (t as usize) < n {
         t += 1;
         if has_sides(terms, t, k, a, b) {
@@ -147,6 +174,7 @@ fn find_sides(terms: &[u32], n: usize, k: u32, a: u32, b: u32) -> u32
     0
 }
 
+// The length (kind 4) of a, its second word 0, or the equation (kind 5) of a and b.
 fn make_sides(
     terms: &mut [u32],
     cells: &[u32],
@@ -158,10 +186,11 @@ fn make_sides(
     a: u32,
     b: u32,
 ) -> Made
-    requires { ⌜ Sized (lent (now terms) (now cells) (now chars) (now reasons) (now keys)) c ⌝ }
+    requires { ⌜ Ready (lent (now terms) (now cells) (now chars) (now reasons) (now keys)) c ⌝ ∗ ⌜ (k ≡ 4) ⊎ (k ≡ 5) ⌝ }
     ensures { λ r. ⌜ Working (makeSides k a b) (lent (now (terms .entry)) (now (cells .entry)) (now (chars .entry)) (now (reasons .entry)) (now (keys .entry))) (lent (now (terms .exit)) (now (cells .entry)) (now (chars .entry)) (now (reasons .entry)) (now (keys .entry))) c (made r (lent (now (terms .exit)) (now (cells .entry)) (now (chars .entry)) (now (reasons .entry)) (now (keys .entry)))) ⌝ }
 {
-    let t = find_sides(terms, c.terms, k, a, b);
+    let from = up_to_part(c.terms, higher(a, b));
+    let t = find_sides(terms, c.terms, from, k, a, b);
     if t != 0 {
         return Made::Term(t, c);
     }

@@ -1,5 +1,6 @@
 // Making terms: the lowest-numbered equal record, else one appended.
 ghost use mathlib.Core.Bool.{true, _&&_};
+ghost use mathlib.Core.Option.{none};
 ghost use mathlib.Core.Path.{_≡_};
 ghost use Prim.Native.Nat.{suc, _+_, _≤_};
 ghost use lib.Dec.{leb};
@@ -7,11 +8,11 @@ ghost use lib.ListN.{length};
 ghost use Rattle.records.specs.Lists.{all, joined, firstBelow};
 ghost use Rattle.records.specs.Store.{within, isConstant, text};
 ghost use Rattle.records.specs.View.{termLimit, charLimit, charRoom, lent, storeOf, textAt, lengths};
-ghost use Rattle.records.specs.Rules.{isChar, listLimit};
-ghost use Rattle.records.specs.Make.{makeConstant, makeVariable};
-ghost use Rattle.records.specs.Leaves.{numberOf, hasText, makeText};
+ghost use Rattle.records.specs.Rules.{isChar, listLimit, named};
+ghost use Rattle.records.specs.Make.{lookup, makeConstant, makeVariable};
+ghost use Rattle.records.specs.Leaves.{numberOf, hasText, appendText, makeText};
 ghost use Rattle.records.specs.Puts.{TextsWithin};
-ghost use Rattle.records.specs.Audited.{Ready};
+ghost use Rattle.records.specs.Audited.{Ready, Sized};
 ghost use Rattle.records.specs.Calls.{Working, Public, call, made};
 use crate::Made;
 use crate::State;
@@ -67,7 +68,34 @@ fn text_fits(chars: &[u32], n: usize, k: usize) -> bool
     n + k <= chars.len()
 }
 
-// The constant (kind 1) or variable (kind 2) whose text is w. Both rooms are tested before a word is written.
+// A new constant (kind 1) or variable (kind 2) whose text is w. Both rooms are tested before a word is written.
+fn append_text(
+    terms: &mut [u32],
+    cells: &[u32],
+    chars: &mut [u32],
+    reasons: &[u32],
+    keys: &[u32],
+    c: State,
+    k: u32,
+    w: &[u32],
+) -> Made
+    requires { ⌜ Sized (lent (now terms) (now cells) (now chars) (now reasons) (now keys)) c ⌝ }
+    ensures { λ r. ⌜ Working (appendText k (now (w .entry))) (lent (now (terms .entry)) (now (cells .entry)) (now (chars .entry)) (now (reasons .entry)) (now (keys .entry))) (lent (now (terms .exit)) (now (cells .entry)) (now (chars .exit)) (now (reasons .entry)) (now (keys .entry))) c (made r (lent (now (terms .exit)) (now (cells .entry)) (now (chars .exit)) (now (reasons .entry)) (now (keys .entry)))) ⌝ }
+{
+    if !text_fits(chars, c.chars, w.len()) {
+        return Made::Refused(8);
+    }
+    if !term_fits(terms, c.terms) {
+        return Made::Refused(8);
+    }
+    let n = c.terms;
+    put_text_unchecked(chars, c.chars, w);
+    put_term_unchecked(terms, n, k, c.chars as u32, w.len() as u32);
+    let d = c.with_chars(w.len());
+    Made::Term((n + 1) as u32, d.with_term())
+}
+
+// The constant (kind 1) or variable (kind 2) whose text is w.
 fn make_text(
     terms: &mut [u32],
     cells: &[u32],
@@ -85,17 +113,7 @@ fn make_text(
     if t != 0 {
         return Made::Term(t, c);
     }
-    if !text_fits(chars, c.chars, w.len()) {
-        return Made::Refused(8);
-    }
-    if !term_fits(terms, c.terms) {
-        return Made::Refused(8);
-    }
-    let n = c.terms;
-    put_text_unchecked(chars, c.chars, w);
-    put_term_unchecked(terms, n, k, c.chars as u32, w.len() as u32);
-    let d = c.with_chars(w.len());
-    Made::Term((n + 1) as u32, d.with_term())
+    append_text(terms, cells, chars, reasons, keys, c, k, w)
 }
 
 pub fn make_constant_unchecked(
@@ -126,6 +144,22 @@ pub fn make_variable_unchecked(
     ensures { λ r. ⌜ Working (makeVariable (now (w .entry))) (lent (now (terms .entry)) (now (cells .entry)) (now (chars .entry)) (now (reasons .entry)) (now (keys .entry))) (lent (now (terms .exit)) (now (cells .entry)) (now (chars .exit)) (now (reasons .entry)) (now (keys .entry))) c (made r (lent (now (terms .exit)) (now (cells .entry)) (now (chars .exit)) (now (reasons .entry)) (now (keys .entry)))) ⌝ }
 {
     make_text(terms, cells, chars, reasons, keys, c, 2, w)
+}
+
+// The variable of a name that no variable has: it is not looked for.
+pub fn make_new_variable_unchecked(
+    terms: &mut [u32],
+    cells: &[u32],
+    chars: &mut [u32],
+    reasons: &[u32],
+    keys: &[u32],
+    c: State,
+    w: &[u32],
+) -> Made
+    requires { ⌜ Ready (lent (now terms) (now cells) (now chars) (now reasons) (now keys)) c ⌝ ∗ ⌜ lookup (named (now w)) (storeOf (lent (now terms) (now cells) (now chars) (now reasons) (now keys)) c) ≡ none ⌝ }
+    ensures { λ r. ⌜ Working (makeVariable (now (w .entry))) (lent (now (terms .entry)) (now (cells .entry)) (now (chars .entry)) (now (reasons .entry)) (now (keys .entry))) (lent (now (terms .exit)) (now (cells .entry)) (now (chars .exit)) (now (reasons .entry)) (now (keys .entry))) c (made r (lent (now (terms .exit)) (now (cells .entry)) (now (chars .exit)) (now (reasons .entry)) (now (keys .entry)))) ⌝ }
+{
+    append_text(terms, cells, chars, reasons, keys, c, 2, w)
 }
 
 // Whether term t is the constant of the joined texts of a list, of `total` characters. Only texts of one length are compared.

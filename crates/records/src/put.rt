@@ -130,7 +130,7 @@ fn lower(a: u32, b: u32) -> u32
     b
 }
 
-fn higher(a: u32, b: u32) -> u32
+pub(crate) fn higher(a: u32, b: u32) -> u32
     ensures { λ r. ⌜ r ≡ max a b ⌝ }
 {
     if a < b {

@@ -2,7 +2,7 @@
 use mathlib.Core.Path.{_≡_, refl, sym, ap, _∙_}
 use mathlib.Core.Bool.{Bool, true}
 use mathlib.Core.List.{List, [], _∷_}
-use mathlib.Core.Option.{some}
+use mathlib.Core.Option.{none, some}
 use Prim.Native.Nat.{ℕ, _≤_}
 use native.Mathlib.Omega.{arith}
 use lib.ListN.{length, take, set}
@@ -15,14 +15,14 @@ use Rattle.records.specs.declared.Named.{Named}
 use Rattle.records.specs.Lists.{if_then_else_, all, none-left, and}
 use Rattle.records.specs.Store.{Store, Out, ok, stop, Work, andThen, _>>=_, give, within, isString}
 use Rattle.records.specs.View.{Lent, storeOf}
-use Rattle.records.specs.Rules.{isChar, isEquatable}
-use Rattle.records.specs.Make.{makeConstant, makeVariable, makeConcat, makeLength, makeEquation, takeName}
+use Rattle.records.specs.Rules.{isChar, isEquatable, named}
+use Rattle.records.specs.Make.{lookup, makeConstant, makeVariable, makeConcat, makeLength, makeEquation, takeName}
 use Rattle.records.specs.Audited.{Audited, Ready}
 use Rattle.records.specs.Calls.{Working, made, Taken}
 use Rattle.records.proofs.Lists.{both-true, every-all}
 use Rattle.records.proofs.Works.{via}
 use Rattle.records.proofs.Grown.{Grown, grown-string, grown-kind, grown-then}
-use Rattle.records.proofs.Kept.{MadeIn, made-string, constant-kept, concat-kept, length-kept, equation-kept, name-audited, fresh-kept}
+use Rattle.records.proofs.Kept.{MadeIn, made-string, constant-kept, concat-kept, length-kept, equation-kept, name-taken, name-audited, fresh-kept}
 use Rattle.records.proofs.Passed.{ready-after}
 use Rattle.wordeq.specs.Wordeq.{split, Tried, answer, freshVariable, splitCharacter, splitHeads}
 use Rattle.normalize.specs.declared.Form.{Form}
@@ -50,6 +50,9 @@ module _ {m : Lent} {c : State} (r : Named) (x : Taken m c r) where
 
   pub named-ready : Ready m c → r .code ≡ 0 → Ready m (r .state)
   named-ready ready e = ready-after ready refl refl (name-audited (storeOf m c) (storeOf m (r .state)) _ (ready .audited) (taken-zero e .says))
+
+  pub named-new : r .code ≡ 0 → lookup (named (take (r .len) (r .name))) (storeOf m (r .state)) ≡ none
+  named-new e = name-taken (storeOf m c) (storeOf m (r .state)) _ (taken-zero e .says) .new
 
   pub named-then : r .code ≡ 0 → {m₁ : Lent} {o : Out ℕ} → Working (makeVariable (take (r .len) (r .name))) m m₁ (r .state) o → Working freshVariable m m₁ c o
   unfolding freshVariable

@@ -1,12 +1,13 @@
 // Step 7: the atoms of a split.
 ghost use mathlib.Core.Path.{_≡_};
 ghost use mathlib.Core.Bool.{true};
+ghost use mathlib.Core.Option.{none};
 ghost use Prim.Native.Nat.{_≤_};
 ghost use lib.ListN.{length, take};
 ghost use Rattle.records.specs.Store.{isString};
 ghost use Rattle.records.specs.View.{lent, storeOf};
-ghost use Rattle.records.specs.Rules.{isChar};
-ghost use Rattle.records.specs.Make.{makeVariable};
+ghost use Rattle.records.specs.Rules.{isChar, named};
+ghost use Rattle.records.specs.Make.{lookup, makeVariable};
 ghost use Rattle.records.specs.Audited.{Ready};
 ghost use Rattle.records.specs.Calls.{Working, made};
 ghost use Rattle.wordeq.specs.Wordeq.{freshVariable};
@@ -18,7 +19,7 @@ use records::State;
 use records::build;
 use records::make;
 
-// The variable of the first characters of a name.
+// The variable of the first characters of a name, which no variable has.
 fn make_named(
     terms: &mut [u32],
     cells: &[u32],
@@ -29,11 +30,11 @@ fn make_named(
     name: &[u32; 15],
     len: usize,
 ) -> Made
-    requires { ⌜ Ready (lent (now terms) (now cells) (now chars) (now reasons) (now keys)) c ⌝ ∗ ⌜ len ≤ 15 ⌝ }
+    requires { ⌜ Ready (lent (now terms) (now cells) (now chars) (now reasons) (now keys)) c ⌝ ∗ ⌜ len ≤ 15 ⌝ ∗ ⌜ lookup (named (take len (now name))) (storeOf (lent (now terms) (now cells) (now chars) (now reasons) (now keys)) c) ≡ none ⌝ }
     ensures { λ r. ⌜ Working (makeVariable (take len (now (name .entry)))) (lent (now (terms .entry)) (now (cells .entry)) (now (chars .entry)) (now (reasons .entry)) (now (keys .entry))) (lent (now (terms .exit)) (now (cells .entry)) (now (chars .exit)) (now (reasons .entry)) (now (keys .entry))) c (made r (lent (now (terms .exit)) (now (cells .entry)) (now (chars .exit)) (now (reasons .entry)) (now (keys .entry)))) ⌝ }
 {
     let all: &[u32] = name;
-    make::make_variable_unchecked(terms, cells, chars, reasons, keys, c, &all[..len])
+    make::make_new_variable_unchecked(terms, cells, chars, reasons, keys, c, &all[..len])
 }
 
 // A variable of the next free name.

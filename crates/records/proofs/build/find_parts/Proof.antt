@@ -1,16 +1,16 @@
 use Prim.Native.Nat.{_-_}
-use Rattle.records.specs.Leaves.{hasParts}
+use Rattle.records.specs.Leaves.{Passed, hasParts}
 use Rattle.records.specs.View.{cellsView}
-use Rattle.records.proofs.Making.{Passed, passed-none, passed-one, passed-all, hit}
+use Rattle.records.proofs.Making.{passed-one, passed-all, hit}
 use borrow.Author.Needs.{needs}
 use Rattle.records.proofs.build.find_parts.Statement.{statement}
 use Rattle.records.proofs.build.find_parts.Tie as tie
 
 abbrev Inv-loop : tie.InvT-loop
-Inv-loop terms cells n k l t₀ t = Passed (hasParts terms (cellsView cells k) l) n t
+Inv-loop terms cells n k from l t₀ t = Passed (hasParts terms (cellsView cells k) l) n t
 
 abbrev μ-loop : tie.MeasureT-loop
-μ-loop terms cells n k l t₀ t = n - t
+μ-loop terms cells n k from l t₀ t = n - t
 
 pub find-parts-spec : {M : Type 1} → statement M
 find-parts-spec =
@@ -18,7 +18,7 @@ find-parts-spec =
     (tie.spec
     Inv-loop
     μ-loop
-    (λ c. passed-none _ _)
+    (λ c. search needs)
     (λ c. search needs)
     (λ c. search needs)
     (λ c κs. search needs)

@@ -1,15 +1,15 @@
 use Prim.Native.Nat.{_-_}
-use Rattle.records.specs.Leaves.{hasSides}
-use Rattle.records.proofs.Making.{Passed, passed-none, passed-one, passed-all, hit}
+use Rattle.records.specs.Leaves.{Passed, hasSides}
+use Rattle.records.proofs.Making.{passed-one, passed-all, hit}
 use borrow.Author.Needs.{needs}
 use Rattle.records.proofs.build.find_sides.Statement.{statement}
 use Rattle.records.proofs.build.find_sides.Tie as tie
 
 abbrev Inv-loop : tie.InvT-loop
-Inv-loop terms n k a b t₀ t = Passed (hasSides terms k a b) n t
+Inv-loop terms n from k a b t₀ t = Passed (hasSides terms k a b) n t
 
 abbrev μ-loop : tie.MeasureT-loop
-μ-loop terms n k a b t₀ t = n - t
+μ-loop terms n from k a b t₀ t = n - t
 
 pub find-sides-spec : {M : Type 1} → statement M
 find-sides-spec =
@@ -17,7 +17,7 @@ find-sides-spec =
     (tie.spec
     Inv-loop
     μ-loop
-    (λ c. passed-none _ _)
+    (λ c. search needs)
     (λ c. search needs)
     (λ c. search needs)
     (λ c κs. search needs)

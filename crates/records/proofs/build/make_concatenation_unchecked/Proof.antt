@@ -1,4 +1,4 @@
-use Rattle.records.proofs.Builds.{concat-old, concat-new}
+use Rattle.records.proofs.Builds.{parts-from, concat-old, concat-new}
 use borrow.Author.Needs.{needs}
 use Rattle.records.proofs.build.make_concatenation_unchecked.Statement.{statement}
 use Rattle.records.proofs.build.make_concatenation_unchecked.Tie as tie
@@ -8,6 +8,7 @@ make-concatenation-unchecked-spec =
     tie.close
     (tie.spec
     (λ c κs. search needs)
+    (λ c κs. (c .before .before .before .before .before .before .before .before .before .pre .sized .termLimited, (c .before .before .before .before .before .before .before .before .before .pre .audited .recorded .nexts, parts-from _ _ _ _ (c .before .before .before .before .before .before .before .before .before .pre) (c .before .before .up-to-last .ensures))))
     (λ c. search needs)
     (λ c. search needs)
     (λ c. search concat-old)

@@ -1,7 +1,9 @@
+use mathlib.Core.Logic.{inr}
+use mathlib.Core.Path.{refl}
 use Rattle.records.proofs.Builds.{equation-made}
 use borrow.Author.Needs.{needs}
 use Rattle.records.proofs.build.make_equation_unchecked.Statement.{statement}
 use Rattle.records.proofs.build.make_equation_unchecked.Tie as tie
 
 pub make-equation-unchecked-spec : {M : Type 1} → statement M
-make-equation-unchecked-spec = tie.close (tie.spec (λ c κs. search needs) (λ c. search needs) (λ c. search equation-made))
+make-equation-unchecked-spec = tie.close (tie.spec (λ c κs. (c .before .before .before .before .before .before .pre, inr refl)) (λ c. search needs) (λ c. search equation-made))

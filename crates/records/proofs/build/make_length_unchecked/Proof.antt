@@ -1,7 +1,9 @@
+use mathlib.Core.Logic.{inl}
+use mathlib.Core.Path.{refl}
 use Rattle.records.proofs.Builds.{length-made}
 use borrow.Author.Needs.{needs}
 use Rattle.records.proofs.build.make_length_unchecked.Statement.{statement}
 use Rattle.records.proofs.build.make_length_unchecked.Tie as tie
 
 pub make-length-unchecked-spec : {M : Type 1} → statement M
-make-length-unchecked-spec = tie.close (tie.spec (λ c κs. search needs) (λ c. search needs) (λ c. search length-made))
+make-length-unchecked-spec = tie.close (tie.spec (λ c κs. (c .before .before .before .before .before .before .pre, inl refl)) (λ c. search needs) (λ c. search length-made))

@@ -1,6 +1,4 @@
-use Rattle.records.proofs.Making.{text-found, text-long, text-full, text-made, long-limit, long-room, one-limit, one-room, next-limit}
-use mathlib.Core.Path.{refl}
-use native.Mathlib.Omega.{arith}
+use Rattle.records.proofs.Making.{text-found, text-new}
 use borrow.Author.Needs.{needs}
 use Rattle.records.proofs.make.make_text.Statement.{statement}
 use Rattle.records.proofs.make.make_text.Tie as tie
@@ -13,22 +11,7 @@ make-text-spec =
     (λ c. search needs)
     (λ c. search needs)
     (λ c. text-found (c .before .before .before .before .before .before .before .before .before .before .pre .0) _ (c .before .before .before .before .before .before .before .before .before .before .pre .1) _ _ (c .before .find-text-unchecked .ensures) (c .if1 .taken))
-    (λ c κs. search needs)
+    (λ c κs. c .before .before .before .before .before .before .before .before .before .before .before .before .pre .0 .sized)
     (λ c. search needs)
     (λ c. search needs)
-    (λ c. text-long (c .before .before .before .before .before .before .before .before .before .before .before .before .before .pre .0) _ (c .before .before .before .before .before .before .before .before .before .before .before .before .before .pre .1) _ _ (c .before .before .before .before .find-text-unchecked .ensures) (c .before .before .before .if1 .left) _ refl _ (c .before .text-fits .ensures) (c .if2 .taken))
-    (λ c κs. search needs)
-    (λ c. search needs)
-    (λ c. search needs)
-    (λ c. text-full (c .before .before .before .before .before .before .before .before .before .before .before .before .before .before .before .before .pre .0) _ (c .before .before .before .before .before .before .before .before .before .before .before .before .before .before .before .before .pre .1) _ _ (c .before .before .before .before .before .before .before .find-text-unchecked .ensures) (c .before .before .before .before .before .before .if1 .left) _ refl _ (c .before .before .before .before .text-fits .ensures) (c .before .before .before .if2 .left) _ (c .before .term-fits .ensures) (c .if3 .taken))
-    (λ c κs. long-room (c .before .before .before .before .before .before .before .before .before .before .before .before .before .before .before .before .before .pre .0) _ (c .before .before .before .before .if2 .left) _ (c .before .before .before .before .before .text-fits .ensures))
-    (λ c. search needs)
-    (λ c. omega (arith, long-limit (c .before .before .before .before .before .before .before .before .before .before .before .before .before .before .before .before .before .before .before .before .before .before .pre .0) _ (c .before .before .before .before .before .before .before .before .before .if2 .left) _ (c .before .before .before .before .before .before .before .before .before .before .text-fits .ensures)))
-    (λ c κs. (one-limit (c .before .before .before .before .before .before .before .before .before .before .before .before .before .before .before .before .before .before .before .before .before .before .pre .0) _ (c .before .before .before .before .before .before .if3 .left) (c .before .before .before .before .before .before .before .term-fits .ensures), one-room (c .before .before .before .before .before .before .before .before .before .before .before .before .before .before .before .before .before .before .before .before .before .before .pre .0) _ (c .before .before .before .before .before .before .if3 .left) (c .before .before .before .before .before .before .before .term-fits .ensures)))
-    (λ c κs. long-limit (c .before .before .before .before .before .before .before .before .before .before .before .before .before .before .before .before .before .before .before .before .before .before .before .before .before .pre .0) _ (c .before .before .before .before .before .before .before .before .before .before .before .before .if2 .left) _ (c .before .before .before .before .before .before .before .before .before .before .before .before .before .text-fits .ensures))
-    (λ c. omega (arith, one-limit (c .before .before .before .before .before .before .before .before .before .before .before .before .before .before .before .before .before .before .before .before .before .before .before .before .before .before .pre .0) _ (c .before .before .before .before .before .before .before .before .before .before .if3 .left) (c .before .before .before .before .before .before .before .before .before .before .before .term-fits .ensures)))
-    (λ c. omega (arith, one-limit (c .before .before .before .before .before .before .before .before .before .before .before .before .before .before .before .before .before .before .before .before .before .before .before .before .before .before .pre .0) _ (c .before .before .before .before .before .before .before .before .before .before .if3 .left) (c .before .before .before .before .before .before .before .before .before .before .before .term-fits .ensures)))
-    (λ c κs. next-limit (c .before .before .before .before .before .before .before .before .before .before .before .before .before .before .before .before .before .before .before .before .before .before .before .before .before .before .pre .0) _ (c .before .before .before .before .before .before .before .before .before .before .if3 .left) _ (c .with-chars .ensures) (c .before .before .before .before .before .before .before .before .before .before .before .term-fits .ensures))
-    (λ c. search needs)
-    (λ c. search needs)
-    (λ c. text-made (c .before .before .before .before .before .before .before .before .before .before .before .before .before .before .before .before .before .before .before .before .before .before .before .before .before .before .before .pre .0) _ (c .before .before .before .before .before .before .before .before .before .before .before .before .before .before .before .before .before .before .before .before .before .before .before .before .before .before .before .pre .1) _ _ (c .before .before .before .before .before .before .before .before .before .before .before .before .before .before .before .before .before .before .find-text-unchecked .ensures) (c .before .before .before .before .before .before .before .before .before .before .before .before .before .before .before .before .before .if1 .left) _ refl _ (c .before .before .before .before .before .before .before .before .before .before .before .before .before .before .before .text-fits .ensures) (c .before .before .before .before .before .before .before .before .before .before .before .before .before .before .if2 .left) _ (c .before .before .before .before .before .before .before .before .before .before .before .before .term-fits .ensures) (c .before .before .before .before .before .before .before .before .before .before .before .if3 .left) (c .before .before .before .before .before .before .before .before .before .put-text-unchecked .ensures) (c .before .before .before .before .before .before .before .before .before .put-text-unchecked .kept .0) (c .before .before .before .before .put-term-unchecked .ensures) (c .before .before .before .before .put-term-unchecked .kept .0) (c .before .with-chars .ensures) (c .with-term .ensures)))
+    (λ c. text-new (c .before .before .before .before .before .before .before .before .before .before .before .before .before .before .before .before .before .pre .0) _ (c .before .before .before .before .before .before .before .before .before .before .before .before .before .before .before .before .before .pre .1) _ _ (c .before .before .before .before .before .before .before .before .find-text-unchecked .ensures) (c .before .before .before .before .before .before .before .if1 .left) (c .before .before .before .before .append-text .ensures)))

@@ -1,4 +1,4 @@
-use Rattle.wordeq.proofs.Splitting.{named-stop, named-ready, named-then}
+use Rattle.wordeq.proofs.Splitting.{named-stop, named-ready, named-new, named-then}
 use borrow.Author.Needs.{needs}
 use Rattle.wordeq.proofs.splits.fresh_str_unchecked.Statement.{statement}
 use Rattle.wordeq.proofs.splits.fresh_str_unchecked.Tie as tie
@@ -11,7 +11,7 @@ fresh-str-unchecked-spec =
     (λ c. search needs)
     (λ c. search needs)
     (λ c. named-stop _ (c .before .before .next-name-unchecked .ensures) (c .if1 .taken))
-    (λ c κs. (named-ready _ (c .before .before .before .before .before .before .next-name-unchecked .ensures) (c .before .before .before .before .before .before .before .before .before .before .before .before .before .before .pre) (c .before .before .before .before .if1 .left), c .before .before .before .before .before .before .next-name-unchecked .ensures .fits))
+    (λ c κs. (named-ready _ (c .before .before .before .before .before .before .next-name-unchecked .ensures) (c .before .before .before .before .before .before .before .before .before .before .before .before .before .before .pre) (c .before .before .before .before .if1 .left), (c .before .before .before .before .before .before .next-name-unchecked .ensures .fits, named-new _ (c .before .before .before .before .before .before .next-name-unchecked .ensures) (c .before .before .before .before .if1 .left))))
     (λ c. search needs)
     (λ c. search needs)
     (λ c. named-then _ (c .before .before .before .before .before .before .before .before .before .before .before .next-name-unchecked .ensures) (c .before .before .before .before .before .before .before .before .before .if1 .left) (c .before .before .before .before .make-named .ensures)))
