@@ -10,4 +10,5 @@ pub mod Sound
 pub mod Turns
 pub mod Rises
 pub mod Starts
+pub mod Plainly
 pub mod EngineCalls

@@ -27,14 +27,18 @@ unfolding bit
 no-bit j = rw (native.Mathlib.Nat.zero-div (2 ^ j)) refl
 
 -- a table of zeros marks nothing
-pub no-marks : (n w : ℕ) → Marks n (replicate w 0) []
-unfolding marked wasSeen any
-no-marks n w = record { says = λ a b ha hb. ap (λ (x : ℕ). bit x (place n a b % 32)) (zero-at w (place n a b / 32)) ∙ no-bit (place n a b % 32) }
+pub no-mark : (w k : ℕ) → marked (replicate w 0) k ≡ false
+unfolding marked
+no-mark w k = ap (λ (x : ℕ). bit x (k % 32)) (zero-at w (k / 32)) ∙ no-bit (k % 32)
   where
     zero-at : (w i : ℕ) → _≡_ {A = ℕ} (getD (replicate w 0) i 0) 0
     zero-at zero i = refl
     zero-at (suc w) zero = refl
     zero-at (suc w) (suc i) = zero-at w i
+
+no-marks : (n w : ℕ) → Marks n (replicate w 0) []
+unfolding wasSeen any
+no-marks n w = record { says = λ a b ha hb. no-mark w (place n a b) }
 
 pub explained-by : (terms cells tab′ reasons reasons′ : List ℕ) (n k a b c w : ℕ) (r : Walked)
     → Walks (walked (a, b)) (λ s. Together s (a, b)) terms cells (replicate w 0) tab′ reasons reasons′ n k c r → Explained terms cells reasons reasons′ n k a b c r

@@ -11,7 +11,9 @@ use Rattle.records.specs.View.{termsView, cellsView, pairsView, reasonRoom}
 use Rattle.records.specs.Make.{withReasons}
 use Rattle.records.specs.Audited.{Audited}
 use Rattle.engine.specs.declared.Walked.{Walked}
-use Rattle.engine.specs.Explain.{Seen, explain}
+use Rattle.engine.specs.declared.Plain.{Plain}
+use Rattle.engine.specs.declared.Plain.the-variants.{Ended}
+use Rattle.engine.specs.Explain.{Seen, edge, walked, explain}
 use Rattle.engine.specs.Marks.{Marks}
 
 -- an audited store with the lent terms and cells and the room of the lent reasons
@@ -82,3 +84,22 @@ pub record Explained (terms cells reasons reasons′ : List ℕ) (n k a b count 
 pub record Explainable (terms cells reasons : List ℕ) (n k a b : ℕ) : Type 0 where
   pub standing : Standing terms cells reasons n k
   pub together : Together (standing .store) (a, b)
+
+-- a walk without a table: what is counted stays, and the work is done unless a congruence edge was met
+pub record Plainly (Done : Walked → Type 0) (reasons reasons′ : List ℕ) (count : ℕ) (p : Plain) : Type 0 where
+  pub kept : pairsView reasons′ count ≡ pairsView reasons count
+  pub done : (r : Walked) → p ≡ Ended r → Done r
+
+-- an edge without pairs leaves every table as it was
+abbrev pub PlainEdge : List ℕ → List ℕ → List ℕ → ℕ → ℕ → Walked → Type 0
+PlainEdge terms reasons reasons′ node count r = (cells table : List ℕ) (n k : ℕ) → Walks (edge walked node) (λ s. Edge s node) terms cells table table reasons reasons′ n k count r
+
+-- a path without congruence edges is explained whatever the cells are
+abbrev pub PlainPath : List ℕ → List ℕ → List ℕ → ℕ → ℕ → ℕ → ℕ → Walked → Type 0
+PlainPath terms reasons reasons′ n a b count r = (cells : List ℕ) (k : ℕ) → Explained terms cells reasons reasons′ n k a b count r
+
+-- terms of which, with some cells, a pair can be explained
+pub record PlainPair (terms reasons : List ℕ) (n a b : ℕ) : Type 0 where
+  pub cells : List ℕ
+  pub k : ℕ
+  pub can : Explainable terms cells reasons n k a b

@@ -8,7 +8,7 @@ ghost use Rattle.records.specs.Audited.{Ready};
 ghost use Rattle.records.specs.Calls.{Working, Public, call, added};
 ghost use Rattle.engine.specs.Explain.{find, findArguments, walked, edge, explain, explainArguments};
 ghost use Rattle.engine.specs.Marks.{place, marked, Marked};
-ghost use Rattle.engine.specs.Walks.{Walkable, Together, Edge, Walks, Gives, Explainable, Explained};
+ghost use Rattle.engine.specs.Walks.{Walkable, Together, Edge, Walks, Gives, Explainable, Explained, Plainly, PlainEdge, PlainPair, PlainPath};
 ghost use Rattle.engine.specs.Calls.{found, PublicExplain};
 use records::Added;
 use records::State;
@@ -21,6 +21,12 @@ use records::rules;
 pub struct Walked {
     pub code: u32,
     pub count: usize,
+}
+
+// What a walk without a table came to: how far it came, or that it met a congruence edge, whose pairs need the table.
+enum Plain {
+    Ended(Walked),
+    Congruence,
 }
 
 // What find answers.
@@ -238,6 +244,65 @@ fn explain_many(
     explain_rec(terms, cells, n, k, a, b, &mut seen, reasons, count)
 }
 
+// As expand_edge, for an edge that leads to no other pair. Any other is left to expand_edge.
+fn plain_edge(terms: &[u32], node: u32, reasons: &mut [u32], count: usize) -> Plain
+    ensures { λ r. ⌜ Plainly (PlainEdge (now (terms .entry)) (now (reasons .entry)) (now (reasons .exit)) node count) (now (reasons .entry)) (now (reasons .exit)) count r ⌝ }
+{
+    let kind = fields::label_kind(terms, node);
+    let value = fields::label_value(terms, node);
+    match kind {
+        1 => Plain::Ended(give(reasons, count, 1, value)),
+        2 => Plain::Ended(give(reasons, count, 2, value)),
+        4 => Plain::Ended(Walked { code: 0, count }),
+        _ => Plain::Congruence,
+    }
+}
+
+// As explain_rec, for a path without congruence edges. It meets no second pair, so it needs no table.
+fn explain_plain(
+    terms: &[u32],
+    n: usize,
+    a: u32,
+    b: u32,
+    reasons: &mut [u32],
+    count: usize,
+) -> Plain
+    requires { ⌜ (n ≤ 512) × PlainPair (now terms) (now reasons) n a b ⌝ }
+    ensures { λ r. ⌜ Plainly (PlainPath (now (terms .entry)) (now (reasons .entry)) (now (reasons .exit)) n a b count) (now (reasons .entry)) (now (reasons .exit)) count r ⌝ }
+{
+    if a == b {
+        return Plain::Ended(Walked { code: 0, count });
+    }
+    let top = classes::nearest_unchecked(terms, n, a, b);
+    let mut node = a;
+    let mut last = false;
+    let mut given = count;
+    loop {
+        if node == top {
+            if last {
+                return Plain::Ended(Walked {
+                    code: 0,
+                    count: given,
+                });
+            }
+            last = true;
+            node = b;
+        } else {
+            let p = plain_edge(terms, node, reasons, given);
+            let Plain::Ended(r) = p else {
+                return Plain::Congruence;
+            };
+            if r.code != 0 {
+                return Plain::Ended(r);
+            }
+            given = r.count;
+            node = fields::forest_parent(terms, node);
+        }
+    }
+}
+
+// To clear a large table costs more than to walk a path, so the path is walked without one first. A path with a congruence
+// edge is walked anew, over the reasons that were given on the way.
 fn explain_pair(
     terms: &[u32],
     cells: &[u32],
@@ -253,6 +318,10 @@ fn explain_pair(
 {
     if n < 32 {
         return explain_few(terms, cells, n, k, a, b, reasons, count);
+    }
+    let p = explain_plain(terms, n, a, b, reasons, count);
+    if let Plain::Ended(r) = p {
+        return r;
     }
     if n < 128 {
         return explain_some(terms, cells, n, k, a, b, reasons, count);

@@ -1,0 +1,24 @@
+use Rattle.engine.proofs.Plainly.{explainable-on, explained-anew}
+use native.Mathlib.Omega.{arith}
+use borrow.Author.Needs.{needs}
+use Rattle.engine.proofs.explain_pair.Statement.{statement}
+use Rattle.engine.proofs.explain_pair.Tie as tie
+
+pub explain-pair-spec : {M : Type 1} → statement M
+explain-pair-spec =
+    tie.close
+    (tie.spec
+    (λ c κs. search needs)
+    (λ c. search needs)
+    (λ c. search needs)
+    (λ c κs. search needs)
+    (λ c. search needs)
+    (λ c. search needs)
+    (λ c. c .before .before .before .before .before .explain-plain .ensures .done _ (c .before .p .given .1) _ _)
+    (λ c. search needs)
+    (λ c κs. (omega arith, explainable-on _ _ _ _ _ _ _ _ 0 (c .before .before .before .before .before .before .explain-plain .kept .1 .1 .1 .1 .0) (c .before .before .before .before .before .before .before .before .before .before .before .before .pre .1)))
+    (λ c. search needs)
+    (λ c. explained-anew _ _ _ _ _ _ _ _ _ (c .before .before .before .before .before .before .before .before .before .explain-plain .kept .1 .1 .1 .1 .0) (c .before .before .before .before .before .before .before .before .before .explain-plain .ensures .kept) _ _ (c .before .before .explain-some .ensures))
+    (λ c κs. (c .before .before .before .before .before .before .before .before .before .before .before .before .pre .0, explainable-on _ _ _ _ _ _ _ _ 0 (c .before .before .before .before .before .before .explain-plain .kept .1 .1 .1 .1 .0) (c .before .before .before .before .before .before .before .before .before .before .before .before .pre .1)))
+    (λ c. search needs)
+    (λ c. explained-anew _ _ _ _ _ _ _ _ _ (c .before .before .before .before .before .before .before .before .before .explain-plain .kept .1 .1 .1 .1 .0) (c .before .before .before .before .before .before .before .before .before .explain-plain .ensures .kept) _ _ (c .before .before .explain-many .ensures)))

@@ -1,0 +1,21 @@
+use mathlib.Core.Path.{refl}
+use mathlib.Core.Logic.{inl, inr}
+use Rattle.engine.proofs.Plainly.{plainly-met, plain-gives, plain-nothing}
+use borrow.Author.Needs.{needs}
+use Rattle.engine.proofs.plain_edge.Statement.{statement}
+use Rattle.engine.proofs.plain_edge.Tie as tie
+
+pub plain-edge-spec : {M : Type 1} → statement M
+plain-edge-spec =
+    tie.close
+    (tie.spec
+    (λ c κs. search needs)
+    (λ c κs. search needs)
+    (λ c κs. search needs)
+    (λ c κs. search needs)
+    (λ c. search needs)
+    (λ c. plain-gives _ _ _ _ 1 _ _ _ _ (inl refl) (c .before .before .before .before .match .keys1) (record { kind-is = c .before .before .before .before .before .before .label-kind .ensures; value-is = c .before .before .before .before .before .label-value .ensures }) (c .before .before .give .ensures))
+    (λ c. search needs)
+    (λ c. plain-gives _ _ _ _ 2 _ _ _ _ (inr refl) (c .before .before .before .before .match .keys2) (record { kind-is = c .before .before .before .before .before .before .label-kind .ensures; value-is = c .before .before .before .before .before .label-value .ensures }) (c .before .before .give2 .ensures))
+    (λ c. plain-nothing _ _ _ _ _ _ (c .match .keys3) (record { kind-is = c .before .before .label-kind .ensures; value-is = c .before .label-value .ensures }))
+    (λ c. plainly-met refl))
