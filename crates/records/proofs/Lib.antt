@@ -1,6 +1,7 @@
 pub mod Lists
 pub mod Views
 pub mod Climbs
+pub mod Repeats
 pub mod Paths
 pub mod RuleLaws
 pub mod NameLaws
