@@ -281,13 +281,9 @@ module _ (l : List ℕ) (c : State) (t r q : ℕ) (h : Rooted (seen l c) (c .ter
   ends-last p u e d f = rw (← h .root-is, ← h .top-is)
       (and-next _ _ _ (eq-eqb _ _ (sym (view-class l (c .terms) r p root-here e) ∙ d)) (ap (λ x. eqb x q) (view-forest l (c .terms) q u top-here f)))
 
-  pub alike-stop : (p : ℕ) → p ≡ root (seen l c) q → (p ≡ r → ⊥) → false ≡ alikeAt (seen l c) t
+  pub alike-is : (p u : ℕ) → p ≡ root (seen l c) q → u ≡ top (seen l c) r → (eqb p r && eqb u q) ≡ alikeAt (seen l c) t
   unfolding alikeAt
-  alike-stop p e d = rw (← h .root-is, ← h .top-is) (and-stop _ _ (ne-eqb _ _ (λ z. d (e ∙ z))))
-
-  pub alike-last : (p u : ℕ) → p ≡ root (seen l c) q → p ≡ r → u ≡ top (seen l c) r → eqb u q ≡ alikeAt (seen l c) t
-  unfolding alikeAt
-  alike-last p u e d f = rw (← h .root-is, ← h .top-is) (and-next _ _ _ (eq-eqb _ _ (sym e ∙ d)) (ap (λ x. eqb x q) f))
+  alike-is p u e f = rw (← h .root-is, ← h .top-is, ← e, ← f)
 
 -- what the parents' rule gives the climbs
 module _ (l : List ℕ) (c : State) (h : eachTerm (seen l c) (parentsRule (seen l c)) ≡ true) where

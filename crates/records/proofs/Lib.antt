@@ -20,6 +20,7 @@ pub mod Grown
 pub mod Works
 pub mod Chains
 pub mod ClassLaws
+pub mod Ends
 pub mod Passed
 pub mod Append
 pub mod Extend
