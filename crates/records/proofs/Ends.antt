@@ -9,16 +9,16 @@ use lib.Seq.{getD-set-same, getD-set-other}
 use lib.Dec.{eqb}
 use borrow.Author.Tests.{eqb-true, eqb-false}
 use Rattle.records.specs.declared.State.{State}
-use Rattle.records.specs.Store.{Store, term, within, climb, classUp, forestUp, root, top}
+use Rattle.records.specs.Store.{Store, within, climb, classUp, forestUp, root, top}
 use Rattle.records.specs.View.{termLimit}
 use Rattle.records.specs.Rules.{endsRule, labelRule}
 use Rattle.records.specs.Leaves.{alikeAt, aloneAt, classTest}
 use Rattle.records.specs.Audited.{Closed, Rooted}
 use Rattle.records.specs.Ends.{End, Ends, Kept, Tested}
-use Rattle.records.proofs.Lists.{both-left, both-right, decide, within-high}
+use Rattle.records.proofs.Lists.{decide, within-high}
 use Rattle.records.proofs.Climbs.{climb-add, Climbing, view-count}
 use Rattle.records.proofs.Repeats.{climb-one, climb-enough}
-use Rattle.records.proofs.ClassLaws.{Four, four-of, seen, root-here, top-here}
+use Rattle.records.proofs.ClassLaws.{root-ends, top-ends, root-alike, top-alike, Four, four-of, seen, root-here, top-here}
 
 -- a number of a term is a place of a table
 pub term-place : (n t : ℕ) → n ≤ termLimit → within n t ≡ true → t < 513
@@ -61,30 +61,16 @@ module _ (l : List ℕ) (c : State) (t r q : ℕ) (h : Rooted (seen l c) (c .ter
   passes = four-of _ _ _ _ e
 
   class-end : (x : ℕ) → root s x ≡ root s t → End (classUp (s .terms)) (c .terms) x r
-  unfolding endsRule
-  class-end x f =
-      record { reached = rw (view-count l (c .terms)) at (f ∙ sym (h .root-is)); self = rw (h .root-is) (eqb-true (term s (root s t) .classParent) _ (both-left _ _ (passes .one))) }
+  class-end x f = record { reached = rw (view-count l (c .terms)) at (f ∙ sym (h .root-is)); self = rw (h .root-is) (root-ends s t (passes .one)) }
 
   tree-end : (x : ℕ) → top s x ≡ top s t → End (forestUp (s .terms)) (c .terms) x q
-  unfolding endsRule
-  tree-end x f = record {
-    reached = rw (view-count l (c .terms)) at (f ∙ sym (h .top-is));
-    self = rw (h .top-is) (eqb-true (term s (top s t) .forestParent) _ (both-right (eqb (term s (root s t) .classParent) (root s t)) _ (passes .one)));
-  }
-
-  class-alike : root s q ≡ root s t
-  unfolding alikeAt
-  class-alike = rw (h .top-is) (eqb-true _ _ (both-left _ _ (passes .two)))
-
-  tree-alike : top s r ≡ top s t
-  unfolding alikeAt
-  tree-alike = rw (h .root-is) (eqb-true _ _ (both-right (eqb (root s (top s t)) (root s t)) _ (passes .two)))
+  tree-end x f = record { reached = rw (view-count l (c .terms)) at (f ∙ sym (h .top-is)); self = rw (h .top-is) (top-ends s t (passes .one)) }
 
   pub tested-more : (roots tops roots′ tops′ : List ℕ) → c .terms ≤ termLimit → Kept s (c .terms) roots tops → roots′ ≡ set (set roots t r) q r → tops′ ≡ set (set tops t q) r q → Tested s (c .terms) t true roots′ tops′
   tested-more roots tops roots′ tops′ b k f g = record {
     is = sym e;
     kept = record {
-      classes = rw f (ends-more _ _ b _ q r (top-here l c t r q h) (class-end q class-alike) (ends-more _ _ b roots t r (h .here) (class-end t refl) (k .classes)));
-      trees = rw g (ends-more _ _ b _ r q (root-here l c t r q h) (tree-end r tree-alike) (ends-more _ _ b tops t q (h .here) (tree-end t refl) (k .trees)));
+      classes = rw f (ends-more _ _ b _ q r (top-here l c t r q h) (class-end q (rw (h .top-is) (root-alike s t (passes .two)))) (ends-more _ _ b roots t r (h .here) (class-end t refl) (k .classes)));
+      trees = rw g (ends-more _ _ b _ r q (root-here l c t r q h) (tree-end r (rw (h .root-is) (top-alike s t (passes .two)))) (ends-more _ _ b tops t q (h .here) (tree-end t refl) (k .trees)));
     };
   }
