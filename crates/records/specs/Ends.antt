@@ -1,4 +1,4 @@
--- An aid of the audit: ends of climbs, kept by number, so that a climb stops at a term whose end is kept. No rule speaks of them.
+-- An aid: ends of climbs, kept by number, so that a climb stops at a term whose end is kept. No rule speaks of them.
 use mathlib.Core.Path.{_≡_}
 use mathlib.Core.Bool.{Bool, true}
 use mathlib.Core.List.{List}

@@ -10,7 +10,7 @@ pub mod fields;
 pub mod make;
 pub mod names;
 pub mod put;
-mod roots;
+pub mod roots;
 pub mod rules;
 pub mod text;
 

@@ -16,7 +16,7 @@ use crate::classes;
 use crate::fields;
 
 // The root of t's class, as root_unchecked has it.
-fn kept_root(terms: &[u32], n: usize, t: u32, roots: &[u32; 513]) -> u32
+pub fn kept_root_unchecked(terms: &[u32], n: usize, t: u32, roots: &[u32; 513]) -> u32
     requires { ⌜ n ≤ termLimit ⌝ ∗ ⌜ within n t ≡ true ⌝ ∗ ⌜ Closed (classUp (termsView (now terms) n)) n ⌝ ∗ ⌜ Ends (classUp (termsView (now terms) n)) n (now roots) ⌝ }
     ensures { λ r. ⌜ r ≡ rootIn (termsView (now (terms .entry)) n) t ⌝ }
 {
@@ -38,7 +38,7 @@ fn kept_root(terms: &[u32], n: usize, t: u32, roots: &[u32; 513]) -> u32
 }
 
 // The root of t's tree in the forest, likewise.
-fn kept_top(terms: &[u32], n: usize, t: u32, tops: &[u32; 513]) -> u32
+fn kept_top_unchecked(terms: &[u32], n: usize, t: u32, tops: &[u32; 513]) -> u32
     requires { ⌜ n ≤ termLimit ⌝ ∗ ⌜ within n t ≡ true ⌝ ∗ ⌜ Closed (forestUp (termsView (now terms) n)) n ⌝ ∗ ⌜ Ends (forestUp (termsView (now terms) n)) n (now tops) ⌝ }
     ensures { λ r. ⌜ r ≡ topIn (termsView (now (terms .entry)) n) t ⌝ }
 {
@@ -81,10 +81,10 @@ fn class_kept_ok(
       ⌜ c .terms ≤ termLimit ⌝ ∗ ⌜ within (c .terms) t ≡ true ⌝ ∗ ⌜ eachTerm s (parentsRule s) ≡ true ⌝ ∗ ⌜ Kept s (c .terms) (now roots) (now tops) ⌝ }
     ensures { λ b. ⌜ Tested (storeOf (lent (now (terms .entry)) [] [] [] []) c) (c .terms) t b (now (roots .exit)) (now (tops .exit)) ⌝ }
 {
-    let r = kept_root(terms, c.terms, t, roots);
-    let q = kept_top(terms, c.terms, t, tops);
-    let p = kept_root(terms, c.terms, q, roots);
-    let u = kept_top(terms, c.terms, r, tops);
+    let r = kept_root_unchecked(terms, c.terms, t, roots);
+    let q = kept_top_unchecked(terms, c.terms, t, tops);
+    let p = kept_root_unchecked(terms, c.terms, q, roots);
+    let u = kept_top_unchecked(terms, c.terms, r, tops);
     if !classes::rooted_ok(terms, c, t, r, q, p, u) {
         return false;
     }

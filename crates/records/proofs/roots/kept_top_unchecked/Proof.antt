@@ -5,8 +5,8 @@ use Rattle.records.specs.Store.{forestUp}
 use Prim.Native.Nat.{_-_}
 use native.Mathlib.Omega.{arith}
 use borrow.Author.Needs.{needs}
-use Rattle.records.proofs.roots.kept_top.Statement.{statement}
-use Rattle.records.proofs.roots.kept_top.Tie as tie
+use Rattle.records.proofs.roots.kept_top_unchecked.Statement.{statement}
+use Rattle.records.proofs.roots.kept_top_unchecked.Tie as tie
 
 abbrev Inv-loop : tie.InvT-loop
 Inv-loop terms n t tops x₀ i₀ x i = Climbing (forestUp (termsView terms n)) n t x i
@@ -52,8 +52,8 @@ loop-again c =
 returns-3 : tie.Need-returns-3 Inv-loop μ-loop
 returns-3 c = top-counted (c .before .before .before .args .terms .now) (c .before .before .before .args .n) _ _ (climbing-done _ _ _ _ _ (c .before .loop .inv) (c .loop-test .left))
 
-pub kept-top-spec : {M : Type 1} → statement M
-kept-top-spec =
+pub kept-top-unchecked-spec : {M : Type 1} → statement M
+kept-top-unchecked-spec =
     tie.close
     (tie.spec
     Inv-loop
