@@ -4,7 +4,6 @@ pub mod Numbering
 pub mod Guards
 pub mod Parsing
 pub mod Printing
-pub mod Repeats
 pub mod Rerooted
 pub mod Trees
 pub mod JoinedKept

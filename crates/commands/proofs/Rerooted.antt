@@ -6,7 +6,7 @@ use native.Mathlib.Decide.{ℕ-discrete}
 use Rattle.records.specs.Store.{within, climb}
 use Rattle.records.specs.Audited.{Closed}
 use Rattle.records.proofs.Climbs.{climb-stays, climb-up}
-use Rattle.commands.proofs.Repeats.{climb-one, climb-enough}
+use Rattle.records.proofs.Repeats.{climb-one, climb-enough}
 
 -- what putting a root under another tree's term does to the step up
 pub record Moved (up up′ : ℕ → ℕ) (n child parent : ℕ) : Type 0 where

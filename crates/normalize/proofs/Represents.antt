@@ -3,10 +3,10 @@ use mathlib.Core.Path.{_≡_, refl, sym, ap, subst, _∙_}
 use mathlib.Core.Bool.{Bool, true, false, _&&_, _||_}
 use mathlib.Core.List.{List, [], _∷_, _++_, append-nil, append-assoc}
 use mathlib.Core.Option.{Option, none, some}
-use Prim.Native.Nat.{ℕ, zero, suc, _+_, _*_, _≤_, _<_}
+use Prim.Native.Nat.{ℕ, zero, suc, _+_, _≤_, _<_}
 use native.Mathlib.Numerals.{add-one}
 use native.Mathlib.Omega.{arith}
-use lib.ListN.{length, drop, set, getD, replicate, length-set, length-replicate, getD-replicate}
+use lib.ListN.{length, drop, set, getD, length-set}
 use lib.Seq.{drop-cons, getD-set-same, getD-set-other}
 use lib.Dec.{eqb, ltb}
 use borrow.Author.Tests.{eqb-true, eqb-false, eq-eqb, ne-eqb, lt-ltb, le-ltb}
@@ -14,11 +14,13 @@ use Rattle.records.specs.Lists.{if_then_else_, firstOf, Every, none-left, and}
 use Rattle.records.specs.Store.{Store, Term, within, kind, termIn, rootIn, classUp}
 use Rattle.records.specs.View.{termLimit, termsView}
 use Rattle.records.specs.Audited.{Closed}
+use Rattle.records.specs.Ends.{Ends}
 use Rattle.records.proofs.Lists.{both-right, left-false, decide, clash, within-high, every-map, every-append, every-both}
 use Rattle.records.proofs.Paths.{first-same}
-use Rattle.records.proofs.Climbs.{climb-within, climb-up, Climbing, climbing-begin, climbing-turn, climbing-here, climbing-done, view-class, root-counted}
+use Rattle.records.proofs.Climbs.{climb-within, view-count}
+use Rattle.records.proofs.Ends.{ends-more}
 use Rattle.normalize.specs.Normalize.{orFirst, representative}
-use Rattle.normalize.specs.Nodes.{isConstantIn, chosen, NodeOf, rank, withNode, withNodes, nodeAt, Rooting, Roots, Keeps}
+use Rattle.normalize.specs.Nodes.{isConstantIn, chosen, NodeOf, rank, withNode, withNodes, nodeAt, Rooting, Keeps}
 
 -- THE CODE'S WAYS
 
@@ -58,60 +60,10 @@ root-place l n t r h w k e =
     let p : within n (rootIn (termsView l n) t) ≡ true = climb-within (classUp (termsView l n)) n (length (termsView l n)) t k w in
     let q = within-high n _ p in omega arith
 
--- KEPT ROOTS
-
--- a number of a term is a place of a table
-pub term-place : (n t : ℕ) → n ≤ termLimit → within n t ≡ true → t < 513
-term-place n t h w = let q = within-high n t w in omega arith
-
-pub roots-none : (ts : List Term) (n : ℕ) → n ≤ termLimit → Roots ts n (replicate 513 0)
-roots-none ts n h = record { size = length-replicate {A = ℕ} 513 0; entries = λ t w k. absurd (k (getD-replicate 513 t 0 0 (term-place n t h w))) }
-
-pub roots-more : (ts : List Term) (n : ℕ) (roots : List ℕ) (t r : ℕ) → Roots ts n roots → n ≤ termLimit → within n t ≡ true → r ≡ rootIn ts t → Roots ts n (set roots t r)
-roots-more ts n roots t r k h w e =
-    record { size = length-set roots t r ∙ k .size; entries = λ x v q. decide (eqb x t) (λ f. same x (eqb-true x t f)) (λ f. other x (eqb-false x t f) v q) }
-  where
-    same : (x : ℕ) → x ≡ t → getD (set roots t r) x 0 ≡ rootIn ts x
-    same x z =
-        ap (λ (y : ℕ). getD (set roots t r) y 0) z
-        ∙ getD-set-same roots t r 0 (let p = term-place n t h w in let u = k .size in omega arith)
-        ∙ e
-        ∙ sym (ap (λ (y : ℕ). rootIn ts y) z)
-
-    other : (x : ℕ) → (x ≡ t → ⊥) → within n x ≡ true → (getD (set roots t r) x 0 ≡ 0 → ⊥) → getD (set roots t r) x 0 ≡ rootIn ts x
-    other x d v q = let g = getD-set-other roots t x r 0 d in g ∙ k .entries x v (λ z. q (g ∙ z))
-
-pub keeps-more : (ts : List Term) (n t r : ℕ) (node node′ roots : List ℕ) → n ≤ termLimit → within n t ≡ true → Roots ts n roots → r ≡ rootIn ts t → node′ ≡ withNode ts t node → Keeps ts n t node node′ (set roots t r)
-keeps-more ts n t r node node′ roots h w k e a = record { adds = a; kept = roots-more ts n roots t r k h w e }
-
--- the climb that stops at a kept root
-pub record Climbs (l : List ℕ) (n t x i : ℕ) : Type 0 where
-  pub walk : Climbing (classUp (termsView l n)) n t x i
-  pub same : rootIn (termsView l n) x ≡ rootIn (termsView l n) t
-
-module _ (l : List ℕ) (n t : ℕ) where
-  pub climbs-begin : within n t ≡ true → Climbs l n t t 0
-  climbs-begin w = record { walk = climbing-begin (classUp (termsView l n)) n t w; same = refl }
-
-  module _ (x i : ℕ) (p : Climbs l n t x i) where
-    pub climbs-kept : (roots : List ℕ) → Roots (termsView l n) n roots → (r : ℕ) → r ≡ getD roots x 0 → (r ≡ 0 → ⊥) → r ≡ rootIn (termsView l n) t
-    climbs-kept roots k r e h = e ∙ k .entries x (p .walk .here) (λ q. h (e ∙ q)) ∙ p .same
-
-    pub climbs-done : n ≤ i → x ≡ rootIn (termsView l n) t
-    climbs-done q = root-counted l n t x (climbing-done (classUp (termsView l n)) n t x i (p .walk) q)
-
-    module _ (y : ℕ) (e : y ≡ getD l (8 * x + 3) 0) where
-      above : y ≡ classUp (termsView l n) x
-      above = view-class l n x y (p .walk .here) e
-
-      pub climbs-here : y ≡ x → x ≡ rootIn (termsView l n) t
-      climbs-here f = root-counted l n t x (climbing-here (classUp (termsView l n)) n t x i y (p .walk) above f)
-
-      pub climbs-turn : Rooting (termsView l n) n → i < n → Climbs l n t y (i + 1)
-      climbs-turn h q = record {
-        walk = climbing-turn (classUp (termsView l n)) n t x i y (p .walk) above (h .stays) q;
-        same = ap (λ (z : ℕ). rootIn (termsView l n) z) above ∙ climb-up (classUp (termsView l n)) (length (termsView l n)) x (h .ends x (p .walk .here)) ∙ p .same;
-      }
+-- one candidate more, and its root kept
+pub keeps-more : (l : List ℕ) (n t r : ℕ) (node node′ roots : List ℕ) → n ≤ termLimit → within n t ≡ true → Rooting (termsView l n) n → Ends (classUp (termsView l n)) n roots → r ≡ rootIn (termsView l n) t → node′ ≡ withNode (termsView l n) t node → Keeps (termsView l n) n t node node′ (set roots t r)
+keeps-more l n t r node node′ roots h w i k e a =
+    record { adds = a; kept = ends-more _ _ h roots t r w (record { reached = rw (view-count l n) at (sym e); self = rw e (i .ends t w) }) k }
 
 pub drop-past : (l : List ℕ) (i : ℕ) → length l ≤ i → drop i l ≡ []
 drop-past [] zero h = refl

@@ -9,6 +9,7 @@ use Rattle.records.specs.Lists.{if_then_else_, firstOf}
 use Rattle.records.specs.Store.{Term, termIn, rootIn, classUp, within}
 use Rattle.records.specs.View.{termLimit}
 use Rattle.records.specs.Audited.{Closed}
+use Rattle.records.specs.Ends.{Ends}
 use Rattle.normalize.specs.Normalize.{orFirst}
 
 abbrev pub isConstantIn : List Term → ℕ → Bool
@@ -45,12 +46,7 @@ pub record Rooting (ts : List Term) (n : ℕ) : Type 0 where
   pub stays : Closed (classUp ts) n
   pub ends : (t : ℕ) → within n t ≡ true → classUp ts (rootIn ts t) ≡ rootIn ts t
 
--- roots kept by number, 0 where none is
-pub record Roots (ts : List Term) (n : ℕ) (roots : List ℕ) : Type 0 where
-  pub size : length roots ≡ 513
-  pub entries : (t : ℕ) → within n t ≡ true → (getD roots t 0 ≡ 0 → ⊥) → getD roots t 0 ≡ rootIn ts t
-
 -- one candidate more, and its root kept
 pub record Keeps (ts : List Term) (n t : ℕ) (node node′ roots : List ℕ) : Type 0 where
   pub adds : node′ ≡ withNode ts t node
-  pub kept : Roots ts n roots
+  pub kept : Ends (classUp ts) n roots

@@ -6,9 +6,10 @@ ghost use Rattle.records.specs.Lists.{Every};
 ghost use Rattle.records.specs.Store.{within, classUp, rootIn};
 ghost use Rattle.records.specs.View.{termLimit, termsView};
 ghost use Rattle.records.specs.Audited.{Closed};
-ghost use Rattle.normalize.specs.Nodes.{rank, withNode, withNodes, nodeAt, Rooting, Roots, Keeps};
+ghost use Rattle.records.specs.Ends.{Ends};
+ghost use Rattle.normalize.specs.Nodes.{rank, withNode, withNodes, nodeAt, Rooting, Keeps};
 use records::classes;
-use records::fields;
+use records::roots;
 use records::rules;
 
 // Constants before others.
@@ -47,34 +48,12 @@ fn add_node(terms: &[u32], n: usize, t: u32, nodes: &mut [u32; 513])
     put_node(terms, n, t, root, nodes);
 }
 
-// The root of t's class. The climb stops at a term whose root is kept.
-fn kept_root(terms: &[u32], n: usize, t: u32, roots: &[u32; 513]) -> u32
-    requires { ⌜ n ≤ termLimit ⌝ ∗ ⌜ within n t ≡ true ⌝ ∗ ⌜ Rooting (termsView (now terms) n) n ⌝ ∗ ⌜ Roots (termsView (now terms) n) n (now roots) ⌝ }
-    ensures { λ r. ⌜ r ≡ rootIn (termsView (now (terms .entry)) n) t ⌝ }
-{
-    let mut x = t;
-    let mut i: usize = 0;
-    while i < n {
-        let r = roots[x as usize];
-        if r != 0 {
-            return r;
-        }
-        let y = fields::class_parent(terms, x);
-        if y == x {
-            return x;
-        }
-        x = y;
-        i += 1;
-    }
-    x
-}
-
 // The same as add_node, and the root is kept.
 fn keep_node(terms: &[u32], n: usize, t: u32, nodes: &mut [u32; 513], roots: &mut [u32; 513])
-    requires { ⌜ n ≤ termLimit ⌝ ∗ ⌜ within n t ≡ true ⌝ ∗ ⌜ Rooting (termsView (now terms) n) n ⌝ ∗ ⌜ Roots (termsView (now terms) n) n (now roots) ⌝ }
+    requires { ⌜ n ≤ termLimit ⌝ ∗ ⌜ within n t ≡ true ⌝ ∗ ⌜ Rooting (termsView (now terms) n) n ⌝ ∗ ⌜ Ends (classUp (termsView (now terms) n)) n (now roots) ⌝ }
     ensures { λ _. ⌜ Keeps (termsView (now (terms .entry)) n) n t (now (nodes .entry)) (now (nodes .exit)) (now (roots .exit)) ⌝ }
 {
-    let root = kept_root(terms, n, t, roots);
+    let root = roots::kept_root_unchecked(terms, n, t, roots);
     roots[t as usize] = root;
     put_node(terms, n, t, root, nodes);
 }

@@ -18,15 +18,31 @@ use Rattle.records.specs.Audited.{Closed, Rooted}
 use Rattle.records.proofs.Lists.{both-left, both-right, both-true, right-false, right-falsum, or-stop, or-next, either, or-left, or-right, decide, clash, same-test, and-stop, and-next, failed, passed}
 use Rattle.records.proofs.Climbs.{climb-up, climb-stays, climb-within, rule-at, rule-all, parents-roots, parents-tops, view-count, view-term, view-class, view-forest}
 
+-- what a term's tests say of its roots
+module _ (s : Store) (t : ℕ) where
+  pub root-ends : endsRule s t ≡ true → term s (root s t) .classParent ≡ root s t
+  unfolding endsRule
+  root-ends h = eqb-true _ _ (both-left _ _ h)
+
+  pub top-ends : endsRule s t ≡ true → term s (top s t) .forestParent ≡ top s t
+  unfolding endsRule
+  top-ends h = eqb-true _ _ (both-right (eqb (term s (root s t) .classParent) (root s t)) _ h)
+
+  pub root-alike : alikeAt s t ≡ true → root s (top s t) ≡ root s t
+  unfolding alikeAt
+  root-alike h = eqb-true _ _ (both-left _ _ h)
+
+  pub top-alike : alikeAt s t ≡ true → top s (root s t) ≡ top s t
+  unfolding alikeAt
+  top-alike h = eqb-true _ _ (both-right (eqb (root s (top s t)) (root s t)) _ h)
+
 module _ (s : Store) (roots : Closed (classUp (s .terms)) (count s)) (tops : Closed (forestUp (s .terms)) (count s))
     (ends : (t : ℕ) → isTerm s t ≡ true → endsRule s t ≡ true) where
   pub class-end : (t : ℕ) → isTerm s t ≡ true → term s (root s t) .classParent ≡ root s t
-  unfolding endsRule
-  class-end t w = eqb-true _ _ (both-left _ _ (ends t w))
+  class-end t w = root-ends s t (ends t w)
 
   pub forest-end : (t : ℕ) → isTerm s t ≡ true → term s (top s t) .forestParent ≡ top s t
-  unfolding endsRule
-  forest-end t w = eqb-true _ _ (both-right (eqb (term s (root s t) .classParent) (root s t)) _ (ends t w))
+  forest-end t w = top-ends s t (ends t w)
 
   top-term : (t : ℕ) → isTerm s t ≡ true → isTerm s (top s t) ≡ true
   top-term t w = climb-within (forestUp (s .terms)) (count s) (count s) t tops w
@@ -68,18 +84,10 @@ module _ (s : Store) (roots : Closed (classUp (s .terms)) (count s)) (tops : Clo
       both-true _ _ (a ∙ eq-eqb _ _ (top-top t w)) (sym b ∙ eq-eqb _ _ (root-root t w))
 
   module _ (f : (t : ℕ) → isTerm s t ≡ true → alikeAt s t ≡ true) where
-    root-top : (t : ℕ) → isTerm s t ≡ true → root s (top s t) ≡ root s t
-    unfolding alikeAt
-    root-top t w = eqb-true _ _ (both-left _ _ (f t w))
-
-    top-root : (t : ℕ) → isTerm s t ≡ true → top s (root s t) ≡ top s t
-    unfolding alikeAt
-    top-root t w = eqb-true _ _ (both-right (eqb (root s (top s t)) (root s t)) _ (f t w))
-
     alike-two : (t u : ℕ) → isTerm s t ≡ true → isTerm s u ≡ true → alikeRule s t u ≡ true
     alike-two t u w v = fact-alike t u (same-test _ _
-        (λ e. eq-eqb _ _ (sym (top-root t w) ∙ ap (top s) (eqb-true _ _ e) ∙ top-root u v))
-        (λ e. eq-eqb _ _ (sym (root-top t w) ∙ ap (root s) (eqb-true _ _ e) ∙ root-top u v)))
+        (λ e. eq-eqb _ _ (sym (top-alike s t (f t w)) ∙ ap (top s) (eqb-true _ _ e) ∙ top-alike s u (f u v)))
+        (λ e. eq-eqb _ _ (sym (root-alike s t (f t w)) ∙ ap (root s) (eqb-true _ _ e) ∙ root-alike s u (f u v))))
 
   -- ALONE
 
@@ -281,13 +289,9 @@ module _ (l : List ℕ) (c : State) (t r q : ℕ) (h : Rooted (seen l c) (c .ter
   ends-last p u e d f = rw (← h .root-is, ← h .top-is)
       (and-next _ _ _ (eq-eqb _ _ (sym (view-class l (c .terms) r p root-here e) ∙ d)) (ap (λ x. eqb x q) (view-forest l (c .terms) q u top-here f)))
 
-  pub alike-stop : (p : ℕ) → p ≡ root (seen l c) q → (p ≡ r → ⊥) → false ≡ alikeAt (seen l c) t
+  pub alike-is : (p u : ℕ) → p ≡ root (seen l c) q → u ≡ top (seen l c) r → (eqb p r && eqb u q) ≡ alikeAt (seen l c) t
   unfolding alikeAt
-  alike-stop p e d = rw (← h .root-is, ← h .top-is) (and-stop _ _ (ne-eqb _ _ (λ z. d (e ∙ z))))
-
-  pub alike-last : (p u : ℕ) → p ≡ root (seen l c) q → p ≡ r → u ≡ top (seen l c) r → eqb u q ≡ alikeAt (seen l c) t
-  unfolding alikeAt
-  alike-last p u e d f = rw (← h .root-is, ← h .top-is) (and-next _ _ _ (eq-eqb _ _ (sym e ∙ d)) (ap (λ x. eqb x q) f))
+  alike-is p u e f = rw (← h .root-is, ← h .top-is, ← e, ← f)
 
 -- what the parents' rule gives the climbs
 module _ (l : List ℕ) (c : State) (h : eachTerm (seen l c) (parentsRule (seen l c)) ≡ true) where

@@ -3,6 +3,8 @@ use mathlib.Core.Path.{_≡_, refl, sym, ap, _∙_}
 use mathlib.Core.Bool.{Bool, true, false}
 use mathlib.Core.List.{List, [], _∷_}
 use Prim.Native.Nat.{ℕ, zero, suc, _+_, _-_, _*_, _≤_, _<_}
+use native.Mathlib.Nat.{zero-add}
+use native.Mathlib.Numerals.{add-one}
 use native.Mathlib.Omega.{arith}
 use lib.ListN.{length, getD}
 use lib.Dec.{eqb}
@@ -33,6 +35,11 @@ module _ (up : ℕ → ℕ) where
   climb-stays zero t e = refl
   climb-stays (suc n) t e = rw e (climb-stays n t e)
 
+  pub climb-add : (a b t : ℕ) → climb up (a + b) t ≡ climb up b (climb up a t)
+  unfolding climb
+  climb-add zero b t = ap (λ (n : ℕ). climb up n t) (zero-add b)
+  climb-add (suc a) b t = let e : suc a + b ≡ suc (a + b) = omega arith in rw e (climb-add a b (up t))
+
   -- where the walk ends within n steps, one step first makes no difference
   pub climb-up : (n t : ℕ) → up (climb up n t) ≡ climb up n t → climb up n (up t) ≡ climb up n t
   climb-up n t e = sym (climb-suc n t) ∙ climb-last n t ∙ e
@@ -46,27 +53,25 @@ module _ (up : ℕ → ℕ) where
 pub record Climbing (up : ℕ → ℕ) (n t x i : ℕ) : Type 0 where
   pub counted : i ≤ n
   pub here : within n x ≡ true
-  pub left : climb up (n - i) x ≡ climb up n t
+  pub led : climb up i t ≡ x
 
 module _ (up : ℕ → ℕ) (n t : ℕ) where
   pub climbing-begin : within n t ≡ true → Climbing up n t t 0
-  climbing-begin w = record { counted = omega arith; here = w; left = (let e : n - 0 ≡ n = omega arith in rw e) }
+  unfolding climb
+  climbing-begin w = record { counted = omega arith; here = w; led = refl }
 
   module _ (x i y : ℕ) (p : Climbing up n t x i) (e : y ≡ up x) where
     pub climbing-turn : Closed up n → i < n → Climbing up n t y (i + 1)
-    unfolding climb
-    climbing-turn h l = record {
-      counted = omega arith;
-      here = rw e (h .stays x (p .here));
-      left = (let f : n - i ≡ suc (n - (i + 1)) = omega arith in rw e (rw f at (p .left)));
-    }
+    climbing-turn h l = record { counted = omega arith; here = rw e (h .stays x (p .here)); led = rw (add-one i) (climb-last up i t ∙ ap up (p .led) ∙ sym e) }
 
     pub climbing-here : y ≡ x → x ≡ climb up n t
-    climbing-here f = sym (climb-stays up (n - i) x (sym e ∙ f)) ∙ p .left
+    climbing-here f =
+        let b = p .counted in
+        let k : i + (n - i) ≡ n = omega arith in
+        sym (climb-stays up (n - i) x (sym e ∙ f)) ∙ sym (ap (climb up (n - i)) (p .led)) ∙ sym (climb-add up i (n - i) t) ∙ ap (λ (m : ℕ). climb up m t) k
 
   pub climbing-done : (x i : ℕ) → Climbing up n t x i → n ≤ i → x ≡ climb up n t
-  unfolding climb
-  climbing-done x i p l = let f : n - i ≡ 0 = omega arith in rw f at (p .left)
+  climbing-done x i p l = let b = p .counted in let f : i ≡ n = omega arith in sym (p .led) ∙ ap (λ (m : ℕ). climb up m t) f
 
 -- WALKS THAT END
 

@@ -1,6 +1,7 @@
 pub mod Lists
 pub mod Views
 pub mod Climbs
+pub mod Repeats
 pub mod Paths
 pub mod RuleLaws
 pub mod NameLaws
@@ -19,6 +20,7 @@ pub mod Grown
 pub mod Works
 pub mod Chains
 pub mod ClassLaws
+pub mod Ends
 pub mod Passed
 pub mod Append
 pub mod Extend

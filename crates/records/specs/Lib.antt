@@ -1,4 +1,5 @@
 pub mod Leaves
+pub mod Ends
 pub mod Lists
 pub mod Store
 pub mod View

@@ -3,15 +3,17 @@ ghost use mathlib.Core.Path.{_≡_};
 ghost use mathlib.Core.Bool.{true, not, _&&_, _||_};
 ghost use mathlib.Core.List.{[]};
 ghost use Prim.Native.Nat.{_≤_};
+ghost use lib.Dec.{eqb};
 ghost use Rattle.records.specs.Lists.{all, firstOf, upTo, Every};
 ghost use Rattle.records.specs.Leaves.{marked, isMarked};
-ghost use Rattle.records.specs.Store.{within, chainIn, classUp, forestUp, rootIn, topIn, aboveIn, orNone, nearestIn};
+ghost use Rattle.records.specs.Store.{within, chainIn, classUp, forestUp, rootIn, topIn, root, top, aboveIn, orNone, nearestIn};
 ghost use Rattle.records.specs.View.{lent, storeOf, termLimit, termsView, cellsView};
 ghost use Rattle.records.specs.Rules.{eachTerm, parentsRule, endsRule, edgeLabel, labelRule, classesRule, stampBelow, fallsRule, congruenceRule, edgeRule, congruencesRule};
-ghost use Rattle.records.specs.Leaves.{alikeAt, aloneAt, classTest, pairWords, pairMeets};
+ghost use Rattle.records.specs.Leaves.{aloneAt, classTest, pairWords, pairMeets};
 ghost use Rattle.records.specs.Audited.{Closed, Rooted, Pathed, TermPair, Congruable};
 use crate::State;
 use crate::fields;
+use crate::roots;
 use crate::rules;
 
 // The root of a term's class. A climb that does not end, in a store that fails the audit, stops after n steps.
@@ -142,15 +144,13 @@ fn ends_ok(terms: &[u32], c: State, t: u32, r: u32, q: u32) -> bool
     u == q
 }
 
-fn alike_ok(terms: &[u32], c: State, t: u32, r: u32, q: u32) -> bool
-    requires { ⌜ Rooted (storeOf (lent (now terms) [] [] [] []) c) (c .terms) t r q ⌝ }
-    ensures { λ b. ⌜ b ≡ alikeAt (storeOf (lent (now (terms .entry)) [] [] [] []) c) t ⌝ }
+// p is the class root of q and u the forest root of r.
+fn alike_ok(r: u32, q: u32, p: u32, u: u32) -> bool
+    ensures { λ b. ⌜ b ≡ (eqb p r && eqb u q) ⌝ }
 {
-    let p = root_unchecked(terms, c.terms, q);
     if p != r {
         return false;
     }
-    let u = top_unchecked(terms, c.terms, r);
     u == q
 }
 
@@ -199,18 +199,17 @@ fn alone_ok(terms: &[u32], c: State, t: u32) -> bool
     rules::is_string(terms, c.terms, p)
 }
 
-fn class_ok(terms: &[u32], c: State, t: u32) -> bool
+// One term's tests, with the roots that were climbed to at hand.
+pub(crate) fn rooted_ok(terms: &[u32], c: State, t: u32, r: u32, q: u32, p: u32, u: u32) -> bool
     requires { do
       let s = storeOf (lent (now terms) [] [] [] []) c
-      ⌜ (within (c .terms) t ≡ true) × (eachTerm s (parentsRule s) ≡ true) ⌝ }
+      ⌜ Rooted s (c .terms) t r q ⌝ ∗ ⌜ p ≡ root s q ⌝ ∗ ⌜ u ≡ top s r ⌝ }
     ensures { λ b. ⌜ b ≡ classTest (storeOf (lent (now (terms .entry)) [] [] [] []) c) t ⌝ }
 {
-    let r = root_unchecked(terms, c.terms, t);
-    let q = top_unchecked(terms, c.terms, t);
     if !ends_ok(terms, c, t, r, q) {
         return false;
     }
-    if !alike_ok(terms, c, t, r, q) {
+    if !alike_ok(r, q, p, u) {
         return false;
     }
     if !label_ok(terms, c, t) {
@@ -219,7 +218,20 @@ fn class_ok(terms: &[u32], c: State, t: u32) -> bool
     alone_ok(terms, c, t)
 }
 
-fn classes_hold(terms: &[u32], c: State) -> bool
+fn class_ok(terms: &[u32], c: State, t: u32) -> bool
+    requires { do
+      let s = storeOf (lent (now terms) [] [] [] []) c
+      ⌜ (within (c .terms) t ≡ true) × (eachTerm s (parentsRule s) ≡ true) ⌝ }
+    ensures { λ b. ⌜ b ≡ classTest (storeOf (lent (now (terms .entry)) [] [] [] []) c) t ⌝ }
+{
+    let r = root_unchecked(terms, c.terms, t);
+    let q = top_unchecked(terms, c.terms, t);
+    let p = root_unchecked(terms, c.terms, q);
+    let u = top_unchecked(terms, c.terms, r);
+    rooted_ok(terms, c, t, r, q, p, u)
+}
+
+fn classes_few(terms: &[u32], c: State) -> bool
     requires { do
       let s = storeOf (lent (now terms) [] [] [] []) c
       ⌜ (c .terms ≤ termLimit) × (eachTerm s (parentsRule s) ≡ true) ⌝ }
@@ -235,6 +247,21 @@ fn classes_hold(terms: &[u32], c: State) -> bool
         i += 1;
     }
     true
+}
+
+// Tables of roots have to be cleared at each call, so few terms go without.
+fn classes_hold(terms: &[u32], c: State) -> bool
+    requires { do
+      let s = storeOf (lent (now terms) [] [] [] []) c
+      ⌜ (c .terms ≤ termLimit) × (eachTerm s (parentsRule s) ≡ true) ⌝ }
+    ensures { λ r. do
+      let s = storeOf (lent (now (terms .entry)) [] [] [] []) c
+      ⌜ r ≡ eachTerm s (classTest s) ⌝ }
+{
+    if c.terms < 32 {
+        return classes_few(terms, c);
+    }
+    roots::classes_many(terms, c)
 }
 
 // Refusal 3 is not due.

@@ -10,6 +10,7 @@ pub mod fields;
 pub mod make;
 pub mod names;
 pub mod put;
+pub mod roots;
 pub mod rules;
 pub mod text;
 

@@ -1,23 +1,26 @@
 use lib.ListN.{length, drop}
 use Prim.Native.Nat.{_-_, _≤_}
 use mathlib.Core.Path.{_≡_, refl}
-use Rattle.normalize.specs.Nodes.{withNodes, Roots}
+use Rattle.normalize.specs.Nodes.{withNodes}
 use Rattle.records.specs.View.{termsView}
+use Rattle.records.specs.Store.{classUp}
+use Rattle.records.specs.Ends.{Ends}
+use Rattle.records.proofs.Ends.{ends-none}
 use Rattle.records.proofs.Lists.{every-at}
-use Rattle.normalize.proofs.Represents.{nodes-turn, nodes-done, roots-none}
+use Rattle.normalize.proofs.Represents.{nodes-turn, nodes-done}
 use native.Mathlib.Omega.{arith}
 use borrow.Author.Needs.{needs}
 use Rattle.normalize.proofs.nodes.build_many.Statement.{statement}
 use Rattle.normalize.proofs.nodes.build_many.Tie as tie
 
 abbrev Inv-loop : tie.InvT-loop
-Inv-loop terms n known nodes₀ roots₀ i₀ nodes roots i = (i ≤ length known) × (withNodes (termsView terms n) (drop i known) nodes ≡ withNodes (termsView terms n) known nodes₀) × Roots (termsView terms n) n roots
+Inv-loop terms n known nodes₀ roots₀ i₀ nodes roots i = (i ≤ length known) × (withNodes (termsView terms n) (drop i known) nodes ≡ withNodes (termsView terms n) known nodes₀) × Ends (classUp (termsView terms n)) n roots
 
 abbrev μ-loop : tie.MeasureT-loop
 μ-loop terms n known nodes₀ roots₀ i₀ nodes roots i = length known - i
 
 loop-holds : tie.Need-loop-holds Inv-loop μ-loop
-loop-holds c = (omega arith, refl, roots-none _ _ (c .before .before .pre .0))
+loop-holds c = (omega arith, refl, ends-none _ _ (c .before .before .pre .0))
 
 mul-keep-node : tie.Need-mul-keep-node Inv-loop μ-loop
 mul-keep-node c = search needs

@@ -1,10 +1,11 @@
-use Rattle.normalize.proofs.Represents.{root-place, term-place, keeps-more}
+use Rattle.normalize.proofs.Represents.{root-place, keeps-more}
+use Rattle.records.proofs.Ends.{term-place}
 use borrow.Author.Needs.{needs}
 use Rattle.normalize.proofs.nodes.keep_node.Statement.{statement}
 use Rattle.normalize.proofs.nodes.keep_node.Tie as tie
 
-kept-root-requires : tie.Need-kept-root-requires
-kept-root-requires c κs = search needs
+kept-root-unchecked-requires : tie.Need-kept-root-unchecked-requires
+kept-root-unchecked-requires c κs = search needs
 
 mul-roots : tie.Need-mul-roots
 mul-roots c = search needs
@@ -13,11 +14,13 @@ element-write-roots : tie.Need-element-write-roots
 element-write-roots c = term-place _ _ (c .before .before .before .pre .0) (c .before .before .before .pre .1 .0)
 
 put-node-requires : tie.Need-put-node-requires
-put-node-requires c κs = (root-place (c .before .before .before .before .args .terms .now) _ _ _ (c .before .before .before .before .pre .0) (c .before .before .before .before .pre .1 .0) (c .before .before .before .before .pre .1 .1 .0 .stays) (c .before .kept-root .ensures), c .before .kept-root .ensures)
+put-node-requires c κs = (root-place (c .before .before .before .before .args .terms .now) _ _ _ (c .before .before .before .before .pre .0) (c .before .before .before .before .pre .1 .0) (c .before .before .before .before .pre .1 .1 .0 .stays) (c .before .kept-root-unchecked .ensures), c .before .kept-root-unchecked .ensures)
 
 returns : tie.Need-returns
-returns c = keeps-more _ _ _ _ _ _ _ (c .before .before .before .before .before .pre .0) (c .before .before .before .before .before .pre .1 .0) (c .before .before .before .before .before .pre .1 .1 .1) (c .before .before .kept-root .ensures) (c .put-node .ensures)
+returns c =
+    let s = c .before .before .before .before .before in
+    keeps-more (s .args .terms .now) _ _ _ _ _ _ (s .pre .0) (s .pre .1 .0) (s .pre .1 .1 .0) (s .pre .1 .1 .1) (c .before .before .kept-root-unchecked .ensures) (c .put-node .ensures)
 
 pub keep-node-spec : {M : Type 1} → statement M
 keep-node-spec =
-    tie.close (tie.spec kept-root-requires mul-roots element-write-roots put-node-requires returns)
+    tie.close (tie.spec kept-root-unchecked-requires mul-roots element-write-roots put-node-requires returns)

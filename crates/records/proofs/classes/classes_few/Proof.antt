@@ -9,8 +9,8 @@ use mathlib.Core.Path.{_≡_}
 use mathlib.Core.Bool.{true}
 use native.Mathlib.Omega.{arith}
 use borrow.Author.Needs.{needs}
-use Rattle.records.proofs.classes.classes_hold.Statement.{statement}
-use Rattle.records.proofs.classes.classes_hold.Tie as tie
+use Rattle.records.proofs.classes.classes_few.Statement.{statement}
+use Rattle.records.proofs.classes.classes_few.Tie as tie
 
 abbrev Inv-loop : tie.InvT-loop
 Inv-loop terms c i₀ i = (i ≤ c .terms) × (allBelow (λ j. classTest (seen terms c) (suc j)) i ≡ true)
@@ -51,8 +51,8 @@ returns-2 c =
     let a = c .before .before .before .before .args in
     each-done (classTest (seen (a .terms .now) (a .c))) (λ j. termAt (a .terms .now) (suc j)) (a .c .terms) (c .before .before .loop .i) (c .before .before .loop .inv .0) (c .if1 .left) (c .before .before .loop .inv .1)
 
-pub classes-hold-spec : {M : Type 1} → statement M
-classes-hold-spec =
+pub classes-few-spec : {M : Type 1} → statement M
+classes-few-spec =
     tie.close
     (tie.spec
     Inv-loop

@@ -3,16 +3,16 @@ use mathlib.Core.Path.{_≡_, refl, sym, ap, subst, _∙_}
 use mathlib.Core.Bool.{true}
 use mathlib.Core.Logic.{_⊎_, inl, inr, ⊎-elim}
 use Prim.Native.Nat.{ℕ, zero, suc, _+_, _-_, _≤_, _<_}
-use native.Mathlib.Nat.{zero-add, eq-or-lt-of-le}
+use native.Mathlib.Nat.{eq-or-lt-of-le}
 use native.Mathlib.Decide.{ℕ-discrete}
 use native.Mathlib.Omega.{arith}
 use lib.Dec.{ltb}
 use borrow.Author.Tests.{ltb-true, ltb-false}
 use Rattle.records.specs.Lists.{if_then_else_}
 use Rattle.records.specs.Store.{within, climb}
 use Rattle.records.specs.Audited.{Closed}
 use Rattle.records.proofs.Lists.{decide, within-low, within-high}
-use Rattle.records.proofs.Climbs.{climb-last, climb-stays, climb-within}
+use Rattle.records.proofs.Climbs.{climb-last, climb-stays, climb-add, climb-within}
 
 -- TWO EQUAL VALUES
 
@@ -83,11 +83,6 @@ repeat (suc n) f h = repeat-next n (repeat n) f h
 -- WALKS
 
 module _ (up : ℕ → ℕ) where
-  pub climb-add : (a b t : ℕ) → climb up (a + b) t ≡ climb up b (climb up a t)
-  unfolding climb
-  climb-add zero b t = ap (λ (n : ℕ). climb up n t) (zero-add b)
-  climb-add (suc a) b t = let e : suc a + b ≡ suc (a + b) = omega arith in rw e (climb-add a b (up t))
-
   record Back (x y : ℕ) : Type 0 where
     steps : ℕ
     leads : climb up steps y ≡ x
@@ -107,7 +102,7 @@ module _ (up : ℕ → ℕ) where
   pub climb-one : (j k t : ℕ) → up (climb up j t) ≡ climb up j t → up (climb up k t) ≡ climb up k t → climb up j t ≡ climb up k t
   climb-one j k t e f =
       let c : j + k ≡ k + j = omega arith in
-      sym (climb-stays up k (climb up j t) e) ∙ sym (climb-add j k t) ∙ ap (λ (n : ℕ). climb up n t) c ∙ climb-add k j t ∙ climb-stays up j (climb up k t) f
+      sym (climb-stays up k (climb up j t) e) ∙ sym (climb-add up j k t) ∙ ap (λ (n : ℕ). climb up n t) c ∙ climb-add up k j t ∙ climb-stays up j (climb up k t) f
 
   module _ (n t : ℕ) (closed : Closed up n) (w : within n t ≡ true) (k : ℕ) (ends : up (climb up k t) ≡ climb up k t) where
     met-low : (i : ℕ) → 0 < climb up i t
@@ -121,7 +116,7 @@ module _ (up : ℕ → ℕ) where
     twice i p e =
         let c : i + k ≡ k + i = omega arith in
         let q : climb up k (climb up i t) ≡ climb up k t =
-        sym (climb-add i k t) ∙ ap (λ (m : ℕ). climb up m t) c ∙ climb-add k i t ∙ climb-stays up i (climb up k t) ends in
+        sym (climb-add up i k t) ∙ ap (λ (m : ℕ). climb up m t) c ∙ climb-add up k i t ∙ climb-stays up i (climb up k t) ends in
         let b = back p (climb up i t) e k in
         let r : climb up i t ≡ climb up k t = sym (b .leads) ∙ ap (climb up (b .steps)) q ∙ climb-stays up (b .steps) (climb up k t) ends in
         rw r ends
@@ -142,6 +137,6 @@ module _ (up : ℕ → ℕ) where
         at i j b l e =
             let c : i + suc (j - suc i) ≡ j = omega arith in
             let d : i + (n - i) ≡ n = omega arith in
-            let f = twice i (j - suc i) (sym (climb-add i (suc (j - suc i)) t) ∙ ap (λ (m : ℕ). climb up m t) c ∙ sym e) in
-            let g : climb up n t ≡ climb up i t = sym (ap (λ (m : ℕ). climb up m t) d) ∙ climb-add i (n - i) t ∙ climb-stays up (n - i) (climb up i t) f in
+            let f = twice i (j - suc i) (sym (climb-add up i (suc (j - suc i)) t) ∙ ap (λ (m : ℕ). climb up m t) c ∙ sym e) in
+            let g : climb up n t ≡ climb up i t = sym (ap (λ (m : ℕ). climb up m t) d) ∙ climb-add up i (n - i) t ∙ climb-stays up (n - i) (climb up i t) f in
             rw g f

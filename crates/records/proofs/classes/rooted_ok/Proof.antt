@@ -1,0 +1,48 @@
+use Rattle.records.proofs.ClassLaws.{seen, alike-is, test-ends, test-alike, test-label, test-alone}
+use mathlib.Core.Path.{_∙_}
+use borrow.Author.Needs.{needs}
+use Rattle.records.proofs.classes.rooted_ok.Statement.{statement}
+use Rattle.records.proofs.classes.rooted_ok.Tie as tie
+
+ends-ok-requires : tie.Need-ends-ok-requires
+ends-ok-requires c κs = c .before .pre .0
+
+returns : tie.Need-returns
+returns c = test-ends (seen (c .before .before .before .args .terms .now) (c .before .before .before .args .c)) _ _ (c .before .ends-ok .ensures) (c .if1 .taken)
+
+alike-ok-requires : tie.Need-alike-ok-requires
+alike-ok-requires c κs = search needs
+
+returns-2 : tie.Need-returns-2
+returns-2 c =
+    let a = c .before .before .before .before .before .args in
+    let e = alike-is (a .terms .now) (a .c) (a .t) (a .r) (a .q) (c .before .before .before .before .before .pre .0) _ _ (c .before .before .before .before .before .pre .1 .0) (c .before .before .before .before .before .pre .1 .1) in
+    test-alike (seen (a .terms .now) (a .c)) _ _ (c .before .alike-ok .ensures ∙ e) (c .if2 .taken)
+
+label-ok-requires : tie.Need-label-ok-requires
+label-ok-requires c κs = c .before .before .before .before .before .pre .0 .here
+
+returns-3 : tie.Need-returns-3
+returns-3 c = test-label (seen (c .before .before .before .before .before .before .before .args .terms .now) (c .before .before .before .before .before .before .before .args .c)) _ _ (c .before .label-ok .ensures) (c .if3 .taken)
+
+alone-ok-requires : tie.Need-alone-ok-requires
+alone-ok-requires c κs = c .before .before .before .before .before .before .before .pre .0 .here
+
+returns-4 : tie.Need-returns-4
+returns-4 c =
+    let a = c .before .before .before .before .before .before .before .before .args in
+    let e = alike-is (a .terms .now) (a .c) (a .t) (a .r) (a .q) (c .before .before .before .before .before .before .before .before .pre .0) _ _ (c .before .before .before .before .before .before .before .before .pre .1 .0) (c .before .before .before .before .before .before .before .before .pre .1 .1) in
+    test-alone (seen (a .terms .now) (a .c)) _ _ _ _ _ (c .before .before .before .before .before .before .ends-ok .ensures) (c .before .before .before .before .before .if1 .left) (c .before .before .before .before .alike-ok .ensures ∙ e) (c .before .before .before .if2 .left) (c .before .before .label-ok .ensures) (c .before .if3 .left) (c .alone-ok .ensures)
+
+pub rooted-ok-spec : {M : Type 1} → statement M
+rooted-ok-spec =
+    tie.close
+    (tie.spec
+    ends-ok-requires
+    returns
+    alike-ok-requires
+    returns-2
+    label-ok-requires
+    returns-3
+    alone-ok-requires
+    returns-4)
