@@ -12,6 +12,7 @@ pub mod names;
 pub mod put;
 pub mod rules;
 pub mod text;
+mod unique;
 
 pub const TERM_LIMIT: usize = 512;
 
