@@ -3,8 +3,8 @@ use mathlib.Core.Path.{_≡_, refl, sym, ap, _∙_}
 use mathlib.Core.Bool.{Bool, true, false, not, _&&_}
 use mathlib.Core.List.{List, _∷_, _++_, []}
 use Prim.Native.Nat.{ℕ, suc, _+_, _-_, _*_, _/_, _%_, _<_, _≤_}
-use mathlib.Core.Logic.{⊎-elim}
-use native.Mathlib.Nat.{eq-or-lt-of-le, le-of-suc-le-suc}
+use mathlib.Core.Logic.{_⊎_, ⊎-elim}
+use native.Mathlib.Nat.{eq-or-lt-of-le}
 use native.Mathlib.Numerals.{add-one}
 use native.Mathlib.Omega.{arith}
 use lib.ListN.{length, getD, take, drop, set, replicate, length-set, length-replicate, getD-replicate}
@@ -13,11 +13,11 @@ use lib.Dec.{eqb, ltb}
 use borrow.Author.Tests.{eqb-true, eq-eqb, ne-eqb, leb-true, lt-ltb, le-ltb}
 use Rattle.records.specs.declared.State.{State}
 use Rattle.records.specs.Lists.{allBelow, table, sameWord}
-use Rattle.records.specs.Store.{Term, Store, term, count, within, isVariable, text, termIn}
+use Rattle.records.specs.Store.{Term, Store, term, within, isVariable, text, termIn}
 use Rattle.records.specs.View.{lent, storeOf, termAt, charsView, span}
 use Rattle.records.specs.Leaves.{hasText}
 use Rattle.records.specs.Rules.{textRule, named, nameRule}
-use Rattle.records.specs.Marks.{mixed, markFrom, mark, Marked, inChain, below, Tables, Passing}
+use Rattle.records.specs.Marks.{mixed, markFrom, mark, Marked, inChain, highest, Tables, Passing}
 use Rattle.records.proofs.Lists.{both-left, both-right, both-true, left-false, right-false, right-true, and-stop, and-next, clash, decide, within-low, within-high, below-false, below-suc, below-zero, last-hit, last-pass, last-one, last-low, last-passes, last-all, table-length, word-is}
 use Rattle.records.proofs.Views.{term-is, part-span, text-span, first-at, second-at}
 use Rattle.records.proofs.Grown.{kind-term, present}
@@ -44,6 +44,9 @@ mark-done l p n i h e a b = let q : i ≡ n = omega arith in rw q at e
 pub text-anywhere : (l e h e′ h′ : List ℕ) (c : State) (t : ℕ) → textRule (storeOf (lent l e h [] []) c) t ≡ textRule (storeOf (lent l e′ h′ [] []) c) t
 unfolding textRule
 text-anywhere l e h e′ h′ c t = rw (table-length (λ i. getD h i 0) (c .chars), table-length (λ i. getD h′ i 0) (c .chars))
+
+up-to : (u t : ℕ) → u < t + 1 → (u ≡ t) ⊎ (u < t)
+up-to u t q = eq-or-lt-of-le (omega arith)
 
 -- no term below n has t's name
 abbrev others : Store → ℕ → ℕ → Bool
@@ -78,7 +81,7 @@ module _ (l h : List ℕ) (c : State) where
         let j = second-at l (c .terms) t n (variable-within t v) en in
         let e = text-ends t f in omega arith
 
-    pub name-span : span h p n ≡ text here t
+    name-span : span h p n ≡ text here t
     name-span = rw (text-is t f, ← first-at l (c .terms) t p (variable-within t v) ep, ← second-at l (c .terms) t n (variable-within t v) en)
 
     pub name-part : c .chars ≤ length h → take ((p + n) - p) (drop p h) ≡ text here t
@@ -121,7 +124,7 @@ module _ (l h : List ℕ) (c : State) where
         decide (named (text here t) here u)
         (λ e. clash (both-true (isVariable here u) _ (both-left (isVariable here u) _ e) (eq-eqb _ _ (ap (λ (x : ℕ). x % 64) (named-mark t u e ∙ sym (a .marked))))) z) (ap not)
 
-    walk-from : (x b : ℕ) → x ≡ below here (m % 64) b → 0 < b → b ≤ t → others here t b ≡ others here t t → Walk here m t x
+    walk-from : (x b : ℕ) → x ≡ highest here (m % 64) b → 0 < b → b ≤ t → others here t b ≡ others here t t → Walk here m t x
     walk-from x b e z q o = rw e (record {
       lower = let i = last-low (inChain here (m % 64)) b z in omega arith;
       rest = last-all (inChain here (m % 64)) (λ u. not (named (text here t) here u)) b zero-other (λ k j y. other-chain k y) ∙ o;
@@ -140,12 +143,9 @@ module _ (l h : List ℕ) (c : State) where
         pub walk-marked : Marked here (getD marks u 0) u
         walk-marked = b .marked u (k .lower) walk-variable
 
-        pub walk-room : (u < length marks) × (u < length links)
-        walk-room = let i = present here t 1 (eqb-true _ 2 (a .variable)) in (omega (arith, b .marksRoom, k .lower), omega (arith, b .linksRoom, k .lower))
-
-        walk-link : getD links u 0 ≡ below here (m % 64) u
+        walk-link : getD links u 0 ≡ highest here (m % 64) u
         unfolding inChain
-        walk-link = b .linked u (k .lower) walk-variable ∙ ap (λ (r : ℕ). below here r u) (eqb-true _ _ (both-right (isVariable here u) _ (k .chained z)))
+        walk-link = b .linked u (k .lower) walk-variable ∙ ap (λ (r : ℕ). highest here r u) (eqb-true _ _ (both-right (isVariable here u) _ (k .chained z)))
 
         pub walk-less : getD links u 0 < u
         walk-less = let i = last-low (inChain here (m % 64)) u (omega arith) in rw walk-link i
@@ -200,14 +200,14 @@ module _ (l h : List ℕ) (c : State) where
       }
         where
           other : (u : ℕ) → u < t + 1 → isVariable here u ≡ true → u < t
-          other u q w = ⊎-elim (λ j. clash w (rw j v)) (λ j. j) (eq-or-lt-of-le (le-of-suc-le-suc (rw add-one at q)))
+          other u q w = ⊎-elim (λ j. clash w (rw j v)) (λ j. j) (up-to u t q)
 
       pub tables-room : isVariable here t ≡ true → (t < length marks) × (t < length links)
       tables-room v = let i = present here t 1 (eqb-true _ 2 v) in (omega (arith, b .marksRoom), omega (arith, b .linksRoom))
 
       -- a variable, at the head of its chain
       module _ (m : ℕ) (a : Marked here m t) where
-        head-is : (r : ℕ) → r < 64 → getD (set heads (m % 64) t) r 0 ≡ below here r (suc t)
+        head-is : (r : ℕ) → r < 64 → getD (set heads (m % 64) t) r 0 ≡ highest here r (suc t)
         unfolding inChain
         head-is r q =
             decide (eqb (mark here t % 64) r)
@@ -223,8 +223,12 @@ module _ (l h : List ℕ) (c : State) where
           marksRoom = simp length-set (b .marksRoom);
           linksRoom = simp length-set (b .linksRoom);
           headsRoom = simp length-set (b .headsRoom);
-          marked = λ u q w. ⊎-elim (λ j. rw j (rw (getD-set-same marks t m 0 (tables-room (a .variable) .0)) a)) (λ j. rw (getD-set-other marks t u m 0 (λ k. omega arith)) (b .marked u j w)) (eq-or-lt-of-le (le-of-suc-le-suc (rw add-one at q)));
-          linked = λ u q w. ⊎-elim (λ j. rw j (getD-set-same links t _ 0 (tables-room (a .variable) .1) ∙ b .headed (m % 64) (omega arith) ∙ ap (λ (x : ℕ). below here (x % 64) t) (a .marked))) (λ j. getD-set-other links t u _ 0 (λ k. omega arith) ∙ b .linked u j w) (eq-or-lt-of-le (le-of-suc-le-suc (rw add-one at q)));
+          marked = λ u q w.
+              ⊎-elim (λ j. rw j (rw (getD-set-same marks t m 0 (tables-room (a .variable) .0)) a))
+              (λ j. rw (getD-set-other marks t u m 0 (λ k. omega arith)) (b .marked u j w)) (up-to u t q);
+          linked = λ u q w.
+              ⊎-elim (λ j. rw j (getD-set-same links t _ 0 (tables-room (a .variable) .1) ∙ b .headed (m % 64) (omega arith) ∙ ap (λ (x : ℕ). highest here (x % 64) t) (a .marked)))
+              (λ j. getD-set-other links t u _ 0 (λ k. omega arith) ∙ b .linked u j w) (up-to u t q);
           headed = λ r q. rw add-one (head-is r q);
         }
 

@@ -1,21 +1,15 @@
--- The rule of a term by its kind, of every term, and of every record (src/rules.rt).
+-- The rule of a term by its kind, and of every record (src/rules.rt).
 use mathlib.Core.Path.{_≡_, refl, sym, _∙_}
 use mathlib.Core.Bool.{Bool, true, false, not, _&&_}
 use mathlib.Core.List.{List, []}
-use mathlib.Core.Logic.{⊎-elim}
-use Prim.Native.Nat.{ℕ, _+_, _<_}
-use native.Mathlib.Numerals.{add-one}
-use native.Mathlib.Nat.{eq-or-lt-of-le, le-of-suc-le-suc}
-use native.Mathlib.Omega.{arith}
-use lib.ListN.{length, getD, set}
-use lib.Seq.{getD-set-same, getD-set-other}
-use borrow.Author.Tests.{eqb-true, ne-eqb}
+use Prim.Native.Nat.{ℕ}
+use borrow.Author.Tests.{ne-eqb}
 use Rattle.records.specs.declared.State.{State}
 use Rattle.records.specs.Lists.{all}
-use Rattle.records.specs.Store.{Store, term, termIn, isVariable}
+use Rattle.records.specs.Store.{Store, term}
 use Rattle.records.specs.View.{lent, storeOf, charsView, pairsView}
 use Rattle.records.specs.Rules.{textRule, named, nameRule, partRule, concatRule, lengthRule, isEquatable, equationRule, termRule, cellRule, isChar, reasonRule, keyRule, recordsRule, eachTerm, eachCell}
-use Rattle.records.proofs.Lists.{both-left, clash, failed, passed, or-none, five-1, five-2, five-3, five-4, five-last}
+use Rattle.records.proofs.Lists.{failed, passed, or-none, five-1, five-2, five-3, five-4, five-last}
 
 module _ (s : Store) (t k : ℕ) (r : Bool) (e : k ≡ term s t .kind) where
   pub term-constant : k ≡ 1 → r ≡ textRule s t → r ≡ termRule s t

@@ -31,18 +31,19 @@ pub record Marked (s : Store) (m t : ℕ) : Type 0 where
 unfoldable pub inChain : Store → ℕ → ℕ → Bool
 inChain s r u = isVariable s u && eqb (mark s u % 64) r
 
--- the highest of a chain below t; 0, which names no term, ends a chain
-abbrev pub below : Store → ℕ → ℕ → ℕ
-below s r t = lastBelow (inChain s r) t
+-- the highest of a chain below t; 0, which names no term, where there is none
+abbrev pub highest : Store → ℕ → ℕ → ℕ
+highest s r t = lastBelow (inChain s r) t
 
--- the tables once the terms below t have passed: the mark of each variable and what follows it in its chain, and where each chain begins
+-- the tables once the terms below t have passed: by number the mark of each variable and the next lower of its chain, by remainder the
+-- highest of each chain
 pub record Tables (s : Store) (marks links heads : List ℕ) (t : ℕ) : Type 0 where
   pub marksRoom : count s < length marks
   pub linksRoom : count s < length links
   pub headsRoom : length heads ≡ 64
   pub marked : (u : ℕ) → u < t → isVariable s u ≡ true → Marked s (getD marks u 0) u
-  pub linked : (u : ℕ) → u < t → isVariable s u ≡ true → getD links u 0 ≡ below s (mark s u % 64) u
-  pub headed : (r : ℕ) → r < 64 → getD heads r 0 ≡ below s r t
+  pub linked : (u : ℕ) → u < t → isVariable s u ≡ true → getD links u 0 ≡ highest s (mark s u % 64) u
+  pub headed : (r : ℕ) → r < 64 → getD heads r 0 ≡ highest s r t
 
 -- r says whether t passes its rule, and where it does it is in the tables
 pub record Passing (s : Store) (rule : Bool) (marks links heads : List ℕ) (t : ℕ) (r : Bool) : Type 0 where

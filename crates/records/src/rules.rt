@@ -289,9 +289,7 @@ fn concat_ok(terms: &[u32], cells: &[u32], c: State, t: u32) -> bool
     parts_ok(terms, cells, c, t, f)
 }
 
-// TERMS
-
-// The first three words of term t; a variable that passes is put into the tables.
+// The first three words of term t. A variable that passes is put into the tables.
 fn term_ok(
     terms: &[u32],
     cells: &[u32],

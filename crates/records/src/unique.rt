@@ -1,5 +1,6 @@
-// Names are unique (a part of refusal 2). The variables that passed are chained by the remainders of their marks, so that a name
-// is looked for in one chain only.
+// Names are unique (a part of refusal 2). A variable that passes is put into three tables: `marks` has a mark of its name, by number.
+// Variables whose marks leave one remainder form a chain: `heads` has the highest of each, by remainder, and `links` the next lower, by
+// number; 0 ends a chain. So a name is looked for in one chain only.
 ghost use mathlib.Core.List.{[]};
 ghost use mathlib.Core.Path.{_≡_};
 ghost use mathlib.Core.Bool.{true, _&&_};
@@ -51,6 +52,7 @@ fn is_named(terms: &[u32], chars: &[u32], c: State, marks: &[u32], m: u32, t: u3
     has_text(terms, chars, u, 2, &chars[p..p + n])
 }
 
+// t's name has a character, and no lower variable has it; m is the mark of t.
 fn name_ok(
     terms: &[u32],
     chars: &[u32],
@@ -78,7 +80,7 @@ fn name_ok(
     true
 }
 
-// Variable t. One that passes is put into the tables, at the head of its chain.
+// Variable t; where it passes, it is put into the tables.
 pub(crate) fn variable_ok(
     terms: &[u32],
     chars: &[u32],
