@@ -12,7 +12,7 @@ use lib.ListN.{length, take, drop, getD, length-append, List·getD-append, List�
 use lib.Seq.{getD-at}
 use lib.Dec.{eqb, ltb}
 use borrow.Author.Tests.{not-true, not-false, eqb-true, eq-eqb, ltb-true, leb-true, lt-ltb, le-leb, le-ltb, lt-leb}
-use Rattle.records.specs.Lists.{if_then_else_, all, any, joined, table, sameWord, firsts, seconds, allBelow, firstBelow, Every, none-left, and}
+use Rattle.records.specs.Lists.{if_then_else_, all, any, joined, table, sameWord, firsts, seconds, allBelow, firstBelow, lastBelow, Every, none-left, and}
 use Rattle.records.specs.Store.{within}
 
 -- TESTS
@@ -240,6 +240,40 @@ first-some p (suc n) i h = go (first-some p n) (firstBelow p n) (p n) refl refl 
     go ih (some j) b e q z = let f = ih j e in let y : j ≡ i = cc in record { below = (let g = f .below in omega arith); passes = ap p (sym y) ∙ f .passes }
     go ih none true e q z = let y : n ≡ i = cc in record { below = omega arith; passes = ap p (sym y) ∙ q }
     go ih none false e q z = let y : _≡_ {A = ℕ} 0 1 = cc in absurd (omega arith)
+
+-- THE HIGHEST NUMBER BELOW
+
+pub last-hit : (p : ℕ → Bool) (n : ℕ) → p n ≡ true → lastBelow p (suc n) ≡ n
+unfolding lastBelow
+last-hit p n e = rw e
+
+pub last-pass : (p : ℕ → Bool) (n : ℕ) → p n ≡ false → lastBelow p (suc n) ≡ lastBelow p n
+unfolding lastBelow
+last-pass p n e = rw e
+
+last-none : (p : ℕ → Bool) → lastBelow p 0 ≡ 0
+unfolding lastBelow
+last-none p = refl
+
+pub last-one : (p : ℕ → Bool) → lastBelow p 1 ≡ 0
+last-one p = decide (p 0) (last-hit p 0) (λ e. last-pass p 0 e ∙ last-none p)
+
+pub last-low : (p : ℕ → Bool) (n : ℕ) → 0 < n → lastBelow p n < n
+last-low p zero h = absurd (omega arith)
+last-low p (suc zero) h = rw (last-one p) (omega arith)
+last-low p (suc (suc n)) h =
+    let i = last-low p (suc n) (omega arith) in
+    decide (p (suc n)) (λ e. rw (last-hit p (suc n) e) (omega arith)) (λ e. rw (last-pass p (suc n) e) (omega arith))
+
+pub last-passes : (p : ℕ → Bool) (n : ℕ) → (lastBelow p n ≡ 0 → ⊥) → p (lastBelow p n) ≡ true
+last-passes p zero h = absurd (h (last-none p))
+last-passes p (suc n) h = decide (p n) (λ e. rw (last-hit p n e) e) (λ e. rw (last-pass p n e) (last-passes p n (λ z. h (last-pass p n e ∙ z))))
+
+-- what holds wherever p fails is left to be tested only up to the highest
+pub last-all : (p q : ℕ → Bool) (n : ℕ) → q 0 ≡ true → ((k : ℕ) → k < n → p k ≡ false → q k ≡ true) → allBelow q (suc (lastBelow p n)) ≡ allBelow q n
+unfolding allBelow
+last-all p q zero z f = rw (last-none p) z
+last-all p q (suc n) z f = decide (p n) (λ e. rw (last-hit p n e)) (λ e. ap (λ (k : ℕ). allBelow q (suc k)) (last-pass p n e) ∙ last-all p q n z (λ k l. f k (omega arith)) ∙ sym (right-true _ _ (f n (omega arith) e)))
 
 -- TABLES
 

@@ -1,23 +1,26 @@
--- Names are unique (src/rules.rt): marks of texts, and names compared where their marks agree.
+-- Names are unique (src/unique.rt): marks of texts, chains of variables by their marks, and a walk down one chain.
 use mathlib.Core.Path.{_≡_, refl, sym, ap, _∙_}
 use mathlib.Core.Bool.{Bool, true, false, not, _&&_}
 use mathlib.Core.List.{List, _∷_, _++_, []}
 use Prim.Native.Nat.{ℕ, suc, _+_, _-_, _*_, _/_, _%_, _<_, _≤_}
+use mathlib.Core.Logic.{_⊎_, ⊎-elim}
+use native.Mathlib.Nat.{eq-or-lt-of-le}
 use native.Mathlib.Numerals.{add-one}
 use native.Mathlib.Omega.{arith}
-use lib.ListN.{length, getD, take, drop}
+use lib.ListN.{length, getD, take, drop, set, replicate, length-set, length-replicate, getD-replicate}
+use lib.Seq.{getD-set-same, getD-set-other}
 use lib.Dec.{eqb, ltb}
 use borrow.Author.Tests.{eqb-true, eq-eqb, ne-eqb, leb-true, lt-ltb, le-ltb}
 use Rattle.records.specs.declared.State.{State}
 use Rattle.records.specs.Lists.{allBelow, table, sameWord}
-use Rattle.records.specs.Store.{Term, Store, term, kind, within, isVariable, text, termIn}
+use Rattle.records.specs.Store.{Term, Store, term, within, isVariable, text, termIn}
 use Rattle.records.specs.View.{lent, storeOf, termAt, charsView, span}
 use Rattle.records.specs.Leaves.{hasText}
 use Rattle.records.specs.Rules.{textRule, named, nameRule}
-use Rattle.records.specs.Marks.{mixed, markFrom, mark, Naming}
-use Rattle.records.proofs.Lists.{both-left, both-right, right-false, and-stop, and-next, decide, failed, passed, within-high, below-false, below-suc, below-zero, below-done, table-length, word-is}
-use Rattle.records.proofs.Views.{term-is, part-span, text-span, kind-at, first-at, second-at}
-use Rattle.records.proofs.Grown.{kind-term}
+use Rattle.records.specs.Marks.{mixed, markFrom, mark, Marked, inChain, highest, Tables, Passing}
+use Rattle.records.proofs.Lists.{both-left, both-right, both-true, left-false, right-false, right-true, and-stop, and-next, clash, decide, within-low, within-high, below-false, below-suc, below-zero, last-hit, last-pass, last-one, last-low, last-passes, last-all, table-length, word-is}
+use Rattle.records.proofs.Views.{term-is, part-span, text-span, first-at, second-at}
+use Rattle.records.proofs.Grown.{kind-term, present}
 
 -- MARKS
 
@@ -42,8 +45,18 @@ pub text-anywhere : (l e h e′ h′ : List ℕ) (c : State) (t : ℕ) → textR
 unfolding textRule
 text-anywhere l e h e′ h′ c t = rw (table-length (λ i. getD h i 0) (c .chars), table-length (λ i. getD h′ i 0) (c .chars))
 
-guarded : (k : ℕ) (v x w : List ℕ) → (eqb k 2 ≡ true → x ≡ v) → (eqb k 2 && sameWord v w) ≡ (eqb k 2 && sameWord x w)
-guarded k v x w f = decide (eqb k 2) (λ e. rw (f e)) (λ e. rw e)
+up-to : (u t : ℕ) → u < t + 1 → (u ≡ t) ⊎ (u < t)
+up-to u t q = eq-or-lt-of-le (omega arith)
+
+-- no term below n has t's name
+abbrev others : Store → ℕ → ℕ → Bool
+others s t n = allBelow (λ u. not (named (text s t) s u)) n
+
+-- where the walk down t's chain stands: what is left to test is u and what is below it, and u is in the chain or ends it
+pub record Walk (s : Store) (m t u : ℕ) : Type 0 where
+  pub lower : u < t
+  pub rest : others s t (suc u) ≡ others s t t
+  pub chained : (u ≡ 0 → ⊥) → inChain s (m % 64) u ≡ true
 
 module _ (l h : List ℕ) (c : State) where
   abbrev here : Store
@@ -60,78 +73,86 @@ module _ (l h : List ℕ) (c : State) where
   pub variable-within : (t : ℕ) → isVariable here t ≡ true → within (c .terms) t ≡ true
   variable-within t e = rw (table-length (λ i. termAt l (suc i)) (c .terms)) at (kind-term here t 1 (eqb-true _ 2 e))
 
-  -- THE MARK OF A TERM
+  -- the words of a text within the count
+  module _ (t : ℕ) (v : isVariable here t ≡ true) (f : textRule here t ≡ true) (p n : ℕ) (ep : p ≡ getD l (8 * t + 1) 0) (en : n ≡ getD l (8 * t + 2) 0) where
+    pub name-ends : c .chars ≤ length h → p + n ≤ length h
+    name-ends r =
+        let i = first-at l (c .terms) t p (variable-within t v) ep in
+        let j = second-at l (c .terms) t n (variable-within t v) en in
+        let e = text-ends t f in omega arith
 
-  mark-text : (t : ℕ) → isVariable here t ≡ true → textRule here t ≡ true → mark here t ≡ markFrom 1 (text here t)
-  unfolding mark
-  mark-text t e f = rw (e, f)
+    name-span : span h p n ≡ text here t
+    name-span = rw (text-is t f, ← first-at l (c .terms) t p (variable-within t v) ep, ← second-at l (c .terms) t n (variable-within t v) en)
 
-  module _ (t : ℕ) (w : within (c .terms) t ≡ true) where
-    pub mark-other : (k : ℕ) → k ≡ getD l (8 * t + 0) 0 → (k ≡ 2 → ⊥) → 0 ≡ mark here t
-    unfolding mark
-    mark-other k e z = rw (ne-eqb (term here t .kind) 2 (λ q. z (kind-at l (c .terms) t k w e ∙ q)))
+    pub name-part : c .chars ≤ length h → take ((p + n) - p) (drop p h) ≡ text here t
+    name-part r = let e : (p + n) - p ≡ n = omega arith in rw (e, part-span h p n (name-ends r)) name-span
 
-    module _ (x : Bool) (f : x ≡ textRule (storeOf (lent l [] [] [] []) c) t) where
-      pub mark-past : not x ≡ true → 0 ≡ mark here t
-      unfolding mark
-      mark-past z = rw (right-false (isVariable here t) _ (failed _ x (f ∙ text-anywhere l [] [] [] h c t) z))
+    pub mark-is : (r : ℕ) → r ≡ markFrom 1 (span h p n) → r ≡ mark here t
+    mark-is r q = q ∙ ap (markFrom 1) name-span
 
-      module _ (g : not x ≡ false) (p n : ℕ) (ep : p ≡ getD l (8 * t + 1) 0) (en : n ≡ getD l (8 * t + 2) 0) where
-        fit : textRule here t ≡ true
-        fit = passed _ x (f ∙ text-anywhere l [] [] [] h c t) g
+  -- ONE NAME
 
-        pub mark-ends : c .chars ≤ length h → p + n ≤ length h
-        mark-ends r =
-            let i = first-at l (c .terms) t p w ep in
-            let j = second-at l (c .terms) t n w en in
-            let e = text-ends t fit in omega arith
+  -- variables of one name have one mark
+  named-mark : (t u : ℕ) → named (text here t) here u ≡ true → mark here u ≡ mark here t
+  unfolding named
+  named-mark t u e = ap (markFrom 1) (word-is _ _ (both-right (isVariable here u) _ e))
 
-        pub mark-is : (k r : ℕ) → k ≡ getD l (8 * t + 0) 0 → k ≡ 2 → r ≡ markFrom 1 (span h p n) → r ≡ mark here t
-        mark-is k r e z q =
-            rw (mark-text t (eq-eqb _ 2 (sym (kind-at l (c .terms) t k w e) ∙ z)) fit, text-is t fit, ← first-at l (c .terms) t p w ep, ← second-at l (c .terms) t n w en) q
+  module _ (m t : ℕ) (a : Marked here m t) where
+    module _ (x u : ℕ) (k : Marked here x u) where
+      pub named-other : (x ≡ m → ⊥) → false ≡ named (text here t) here u
+      named-other z = decide (named (text here t) here u) (λ e. absurd (z (k .marked ∙ named-mark t u e ∙ sym (a .marked)))) (λ e. sym e)
 
-  -- THE NAME OF A VARIABLE
+      pub named-test : (w : List ℕ) (b : Bool) → b ≡ hasText l h 2 w u → w ≡ text here t → b ≡ named (text here t) here u
+      unfolding named hasText
+      named-test w b e f =
+          let v = variable-within u (k .variable) in
+          let i = term-is l (c .terms) u (within-low _ u v) (within-high _ u v) in
+          e ∙ ap (λ (r : Term). eqb (r .kind) 2 && sameWord (span h (r .first) (r .second)) w) (sym i)
+          ∙ ap (λ (y : List ℕ). eqb (term here u .kind) 2 && sameWord (span h (term here u .first) (term here u .second)) y) f
+          ∙ ap (λ (y : List ℕ). eqb (term here u .kind) 2 && sameWord y (text here t)) (sym (text-is u (k .fits)))
 
-  module _ (marks : List ℕ) (m t : ℕ) (a : Naming here h marks m t) where
-    -- a lower variable of the same name has the same mark
-    pub named-mark : (u : ℕ) → u < t → named (text here t) here u ≡ true → getD marks u 0 ≡ m
-    unfolding named
-    named-mark u l e =
-        let v = both-left (isVariable here u) _ e in
-        let w = word-is _ _ (both-right (isVariable here u) _ e) in
-        a .marking .lower .marked u l ∙ mark-text u v (a .marking .lower .texts u l v) ∙ ap (markFrom 1) w ∙ sym (mark-text t (a .variable) (a .fits)) ∙ sym (a .marking .marked)
+    -- THE WALK down the chain
 
-    pub named-other : (u : ℕ) → u < t → (getD marks u 0 ≡ m → ⊥) → false ≡ named (text here t) here u
-    named-other u l z = decide (named (text here t) here u) (λ e. absurd (z (named-mark u l e))) (λ e. sym e)
+    zero-other : not (named (text here t) here 0) ≡ true
+    unfolding named termIn
+    zero-other = refl
 
-    pub named-test : (u : ℕ) (w : List ℕ) (b : Bool) → 0 < u → u < t → b ≡ hasText l h 2 w u → w ≡ text here t → b ≡ named (text here t) here u
-    unfolding named hasText
-    named-test u w b z q e f =
-        let i = term-is l (c .terms) u z (let j = within-high _ t (variable-within t (a .variable)) in omega arith) in
-        e ∙ ap (λ (r : Term). eqb (r .kind) 2 && sameWord (span h (r .first) (r .second)) w) (sym i)
-        ∙ ap (λ (v : List ℕ). eqb (term here u .kind) 2 && sameWord (span h (term here u .first) (term here u .second)) v) f
-        ∙ guarded (term here u .kind) _ _ _ (λ v. text-is u (a .marking .lower .texts u q v))
+    -- a term out of the chain has another name
+    other-chain : (u : ℕ) → inChain here (m % 64) u ≡ false → not (named (text here t) here u) ≡ true
+    unfolding inChain named
+    other-chain u z =
+        decide (named (text here t) here u)
+        (λ e. clash (both-true (isVariable here u) _ (both-left (isVariable here u) _ e) (eq-eqb _ _ (ap (λ (x : ℕ). x % 64) (named-mark t u e ∙ sym (a .marked))))) z) (ap not)
 
-    -- the words lent for it
-    module _ (p n : ℕ) (ep : p ≡ getD l (8 * t + 1) 0) (en : n ≡ getD l (8 * t + 2) 0) where
-      pub name-ends : p + n ≤ length h
-      name-ends =
-          let w = variable-within t (a .variable) in
-          let i = first-at l (c .terms) t p w ep in
-          let j = second-at l (c .terms) t n w en in
-          let e = text-ends t (a .fits) in
-          let k = table-length (λ i. getD h i 0) (c .chars) in
-          let r = a .marking .room in omega arith
+    walk-from : (x b : ℕ) → x ≡ highest here (m % 64) b → 0 < b → b ≤ t → others here t b ≡ others here t t → Walk here m t x
+    walk-from x b e z q o = rw e (record {
+      lower = let i = last-low (inChain here (m % 64)) b z in omega arith;
+      rest = last-all (inChain here (m % 64)) (λ u. not (named (text here t) here u)) b zero-other (λ k j y. other-chain k y) ∙ o;
+      chained = last-passes (inChain here (m % 64)) b;
+    })
 
-      pub name-part : take ((p + n) - p) (drop p h) ≡ text here t
-      name-part =
-          let e : (p + n) - p ≡ n = omega arith in
-          let w = variable-within t (a .variable) in
-          let i = first-at l (c .terms) t p w ep in
-          let j = second-at l (c .terms) t n w en in
-          rw (e, part-span h p n name-ends, text-is t (a .fits), ← i, ← j)
+    module _ (marks links heads : List ℕ) (b : Tables here marks links heads t) where
+      pub walk-start : Walk here m t (getD heads (m % 64) 0)
+      walk-start = walk-from _ t (b .headed (m % 64) (omega arith)) (within-low _ t (variable-within t (a .variable))) (omega arith) refl
 
-    -- THE LOOP over the lower terms: none so far has the name
+      module _ (u : ℕ) (k : Walk here m t u) (z : u ≡ 0 → ⊥) where
+        walk-variable : isVariable here u ≡ true
+        unfolding inChain
+        walk-variable = both-left (isVariable here u) _ (k .chained z)
+
+        pub walk-marked : Marked here (getD marks u 0) u
+        walk-marked = b .marked u (k .lower) walk-variable
+
+        walk-link : getD links u 0 ≡ highest here (m % 64) u
+        unfolding inChain
+        walk-link = b .linked u (k .lower) walk-variable ∙ ap (λ (r : ℕ). highest here r u) (eqb-true _ _ (both-right (isVariable here u) _ (k .chained z)))
+
+        pub walk-less : getD links u 0 < u
+        walk-less = let i = last-low (inChain here (m % 64)) u (omega arith) in rw walk-link i
+
+        pub walk-turn : (x : Bool) → x ≡ named (text here t) here u → x ≡ false → Walk here m t (getD links u 0)
+        unfolding allBelow
+        walk-turn x e f = walk-from _ u walk-link (omega arith) (omega (arith, k .lower)) (sym (right-true (others here t u) _ (ap not (sym e ∙ f))) ∙ k .rest)
 
     pub name-empty : (n : ℕ) → n ≡ getD l (8 * t + 2) 0 → n ≡ 0 → false ≡ nameRule here t
     unfolding nameRule
@@ -139,22 +160,82 @@ module _ (l h : List ℕ) (c : State) where
         let j = second-at l (c .terms) t n (variable-within t (a .variable)) e in
         and-stop (ltb 0 (term here t .second)) _ (le-ltb 0 (term here t .second) (omega arith))
 
-    abbrev pub others : ℕ → Bool
-    others = allBelow (λ u. not (named (text here t) here u))
+    module _ (u : ℕ) (k : Walk here m t u) where
+      pub name-taken : (x : Bool) → x ≡ named (text here t) here u → x ≡ true → false ≡ nameRule here t
+      unfolding nameRule
+      name-taken x e z = sym (right-false (ltb 0 (term here t .second)) _ (below-false (λ v. not (named (text here t) here v)) t u (k .lower) (ap not (sym e ∙ z))))
 
-    pub others-start : others 1 ≡ true
-    unfolding named termIn
-    others-start = below-suc (λ u. not (named (text here t) here u)) 0 (below-zero _) refl
+      pub name-free : (n : ℕ) → n ≡ getD l (8 * t + 2) 0 → (n ≡ 0 → ⊥) → u ≡ 0 → true ≡ nameRule here t
+      unfolding nameRule
+      name-free n e z q =
+          let j = second-at l (c .terms) t n (variable-within t (a .variable)) e in
+          let i = below-suc (λ v. not (named (text here t) here v)) 0 (below-zero _) zero-other in
+          and-next (ltb 0 (term here t .second)) _ true (lt-ltb 0 (term here t .second) (omega arith)) (sym i ∙ (rw q at (k .rest)))
 
-    pub others-turn : (u : ℕ) (b : Bool) → b ≡ named (text here t) here u → b ≡ false → others u ≡ true → others (u + 1) ≡ true
-    others-turn u b e z h = rw add-one (below-suc (λ v. not (named (text here t) here v)) u h (ap not (sym e ∙ z)))
+  -- THE TABLES
 
-    pub name-taken : (u : ℕ) (b : Bool) → u < t → b ≡ named (text here t) here u → b ≡ true → false ≡ nameRule here t
-    unfolding nameRule
-    name-taken u b q e z = sym (right-false (ltb 0 (term here t .second)) _ (below-false (λ v. not (named (text here t) here v)) t u q (ap not (sym e ∙ z))))
+  pub tables-start : (marks links : List ℕ) → c .terms < length marks → c .terms < length links → Tables here marks links (replicate 64 0) 1
+  unfolding termIn
+  tables-start marks links i j = record {
+    marksRoom = rw (table-length (λ k. termAt l (suc k)) (c .terms)) i;
+    linksRoom = rw (table-length (λ k. termAt l (suc k)) (c .terms)) j;
+    headsRoom = length-replicate {A = ℕ} 64 0;
+    marked = λ u q v. let z : u ≡ 0 = omega arith in clash v (rw z);
+    linked = λ u q v. let z : u ≡ 0 = omega arith in clash v (rw z);
+    headed = λ r q. getD-replicate 64 r 0 0 q ∙ sym (last-one _);
+  }
 
-    pub name-free : (n u : ℕ) → n ≡ getD l (8 * t + 2) 0 → (n ≡ 0 → ⊥) → u ≤ t → t ≤ u → others u ≡ true → true ≡ nameRule here t
-    unfolding nameRule
-    name-free n u e z p q h =
-        let j = second-at l (c .terms) t n (variable-within t (a .variable)) e in
-        and-next (ltb 0 (term here t .second)) _ true (lt-ltb 0 (term here t .second) (omega arith)) (below-done (λ v. not (named (text here t) here v)) t u p q h)
+  module _ (marks links heads : List ℕ) (t : ℕ) where
+    module _ (b : Tables here marks links heads t) where
+      -- a term that is no variable
+      pub tables-skip : isVariable here t ≡ false → Tables here marks links heads (t + 1)
+      unfolding inChain
+      tables-skip v = record {
+        marksRoom = b .marksRoom;
+        linksRoom = b .linksRoom;
+        headsRoom = b .headsRoom;
+        marked = λ u q w. b .marked u (other u q w) w;
+        linked = λ u q w. b .linked u (other u q w) w;
+        headed = λ r q. b .headed r q ∙ sym (rw add-one (last-pass (inChain here r) t (left-false _ _ v)));
+      }
+        where
+          other : (u : ℕ) → u < t + 1 → isVariable here u ≡ true → u < t
+          other u q w = ⊎-elim (λ j. clash w (rw j v)) (λ j. j) (up-to u t q)
+
+      pub tables-room : isVariable here t ≡ true → (t < length marks) × (t < length links)
+      tables-room v = let i = present here t 1 (eqb-true _ 2 v) in (omega (arith, b .marksRoom), omega (arith, b .linksRoom))
+
+      -- a variable, at the head of its chain
+      module _ (m : ℕ) (a : Marked here m t) where
+        head-is : (r : ℕ) → r < 64 → getD (set heads (m % 64) t) r 0 ≡ highest here r (suc t)
+        unfolding inChain
+        head-is r q =
+            decide (eqb (mark here t % 64) r)
+            (λ e.
+            let i : m % 64 ≡ r = ap (λ (x : ℕ). x % 64) (a .marked) ∙ eqb-true _ _ e in
+            rw i (getD-set-same heads r t 0 (let j = b .headsRoom in omega arith) ∙ sym (last-hit (inChain here r) t (both-true _ _ (a .variable) e))))
+            (λ e.
+            let i : r ≡ m % 64 → ⊥ = λ z. clash (eq-eqb _ _ (sym (ap (λ (x : ℕ). x % 64) (a .marked)) ∙ sym z)) e in
+            getD-set-other heads (m % 64) r t 0 i ∙ b .headed r q ∙ sym (last-pass (inChain here r) t (right-false (isVariable here t) _ e)))
+
+        pub tables-keep : Tables here (set marks t m) (set links t (getD heads (m % 64) 0)) (set heads (m % 64) t) (t + 1)
+        tables-keep = record {
+          marksRoom = simp length-set (b .marksRoom);
+          linksRoom = simp length-set (b .linksRoom);
+          headsRoom = simp length-set (b .headsRoom);
+          marked = λ u q w.
+              ⊎-elim (λ j. rw j (rw (getD-set-same marks t m 0 (tables-room (a .variable) .0)) a))
+              (λ j. rw (getD-set-other marks t u m 0 (λ k. omega arith)) (b .marked u j w)) (up-to u t q);
+          linked = λ u q w.
+              ⊎-elim (λ j. rw j (getD-set-same links t _ 0 (tables-room (a .variable) .1) ∙ b .headed (m % 64) (omega arith) ∙ ap (λ (x : ℕ). highest here (x % 64) t) (a .marked)))
+              (λ j. getD-set-other links t u _ 0 (λ k. omega arith) ∙ b .linked u j w) (up-to u t q);
+          headed = λ r q. rw add-one (head-is r q);
+        }
+
+    -- what a term that fails, and one that is no variable, leave of them
+    module _ (rule : Bool) where
+      pub passing-not : false ≡ rule → Passing here rule marks links heads t false
+      passing-not e = record { passes = e; tables = λ z. clash z refl }
+
+      pub passing-other : (k : ℕ) (r : Bool) → Tables here marks links heads t → k ≡ term here t .kind → (k ≡ 2 → ⊥) → r ≡ rule → Passing here rule marks links heads t r
+      passing-other k r b e z q = record { passes = q; tables = λ y. tables-skip b (ne-eqb _ 2 (λ i. z (e ∙ i))) }

@@ -1,22 +1,15 @@
--- The rule of a term by its kind, of every term, and of every record (src/rules.rt).
+-- The rule of a term by its kind, and of every record (src/rules.rt).
 use mathlib.Core.Path.{_≡_, refl, sym, _∙_}
 use mathlib.Core.Bool.{Bool, true, false, not, _&&_}
 use mathlib.Core.List.{List, []}
-use mathlib.Core.Logic.{⊎-elim}
-use Prim.Native.Nat.{ℕ, _+_, _<_}
-use native.Mathlib.Numerals.{add-one}
-use native.Mathlib.Nat.{eq-or-lt-of-le, le-of-suc-le-suc}
-use native.Mathlib.Omega.{arith}
-use lib.ListN.{length, getD, set}
-use lib.Seq.{getD-set-same, getD-set-other}
-use borrow.Author.Tests.{eqb-true, ne-eqb}
+use Prim.Native.Nat.{ℕ}
+use borrow.Author.Tests.{ne-eqb}
 use Rattle.records.specs.declared.State.{State}
 use Rattle.records.specs.Lists.{all}
-use Rattle.records.specs.Store.{Store, term, termIn, isVariable}
+use Rattle.records.specs.Store.{Store, term}
 use Rattle.records.specs.View.{lent, storeOf, charsView, pairsView}
 use Rattle.records.specs.Rules.{textRule, named, nameRule, partRule, concatRule, lengthRule, isEquatable, equationRule, termRule, cellRule, isChar, reasonRule, keyRule, recordsRule, eachTerm, eachCell}
-use Rattle.records.specs.Marks.{mark, Lower}
-use Rattle.records.proofs.Lists.{both-left, clash, failed, passed, or-none, five-1, five-2, five-3, five-4, five-last}
+use Rattle.records.proofs.Lists.{failed, passed, or-none, five-1, five-2, five-3, five-4, five-last}
 
 module _ (s : Store) (t k : ℕ) (r : Bool) (e : k ≡ term s t .kind) where
   pub term-constant : k ≡ 1 → r ≡ textRule s t → r ≡ termRule s t
@@ -43,10 +36,6 @@ pub term-other : (s : Store) (t k : ℕ) → k ≡ term s t .kind → (k ≡ 1 �
 unfolding termRule
 term-other s t k e a b c d f = rw (← e, ne-eqb k 1 a, ne-eqb k 2 b, ne-eqb k 3 c, ne-eqb k 4 d, ne-eqb k 5 f)
 
--- a variable that passed has its text within the count
-pub variable-text : (s : Store) (t : ℕ) → termRule s t ≡ true → isVariable s t ≡ true → textRule s t ≡ true
-variable-text s t h v = both-left (textRule s t) (nameRule s t) (term-variable s t (term s t .kind) _ refl (eqb-true _ 2 v) refl ∙ h)
-
 -- A rule reads no more of the store than the slices that its function takes
 
 module _ (l e h : List ℕ) (c : State) where
@@ -71,22 +60,6 @@ module _ (l e h : List ℕ) (c : State) where
   pub equation-of : (t : ℕ) → equationRule (storeOf (lent l [] [] [] []) c) t ≡ equationRule three t
   unfolding equationRule isEquatable
   equation-of t = refl
-
-  -- THE LOOP over the terms
-
-  pub lower-start : (marks : List ℕ) → getD marks 0 0 ≡ 0 → Lower two marks 1
-  unfolding mark termIn
-  lower-start marks z = record {
-    texts = λ u q v. let i : u ≡ 0 = omega arith in clash v (rw i);
-    marked = λ u q. let i : u ≡ 0 = omega arith in rw (i, z);
-  }
-
-  pub lower-turn : (marks : List ℕ) (m t : ℕ) (b : Bool) → Lower two marks t → t < length marks → m ≡ mark two t → b ≡ termRule three t → not b ≡ false → Lower two (set marks t m) (t + 1)
-  unfolding textRule
-  lower-turn marks m t b a n q f g = record {
-    texts = λ u i v. ⊎-elim (λ j. rw j (variable-text three t (passed _ b f g) (rw j at v))) (λ j. a .texts u j v) (eq-or-lt-of-le (le-of-suc-le-suc (rw add-one at i)));
-    marked = λ u i. ⊎-elim (λ j. rw j (getD-set-same marks t m 0 n ∙ q)) (λ j. getD-set-other marks t u m 0 (λ k. omega arith) ∙ a .marked u j) (eq-or-lt-of-le (le-of-suc-le-suc (rw add-one at i)));
-  }
 
 -- EVERY RECORD
 

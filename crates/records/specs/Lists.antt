@@ -71,6 +71,11 @@ unfoldable pub firstBelow : (ℕ → Bool) → ℕ → Option ℕ
 firstBelow p zero = none
 firstBelow p (suc n) = elim (firstBelow p n) [ some i ↦ some i | none ↦ (if p n then some n else none) ]
 
+-- the highest number below n that passes; 0 where none does
+unfoldable pub lastBelow : (ℕ → Bool) → ℕ → ℕ
+lastBelow p zero = 0
+lastBelow p (suc n) = if p n then n else lastBelow p n
+
 -- P of each element
 pub data Every {A : Type 0} (P : A → Type 0) : List A → Type 0 where
   none-left : Every P []

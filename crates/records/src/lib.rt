@@ -13,6 +13,7 @@ pub mod put;
 pub mod roots;
 pub mod rules;
 pub mod text;
+mod unique;
 
 pub const TERM_LIMIT: usize = 512;
 

@@ -6,10 +6,10 @@ ghost use Prim.Native.Nat.{_+_, _*_, _<_, _≤_};
 ghost use lib.ListN.{length};
 ghost use lib.Dec.{leb};
 ghost use Rattle.records.specs.Lists.{all};
-ghost use Rattle.records.specs.Store.{termIn, within, cell, chain, isVariable, text};
-ghost use Rattle.records.specs.View.{lent, storeOf, termsView, charsView, pairsView, span, termLimit, cellLimit, charLimit, reasonLimit, keyLimit, sizes};
-ghost use Rattle.records.specs.Rules.{isChar, isNumber, reasonRule, keyRule, cellRule, textRule, named, nameRule, partRule, concatRule, lengthRule, isEquatable, equationRule, termRule, recordsRule, eachTerm, eachCell, isList};
-ghost use Rattle.records.specs.Marks.{markFrom, mark, Marking, Naming};
+ghost use Rattle.records.specs.Store.{termIn, within, cell, chain};
+ghost use Rattle.records.specs.View.{lent, storeOf, termsView, charsView, pairsView, termLimit, cellLimit, charLimit, reasonLimit, keyLimit, sizes};
+ghost use Rattle.records.specs.Rules.{isChar, isNumber, reasonRule, keyRule, cellRule, textRule, partRule, concatRule, lengthRule, isEquatable, equationRule, termRule, recordsRule, eachTerm, eachCell, isList};
+ghost use Rattle.records.specs.Marks.{Tables, Passing};
 ghost use Rattle.records.specs.Audited.{Sized};
 use crate::CELL_LIMIT;
 use crate::CHAR_LIMIT;
@@ -17,7 +17,7 @@ use crate::REASON_LIMIT;
 use crate::State;
 use crate::TERM_LIMIT;
 use crate::fields;
-use crate::make::has_text;
+use crate::unique::variable_ok;
 
 pub fn is_char(c: u32) -> bool
     ensures { λ r. ⌜ r ≡ isChar c ⌝ }
@@ -171,7 +171,7 @@ fn cell_ok(cells: &[u32], c: State, i: u32) -> bool
     fields::wide(next) <= c.cells
 }
 
-fn text_ok(terms: &[u32], c: State, t: u32) -> bool
+pub(crate) fn text_ok(terms: &[u32], c: State, t: u32) -> bool
     requires { ⌜ within (c .terms) t ≡ true ⌝ }
     ensures { λ r. ⌜ r ≡ textRule (storeOf (lent (now (terms .entry)) [] [] [] []) c) t ⌝ }
 {
@@ -289,99 +289,24 @@ fn concat_ok(terms: &[u32], cells: &[u32], c: State, t: u32) -> bool
     parts_ok(terms, cells, c, t, f)
 }
 
-// NAMES
-
-fn text_mark(chars: &[u32], p: usize, n: usize) -> u32
-    requires { ⌜ p + n ≤ length (now chars) ⌝ }
-    ensures { λ r. ⌜ r ≡ markFrom 1 (span (now (chars .entry)) p n) ⌝ }
-{
-    let mut h: usize = 1;
-    let mut i: usize = 0;
-    while i < n {
-        h = (69069 * h + h / 65536 + fields::wide(chars[p + i])) % 4294967291;
-        i += 1;
-    }
-    h as u32
-}
-
-fn name_mark(terms: &[u32], chars: &[u32], c: State, t: u32) -> u32
-    requires { ⌜ (within (c .terms) t ≡ true) × (c .chars ≤ length (now chars)) ⌝ }
-    ensures { λ r. ⌜ r ≡ mark (storeOf (lent (now (terms .entry)) [] (now (chars .entry)) [] []) c) t ⌝ }
-{
-    let k = fields::kind(terms, t);
-    if k != 2 {
-        return 0;
-    }
-    if !text_ok(terms, c, t) {
-        return 0;
-    }
-    let p = fields::wide(fields::first(terms, t));
-    let n = fields::wide(fields::second(terms, t));
-    text_mark(chars, p, n)
-}
-
-// Whether u is a variable of t's name; m is the mark of t.
-fn is_named(terms: &[u32], chars: &[u32], c: State, marks: &[u32], m: u32, t: u32, u: u32) -> bool
-    requires { ⌜ Naming (storeOf (lent (now terms) [] (now chars) [] []) c) (now chars) (now marks) m t × (0 < u) × (u < t) ⌝ }
-    ensures { λ r. do
-      let s = storeOf (lent (now (terms .entry)) [] (now (chars .entry)) [] []) c
-      ⌜ r ≡ named (text s t) s u ⌝ }
-{
-    if marks[u as usize] != m {
-        return false;
-    }
-    let p = fields::wide(fields::first(terms, t));
-    let n = fields::wide(fields::second(terms, t));
-    has_text(terms, chars, u, 2, &chars[p..p + n])
-}
-
-fn name_ok(terms: &[u32], chars: &[u32], c: State, marks: &[u32], m: u32, t: u32) -> bool
-    requires { ⌜ Naming (storeOf (lent (now terms) [] (now chars) [] []) c) (now chars) (now marks) m t ⌝ }
-    ensures { λ r. ⌜ r ≡ nameRule (storeOf (lent (now (terms .entry)) [] (now (chars .entry)) [] []) c) t ⌝ }
-{
-    let n = fields::second(terms, t);
-    if n == 0 {
-        return false;
-    }
-    let mut u: u32 = 1;
-    while u < t {
-        if is_named(terms, chars, c, marks, m, t, u) {
-            return false;
-        }
-        u += 1;
-    }
-    true
-}
-
-fn variable_ok(terms: &[u32], chars: &[u32], c: State, marks: &[u32], m: u32, t: u32) -> bool
-    requires { ⌜ Marking (storeOf (lent (now terms) [] (now chars) [] []) c) (now chars) (now marks) m t × (isVariable (storeOf (lent (now terms) [] (now chars) [] []) c) t ≡ true) ⌝ }
-    ensures { λ r. do
-      let s = storeOf (lent (now (terms .entry)) [] (now (chars .entry)) [] []) c
-      ⌜ r ≡ (textRule s t && nameRule s t) ⌝ }
-{
-    if !text_ok(terms, c, t) {
-        return false;
-    }
-    name_ok(terms, chars, c, marks, m, t)
-}
-
-// The first three words of term t; m is its mark.
+// The first three words of term t. A variable that passes is put into the tables.
 fn term_ok(
     terms: &[u32],
     cells: &[u32],
     chars: &[u32],
     c: State,
-    marks: &[u32],
-    m: u32,
+    marks: &mut [u32],
+    links: &mut [u32],
+    heads: &mut [u32; 64],
     t: u32,
 ) -> bool
-    requires { ⌜ (within (c .terms) t ≡ true) × Marking (storeOf (lent (now terms) [] (now chars) [] []) c) (now chars) (now marks) m t ⌝ }
-    ensures { λ r. ⌜ r ≡ termRule (storeOf (lent (now (terms .entry)) (now (cells .entry)) (now (chars .entry)) [] []) c) t ⌝ }
+    requires { ⌜ (within (c .terms) t ≡ true) × (c .chars ≤ length (now chars)) × Tables (storeOf (lent (now terms) [] (now chars) [] []) c) (now marks) (now links) (now heads) t ⌝ }
+    ensures { λ r. ⌜ Passing (storeOf (lent (now (terms .entry)) [] (now (chars .entry)) [] []) c) (termRule (storeOf (lent (now (terms .entry)) (now (cells .entry)) (now (chars .entry)) [] []) c) t) (now (marks .exit)) (now (links .exit)) (now (heads .exit)) t r ⌝ }
 {
     let k = fields::kind(terms, t);
     match k {
         1 => text_ok(terms, c, t),
-        2 => variable_ok(terms, chars, c, marks, m, t),
+        2 => variable_ok(terms, chars, c, marks, links, heads, t),
         3 => concat_ok(terms, cells, c, t),
         4 => length_ok(terms, c, t),
         5 => equation_ok(terms, c, t),
@@ -456,25 +381,47 @@ fn keys_ok(terms: &[u32], keys: &[u32], c: State) -> bool
     true
 }
 
+// The terms, with tables by number for their names: a place for each term, and for number 0, which names none.
+fn terms_pass(
+    terms: &[u32],
+    cells: &[u32],
+    chars: &[u32],
+    c: State,
+    marks: &mut [u32],
+    links: &mut [u32],
+) -> bool
+    requires { ⌜ (c .terms ≤ termLimit) × (c .chars ≤ length (now chars)) × (c .terms < length (now marks)) × (c .terms < length (now links)) ⌝ }
+    ensures { λ r. do
+      let s = storeOf (lent (now (terms .entry)) (now (cells .entry)) (now (chars .entry)) [] []) c
+      ⌜ r ≡ eachTerm s (termRule s) ⌝ }
+{
+    let mut heads: [u32; 64] = [0; 64];
+    let mut i: usize = 0;
+    while i < c.terms {
+        let t = (i + 1) as u32;
+        if !term_ok(terms, cells, chars, c, marks, links, &mut heads, t) {
+            return false;
+        }
+        i += 1;
+    }
+    true
+}
+
+// The tables are cleared at each call, so a store of few terms has small ones.
 fn terms_ok(terms: &[u32], cells: &[u32], chars: &[u32], c: State) -> bool
     requires { ⌜ (c .terms ≤ termLimit) × (c .chars ≤ length (now chars)) ⌝ }
     ensures { λ r. do
       let s = storeOf (lent (now (terms .entry)) (now (cells .entry)) (now (chars .entry)) [] []) c
       ⌜ r ≡ eachTerm s (termRule s) ⌝ }
 {
-    // by number: 512 terms, and number 0, which names none
-    let mut marks: [u32; 513] = [0; 513];
-    let mut i: usize = 0;
-    while i < c.terms {
-        let t = (i + 1) as u32;
-        let m = name_mark(terms, chars, c, t);
-        if !term_ok(terms, cells, chars, c, &marks, m, t) {
-            return false;
-        }
-        marks[i + 1] = m;
-        i += 1;
+    if c.terms < 32 {
+        let mut marks: [u32; 32] = [0; 32];
+        let mut links: [u32; 32] = [0; 32];
+        return terms_pass(terms, cells, chars, c, &mut marks, &mut links);
     }
-    true
+    let mut marks: [u32; 513] = [0; 513];
+    let mut links: [u32; 513] = [0; 513];
+    terms_pass(terms, cells, chars, c, &mut marks, &mut links)
 }
 
 pub(crate) fn records_ok(

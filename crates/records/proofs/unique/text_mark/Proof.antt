@@ -6,8 +6,8 @@ use Prim.Native.Nat.{_-_, _≤_, _<_}
 use mathlib.Core.Path.{_≡_}
 use native.Mathlib.Omega.{arith}
 use borrow.Author.Needs.{needs}
-use Rattle.records.proofs.rules.text_mark.Statement.{statement}
-use Rattle.records.proofs.rules.text_mark.Tie as tie
+use Rattle.records.proofs.unique.text_mark.Statement.{statement}
+use Rattle.records.proofs.unique.text_mark.Tie as tie
 
 abbrev Inv-loop : tie.InvT-loop
 Inv-loop chars p n h₀ i₀ h i = (i ≤ n) × (h < 4294967291) × (h ≡ markFrom 1 (span chars p i))

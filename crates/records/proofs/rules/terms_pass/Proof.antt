@@ -1,0 +1,42 @@
+use borrow.Author.Tests.{not-false}
+use mathlib.Core.Path.{_≡_, refl}
+use mathlib.Core.Bool.{true}
+use Prim.Native.Nat.{suc, _+_, _-_, _≤_}
+use lib.ListN.{length}
+use Rattle.records.specs.Lists.{allBelow}
+use Rattle.records.specs.View.{lent, storeOf, termAt}
+use Rattle.records.specs.Rules.{termRule}
+use Rattle.records.specs.Marks.{Tables}
+use Rattle.records.proofs.Lists.{within-is, below-zero, each-stop, each-turn, each-done}
+use Rattle.records.proofs.NameLaws.{tables-start}
+use mathlib.Core.List.{[]}
+use native.Mathlib.Omega.{arith}
+use borrow.Author.Needs.{needs}
+use Rattle.records.proofs.rules.terms_pass.Statement.{statement}
+use Rattle.records.proofs.rules.terms_pass.Tie as tie
+
+abbrev Inv-loop : tie.InvT-loop
+Inv-loop terms cells chars c marks₀ links₀ heads₀ i₀ marks links heads i = (i ≤ c .terms) × (length marks ≡ length marks₀) × (length links ≡ length links₀) × (allBelow (λ j. termRule (storeOf (lent terms cells chars [] []) c) (suc j)) i ≡ true) × Tables (storeOf (lent terms [] chars [] []) c) marks links heads (i + 1)
+
+abbrev μ-loop : tie.MeasureT-loop
+μ-loop terms cells chars c marks₀ links₀ heads₀ i₀ marks links heads i = c .terms - i
+
+pub terms-pass-spec : {M : Type 1} → statement M
+terms-pass-spec =
+    tie.close
+    (tie.spec
+    Inv-loop
+    μ-loop
+    (λ c. let a = c .before .before .before .before .before .args in (omega arith, refl, refl, below-zero _, tables-start (a .terms .now) (a .chars .now) (a .c) _ _ (c .before .before .before .before .before .pre .2) (c .before .before .before .before .before .pre .3)))
+    (λ c. search needs)
+    (λ c. search needs)
+    (λ c κs. (within-is _ _ (omega arith) (omega arith), c .before .before .before .before .before .before .before .before .before .before .before .pre .1, c .before .before .before .before .before .loop .inv .4))
+    (λ c. search needs)
+    (λ c. search needs)
+    (λ c. let a = c .before .before .before .before .before .before .before .before .before .before .before .before .before .before .before .before .before .args in each-stop (termRule (storeOf (lent (a .terms .now) (a .cells .now) (a .chars .now) [] []) (a .c))) (λ j. termAt (a .terms .now) (suc j)) (a .c .terms) (c .before .before .before .before .before .before .before .before .before .before .before .loop .i) _ (c .before .before .before .before .before .term-ok .ensures .passes) (c .if2 .taken) (c .before .before .before .before .before .before .before .before .before .if1 .taken))
+    (λ c. search needs)
+    (λ c. search needs)
+    (λ c. let a = c .before .before .before .before .before .before .before .before .before .before .before .before .before .before .before .before .before .args in let o = c .before .before .before .before .before .before .before .before .before .before .before .loop in (omega arith, search needs, search needs, each-turn (termRule (storeOf (lent (a .terms .now) (a .cells .now) (a .chars .now) [] []) (a .c))) (o .i) _ (c .before .before .before .before .before .term-ok .ensures .passes) (c .if2 .left) (o .inv .3), c .before .before .before .before .before .term-ok .ensures .tables (not-false _ (c .if2 .left))))
+    (λ c. search needs)
+    (λ c. search needs)
+    (λ c. let a = c .before .before .before .before .before .before .before .before .args in let o = c .before .before .loop in each-done (termRule (storeOf (lent (a .terms .now) (a .cells .now) (a .chars .now) [] []) (a .c))) (λ j. termAt (a .terms .now) (suc j)) (a .c .terms) (o .i) (o .inv .0) (c .if1 .left) (o .inv .3)))

@@ -1,0 +1,34 @@
+use mathlib.Core.List.{[]}
+use Rattle.records.specs.View.{lent, storeOf}
+use Rattle.records.proofs.NameLaws.{Walk, walk-start, walk-marked, tables-room, walk-less, walk-turn, name-empty, name-taken, name-free}
+use native.Mathlib.Omega.{arith}
+use borrow.Author.Needs.{needs}
+use Rattle.records.proofs.unique.name_ok.Statement.{statement}
+use Rattle.records.proofs.unique.name_ok.Tie as tie
+
+abbrev Inv-loop : tie.InvT-loop
+Inv-loop terms chars c marks links heads m t n u₀ u = Walk (storeOf (lent terms [] chars [] []) c) m t u
+
+abbrev μ-loop : tie.MeasureT-loop
+μ-loop terms chars c marks links heads m t n u₀ u = u
+
+pub name-ok-spec : {M : Type 1} → statement M
+name-ok-spec =
+    tie.close
+    (tie.spec
+    Inv-loop
+    μ-loop
+    (λ c κs. search needs)
+    (λ c. let a = c .before .before .before .before .before .before .args in name-empty (a .terms .now) (a .chars .now) (a .c) (a .m) (a .t) (c .before .before .before .before .before .before .pre .1) _ (c .before .second .ensures) (c .if1 .taken))
+    (λ c. search needs)
+    (λ c. search needs)
+    (λ c. search needs)
+    (λ c. let a = c .before .before .before .before .before .before .before .args in walk-start (a .terms .now) (a .chars .now) (a .c) (a .m) (a .t) (c .before .before .before .before .before .before .before .pre .1) _ _ _ (c .before .before .before .before .before .before .before .pre .2))
+    (λ c κs. let a = c .before .before .before .before .before .before .before .before .before .args in let r = c .before .before .before .before .before .before .before .before .before .pre in let o = c .before .loop in (r .0, (let i = tables-room (a .terms .now) (a .chars .now) (a .c) _ _ _ (a .t) (r .2) (r .1 .variable) in omega (arith, o .inv .lower)), r .1, walk-marked (a .terms .now) (a .chars .now) (a .c) (a .m) (a .t) (r .1) _ _ _ (r .2) (o .u) (o .inv) (c .loop-test .taken)))
+    (λ c. let a = c .before .before .before .before .before .before .before .before .before .before .before .args in let o = c .before .before .before .loop in name-taken (a .terms .now) (a .chars .now) (a .c) (a .m) (a .t) (c .before .before .before .before .before .before .before .before .before .before .before .pre .1) (o .u) (o .inv) _ (c .before .is-named .ensures) (c .if2 .taken))
+    (λ c. search needs)
+    (λ c. let a = c .before .before .before .before .before .before .before .before .before .before .before .args in let r = c .before .before .before .before .before .before .before .before .before .before .before .pre in let i = tables-room (a .terms .now) (a .chars .now) (a .c) _ _ _ (a .t) (r .2) (r .1 .variable) in omega (arith, c .before .before .before .loop .inv .lower))
+    (λ c. let a = c .before .before .before .before .before .before .before .before .before .before .before .before .args in let r = c .before .before .before .before .before .before .before .before .before .before .before .before .pre in let i = tables-room (a .terms .now) (a .chars .now) (a .c) _ _ _ (a .t) (r .2) (r .1 .variable) in omega (arith, c .before .before .before .before .loop .inv .lower))
+    (λ c. let a = c .before .before .before .before .before .before .before .before .before .before .before .before .args in let r = c .before .before .before .before .before .before .before .before .before .before .before .before .pre in let o = c .before .before .before .before .loop in walk-less (a .terms .now) (a .chars .now) (a .c) (a .m) (a .t) (r .1) _ _ _ (r .2) (o .u) (o .inv) (c .before .before .before .loop-test .taken))
+    (λ c. let a = c .before .before .before .before .before .before .before .before .before .before .before .before .args in let r = c .before .before .before .before .before .before .before .before .before .before .before .before .pre in let o = c .before .before .before .before .loop in walk-turn (a .terms .now) (a .chars .now) (a .c) (a .m) (a .t) (r .1) _ _ _ (r .2) (o .u) (o .inv) (c .before .before .before .loop-test .taken) _ (c .before .before .is-named .ensures) (c .before .if2 .left))
+    (λ c. let a = c .before .before .before .before .before .before .before .before .before .args in let o = c .before .loop in name-free (a .terms .now) (a .chars .now) (a .c) (a .m) (a .t) (c .before .before .before .before .before .before .before .before .before .pre .1) (o .u) (o .inv) _ (c .before .before .before .before .second .ensures) (c .before .before .before .if1 .left) (c .loop-test .left)))

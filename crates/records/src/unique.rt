@@ -1,0 +1,110 @@
+// Names are unique (a part of refusal 2). A variable that passes is put into three tables: `marks` has a mark of its name, by number.
+// Variables whose marks leave one remainder form a chain: `heads` has the highest of each, by remainder, and `links` the next lower, by
+// number; 0 ends a chain. So a name is looked for in one chain only.
+ghost use mathlib.Core.List.{[]};
+ghost use mathlib.Core.Path.{_≡_};
+ghost use mathlib.Core.Bool.{true, _&&_};
+ghost use Prim.Native.Nat.{_+_, _<_, _≤_};
+ghost use lib.ListN.{length, getD};
+ghost use Rattle.records.specs.Store.{isVariable, text};
+ghost use Rattle.records.specs.View.{lent, storeOf, span};
+ghost use Rattle.records.specs.Rules.{textRule, named, nameRule};
+ghost use Rattle.records.specs.Marks.{markFrom, mark, Marked, Tables, Passing};
+use crate::State;
+use crate::fields;
+use crate::make::has_text;
+use crate::rules::text_ok;
+
+fn text_mark(chars: &[u32], p: usize, n: usize) -> u32
+    requires { ⌜ p + n ≤ length (now chars) ⌝ }
+    ensures { λ r. ⌜ r ≡ markFrom 1 (span (now (chars .entry)) p n) ⌝ }
+{
+    let mut h: usize = 1;
+    let mut i: usize = 0;
+    while i < n {
+        h = (69069 * h + h / 65536 + fields::wide(chars[p + i])) % 4294967291;
+        i += 1;
+    }
+    h as u32
+}
+
+fn name_mark(terms: &[u32], chars: &[u32], c: State, t: u32) -> u32
+    requires { ⌜ (c .chars ≤ length (now chars)) × (isVariable (storeOf (lent (now terms) [] (now chars) [] []) c) t ≡ true) × (textRule (storeOf (lent (now terms) [] (now chars) [] []) c) t ≡ true) ⌝ }
+    ensures { λ r. ⌜ r ≡ mark (storeOf (lent (now (terms .entry)) [] (now (chars .entry)) [] []) c) t ⌝ }
+{
+    let p = fields::wide(fields::first(terms, t));
+    let n = fields::wide(fields::second(terms, t));
+    text_mark(chars, p, n)
+}
+
+// Whether variable u has t's name; m is the mark of t.
+fn is_named(terms: &[u32], chars: &[u32], c: State, marks: &[u32], m: u32, t: u32, u: u32) -> bool
+    requires { ⌜ (c .chars ≤ length (now chars)) × (u < length (now marks)) × Marked (storeOf (lent (now terms) [] (now chars) [] []) c) m t × Marked (storeOf (lent (now terms) [] (now chars) [] []) c) (getD (now marks) u 0) u ⌝ }
+    ensures { λ r. do
+      let s = storeOf (lent (now (terms .entry)) [] (now (chars .entry)) [] []) c
+      ⌜ r ≡ named (text s t) s u ⌝ }
+{
+    if marks[u as usize] != m {
+        return false;
+    }
+    let p = fields::wide(fields::first(terms, t));
+    let n = fields::wide(fields::second(terms, t));
+    has_text(terms, chars, u, 2, &chars[p..p + n])
+}
+
+// t's name has a character, and no lower variable has it; m is the mark of t.
+fn name_ok(
+    terms: &[u32],
+    chars: &[u32],
+    c: State,
+    marks: &[u32],
+    links: &[u32],
+    heads: &[u32; 64],
+    m: u32,
+    t: u32,
+) -> bool
+    requires { ⌜ (c .chars ≤ length (now chars)) × Marked (storeOf (lent (now terms) [] (now chars) [] []) c) m t × Tables (storeOf (lent (now terms) [] (now chars) [] []) c) (now marks) (now links) (now heads) t ⌝ }
+    ensures { λ r. ⌜ r ≡ nameRule (storeOf (lent (now (terms .entry)) [] (now (chars .entry)) [] []) c) t ⌝ }
+{
+    let n = fields::second(terms, t);
+    if n == 0 {
+        return false;
+    }
+    let mut u = heads[(m % 64) as usize];
+    while u != 0 {
+        if is_named(terms, chars, c, marks, m, t, u) {
+            return false;
+        }
+        u = links[u as usize];
+    }
+    true
+}
+
+// Variable t; where it passes, it is put into the tables.
+pub(crate) fn variable_ok(
+    terms: &[u32],
+    chars: &[u32],
+    c: State,
+    marks: &mut [u32],
+    links: &mut [u32],
+    heads: &mut [u32; 64],
+    t: u32,
+) -> bool
+    requires { ⌜ (c .chars ≤ length (now chars)) × (isVariable (storeOf (lent (now terms) [] (now chars) [] []) c) t ≡ true) × Tables (storeOf (lent (now terms) [] (now chars) [] []) c) (now marks) (now links) (now heads) t ⌝ }
+    ensures { λ r. do
+      let s = storeOf (lent (now (terms .entry)) [] (now (chars .entry)) [] []) c
+      ⌜ Passing s (textRule s t && nameRule s t) (now (marks .exit)) (now (links .exit)) (now (heads .exit)) t r ⌝ }
+{
+    if !text_ok(terms, c, t) {
+        return false;
+    }
+    let m = name_mark(terms, chars, c, t);
+    if !name_ok(terms, chars, c, marks, links, heads, m, t) {
+        return false;
+    }
+    let at = (m % 64) as usize;
+    marks[t as usize] = m;
+    links[t as usize] = heads[at];
+    heads[at] = t;
+    true
+}
