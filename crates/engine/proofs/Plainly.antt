@@ -1,5 +1,5 @@
 -- Each way through `plain_edge` and `explain_plain`, and the walk that starts anew. The laws of a walk with a table hold for any
--- table: one that marks the walk's own pair and stays as it is stands for the table that the code has not.
+-- table, so one that the code does not make will do: zeros, and then the walk's own pair marked.
 use mathlib.Core.Path.{_≡_, refl, sym, _∙_}
 use mathlib.Core.Bool.{Bool, true, false}
 use mathlib.Core.List.{List, []}
@@ -48,7 +48,7 @@ plain-walkable terms reasons n a b h p = explainable-walk terms (p .cells) reaso
 pub plain-same : (terms reasons : List ℕ) (n a b c : ℕ) → a ≡ b → Plainly (PlainPath terms reasons reasons n a b c) reasons reasons c (Ended (record { code = 0; count = c }))
 plain-same terms reasons n a b c i = plainly-ended refl (λ cells k. explained-by terms cells _ reasons reasons n k a b c 0 _ (pair-same terms cells (replicate 0 0) reasons n k a b c i))
 
--- a walk that marks its own pair, whatever the table, is an explanation: a table of zeros has the place
+-- a walk over any table that lacks the pair, and has it marked, is an explanation: a table of zeros lacks every pair
 explained-alone : {terms cells reasons reasons′ : List ℕ} {n k a b c : ℕ} {r : Walked}
     → ((tab tab₁ : List ℕ) → false ≡ marked tab (place n a b) → Marked tab tab₁ (place n a b) → Walks (walked (a, b)) (λ s. Together s (a, b)) terms cells tab tab₁ reasons reasons′ n k c r)
     → Explained terms cells reasons reasons′ n k a b c r
