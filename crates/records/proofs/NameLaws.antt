@@ -124,6 +124,7 @@ module _ (l h : List ℕ) (c : State) where
         decide (named (text here t) here u)
         (λ e. clash (both-true (isVariable here u) _ (both-left (isVariable here u) _ e) (eq-eqb _ _ (ap (λ (x : ℕ). x % 64) (named-mark t u e ∙ sym (a .marked))))) z) (ap not)
 
+    -- from b on no term has the name, and the walk goes on at the highest of the chain below b
     walk-from : (x b : ℕ) → x ≡ highest here (m % 64) b → 0 < b → b ≤ t → others here t b ≡ others here t t → Walk here m t x
     walk-from x b e z q o = rw e (record {
       lower = let i = last-low (inChain here (m % 64)) b z in omega arith;

@@ -45,7 +45,7 @@ pub record Tables (s : Store) (marks links heads : List ℕ) (t : ℕ) : Type 0 
   pub linked : (u : ℕ) → u < t → isVariable s u ≡ true → getD links u 0 ≡ highest s (mark s u % 64) u
   pub headed : (r : ℕ) → r < 64 → getD heads r 0 ≡ highest s r t
 
--- r says whether t passes its rule, and where it does it is in the tables
+-- r says whether t passes its rule; where it does, the tables go up to t
 pub record Passing (s : Store) (rule : Bool) (marks links heads : List ℕ) (t : ℕ) (r : Bool) : Type 0 where
   pub passes : r ≡ rule
   pub tables : r ≡ true → Tables s marks links heads (t + 1)
