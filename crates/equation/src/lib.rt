@@ -4,18 +4,21 @@ ghost use mathlib.Core.Bool.{true};
 ghost use mathlib.Core.List.{[]};
 ghost use Prim.Native.Nat.{_≤_};
 ghost use lib.ListN.{length};
+ghost use Rattle.records.specs.Store.{isString};
 ghost use Rattle.records.specs.View.{lent, storeOf, pairsView};
 ghost use Rattle.records.specs.Rules.{listLimit, isList};
 ghost use Rattle.records.specs.Audited.{Ready};
 ghost use Rattle.records.specs.Calls.{Working};
 ghost use Rattle.normalize.specs.Normalize.{deepForm, formArguments};
 ghost use Rattle.normalize.specs.Calls.{deepened};
+ghost use Rattle.normalize.specs.Pushes.{Candidates};
 ghost use Rattle.wordeq.specs.Wordeq.{isGuard};
 ghost use Rattle.wordeq.specs.Results.{BothLists};
 ghost use Rattle.equation.specs.Equation.{step, stepArguments};
 ghost use Rattle.equation.specs.Calls.{stepped, PublicStep, resolveForms, rightForm, carried};
 use normalize::DeepForm;
-use normalize::deeper::deep_normal_form_cited_unchecked;
+use normalize::deeper::deep_form_by_unchecked;
+use normalize::deeper::known_table_unchecked;
 use records::LIST_LIMIT;
 use records::State;
 use records::fields;
@@ -72,7 +75,7 @@ fn resolve_forms<'a>(
     carried(o, incoming)
 }
 
-// The deep form of one side.
+// The deep form of one side. The table is that of the known list.
 fn deep_form(
     terms: &mut [u32],
     cells: &[u32],
@@ -81,13 +84,14 @@ fn deep_form(
     keys: &[u32],
     c: State,
     known: &[u32],
+    table: &[u32; 513],
     t: u32,
     list: &mut [u32],
 ) -> DeepForm
-    requires { ⌜ Ready (lent (now terms) (now cells) (now chars) (now reasons) (now keys)) c ⌝ ∗ ⌜ formArguments (now known) t (storeOf (lent (now terms) (now cells) (now chars) (now reasons) (now keys)) c) ≡ true ⌝ ∗ ⌜ listLimit ≤ length (now list) ⌝ }
+    requires { ⌜ Ready (lent (now terms) (now cells) (now chars) (now reasons) (now keys)) c ⌝ ∗ ⌜ Candidates (storeOf (lent (now terms) (now cells) (now chars) (now reasons) (now keys)) c) (now known) (now table) ⌝ ∗ ⌜ isString (storeOf (lent (now terms) (now cells) (now chars) (now reasons) (now keys)) c) t ≡ true ⌝ ∗ ⌜ listLimit ≤ length (now list) ⌝ }
     ensures { λ x. ⌜ Working (deepForm (now (known .entry)) t) (lent (now (terms .entry)) (now (cells .entry)) (now (chars .entry)) (now (reasons .entry)) (now (keys .entry))) (lent (now (terms .exit)) (now (cells .entry)) (now (chars .exit)) (now (reasons .exit)) (now (keys .entry))) c (deepened x (lent (now (terms .exit)) (now (cells .entry)) (now (chars .exit)) (now (reasons .exit)) (now (keys .entry))) (now (list .exit))) ⌝ }
 {
-    deep_normal_form_cited_unchecked(terms, cells, chars, reasons, keys, c, known, t, list)
+    deep_form_by_unchecked(terms, cells, chars, reasons, keys, c, known, table, t, list)
 }
 
 // From the deep form of the right side on.
@@ -99,17 +103,29 @@ fn right_form(
     keys: &mut [u32],
     c: State,
     known: &[u32],
+    table: &[u32; 513],
     t: u32,
     lhs: &[u32],
     guard: i32,
     list: &mut [u32],
     incoming: usize,
 ) -> Outcome
-    requires { ⌜ Ready (lent (now terms) (now cells) (now chars) (now reasons) (now keys)) c ⌝ ∗ ⌜ formArguments (now known) t (storeOf (lent (now terms) (now cells) (now chars) (now reasons) (now keys)) c) ≡ true ⌝ ∗ ⌜ isList (storeOf (lent (now terms) (now cells) (now chars) (now reasons) (now keys)) c) (now lhs) ≡ true ⌝ ∗ ⌜ isGuard guard ≡ true ⌝ ∗ ⌜ (listLimit ≤ length (now list)) × (incoming ≤ c .reasons) ⌝ }
+    requires { ⌜ Ready (lent (now terms) (now cells) (now chars) (now reasons) (now keys)) c ⌝ ∗ ⌜ Candidates (storeOf (lent (now terms) (now cells) (now chars) (now reasons) (now keys)) c) (now known) (now table) ⌝ ∗ ⌜ formArguments (now known) t (storeOf (lent (now terms) (now cells) (now chars) (now reasons) (now keys)) c) ≡ true ⌝ ∗ ⌜ isList (storeOf (lent (now terms) (now cells) (now chars) (now reasons) (now keys)) c) (now lhs) ≡ true ⌝ ∗ ⌜ isGuard guard ≡ true ⌝ ∗ ⌜ (listLimit ≤ length (now list)) × (incoming ≤ c .reasons) ⌝ }
     ensures { λ o. ⌜ Working (rightForm (now (known .entry)) t guard (now (lhs .entry)) (pairsView (now (reasons .entry)) incoming)) (lent (now (terms .entry)) (now (cells .entry)) (now (chars .entry)) (now (reasons .entry)) (now (keys .entry))) (lent (now (terms .exit)) (now (cells .exit)) (now (chars .exit)) (now (reasons .exit)) (now (keys .exit))) c (stepped o (lent (now (terms .exit)) (now (cells .exit)) (now (chars .exit)) (now (reasons .exit)) (now (keys .exit))) (now (list .exit))) ⌝ }
 {
     let mut right: [u32; 1024] = [0; 1024];
-    match deep_form(terms, cells, chars, reasons, keys, c, known, t, &mut right) {
+    match deep_form(
+        terms,
+        cells,
+        chars,
+        reasons,
+        keys,
+        c,
+        known,
+        table,
+        t,
+        &mut right,
+    ) {
         DeepForm::List(n, both) => resolve_forms(
             terms,
             cells,
@@ -145,9 +161,21 @@ pub fn step_unchecked(
     ensures { λ o. ⌜ Working (step (now (known .entry)) e guard) (lent (now (terms .entry)) (now (cells .entry)) (now (chars .entry)) (now (reasons .entry)) (now (keys .entry))) (lent (now (terms .exit)) (now (cells .exit)) (now (chars .exit)) (now (reasons .exit)) (now (keys .exit))) c (stepped o (lent (now (terms .exit)) (now (cells .exit)) (now (chars .exit)) (now (reasons .exit)) (now (keys .exit))) (now (list .exit))) ⌝ }
 {
     let mut left: [u32; 1024] = [0; 1024];
+    let table = known_table_unchecked(terms, cells, chars, reasons, keys, c, known);
     let a = fields::first(terms, e);
     let b = fields::second(terms, e);
-    match deep_form(terms, cells, chars, reasons, keys, c, known, a, &mut left) {
+    match deep_form(
+        terms,
+        cells,
+        chars,
+        reasons,
+        keys,
+        c,
+        known,
+        &table,
+        a,
+        &mut left,
+    ) {
         DeepForm::List(n, d) => right_form(
             terms,
             cells,
@@ -156,6 +184,7 @@ pub fn step_unchecked(
             keys,
             d,
             known,
+            &table,
             b,
             &left[..n],
             guard,

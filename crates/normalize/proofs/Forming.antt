@@ -54,8 +54,11 @@ module _ {m : Lent} {c : State} (ready : Ready m c) where
   pub known-list : (known : List ℕ) (t : ℕ) → formArguments known t s ≡ true → isList s known ≡ true
   known-list known t e = both-left (isList s known) _ e
 
+  pub list-strings : (known : List ℕ) → isList s known ≡ true → all (isString s) known ≡ true
+  list-strings known e = both-right (leb (length known) listLimit) _ e
+
   pub known-strings : (known : List ℕ) (t : ℕ) → formArguments known t s ≡ true → all (isString s) known ≡ true
-  known-strings known t e = both-right (leb (length known) listLimit) _ (known-list known t e)
+  known-strings known t e = list-strings known (known-list known t e)
 
   pub term-string : (known : List ℕ) (t : ℕ) → formArguments known t s ≡ true → isString s t ≡ true
   term-string known t e = both-right (isList s known) _ e
@@ -63,12 +66,9 @@ module _ {m : Lent} {c : State} (ready : Ready m c) where
   -- the table of the known list, and of it and more
   pub known-table : (known table : List ℕ) → isList s known ≡ true → length table ≡ 513 → ((i : ℕ) → i < length table → getD table i 0 ≡ 0) → (after : List ℕ) → after ≡ withNodes (s .terms) known table → Candidates s known after
   known-table known table e z f after g = record {
-    strings = strings;
-    nodes = subst (NodeOf (s .terms) known) (sym g) (nodes-more (s .terms) [] known table (nodes-none (s .terms) table z f) none-left (every-map placed (all-every (isString s) known strings)));
+    strings = list-strings known e;
+    nodes = subst (NodeOf (s .terms) known) (sym g) (nodes-more (s .terms) [] known table (nodes-none (s .terms) table z f) none-left (every-map placed (all-every (isString s) known (list-strings known e))));
   }
-    where
-      strings : all (isString s) known ≡ true
-      strings = both-right (leb (length known) listLimit) _ e
 
   pub more-table : (known table flat : List ℕ) → Candidates s known table → all (isString s) flat ≡ true → (after : List ℕ) → after ≡ withNodes (s .terms) flat table → Candidates s (known ++ flat) after
   more-table known table flat k e after g = record {

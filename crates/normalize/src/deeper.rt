@@ -10,7 +10,7 @@ ghost use Rattle.records.specs.View.{lent, storeOf};
 ghost use Rattle.records.specs.Audited.{Ready};
 ghost use Rattle.records.specs.Calls.{Working};
 ghost use Rattle.normalize.specs.Normalize.{deepLimit, pushAll, rounds, deepForm, formArguments};
-ghost use Rattle.records.specs.Rules.{listLimit};
+ghost use Rattle.records.specs.Rules.{listLimit, isList};
 ghost use Rattle.normalize.specs.Pushes.{pushed, Candidates};
 ghost use Rattle.normalize.specs.Calls.{firstWords, deepened};
 ghost use Rattle.normalize.specs.Deeps.{Marked, Settles, Turns};
@@ -185,6 +185,64 @@ fn rounds(
     DeepForm::List(n, d)
 }
 
+// The representatives of the known list, for as many deep forms as are made over it.
+pub fn known_table_unchecked(
+    terms: &[u32],
+    cells: &[u32],
+    chars: &[u32],
+    reasons: &[u32],
+    keys: &[u32],
+    c: State,
+    known: &[u32],
+) -> [u32; 513]
+    requires { ⌜ Ready (lent (now terms) (now cells) (now chars) (now reasons) (now keys)) c ⌝ ∗ ⌜ isList (storeOf (lent (now terms) (now cells) (now chars) (now reasons) (now keys)) c) (now known) ≡ true ⌝ }
+    ensures { λ r. ⌜ Candidates (storeOf (lent (now (terms .entry)) (now (cells .entry)) (now (chars .entry)) (now (reasons .entry)) (now (keys .entry))) c) (now (known .entry)) r ⌝ }
+{
+    let mut table: [u32; 513] = [0; 513];
+    nodes::build_node_of(terms, c.terms, known, &mut table);
+    table
+}
+
+// The deep form of t. The table is that of the known list.
+pub fn deep_form_by_unchecked(
+    terms: &mut [u32],
+    cells: &[u32],
+    chars: &mut [u32],
+    reasons: &mut [u32],
+    keys: &[u32],
+    c: State,
+    known: &[u32],
+    table: &[u32; 513],
+    t: u32,
+    list: &mut [u32],
+) -> DeepForm
+    requires { ⌜ Ready (lent (now terms) (now cells) (now chars) (now reasons) (now keys)) c ⌝ ∗ ⌜ Candidates (storeOf (lent (now terms) (now cells) (now chars) (now reasons) (now keys)) c) (now known) (now table) ⌝ ∗ ⌜ isString (storeOf (lent (now terms) (now cells) (now chars) (now reasons) (now keys)) c) t ≡ true ⌝ ∗ ⌜ listLimit ≤ length (now list) ⌝ }
+    ensures { λ x. ⌜ Working (deepForm (now (known .entry)) t) (lent (now (terms .entry)) (now (cells .entry)) (now (chars .entry)) (now (reasons .entry)) (now (keys .entry))) (lent (now (terms .exit)) (now (cells .entry)) (now (chars .exit)) (now (reasons .exit)) (now (keys .entry))) c (deepened x (lent (now (terms .exit)) (now (cells .entry)) (now (chars .exit)) (now (reasons .exit)) (now (keys .entry))) (now (list .exit))) ⌝ }
+{
+    let made = normal::form_by(terms, cells, chars, reasons, keys, c, known, table, t, list);
+    match made {
+        Form::List(n, d) => {
+            if DEEP_NF_ATOM_CAP < n {
+                return DeepForm::None(d);
+            }
+            rounds(
+                terms,
+                cells,
+                chars,
+                reasons,
+                keys,
+                d,
+                known,
+                table,
+                t,
+                list,
+                n,
+            )
+        }
+        Form::Refused(e) => DeepForm::Refused(e),
+    }
+}
+
 // The deep form of t over the known list, with the reasons of each atom that was replaced in any round.
 pub fn deep_normal_form_cited_unchecked(
     terms: &mut [u32],
@@ -200,9 +258,8 @@ pub fn deep_normal_form_cited_unchecked(
     requires { ⌜ Ready (lent (now terms) (now cells) (now chars) (now reasons) (now keys)) c ⌝ ∗ ⌜ formArguments (now known) t (storeOf (lent (now terms) (now cells) (now chars) (now reasons) (now keys)) c) ≡ true ⌝ ∗ ⌜ listLimit ≤ length (now list) ⌝ }
     ensures { λ x. ⌜ Working (deepForm (now (known .entry)) t) (lent (now (terms .entry)) (now (cells .entry)) (now (chars .entry)) (now (reasons .entry)) (now (keys .entry))) (lent (now (terms .exit)) (now (cells .entry)) (now (chars .exit)) (now (reasons .exit)) (now (keys .entry))) c (deepened x (lent (now (terms .exit)) (now (cells .entry)) (now (chars .exit)) (now (reasons .exit)) (now (keys .entry))) (now (list .exit))) ⌝ }
 {
-    let mut table: [u32; 513] = [0; 513];
-    nodes::build_node_of(terms, c.terms, known, &mut table);
-    let made = normal::form_by(
+    let table = known_table_unchecked(terms, cells, chars, reasons, keys, c, known);
+    deep_form_by_unchecked(
         terms,
         cells,
         chars,
@@ -213,26 +270,5 @@ pub fn deep_normal_form_cited_unchecked(
         &table,
         t,
         list,
-    );
-    match made {
-        Form::List(n, d) => {
-            if DEEP_NF_ATOM_CAP < n {
-                return DeepForm::None(d);
-            }
-            rounds(
-                terms,
-                cells,
-                chars,
-                reasons,
-                keys,
-                d,
-                known,
-                &table,
-                t,
-                list,
-                n,
-            )
-        }
-        Form::Refused(e) => DeepForm::Refused(e),
-    }
+    )
 }
