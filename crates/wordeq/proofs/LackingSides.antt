@@ -11,13 +11,14 @@ use borrow.Author.Tests.{eq-eqb, not-false}
 use Rattle.records.specs.declared.State.{State}
 use Rattle.records.specs.Lists.{any, isIn}
 use Rattle.records.specs.Store.{Store, Term, kind}
-use Rattle.records.specs.View.{charLimit, span}
-use Rattle.records.proofs.Lists.{any-append, any-turn, any-stop, any-done, any-zero, or-left, or-none, and-stop, and-next, failed, passed, clash}
+use Rattle.records.specs.View.{lent, charLimit, span}
+use Rattle.records.proofs.Lists.{any-append, any-turn, any-stop, any-done, any-zero, or-left, or-none, right-false, and-stop, and-next, failed, passed, clash}
 use Rattle.wordeq.specs.Wordeq.{fixed, lettersOf, letters, absent}
 use Rattle.wordeq.specs.Sides.{termed, spelled, Texts}
 use Rattle.wordeq.specs.Lacking.{seen, marked, Marked, Lacking}
 use Rattle.wordeq.proofs.SidesLetters.{term-there, letters-other, letters-at, letters-end}
 use Rattle.wordeq.proofs.SidesTexts.{text-words}
+use Rattle.wordeq.proofs.SidesReady.{length-whole}
 use Rattle.wordeq.proofs.LackingMarks.{or-assoc, marked-length, seen-none, seen-again, seen-marked}
 
 any-same : {A : Type 0} (p q : A → Bool) (l : List A) → ((x : A) → p x ≡ q x) → any p l ≡ any q l
@@ -173,6 +174,17 @@ module _ (s : Store) (h : List ℕ) (n : ℕ) (l t₀ t : List ℕ) (i : ℕ) (a
     found-one z = record { rest = rw add-one (sym (found-at ∙ rw z)); size = y .size ∙ a .size; kept = λ x. y .kept z x ∙ a .kept x }
 
 -- ABSENT
+
+any-bare : (p : ℕ → Bool) (l : List ℕ) → length l ≡ 0 → any p l ≡ false
+unfolding any
+any-bare p [] e = refl
+any-bare p (x ∷ l) e = absurd (omega arith)
+
+-- nothing is absent where there is no character
+pub absent-bare : (w h : List ℕ) (c : State) (l r : List ℕ) → Texts w c → (n : ℕ) → n ≡ length (letters (termed w c) r) → n ≡ 0 → false ≡ absent (spelled w h c) l r
+unfolding absent
+absent-bare w h c l r x n e z =
+    let s = spelled w h c in sym (right-false (fixed s l) _ (any-bare (λ y. not (isIn y (letters s l))) (letters s r) (sym (length-whole (lent w [] h [] []) c x r) ∙ sym e ∙ z)))
 
 module _ (w h : List ℕ) (c : State) (l r : List ℕ) (x : Bool) (e : x ≡ fixed (termed w c) l) where
   pub absent-not : not x ≡ true → false ≡ absent (spelled w h c) l r

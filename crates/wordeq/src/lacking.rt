@@ -136,10 +136,14 @@ fn lacks_side(terms: &[u32], chars: &[u32], c: State, l: &[u32], table: &mut [u8
 
 // A constant character of r that is absent from the constant side l.
 pub(crate) fn absent(terms: &[u32], chars: &[u32], c: State, l: &[u32], r: &[u32]) -> bool
-    requires { ⌜ Spelled (now terms) (now chars) c ⌝ }
+    requires { ⌜ Spelled (now terms) (now chars) c × (length (now r) ≤ listLimit) ⌝ }
     ensures { λ b. ⌜ b ≡ absent (spelled (now (terms .entry)) (now (chars .entry)) c) (now (l .entry)) (now (r .entry)) ⌝ }
 {
     if !sides::is_fixed(terms, c, l) {
+        return false;
+    }
+    // A table is costly to clear, so none is made where r has no character to look for.
+    if sides::letters_length(terms, c, r) == 0 {
         return false;
     }
     let mut table: [u8; 16384] = [0; 16384];

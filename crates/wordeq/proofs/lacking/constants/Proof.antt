@@ -22,14 +22,14 @@ returns-3 c =
     conflicts-3 (c .before .before .before .before .before .before .before .before .before .before .args .terms .now) (c .before .before .before .before .before .before .before .before .before .before .args .chars .now) (c .before .before .before .before .before .before .before .before .before .before .args .c) (c .before .before .before .before .before .before .before .before .before .before .args .l .now) (c .before .before .before .before .before .before .before .before .before .before .args .r .now) (c .before .before .before .before .before .before .before .before .before .before .pre .0 .texts) _ (c .before .before .before .before .before .unequal .ensures) (c .before .before .before .before .if1 .left) _ (c .before .before .before .short .ensures) (c .before .before .if2 .left) _ (c .before .short2 .ensures) (c .if3 .taken)
 
 absent-requires : tie.Need-absent-requires
-absent-requires c κs = c .before .before .before .before .before .before .before .before .before .before .pre .0
+absent-requires c κs = (c .before .before .before .before .before .before .before .before .before .before .pre .0, c .before .before .before .before .before .before .before .before .before .before .pre .2)
 
 returns-4 : tie.Need-returns-4
 returns-4 c =
     conflicts-4 (c .before .before .before .before .before .before .before .before .before .before .before .before .args .terms .now) (c .before .before .before .before .before .before .before .before .before .before .before .before .args .chars .now) (c .before .before .before .before .before .before .before .before .before .before .before .before .args .c) (c .before .before .before .before .before .before .before .before .before .before .before .before .args .l .now) (c .before .before .before .before .before .before .before .before .before .before .before .before .args .r .now) (c .before .before .before .before .before .before .before .before .before .before .before .before .pre .0 .texts) _ (c .before .before .before .before .before .before .before .unequal .ensures) (c .before .before .before .before .before .before .if1 .left) _ (c .before .before .before .before .before .short .ensures) (c .before .before .before .before .if2 .left) _ (c .before .before .before .short2 .ensures) (c .before .before .if3 .left) _ (c .before .absent .ensures) (c .if4 .taken)
 
 absent-requires-2 : tie.Need-absent-requires-2
-absent-requires-2 c κs = c .before .before .before .before .before .before .before .before .before .before .before .before .pre .0
+absent-requires-2 c κs = (c .before .before .before .before .before .before .before .before .before .before .before .before .pre .0, c .before .before .before .before .before .before .before .before .before .before .before .before .pre .1)
 
 returns-5 : tie.Need-returns-5
 returns-5 c =
