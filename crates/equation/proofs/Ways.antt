@@ -26,7 +26,9 @@ use Rattle.normalize.specs.declared.DeepForm.{DeepForm}
 use Rattle.normalize.specs.declared.DeepForm.the-variants as deep
 use Rattle.normalize.specs.Normalize.{deepForm, formArguments}
 use Rattle.normalize.specs.Calls.{firstWords, deepened}
+use Rattle.normalize.specs.Pushes.{Candidates}
 use Rattle.normalize.proofs.Rewritten.{Later, strings-later}
+use Rattle.normalize.proofs.Replacing.{candidates-later}
 use Rattle.normalize.proofs.Deep.{deep-gives, deep-kept}
 use Rattle.normalize.proofs.Carried.{Carried, carried-none, carried-then, carried-ready, carried-kept, later-below}
 use Rattle.normalize.proofs.FormCalls.{listed-short, listed-unready, listed-unfit, listed-works}
@@ -104,6 +106,10 @@ module _ {m m₁ : Lent} {c : State} (list known : List ℕ) (t : ℕ) (x : Deep
 
     pub form-ready : Ready m₁ d
     form-ready = carried-ready form-carried ready
+
+    -- the table of the known list stands for the next form too
+    pub form-candidates : {cs table : List ℕ} → Candidates (storeOf m c) cs table → Candidates (storeOf m₁ d) cs table
+    form-candidates k = candidates-later k form-later
 
     pub form-incoming : {n : ℕ} → n ≤ c .reasons → n ≤ d .reasons
     form-incoming h = let b = later-below m m₁ c d form-later .reasons in omega arith

@@ -161,9 +161,9 @@ pub fn step_unchecked(
     ensures { λ o. ⌜ Working (step (now (known .entry)) e guard) (lent (now (terms .entry)) (now (cells .entry)) (now (chars .entry)) (now (reasons .entry)) (now (keys .entry))) (lent (now (terms .exit)) (now (cells .exit)) (now (chars .exit)) (now (reasons .exit)) (now (keys .exit))) c (stepped o (lent (now (terms .exit)) (now (cells .exit)) (now (chars .exit)) (now (reasons .exit)) (now (keys .exit))) (now (list .exit))) ⌝ }
 {
     let mut left: [u32; 1024] = [0; 1024];
-    let table = known_table_unchecked(terms, cells, chars, reasons, keys, c, known);
     let a = fields::first(terms, e);
     let b = fields::second(terms, e);
+    let table = known_table_unchecked(terms, cells, chars, reasons, keys, c, known);
     match deep_form(
         terms,
         cells,
