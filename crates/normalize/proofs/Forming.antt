@@ -6,9 +6,10 @@ use Prim.Native.Nat.{ℕ, _+_, _≤_, _<_}
 use native.Mathlib.Omega.{arith}
 use lib.ListN.{length, take, getD, length-take}
 use lib.Dec.{leb}
+use borrow.Author.Tests.{ne-eqb}
 use Rattle.records.specs.declared.State.{State}
-use Rattle.records.specs.Lists.{all, joined, Every, none-left}
-use Rattle.records.specs.Store.{Store, ok, stop, andThen, _>>=_, give, count, within, rootIn, classUp, isString}
+use Rattle.records.specs.Lists.{all, joined, Every, none-left, and}
+use Rattle.records.specs.Store.{Store, ok, stop, andThen, _>>=_, give, kind, count, within, rootIn, classUp, isString}
 use Rattle.records.specs.View.{Lent, storeOf, termsView, termLimit}
 use Rattle.records.specs.Audited.{Ready, Closed}
 use Rattle.records.specs.Calls.{Working}
@@ -17,13 +18,13 @@ use Rattle.records.proofs.Grown.{string-term}
 use Rattle.records.proofs.Climbs.{root-term, view-count, term-within, ready-roots}
 use Rattle.normalize.specs.declared.Form.{Form}
 use Rattle.normalize.specs.declared.Form.the-variants as form
-use Rattle.normalize.specs.Normalize.{atoms, flatten, pushForms, normalForm, formArguments}
+use Rattle.normalize.specs.Normalize.{atoms, pushForms, normalForm, formArguments}
 use Rattle.records.specs.Rules.{listLimit, isList}
 use Rattle.normalize.specs.Flat.{bare, Nested, Appended}
 use Rattle.normalize.specs.Nodes.{NodeOf, withNodes, Rooting}
 use Rattle.normalize.specs.Pushes.{pushed, Candidates}
 use Rattle.normalize.specs.Calls.{firstWords, formed}
-use Rattle.normalize.proofs.Atoms.{same-atoms, recorded-nested, atoms-strings, flatten-fits, flatten-full}
+use Rattle.normalize.proofs.Atoms.{same-atoms, atoms-plain, recorded-nested, atoms-strings, flatten-fits, flatten-full}
 use Rattle.normalize.proofs.Represents.{nodes-more, nodes-none}
 
 module _ {m : Lent} {c : State} (ready : Ready m c) where
@@ -76,6 +77,27 @@ module _ {m : Lent} {c : State} (ready : Ready m c) where
     nodes = subst (NodeOf (s .terms) (known ++ flat)) (sym g) (nodes-more (s .terms) known flat table (k .nodes) (every-map (λ t i. placed t i .0) (all-every (isString s) known (k .strings))) (every-map placed (all-every (isString s) flat e)));
   }
 
+  -- from the atoms on, where they are within the limit
+  atoms-done : {m′ : Lent} (known : List ℕ) (t : ℕ) (flat list : List ℕ) (x : Form) → joined (atoms s) (t ∷ []) ≡ flat → length flat ≤ listLimit → Working (pushForms (known ++ flat) flat []) m m′ c (pushed x m′ list) → Working (normalForm known t) m m′ c (formed x m′ list)
+  unfolding normalForm
+  atoms-done {m′} known t flat list x e h w = record {
+    says = ap (andThen (λ l. pushForms (known ++ l) l [] >>= (λ out. give (reverse out)))) (flatten-fits (t ∷ []) s (let k = ap length e in omega arith) ∙ ap (λ (l : List ℕ). ok s l) e)
+        ∙ ap (andThen (λ out. give (reverse out))) (w .says) ∙ turned x;
+    kept = w .kept;
+  }
+    where
+      turned : (y : Form) → andThen (λ out. give (reverse out)) (pushed y m′ list) ≡ formed y m′ list
+      turned (form.List k d) = ap (λ (z : List ℕ). ok (storeOf m′ d) z) (reverse-reverse (firstWords list k))
+      turned (form.Refused k) = refl
+
+  -- a term that is no concatenation
+  pub one-string : (t : ℕ) → isString s t ≡ true → all (isString s) (t ∷ []) ≡ true
+  one-string t e = every-all (and e none-left)
+
+  pub one-done : {m′ : Lent} (known : List ℕ) (t : ℕ) (list : List ℕ) (x : Form) (k : ℕ) → k ≡ kind s t → (k ≡ 3 → ⊥) → Working (pushForms (known ++ t ∷ []) (t ∷ []) []) m m′ c (pushed x m′ list) → Working (normalForm known t) m m′ c (formed x m′ list)
+  unfolding joined
+  one-done known t list x k i d = atoms-done known t (t ∷ []) list x (append-nil (atoms s t) ∙ atoms-plain s t (ne-eqb (kind s t) 3 (λ q. d (i ∙ q)))) (omega arith)
+
   -- flattened
   module _ (t : ℕ) (l l′ : List ℕ) (n : ℕ) (a : Appended l l′ 0 (atoms (bare (m .terms) (c .terms) (m .cells) (c .cells)) t) n) where
     atoms-are : joined (atoms s) (t ∷ []) ≡ atoms (bare (m .terms) (c .terms) (m .cells) (c .cells)) t
@@ -89,12 +111,9 @@ module _ {m : Lent} {c : State} (ready : Ready m c) where
         let p = a .passes h in
         record { says = ap (andThen (λ flat. pushForms (known ++ flat) flat [] >>= (λ out. give (reverse out)))) (flatten-full (t ∷ []) s (omega arith)); kept = refl }
 
-    module _ (h : n ≤ listLimit) (room : listLimit ≤ length l′) where
+    module _ (h : n ≤ listLimit) where
       flat-is : joined (atoms s) (t ∷ []) ≡ take n l′
       flat-is = atoms-are ∙ sym (a .fits h)
-
-      flat-says : flatten (t ∷ []) s ≡ ok s (take n l′)
-      flat-says = flatten-fits (t ∷ []) s (let e = ap length flat-is in let k = length-take n l′ in omega arith) ∙ ap (λ (x : List ℕ). ok s x) flat-is
 
       pub flat-length : length (take n l′) ≤ listLimit
       flat-length = let k = length-take n l′ in omega arith
@@ -104,12 +123,4 @@ module _ {m : Lent} {c : State} (ready : Ready m c) where
       flat-strings e = every-all (subst (Every (λ x. isString s x ≡ true)) flat-is (subst (Every (λ x. isString s x ≡ true)) (sym (append-nil (atoms s t))) (every-map (λ x i. i .string) (atoms-strings s (ready .audited) t e))))
 
       pub form-done : {m′ : Lent} (known list : List ℕ) (x : Form) → Working (pushForms (known ++ take n l′) (take n l′) []) m m′ c (pushed x m′ list) → Working (normalForm known t) m m′ c (formed x m′ list)
-      unfolding normalForm
-      form-done {m′} known list x w = record {
-        says = ap (andThen (λ flat. pushForms (known ++ flat) flat [] >>= (λ out. give (reverse out)))) flat-says ∙ ap (andThen (λ out. give (reverse out))) (w .says) ∙ turned x;
-        kept = w .kept;
-      }
-        where
-          turned : (y : Form) → andThen (λ out. give (reverse out)) (pushed y m′ list) ≡ formed y m′ list
-          turned (form.List k d) = ap (λ (z : List ℕ). ok (storeOf m′ d) z) (reverse-reverse (firstWords list k))
-          turned (form.Refused k) = refl
+      form-done known list x w = atoms-done known t (take n l′) list x flat-is flat-length w

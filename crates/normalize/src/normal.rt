@@ -4,6 +4,7 @@ ghost use mathlib.Core.Bool.{true};
 ghost use mathlib.Core.List.{[], _++_, reverse};
 ghost use Prim.Native.Nat.{_≤_, _<_};
 ghost use lib.ListN.{length};
+ghost use Rattle.records.specs.Lists.{all};
 ghost use Rattle.records.specs.Store.{isString};
 ghost use Rattle.records.specs.View.{lent, storeOf};
 ghost use Rattle.records.specs.Audited.{Ready};
@@ -21,6 +22,7 @@ use engine::explain_unchecked;
 use records::Added;
 use records::LIST_LIMIT;
 use records::State;
+use records::rules;
 
 // The reasons that a is equal to r, where they differ.
 fn cite(
@@ -102,8 +104,40 @@ fn push_forms(
     Form::List(count, d)
 }
 
-// The normal form of t. The table is that of the known list.
-pub(crate) fn form_by(
+// From the atoms on. The table is that of the known list.
+fn form_atoms(
+    terms: &mut [u32],
+    cells: &[u32],
+    chars: &mut [u32],
+    reasons: &mut [u32],
+    keys: &[u32],
+    c: State,
+    known: &[u32],
+    table: &[u32; 513],
+    flat: &[u32],
+    list: &mut [u32],
+) -> Form
+    requires { ⌜ Ready (lent (now terms) (now cells) (now chars) (now reasons) (now keys)) c ⌝ ∗ ⌜ Candidates (storeOf (lent (now terms) (now cells) (now chars) (now reasons) (now keys)) c) (now known) (now table) ⌝ ∗ ⌜ all (isString (storeOf (lent (now terms) (now cells) (now chars) (now reasons) (now keys)) c)) (now flat) ≡ true ⌝ ∗ ⌜ length (now flat) ≤ listLimit ⌝ ∗ ⌜ listLimit ≤ length (now list) ⌝ }
+    ensures { λ x. ⌜ Working (pushForms (now (known .entry) ++ now (flat .entry)) (now (flat .entry)) []) (lent (now (terms .entry)) (now (cells .entry)) (now (chars .entry)) (now (reasons .entry)) (now (keys .entry))) (lent (now (terms .exit)) (now (cells .entry)) (now (chars .exit)) (now (reasons .exit)) (now (keys .entry))) c (pushed x (lent (now (terms .exit)) (now (cells .entry)) (now (chars .exit)) (now (reasons .exit)) (now (keys .entry))) (now (list .exit))) ⌝ }
+{
+    let mut own: [u32; 513] = *table;
+    nodes::build_node_of(terms, c.terms, flat, &mut own);
+    push_forms(
+        terms,
+        cells,
+        chars,
+        reasons,
+        keys,
+        c,
+        known,
+        flat,
+        &own,
+        list,
+    )
+}
+
+// The normal form of t by way of its flattened atoms, whose list is cleared at each call.
+fn form_flat(
     terms: &mut [u32],
     cells: &[u32],
     chars: &mut [u32],
@@ -123,9 +157,7 @@ pub(crate) fn form_by(
     if LIST_LIMIT < n {
         return Form::Refused(6);
     }
-    let mut own: [u32; 513] = *table;
-    nodes::build_node_of(terms, c.terms, &flat[..n], &mut own);
-    push_forms(
+    form_atoms(
         terms,
         cells,
         chars,
@@ -133,10 +165,45 @@ pub(crate) fn form_by(
         keys,
         c,
         known,
+        table,
         &flat[..n],
-        &own,
         list,
     )
+}
+
+// The normal form of t. The table is that of the known list. A term that is no concatenation is its own atom, so it goes without a
+// list to flatten into.
+pub(crate) fn form_by(
+    terms: &mut [u32],
+    cells: &[u32],
+    chars: &mut [u32],
+    reasons: &mut [u32],
+    keys: &[u32],
+    c: State,
+    known: &[u32],
+    table: &[u32; 513],
+    t: u32,
+    list: &mut [u32],
+) -> Form
+    requires { ⌜ Ready (lent (now terms) (now cells) (now chars) (now reasons) (now keys)) c ⌝ ∗ ⌜ Candidates (storeOf (lent (now terms) (now cells) (now chars) (now reasons) (now keys)) c) (now known) (now table) ⌝ ∗ ⌜ isString (storeOf (lent (now terms) (now cells) (now chars) (now reasons) (now keys)) c) t ≡ true ⌝ ∗ ⌜ listLimit ≤ length (now list) ⌝ }
+    ensures { λ x. ⌜ Working (normalForm (now (known .entry)) t) (lent (now (terms .entry)) (now (cells .entry)) (now (chars .entry)) (now (reasons .entry)) (now (keys .entry))) (lent (now (terms .exit)) (now (cells .entry)) (now (chars .exit)) (now (reasons .exit)) (now (keys .entry))) c (formed x (lent (now (terms .exit)) (now (cells .entry)) (now (chars .exit)) (now (reasons .exit)) (now (keys .entry))) (now (list .exit))) ⌝ }
+{
+    if rules::kind_of(terms, c.terms, t) != 3 {
+        let one: [u32; 1] = [t];
+        return form_atoms(
+            terms,
+            cells,
+            chars,
+            reasons,
+            keys,
+            c,
+            known,
+            table,
+            &one,
+            list,
+        );
+    }
+    form_flat(terms, cells, chars, reasons, keys, c, known, table, t, list)
 }
 
 // The normal form of t over the known list, with the reasons of each atom that was replaced.
