@@ -110,7 +110,7 @@ fn right_form(
     list: &mut [u32],
     incoming: usize,
 ) -> Outcome
-    requires { ⌜ Ready (lent (now terms) (now cells) (now chars) (now reasons) (now keys)) c ⌝ ∗ ⌜ Candidates (storeOf (lent (now terms) (now cells) (now chars) (now reasons) (now keys)) c) (now known) (now table) ⌝ ∗ ⌜ formArguments (now known) t (storeOf (lent (now terms) (now cells) (now chars) (now reasons) (now keys)) c) ≡ true ⌝ ∗ ⌜ isList (storeOf (lent (now terms) (now cells) (now chars) (now reasons) (now keys)) c) (now lhs) ≡ true ⌝ ∗ ⌜ isGuard guard ≡ true ⌝ ∗ ⌜ (listLimit ≤ length (now list)) × (incoming ≤ c .reasons) ⌝ }
+    requires { ⌜ (Ready (lent (now terms) (now cells) (now chars) (now reasons) (now keys)) c) × (Candidates (storeOf (lent (now terms) (now cells) (now chars) (now reasons) (now keys)) c) (now known) (now table)) ⌝ ∗ ⌜ formArguments (now known) t (storeOf (lent (now terms) (now cells) (now chars) (now reasons) (now keys)) c) ≡ true ⌝ ∗ ⌜ isList (storeOf (lent (now terms) (now cells) (now chars) (now reasons) (now keys)) c) (now lhs) ≡ true ⌝ ∗ ⌜ isGuard guard ≡ true ⌝ ∗ ⌜ (listLimit ≤ length (now list)) × (incoming ≤ c .reasons) ⌝ }
     ensures { λ o. ⌜ Working (rightForm (now (known .entry)) t guard (now (lhs .entry)) (pairsView (now (reasons .entry)) incoming)) (lent (now (terms .entry)) (now (cells .entry)) (now (chars .entry)) (now (reasons .entry)) (now (keys .entry))) (lent (now (terms .exit)) (now (cells .exit)) (now (chars .exit)) (now (reasons .exit)) (now (keys .exit))) c (stepped o (lent (now (terms .exit)) (now (cells .exit)) (now (chars .exit)) (now (reasons .exit)) (now (keys .exit))) (now (list .exit))) ⌝ }
 {
     let mut right: [u32; 1024] = [0; 1024];
