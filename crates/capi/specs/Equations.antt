@@ -9,7 +9,7 @@ use lib.Dec.{eqb, leb}
 use mir.Syntax.{w32}
 use mir.Val.{toZ, ofZ}
 use Rattle.records.specs.View.{Lent, storeOf}
-use Rattle.records.specs.Calls.{call}
+use Rattle.records.specs.Calls.{call, fullAlone}
 use Rattle.normalize.specs.Calls.{listCall}
 use Rattle.wordeq.specs.Wordeq.{Answer, done, saturated, conflict, propagate, split, resolve, resolveArguments, nfExplain, nfArguments}
 use Rattle.wordeq.specs.Meaning.{Sound, ExplainsEqual}
@@ -62,4 +62,4 @@ pub record ExportedEqual (l r : List ℕ) (m : Lent) (w a a′ : List ℕ) (k : 
 pub record ExportedEqualExplain (l r : List ℕ) (m m′ : Lent) (w w′ : List ℕ) (k : ℕ) : Type 0 where
   pub is : Exported (over (leb 6 (length w)) (call (nfArguments l r) (nfExplain l r) m (stateOf w))) m m′ w w′ 0 [] [] tt k
   pub worth : k ≡ 0 → ExplainsEqual (storeOf m (stateOf w)) (storeOf m′ (stateOf w′)) l r
-  pub full : 5 < k → k ≡ 7
+  pub full : fullAlone k

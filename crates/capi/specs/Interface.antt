@@ -5,12 +5,16 @@ use mathlib.Core.List.{List, []}
 use Prim.Native.Nat.{ℕ, zero, suc, _≤_, _<_}
 use lib.ListN.{length, getD, take, drop}
 use lib.Dec.{leb}
+use denote.Ref.{now}
+use denote.Triple.Both.{Both}
 use Rattle.records.specs.declared.State.{State}
 use Rattle.records.specs.Lists.{if_then_else_, Every}
 use Rattle.records.specs.Store.{Out, ok, stop}
 use Rattle.records.specs.View.{Lent, storeOf}
+use Rattle.records.specs.Store.{Store, Work}
+use Rattle.records.specs.View.{Slice}
 use Rattle.records.specs.Rules.{audit}
-use Rattle.records.specs.Calls.{Public, call}
+use Rattle.records.specs.Calls.{Public, call, writesNothing, fullAlone}
 use Rattle.engine.specs.Explain.{explain, explainArguments}
 use Rattle.engine.specs.Meaning.{Explains, addedTo, Labels}
 
@@ -58,7 +62,17 @@ module _ {A : Type 0} where
   -- the same of a call that answers a list in a slice of its own, l at entry and l′ at exit: 'Refusals 1 to 5 write nothing'
   pub record AnsweredList (o : Out A) (words : A → List ℕ) (m m′ : Lent) (l l′ w w′ a a′ : List ℕ) (x : A) (k : ℕ) : Type 0 where
     pub is : Answered o words m m′ w w′ a a′ x k
-    pub idle : (k ≡ 0 → ⊥) → k ≤ 5 → l′ ≡ l
+    pub idle : (k ≡ 0 → ⊥) → writesNothing k → l′ ≡ l
+
+-- THE WORDS OF CONTRACTS, slices by their names: an exported call that answers one number, and one that writes a list
+abbrev pub ExportsNumber : (Store → Bool) → Work ℕ → Both Lent Lent → Slice → Slice → ℕ → Type 0
+ExportsNumber fit work x state answer k =
+    Exported (over (roomy (now (state .entry)) (now (answer .entry))) (call fit work (x .entry) (stateOf (now (state .entry))))) (x .entry) (x .exit)
+    (now (state .entry)) (now (state .exit)) 1 (now (answer .entry)) (now (answer .exit)) (getD (now (answer .exit)) 0 0) k
+
+abbrev pub ExportsList : (Lent → Lent → List ℕ → List ℕ → List ℕ → List ℕ → List ℕ → List ℕ → ℕ → Type 0) → Both Lent Lent → Slice → Slice → Slice → ℕ → Type 0
+ExportsList P x list state answer k =
+    P (x .entry) (x .exit) (now (list .entry)) (now (list .exit)) (now (state .entry)) (now (state .exit)) (now (answer .entry)) (now (answer .exit)) k
 
 -- explain told in words, and what it is worth: under the reasons that the call added and the definitional merges the two terms have equal
 -- words. Every reason added labels an edge of the store; once the arguments pass, refusal 7 alone is given
@@ -66,4 +80,4 @@ pub record ExportedExplain (a b : ℕ) (m m′ : Lent) (w w′ : List ℕ) (k : 
   pub is : Exported (over (leb 6 (length w)) (call (explainArguments a b) (explain a b) m (stateOf w))) m m′ w w′ 0 [] [] tt k
   pub worth : k ≡ 0 → Explains (storeOf m (stateOf w)) (storeOf m′ (stateOf w′)) a b
   pub edges : k ≡ 0 → Every (Labels (storeOf m (stateOf w))) (addedTo (storeOf m (stateOf w)) (storeOf m′ (stateOf w′)))
-  pub full : 5 < k → k ≡ 7
+  pub full : fullAlone k

@@ -5,12 +5,11 @@ ghost use lib.Dec.{leb};
 ghost use lib.ListN.{length, getD};
 ghost use Rattle.records.specs.Lists.{all};
 ghost use Rattle.records.specs.Store.{isString};
-ghost use Rattle.records.specs.View.{lent};
+ghost use Rattle.records.specs.View.{across, Between};
 ghost use Rattle.records.specs.Rules.{isChar, isList, isEquatable};
 ghost use Rattle.records.specs.Make.{makeConstant, makeVariable, makeConcat, makeLength, makeEquation};
-ghost use Rattle.records.specs.Calls.{call};
 ghost use Rattle.engine.specs.Explain.{find, findArguments};
-ghost use Rattle.capi.specs.Interface.{stateOf, roomy, audited, over, Exported, ExportedExplain};
+ghost use Rattle.capi.specs.Interface.{audited, ExportedExplain, ExportsNumber, ExportsList};
 ghost use Rattle.capi.specs.Forms.{ExportedForm, ExportedDeepForm};
 ghost use Rattle.capi.specs.Equations.{ExportedResolve, ExportedEqual, ExportedEqualExplain};
 ghost use Rattle.capi.specs.Steps.{ExportedStep};
@@ -39,7 +38,7 @@ pub extern "C" fn labels_audit(
     reasons: &[u32],
     keys: &[u32],
 ) -> u32
-    ensures { λ r. ⌜ r ≡ audited (now (state .entry)) (lent (now (terms .entry)) (now (cells .entry)) (now (chars .entry)) (now (reasons .entry)) (now (keys .entry))) ⌝ }
+    ensures { λ r. ⌜ r ≡ audited (now (state .entry)) (across terms cells chars reasons keys .entry) ⌝ }
 {
     if state.len() < 6 {
         return 1;
@@ -58,7 +57,7 @@ pub extern "C" fn labels_make_constant(
     text: &[u32],
     answer: &mut [u32],
 ) -> u32
-    ensures { λ r. ⌜ Exported (over (roomy (now (state .entry)) (now (answer .entry))) (call (λ s. all isChar (now (text .entry))) (makeConstant (now (text .entry))) (lent (now (terms .entry)) (now (cells .entry)) (now (chars .entry)) (now (reasons .entry)) (now (keys .entry))) (stateOf (now (state .entry))))) (lent (now (terms .entry)) (now (cells .entry)) (now (chars .entry)) (now (reasons .entry)) (now (keys .entry))) (lent (now (terms .exit)) (now (cells .entry)) (now (chars .exit)) (now (reasons .entry)) (now (keys .entry))) (now (state .entry)) (now (state .exit)) 1 (now (answer .entry)) (now (answer .exit)) (getD (now (answer .exit)) 0 0) r ⌝ }
+    ensures { λ r. ⌜ ExportsNumber (λ s. all isChar (now (text .entry))) (makeConstant (now (text .entry))) (across terms cells chars reasons keys) state answer r ⌝ }
 {
     if !is_roomy(state, answer) {
         return 1;
@@ -79,7 +78,7 @@ pub extern "C" fn labels_make_variable(
     name: &[u32],
     answer: &mut [u32],
 ) -> u32
-    ensures { λ r. ⌜ Exported (over (roomy (now (state .entry)) (now (answer .entry))) (call (λ s. leb 1 (length (now (name .entry))) && all isChar (now (name .entry))) (makeVariable (now (name .entry))) (lent (now (terms .entry)) (now (cells .entry)) (now (chars .entry)) (now (reasons .entry)) (now (keys .entry))) (stateOf (now (state .entry))))) (lent (now (terms .entry)) (now (cells .entry)) (now (chars .entry)) (now (reasons .entry)) (now (keys .entry))) (lent (now (terms .exit)) (now (cells .entry)) (now (chars .exit)) (now (reasons .entry)) (now (keys .entry))) (now (state .entry)) (now (state .exit)) 1 (now (answer .entry)) (now (answer .exit)) (getD (now (answer .exit)) 0 0) r ⌝ }
+    ensures { λ r. ⌜ ExportsNumber (λ s. leb 1 (length (now (name .entry))) && all isChar (now (name .entry))) (makeVariable (now (name .entry))) (across terms cells chars reasons keys) state answer r ⌝ }
 {
     if !is_roomy(state, answer) {
         return 1;
@@ -100,7 +99,7 @@ pub extern "C" fn labels_make_concatenation(
     parts: &[u32],
     answer: &mut [u32],
 ) -> u32
-    ensures { λ r. ⌜ Exported (over (roomy (now (state .entry)) (now (answer .entry))) (call (λ s. leb 2 (length (now (parts .entry))) && isList s (now (parts .entry))) (makeConcat (now (parts .entry))) (lent (now (terms .entry)) (now (cells .entry)) (now (chars .entry)) (now (reasons .entry)) (now (keys .entry))) (stateOf (now (state .entry))))) (lent (now (terms .entry)) (now (cells .entry)) (now (chars .entry)) (now (reasons .entry)) (now (keys .entry))) (lent (now (terms .exit)) (now (cells .exit)) (now (chars .entry)) (now (reasons .entry)) (now (keys .entry))) (now (state .entry)) (now (state .exit)) 1 (now (answer .entry)) (now (answer .exit)) (getD (now (answer .exit)) 0 0) r ⌝ }
+    ensures { λ r. ⌜ ExportsNumber (λ s. leb 2 (length (now (parts .entry))) && isList s (now (parts .entry))) (makeConcat (now (parts .entry))) (across terms cells chars reasons keys) state answer r ⌝ }
 {
     if !is_roomy(state, answer) {
         return 1;
@@ -121,7 +120,7 @@ pub extern "C" fn labels_make_length(
     t: u32,
     answer: &mut [u32],
 ) -> u32
-    ensures { λ r. ⌜ Exported (over (roomy (now (state .entry)) (now (answer .entry))) (call (λ s. isString s t) (makeLength t) (lent (now (terms .entry)) (now (cells .entry)) (now (chars .entry)) (now (reasons .entry)) (now (keys .entry))) (stateOf (now (state .entry))))) (lent (now (terms .entry)) (now (cells .entry)) (now (chars .entry)) (now (reasons .entry)) (now (keys .entry))) (lent (now (terms .exit)) (now (cells .entry)) (now (chars .entry)) (now (reasons .entry)) (now (keys .entry))) (now (state .entry)) (now (state .exit)) 1 (now (answer .entry)) (now (answer .exit)) (getD (now (answer .exit)) 0 0) r ⌝ }
+    ensures { λ r. ⌜ ExportsNumber (λ s. isString s t) (makeLength t) (across terms cells chars reasons keys) state answer r ⌝ }
 {
     if !is_roomy(state, answer) {
         return 1;
@@ -143,7 +142,7 @@ pub extern "C" fn labels_make_equation(
     u: u32,
     answer: &mut [u32],
 ) -> u32
-    ensures { λ r. ⌜ Exported (over (roomy (now (state .entry)) (now (answer .entry))) (call (λ s. isEquatable s t u) (makeEquation t u) (lent (now (terms .entry)) (now (cells .entry)) (now (chars .entry)) (now (reasons .entry)) (now (keys .entry))) (stateOf (now (state .entry))))) (lent (now (terms .entry)) (now (cells .entry)) (now (chars .entry)) (now (reasons .entry)) (now (keys .entry))) (lent (now (terms .exit)) (now (cells .entry)) (now (chars .entry)) (now (reasons .entry)) (now (keys .entry))) (now (state .entry)) (now (state .exit)) 1 (now (answer .entry)) (now (answer .exit)) (getD (now (answer .exit)) 0 0) r ⌝ }
+    ensures { λ r. ⌜ ExportsNumber (λ s. isEquatable s t u) (makeEquation t u) (across terms cells chars reasons keys) state answer r ⌝ }
 {
     if !is_roomy(state, answer) {
         return 1;
@@ -164,7 +163,7 @@ pub extern "C" fn labels_find(
     t: u32,
     answer: &mut [u32],
 ) -> u32
-    ensures { λ r. ⌜ Exported (over (roomy (now (state .entry)) (now (answer .entry))) (call (findArguments t) (find t) (lent (now (terms .entry)) (now (cells .entry)) (now (chars .entry)) (now (reasons .entry)) (now (keys .entry))) (stateOf (now (state .entry))))) (lent (now (terms .entry)) (now (cells .entry)) (now (chars .entry)) (now (reasons .entry)) (now (keys .entry))) (lent (now (terms .entry)) (now (cells .entry)) (now (chars .entry)) (now (reasons .entry)) (now (keys .entry))) (now (state .entry)) (now (state .entry)) 1 (now (answer .entry)) (now (answer .exit)) (getD (now (answer .exit)) 0 0) r ⌝ }
+    ensures { λ r. ⌜ ExportsNumber (findArguments t) (find t) (across terms cells chars reasons keys) state answer r ⌝ }
 {
     if !is_roomy(state, answer) {
         return 1;
@@ -191,7 +190,7 @@ pub extern "C" fn labels_explain(
     a: u32,
     b: u32,
 ) -> u32
-    ensures { λ r. ⌜ ExportedExplain a b (lent (now (terms .entry)) (now (cells .entry)) (now (chars .entry)) (now (reasons .entry)) (now (keys .entry))) (lent (now (terms .entry)) (now (cells .entry)) (now (chars .entry)) (now (reasons .exit)) (now (keys .entry))) (now (state .entry)) (now (state .exit)) r ⌝ }
+    ensures { λ r. ⌜ Between (ExportedExplain a b) (across terms cells chars reasons keys) (now (state .entry)) (now (state .exit)) r ⌝ }
 {
     if state.len() < 6 {
         return 1;
@@ -214,7 +213,7 @@ pub extern "C" fn labels_normal_form(
     list: &mut [u32],
     answer: &mut [u32],
 ) -> u32
-    ensures { λ r. ⌜ ExportedForm (now (known .entry)) t (lent (now (terms .entry)) (now (cells .entry)) (now (chars .entry)) (now (reasons .entry)) (now (keys .entry))) (lent (now (terms .exit)) (now (cells .entry)) (now (chars .exit)) (now (reasons .exit)) (now (keys .entry))) (now (list .entry)) (now (list .exit)) (now (state .entry)) (now (state .exit)) (now (answer .entry)) (now (answer .exit)) r ⌝ }
+    ensures { λ r. ⌜ ExportsList (ExportedForm (now (known .entry)) t) (across terms cells chars reasons keys) list state answer r ⌝ }
 {
     if !is_roomy(state, answer) {
         return 1;
@@ -237,7 +236,7 @@ pub extern "C" fn labels_deep_normal_form(
     list: &mut [u32],
     answer: &mut [u32],
 ) -> u32
-    ensures { λ r. ⌜ ExportedDeepForm (now (known .entry)) t (lent (now (terms .entry)) (now (cells .entry)) (now (chars .entry)) (now (reasons .entry)) (now (keys .entry))) (lent (now (terms .exit)) (now (cells .entry)) (now (chars .exit)) (now (reasons .exit)) (now (keys .entry))) (now (list .entry)) (now (list .exit)) (now (state .entry)) (now (state .exit)) (now (answer .entry)) (now (answer .exit)) r ⌝ }
+    ensures { λ r. ⌜ ExportsList (ExportedDeepForm (now (known .entry)) t) (across terms cells chars reasons keys) list state answer r ⌝ }
 {
     if !is_roomy(state, answer) {
         return 1;
@@ -271,7 +270,7 @@ pub extern "C" fn labels_resolve_equation<'a>(
     list: &mut [u32],
     answer: &mut [u32],
 ) -> u32
-    ensures { λ r. ⌜ ExportedResolve (now (lhs .entry)) (now (rhs .entry)) guard (lent (now (terms .entry)) (now (cells .entry)) (now (chars .entry)) (now (reasons .entry)) (now (keys .entry))) (lent (now (terms .exit)) (now (cells .exit)) (now (chars .exit)) (now (reasons .exit)) (now (keys .exit))) (now (list .entry)) (now (list .exit)) (now (state .entry)) (now (state .exit)) (now (answer .entry)) (now (answer .exit)) r ⌝ }
+    ensures { λ r. ⌜ ExportsList (ExportedResolve (now (lhs .entry)) (now (rhs .entry)) guard) (across terms cells chars reasons keys) list state answer r ⌝ }
 {
     if !is_roomy(state, answer) {
         return 1;
@@ -304,7 +303,7 @@ pub extern "C" fn labels_nf_equal(
     rhs: &[u32],
     answer: &mut [u32],
 ) -> u32
-    ensures { λ r. ⌜ ExportedEqual (now (lhs .entry)) (now (rhs .entry)) (lent (now (terms .entry)) (now (cells .entry)) (now (chars .entry)) (now (reasons .entry)) (now (keys .entry))) (now (state .entry)) (now (answer .entry)) (now (answer .exit)) r ⌝ }
+    ensures { λ r. ⌜ ExportedEqual (now (lhs .entry)) (now (rhs .entry)) (across terms cells chars reasons keys .entry) (now (state .entry)) (now (answer .entry)) (now (answer .exit)) r ⌝ }
 {
     if !is_roomy(state, answer) {
         return 1;
@@ -331,7 +330,7 @@ pub extern "C" fn labels_nf_equal_explain(
     lhs: &[u32],
     rhs: &[u32],
 ) -> u32
-    ensures { λ r. ⌜ ExportedEqualExplain (now (lhs .entry)) (now (rhs .entry)) (lent (now (terms .entry)) (now (cells .entry)) (now (chars .entry)) (now (reasons .entry)) (now (keys .entry))) (lent (now (terms .entry)) (now (cells .entry)) (now (chars .entry)) (now (reasons .exit)) (now (keys .entry))) (now (state .entry)) (now (state .exit)) r ⌝ }
+    ensures { λ r. ⌜ Between (ExportedEqualExplain (now (lhs .entry)) (now (rhs .entry))) (across terms cells chars reasons keys) (now (state .entry)) (now (state .exit)) r ⌝ }
 {
     if state.len() < 6 {
         return 1;
@@ -355,7 +354,7 @@ pub extern "C" fn labels_step(
     list: &mut [u32],
     answer: &mut [u32],
 ) -> u32
-    ensures { λ r. ⌜ ExportedStep (now (known .entry)) e guard (lent (now (terms .entry)) (now (cells .entry)) (now (chars .entry)) (now (reasons .entry)) (now (keys .entry))) (lent (now (terms .exit)) (now (cells .exit)) (now (chars .exit)) (now (reasons .exit)) (now (keys .exit))) (now (list .entry)) (now (list .exit)) (now (state .entry)) (now (state .exit)) (now (answer .entry)) (now (answer .exit)) r ⌝ }
+    ensures { λ r. ⌜ ExportsList (ExportedStep (now (known .entry)) e guard) (across terms cells chars reasons keys) list state answer r ⌝ }
 {
     if !is_roomy(state, answer) {
         return 1;

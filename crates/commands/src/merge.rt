@@ -4,7 +4,7 @@ ghost use mathlib.Core.Bool.{true};
 ghost use Prim.Native.Nat.{_+_, _*_, _≤_};
 ghost use lib.ListN.{length};
 ghost use Rattle.records.specs.Store.{within};
-ghost use Rattle.records.specs.View.{lent, storeOf, termsView};
+ghost use Rattle.records.specs.View.{storeOf, termsView, lends, across, Between};
 ghost use Rattle.records.specs.Audited.{Ready};
 ghost use Rattle.commands.specs.Merge.{isRootIn, canJoin, Joined, Merged};
 use records::State;
@@ -37,8 +37,8 @@ fn can_join_unchecked(
     parent: u32,
     n: u32,
 ) -> bool
-    requires { ⌜ Ready (lent (now terms) (now cells) (now chars) (now reasons) (now keys)) c ⌝ }
-    ensures { λ r. ⌜ r ≡ canJoin child parent n (storeOf (lent (now (terms .entry)) (now (cells .entry)) (now (chars .entry)) (now (reasons .entry)) (now (keys .entry))) c) ⌝ }
+    requires { ⌜ Ready (lends terms cells chars reasons keys) c ⌝ }
+    ensures { λ r. ⌜ r ≡ canJoin child parent n (storeOf (across terms cells chars reasons keys .entry) c) ⌝ }
 {
     if !is_string(terms, c.terms, child) {
         return false;
@@ -83,7 +83,7 @@ pub fn merge(
     n: u32,
     stamp: u32,
 ) -> u32
-    ensures { λ r. ⌜ Merged (lent (now (terms .entry)) (now (cells .entry)) (now (chars .entry)) (now (reasons .entry)) (now (keys .entry))) (lent (now (terms .exit)) (now (cells .entry)) (now (chars .entry)) (now (reasons .entry)) (now (keys .entry))) c child parent n stamp r ⌝ }
+    ensures { λ r. ⌜ Between Merged (across terms cells chars reasons keys) c child parent n stamp r ⌝ }
 {
     let k = records::audit(terms, cells, chars, reasons, keys, c);
     if k != 0 {

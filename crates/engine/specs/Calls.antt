@@ -5,7 +5,7 @@ use Rattle.records.specs.declared.State.{State}
 use Rattle.records.specs.Lists.{Every}
 use Rattle.records.specs.Store.{Store, Out, ok, stop}
 use Rattle.records.specs.View.{Lent, storeOf}
-use Rattle.records.specs.Calls.{Public, call}
+use Rattle.records.specs.Calls.{Public, call, fullAlone}
 use Rattle.engine.specs.declared.Found.{Found}
 use Rattle.engine.specs.declared.Found.the-variants.{Root, Refused}
 use Rattle.engine.specs.Explain.{explain, explainArguments}
@@ -22,4 +22,4 @@ pub record PublicExplain (a b : ℕ) (m m′ : Lent) (c : State) (r : Out (Unit 
   pub is : Public (call (explainArguments a b) (explain a b) m c) m m′ c r
   pub worth : (s′ : Store) → r ≡ ok s′ tt → Explains (storeOf m c) s′ a b
   pub edges : (s′ : Store) → r ≡ ok s′ tt → Every (Labels (storeOf m c)) (addedTo (storeOf m c) s′)
-  pub full : (k : ℕ) → r ≡ stop k → 5 < k → k ≡ 7
+  pub full : (k : ℕ) → r ≡ stop k → fullAlone k

@@ -3,9 +3,9 @@ ghost use mathlib.Core.Path.{_≡_};
 ghost use mathlib.Core.Bool.{true, false};
 ghost use Prim.Native.Nat.{_+_, _*_, _≤_, _<_};
 ghost use lib.ListN.{length};
-ghost use Rattle.records.specs.View.{lent, storeOf};
+ghost use Rattle.records.specs.View.{storeOf, lends, across};
 ghost use Rattle.records.specs.Audited.{Ready};
-ghost use Rattle.records.specs.Calls.{Working, Public, call, added};
+ghost use Rattle.records.specs.Calls.{added, Does, Answers, Promises};
 ghost use Rattle.engine.specs.Explain.{find, findArguments, walked, edge, explain, explainArguments};
 ghost use Rattle.engine.specs.Marks.{place, marked, Marked};
 ghost use Rattle.engine.specs.Walks.{Walkable, Together, Edge, Walks, Gives, Explainable, Explained, Plainly, PlainEdge, PlainPair, PlainPath};
@@ -45,7 +45,7 @@ pub fn find(
     c: State,
     t: u32,
 ) -> Found
-    ensures { λ r. ⌜ Public (call (findArguments t) (find t) (lent (now (terms .entry)) (now (cells .entry)) (now (chars .entry)) (now (reasons .entry)) (now (keys .entry))) c) (lent (now (terms .entry)) (now (cells .entry)) (now (chars .entry)) (now (reasons .entry)) (now (keys .entry))) (lent (now (terms .entry)) (now (cells .entry)) (now (chars .entry)) (now (reasons .entry)) (now (keys .entry))) c (found r (lent (now (terms .entry)) (now (cells .entry)) (now (chars .entry)) (now (reasons .entry)) (now (keys .entry))) c) ⌝ }
+    ensures { λ r. ⌜ Answers (findArguments t) (find t) (across terms cells chars reasons keys) c (λ m. found r m c) ⌝ }
 {
     let k = records::audit(terms, cells, chars, reasons, keys, c);
     if k != 0 {
@@ -340,8 +340,8 @@ pub fn explain_unchecked(
     a: u32,
     b: u32,
 ) -> Added
-    requires { ⌜ (Ready (lent (now terms) (now cells) (now chars) (now reasons) (now keys)) c) × (explainArguments a b (storeOf (lent (now terms) (now cells) (now chars) (now reasons) (now keys)) c) ≡ true) ⌝ }
-    ensures { λ r. ⌜ Working (explain a b) (lent (now (terms .entry)) (now (cells .entry)) (now (chars .entry)) (now (reasons .entry)) (now (keys .entry))) (lent (now (terms .entry)) (now (cells .entry)) (now (chars .entry)) (now (reasons .exit)) (now (keys .entry))) c (added r (lent (now (terms .entry)) (now (cells .entry)) (now (chars .entry)) (now (reasons .exit)) (now (keys .entry)))) ⌝ }
+    requires { ⌜ (Ready (lends terms cells chars reasons keys) c) × (explainArguments a b (storeOf (lends terms cells chars reasons keys) c) ≡ true) ⌝ }
+    ensures { λ r. ⌜ Does (explain a b) (across terms cells chars reasons keys) c (added r) ⌝ }
 {
     let n = c.terms;
     let k = c.cells;
@@ -370,8 +370,8 @@ fn can_explain(
     a: u32,
     b: u32,
 ) -> bool
-    requires { ⌜ Ready (lent (now terms) (now cells) (now chars) (now reasons) (now keys)) c ⌝ }
-    ensures { λ r. ⌜ r ≡ explainArguments a b (storeOf (lent (now (terms .entry)) (now (cells .entry)) (now (chars .entry)) (now (reasons .entry)) (now (keys .entry))) c) ⌝ }
+    requires { ⌜ Ready (lends terms cells chars reasons keys) c ⌝ }
+    ensures { λ r. ⌜ r ≡ explainArguments a b (storeOf (across terms cells chars reasons keys .entry) c) ⌝ }
 {
     if !rules::is_string(terms, c.terms, a) {
         return false;
@@ -393,7 +393,7 @@ pub fn explain(
     a: u32,
     b: u32,
 ) -> Added
-    ensures { λ r. ⌜ PublicExplain a b (lent (now (terms .entry)) (now (cells .entry)) (now (chars .entry)) (now (reasons .entry)) (now (keys .entry))) (lent (now (terms .entry)) (now (cells .entry)) (now (chars .entry)) (now (reasons .exit)) (now (keys .entry))) c (added r (lent (now (terms .entry)) (now (cells .entry)) (now (chars .entry)) (now (reasons .exit)) (now (keys .entry)))) ⌝ }
+    ensures { λ r. ⌜ Promises (PublicExplain a b) (across terms cells chars reasons keys) c (added r) ⌝ }
 {
     let k = records::audit(terms, cells, chars, reasons, keys, c);
     if k != 0 {

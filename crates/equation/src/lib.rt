@@ -5,10 +5,10 @@ ghost use mathlib.Core.List.{[]};
 ghost use Prim.Native.Nat.{_≤_};
 ghost use lib.ListN.{length};
 ghost use Rattle.records.specs.Store.{isString};
-ghost use Rattle.records.specs.View.{lent, storeOf, pairsView};
+ghost use Rattle.records.specs.View.{storeOf, pairsView, lends, across, termed};
 ghost use Rattle.records.specs.Rules.{listLimit, isList};
 ghost use Rattle.records.specs.Audited.{Ready};
-ghost use Rattle.records.specs.Calls.{Working};
+ghost use Rattle.records.specs.Calls.{Does, Writes, _into_};
 ghost use Rattle.normalize.specs.Normalize.{deepForm, formArguments};
 ghost use Rattle.normalize.specs.Calls.{deepened};
 ghost use Rattle.normalize.specs.Pushes.{Candidates};
@@ -68,8 +68,11 @@ fn resolve_forms<'a>(
     list: &mut [u32],
     incoming: usize,
 ) -> Outcome
-    requires { ⌜ Ready (lent (now terms) (now cells) (now chars) (now reasons) (now keys)) c ⌝ ∗ ⌜ BothLists (storeOf (lent (now terms) (now cells) (now chars) (now reasons) (now keys)) c) (now lhs) (now rhs) ⌝ ∗ ⌜ isGuard guard ≡ true ⌝ ∗ ⌜ (listLimit ≤ length (now list)) × (incoming ≤ c .reasons) ⌝ }
-    ensures { λ o. ⌜ Working (resolveForms (now (lhs .entry)) (now (rhs .entry)) guard (pairsView (now (reasons .entry)) incoming)) (lent (now (terms .entry)) (now (cells .entry)) (now (chars .entry)) (now (reasons .entry)) (now (keys .entry))) (lent (now (terms .exit)) (now (cells .exit)) (now (chars .exit)) (now (reasons .exit)) (now (keys .exit))) c (stepped o (lent (now (terms .exit)) (now (cells .exit)) (now (chars .exit)) (now (reasons .exit)) (now (keys .exit))) (now (list .exit))) ⌝ }
+    requires { ⌜ Ready (lends terms cells chars reasons keys) c ⌝ }
+    requires { ⌜ BothLists (storeOf (lends terms cells chars reasons keys) c) (now lhs) (now rhs) ⌝ }
+    requires { ⌜ isGuard guard ≡ true ⌝ }
+    requires { ⌜ (listLimit ≤ length (now list)) × (incoming ≤ c .reasons) ⌝ }
+    ensures { λ o. ⌜ Does (resolveForms (now (lhs .entry)) (now (rhs .entry)) guard (pairsView (now (reasons .entry)) incoming)) (across terms cells chars reasons keys) c (stepped o into list) ⌝ }
 {
     let o = resolve_unchecked(terms, cells, chars, reasons, keys, c, lhs, rhs, guard, list);
     carried(o, incoming)
@@ -88,8 +91,11 @@ fn deep_form(
     t: u32,
     list: &mut [u32],
 ) -> DeepForm
-    requires { ⌜ Ready (lent (now terms) (now cells) (now chars) (now reasons) (now keys)) c ⌝ ∗ ⌜ Candidates (storeOf (lent (now terms) (now cells) (now chars) (now reasons) (now keys)) c) (now known) (now table) ⌝ ∗ ⌜ isString (storeOf (lent (now terms) (now cells) (now chars) (now reasons) (now keys)) c) t ≡ true ⌝ ∗ ⌜ listLimit ≤ length (now list) ⌝ }
-    ensures { λ x. ⌜ Working (deepForm (now (known .entry)) t) (lent (now (terms .entry)) (now (cells .entry)) (now (chars .entry)) (now (reasons .entry)) (now (keys .entry))) (lent (now (terms .exit)) (now (cells .entry)) (now (chars .exit)) (now (reasons .exit)) (now (keys .entry))) c (deepened x (lent (now (terms .exit)) (now (cells .entry)) (now (chars .exit)) (now (reasons .exit)) (now (keys .entry))) (now (list .exit))) ⌝ }
+    requires { ⌜ Ready (lends terms cells chars reasons keys) c ⌝ }
+    requires { ⌜ Candidates (storeOf (lends terms cells chars reasons keys) c) (now known) (now table) ⌝ }
+    requires { ⌜ isString (storeOf (lends terms cells chars reasons keys) c) t ≡ true ⌝ }
+    requires { ⌜ listLimit ≤ length (now list) ⌝ }
+    ensures { λ x. ⌜ Does (deepForm (now (known .entry)) t) (across terms cells chars reasons keys) c (deepened x into list) ⌝ }
 {
     deep_form_by_unchecked(terms, cells, chars, reasons, keys, c, known, table, t, list)
 }
@@ -110,8 +116,12 @@ fn right_form(
     list: &mut [u32],
     incoming: usize,
 ) -> Outcome
-    requires { ⌜ (Ready (lent (now terms) (now cells) (now chars) (now reasons) (now keys)) c) × (Candidates (storeOf (lent (now terms) (now cells) (now chars) (now reasons) (now keys)) c) (now known) (now table)) ⌝ ∗ ⌜ formArguments (now known) t (storeOf (lent (now terms) (now cells) (now chars) (now reasons) (now keys)) c) ≡ true ⌝ ∗ ⌜ isList (storeOf (lent (now terms) (now cells) (now chars) (now reasons) (now keys)) c) (now lhs) ≡ true ⌝ ∗ ⌜ isGuard guard ≡ true ⌝ ∗ ⌜ (listLimit ≤ length (now list)) × (incoming ≤ c .reasons) ⌝ }
-    ensures { λ o. ⌜ Working (rightForm (now (known .entry)) t guard (now (lhs .entry)) (pairsView (now (reasons .entry)) incoming)) (lent (now (terms .entry)) (now (cells .entry)) (now (chars .entry)) (now (reasons .entry)) (now (keys .entry))) (lent (now (terms .exit)) (now (cells .exit)) (now (chars .exit)) (now (reasons .exit)) (now (keys .exit))) c (stepped o (lent (now (terms .exit)) (now (cells .exit)) (now (chars .exit)) (now (reasons .exit)) (now (keys .exit))) (now (list .exit))) ⌝ }
+    requires { ⌜ (Ready (lends terms cells chars reasons keys) c) × (Candidates (storeOf (lends terms cells chars reasons keys) c) (now known) (now table)) ⌝ }
+    requires { ⌜ formArguments (now known) t (storeOf (lends terms cells chars reasons keys) c) ≡ true ⌝ }
+    requires { ⌜ isList (storeOf (lends terms cells chars reasons keys) c) (now lhs) ≡ true ⌝ }
+    requires { ⌜ isGuard guard ≡ true ⌝ }
+    requires { ⌜ (listLimit ≤ length (now list)) × (incoming ≤ c .reasons) ⌝ }
+    ensures { λ o. ⌜ Does (rightForm (now (known .entry)) t guard (now (lhs .entry)) (pairsView (now (reasons .entry)) incoming)) (across terms cells chars reasons keys) c (stepped o into list) ⌝ }
 {
     let mut right: [u32; 1024] = [0; 1024];
     match deep_form(
@@ -157,8 +167,10 @@ pub fn step_unchecked(
     guard: i32,
     list: &mut [u32],
 ) -> Outcome
-    requires { ⌜ Ready (lent (now terms) (now cells) (now chars) (now reasons) (now keys)) c ⌝ ∗ ⌜ stepArguments (now known) e guard (storeOf (lent (now terms) (now cells) (now chars) (now reasons) (now keys)) c) ≡ true ⌝ ∗ ⌜ listLimit ≤ length (now list) ⌝ }
-    ensures { λ o. ⌜ Working (step (now (known .entry)) e guard) (lent (now (terms .entry)) (now (cells .entry)) (now (chars .entry)) (now (reasons .entry)) (now (keys .entry))) (lent (now (terms .exit)) (now (cells .exit)) (now (chars .exit)) (now (reasons .exit)) (now (keys .exit))) c (stepped o (lent (now (terms .exit)) (now (cells .exit)) (now (chars .exit)) (now (reasons .exit)) (now (keys .exit))) (now (list .exit))) ⌝ }
+    requires { ⌜ Ready (lends terms cells chars reasons keys) c ⌝ }
+    requires { ⌜ stepArguments (now known) e guard (storeOf (lends terms cells chars reasons keys) c) ≡ true ⌝ }
+    requires { ⌜ listLimit ≤ length (now list) ⌝ }
+    ensures { λ o. ⌜ Does (step (now (known .entry)) e guard) (across terms cells chars reasons keys) c (stepped o into list) ⌝ }
 {
     let mut left: [u32; 1024] = [0; 1024];
     let a = fields::first(terms, e);
@@ -198,7 +210,7 @@ pub fn step_unchecked(
 
 // A list of string terms, an equation of two string terms, a guard that can be negated.
 fn can_step(terms: &[u32], c: State, known: &[u32], e: u32, guard: i32) -> bool
-    ensures { λ r. ⌜ r ≡ stepArguments (now (known .entry)) e guard (storeOf (lent (now (terms .entry)) [] [] [] []) c) ⌝ }
+    ensures { λ r. ⌜ r ≡ stepArguments (now (known .entry)) e guard (termed (now (terms .entry)) c) ⌝ }
 {
     if !rules::is_list(terms, c, known) {
         return false;
@@ -225,7 +237,7 @@ pub fn step(
     guard: i32,
     list: &mut [u32],
 ) -> Outcome
-    ensures { λ o. ⌜ PublicStep (now (known .entry)) e guard (lent (now (terms .entry)) (now (cells .entry)) (now (chars .entry)) (now (reasons .entry)) (now (keys .entry))) (lent (now (terms .exit)) (now (cells .exit)) (now (chars .exit)) (now (reasons .exit)) (now (keys .exit))) (now (list .entry)) (now (list .exit)) c (stepped o (lent (now (terms .exit)) (now (cells .exit)) (now (chars .exit)) (now (reasons .exit)) (now (keys .exit))) (now (list .exit))) ⌝ }
+    ensures { λ o. ⌜ Writes (PublicStep (now (known .entry)) e guard) (across terms cells chars reasons keys) list c (stepped o) ⌝ }
 {
     if list.len() < LIST_LIMIT {
         return Outcome::Refused(1);

@@ -1,6 +1,6 @@
 // 'taking a name advances the counter and hands the name back': the counter of names, lent.
 ghost use mathlib.Core.Path.{_≡_};
-ghost use Rattle.records.specs.View.{lent, namesAt};
+ghost use Rattle.records.specs.View.{namesAt, lends, across};
 ghost use Rattle.records.specs.Audited.{Ready};
 ghost use Rattle.records.specs.Calls.{Taken};
 use records::Named;
@@ -21,8 +21,8 @@ pub fn name_from_unchecked(
     keys: &[u32],
     c: State,
 ) -> Named
-    requires { ⌜ Ready (lent (now terms) (now cells) (now chars) (now reasons) (now keys)) (namesAt c next) ⌝ }
-    ensures { λ r. ⌜ Taken (lent (now (terms .entry)) (now (cells .entry)) (now (chars .entry)) (now (reasons .entry)) (now (keys .entry))) (namesAt c next) r ⌝ }
+    requires { ⌜ Ready (lends terms cells chars reasons keys) (namesAt c next) ⌝ }
+    ensures { λ r. ⌜ Taken (across terms cells chars reasons keys .entry) (namesAt c next) r ⌝ }
 {
     let d = State {
         terms: c.terms,
@@ -45,8 +45,8 @@ pub fn take_unchecked(
     keys: &[u32],
     c: State,
 ) -> Named
-    requires { ⌜ Ready (lent (now terms) (now cells) (now chars) (now reasons) (now keys)) (namesAt c (now counter .next)) ⌝ }
-    ensures { λ r. ⌜ Taken (lent (now (terms .entry)) (now (cells .entry)) (now (chars .entry)) (now (reasons .entry)) (now (keys .entry))) (namesAt c (now (counter .entry) .next)) r × (now (counter .exit) .next ≡ r .state .names) ⌝ }
+    requires { ⌜ Ready (lends terms cells chars reasons keys) (namesAt c (now counter .next)) ⌝ }
+    ensures { λ r. ⌜ Taken (across terms cells chars reasons keys .entry) (namesAt c (now (counter .entry) .next)) r × (now (counter .exit) .next ≡ r .state .names) ⌝ }
 {
     let r = name_from_unchecked(counter.next, terms, cells, chars, reasons, keys, c);
     counter.next = r.state.names;
@@ -62,8 +62,8 @@ pub fn next_name_unchecked(
     keys: &[u32],
     c: State,
 ) -> Named
-    requires { ⌜ Ready (lent (now terms) (now cells) (now chars) (now reasons) (now keys)) c ⌝ }
-    ensures { λ r. ⌜ Taken (lent (now (terms .entry)) (now (cells .entry)) (now (chars .entry)) (now (reasons .entry)) (now (keys .entry))) c r ⌝ }
+    requires { ⌜ Ready (lends terms cells chars reasons keys) c ⌝ }
+    ensures { λ r. ⌜ Taken (across terms cells chars reasons keys .entry) c r ⌝ }
 {
     let mut counter = Counter { next: c.names };
     take_unchecked(&mut counter, terms, cells, chars, reasons, keys, c)

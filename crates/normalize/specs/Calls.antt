@@ -10,7 +10,7 @@ use Rattle.records.specs.declared.State.{State}
 use Rattle.records.specs.Lists.{if_then_else_, table}
 use Rattle.records.specs.Store.{Store, Out, ok, stop, Work}
 use Rattle.records.specs.View.{Lent, storeOf}
-use Rattle.records.specs.Calls.{Public, call}
+use Rattle.records.specs.Calls.{Public, call, writesNothing}
 use Rattle.normalize.specs.Normalize.{normalForm, deepForm, formArguments}
 use Rattle.records.specs.Rules.{listLimit}
 use Rattle.normalize.specs.declared.Form.{Form}
@@ -42,7 +42,7 @@ module _ {A : Type 0} where
   -- a call that answers a list in a lent slice, l at entry and l′ at exit: 'Refusals 1 to 5 write nothing'
   pub record PublicList (o : Out A) (m m′ : Lent) (l l′ : List ℕ) (c : State) (r : Out A) : Type 0 where
     pub store : Public o m m′ c r
-    pub idle : (k : ℕ) → r ≡ stop k → k ≤ 5 → l′ ≡ l
+    pub idle : (k : ℕ) → r ≡ stop k → writesNothing k → l′ ≡ l
 
 -- the normal form's answer, and what it is worth: under the reasons that the call added and the definitional merges the list has the
 -- term's word

@@ -6,9 +6,9 @@ ghost use Prim.Native.Nat.{_≤_};
 ghost use lib.ListN.{length};
 ghost use Rattle.records.specs.Lists.{all};
 ghost use Rattle.records.specs.Store.{isString};
-ghost use Rattle.records.specs.View.{lent, storeOf};
+ghost use Rattle.records.specs.View.{storeOf, lends, across, Between};
 ghost use Rattle.records.specs.Audited.{Ready};
-ghost use Rattle.records.specs.Calls.{Working};
+ghost use Rattle.records.specs.Calls.{Does, _into_};
 ghost use Rattle.normalize.specs.Normalize.{deepLimit, pushAll, rounds, deepForm, formArguments};
 ghost use Rattle.records.specs.Rules.{listLimit, isList};
 ghost use Rattle.normalize.specs.Pushes.{pushed, Candidates};
@@ -37,8 +37,12 @@ fn push_all(
     k: usize,
     out: &mut [u32],
 ) -> Form
-    requires { ⌜ Ready (lent (now terms) (now cells) (now chars) (now reasons) (now keys)) c ⌝ ∗ ⌜ all (isString (storeOf (lent (now terms) (now cells) (now chars) (now reasons) (now keys)) c)) (firstWords (now next) k) ≡ true ⌝ ∗ ⌜ k ≤ length (now next) ⌝ ∗ ⌜ k ≤ listLimit ⌝ ∗ ⌜ listLimit ≤ length (now out) ⌝ }
-    ensures { λ x. ⌜ Working (pushAll (firstWords (now (next .entry)) k) []) (lent (now (terms .entry)) (now (cells .entry)) (now (chars .entry)) (now (reasons .entry)) (now (keys .entry))) (lent (now (terms .exit)) (now (cells .entry)) (now (chars .exit)) (now (reasons .entry)) (now (keys .entry))) c (pushed x (lent (now (terms .exit)) (now (cells .entry)) (now (chars .exit)) (now (reasons .entry)) (now (keys .entry))) (now (out .exit))) ⌝ }
+    requires { ⌜ Ready (lends terms cells chars reasons keys) c ⌝ }
+    requires { ⌜ all (isString (storeOf (lends terms cells chars reasons keys) c)) (firstWords (now next) k) ≡ true ⌝ }
+    requires { ⌜ k ≤ length (now next) ⌝ }
+    requires { ⌜ k ≤ listLimit ⌝ }
+    requires { ⌜ listLimit ≤ length (now out) ⌝ }
+    ensures { λ x. ⌜ Does (pushAll (firstWords (now (next .entry)) k) []) (across terms cells chars reasons keys) c (pushed x into out) ⌝ }
 {
     let mut d = c;
     let mut count: usize = 0;
@@ -72,8 +76,12 @@ fn settle(
     list: &mut [u32],
     count: usize,
 ) -> Turn
-    requires { ⌜ Ready (lent (now terms) (now cells) (now chars) (now reasons) (now keys)) c ⌝ ∗ ⌜ all (isString (storeOf (lent (now terms) (now cells) (now chars) (now reasons) (now keys)) c)) (firstWords (now next) k) ≡ true ⌝ ∗ ⌜ (k ≤ length (now next)) × (k ≤ listLimit) ⌝ ∗ ⌜ count ≤ length (now list) ⌝ ∗ ⌜ deepLimit ≤ length (now list) ⌝ }
-    ensures { λ x. ⌜ Settles (firstWords (now (list .entry)) count) (firstWords (now (next .entry)) k) (lent (now (terms .entry)) (now (cells .entry)) (now (chars .entry)) (now (reasons .entry)) (now (keys .entry))) (lent (now (terms .exit)) (now (cells .entry)) (now (chars .exit)) (now (reasons .entry)) (now (keys .entry))) c (now (list .exit)) x ⌝ }
+    requires { ⌜ Ready (lends terms cells chars reasons keys) c ⌝ }
+    requires { ⌜ all (isString (storeOf (lends terms cells chars reasons keys) c)) (firstWords (now next) k) ≡ true ⌝ }
+    requires { ⌜ (k ≤ length (now next)) × (k ≤ listLimit) ⌝ }
+    requires { ⌜ count ≤ length (now list) ⌝ }
+    requires { ⌜ deepLimit ≤ length (now list) ⌝ }
+    ensures { λ x. ⌜ Between (Settles (firstWords (now (list .entry)) count) (firstWords (now (next .entry)) k)) (across terms cells chars reasons keys) c (now (list .exit)) x ⌝ }
 {
     let mut out: [u32; 1024] = [0; 1024];
     let made = push_all(terms, cells, chars, reasons, keys, c, next, k, &mut out);
@@ -107,8 +115,12 @@ fn round(
     count: usize,
     met: &mut [u8; 513],
 ) -> Turn
-    requires { ⌜ Ready (lent (now terms) (now cells) (now chars) (now reasons) (now keys)) c ⌝ ∗ ⌜ Candidates (storeOf (lent (now terms) (now cells) (now chars) (now reasons) (now keys)) c) (now known) (now table) ⌝ ∗ ⌜ all (isString (storeOf (lent (now terms) (now cells) (now chars) (now reasons) (now keys)) c)) (firstWords (now list) count) ≡ true ⌝ ∗ ⌜ (count ≤ deepLimit) × (listLimit ≤ length (now list)) ⌝ ∗ ⌜ Marked (now met) ⌝ }
-    ensures { λ x. ⌜ Turns (now (known .entry)) t (firstWords (now (list .entry)) count) (now (met .entry)) (lent (now (terms .entry)) (now (cells .entry)) (now (chars .entry)) (now (reasons .entry)) (now (keys .entry))) (lent (now (terms .exit)) (now (cells .entry)) (now (chars .exit)) (now (reasons .exit)) (now (keys .entry))) c (now (list .exit)) (now (met .exit)) x ⌝ }
+    requires { ⌜ Ready (lends terms cells chars reasons keys) c ⌝ }
+    requires { ⌜ Candidates (storeOf (lends terms cells chars reasons keys) c) (now known) (now table) ⌝ }
+    requires { ⌜ all (isString (storeOf (lends terms cells chars reasons keys) c)) (firstWords (now list) count) ≡ true ⌝ }
+    requires { ⌜ (count ≤ deepLimit) × (listLimit ≤ length (now list)) ⌝ }
+    requires { ⌜ Marked (now met) ⌝ }
+    ensures { λ x. ⌜ Between (Turns (now (known .entry)) t (firstWords (now (list .entry)) count) (now (met .entry))) (across terms cells chars reasons keys) c (now (list .exit)) (now (met .exit)) x ⌝ }
 {
     if !expands::any_opens(terms, c.terms, t, list, count) {
         return Turn::Ends(DeepForm::List(count, c));
@@ -149,8 +161,11 @@ fn rounds(
     list: &mut [u32],
     count: usize,
 ) -> DeepForm
-    requires { ⌜ Ready (lent (now terms) (now cells) (now chars) (now reasons) (now keys)) c ⌝ ∗ ⌜ Candidates (storeOf (lent (now terms) (now cells) (now chars) (now reasons) (now keys)) c) (now known) (now table) ⌝ ∗ ⌜ all (isString (storeOf (lent (now terms) (now cells) (now chars) (now reasons) (now keys)) c)) (firstWords (now list) count) ≡ true ⌝ ∗ ⌜ (count ≤ deepLimit) × (listLimit ≤ length (now list)) ⌝ }
-    ensures { λ x. ⌜ Working (rounds 64 (now (known .entry)) t [] (firstWords (now (list .entry)) count)) (lent (now (terms .entry)) (now (cells .entry)) (now (chars .entry)) (now (reasons .entry)) (now (keys .entry))) (lent (now (terms .exit)) (now (cells .entry)) (now (chars .exit)) (now (reasons .exit)) (now (keys .entry))) c (deepened x (lent (now (terms .exit)) (now (cells .entry)) (now (chars .exit)) (now (reasons .exit)) (now (keys .entry))) (now (list .exit))) ⌝ }
+    requires { ⌜ Ready (lends terms cells chars reasons keys) c ⌝ }
+    requires { ⌜ Candidates (storeOf (lends terms cells chars reasons keys) c) (now known) (now table) ⌝ }
+    requires { ⌜ all (isString (storeOf (lends terms cells chars reasons keys) c)) (firstWords (now list) count) ≡ true ⌝ }
+    requires { ⌜ (count ≤ deepLimit) × (listLimit ≤ length (now list)) ⌝ }
+    ensures { λ x. ⌜ Does (rounds 64 (now (known .entry)) t [] (firstWords (now (list .entry)) count)) (across terms cells chars reasons keys) c (deepened x into list) ⌝ }
 {
     let mut met: [u8; 513] = [0; 513];
     let mut d = c;
@@ -195,8 +210,9 @@ pub fn known_table_unchecked(
     c: State,
     known: &[u32],
 ) -> [u32; 513]
-    requires { ⌜ Ready (lent (now terms) (now cells) (now chars) (now reasons) (now keys)) c ⌝ ∗ ⌜ isList (storeOf (lent (now terms) (now cells) (now chars) (now reasons) (now keys)) c) (now known) ≡ true ⌝ }
-    ensures { λ r. ⌜ Candidates (storeOf (lent (now (terms .entry)) (now (cells .entry)) (now (chars .entry)) (now (reasons .entry)) (now (keys .entry))) c) (now (known .entry)) r ⌝ }
+    requires { ⌜ Ready (lends terms cells chars reasons keys) c ⌝ }
+    requires { ⌜ isList (storeOf (lends terms cells chars reasons keys) c) (now known) ≡ true ⌝ }
+    ensures { λ r. ⌜ Candidates (storeOf (across terms cells chars reasons keys .entry) c) (now (known .entry)) r ⌝ }
 {
     let mut table: [u32; 513] = [0; 513];
     nodes::build_node_of(terms, c.terms, known, &mut table);
@@ -216,8 +232,11 @@ pub fn deep_form_by_unchecked(
     t: u32,
     list: &mut [u32],
 ) -> DeepForm
-    requires { ⌜ Ready (lent (now terms) (now cells) (now chars) (now reasons) (now keys)) c ⌝ ∗ ⌜ Candidates (storeOf (lent (now terms) (now cells) (now chars) (now reasons) (now keys)) c) (now known) (now table) ⌝ ∗ ⌜ isString (storeOf (lent (now terms) (now cells) (now chars) (now reasons) (now keys)) c) t ≡ true ⌝ ∗ ⌜ listLimit ≤ length (now list) ⌝ }
-    ensures { λ x. ⌜ Working (deepForm (now (known .entry)) t) (lent (now (terms .entry)) (now (cells .entry)) (now (chars .entry)) (now (reasons .entry)) (now (keys .entry))) (lent (now (terms .exit)) (now (cells .entry)) (now (chars .exit)) (now (reasons .exit)) (now (keys .entry))) c (deepened x (lent (now (terms .exit)) (now (cells .entry)) (now (chars .exit)) (now (reasons .exit)) (now (keys .entry))) (now (list .exit))) ⌝ }
+    requires { ⌜ Ready (lends terms cells chars reasons keys) c ⌝ }
+    requires { ⌜ Candidates (storeOf (lends terms cells chars reasons keys) c) (now known) (now table) ⌝ }
+    requires { ⌜ isString (storeOf (lends terms cells chars reasons keys) c) t ≡ true ⌝ }
+    requires { ⌜ listLimit ≤ length (now list) ⌝ }
+    ensures { λ x. ⌜ Does (deepForm (now (known .entry)) t) (across terms cells chars reasons keys) c (deepened x into list) ⌝ }
 {
     let made = normal::form_by(terms, cells, chars, reasons, keys, c, known, table, t, list);
     match made {
@@ -255,8 +274,10 @@ pub fn deep_normal_form_cited_unchecked(
     t: u32,
     list: &mut [u32],
 ) -> DeepForm
-    requires { ⌜ Ready (lent (now terms) (now cells) (now chars) (now reasons) (now keys)) c ⌝ ∗ ⌜ formArguments (now known) t (storeOf (lent (now terms) (now cells) (now chars) (now reasons) (now keys)) c) ≡ true ⌝ ∗ ⌜ listLimit ≤ length (now list) ⌝ }
-    ensures { λ x. ⌜ Working (deepForm (now (known .entry)) t) (lent (now (terms .entry)) (now (cells .entry)) (now (chars .entry)) (now (reasons .entry)) (now (keys .entry))) (lent (now (terms .exit)) (now (cells .entry)) (now (chars .exit)) (now (reasons .exit)) (now (keys .entry))) c (deepened x (lent (now (terms .exit)) (now (cells .entry)) (now (chars .exit)) (now (reasons .exit)) (now (keys .entry))) (now (list .exit))) ⌝ }
+    requires { ⌜ Ready (lends terms cells chars reasons keys) c ⌝ }
+    requires { ⌜ formArguments (now known) t (storeOf (lends terms cells chars reasons keys) c) ≡ true ⌝ }
+    requires { ⌜ listLimit ≤ length (now list) ⌝ }
+    ensures { λ x. ⌜ Does (deepForm (now (known .entry)) t) (across terms cells chars reasons keys) c (deepened x into list) ⌝ }
 {
     let table = known_table_unchecked(terms, cells, chars, reasons, keys, c, known);
     deep_form_by_unchecked(

@@ -6,9 +6,9 @@ ghost use Prim.Native.Nat.{_≤_, _<_};
 ghost use lib.ListN.{length};
 ghost use Rattle.records.specs.Lists.{any};
 ghost use Rattle.records.specs.Store.{isString};
-ghost use Rattle.records.specs.View.{lent, storeOf, termsView};
+ghost use Rattle.records.specs.View.{storeOf, termsView, lends, across, Between};
 ghost use Rattle.records.specs.Audited.{Ready};
-ghost use Rattle.records.specs.Calls.{Working};
+ghost use Rattle.records.specs.Calls.{Does, _into_};
 ghost use Rattle.normalize.specs.Normalize.{deepLimit};
 ghost use Rattle.normalize.specs.Pushes.{Candidates};
 ghost use Rattle.normalize.specs.Calls.{firstWords, deepened};
@@ -60,8 +60,12 @@ fn expand_atom(
     next: &mut [u32],
     k: usize,
 ) -> DeepForm
-    requires { ⌜ Ready (lent (now terms) (now cells) (now chars) (now reasons) (now keys)) c ⌝ ∗ ⌜ Candidates (storeOf (lent (now terms) (now cells) (now chars) (now reasons) (now keys)) c) (now known) (now table) ⌝ ∗ ⌜ isString (storeOf (lent (now terms) (now cells) (now chars) (now reasons) (now keys)) c) a ≡ true ⌝ ∗ ⌜ k < length (now next) ⌝ ∗ ⌜ deepLimit ≤ length (now next) ⌝ }
-    ensures { λ x. ⌜ Working (expandAtom (now (known .entry)) a (firstWords (now (next .entry)) k)) (lent (now (terms .entry)) (now (cells .entry)) (now (chars .entry)) (now (reasons .entry)) (now (keys .entry))) (lent (now (terms .exit)) (now (cells .entry)) (now (chars .exit)) (now (reasons .exit)) (now (keys .entry))) c (deepened x (lent (now (terms .exit)) (now (cells .entry)) (now (chars .exit)) (now (reasons .exit)) (now (keys .entry))) (now (next .exit))) ⌝ }
+    requires { ⌜ Ready (lends terms cells chars reasons keys) c ⌝ }
+    requires { ⌜ Candidates (storeOf (lends terms cells chars reasons keys) c) (now known) (now table) ⌝ }
+    requires { ⌜ isString (storeOf (lends terms cells chars reasons keys) c) a ≡ true ⌝ }
+    requires { ⌜ k < length (now next) ⌝ }
+    requires { ⌜ deepLimit ≤ length (now next) ⌝ }
+    ensures { λ x. ⌜ Does (expandAtom (now (known .entry)) a (firstWords (now (next .entry)) k)) (across terms cells chars reasons keys) c (deepened x into next) ⌝ }
 {
     let mut form: [u32; 1024] = [0; 1024];
     let made = normal::form_by(
@@ -104,8 +108,12 @@ fn expand_one(
     next: &mut [u32],
     k: usize,
 ) -> DeepForm
-    requires { ⌜ Ready (lent (now terms) (now cells) (now chars) (now reasons) (now keys)) c ⌝ ∗ ⌜ Candidates (storeOf (lent (now terms) (now cells) (now chars) (now reasons) (now keys)) c) (now known) (now table) ⌝ ∗ ⌜ isString (storeOf (lent (now terms) (now cells) (now chars) (now reasons) (now keys)) c) a ≡ true ⌝ ∗ ⌜ k < length (now next) ⌝ ∗ ⌜ deepLimit ≤ length (now next) ⌝ }
-    ensures { λ x. ⌜ Expands (now (known .entry)) t (a ∷ []) (now (next .entry)) k (now (met .entry)) (lent (now (terms .entry)) (now (cells .entry)) (now (chars .entry)) (now (reasons .entry)) (now (keys .entry))) (lent (now (terms .exit)) (now (cells .entry)) (now (chars .exit)) (now (reasons .exit)) (now (keys .entry))) c (now (next .exit)) (now (met .exit)) x ⌝ }
+    requires { ⌜ Ready (lends terms cells chars reasons keys) c ⌝ }
+    requires { ⌜ Candidates (storeOf (lends terms cells chars reasons keys) c) (now known) (now table) ⌝ }
+    requires { ⌜ isString (storeOf (lends terms cells chars reasons keys) c) a ≡ true ⌝ }
+    requires { ⌜ k < length (now next) ⌝ }
+    requires { ⌜ deepLimit ≤ length (now next) ⌝ }
+    ensures { λ x. ⌜ Between (Expands (now (known .entry)) t (a ∷ []) (now (next .entry)) k (now (met .entry))) (across terms cells chars reasons keys) c (now (next .exit)) (now (met .exit)) x ⌝ }
 {
     if !opens(terms, c.terms, t, a) {
         next[k] = a;
@@ -146,8 +154,10 @@ pub(crate) fn expand(
     met: &mut [u8; 513],
     next: &mut [u32],
 ) -> DeepForm
-    requires { ⌜ Ready (lent (now terms) (now cells) (now chars) (now reasons) (now keys)) c ⌝ ∗ ⌜ Candidates (storeOf (lent (now terms) (now cells) (now chars) (now reasons) (now keys)) c) (now known) (now table) ⌝ ∗ ⌜ RoundOf (storeOf (lent (now terms) (now cells) (now chars) (now reasons) (now keys)) c) (now list) count (now met) (now next) ⌝ }
-    ensures { λ x. ⌜ Expands (now (known .entry)) t (firstWords (now (list .entry)) count) (now (next .entry)) 0 (now (met .entry)) (lent (now (terms .entry)) (now (cells .entry)) (now (chars .entry)) (now (reasons .entry)) (now (keys .entry))) (lent (now (terms .exit)) (now (cells .entry)) (now (chars .exit)) (now (reasons .exit)) (now (keys .entry))) c (now (next .exit)) (now (met .exit)) x ⌝ }
+    requires { ⌜ Ready (lends terms cells chars reasons keys) c ⌝ }
+    requires { ⌜ Candidates (storeOf (lends terms cells chars reasons keys) c) (now known) (now table) ⌝ }
+    requires { ⌜ RoundOf (storeOf (lends terms cells chars reasons keys) c) (now list) count (now met) (now next) ⌝ }
+    ensures { λ x. ⌜ Between (Expands (now (known .entry)) t (firstWords (now (list .entry)) count) (now (next .entry)) 0 (now (met .entry))) (across terms cells chars reasons keys) c (now (next .exit)) (now (met .exit)) x ⌝ }
 {
     let mut d = c;
     let mut k: usize = 0;

@@ -33,7 +33,9 @@ pub fn flatten_unchecked(
     out: &mut [u32],
     count: usize,
 ) -> usize
-    requires { ⌜ Nested (bare (now terms) n (now cells) m) ⌝ ∗ ⌜ count ≤ listLimit ⌝ ∗ ⌜ listLimit ≤ length (now out) ⌝ }
+    requires { ⌜ Nested (bare (now terms) n (now cells) m) ⌝ }
+    requires { ⌜ count ≤ listLimit ⌝ }
+    requires { ⌜ listLimit ≤ length (now out) ⌝ }
     ensures { λ r. ⌜ Appended (now (out .entry)) (now (out .exit)) count (atoms (bare (now (terms .entry)) n (now (cells .entry)) m) t) r ⌝ }
 {
     if rules::kind_of(terms, n, t) != 3 {

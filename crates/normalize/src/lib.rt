@@ -1,7 +1,8 @@
 // Cited normal forms.
 ghost use mathlib.Core.Path.{_≡_};
 ghost use mathlib.Core.List.{[]};
-ghost use Rattle.records.specs.View.{lent, storeOf};
+ghost use Rattle.records.specs.Calls.{Writes};
+ghost use Rattle.records.specs.View.{across, termed};
 ghost use Rattle.normalize.specs.Normalize.{formArguments};
 ghost use Rattle.normalize.specs.Calls.{formed, deepened, PublicForm, PublicDeepForm};
 use deeper::deep_normal_form_cited_unchecked;
@@ -41,7 +42,7 @@ pub enum Turn {
 
 // A list of string terms, at most 1,024, and a string term.
 fn can_form(terms: &[u32], c: State, known: &[u32], t: u32) -> bool
-    ensures { λ r. ⌜ r ≡ formArguments (now (known .entry)) t (storeOf (lent (now (terms .entry)) [] [] [] []) c) ⌝ }
+    ensures { λ r. ⌜ r ≡ formArguments (now (known .entry)) t (termed (now (terms .entry)) c) ⌝ }
 {
     if !rules::is_list(terms, c, known) {
         return false;
@@ -61,7 +62,7 @@ pub fn normal_form_cited(
     t: u32,
     list: &mut [u32],
 ) -> Form
-    ensures { λ x. ⌜ PublicForm (now (known .entry)) t (lent (now (terms .entry)) (now (cells .entry)) (now (chars .entry)) (now (reasons .entry)) (now (keys .entry))) (lent (now (terms .exit)) (now (cells .entry)) (now (chars .exit)) (now (reasons .exit)) (now (keys .entry))) (now (list .entry)) (now (list .exit)) c (formed x (lent (now (terms .exit)) (now (cells .entry)) (now (chars .exit)) (now (reasons .exit)) (now (keys .entry))) (now (list .exit))) ⌝ }
+    ensures { λ x. ⌜ Writes (PublicForm (now (known .entry)) t) (across terms cells chars reasons keys) list c (formed x) ⌝ }
 {
     if list.len() < LIST_LIMIT {
         return Form::Refused(1);
@@ -88,7 +89,7 @@ pub fn deep_normal_form_cited(
     t: u32,
     list: &mut [u32],
 ) -> DeepForm
-    ensures { λ x. ⌜ PublicDeepForm (now (known .entry)) t (lent (now (terms .entry)) (now (cells .entry)) (now (chars .entry)) (now (reasons .entry)) (now (keys .entry))) (lent (now (terms .exit)) (now (cells .entry)) (now (chars .exit)) (now (reasons .exit)) (now (keys .entry))) (now (list .entry)) (now (list .exit)) c (deepened x (lent (now (terms .exit)) (now (cells .entry)) (now (chars .exit)) (now (reasons .exit)) (now (keys .entry))) (now (list .exit))) ⌝ }
+    ensures { λ x. ⌜ Writes (PublicDeepForm (now (known .entry)) t) (across terms cells chars reasons keys) list c (deepened x) ⌝ }
 {
     if list.len() < LIST_LIMIT {
         return DeepForm::Refused(1);

@@ -50,7 +50,10 @@ fn add_node(terms: &[u32], n: usize, t: u32, nodes: &mut [u32; 513])
 
 // The same as add_node, and the root is kept.
 fn keep_node(terms: &[u32], n: usize, t: u32, nodes: &mut [u32; 513], roots: &mut [u32; 513])
-    requires { ⌜ n ≤ termLimit ⌝ ∗ ⌜ within n t ≡ true ⌝ ∗ ⌜ Rooting (termsView (now terms) n) n ⌝ ∗ ⌜ Ends (classUp (termsView (now terms) n)) n (now roots) ⌝ }
+    requires { ⌜ n ≤ termLimit ⌝ }
+    requires { ⌜ within n t ≡ true ⌝ }
+    requires { ⌜ Rooting (termsView (now terms) n) n ⌝ }
+    requires { ⌜ Ends (classUp (termsView (now terms) n)) n (now roots) ⌝ }
     ensures { λ _. ⌜ Keeps (termsView (now (terms .entry)) n) n t (now (nodes .entry)) (now (nodes .exit)) (now (roots .exit)) ⌝ }
 {
     let root = roots::kept_root_unchecked(terms, n, t, roots);
@@ -59,7 +62,9 @@ fn keep_node(terms: &[u32], n: usize, t: u32, nodes: &mut [u32; 513], roots: &mu
 }
 
 fn build_few(terms: &[u32], n: usize, known: &[u32], nodes: &mut [u32; 513])
-    requires { ⌜ n ≤ termLimit ⌝ ∗ ⌜ Every (λ t. within n t ≡ true) (now known) ⌝ ∗ ⌜ Closed (classUp (termsView (now terms) n)) n ⌝ }
+    requires { ⌜ n ≤ termLimit ⌝ }
+    requires { ⌜ Every (λ t. within n t ≡ true) (now known) ⌝ }
+    requires { ⌜ Closed (classUp (termsView (now terms) n)) n ⌝ }
     ensures { λ _. ⌜ now (nodes .exit) ≡ withNodes (termsView (now (terms .entry)) n) (now (known .entry)) (now (nodes .entry)) ⌝ }
 {
     let mut i: usize = 0;
@@ -71,7 +76,9 @@ fn build_few(terms: &[u32], n: usize, known: &[u32], nodes: &mut [u32; 513])
 
 // Terms of one class share their way up to its root, and it can be as long as there are terms: so roots are kept by number.
 fn build_many(terms: &[u32], n: usize, known: &[u32], nodes: &mut [u32; 513])
-    requires { ⌜ n ≤ termLimit ⌝ ∗ ⌜ Every (λ t. within n t ≡ true) (now known) ⌝ ∗ ⌜ Rooting (termsView (now terms) n) n ⌝ }
+    requires { ⌜ n ≤ termLimit ⌝ }
+    requires { ⌜ Every (λ t. within n t ≡ true) (now known) ⌝ }
+    requires { ⌜ Rooting (termsView (now terms) n) n ⌝ }
     ensures { λ _. ⌜ now (nodes .exit) ≡ withNodes (termsView (now (terms .entry)) n) (now (known .entry)) (now (nodes .entry)) ⌝ }
 {
     let mut roots: [u32; 513] = [0; 513];
@@ -84,7 +91,9 @@ fn build_many(terms: &[u32], n: usize, known: &[u32], nodes: &mut [u32; 513])
 
 // The candidates of a list, in order. The table of roots is cleared at each call, so few candidates go without.
 pub(crate) fn build_node_of(terms: &[u32], n: usize, known: &[u32], nodes: &mut [u32; 513])
-    requires { ⌜ n ≤ termLimit ⌝ ∗ ⌜ Every (λ t. within n t ≡ true) (now known) ⌝ ∗ ⌜ Rooting (termsView (now terms) n) n ⌝ }
+    requires { ⌜ n ≤ termLimit ⌝ }
+    requires { ⌜ Every (λ t. within n t ≡ true) (now known) ⌝ }
+    requires { ⌜ Rooting (termsView (now terms) n) n ⌝ }
     ensures { λ _. ⌜ now (nodes .exit) ≡ withNodes (termsView (now (terms .entry)) n) (now (known .entry)) (now (nodes .entry)) ⌝ }
 {
     if known.len() < 16 {

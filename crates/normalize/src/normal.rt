@@ -6,9 +6,9 @@ ghost use Prim.Native.Nat.{_≤_, _<_};
 ghost use lib.ListN.{length};
 ghost use Rattle.records.specs.Lists.{all};
 ghost use Rattle.records.specs.Store.{isString};
-ghost use Rattle.records.specs.View.{lent, storeOf};
+ghost use Rattle.records.specs.View.{storeOf, lends, across};
 ghost use Rattle.records.specs.Audited.{Ready};
-ghost use Rattle.records.specs.Calls.{Working, added};
+ghost use Rattle.records.specs.Calls.{added, Does, _into_};
 ghost use Rattle.engine.specs.Explain.{explainArguments};
 ghost use Rattle.normalize.specs.Normalize.{pushForms, normalForm, formArguments};
 ghost use Rattle.records.specs.Rules.{listLimit};
@@ -35,8 +35,9 @@ fn cite(
     a: u32,
     r: u32,
 ) -> Added
-    requires { ⌜ Ready (lent (now terms) (now cells) (now chars) (now reasons) (now keys)) c ⌝ ∗ ⌜ explainArguments a r (storeOf (lent (now terms) (now cells) (now chars) (now reasons) (now keys)) c) ≡ true ⌝ }
-    ensures { λ x. ⌜ Working (cite a r) (lent (now (terms .entry)) (now (cells .entry)) (now (chars .entry)) (now (reasons .entry)) (now (keys .entry))) (lent (now (terms .entry)) (now (cells .entry)) (now (chars .entry)) (now (reasons .exit)) (now (keys .entry))) c (added x (lent (now (terms .entry)) (now (cells .entry)) (now (chars .entry)) (now (reasons .exit)) (now (keys .entry)))) ⌝ }
+    requires { ⌜ Ready (lends terms cells chars reasons keys) c ⌝ }
+    requires { ⌜ explainArguments a r (storeOf (lends terms cells chars reasons keys) c) ≡ true ⌝ }
+    ensures { λ x. ⌜ Does (cite a r) (across terms cells chars reasons keys) c (added x) ⌝ }
 {
     if r == a {
         return Added::Counts(c);
@@ -57,8 +58,11 @@ fn push_for(
     list: &mut [u32],
     count: usize,
 ) -> Form
-    requires { ⌜ Ready (lent (now terms) (now cells) (now chars) (now reasons) (now keys)) c ⌝ ∗ ⌜ explainArguments a r (storeOf (lent (now terms) (now cells) (now chars) (now reasons) (now keys)) c) ≡ true ⌝ ∗ ⌜ count < listLimit ⌝ ∗ ⌜ listLimit ≤ length (now list) ⌝ }
-    ensures { λ x. ⌜ Working (pushFor a r (reverse (firstWords (now (list .entry)) count))) (lent (now (terms .entry)) (now (cells .entry)) (now (chars .entry)) (now (reasons .entry)) (now (keys .entry))) (lent (now (terms .exit)) (now (cells .entry)) (now (chars .exit)) (now (reasons .exit)) (now (keys .entry))) c (pushed x (lent (now (terms .exit)) (now (cells .entry)) (now (chars .exit)) (now (reasons .exit)) (now (keys .entry))) (now (list .exit))) ⌝ }
+    requires { ⌜ Ready (lends terms cells chars reasons keys) c ⌝ }
+    requires { ⌜ explainArguments a r (storeOf (lends terms cells chars reasons keys) c) ≡ true ⌝ }
+    requires { ⌜ count < listLimit ⌝ }
+    requires { ⌜ listLimit ≤ length (now list) ⌝ }
+    ensures { λ x. ⌜ Does (pushFor a r (reverse (firstWords (now (list .entry)) count))) (across terms cells chars reasons keys) c (pushed x into list) ⌝ }
 {
     let cited = cite(terms, cells, chars, reasons, keys, c, a, r);
     match cited {
@@ -80,8 +84,11 @@ fn push_forms(
     table: &[u32; 513],
     list: &mut [u32],
 ) -> Form
-    requires { ⌜ Ready (lent (now terms) (now cells) (now chars) (now reasons) (now keys)) c ⌝ ∗ ⌜ Candidates (storeOf (lent (now terms) (now cells) (now chars) (now reasons) (now keys)) c) (now known ++ now flat) (now table) ⌝ ∗ ⌜ length (now flat) ≤ listLimit ⌝ ∗ ⌜ listLimit ≤ length (now list) ⌝ }
-    ensures { λ x. ⌜ Working (pushForms (now (known .entry) ++ now (flat .entry)) (now (flat .entry)) []) (lent (now (terms .entry)) (now (cells .entry)) (now (chars .entry)) (now (reasons .entry)) (now (keys .entry))) (lent (now (terms .exit)) (now (cells .entry)) (now (chars .exit)) (now (reasons .exit)) (now (keys .entry))) c (pushed x (lent (now (terms .exit)) (now (cells .entry)) (now (chars .exit)) (now (reasons .exit)) (now (keys .entry))) (now (list .exit))) ⌝ }
+    requires { ⌜ Ready (lends terms cells chars reasons keys) c ⌝ }
+    requires { ⌜ Candidates (storeOf (lends terms cells chars reasons keys) c) (now known ++ now flat) (now table) ⌝ }
+    requires { ⌜ length (now flat) ≤ listLimit ⌝ }
+    requires { ⌜ listLimit ≤ length (now list) ⌝ }
+    ensures { λ x. ⌜ Does (pushForms (now (known .entry) ++ now (flat .entry)) (now (flat .entry)) []) (across terms cells chars reasons keys) c (pushed x into list) ⌝ }
 {
     let mut d = c;
     let mut count: usize = 0;
@@ -117,8 +124,12 @@ fn form_atoms(
     flat: &[u32],
     list: &mut [u32],
 ) -> Form
-    requires { ⌜ Ready (lent (now terms) (now cells) (now chars) (now reasons) (now keys)) c ⌝ ∗ ⌜ Candidates (storeOf (lent (now terms) (now cells) (now chars) (now reasons) (now keys)) c) (now known) (now table) ⌝ ∗ ⌜ all (isString (storeOf (lent (now terms) (now cells) (now chars) (now reasons) (now keys)) c)) (now flat) ≡ true ⌝ ∗ ⌜ length (now flat) ≤ listLimit ⌝ ∗ ⌜ listLimit ≤ length (now list) ⌝ }
-    ensures { λ x. ⌜ Working (pushForms (now (known .entry) ++ now (flat .entry)) (now (flat .entry)) []) (lent (now (terms .entry)) (now (cells .entry)) (now (chars .entry)) (now (reasons .entry)) (now (keys .entry))) (lent (now (terms .exit)) (now (cells .entry)) (now (chars .exit)) (now (reasons .exit)) (now (keys .entry))) c (pushed x (lent (now (terms .exit)) (now (cells .entry)) (now (chars .exit)) (now (reasons .exit)) (now (keys .entry))) (now (list .exit))) ⌝ }
+    requires { ⌜ Ready (lends terms cells chars reasons keys) c ⌝ }
+    requires { ⌜ Candidates (storeOf (lends terms cells chars reasons keys) c) (now known) (now table) ⌝ }
+    requires { ⌜ all (isString (storeOf (lends terms cells chars reasons keys) c)) (now flat) ≡ true ⌝ }
+    requires { ⌜ length (now flat) ≤ listLimit ⌝ }
+    requires { ⌜ listLimit ≤ length (now list) ⌝ }
+    ensures { λ x. ⌜ Does (pushForms (now (known .entry) ++ now (flat .entry)) (now (flat .entry)) []) (across terms cells chars reasons keys) c (pushed x into list) ⌝ }
 {
     let mut own: [u32; 513] = *table;
     nodes::build_node_of(terms, c.terms, flat, &mut own);
@@ -149,8 +160,11 @@ fn form_flat(
     t: u32,
     list: &mut [u32],
 ) -> Form
-    requires { ⌜ Ready (lent (now terms) (now cells) (now chars) (now reasons) (now keys)) c ⌝ ∗ ⌜ Candidates (storeOf (lent (now terms) (now cells) (now chars) (now reasons) (now keys)) c) (now known) (now table) ⌝ ∗ ⌜ isString (storeOf (lent (now terms) (now cells) (now chars) (now reasons) (now keys)) c) t ≡ true ⌝ ∗ ⌜ listLimit ≤ length (now list) ⌝ }
-    ensures { λ x. ⌜ Working (normalForm (now (known .entry)) t) (lent (now (terms .entry)) (now (cells .entry)) (now (chars .entry)) (now (reasons .entry)) (now (keys .entry))) (lent (now (terms .exit)) (now (cells .entry)) (now (chars .exit)) (now (reasons .exit)) (now (keys .entry))) c (formed x (lent (now (terms .exit)) (now (cells .entry)) (now (chars .exit)) (now (reasons .exit)) (now (keys .entry))) (now (list .exit))) ⌝ }
+    requires { ⌜ Ready (lends terms cells chars reasons keys) c ⌝ }
+    requires { ⌜ Candidates (storeOf (lends terms cells chars reasons keys) c) (now known) (now table) ⌝ }
+    requires { ⌜ isString (storeOf (lends terms cells chars reasons keys) c) t ≡ true ⌝ }
+    requires { ⌜ listLimit ≤ length (now list) ⌝ }
+    ensures { λ x. ⌜ Does (normalForm (now (known .entry)) t) (across terms cells chars reasons keys) c (formed x into list) ⌝ }
 {
     let mut flat: [u32; 1024] = [0; 1024];
     let n = flat::flatten_unchecked(terms, c.terms, cells, c.cells, t, &mut flat, 0);
@@ -185,8 +199,11 @@ pub(crate) fn form_by(
     t: u32,
     list: &mut [u32],
 ) -> Form
-    requires { ⌜ Ready (lent (now terms) (now cells) (now chars) (now reasons) (now keys)) c ⌝ ∗ ⌜ Candidates (storeOf (lent (now terms) (now cells) (now chars) (now reasons) (now keys)) c) (now known) (now table) ⌝ ∗ ⌜ isString (storeOf (lent (now terms) (now cells) (now chars) (now reasons) (now keys)) c) t ≡ true ⌝ ∗ ⌜ listLimit ≤ length (now list) ⌝ }
-    ensures { λ x. ⌜ Working (normalForm (now (known .entry)) t) (lent (now (terms .entry)) (now (cells .entry)) (now (chars .entry)) (now (reasons .entry)) (now (keys .entry))) (lent (now (terms .exit)) (now (cells .entry)) (now (chars .exit)) (now (reasons .exit)) (now (keys .entry))) c (formed x (lent (now (terms .exit)) (now (cells .entry)) (now (chars .exit)) (now (reasons .exit)) (now (keys .entry))) (now (list .exit))) ⌝ }
+    requires { ⌜ Ready (lends terms cells chars reasons keys) c ⌝ }
+    requires { ⌜ Candidates (storeOf (lends terms cells chars reasons keys) c) (now known) (now table) ⌝ }
+    requires { ⌜ isString (storeOf (lends terms cells chars reasons keys) c) t ≡ true ⌝ }
+    requires { ⌜ listLimit ≤ length (now list) ⌝ }
+    ensures { λ x. ⌜ Does (normalForm (now (known .entry)) t) (across terms cells chars reasons keys) c (formed x into list) ⌝ }
 {
     if rules::kind_of(terms, c.terms, t) != 3 {
         let one: [u32; 1] = [t];
@@ -218,8 +235,10 @@ pub fn normal_form_cited_unchecked(
     t: u32,
     list: &mut [u32],
 ) -> Form
-    requires { ⌜ Ready (lent (now terms) (now cells) (now chars) (now reasons) (now keys)) c ⌝ ∗ ⌜ formArguments (now known) t (storeOf (lent (now terms) (now cells) (now chars) (now reasons) (now keys)) c) ≡ true ⌝ ∗ ⌜ listLimit ≤ length (now list) ⌝ }
-    ensures { λ x. ⌜ Working (normalForm (now (known .entry)) t) (lent (now (terms .entry)) (now (cells .entry)) (now (chars .entry)) (now (reasons .entry)) (now (keys .entry))) (lent (now (terms .exit)) (now (cells .entry)) (now (chars .exit)) (now (reasons .exit)) (now (keys .entry))) c (formed x (lent (now (terms .exit)) (now (cells .entry)) (now (chars .exit)) (now (reasons .exit)) (now (keys .entry))) (now (list .exit))) ⌝ }
+    requires { ⌜ Ready (lends terms cells chars reasons keys) c ⌝ }
+    requires { ⌜ formArguments (now known) t (storeOf (lends terms cells chars reasons keys) c) ≡ true ⌝ }
+    requires { ⌜ listLimit ≤ length (now list) ⌝ }
+    ensures { λ x. ⌜ Does (normalForm (now (known .entry)) t) (across terms cells chars reasons keys) c (formed x into list) ⌝ }
 {
     let mut table: [u32; 513] = [0; 513];
     nodes::build_node_of(terms, c.terms, known, &mut table);

@@ -4,9 +4,9 @@ ghost use mathlib.Core.Bool.{true};
 ghost use mathlib.Core.List.{reverse};
 ghost use Prim.Native.Nat.{_≤_, _<_};
 ghost use lib.ListN.{length};
-ghost use Rattle.records.specs.View.{termsView, lent};
+ghost use Rattle.records.specs.View.{termsView, lends, across};
 ghost use Rattle.records.specs.Audited.{Ready};
-ghost use Rattle.records.specs.Calls.{Working};
+ghost use Rattle.records.specs.Calls.{Does, _into_};
 ghost use Rattle.normalize.specs.Normalize.{join, push};
 ghost use Rattle.records.specs.Rules.{listLimit};
 ghost use Rattle.normalize.specs.Pushes.{isEmptyIn, joinsIn, pushed};
@@ -54,8 +54,11 @@ fn join_last(
     list: &mut [u32],
     count: usize,
 ) -> Form
-    requires { ⌜ Ready (lent (now terms) (now cells) (now chars) (now reasons) (now keys)) c ⌝ ∗ ⌜ joinsIn (termsView (now terms) (c .terms)) t (reverse (firstWords (now list) count)) ≡ true ⌝ ∗ ⌜ 0 < count ⌝ ∗ ⌜ count ≤ length (now list) ⌝ }
-    ensures { λ r. ⌜ Working (join t (reverse (firstWords (now (list .entry)) count))) (lent (now (terms .entry)) (now (cells .entry)) (now (chars .entry)) (now (reasons .entry)) (now (keys .entry))) (lent (now (terms .exit)) (now (cells .entry)) (now (chars .exit)) (now (reasons .entry)) (now (keys .entry))) c (pushed r (lent (now (terms .exit)) (now (cells .entry)) (now (chars .exit)) (now (reasons .entry)) (now (keys .entry))) (now (list .exit))) ⌝ }
+    requires { ⌜ Ready (lends terms cells chars reasons keys) c ⌝ }
+    requires { ⌜ joinsIn (termsView (now terms) (c .terms)) t (reverse (firstWords (now list) count)) ≡ true ⌝ }
+    requires { ⌜ 0 < count ⌝ }
+    requires { ⌜ count ≤ length (now list) ⌝ }
+    ensures { λ r. ⌜ Does (join t (reverse (firstWords (now (list .entry)) count))) (across terms cells chars reasons keys) c (pushed r into list) ⌝ }
 {
     let last = count - 1;
     let pair: [u32; 2] = [list[last], t];
@@ -81,8 +84,10 @@ pub(crate) fn push(
     list: &mut [u32],
     count: usize,
 ) -> Form
-    requires { ⌜ Ready (lent (now terms) (now cells) (now chars) (now reasons) (now keys)) c ⌝ ∗ ⌜ count < listLimit ⌝ ∗ ⌜ listLimit ≤ length (now list) ⌝ }
-    ensures { λ r. ⌜ Working (push t (reverse (firstWords (now (list .entry)) count))) (lent (now (terms .entry)) (now (cells .entry)) (now (chars .entry)) (now (reasons .entry)) (now (keys .entry))) (lent (now (terms .exit)) (now (cells .entry)) (now (chars .exit)) (now (reasons .entry)) (now (keys .entry))) c (pushed r (lent (now (terms .exit)) (now (cells .entry)) (now (chars .exit)) (now (reasons .entry)) (now (keys .entry))) (now (list .exit))) ⌝ }
+    requires { ⌜ Ready (lends terms cells chars reasons keys) c ⌝ }
+    requires { ⌜ count < listLimit ⌝ }
+    requires { ⌜ listLimit ≤ length (now list) ⌝ }
+    ensures { λ r. ⌜ Does (push t (reverse (firstWords (now (list .entry)) count))) (across terms cells chars reasons keys) c (pushed r into list) ⌝ }
 {
     if is_empty(terms, c.terms, t) {
         return Form::List(count, c);

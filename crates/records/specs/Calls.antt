@@ -2,9 +2,11 @@
 use mathlib.Core.Path.{_≡_}
 use mathlib.Core.Bool.{Bool, false}
 use mathlib.Core.List.{List}
-use Prim.Native.Nat.{ℕ, zero, suc, _≤_}
+use Prim.Native.Nat.{ℕ, zero, suc, _≤_, _<_}
 use lib.ListN.{take}
 use lib.Dec.{eqb}
+use denote.Ref.{now}
+use denote.Triple.Both.{Both}
 use Rattle.records.specs.declared.State.{State}
 use Rattle.records.specs.declared.Made.{Made}
 use Rattle.records.specs.declared.Made.the-variants.{Term, Refused}
@@ -14,8 +16,21 @@ use Rattle.records.specs.declared.Named.{Named}
 use Rattle.records.specs.Lists.{if_then_else_}
 use Rattle.records.specs.Store.{Store, Out, ok, stop, Work}
 use Rattle.records.specs.View.{Lent, storeOf}
+use Rattle.records.specs.View.{Slice}
 use Rattle.records.specs.Rules.{audit}
 use Rattle.records.specs.Make.{takeName}
+
+-- what was counted is as it was: 'records below those counts keep their contents'
+abbrev pub KeepsStore : Lent → Lent → State → Type 0
+KeepsStore m m′ c = storeOf m′ c ≡ storeOf m c
+
+-- 'Refusals 1 to 5 write nothing'
+abbrev pub writesNothing : ℕ → Type 0
+writesNothing k = k ≤ 5
+
+-- once the arguments pass, refusal 7 alone is given
+abbrev pub fullAlone : ℕ → Type 0
+fullAlone k = 5 < k → k ≡ 7
 
 -- what a public call answers: refusals 1 to 4 by the audit, 5 where an argument is wrong, else its work
 module _ {A : Type 0} where
@@ -29,16 +44,39 @@ module _ {A : Type 0} where
   unfoldable pub call : (Store → Bool) → Work A → Lent → State → Out A
   call fit work m c = unless (audit m c) (checked (fit (storeOf m c)) work (storeOf m c))
 
-  -- 'Refusals 1 to 5 write nothing'; 'records below those counts keep their contents'
+  -- what a public call promises: its answer, when it writes nothing, and what it keeps
   pub record Public (o : Out A) (m m′ : Lent) (c : State) (r : Out A) : Type 0 where
     pub says : r ≡ o
-    pub idle : (k : ℕ) → r ≡ stop k → k ≤ 5 → m′ ≡ m
-    pub kept : storeOf m′ c ≡ storeOf m c
+    pub idle : (k : ℕ) → r ≡ stop k → writesNothing k → m′ ≡ m
+    pub kept : KeepsStore m m′ c
 
   -- a working function does what its definition says, and keeps what was counted
   pub record Working (work : Work A) (m m′ : Lent) (c : State) (r : Out A) : Type 0 where
     pub says : work (storeOf m c) ≡ r
-    pub kept : storeOf m′ c ≡ storeOf m c
+    pub kept : KeepsStore m m′ c
+
+  -- THE WORDS OF CONTRACTS. Slices are passed by their names (View.antt, `across`), and an answer is read in the words at exit
+
+  -- a working function: `Does work (across ..) c (made r)`
+  abbrev pub Does : Work A → Both Lent Lent → State → (Lent → Out A) → Type 0
+  Does work x c f = Working work (x .entry) (x .exit) c (f (x .exit))
+
+  -- a public call, with the test of its arguments
+  abbrev pub Answers : (Store → Bool) → Work A → Both Lent Lent → State → (Lent → Out A) → Type 0
+  Answers fit work x c f = Public (call fit work (x .entry) c) (x .entry) (x .exit) c (f (x .exit))
+
+  -- a call that promises more, as PublicExplain
+  abbrev pub Promises : (Lent → Lent → State → Out A → Type 0) → Both Lent Lent → State → (Lent → Out A) → Type 0
+  Promises P x c f = P (x .entry) (x .exit) c (f (x .exit))
+
+  -- and writes a list
+  abbrev pub Writes : (Lent → Lent → List ℕ → List ℕ → State → Out A → Type 0) → Both Lent Lent → Slice → State → (Lent → List ℕ → Out A) → Type 0
+  Writes P x l c f = P (x .entry) (x .exit) (now (l .entry)) (now (l .exit)) c (f (x .exit) (now (l .exit)))
+
+  -- an answer that a list is part of: `Does work (across ..) c (pushed r into list)`
+  infixl 5 _into_
+  abbrev pub _into_ : (Lent → List ℕ → Out A) → Slice → Lent → Out A
+  _into_ f l m = f m (now (l .exit))
 
 -- the answer of a making call
 abbrev pub made : Made → Lent → Out ℕ

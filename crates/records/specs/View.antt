@@ -4,6 +4,8 @@ use mathlib.Core.List.{List, [], _∷_}
 use Prim.Native.Nat.{ℕ, suc, _+_, _-_, _*_, _/_, min}
 use lib.ListN.{length, getD}
 use lib.Dec.{leb}
+use denote.Ref.{RefT, now}
+use denote.Triple.Both.{Both}
 use Rattle.records.specs.declared.State.{State}
 use Rattle.records.specs.Lists.{table}
 use Rattle.records.specs.Store.{Term, Cell, Room, Store}
@@ -18,6 +20,22 @@ pub record Lent : Type 0 where
 
 abbrev pub lent : List ℕ → List ℕ → List ℕ → List ℕ → List ℕ → Lent
 lent t e h r k = record { terms = t; cells = e; chars = h; reasons = r; keys = k }
+
+-- a lent slice as an `ensures` has it: at the entry of the call, and at its exit. A `&` is the same at both
+abbrev pub Slice : Type 0
+Slice = Both (RefT (List ℕ)) (RefT (List ℕ))
+
+-- the five slices by their names, in a `requires`
+abbrev pub lends : RefT (List ℕ) → RefT (List ℕ) → RefT (List ℕ) → RefT (List ℕ) → RefT (List ℕ) → Lent
+lends t e h r k = lent (now t) (now e) (now h) (now r) (now k)
+
+-- and in an `ensures`, at both moments
+abbrev pub across : Slice → Slice → Slice → Slice → Slice → Both Lent Lent
+across t e h r k = record { entry = lends (t .entry) (e .entry) (h .entry) (r .entry) (k .entry); exit = lends (t .exit) (e .exit) (h .exit) (r .exit) (k .exit) }
+
+-- a promise that names the words at entry and at exit
+abbrev pub Between : {B : Type 1} → (Lent → Lent → B) → Both Lent Lent → B
+Between P x = P (x .entry) (x .exit)
 
 -- 'Up to 512', 'Up to 2,048', 'up to 16,384', 'up to 4,096'
 abbrev pub termLimit : ℕ
@@ -115,6 +133,13 @@ storeOf m c = record {
   names = c .names;
   room = roomOf m;
 }
+
+-- a store of which the terms alone are lent, or the terms and the characters
+abbrev pub termed : List ℕ → State → Store
+termed l c = storeOf (lent l [] [] [] []) c
+
+abbrev pub readIn : List ℕ → List ℕ → State → Store
+readIn l h c = storeOf (lent l [] h [] []) c
 
 -- refusal 1, 'a count above its limit, or a slice too short for it', does not hold; record 0 takes room too
 unfoldable pub sizes : Lent → State → Bool

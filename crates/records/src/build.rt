@@ -7,12 +7,12 @@ ghost use lib.Dec.{leb};
 ghost use lib.ListN.{length, getD};
 ghost use Rattle.records.specs.Lists.{sameWord, firsts, firstBelow};
 ghost use Rattle.records.specs.Store.{chainIn, isString};
-ghost use Rattle.records.specs.View.{termLimit, cellsView, lent};
+ghost use Rattle.records.specs.View.{termLimit, cellsView, lends, across};
 ghost use Rattle.records.specs.Rules.{isList, isEquatable};
 ghost use Rattle.records.specs.Make.{makeConcat, makeLength, makeEquation};
 ghost use Rattle.records.specs.Leaves.{numberOf, Passed, appendParts, hasParts, hasSides, makeSides};
 ghost use Rattle.records.specs.Audited.{Ready, Sized, Ascends};
-ghost use Rattle.records.specs.Calls.{call, Public, Working, made};
+ghost use Rattle.records.specs.Calls.{made, Does, Answers};
 use crate::Made;
 use crate::State;
 use crate::fields::first;
@@ -87,7 +87,9 @@ fn up_to_last(n: usize, l: &[u32]) -> u32
 
 // The lowest-numbered of n terms that is a concatenation of l, which none up to `from` is; 0 where there is none.
 fn find_parts(terms: &[u32], cells: &[u32], n: usize, k: usize, from: u32, l: &[u32]) -> u32
-    requires { ⌜ n ≤ termLimit ⌝ ∗ ⌜ Ascends (cellsView (now cells) k) ⌝ ∗ ⌜ Passed (hasParts (now terms) (cellsView (now cells) k) (now l)) n from ⌝ }
+    requires { ⌜ n ≤ termLimit ⌝ }
+    requires { ⌜ Ascends (cellsView (now cells) k) ⌝ }
+    requires { ⌜ Passed (hasParts (now terms) (cellsView (now cells) k) (now l)) n from ⌝ }
     ensures { λ r. ⌜ r ≡ numberOf (firstBelow (λ i. hasParts (now (terms .entry)) (cellsView (now (cells .entry)) k) (now (l .entry)) (suc i)) n) ⌝ }
 {
     let mut t = from;
@@ -110,8 +112,8 @@ fn append_parts(
     c: State,
     l: &[u32],
 ) -> Made
-    requires { ⌜ Sized (lent (now terms) (now cells) (now chars) (now reasons) (now keys)) c ⌝ }
-    ensures { λ r. ⌜ Working (appendParts (now (l .entry))) (lent (now (terms .entry)) (now (cells .entry)) (now (chars .entry)) (now (reasons .entry)) (now (keys .entry))) (lent (now (terms .exit)) (now (cells .exit)) (now (chars .entry)) (now (reasons .entry)) (now (keys .entry))) c (made r (lent (now (terms .exit)) (now (cells .exit)) (now (chars .entry)) (now (reasons .entry)) (now (keys .entry)))) ⌝ }
+    requires { ⌜ Sized (lends terms cells chars reasons keys) c ⌝ }
+    ensures { λ r. ⌜ Does (appendParts (now (l .entry))) (across terms cells chars reasons keys) c (made r) ⌝ }
 {
     let n = c.terms;
     let k = c.cells;
@@ -135,8 +137,8 @@ pub fn make_concatenation_unchecked(
     c: State,
     l: &[u32],
 ) -> Made
-    requires { ⌜ Ready (lent (now terms) (now cells) (now chars) (now reasons) (now keys)) c ⌝ }
-    ensures { λ r. ⌜ Working (makeConcat (now (l .entry))) (lent (now (terms .entry)) (now (cells .entry)) (now (chars .entry)) (now (reasons .entry)) (now (keys .entry))) (lent (now (terms .exit)) (now (cells .exit)) (now (chars .entry)) (now (reasons .entry)) (now (keys .entry))) c (made r (lent (now (terms .exit)) (now (cells .exit)) (now (chars .entry)) (now (reasons .entry)) (now (keys .entry)))) ⌝ }
+    requires { ⌜ Ready (lends terms cells chars reasons keys) c ⌝ }
+    ensures { λ r. ⌜ Does (makeConcat (now (l .entry))) (across terms cells chars reasons keys) c (made r) ⌝ }
 {
     let from = up_to_last(c.terms, l);
     let t = find_parts(terms, cells, c.terms, c.cells, from, l);
@@ -186,8 +188,8 @@ fn make_sides(
     a: u32,
     b: u32,
 ) -> Made
-    requires { ⌜ Ready (lent (now terms) (now cells) (now chars) (now reasons) (now keys)) c ⌝ ∗ ⌜ (k ≡ 4) ⊎ (k ≡ 5) ⌝ }
-    ensures { λ r. ⌜ Working (makeSides k a b) (lent (now (terms .entry)) (now (cells .entry)) (now (chars .entry)) (now (reasons .entry)) (now (keys .entry))) (lent (now (terms .exit)) (now (cells .entry)) (now (chars .entry)) (now (reasons .entry)) (now (keys .entry))) c (made r (lent (now (terms .exit)) (now (cells .entry)) (now (chars .entry)) (now (reasons .entry)) (now (keys .entry)))) ⌝ }
+    requires { ⌜ Ready (lends terms cells chars reasons keys) c ⌝ ∗ ⌜ (k ≡ 4) ⊎ (k ≡ 5) ⌝ }
+    ensures { λ r. ⌜ Does (makeSides k a b) (across terms cells chars reasons keys) c (made r) ⌝ }
 {
     let from = up_to_part(c.terms, higher(a, b));
     let t = find_sides(terms, c.terms, from, k, a, b);
@@ -211,8 +213,8 @@ pub fn make_length_unchecked(
     c: State,
     t: u32,
 ) -> Made
-    requires { ⌜ Ready (lent (now terms) (now cells) (now chars) (now reasons) (now keys)) c ⌝ }
-    ensures { λ r. ⌜ Working (makeLength t) (lent (now (terms .entry)) (now (cells .entry)) (now (chars .entry)) (now (reasons .entry)) (now (keys .entry))) (lent (now (terms .exit)) (now (cells .entry)) (now (chars .entry)) (now (reasons .entry)) (now (keys .entry))) c (made r (lent (now (terms .exit)) (now (cells .entry)) (now (chars .entry)) (now (reasons .entry)) (now (keys .entry)))) ⌝ }
+    requires { ⌜ Ready (lends terms cells chars reasons keys) c ⌝ }
+    ensures { λ r. ⌜ Does (makeLength t) (across terms cells chars reasons keys) c (made r) ⌝ }
 {
     make_sides(terms, cells, chars, reasons, keys, c, 4, t, 0)
 }
@@ -227,8 +229,8 @@ pub fn make_equation_unchecked(
     a: u32,
     b: u32,
 ) -> Made
-    requires { ⌜ Ready (lent (now terms) (now cells) (now chars) (now reasons) (now keys)) c ⌝ }
-    ensures { λ r. ⌜ Working (makeEquation a b) (lent (now (terms .entry)) (now (cells .entry)) (now (chars .entry)) (now (reasons .entry)) (now (keys .entry))) (lent (now (terms .exit)) (now (cells .entry)) (now (chars .entry)) (now (reasons .entry)) (now (keys .entry))) c (made r (lent (now (terms .exit)) (now (cells .entry)) (now (chars .entry)) (now (reasons .entry)) (now (keys .entry)))) ⌝ }
+    requires { ⌜ Ready (lends terms cells chars reasons keys) c ⌝ }
+    ensures { λ r. ⌜ Does (makeEquation a b) (across terms cells chars reasons keys) c (made r) ⌝ }
 {
     make_sides(terms, cells, chars, reasons, keys, c, 5, a, b)
 }
@@ -244,7 +246,7 @@ pub fn make_concatenation(
     c: State,
     l: &[u32],
 ) -> Made
-    ensures { λ r. ⌜ Public (call (λ s. leb 2 (length (now (l .entry))) && isList s (now (l .entry))) (makeConcat (now (l .entry))) (lent (now (terms .entry)) (now (cells .entry)) (now (chars .entry)) (now (reasons .entry)) (now (keys .entry))) c) (lent (now (terms .entry)) (now (cells .entry)) (now (chars .entry)) (now (reasons .entry)) (now (keys .entry))) (lent (now (terms .exit)) (now (cells .exit)) (now (chars .entry)) (now (reasons .entry)) (now (keys .entry))) c (made r (lent (now (terms .exit)) (now (cells .exit)) (now (chars .entry)) (now (reasons .entry)) (now (keys .entry)))) ⌝ }
+    ensures { λ r. ⌜ Answers (λ s. leb 2 (length (now (l .entry))) && isList s (now (l .entry))) (makeConcat (now (l .entry))) (across terms cells chars reasons keys) c (made r) ⌝ }
 {
     let k = crate::audit(terms, cells, chars, reasons, keys, c);
     if k != 0 {
@@ -268,7 +270,7 @@ pub fn make_length(
     c: State,
     t: u32,
 ) -> Made
-    ensures { λ r. ⌜ Public (call (λ s. isString s t) (makeLength t) (lent (now (terms .entry)) (now (cells .entry)) (now (chars .entry)) (now (reasons .entry)) (now (keys .entry))) c) (lent (now (terms .entry)) (now (cells .entry)) (now (chars .entry)) (now (reasons .entry)) (now (keys .entry))) (lent (now (terms .exit)) (now (cells .entry)) (now (chars .entry)) (now (reasons .entry)) (now (keys .entry))) c (made r (lent (now (terms .exit)) (now (cells .entry)) (now (chars .entry)) (now (reasons .entry)) (now (keys .entry)))) ⌝ }
+    ensures { λ r. ⌜ Answers (λ s. isString s t) (makeLength t) (across terms cells chars reasons keys) c (made r) ⌝ }
 {
     let k = crate::audit(terms, cells, chars, reasons, keys, c);
     if k != 0 {
@@ -290,7 +292,7 @@ pub fn make_equation(
     a: u32,
     b: u32,
 ) -> Made
-    ensures { λ r. ⌜ Public (call (λ s. isEquatable s a b) (makeEquation a b) (lent (now (terms .entry)) (now (cells .entry)) (now (chars .entry)) (now (reasons .entry)) (now (keys .entry))) c) (lent (now (terms .entry)) (now (cells .entry)) (now (chars .entry)) (now (reasons .entry)) (now (keys .entry))) (lent (now (terms .exit)) (now (cells .entry)) (now (chars .entry)) (now (reasons .entry)) (now (keys .entry))) c (made r (lent (now (terms .exit)) (now (cells .entry)) (now (chars .entry)) (now (reasons .entry)) (now (keys .entry)))) ⌝ }
+    ensures { λ r. ⌜ Answers (λ s. isEquatable s a b) (makeEquation a b) (across terms cells chars reasons keys) c (made r) ⌝ }
 {
     let k = crate::audit(terms, cells, chars, reasons, keys, c);
     if k != 0 {

@@ -7,7 +7,7 @@ ghost use lib.Dec.{eqb};
 ghost use Rattle.records.specs.Lists.{all, firstOf, upTo, Every};
 ghost use Rattle.records.specs.Leaves.{marked, isMarked};
 ghost use Rattle.records.specs.Store.{within, chainIn, classUp, forestUp, rootIn, topIn, root, top, aboveIn, orNone, nearestIn};
-ghost use Rattle.records.specs.View.{lent, storeOf, termLimit, termsView, cellsView};
+ghost use Rattle.records.specs.View.{lent, storeOf, termLimit, termsView, cellsView, termed};
 ghost use Rattle.records.specs.Rules.{eachTerm, parentsRule, endsRule, edgeLabel, labelRule, classesRule, stampBelow, fallsRule, congruenceRule, edgeRule, congruencesRule};
 ghost use Rattle.records.specs.Leaves.{aloneAt, classTest, pairWords, pairMeets};
 ghost use Rattle.records.specs.Audited.{Closed, Rooted, Pathed, TermPair, Congruable};
@@ -105,7 +105,7 @@ pub fn nearest_unchecked(terms: &[u32], n: usize, a: u32, b: u32) -> u32
 
 fn parents_ok(terms: &[u32], c: State, t: u32) -> bool
     requires { ⌜ within (c .terms) t ≡ true ⌝ }
-    ensures { λ r. ⌜ r ≡ parentsRule (storeOf (lent (now (terms .entry)) [] [] [] []) c) t ⌝ }
+    ensures { λ r. ⌜ r ≡ parentsRule (termed (now (terms .entry)) c) t ⌝ }
 {
     let p = fields::class_parent(terms, t);
     if !rules::is_within(c.terms, p) {
@@ -118,7 +118,7 @@ fn parents_ok(terms: &[u32], c: State, t: u32) -> bool
 fn parents_hold(terms: &[u32], c: State) -> bool
     requires { ⌜ c .terms ≤ termLimit ⌝ }
     ensures { λ r. do
-      let s = storeOf (lent (now (terms .entry)) [] [] [] []) c
+      let s = termed (now (terms .entry)) c
       ⌜ r ≡ eachTerm s (parentsRule s) ⌝ }
 {
     let mut i: u32 = 0;
@@ -133,8 +133,8 @@ fn parents_hold(terms: &[u32], c: State) -> bool
 
 // r is the root of t's class and q the root of its tree: each is its own parent.
 fn ends_ok(terms: &[u32], c: State, t: u32, r: u32, q: u32) -> bool
-    requires { ⌜ Rooted (storeOf (lent (now terms) [] [] [] []) c) (c .terms) t r q ⌝ }
-    ensures { λ b. ⌜ b ≡ endsRule (storeOf (lent (now (terms .entry)) [] [] [] []) c) t ⌝ }
+    requires { ⌜ Rooted (termed (now terms) c) (c .terms) t r q ⌝ }
+    ensures { λ b. ⌜ b ≡ endsRule (termed (now (terms .entry)) c) t ⌝ }
 {
     let p = fields::class_parent(terms, r);
     if p != r {
@@ -167,7 +167,7 @@ fn edge_label_ok(k: u32, v: u32) -> bool
 
 fn label_ok(terms: &[u32], c: State, t: u32) -> bool
     requires { ⌜ within (c .terms) t ≡ true ⌝ }
-    ensures { λ r. ⌜ r ≡ labelRule (storeOf (lent (now (terms .entry)) [] [] [] []) c) t ⌝ }
+    ensures { λ r. ⌜ r ≡ labelRule (termed (now (terms .entry)) c) t ⌝ }
 {
     let p = fields::forest_parent(terms, t);
     let k = fields::label_kind(terms, t);
@@ -187,7 +187,7 @@ fn label_ok(terms: &[u32], c: State, t: u32) -> bool
 
 fn alone_ok(terms: &[u32], c: State, t: u32) -> bool
     requires { ⌜ within (c .terms) t ≡ true ⌝ }
-    ensures { λ r. ⌜ r ≡ aloneAt (storeOf (lent (now (terms .entry)) [] [] [] []) c) t ⌝ }
+    ensures { λ r. ⌜ r ≡ aloneAt (termed (now (terms .entry)) c) t ⌝ }
 {
     let p = fields::class_parent(terms, t);
     if p == t {
@@ -202,9 +202,9 @@ fn alone_ok(terms: &[u32], c: State, t: u32) -> bool
 // One term's tests, with the roots that were climbed to at hand.
 pub(crate) fn rooted_ok(terms: &[u32], c: State, t: u32, r: u32, q: u32, p: u32, u: u32) -> bool
     requires { do
-      let s = storeOf (lent (now terms) [] [] [] []) c
+      let s = termed (now terms) c
       ⌜ Rooted s (c .terms) t r q ⌝ ∗ ⌜ p ≡ root s q ⌝ ∗ ⌜ u ≡ top s r ⌝ }
-    ensures { λ b. ⌜ b ≡ classTest (storeOf (lent (now (terms .entry)) [] [] [] []) c) t ⌝ }
+    ensures { λ b. ⌜ b ≡ classTest (termed (now (terms .entry)) c) t ⌝ }
 {
     if !ends_ok(terms, c, t, r, q) {
         return false;
@@ -220,9 +220,9 @@ pub(crate) fn rooted_ok(terms: &[u32], c: State, t: u32, r: u32, q: u32, p: u32,
 
 fn class_ok(terms: &[u32], c: State, t: u32) -> bool
     requires { do
-      let s = storeOf (lent (now terms) [] [] [] []) c
+      let s = termed (now terms) c
       ⌜ (within (c .terms) t ≡ true) × (eachTerm s (parentsRule s) ≡ true) ⌝ }
-    ensures { λ b. ⌜ b ≡ classTest (storeOf (lent (now (terms .entry)) [] [] [] []) c) t ⌝ }
+    ensures { λ b. ⌜ b ≡ classTest (termed (now (terms .entry)) c) t ⌝ }
 {
     let r = root_unchecked(terms, c.terms, t);
     let q = top_unchecked(terms, c.terms, t);
@@ -233,10 +233,10 @@ fn class_ok(terms: &[u32], c: State, t: u32) -> bool
 
 fn classes_few(terms: &[u32], c: State) -> bool
     requires { do
-      let s = storeOf (lent (now terms) [] [] [] []) c
+      let s = termed (now terms) c
       ⌜ (c .terms ≤ termLimit) × (eachTerm s (parentsRule s) ≡ true) ⌝ }
     ensures { λ r. do
-      let s = storeOf (lent (now (terms .entry)) [] [] [] []) c
+      let s = termed (now (terms .entry)) c
       ⌜ r ≡ eachTerm s (classTest s) ⌝ }
 {
     let mut i: u32 = 0;
@@ -252,10 +252,10 @@ fn classes_few(terms: &[u32], c: State) -> bool
 // Tables of roots have to be cleared at each call, so few terms go without.
 fn classes_hold(terms: &[u32], c: State) -> bool
     requires { do
-      let s = storeOf (lent (now terms) [] [] [] []) c
+      let s = termed (now terms) c
       ⌜ (c .terms ≤ termLimit) × (eachTerm s (parentsRule s) ≡ true) ⌝ }
     ensures { λ r. do
-      let s = storeOf (lent (now (terms .entry)) [] [] [] []) c
+      let s = termed (now (terms .entry)) c
       ⌜ r ≡ eachTerm s (classTest s) ⌝ }
 {
     if c.terms < 32 {
@@ -267,7 +267,7 @@ fn classes_hold(terms: &[u32], c: State) -> bool
 // Refusal 3 is not due.
 pub(crate) fn classes_ok(terms: &[u32], c: State) -> bool
     requires { ⌜ c .terms ≤ termLimit ⌝ }
-    ensures { λ r. ⌜ r ≡ classesRule (storeOf (lent (now (terms .entry)) [] [] [] []) c) ⌝ }
+    ensures { λ r. ⌜ r ≡ classesRule (termed (now (terms .entry)) c) ⌝ }
 {
     if !parents_hold(terms, c) {
         return false;
@@ -302,8 +302,8 @@ fn stamps_below(terms: &[u32], n: usize, y: u32, x: u32, m: u32) -> bool
 }
 
 fn falls_ok(terms: &[u32], c: State, m: u32, a: u32, b: u32) -> bool
-    requires { ⌜ Pathed (storeOf (lent (now terms) [] [] [] []) c) (c .terms) × (within (c .terms) a ≡ true) × (within (c .terms) b ≡ true) ⌝ }
-    ensures { λ r. ⌜ r ≡ fallsRule (storeOf (lent (now (terms .entry)) [] [] [] []) c) m (a, b) ⌝ }
+    requires { ⌜ Pathed (termed (now terms) c) (c .terms) × (within (c .terms) a ≡ true) × (within (c .terms) b ≡ true) ⌝ }
+    ensures { λ r. ⌜ r ≡ fallsRule (termed (now (terms .entry)) c) m (a, b) ⌝ }
 {
     let x = nearest_unchecked(terms, c.terms, a, b);
     if x == 0 {
@@ -371,8 +371,8 @@ fn pairs_ok(cells: &[u32], n: usize, p: u32, a: u32, b: u32) -> bool
 
 // Every pair of the chain from p has a path whose stamps are below m.
 fn falls_hold(terms: &[u32], cells: &[u32], c: State, m: u32, p: u32) -> bool
-    requires { ⌜ Pathed (storeOf (lent (now terms) [] [] [] []) c) (c .terms) × Every (TermPair (c .terms)) (chainIn (cellsView (now cells) (c .cells)) p) ⌝ }
-    ensures { λ r. ⌜ r ≡ all (fallsRule (storeOf (lent (now (terms .entry)) [] [] [] []) c) m) (chainIn (cellsView (now (cells .entry)) (c .cells)) p) ⌝ }
+    requires { ⌜ Pathed (termed (now terms) c) (c .terms) × Every (TermPair (c .terms)) (chainIn (cellsView (now cells) (c .cells)) p) ⌝ }
+    ensures { λ r. ⌜ r ≡ all (fallsRule (termed (now (terms .entry)) c) m) (chainIn (cellsView (now (cells .entry)) (c .cells)) p) ⌝ }
 {
     let mut x = p;
     let mut i: usize = 0;

@@ -2,7 +2,7 @@
 ghost use mathlib.Core.Path.{_≡_};
 ghost use Prim.Native.Nat.{_+_, _<_, _≤_};
 ghost use Rattle.records.specs.Rules.{audit};
-ghost use Rattle.records.specs.View.{lent, termLimit, cellLimit, charLimit, reasonLimit, keyLimit, oneTerm, moreCells, moreChars, oneReason, oneKey, namesAt};
+ghost use Rattle.records.specs.View.{termLimit, cellLimit, charLimit, reasonLimit, keyLimit, oneTerm, moreCells, moreChars, oneReason, oneKey, namesAt, across};
 
 pub mod build;
 pub mod classes;
@@ -38,7 +38,7 @@ pub fn audit(
     keys: &[u32],
     c: State,
 ) -> u32
-    ensures { λ r. ⌜ r ≡ audit (lent (now (terms .entry)) (now (cells .entry)) (now (chars .entry)) (now (reasons .entry)) (now (keys .entry))) c ⌝ }
+    ensures { λ r. ⌜ r ≡ audit (across terms cells chars reasons keys .entry) c ⌝ }
 {
     if !rules::sizes(terms, cells, chars, reasons, keys, c) {
         return 1;

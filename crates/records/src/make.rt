@@ -7,13 +7,13 @@ ghost use lib.Dec.{leb};
 ghost use lib.ListN.{length};
 ghost use Rattle.records.specs.Lists.{all, joined, firstBelow};
 ghost use Rattle.records.specs.Store.{within, isConstant, text};
-ghost use Rattle.records.specs.View.{termLimit, charLimit, charRoom, lent, storeOf, textAt, lengths};
+ghost use Rattle.records.specs.View.{termLimit, charLimit, charRoom, storeOf, textAt, lengths, lends, across};
 ghost use Rattle.records.specs.Rules.{isChar, listLimit, named};
 ghost use Rattle.records.specs.Make.{lookup, makeConstant, makeVariable};
 ghost use Rattle.records.specs.Leaves.{numberOf, hasText, appendText, makeText};
 ghost use Rattle.records.specs.Puts.{TextsWithin};
 ghost use Rattle.records.specs.Audited.{Ready, Sized};
-ghost use Rattle.records.specs.Calls.{Working, Public, call, made};
+ghost use Rattle.records.specs.Calls.{made, Does, Answers};
 use crate::Made;
 use crate::State;
 use crate::fields::first;
@@ -79,8 +79,8 @@ fn append_text(
     k: u32,
     w: &[u32],
 ) -> Made
-    requires { ⌜ Sized (lent (now terms) (now cells) (now chars) (now reasons) (now keys)) c ⌝ }
-    ensures { λ r. ⌜ Working (appendText k (now (w .entry))) (lent (now (terms .entry)) (now (cells .entry)) (now (chars .entry)) (now (reasons .entry)) (now (keys .entry))) (lent (now (terms .exit)) (now (cells .entry)) (now (chars .exit)) (now (reasons .entry)) (now (keys .entry))) c (made r (lent (now (terms .exit)) (now (cells .entry)) (now (chars .exit)) (now (reasons .entry)) (now (keys .entry)))) ⌝ }
+    requires { ⌜ Sized (lends terms cells chars reasons keys) c ⌝ }
+    ensures { λ r. ⌜ Does (appendText k (now (w .entry))) (across terms cells chars reasons keys) c (made r) ⌝ }
 {
     if !text_fits(chars, c.chars, w.len()) {
         return Made::Refused(8);
@@ -106,8 +106,8 @@ fn make_text(
     k: u32,
     w: &[u32],
 ) -> Made
-    requires { ⌜ Ready (lent (now terms) (now cells) (now chars) (now reasons) (now keys)) c ⌝ ∗ ⌜ within 2 k ≡ true ⌝ }
-    ensures { λ r. ⌜ Working (makeText k (now (w .entry))) (lent (now (terms .entry)) (now (cells .entry)) (now (chars .entry)) (now (reasons .entry)) (now (keys .entry))) (lent (now (terms .exit)) (now (cells .entry)) (now (chars .exit)) (now (reasons .entry)) (now (keys .entry))) c (made r (lent (now (terms .exit)) (now (cells .entry)) (now (chars .exit)) (now (reasons .entry)) (now (keys .entry)))) ⌝ }
+    requires { ⌜ Ready (lends terms cells chars reasons keys) c ⌝ ∗ ⌜ within 2 k ≡ true ⌝ }
+    ensures { λ r. ⌜ Does (makeText k (now (w .entry))) (across terms cells chars reasons keys) c (made r) ⌝ }
 {
     let t = find_text_unchecked(terms, chars, c.terms, k, w);
     if t != 0 {
@@ -125,8 +125,8 @@ pub fn make_constant_unchecked(
     c: State,
     w: &[u32],
 ) -> Made
-    requires { ⌜ Ready (lent (now terms) (now cells) (now chars) (now reasons) (now keys)) c ⌝ }
-    ensures { λ r. ⌜ Working (makeConstant (now (w .entry))) (lent (now (terms .entry)) (now (cells .entry)) (now (chars .entry)) (now (reasons .entry)) (now (keys .entry))) (lent (now (terms .exit)) (now (cells .entry)) (now (chars .exit)) (now (reasons .entry)) (now (keys .entry))) c (made r (lent (now (terms .exit)) (now (cells .entry)) (now (chars .exit)) (now (reasons .entry)) (now (keys .entry)))) ⌝ }
+    requires { ⌜ Ready (lends terms cells chars reasons keys) c ⌝ }
+    ensures { λ r. ⌜ Does (makeConstant (now (w .entry))) (across terms cells chars reasons keys) c (made r) ⌝ }
 {
     make_text(terms, cells, chars, reasons, keys, c, 1, w)
 }
@@ -140,8 +140,8 @@ pub fn make_variable_unchecked(
     c: State,
     w: &[u32],
 ) -> Made
-    requires { ⌜ Ready (lent (now terms) (now cells) (now chars) (now reasons) (now keys)) c ⌝ }
-    ensures { λ r. ⌜ Working (makeVariable (now (w .entry))) (lent (now (terms .entry)) (now (cells .entry)) (now (chars .entry)) (now (reasons .entry)) (now (keys .entry))) (lent (now (terms .exit)) (now (cells .entry)) (now (chars .exit)) (now (reasons .entry)) (now (keys .entry))) c (made r (lent (now (terms .exit)) (now (cells .entry)) (now (chars .exit)) (now (reasons .entry)) (now (keys .entry)))) ⌝ }
+    requires { ⌜ Ready (lends terms cells chars reasons keys) c ⌝ }
+    ensures { λ r. ⌜ Does (makeVariable (now (w .entry))) (across terms cells chars reasons keys) c (made r) ⌝ }
 {
     make_text(terms, cells, chars, reasons, keys, c, 2, w)
 }
@@ -156,15 +156,18 @@ pub fn make_new_variable_unchecked(
     c: State,
     w: &[u32],
 ) -> Made
-    requires { ⌜ Ready (lent (now terms) (now cells) (now chars) (now reasons) (now keys)) c ⌝ ∗ ⌜ lookup (named (now w)) (storeOf (lent (now terms) (now cells) (now chars) (now reasons) (now keys)) c) ≡ none ⌝ }
-    ensures { λ r. ⌜ Working (makeVariable (now (w .entry))) (lent (now (terms .entry)) (now (cells .entry)) (now (chars .entry)) (now (reasons .entry)) (now (keys .entry))) (lent (now (terms .exit)) (now (cells .entry)) (now (chars .exit)) (now (reasons .entry)) (now (keys .entry))) c (made r (lent (now (terms .exit)) (now (cells .entry)) (now (chars .exit)) (now (reasons .entry)) (now (keys .entry)))) ⌝ }
+    requires { ⌜ Ready (lends terms cells chars reasons keys) c ⌝ }
+    requires { ⌜ lookup (named (now w)) (storeOf (lends terms cells chars reasons keys) c) ≡ none ⌝ }
+    ensures { λ r. ⌜ Does (makeVariable (now (w .entry))) (across terms cells chars reasons keys) c (made r) ⌝ }
 {
     append_text(terms, cells, chars, reasons, keys, c, 2, w)
 }
 
 // Whether term t is the constant of the joined texts of a list, of `total` characters. Only texts of one length are compared.
 fn has_joined(terms: &[u32], chars: &[u32], t: u32, list: &[u32], total: usize) -> bool
-    requires { ⌜ length (now list) ≤ listLimit ⌝ ∗ ⌜ TextsWithin (now terms) (length (now chars)) (now list) ⌝ ∗ ⌜ total ≡ lengths (now terms) (now list) ⌝ }
+    requires { ⌜ length (now list) ≤ listLimit ⌝ }
+    requires { ⌜ TextsWithin (now terms) (length (now chars)) (now list) ⌝ }
+    requires { ⌜ total ≡ lengths (now terms) (now list) ⌝ }
     ensures { λ r. ⌜ r ≡ hasText (now (terms .entry)) (now (chars .entry)) 1 (joined (textAt (now (terms .entry)) (now (chars .entry))) (now (list .entry))) t ⌝ }
 {
     if kind(terms, t) != 1 {
@@ -179,7 +182,10 @@ fn has_joined(terms: &[u32], chars: &[u32], t: u32, list: &[u32], total: usize) 
 
 // The lowest-numbered of n terms that is the constant of the joined texts of a list; 0 where there is none.
 fn find_joined(terms: &[u32], chars: &[u32], n: usize, list: &[u32], total: usize) -> u32
-    requires { ⌜ n ≤ termLimit ⌝ ∗ ⌜ length (now list) ≤ listLimit ⌝ ∗ ⌜ TextsWithin (now terms) (length (now chars)) (now list) ⌝ ∗ ⌜ total ≡ lengths (now terms) (now list) ⌝ }
+    requires { ⌜ n ≤ termLimit ⌝ }
+    requires { ⌜ length (now list) ≤ listLimit ⌝ }
+    requires { ⌜ TextsWithin (now terms) (length (now chars)) (now list) ⌝ }
+    requires { ⌜ total ≡ lengths (now terms) (now list) ⌝ }
     ensures { λ r. ⌜ r ≡ numberOf (firstBelow (λ i. hasText (now (terms .entry)) (now (chars .entry)) 1 (joined (textAt (now (terms .entry)) (now (chars .entry))) (now (list .entry))) (suc i)) n) ⌝ }
 {
     let mut t: u32 = 0;
@@ -202,8 +208,10 @@ pub fn join_constants_unchecked(
     c: State,
     list: &[u32],
 ) -> Made
-    requires { ⌜ Ready (lent (now terms) (now cells) (now chars) (now reasons) (now keys)) c ⌝ ∗ ⌜ length (now list) ≤ listLimit ⌝ ∗ ⌜ all (isConstant (storeOf (lent (now terms) (now cells) (now chars) (now reasons) (now keys)) c)) (now list) ≡ true ⌝ }
-    ensures { λ r. ⌜ Working (λ s. makeConstant (joined (text s) (now (list .entry))) s) (lent (now (terms .entry)) (now (cells .entry)) (now (chars .entry)) (now (reasons .entry)) (now (keys .entry))) (lent (now (terms .exit)) (now (cells .entry)) (now (chars .exit)) (now (reasons .entry)) (now (keys .entry))) c (made r (lent (now (terms .exit)) (now (cells .entry)) (now (chars .exit)) (now (reasons .entry)) (now (keys .entry)))) ⌝ }
+    requires { ⌜ Ready (lends terms cells chars reasons keys) c ⌝ }
+    requires { ⌜ length (now list) ≤ listLimit ⌝ }
+    requires { ⌜ all (isConstant (storeOf (lends terms cells chars reasons keys) c)) (now list) ≡ true ⌝ }
+    ensures { λ r. ⌜ Does (λ s. makeConstant (joined (text s) (now (list .entry))) s) (across terms cells chars reasons keys) c (made r) ⌝ }
 {
     let total = joined_length_unchecked(terms, list);
     let t = find_joined(terms, chars, c.terms, list, total);
@@ -233,7 +241,7 @@ pub fn make_constant(
     c: State,
     w: &[u32],
 ) -> Made
-    ensures { λ r. ⌜ Public (call (λ s. all isChar (now (w .entry))) (makeConstant (now (w .entry))) (lent (now (terms .entry)) (now (cells .entry)) (now (chars .entry)) (now (reasons .entry)) (now (keys .entry))) c) (lent (now (terms .entry)) (now (cells .entry)) (now (chars .entry)) (now (reasons .entry)) (now (keys .entry))) (lent (now (terms .exit)) (now (cells .entry)) (now (chars .exit)) (now (reasons .entry)) (now (keys .entry))) c (made r (lent (now (terms .exit)) (now (cells .entry)) (now (chars .exit)) (now (reasons .entry)) (now (keys .entry)))) ⌝ }
+    ensures { λ r. ⌜ Answers (λ s. all isChar (now (w .entry))) (makeConstant (now (w .entry))) (across terms cells chars reasons keys) c (made r) ⌝ }
 {
     let k = crate::audit(terms, cells, chars, reasons, keys, c);
     if k != 0 {
@@ -255,7 +263,7 @@ pub fn make_variable(
     c: State,
     w: &[u32],
 ) -> Made
-    ensures { λ r. ⌜ Public (call (λ s. leb 1 (length (now (w .entry))) && all isChar (now (w .entry))) (makeVariable (now (w .entry))) (lent (now (terms .entry)) (now (cells .entry)) (now (chars .entry)) (now (reasons .entry)) (now (keys .entry))) c) (lent (now (terms .entry)) (now (cells .entry)) (now (chars .entry)) (now (reasons .entry)) (now (keys .entry))) (lent (now (terms .exit)) (now (cells .entry)) (now (chars .exit)) (now (reasons .entry)) (now (keys .entry))) c (made r (lent (now (terms .exit)) (now (cells .entry)) (now (chars .exit)) (now (reasons .entry)) (now (keys .entry)))) ⌝ }
+    ensures { λ r. ⌜ Answers (λ s. leb 1 (length (now (w .entry))) && all isChar (now (w .entry))) (makeVariable (now (w .entry))) (across terms cells chars reasons keys) c (made r) ⌝ }
 {
     let k = crate::audit(terms, cells, chars, reasons, keys, c);
     if k != 0 {

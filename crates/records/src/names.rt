@@ -2,7 +2,7 @@
 ghost use mathlib.Core.Path.{_≡_};
 ghost use Prim.Native.Nat.{_+_, _≤_};
 ghost use lib.ListN.{length};
-ghost use Rattle.records.specs.View.{lent, storeOf};
+ghost use Rattle.records.specs.View.{storeOf, lends, across};
 ghost use Rattle.records.specs.Make.{decimalBy, nameOf, isTaken};
 ghost use Rattle.records.specs.Puts.{Written};
 ghost use Rattle.records.specs.Audited.{Ready};
@@ -52,8 +52,8 @@ fn is_taken(
     c: State,
     x: u32,
 ) -> bool
-    requires { ⌜ Ready (lent (now terms) (now cells) (now chars) (now reasons) (now keys)) c ⌝ }
-    ensures { λ r. ⌜ r ≡ isTaken (storeOf (lent (now (terms .entry)) (now (cells .entry)) (now (chars .entry)) (now (reasons .entry)) (now (keys .entry))) c) x ⌝ }
+    requires { ⌜ Ready (lends terms cells chars reasons keys) c ⌝ }
+    ensures { λ r. ⌜ r ≡ isTaken (storeOf (across terms cells chars reasons keys .entry) c) x ⌝ }
 {
     let mut name: [u32; 15] = [0; 15];
     let len = put_name(&mut name, x);
@@ -69,8 +69,8 @@ fn free_name(
     keys: &[u32],
     c: State,
 ) -> u32
-    requires { ⌜ Ready (lent (now terms) (now cells) (now chars) (now reasons) (now keys)) c ⌝ }
-    ensures { λ r. ⌜ Free (storeOf (lent (now (terms .entry)) (now (cells .entry)) (now (chars .entry)) (now (reasons .entry)) (now (keys .entry))) c) r ⌝ }
+    requires { ⌜ Ready (lends terms cells chars reasons keys) c ⌝ }
+    ensures { λ r. ⌜ Free (storeOf (across terms cells chars reasons keys .entry) c) r ⌝ }
 {
     let mut x = c.names;
     while x < crate::NAME_LIMIT {
@@ -91,8 +91,8 @@ pub fn take_name_unchecked(
     keys: &[u32],
     c: State,
 ) -> Named
-    requires { ⌜ Ready (lent (now terms) (now cells) (now chars) (now reasons) (now keys)) c ⌝ }
-    ensures { λ r. ⌜ Taken (lent (now (terms .entry)) (now (cells .entry)) (now (chars .entry)) (now (reasons .entry)) (now (keys .entry))) c r ⌝ }
+    requires { ⌜ Ready (lends terms cells chars reasons keys) c ⌝ }
+    ensures { λ r. ⌜ Taken (across terms cells chars reasons keys .entry) c r ⌝ }
 {
     let mut name: [u32; 15] = [0; 15];
     let x = free_name(terms, cells, chars, reasons, keys, c);

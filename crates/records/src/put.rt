@@ -4,10 +4,10 @@ ghost use Prim.Native.Nat.{_+_, _*_, _/_, _<_, _≤_, min, max};
 ghost use lib.Dec.{ltb, leb};
 ghost use lib.ListN.{length};
 ghost use Rattle.records.specs.Lists.{any};
-ghost use Rattle.records.specs.View.{termLimit, cellLimit, termRoom, cellRoom, pairAt, pairsView, lent};
+ghost use Rattle.records.specs.View.{termLimit, cellLimit, termRoom, cellRoom, pairAt, pairsView, across};
 ghost use Rattle.records.specs.Make.{addReason, addKey, ordered, samePair};
 ghost use Rattle.records.specs.Puts.{TermPut, CellPut, ChainPut, PairPut, Pushed};
-ghost use Rattle.records.specs.Calls.{Working, added};
+ghost use Rattle.records.specs.Calls.{added, Does};
 
 // One term more fits.
 pub(crate) fn term_fits(terms: &[u32], n: usize) -> bool
@@ -113,7 +113,7 @@ pub fn add_reason_unchecked(
     kind: u32,
     value: u32,
 ) -> crate::Added
-    ensures { λ r. ⌜ Working (addReason kind value) (lent (now (terms .entry)) (now (cells .entry)) (now (chars .entry)) (now (reasons .entry)) (now (keys .entry))) (lent (now (terms .entry)) (now (cells .entry)) (now (chars .entry)) (now (reasons .exit)) (now (keys .entry))) c (added r (lent (now (terms .entry)) (now (cells .entry)) (now (chars .entry)) (now (reasons .exit)) (now (keys .entry)))) ⌝ }
+    ensures { λ r. ⌜ Does (addReason kind value) (across terms cells chars reasons keys) c (added r) ⌝ }
 {
     if push_reason_unchecked(reasons, c.reasons, kind, value) {
         return crate::Added::Counts(c.with_reason());
@@ -149,7 +149,7 @@ pub fn add_key_unchecked(
     a: u32,
     b: u32,
 ) -> crate::Added
-    ensures { λ r. ⌜ Working (addKey a b) (lent (now (terms .entry)) (now (cells .entry)) (now (chars .entry)) (now (reasons .entry)) (now (keys .entry))) (lent (now (terms .entry)) (now (cells .entry)) (now (chars .entry)) (now (reasons .entry)) (now (keys .exit))) c (added r (lent (now (terms .entry)) (now (cells .entry)) (now (chars .entry)) (now (reasons .entry)) (now (keys .exit)))) ⌝ }
+    ensures { λ r. ⌜ Does (addKey a b) (across terms cells chars reasons keys) c (added r) ⌝ }
 {
     if pair_fits(keys, crate::KEY_LIMIT, c.keys) {
         push_pair(keys, c.keys, lower(a, b), higher(a, b));

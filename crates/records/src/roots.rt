@@ -6,7 +6,7 @@ ghost use mathlib.Core.List.{[]};
 ghost use Prim.Native.Nat.{_≤_, _<_};
 ghost use lib.ListN.{set};
 ghost use Rattle.records.specs.Store.{within, classUp, forestUp, rootIn, topIn};
-ghost use Rattle.records.specs.View.{lent, storeOf, termLimit, termsView};
+ghost use Rattle.records.specs.View.{termLimit, termsView, termed};
 ghost use Rattle.records.specs.Rules.{eachTerm, parentsRule};
 ghost use Rattle.records.specs.Leaves.{classTest};
 ghost use Rattle.records.specs.Audited.{Closed};
@@ -17,7 +17,10 @@ use crate::fields;
 
 // The root of t's class, as root_unchecked has it.
 pub fn kept_root_unchecked(terms: &[u32], n: usize, t: u32, roots: &[u32; 513]) -> u32
-    requires { ⌜ n ≤ termLimit ⌝ ∗ ⌜ within n t ≡ true ⌝ ∗ ⌜ Closed (classUp (termsView (now terms) n)) n ⌝ ∗ ⌜ Ends (classUp (termsView (now terms) n)) n (now roots) ⌝ }
+    requires { ⌜ n ≤ termLimit ⌝ }
+    requires { ⌜ within n t ≡ true ⌝ }
+    requires { ⌜ Closed (classUp (termsView (now terms) n)) n ⌝ }
+    requires { ⌜ Ends (classUp (termsView (now terms) n)) n (now roots) ⌝ }
     ensures { λ r. ⌜ r ≡ rootIn (termsView (now (terms .entry)) n) t ⌝ }
 {
     let mut x = t;
@@ -39,7 +42,10 @@ pub fn kept_root_unchecked(terms: &[u32], n: usize, t: u32, roots: &[u32; 513]) 
 
 // The root of t's tree in the forest, likewise.
 fn kept_top_unchecked(terms: &[u32], n: usize, t: u32, tops: &[u32; 513]) -> u32
-    requires { ⌜ n ≤ termLimit ⌝ ∗ ⌜ within n t ≡ true ⌝ ∗ ⌜ Closed (forestUp (termsView (now terms) n)) n ⌝ ∗ ⌜ Ends (forestUp (termsView (now terms) n)) n (now tops) ⌝ }
+    requires { ⌜ n ≤ termLimit ⌝ }
+    requires { ⌜ within n t ≡ true ⌝ }
+    requires { ⌜ Closed (forestUp (termsView (now terms) n)) n ⌝ }
+    requires { ⌜ Ends (forestUp (termsView (now terms) n)) n (now tops) ⌝ }
     ensures { λ r. ⌜ r ≡ topIn (termsView (now (terms .entry)) n) t ⌝ }
 {
     let mut x = t;
@@ -77,9 +83,9 @@ fn class_kept_ok(
     tops: &mut [u32; 513],
 ) -> bool
     requires { do
-      let s = storeOf (lent (now terms) [] [] [] []) c
+      let s = termed (now terms) c
       ⌜ c .terms ≤ termLimit ⌝ ∗ ⌜ within (c .terms) t ≡ true ⌝ ∗ ⌜ eachTerm s (parentsRule s) ≡ true ⌝ ∗ ⌜ Kept s (c .terms) (now roots) (now tops) ⌝ }
-    ensures { λ b. ⌜ Tested (storeOf (lent (now (terms .entry)) [] [] [] []) c) (c .terms) t b (now (roots .exit)) (now (tops .exit)) ⌝ }
+    ensures { λ b. ⌜ Tested (termed (now (terms .entry)) c) (c .terms) t b (now (roots .exit)) (now (tops .exit)) ⌝ }
 {
     let r = kept_root_unchecked(terms, c.terms, t, roots);
     let q = kept_top_unchecked(terms, c.terms, t, tops);
@@ -95,10 +101,10 @@ fn class_kept_ok(
 
 pub(crate) fn classes_many(terms: &[u32], c: State) -> bool
     requires { do
-      let s = storeOf (lent (now terms) [] [] [] []) c
+      let s = termed (now terms) c
       ⌜ (c .terms ≤ termLimit) × (eachTerm s (parentsRule s) ≡ true) ⌝ }
     ensures { λ r. do
-      let s = storeOf (lent (now (terms .entry)) [] [] [] []) c
+      let s = termed (now (terms .entry)) c
       ⌜ r ≡ eachTerm s (classTest s) ⌝ }
 {
     let mut roots: [u32; 513] = [0; 513];

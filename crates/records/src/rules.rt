@@ -7,7 +7,7 @@ ghost use lib.ListN.{length};
 ghost use lib.Dec.{leb};
 ghost use Rattle.records.specs.Lists.{all};
 ghost use Rattle.records.specs.Store.{termIn, within, cell, chain};
-ghost use Rattle.records.specs.View.{lent, storeOf, termsView, charsView, pairsView, termLimit, cellLimit, charLimit, reasonLimit, keyLimit, sizes};
+ghost use Rattle.records.specs.View.{lent, storeOf, termsView, charsView, pairsView, termLimit, cellLimit, charLimit, reasonLimit, keyLimit, sizes, lends, across, termed, readIn};
 ghost use Rattle.records.specs.Rules.{isChar, isNumber, reasonRule, keyRule, cellRule, textRule, partRule, concatRule, lengthRule, isEquatable, equationRule, termRule, recordsRule, eachTerm, eachCell, isList};
 ghost use Rattle.records.specs.Marks.{Tables, Passing};
 ghost use Rattle.records.specs.Audited.{Sized};
@@ -117,7 +117,7 @@ pub(crate) fn sizes(
     keys: &[u32],
     c: State,
 ) -> bool
-    ensures { λ r. ⌜ r ≡ sizes (lent (now (terms .entry)) (now (cells .entry)) (now (chars .entry)) (now (reasons .entry)) (now (keys .entry))) c ⌝ }
+    ensures { λ r. ⌜ r ≡ sizes (across terms cells chars reasons keys .entry) c ⌝ }
 {
     if !terms_fit(terms, c.terms) {
         return false;
@@ -146,7 +146,7 @@ fn reason_ok(k: u32, v: u32) -> bool
 }
 
 fn key_ok(terms: &[u32], c: State, a: u32, b: u32) -> bool
-    ensures { λ r. ⌜ r ≡ keyRule (storeOf (lent (now (terms .entry)) [] [] [] []) c) (a, b) ⌝ }
+    ensures { λ r. ⌜ r ≡ keyRule (termed (now (terms .entry)) c) (a, b) ⌝ }
 {
     if b <= a {
         return false;
@@ -173,7 +173,7 @@ fn cell_ok(cells: &[u32], c: State, i: u32) -> bool
 
 pub(crate) fn text_ok(terms: &[u32], c: State, t: u32) -> bool
     requires { ⌜ within (c .terms) t ≡ true ⌝ }
-    ensures { λ r. ⌜ r ≡ textRule (storeOf (lent (now (terms .entry)) [] [] [] []) c) t ⌝ }
+    ensures { λ r. ⌜ r ≡ textRule (termed (now (terms .entry)) c) t ⌝ }
 {
     let p = fields::first(terms, t);
     let n = fields::second(terms, t);
@@ -199,7 +199,7 @@ fn part_ok(terms: &[u32], cells: &[u32], c: State, t: u32, i: u32) -> bool
 
 fn length_ok(terms: &[u32], c: State, t: u32) -> bool
     requires { ⌜ within (c .terms) t ≡ true ⌝ }
-    ensures { λ r. ⌜ r ≡ lengthRule (storeOf (lent (now (terms .entry)) [] [] [] []) c) t ⌝ }
+    ensures { λ r. ⌜ r ≡ lengthRule (termed (now (terms .entry)) c) t ⌝ }
 {
     let o = fields::second(terms, t);
     if o != 0 {
@@ -213,7 +213,7 @@ fn length_ok(terms: &[u32], c: State, t: u32) -> bool
 }
 
 pub fn is_equatable(terms: &[u32], c: State, a: u32, b: u32) -> bool
-    ensures { λ r. ⌜ r ≡ isEquatable (storeOf (lent (now (terms .entry)) [] [] [] []) c) a b ⌝ }
+    ensures { λ r. ⌜ r ≡ isEquatable (termed (now (terms .entry)) c) a b ⌝ }
 {
     if is_string(terms, c.terms, a) {
         return is_string(terms, c.terms, b);
@@ -226,7 +226,7 @@ pub fn is_equatable(terms: &[u32], c: State, a: u32, b: u32) -> bool
 
 // A list of string terms that is not too long.
 pub fn is_list(terms: &[u32], c: State, l: &[u32]) -> bool
-    ensures { λ r. ⌜ r ≡ isList (storeOf (lent (now (terms .entry)) [] [] [] []) c) (now (l .entry)) ⌝ }
+    ensures { λ r. ⌜ r ≡ isList (termed (now (terms .entry)) c) (now (l .entry)) ⌝ }
 {
     if l.len() > crate::LIST_LIMIT {
         return false;
@@ -243,7 +243,7 @@ pub fn is_list(terms: &[u32], c: State, l: &[u32]) -> bool
 
 fn equation_ok(terms: &[u32], c: State, t: u32) -> bool
     requires { ⌜ within (c .terms) t ≡ true ⌝ }
-    ensures { λ r. ⌜ r ≡ equationRule (storeOf (lent (now (terms .entry)) [] [] [] []) c) t ⌝ }
+    ensures { λ r. ⌜ r ≡ equationRule (termed (now (terms .entry)) c) t ⌝ }
 {
     let a = fields::first(terms, t);
     let b = fields::second(terms, t);
@@ -300,8 +300,8 @@ fn term_ok(
     heads: &mut [u32; 64],
     t: u32,
 ) -> bool
-    requires { ⌜ (within (c .terms) t ≡ true) × (c .chars ≤ length (now chars)) × Tables (storeOf (lent (now terms) [] (now chars) [] []) c) (now marks) (now links) (now heads) t ⌝ }
-    ensures { λ r. ⌜ Passing (storeOf (lent (now (terms .entry)) [] (now (chars .entry)) [] []) c) (termRule (storeOf (lent (now (terms .entry)) (now (cells .entry)) (now (chars .entry)) [] []) c) t) (now (marks .exit)) (now (links .exit)) (now (heads .exit)) t r ⌝ }
+    requires { ⌜ (within (c .terms) t ≡ true) × (c .chars ≤ length (now chars)) × Tables (readIn (now terms) (now chars) c) (now marks) (now links) (now heads) t ⌝ }
+    ensures { λ r. ⌜ Passing (readIn (now (terms .entry)) (now (chars .entry)) c) (termRule (storeOf (lent (now (terms .entry)) (now (cells .entry)) (now (chars .entry)) [] []) c) t) (now (marks .exit)) (now (links .exit)) (now (heads .exit)) t r ⌝ }
 {
     let k = fields::kind(terms, t);
     match k {
@@ -364,7 +364,7 @@ fn reasons_ok(reasons: &[u32], n: usize) -> bool
 
 fn keys_ok(terms: &[u32], keys: &[u32], c: State) -> bool
     requires { ⌜ c .keys ≤ keyLimit ⌝ }
-    ensures { λ r. ⌜ r ≡ all (keyRule (storeOf (lent (now (terms .entry)) [] [] [] []) c)) (pairsView (now (keys .entry)) (c .keys)) ⌝ }
+    ensures { λ r. ⌜ r ≡ all (keyRule (termed (now (terms .entry)) c)) (pairsView (now (keys .entry)) (c .keys)) ⌝ }
 {
     let mut i: usize = 0;
     while i < c.keys {
@@ -432,8 +432,8 @@ pub(crate) fn records_ok(
     keys: &[u32],
     c: State,
 ) -> bool
-    requires { ⌜ Sized (lent (now terms) (now cells) (now chars) (now reasons) (now keys)) c ⌝ }
-    ensures { λ r. ⌜ r ≡ recordsRule (storeOf (lent (now (terms .entry)) (now (cells .entry)) (now (chars .entry)) (now (reasons .entry)) (now (keys .entry))) c) ⌝ }
+    requires { ⌜ Sized (lends terms cells chars reasons keys) c ⌝ }
+    ensures { λ r. ⌜ r ≡ recordsRule (storeOf (across terms cells chars reasons keys .entry) c) ⌝ }
 {
     if !terms_ok(terms, cells, chars, c) {
         return false;

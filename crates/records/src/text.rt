@@ -118,7 +118,8 @@ fn copy_text(chars: &mut [u32], from: usize, n: usize, at: usize)
 
 // The joined texts of a list of terms, copied to place `to`, which is above them all.
 pub(crate) fn put_joined_unchecked(terms: &[u32], chars: &mut [u32], list: &[u32], to: usize)
-    requires { ⌜ TextsWithin (now terms) to (now list) ⌝ ∗ ⌜ to + lengths (now terms) (now list) ≤ length (now chars) ⌝ }
+    requires { ⌜ TextsWithin (now terms) to (now list) ⌝ }
+    requires { ⌜ to + lengths (now terms) (now list) ≤ length (now chars) ⌝ }
     ensures { λ _. ⌜ CharsPut (now (chars .entry)) (now (chars .exit)) to (joined (textAt (now (terms .entry)) (now (chars .entry))) (now (list .entry))) ⌝ }
 {
     let mut at = to;

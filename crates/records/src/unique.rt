@@ -7,7 +7,7 @@ ghost use mathlib.Core.Bool.{true, _&&_};
 ghost use Prim.Native.Nat.{_+_, _<_, _≤_};
 ghost use lib.ListN.{length, getD};
 ghost use Rattle.records.specs.Store.{isVariable, text};
-ghost use Rattle.records.specs.View.{lent, storeOf, span};
+ghost use Rattle.records.specs.View.{span, readIn};
 ghost use Rattle.records.specs.Rules.{textRule, named, nameRule};
 ghost use Rattle.records.specs.Marks.{markFrom, mark, Marked, Tables, Passing};
 use crate::State;
@@ -29,8 +29,8 @@ fn text_mark(chars: &[u32], p: usize, n: usize) -> u32
 }
 
 fn name_mark(terms: &[u32], chars: &[u32], c: State, t: u32) -> u32
-    requires { ⌜ (c .chars ≤ length (now chars)) × (isVariable (storeOf (lent (now terms) [] (now chars) [] []) c) t ≡ true) × (textRule (storeOf (lent (now terms) [] (now chars) [] []) c) t ≡ true) ⌝ }
-    ensures { λ r. ⌜ r ≡ mark (storeOf (lent (now (terms .entry)) [] (now (chars .entry)) [] []) c) t ⌝ }
+    requires { ⌜ (c .chars ≤ length (now chars)) × (isVariable (readIn (now terms) (now chars) c) t ≡ true) × (textRule (readIn (now terms) (now chars) c) t ≡ true) ⌝ }
+    ensures { λ r. ⌜ r ≡ mark (readIn (now (terms .entry)) (now (chars .entry)) c) t ⌝ }
 {
     let p = fields::wide(fields::first(terms, t));
     let n = fields::wide(fields::second(terms, t));
@@ -39,9 +39,9 @@ fn name_mark(terms: &[u32], chars: &[u32], c: State, t: u32) -> u32
 
 // Whether variable u has t's name; m is the mark of t.
 fn is_named(terms: &[u32], chars: &[u32], c: State, marks: &[u32], m: u32, t: u32, u: u32) -> bool
-    requires { ⌜ (c .chars ≤ length (now chars)) × (u < length (now marks)) × Marked (storeOf (lent (now terms) [] (now chars) [] []) c) m t × Marked (storeOf (lent (now terms) [] (now chars) [] []) c) (getD (now marks) u 0) u ⌝ }
+    requires { ⌜ (c .chars ≤ length (now chars)) × (u < length (now marks)) × Marked (readIn (now terms) (now chars) c) m t × Marked (readIn (now terms) (now chars) c) (getD (now marks) u 0) u ⌝ }
     ensures { λ r. do
-      let s = storeOf (lent (now (terms .entry)) [] (now (chars .entry)) [] []) c
+      let s = readIn (now (terms .entry)) (now (chars .entry)) c
       ⌜ r ≡ named (text s t) s u ⌝ }
 {
     if marks[u as usize] != m {
@@ -63,8 +63,8 @@ fn name_ok(
     m: u32,
     t: u32,
 ) -> bool
-    requires { ⌜ (c .chars ≤ length (now chars)) × Marked (storeOf (lent (now terms) [] (now chars) [] []) c) m t × Tables (storeOf (lent (now terms) [] (now chars) [] []) c) (now marks) (now links) (now heads) t ⌝ }
-    ensures { λ r. ⌜ r ≡ nameRule (storeOf (lent (now (terms .entry)) [] (now (chars .entry)) [] []) c) t ⌝ }
+    requires { ⌜ (c .chars ≤ length (now chars)) × Marked (readIn (now terms) (now chars) c) m t × Tables (readIn (now terms) (now chars) c) (now marks) (now links) (now heads) t ⌝ }
+    ensures { λ r. ⌜ r ≡ nameRule (readIn (now (terms .entry)) (now (chars .entry)) c) t ⌝ }
 {
     let n = fields::second(terms, t);
     if n == 0 {
@@ -90,9 +90,9 @@ pub(crate) fn variable_ok(
     heads: &mut [u32; 64],
     t: u32,
 ) -> bool
-    requires { ⌜ (c .chars ≤ length (now chars)) × (isVariable (storeOf (lent (now terms) [] (now chars) [] []) c) t ≡ true) × Tables (storeOf (lent (now terms) [] (now chars) [] []) c) (now marks) (now links) (now heads) t ⌝ }
+    requires { ⌜ (c .chars ≤ length (now chars)) × (isVariable (readIn (now terms) (now chars) c) t ≡ true) × Tables (readIn (now terms) (now chars) c) (now marks) (now links) (now heads) t ⌝ }
     ensures { λ r. do
-      let s = storeOf (lent (now (terms .entry)) [] (now (chars .entry)) [] []) c
+      let s = readIn (now (terms .entry)) (now (chars .entry)) c
       ⌜ Passing s (textRule s t && nameRule s t) (now (marks .exit)) (now (links .exit)) (now (heads .exit)) t r ⌝ }
 {
     if !text_ok(terms, c, t) {

@@ -8,7 +8,7 @@ use Rattle.records.specs.declared.State.{State}
 use Rattle.records.specs.Store.{Store, Out, ok, stop, Work}
 use Rattle.records.specs.View.{Lent, storeOf}
 use Rattle.records.specs.Rules.{isList}
-use Rattle.records.specs.Calls.{Public, call}
+use Rattle.records.specs.Calls.{Public, call, fullAlone}
 use Rattle.normalize.specs.Calls.{listCall, PublicList}
 use Rattle.wordeq.specs.declared.Equality.{Equality}
 use Rattle.wordeq.specs.declared.Equality.the-variants as equality
@@ -35,7 +35,7 @@ compared (equality.Refused k) m c = stop k
 pub record PublicEqualExplain (l r : List ℕ) (m m′ : Lent) (c : State) (o : Out (Unit {0})) : Type 0 where
   pub is : Public (call (nfArguments l r) (nfExplain l r) m c) m m′ c o
   pub worth : (s′ : Store) → o ≡ ok s′ tt → ExplainsEqual (storeOf m c) s′ l r
-  pub full : (k : ℕ) → o ≡ stop k → 5 < k → k ≡ 7
+  pub full : (k : ℕ) → o ≡ stop k → fullAlone k
 
 -- RESOLVE_EQUATION
 

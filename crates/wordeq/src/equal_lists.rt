@@ -4,9 +4,9 @@ ghost use mathlib.Core.Bool.{true, _&&_};
 ghost use lib.ListN.{length};
 ghost use Rattle.records.specs.Lists.{all, sameWord};
 ghost use Rattle.records.specs.Store.{isConstant, isString, text};
-ghost use Rattle.records.specs.View.{lent};
+ghost use Rattle.records.specs.View.{lends, across};
 ghost use Rattle.records.specs.Audited.{Ready};
-ghost use Rattle.records.specs.Calls.{Working, added};
+ghost use Rattle.records.specs.Calls.{added, Does};
 ghost use Rattle.wordeq.specs.Wordeq.{nfEqual, explainPair, nfExplain};
 ghost use Rattle.wordeq.specs.Stripping.{readIn, Readable, Pair};
 use crate::stripping;
@@ -15,7 +15,9 @@ use records::State;
 
 // Whether two lists of string terms are atom by atom the same.
 pub fn nf_equal_unchecked(terms: &[u32], chars: &[u32], c: State, lhs: &[u32], rhs: &[u32]) -> bool
-    requires { ⌜ Readable (now terms) (now chars) c ⌝ ∗ ⌜ all (isString (readIn (now terms) (now chars) c)) (now lhs) ≡ true ⌝ ∗ ⌜ all (isString (readIn (now terms) (now chars) c)) (now rhs) ≡ true ⌝ }
+    requires { ⌜ Readable (now terms) (now chars) c ⌝ }
+    requires { ⌜ all (isString (readIn (now terms) (now chars) c)) (now lhs) ≡ true ⌝ }
+    requires { ⌜ all (isString (readIn (now terms) (now chars) c)) (now rhs) ≡ true ⌝ }
     ensures { λ r. ⌜ r ≡ nfEqual (readIn (now (terms .entry)) (now (chars .entry)) c) (now (lhs .entry)) (now (rhs .entry)) ⌝ }
 {
     if lhs.len() != rhs.len() {
@@ -53,8 +55,8 @@ fn explain_pair(
     a: u32,
     b: u32,
 ) -> Added
-    requires { ⌜ Ready (lent (now terms) (now cells) (now chars) (now reasons) (now keys)) c ⌝ ∗ ⌜ Pair (readIn (now terms) (now chars) c) a b ⌝ }
-    ensures { λ r. ⌜ Working (explainPair a b) (lent (now (terms .entry)) (now (cells .entry)) (now (chars .entry)) (now (reasons .entry)) (now (keys .entry))) (lent (now (terms .entry)) (now (cells .entry)) (now (chars .entry)) (now (reasons .exit)) (now (keys .entry))) c (added r (lent (now (terms .entry)) (now (cells .entry)) (now (chars .entry)) (now (reasons .exit)) (now (keys .entry)))) ⌝ }
+    requires { ⌜ Ready (lends terms cells chars reasons keys) c ⌝ ∗ ⌜ Pair (readIn (now terms) (now chars) c) a b ⌝ }
+    ensures { λ r. ⌜ Does (explainPair a b) (across terms cells chars reasons keys) c (added r) ⌝ }
 {
     if a == b {
         return Added::Counts(c);
@@ -79,8 +81,11 @@ pub fn nf_equal_explain_unchecked(
     lhs: &[u32],
     rhs: &[u32],
 ) -> Added
-    requires { ⌜ Ready (lent (now terms) (now cells) (now chars) (now reasons) (now keys)) c ⌝ ∗ ⌜ all (isString (readIn (now terms) (now chars) c)) (now lhs) ≡ true ⌝ ∗ ⌜ all (isString (readIn (now terms) (now chars) c)) (now rhs) ≡ true ⌝ ∗ ⌜ length (now lhs) ≡ length (now rhs) ⌝ }
-    ensures { λ r. ⌜ Working (nfExplain (now (lhs .entry)) (now (rhs .entry))) (lent (now (terms .entry)) (now (cells .entry)) (now (chars .entry)) (now (reasons .entry)) (now (keys .entry))) (lent (now (terms .entry)) (now (cells .entry)) (now (chars .entry)) (now (reasons .exit)) (now (keys .entry))) c (added r (lent (now (terms .entry)) (now (cells .entry)) (now (chars .entry)) (now (reasons .exit)) (now (keys .entry)))) ⌝ }
+    requires { ⌜ Ready (lends terms cells chars reasons keys) c ⌝ }
+    requires { ⌜ all (isString (readIn (now terms) (now chars) c)) (now lhs) ≡ true ⌝ }
+    requires { ⌜ all (isString (readIn (now terms) (now chars) c)) (now rhs) ≡ true ⌝ }
+    requires { ⌜ length (now lhs) ≡ length (now rhs) ⌝ }
+    ensures { λ r. ⌜ Does (nfExplain (now (lhs .entry)) (now (rhs .entry))) (across terms cells chars reasons keys) c (added r) ⌝ }
 {
     let mut d = c;
     let mut i: usize = 0;

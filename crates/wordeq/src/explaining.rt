@@ -1,8 +1,8 @@
 // Departure B: the later variables of a side are explained with the first.
 ghost use Rattle.records.specs.Lists.{Every};
-ghost use Rattle.records.specs.View.{termsView, lent};
+ghost use Rattle.records.specs.View.{termsView, lends, across};
 ghost use Rattle.records.specs.Audited.{Ready};
-ghost use Rattle.records.specs.Calls.{Working, added};
+ghost use Rattle.records.specs.Calls.{added, Does};
 ghost use Rattle.wordeq.specs.Wordeq.{explainAll, variables};
 ghost use Rattle.wordeq.specs.Stripping.{readIn, Pair};
 ghost use Rattle.wordeq.specs.Explaining.{OneClass, explainAtom};
@@ -20,8 +20,10 @@ fn explain_atom(
     u: u32,
     v: u32,
 ) -> Added
-    requires { ⌜ Ready (lent (now terms) (now cells) (now chars) (now reasons) (now keys)) c ⌝ ∗ ⌜ Pair (readIn (now terms) (now chars) c) u v ⌝ ∗ ⌜ OneClass (termsView (now terms) (c .terms)) u v ⌝ }
-    ensures { λ r. ⌜ Working (explainAtom u v) (lent (now (terms .entry)) (now (cells .entry)) (now (chars .entry)) (now (reasons .entry)) (now (keys .entry))) (lent (now (terms .entry)) (now (cells .entry)) (now (chars .entry)) (now (reasons .exit)) (now (keys .entry))) c (added r (lent (now (terms .entry)) (now (cells .entry)) (now (chars .entry)) (now (reasons .exit)) (now (keys .entry)))) ⌝ }
+    requires { ⌜ Ready (lends terms cells chars reasons keys) c ⌝ }
+    requires { ⌜ Pair (readIn (now terms) (now chars) c) u v ⌝ }
+    requires { ⌜ OneClass (termsView (now terms) (c .terms)) u v ⌝ }
+    ensures { λ r. ⌜ Does (explainAtom u v) (across terms cells chars reasons keys) c (added r) ⌝ }
 {
     if rules::kind_of(terms, c.terms, u) == 1 {
         return Added::Counts(c);
@@ -40,8 +42,10 @@ pub fn explain_all_unchecked(
     side: &[u32],
     v: u32,
 ) -> Added
-    requires { ⌜ Ready (lent (now terms) (now cells) (now chars) (now reasons) (now keys)) c ⌝ ∗ ⌜ Every (λ u. Pair (readIn (now terms) (now chars) c) u v) (now side) ⌝ ∗ ⌜ Every (λ u. OneClass (termsView (now terms) (c .terms)) u v) (now side) ⌝ }
-    ensures { λ r. ⌜ Working (explainAll (variables (readIn (now (terms .entry)) (now (chars .entry)) c) (now (side .entry))) v) (lent (now (terms .entry)) (now (cells .entry)) (now (chars .entry)) (now (reasons .entry)) (now (keys .entry))) (lent (now (terms .entry)) (now (cells .entry)) (now (chars .entry)) (now (reasons .exit)) (now (keys .entry))) c (added r (lent (now (terms .entry)) (now (cells .entry)) (now (chars .entry)) (now (reasons .exit)) (now (keys .entry)))) ⌝ }
+    requires { ⌜ Ready (lends terms cells chars reasons keys) c ⌝ }
+    requires { ⌜ Every (λ u. Pair (readIn (now terms) (now chars) c) u v) (now side) ⌝ }
+    requires { ⌜ Every (λ u. OneClass (termsView (now terms) (c .terms)) u v) (now side) ⌝ }
+    ensures { λ r. ⌜ Does (explainAll (variables (readIn (now (terms .entry)) (now (chars .entry)) c) (now (side .entry))) v) (across terms cells chars reasons keys) c (added r) ⌝ }
 {
     let mut d = c;
     let mut i: usize = 0;

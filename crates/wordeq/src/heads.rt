@@ -6,10 +6,10 @@ ghost use Prim.Native.Nat.{_≤_};
 ghost use lib.ListN.{length, drop};
 ghost use lib.IntN.{negℤ};
 ghost use Rattle.records.specs.Store.{text};
-ghost use Rattle.records.specs.View.{lent, storeOf};
+ghost use Rattle.records.specs.View.{storeOf, lends, across};
 ghost use Rattle.records.specs.Rules.{listLimit};
 ghost use Rattle.records.specs.Audited.{Ready};
-ghost use Rattle.records.specs.Calls.{Working};
+ghost use Rattle.records.specs.Calls.{Does, _into_};
 ghost use Rattle.wordeq.specs.Wordeq.{_orElse_, isFull, clashes, splits, isGuard};
 ghost use Rattle.wordeq.specs.Results.{BothLists, tried};
 ghost use Rattle.wordeq.specs.Sides.{termed, spelled, Texts, Spelled};
@@ -68,8 +68,10 @@ fn put_atoms(
     b: u32,
     list: &mut [u32],
 ) -> Form
-    requires { ⌜ Ready (lent (now terms) (now cells) (now chars) (now reasons) (now keys)) c ⌝ ∗ ⌜ HeadPair (storeOf (lent (now terms) (now cells) (now chars) (now reasons) (now keys)) c) a b ⌝ ∗ ⌜ 3 ≤ length (now list) ⌝ }
-    ensures { λ r. ⌜ Working (atomsOf a b) (lent (now (terms .entry)) (now (cells .entry)) (now (chars .entry)) (now (reasons .entry)) (now (keys .entry))) (lent (now (terms .exit)) (now (cells .exit)) (now (chars .exit)) (now (reasons .entry)) (now (keys .entry))) c (listed r (lent (now (terms .exit)) (now (cells .exit)) (now (chars .exit)) (now (reasons .entry)) (now (keys .entry))) (now (list .exit))) ⌝ }
+    requires { ⌜ Ready (lends terms cells chars reasons keys) c ⌝ }
+    requires { ⌜ HeadPair (storeOf (lends terms cells chars reasons keys) c) a b ⌝ }
+    requires { ⌜ 3 ≤ length (now list) ⌝ }
+    ensures { λ r. ⌜ Does (atomsOf a b) (across terms cells chars reasons keys) c (listed r into list) ⌝ }
 {
     if is_full(terms, c, b) {
         let x = first_letter(terms, chars, c, b);
@@ -95,8 +97,11 @@ fn split_new(
     guard: i32,
     list: &mut [u32],
 ) -> StepResult
-    requires { ⌜ Ready (lent (now terms) (now cells) (now chars) (now reasons) (now keys)) c ⌝ ∗ ⌜ HeadPair (storeOf (lent (now terms) (now cells) (now chars) (now reasons) (now keys)) c) a b ⌝ ∗ ⌜ isGuard guard ≡ true ⌝ ∗ ⌜ 3 ≤ length (now list) ⌝ }
-    ensures { λ o. ⌜ Working (splitNew guard a b) (lent (now (terms .entry)) (now (cells .entry)) (now (chars .entry)) (now (reasons .entry)) (now (keys .entry))) (lent (now (terms .exit)) (now (cells .exit)) (now (chars .exit)) (now (reasons .entry)) (now (keys .exit))) c (tried o (lent (now (terms .exit)) (now (cells .exit)) (now (chars .exit)) (now (reasons .entry)) (now (keys .exit))) (now (list .exit))) ⌝ }
+    requires { ⌜ Ready (lends terms cells chars reasons keys) c ⌝ }
+    requires { ⌜ HeadPair (storeOf (lends terms cells chars reasons keys) c) a b ⌝ }
+    requires { ⌜ isGuard guard ≡ true ⌝ }
+    requires { ⌜ 3 ≤ length (now list) ⌝ }
+    ensures { λ o. ⌜ Does (splitNew guard a b) (across terms cells chars reasons keys) c (tried o into list) ⌝ }
 {
     let opposite = negated(guard);
     let key = put::add_key_unchecked(terms, cells, chars, reasons, keys, c, a, b);
@@ -127,8 +132,12 @@ pub(crate) fn split_unchecked(
     added: bool,
     list: &mut [u32],
 ) -> StepResult
-    requires { ⌜ Ready (lent (now terms) (now cells) (now chars) (now reasons) (now keys)) c ⌝ ∗ ⌜ BothLists (storeOf (lent (now terms) (now cells) (now chars) (now reasons) (now keys)) c) (now lhs) (now rhs) ⌝ ∗ ⌜ HeadsApart (now lhs) (now rhs) ⌝ ∗ ⌜ isGuard guard ≡ true ⌝ ∗ ⌜ listLimit ≤ length (now list) ⌝ }
-    ensures { λ o. ⌜ Working (clashes (now (lhs .entry)) (now (rhs .entry)) orElse splits guard added (now (lhs .entry)) (now (rhs .entry))) (lent (now (terms .entry)) (now (cells .entry)) (now (chars .entry)) (now (reasons .entry)) (now (keys .entry))) (lent (now (terms .exit)) (now (cells .exit)) (now (chars .exit)) (now (reasons .entry)) (now (keys .exit))) c (tried o (lent (now (terms .exit)) (now (cells .exit)) (now (chars .exit)) (now (reasons .entry)) (now (keys .exit))) (now (list .exit))) ⌝ }
+    requires { ⌜ Ready (lends terms cells chars reasons keys) c ⌝ }
+    requires { ⌜ BothLists (storeOf (lends terms cells chars reasons keys) c) (now lhs) (now rhs) ⌝ }
+    requires { ⌜ HeadsApart (now lhs) (now rhs) ⌝ }
+    requires { ⌜ isGuard guard ≡ true ⌝ }
+    requires { ⌜ listLimit ≤ length (now list) ⌝ }
+    ensures { λ o. ⌜ Does (clashes (now (lhs .entry)) (now (rhs .entry)) orElse splits guard added (now (lhs .entry)) (now (rhs .entry))) (across terms cells chars reasons keys) c (tried o into list) ⌝ }
 {
     if lhs.len() == 0 {
         return StepResult::Done(c);

@@ -1,8 +1,8 @@
 // Word equations, steps 1 to 8.
 ghost use mathlib.Core.Path.{_≡_};
 ghost use mathlib.Core.List.{[]};
-ghost use Rattle.records.specs.View.{lent, storeOf};
-ghost use Rattle.records.specs.Calls.{Public, call, added};
+ghost use Rattle.records.specs.View.{across, termed};
+ghost use Rattle.records.specs.Calls.{added, Answers, Promises, Writes};
 ghost use Rattle.wordeq.specs.Wordeq.{isGuard, resolveArguments, nfArguments};
 ghost use Rattle.wordeq.specs.Results.{resolved};
 ghost use Rattle.wordeq.specs.Calls.{equalArguments, equalLists, compared, PublicEqualExplain, PublicResolve};
@@ -50,7 +50,7 @@ pub enum Equality {
 
 // Two lists of string terms, at most 1,024 each.
 fn are_lists(terms: &[u32], c: State, lhs: &[u32], rhs: &[u32]) -> bool
-    ensures { λ r. ⌜ r ≡ equalArguments (now (lhs .entry)) (now (rhs .entry)) (storeOf (lent (now (terms .entry)) [] [] [] []) c) ⌝ }
+    ensures { λ r. ⌜ r ≡ equalArguments (now (lhs .entry)) (now (rhs .entry)) (termed (now (terms .entry)) c) ⌝ }
 {
     if !rules::is_list(terms, c, lhs) {
         return false;
@@ -60,7 +60,7 @@ fn are_lists(terms: &[u32], c: State, lhs: &[u32], rhs: &[u32]) -> bool
 
 // Two such lists of equal length.
 fn can_pair(terms: &[u32], c: State, lhs: &[u32], rhs: &[u32]) -> bool
-    ensures { λ r. ⌜ r ≡ nfArguments (now (lhs .entry)) (now (rhs .entry)) (storeOf (lent (now (terms .entry)) [] [] [] []) c) ⌝ }
+    ensures { λ r. ⌜ r ≡ nfArguments (now (lhs .entry)) (now (rhs .entry)) (termed (now (terms .entry)) c) ⌝ }
 {
     if !are_lists(terms, c, lhs, rhs) {
         return false;
@@ -79,7 +79,7 @@ pub fn nf_equal(
     lhs: &[u32],
     rhs: &[u32],
 ) -> Equality
-    ensures { λ r. ⌜ Public (call (equalArguments (now (lhs .entry)) (now (rhs .entry))) (equalLists (now (lhs .entry)) (now (rhs .entry))) (lent (now (terms .entry)) (now (cells .entry)) (now (chars .entry)) (now (reasons .entry)) (now (keys .entry))) c) (lent (now (terms .entry)) (now (cells .entry)) (now (chars .entry)) (now (reasons .entry)) (now (keys .entry))) (lent (now (terms .entry)) (now (cells .entry)) (now (chars .entry)) (now (reasons .entry)) (now (keys .entry))) c (compared r (lent (now (terms .entry)) (now (cells .entry)) (now (chars .entry)) (now (reasons .entry)) (now (keys .entry))) c) ⌝ }
+    ensures { λ r. ⌜ Answers (equalArguments (now (lhs .entry)) (now (rhs .entry))) (equalLists (now (lhs .entry)) (now (rhs .entry))) (across terms cells chars reasons keys) c (λ m. compared r m c) ⌝ }
 {
     let k = records::audit(terms, cells, chars, reasons, keys, c);
     if k != 0 {
@@ -102,7 +102,7 @@ pub fn nf_equal_explain(
     lhs: &[u32],
     rhs: &[u32],
 ) -> Added
-    ensures { λ r. ⌜ PublicEqualExplain (now (lhs .entry)) (now (rhs .entry)) (lent (now (terms .entry)) (now (cells .entry)) (now (chars .entry)) (now (reasons .entry)) (now (keys .entry))) (lent (now (terms .entry)) (now (cells .entry)) (now (chars .entry)) (now (reasons .exit)) (now (keys .entry))) c (added r (lent (now (terms .entry)) (now (cells .entry)) (now (chars .entry)) (now (reasons .exit)) (now (keys .entry)))) ⌝ }
+    ensures { λ r. ⌜ Promises (PublicEqualExplain (now (lhs .entry)) (now (rhs .entry))) (across terms cells chars reasons keys) c (added r) ⌝ }
 {
     let k = records::audit(terms, cells, chars, reasons, keys, c);
     if k != 0 {
@@ -129,7 +129,7 @@ pub fn is_guard(g: i32) -> bool
 
 // Two lists of string terms, and a guard.
 fn can_resolve(terms: &[u32], c: State, lhs: &[u32], rhs: &[u32], guard: i32) -> bool
-    ensures { λ r. ⌜ r ≡ resolveArguments (now (lhs .entry)) (now (rhs .entry)) guard (storeOf (lent (now (terms .entry)) [] [] [] []) c) ⌝ }
+    ensures { λ r. ⌜ r ≡ resolveArguments (now (lhs .entry)) (now (rhs .entry)) guard (termed (now (terms .entry)) c) ⌝ }
 {
     if !are_lists(terms, c, lhs, rhs) {
         return false;
@@ -150,7 +150,7 @@ pub fn resolve_equation<'a>(
     guard: i32,
     list: &mut [u32],
 ) -> StepResult
-    ensures { λ o. ⌜ PublicResolve (now (lhs .entry)) (now (rhs .entry)) guard (lent (now (terms .entry)) (now (cells .entry)) (now (chars .entry)) (now (reasons .entry)) (now (keys .entry))) (lent (now (terms .exit)) (now (cells .exit)) (now (chars .exit)) (now (reasons .exit)) (now (keys .exit))) (now (list .entry)) (now (list .exit)) c (resolved o (lent (now (terms .exit)) (now (cells .exit)) (now (chars .exit)) (now (reasons .exit)) (now (keys .exit))) (now (list .exit))) ⌝ }
+    ensures { λ o. ⌜ Writes (PublicResolve (now (lhs .entry)) (now (rhs .entry)) guard) (across terms cells chars reasons keys) list c (resolved o) ⌝ }
 {
     if list.len() < LIST_LIMIT {
         return StepResult::Refused(1);

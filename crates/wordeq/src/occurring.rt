@@ -8,7 +8,7 @@ ghost use lib.Dec.{eqb, ltb};
 ghost use Rattle.records.specs.Lists.{all, keep};
 ghost use Rattle.records.specs.Rules.{listLimit};
 ghost use Rattle.records.specs.Store.{within, rootIn, classUp};
-ghost use Rattle.records.specs.View.{termsView, lent, storeOf};
+ghost use Rattle.records.specs.View.{termsView, storeOf, lends, across, Between};
 ghost use Rattle.records.specs.Audited.{Ready, Closed};
 ghost use Rattle.wordeq.specs.Wordeq.{isFull, occurrence, occurs, _orElse_};
 ghost use Rattle.wordeq.specs.Sides.{termed, Texts};
@@ -51,7 +51,9 @@ fn count_full(terms: &[u32], c: State, l: &[u32]) -> usize
 
 // Whether an atom is of the class of root x, and of the list's n non-empty constants one is at another place.
 fn occurs_here(terms: &[u32], c: State, a: u32, x: u32, n: usize) -> bool
-    requires { ⌜ Texts (now terms) c ⌝ ∗ ⌜ Closed (classUp (termsView (now terms) (c .terms))) (c .terms) ⌝ ∗ ⌜ within (c .terms) a ≡ true ⌝ }
+    requires { ⌜ Texts (now terms) c ⌝ }
+    requires { ⌜ Closed (classUp (termsView (now terms) (c .terms))) (c .terms) ⌝ }
+    requires { ⌜ within (c .terms) a ≡ true ⌝ }
     ensures { λ r. ⌜ r ≡ (eqb (rootIn (termsView (now (terms .entry)) (c .terms)) a) x && ltb (ownCount (termed (now (terms .entry)) c) a) n) ⌝ }
 {
     if root_unchecked(terms, c.terms, a) != x {
@@ -62,7 +64,10 @@ fn occurs_here(terms: &[u32], c: State, a: u32, x: u32, n: usize) -> bool
 
 // The place of the first occurrence; the list's length where there is none.
 fn find(terms: &[u32], c: State, l: &[u32], x: u32) -> usize
-    requires { ⌜ Texts (now terms) c × (length (now l) ≤ listLimit) ⌝ ∗ ⌜ Closed (classUp (termsView (now terms) (c .terms))) (c .terms) ⌝ ∗ ⌜ within (c .terms) x ≡ true ⌝ ∗ ⌜ all (within (c .terms)) (now l) ≡ true ⌝ }
+    requires { ⌜ Texts (now terms) c × (length (now l) ≤ listLimit) ⌝ }
+    requires { ⌜ Closed (classUp (termsView (now terms) (c .terms))) (c .terms) ⌝ }
+    requires { ⌜ within (c .terms) x ≡ true ⌝ }
+    requires { ⌜ all (within (c .terms)) (now l) ≡ true ⌝ }
     ensures { λ i. ⌜ occurrence (termed (now (terms .entry)) c) x [] (now (l .entry)) ≡ atPlace (now (l .entry)) i ⌝ }
 {
     let n = count_full(terms, c, l);
@@ -88,8 +93,9 @@ fn occurs_in(
     lone: &[u32],
     side: &[u32],
 ) -> StepResult
-    requires { ⌜ Ready (lent (now terms) (now cells) (now chars) (now reasons) (now keys)) c ⌝ ∗ ⌜ BothLists (storeOf (lent (now terms) (now cells) (now chars) (now reasons) (now keys)) c) (now lone) (now side) ⌝ }
-    ensures { λ o. ⌜ Tries (occurs (now (lone .entry)) (now (side .entry))) (lent (now (terms .entry)) (now (cells .entry)) (now (chars .entry)) (now (reasons .entry)) (now (keys .entry))) (lent (now (terms .entry)) (now (cells .entry)) (now (chars .entry)) (now (reasons .exit)) (now (keys .entry))) c o ⌝ }
+    requires { ⌜ Ready (lends terms cells chars reasons keys) c ⌝ }
+    requires { ⌜ BothLists (storeOf (lends terms cells chars reasons keys) c) (now lone) (now side) ⌝ }
+    ensures { λ o. ⌜ Between (Tries (occurs (now (lone .entry)) (now (side .entry)))) (across terms cells chars reasons keys) c o ⌝ }
 {
     if lone.len() != 1 {
         return StepResult::Done(c);
@@ -119,8 +125,9 @@ pub(crate) fn occurs_unchecked(
     lhs: &[u32],
     rhs: &[u32],
 ) -> StepResult
-    requires { ⌜ Ready (lent (now terms) (now cells) (now chars) (now reasons) (now keys)) c ⌝ ∗ ⌜ BothLists (storeOf (lent (now terms) (now cells) (now chars) (now reasons) (now keys)) c) (now lhs) (now rhs) ⌝ }
-    ensures { λ o. ⌜ Tries (occurs (now (lhs .entry)) (now (rhs .entry)) orElse occurs (now (rhs .entry)) (now (lhs .entry))) (lent (now (terms .entry)) (now (cells .entry)) (now (chars .entry)) (now (reasons .entry)) (now (keys .entry))) (lent (now (terms .entry)) (now (cells .entry)) (now (chars .entry)) (now (reasons .exit)) (now (keys .entry))) c o ⌝ }
+    requires { ⌜ Ready (lends terms cells chars reasons keys) c ⌝ }
+    requires { ⌜ BothLists (storeOf (lends terms cells chars reasons keys) c) (now lhs) (now rhs) ⌝ }
+    ensures { λ o. ⌜ Between (Tries (occurs (now (lhs .entry)) (now (rhs .entry)) orElse occurs (now (rhs .entry)) (now (lhs .entry)))) (across terms cells chars reasons keys) c o ⌝ }
 {
     let o = occurs_in(terms, cells, chars, reasons, keys, c, lhs, rhs);
     let StepResult::Done(d) = o else {

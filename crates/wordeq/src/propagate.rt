@@ -6,11 +6,11 @@ ghost use Prim.Native.Nat.{_≤_};
 ghost use lib.ListN.{length};
 ghost use Rattle.records.specs.Lists.{all, firstOf, Every};
 ghost use Rattle.records.specs.Store.{isVariable};
-ghost use Rattle.records.specs.View.{lent, storeOf};
+ghost use Rattle.records.specs.View.{storeOf, lends, across, Between};
 ghost use Rattle.records.specs.Rules.{listLimit};
 ghost use Rattle.records.specs.Make.{makeConstant};
 ghost use Rattle.records.specs.Audited.{Ready};
-ghost use Rattle.records.specs.Calls.{Working, made};
+ghost use Rattle.records.specs.Calls.{made, Does};
 ghost use Rattle.wordeq.specs.Wordeq.{same, fixed, letters, alias, empties, assigns, _orElse_};
 ghost use Rattle.wordeq.specs.Results.{BothLists, Tries};
 ghost use Rattle.wordeq.specs.Sides.{termed, spelled, Spelled};
@@ -34,8 +34,10 @@ pub fn side_word_unchecked(
     c: State,
     side: &[u32],
 ) -> Made
-    requires { ⌜ Ready (lent (now terms) (now cells) (now chars) (now reasons) (now keys)) c ⌝ ∗ ⌜ length (now side) ≤ listLimit ⌝ ∗ ⌜ fixed (storeOf (lent (now terms) (now cells) (now chars) (now reasons) (now keys)) c) (now side) ≡ true ⌝ }
-    ensures { λ r. ⌜ Working (λ s. makeConstant (letters s (now (side .entry))) s) (lent (now (terms .entry)) (now (cells .entry)) (now (chars .entry)) (now (reasons .entry)) (now (keys .entry))) (lent (now (terms .exit)) (now (cells .entry)) (now (chars .exit)) (now (reasons .entry)) (now (keys .entry))) c (made r (lent (now (terms .exit)) (now (cells .entry)) (now (chars .exit)) (now (reasons .entry)) (now (keys .entry)))) ⌝ }
+    requires { ⌜ Ready (lends terms cells chars reasons keys) c ⌝ }
+    requires { ⌜ length (now side) ≤ listLimit ⌝ }
+    requires { ⌜ fixed (storeOf (lends terms cells chars reasons keys) c) (now side) ≡ true ⌝ }
+    ensures { λ r. ⌜ Does (λ s. makeConstant (letters s (now (side .entry))) s) (across terms cells chars reasons keys) c (made r) ⌝ }
 {
     make::join_constants_unchecked(terms, cells, chars, reasons, keys, c, side)
 }
@@ -99,7 +101,8 @@ fn is_assigned(terms: &[u32], c: State, l: &[u32], r: &[u32]) -> bool
 
 // The first variable that is not the same as the word is propagated to it.
 fn link_first(terms: &[u32], chars: &[u32], c: State, side: &[u32], word: u32) -> StepResult
-    requires { ⌜ Readable (now terms) (now chars) c ⌝ ∗ ⌜ Every (λ v. Pair (readIn (now terms) (now chars) c) v word) (now side) ⌝ }
+    requires { ⌜ Readable (now terms) (now chars) c ⌝ }
+    requires { ⌜ Every (λ v. Pair (readIn (now terms) (now chars) c) v word) (now side) ⌝ }
     ensures { λ o. ⌜ o ≡ linked c word (firstOf (λ v. not (same (readIn (now (terms .entry)) (now (chars .entry)) c) v word)) (now (side .entry))) ⌝ }
 {
     let mut i: usize = 0;
@@ -123,8 +126,9 @@ fn empties_unchecked(
     c: State,
     side: &[u32],
 ) -> StepResult
-    requires { ⌜ Ready (lent (now terms) (now cells) (now chars) (now reasons) (now keys)) c ⌝ ∗ ⌜ emptied (termed (now terms) c) [] (now side) ≡ true ⌝ }
-    ensures { λ o. ⌜ Tries (empties [] (now (side .entry))) (lent (now (terms .entry)) (now (cells .entry)) (now (chars .entry)) (now (reasons .entry)) (now (keys .entry))) (lent (now (terms .exit)) (now (cells .entry)) (now (chars .exit)) (now (reasons .entry)) (now (keys .entry))) c o ⌝ }
+    requires { ⌜ Ready (lends terms cells chars reasons keys) c ⌝ }
+    requires { ⌜ emptied (termed (now terms) c) [] (now side) ≡ true ⌝ }
+    ensures { λ o. ⌜ Between (Tries (empties [] (now (side .entry)))) (across terms cells chars reasons keys) c o ⌝ }
 {
     let word: [u32; 0] = [];
     let empty = make::make_constant_unchecked(terms, cells, chars, reasons, keys, c, &word);
@@ -145,8 +149,10 @@ fn assigns_unchecked(
     v: u32,
     side: &[u32],
 ) -> StepResult
-    requires { ⌜ Ready (lent (now terms) (now cells) (now chars) (now reasons) (now keys)) c ⌝ ∗ ⌜ length (now side) ≤ listLimit ⌝ ∗ ⌜ (isVariable (termed (now terms) c) v && fixed (termed (now terms) c) (now side)) ≡ true ⌝ }
-    ensures { λ o. ⌜ Tries (assigns (v ∷ []) (now (side .entry))) (lent (now (terms .entry)) (now (cells .entry)) (now (chars .entry)) (now (reasons .entry)) (now (keys .entry))) (lent (now (terms .exit)) (now (cells .entry)) (now (chars .exit)) (now (reasons .entry)) (now (keys .entry))) c o ⌝ }
+    requires { ⌜ Ready (lends terms cells chars reasons keys) c ⌝ }
+    requires { ⌜ length (now side) ≤ listLimit ⌝ }
+    requires { ⌜ (isVariable (termed (now terms) c) v && fixed (termed (now terms) c) (now side)) ≡ true ⌝ }
+    ensures { λ o. ⌜ Between (Tries (assigns (v ∷ []) (now (side .entry)))) (across terms cells chars reasons keys) c o ⌝ }
 {
     let word = side_word_unchecked(terms, cells, chars, reasons, keys, c, side);
     match word {
@@ -166,11 +172,12 @@ pub(crate) fn propagate_unchecked(
     lhs: &[u32],
     rhs: &[u32],
 ) -> StepResult
-    requires { ⌜ Ready (lent (now terms) (now cells) (now chars) (now reasons) (now keys)) c ⌝ ∗ ⌜ BothLists (storeOf (lent (now terms) (now cells) (now chars) (now reasons) (now keys)) c) (now lhs) (now rhs) ⌝ }
+    requires { ⌜ Ready (lends terms cells chars reasons keys) c ⌝ }
+    requires { ⌜ BothLists (storeOf (lends terms cells chars reasons keys) c) (now lhs) (now rhs) ⌝ }
     ensures { λ o. do
       let l = now (lhs .entry)
       let r = now (rhs .entry)
-      ⌜ Tries (alias l r orElse empties l r orElse empties r l orElse assigns l r orElse assigns r l) (lent (now (terms .entry)) (now (cells .entry)) (now (chars .entry)) (now (reasons .entry)) (now (keys .entry))) (lent (now (terms .exit)) (now (cells .entry)) (now (chars .exit)) (now (reasons .entry)) (now (keys .entry))) c o ⌝ }
+      ⌜ Between (Tries (alias l r orElse empties l r orElse empties r l orElse assigns l r orElse assigns r l)) (across terms cells chars reasons keys) c o ⌝ }
 {
     if is_alias(terms, chars, c, lhs, rhs) {
         return StepResult::Propagate(c, lhs[0], rhs[0], false);

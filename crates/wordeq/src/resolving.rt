@@ -6,9 +6,9 @@ ghost use Prim.Native.Nat.{_≤_};
 ghost use lib.ListN.{length};
 ghost use Rattle.records.specs.Lists.{any, joined};
 ghost use Rattle.records.specs.Store.{isConcat};
-ghost use Rattle.records.specs.View.{lent, storeOf};
+ghost use Rattle.records.specs.View.{storeOf, lends, across};
 ghost use Rattle.records.specs.Audited.{Ready};
-ghost use Rattle.records.specs.Calls.{Working};
+ghost use Rattle.records.specs.Calls.{Does, _into_};
 ghost use Rattle.records.specs.Rules.{listLimit};
 ghost use Rattle.normalize.specs.Normalize.{atoms};
 ghost use Rattle.normalize.specs.Flat.{bare, Nested, Appended};
@@ -90,8 +90,11 @@ fn flat_steps(
     guard: i32,
     list: &mut [u32],
 ) -> StepResult
-    requires { ⌜ Ready (lent (now terms) (now cells) (now chars) (now reasons) (now keys)) c ⌝ ∗ ⌜ BothLists (storeOf (lent (now terms) (now cells) (now chars) (now reasons) (now keys)) c) (now lhs) (now rhs) ⌝ ∗ ⌜ isGuard guard ≡ true ⌝ ∗ ⌜ listLimit ≤ length (now list) ⌝ }
-    ensures { λ o. ⌜ Working (flatSteps (now (lhs .entry)) (now (rhs .entry)) guard) (lent (now (terms .entry)) (now (cells .entry)) (now (chars .entry)) (now (reasons .entry)) (now (keys .entry))) (lent (now (terms .exit)) (now (cells .exit)) (now (chars .exit)) (now (reasons .exit)) (now (keys .exit))) c (resolved o (lent (now (terms .exit)) (now (cells .exit)) (now (chars .exit)) (now (reasons .exit)) (now (keys .exit))) (now (list .exit))) ⌝ }
+    requires { ⌜ Ready (lends terms cells chars reasons keys) c ⌝ }
+    requires { ⌜ BothLists (storeOf (lends terms cells chars reasons keys) c) (now lhs) (now rhs) ⌝ }
+    requires { ⌜ isGuard guard ≡ true ⌝ }
+    requires { ⌜ listLimit ≤ length (now list) ⌝ }
+    ensures { λ o. ⌜ Does (flatSteps (now (lhs .entry)) (now (rhs .entry)) guard) (across terms cells chars reasons keys) c (resolved o into list) ⌝ }
 {
     let mut left: [u32; 1024] = [0; 1024];
     let n = flatten_list(terms, cells, c, lhs, &mut left);
@@ -130,8 +133,11 @@ fn run<'a>(
     guard: i32,
     list: &mut [u32],
 ) -> StepResult
-    requires { ⌜ Ready (lent (now terms) (now cells) (now chars) (now reasons) (now keys)) c ⌝ ∗ ⌜ BothLists (storeOf (lent (now terms) (now cells) (now chars) (now reasons) (now keys)) c) (now lhs) (now rhs) ⌝ ∗ ⌜ isGuard guard ≡ true ⌝ ∗ ⌜ listLimit ≤ length (now list) ⌝ }
-    ensures { λ o. ⌜ Working (ran (now (lhs .entry)) (now (rhs .entry)) guard) (lent (now (terms .entry)) (now (cells .entry)) (now (chars .entry)) (now (reasons .entry)) (now (keys .entry))) (lent (now (terms .exit)) (now (cells .exit)) (now (chars .exit)) (now (reasons .exit)) (now (keys .exit))) c (resolved o (lent (now (terms .exit)) (now (cells .exit)) (now (chars .exit)) (now (reasons .exit)) (now (keys .exit))) (now (list .exit))) ⌝ }
+    requires { ⌜ Ready (lends terms cells chars reasons keys) c ⌝ }
+    requires { ⌜ BothLists (storeOf (lends terms cells chars reasons keys) c) (now lhs) (now rhs) ⌝ }
+    requires { ⌜ isGuard guard ≡ true ⌝ }
+    requires { ⌜ listLimit ≤ length (now list) ⌝ }
+    ensures { λ o. ⌜ Does (ran (now (lhs .entry)) (now (rhs .entry)) guard) (across terms cells chars reasons keys) c (resolved o into list) ⌝ }
 {
     if either_concat(terms, c, lhs, rhs) {
         return flat_steps(terms, cells, chars, reasons, keys, c, lhs, rhs, guard, list);
@@ -180,8 +186,11 @@ pub fn resolve_unchecked<'a>(
     guard: i32,
     list: &mut [u32],
 ) -> StepResult
-    requires { ⌜ Ready (lent (now terms) (now cells) (now chars) (now reasons) (now keys)) c ⌝ ∗ ⌜ BothLists (storeOf (lent (now terms) (now cells) (now chars) (now reasons) (now keys)) c) (now lhs) (now rhs) ⌝ ∗ ⌜ isGuard guard ≡ true ⌝ ∗ ⌜ listLimit ≤ length (now list) ⌝ }
-    ensures { λ o. ⌜ Working (resolve (now (lhs .entry)) (now (rhs .entry)) guard) (lent (now (terms .entry)) (now (cells .entry)) (now (chars .entry)) (now (reasons .entry)) (now (keys .entry))) (lent (now (terms .exit)) (now (cells .exit)) (now (chars .exit)) (now (reasons .exit)) (now (keys .exit))) c (resolved o (lent (now (terms .exit)) (now (cells .exit)) (now (chars .exit)) (now (reasons .exit)) (now (keys .exit))) (now (list .exit))) ⌝ }
+    requires { ⌜ Ready (lends terms cells chars reasons keys) c ⌝ }
+    requires { ⌜ BothLists (storeOf (lends terms cells chars reasons keys) c) (now lhs) (now rhs) ⌝ }
+    requires { ⌜ isGuard guard ≡ true ⌝ }
+    requires { ⌜ listLimit ≤ length (now list) ⌝ }
+    ensures { λ o. ⌜ Does (resolve (now (lhs .entry)) (now (rhs .entry)) guard) (across terms cells chars reasons keys) c (resolved o into list) ⌝ }
 {
     let n = c.reasons;
     close(

@@ -5,7 +5,7 @@ ghost use Prim.Native.Nat.{suc, _+_, _<_, _≤_};
 ghost use lib.ListN.{length, drop, getD};
 ghost use Rattle.records.specs.Lists.{if_then_else_, all};
 ghost use Rattle.records.specs.Store.{isConstant, isString};
-ghost use Rattle.records.specs.View.{lent, storeOf};
+ghost use Rattle.records.specs.View.{storeOf, lends, across, Between};
 ghost use Rattle.records.specs.Audited.{Ready};
 ghost use Rattle.records.specs.Rules.{isList, listLimit};
 ghost use Rattle.wordeq.specs.Wordeq.{_orElse_, letters, fits, variables, tileBy, tile};
@@ -99,7 +99,9 @@ fn atom_agrees(terms: &[u32], chars: &[u32], c: State, a: u32, v: u32) -> bool
 
 // Whether each variable of a list is the same as v.
 fn all_agree(terms: &[u32], chars: &[u32], c: State, l: &[u32], v: u32) -> bool
-    requires { ⌜ Readable (now terms) (now chars) c ⌝ ∗ ⌜ all (isString (readIn (now terms) (now chars) c)) (now l) ≡ true ⌝ ∗ ⌜ isString (readIn (now terms) (now chars) c) v ≡ true ⌝ }
+    requires { ⌜ Readable (now terms) (now chars) c ⌝ }
+    requires { ⌜ all (isString (readIn (now terms) (now chars) c)) (now l) ≡ true ⌝ }
+    requires { ⌜ isString (readIn (now terms) (now chars) c) v ≡ true ⌝ }
     ensures { λ b. ⌜ b ≡ all (agrees (readIn (now (terms .entry)) (now (chars .entry)) c) v) (now (l .entry)) ⌝ }
 {
     let mut i: usize = 0;
@@ -121,7 +123,8 @@ fn is_unfit<'a>(
     side: &'a [u32],
     i: usize,
 ) -> bool
-    requires { ⌜ Readable (now terms) (now chars) c ⌝ ∗ ⌜ (length (now word) ≤ listLimit) × (isList (readIn (now terms) (now chars) c) (now side) ≡ true) × FirstVariable (termed (now terms) c) (now side) i × (i < length (now side)) ⌝ }
+    requires { ⌜ Readable (now terms) (now chars) c ⌝ }
+    requires { ⌜ (length (now word) ≤ listLimit) × (isList (readIn (now terms) (now chars) c) (now side) ≡ true) × FirstVariable (termed (now terms) c) (now side) i × (i < length (now side)) ⌝ }
     ensures { λ b. do
       let s = readIn (now (terms .entry)) (now (chars .entry)) c
       ⌜ b ≡ unfit s (now (word .entry)) (now (side .entry)) (getD (now (side .entry)) i 0) (variables s (drop (suc i) (now (side .entry)))) ⌝ }
@@ -145,11 +148,12 @@ fn tile_sides<'a>(
     word: &'a [u32],
     side: &'a [u32],
 ) -> StepResult
-    requires { ⌜ Ready (lent (now terms) (now cells) (now chars) (now reasons) (now keys)) c ⌝ ∗ ⌜ BothLists (storeOf (lent (now terms) (now cells) (now chars) (now reasons) (now keys)) c) (now word) (now side) ⌝ }
+    requires { ⌜ Ready (lends terms cells chars reasons keys) c ⌝ }
+    requires { ⌜ BothLists (storeOf (lends terms cells chars reasons keys) c) (now word) (now side) ⌝ }
     ensures { λ o. do
-      let m = lent (now (terms .entry)) (now (cells .entry)) (now (chars .entry)) (now (reasons .entry)) (now (keys .entry))
+      let m = across terms cells chars reasons keys .entry
       let s = storeOf m c
-      ⌜ Tries (tileBy s (now (word .entry)) (now (side .entry)) (variables s (now (side .entry)))) m (lent (now (terms .entry)) (now (cells .entry)) (now (chars .entry)) (now (reasons .exit)) (now (keys .entry))) c o ⌝ }
+      ⌜ Tries (tileBy s (now (word .entry)) (now (side .entry)) (variables s (now (side .entry)))) m (across terms cells chars reasons keys .exit) c o ⌝ }
 {
     let i = first_variable(terms, c, side);
     if side.len() <= i {
@@ -176,8 +180,9 @@ pub(crate) fn tile_unchecked<'a>(
     lhs: &'a [u32],
     rhs: &'a [u32],
 ) -> StepResult
-    requires { ⌜ Ready (lent (now terms) (now cells) (now chars) (now reasons) (now keys)) c ⌝ ∗ ⌜ BothLists (storeOf (lent (now terms) (now cells) (now chars) (now reasons) (now keys)) c) (now lhs) (now rhs) ⌝ }
-    ensures { λ o. ⌜ Tries (tile (now (lhs .entry)) (now (rhs .entry)) orElse tile (now (rhs .entry)) (now (lhs .entry))) (lent (now (terms .entry)) (now (cells .entry)) (now (chars .entry)) (now (reasons .entry)) (now (keys .entry))) (lent (now (terms .entry)) (now (cells .entry)) (now (chars .entry)) (now (reasons .exit)) (now (keys .entry))) c o ⌝ }
+    requires { ⌜ Ready (lends terms cells chars reasons keys) c ⌝ }
+    requires { ⌜ BothLists (storeOf (lends terms cells chars reasons keys) c) (now lhs) (now rhs) ⌝ }
+    ensures { λ o. ⌜ Between (Tries (tile (now (lhs .entry)) (now (rhs .entry)) orElse tile (now (rhs .entry)) (now (lhs .entry)))) (across terms cells chars reasons keys) c o ⌝ }
 {
     let word = sides::constant_side(terms, c, lhs, rhs);
     let side = sides::other_side(terms, c, lhs, rhs);

@@ -5,11 +5,11 @@ ghost use mathlib.Core.Option.{none};
 ghost use Prim.Native.Nat.{_≤_};
 ghost use lib.ListN.{length, take};
 ghost use Rattle.records.specs.Store.{isString};
-ghost use Rattle.records.specs.View.{lent, storeOf};
+ghost use Rattle.records.specs.View.{storeOf, lends, across};
 ghost use Rattle.records.specs.Rules.{isChar, named};
 ghost use Rattle.records.specs.Make.{lookup, makeVariable};
 ghost use Rattle.records.specs.Audited.{Ready};
-ghost use Rattle.records.specs.Calls.{Working, made};
+ghost use Rattle.records.specs.Calls.{made, Does, _into_};
 ghost use Rattle.wordeq.specs.Wordeq.{freshVariable};
 ghost use Rattle.wordeq.specs.Splits.{listed, prefixAtom, emptyAtom, characterAtom, lengthsAtom, characterAtoms, prefixAtoms, headAtoms};
 use held::taking;
@@ -30,8 +30,10 @@ fn make_named(
     name: &[u32; 15],
     len: usize,
 ) -> Made
-    requires { ⌜ Ready (lent (now terms) (now cells) (now chars) (now reasons) (now keys)) c ⌝ ∗ ⌜ len ≤ 15 ⌝ ∗ ⌜ lookup (named (take len (now name))) (storeOf (lent (now terms) (now cells) (now chars) (now reasons) (now keys)) c) ≡ none ⌝ }
-    ensures { λ r. ⌜ Working (makeVariable (take len (now (name .entry)))) (lent (now (terms .entry)) (now (cells .entry)) (now (chars .entry)) (now (reasons .entry)) (now (keys .entry))) (lent (now (terms .exit)) (now (cells .entry)) (now (chars .exit)) (now (reasons .entry)) (now (keys .entry))) c (made r (lent (now (terms .exit)) (now (cells .entry)) (now (chars .exit)) (now (reasons .entry)) (now (keys .entry)))) ⌝ }
+    requires { ⌜ Ready (lends terms cells chars reasons keys) c ⌝ }
+    requires { ⌜ len ≤ 15 ⌝ }
+    requires { ⌜ lookup (named (take len (now name))) (storeOf (lends terms cells chars reasons keys) c) ≡ none ⌝ }
+    ensures { λ r. ⌜ Does (makeVariable (take len (now (name .entry)))) (across terms cells chars reasons keys) c (made r) ⌝ }
 {
     let all: &[u32] = name;
     make::make_new_variable_unchecked(terms, cells, chars, reasons, keys, c, &all[..len])
@@ -46,8 +48,8 @@ pub fn fresh_str_unchecked(
     keys: &[u32],
     c: State,
 ) -> Made
-    requires { ⌜ Ready (lent (now terms) (now cells) (now chars) (now reasons) (now keys)) c ⌝ }
-    ensures { λ r. ⌜ Working freshVariable (lent (now (terms .entry)) (now (cells .entry)) (now (chars .entry)) (now (reasons .entry)) (now (keys .entry))) (lent (now (terms .exit)) (now (cells .entry)) (now (chars .exit)) (now (reasons .entry)) (now (keys .entry))) c (made r (lent (now (terms .exit)) (now (cells .entry)) (now (chars .exit)) (now (reasons .entry)) (now (keys .entry)))) ⌝ }
+    requires { ⌜ Ready (lends terms cells chars reasons keys) c ⌝ }
+    ensures { λ r. ⌜ Does freshVariable (across terms cells chars reasons keys) c (made r) ⌝ }
 {
     let named = taking::next_name_unchecked(terms, cells, chars, reasons, keys, c);
     if named.code != 0 {
@@ -77,8 +79,9 @@ pub fn prefix_unchecked(
     v: u32,
     h: u32,
 ) -> Made
-    requires { ⌜ Ready (lent (now terms) (now cells) (now chars) (now reasons) (now keys)) c ⌝ ∗ ⌜ isString (storeOf (lent (now terms) (now cells) (now chars) (now reasons) (now keys)) c) h ≡ true ⌝ }
-    ensures { λ r. ⌜ Working (prefixAtom v h) (lent (now (terms .entry)) (now (cells .entry)) (now (chars .entry)) (now (reasons .entry)) (now (keys .entry))) (lent (now (terms .exit)) (now (cells .exit)) (now (chars .exit)) (now (reasons .entry)) (now (keys .entry))) c (made r (lent (now (terms .exit)) (now (cells .exit)) (now (chars .exit)) (now (reasons .entry)) (now (keys .entry)))) ⌝ }
+    requires { ⌜ Ready (lends terms cells chars reasons keys) c ⌝ }
+    requires { ⌜ isString (storeOf (lends terms cells chars reasons keys) c) h ≡ true ⌝ }
+    ensures { λ r. ⌜ Does (prefixAtom v h) (across terms cells chars reasons keys) c (made r) ⌝ }
 {
     let fresh = fresh_str_unchecked(terms, cells, chars, reasons, keys, c);
     match fresh {
@@ -121,8 +124,8 @@ pub fn empty_unchecked(
     c: State,
     v: u32,
 ) -> Made
-    requires { ⌜ Ready (lent (now terms) (now cells) (now chars) (now reasons) (now keys)) c ⌝ }
-    ensures { λ r. ⌜ Working (emptyAtom v) (lent (now (terms .entry)) (now (cells .entry)) (now (chars .entry)) (now (reasons .entry)) (now (keys .entry))) (lent (now (terms .exit)) (now (cells .entry)) (now (chars .exit)) (now (reasons .entry)) (now (keys .entry))) c (made r (lent (now (terms .exit)) (now (cells .entry)) (now (chars .exit)) (now (reasons .entry)) (now (keys .entry)))) ⌝ }
+    requires { ⌜ Ready (lends terms cells chars reasons keys) c ⌝ }
+    ensures { λ r. ⌜ Does (emptyAtom v) (across terms cells chars reasons keys) c (made r) ⌝ }
 {
     let word: [u32; 0] = [];
     let empty = make::make_constant_unchecked(terms, cells, chars, reasons, keys, c, &word);
@@ -152,8 +155,8 @@ pub fn character_unchecked(
     v: u32,
     ch: u32,
 ) -> Made
-    requires { ⌜ Ready (lent (now terms) (now cells) (now chars) (now reasons) (now keys)) c ⌝ ∗ ⌜ isChar ch ≡ true ⌝ }
-    ensures { λ r. ⌜ Working (characterAtom v ch) (lent (now (terms .entry)) (now (cells .entry)) (now (chars .entry)) (now (reasons .entry)) (now (keys .entry))) (lent (now (terms .exit)) (now (cells .exit)) (now (chars .exit)) (now (reasons .entry)) (now (keys .entry))) c (made r (lent (now (terms .exit)) (now (cells .exit)) (now (chars .exit)) (now (reasons .entry)) (now (keys .entry)))) ⌝ }
+    requires { ⌜ Ready (lends terms cells chars reasons keys) c ⌝ ∗ ⌜ isChar ch ≡ true ⌝ }
+    ensures { λ r. ⌜ Does (characterAtom v ch) (across terms cells chars reasons keys) c (made r) ⌝ }
 {
     let word: [u32; 1] = [ch];
     let head = make::make_constant_unchecked(terms, cells, chars, reasons, keys, c, &word);
@@ -174,8 +177,10 @@ pub fn lengths_unchecked(
     a: u32,
     b: u32,
 ) -> Made
-    requires { ⌜ Ready (lent (now terms) (now cells) (now chars) (now reasons) (now keys)) c ⌝ ∗ ⌜ isString (storeOf (lent (now terms) (now cells) (now chars) (now reasons) (now keys)) c) a ≡ true ⌝ ∗ ⌜ isString (storeOf (lent (now terms) (now cells) (now chars) (now reasons) (now keys)) c) b ≡ true ⌝ }
-    ensures { λ r. ⌜ Working (lengthsAtom a b) (lent (now (terms .entry)) (now (cells .entry)) (now (chars .entry)) (now (reasons .entry)) (now (keys .entry))) (lent (now (terms .exit)) (now (cells .entry)) (now (chars .entry)) (now (reasons .entry)) (now (keys .entry))) c (made r (lent (now (terms .exit)) (now (cells .entry)) (now (chars .entry)) (now (reasons .entry)) (now (keys .entry)))) ⌝ }
+    requires { ⌜ Ready (lends terms cells chars reasons keys) c ⌝ }
+    requires { ⌜ isString (storeOf (lends terms cells chars reasons keys) c) a ≡ true ⌝ }
+    requires { ⌜ isString (storeOf (lends terms cells chars reasons keys) c) b ≡ true ⌝ }
+    ensures { λ r. ⌜ Does (lengthsAtom a b) (across terms cells chars reasons keys) c (made r) ⌝ }
 {
     let left = build::make_length_unchecked(terms, cells, chars, reasons, keys, c, a);
     match left {
@@ -211,8 +216,11 @@ pub fn split_character_unchecked(
     ch: u32,
     list: &mut [u32],
 ) -> Form
-    requires { ⌜ Ready (lent (now terms) (now cells) (now chars) (now reasons) (now keys)) c ⌝ ∗ ⌜ isString (storeOf (lent (now terms) (now cells) (now chars) (now reasons) (now keys)) c) v ≡ true ⌝ ∗ ⌜ isChar ch ≡ true ⌝ ∗ ⌜ 2 ≤ length (now list) ⌝ }
-    ensures { λ r. ⌜ Working (characterAtoms v ch) (lent (now (terms .entry)) (now (cells .entry)) (now (chars .entry)) (now (reasons .entry)) (now (keys .entry))) (lent (now (terms .exit)) (now (cells .exit)) (now (chars .exit)) (now (reasons .entry)) (now (keys .entry))) c (listed r (lent (now (terms .exit)) (now (cells .exit)) (now (chars .exit)) (now (reasons .entry)) (now (keys .entry))) (now (list .exit))) ⌝ }
+    requires { ⌜ Ready (lends terms cells chars reasons keys) c ⌝ }
+    requires { ⌜ isString (storeOf (lends terms cells chars reasons keys) c) v ≡ true ⌝ }
+    requires { ⌜ isChar ch ≡ true ⌝ }
+    requires { ⌜ 2 ≤ length (now list) ⌝ }
+    ensures { λ r. ⌜ Does (characterAtoms v ch) (across terms cells chars reasons keys) c (listed r into list) ⌝ }
 {
     let first = empty_unchecked(terms, cells, chars, reasons, keys, c, v);
     match first {
@@ -244,8 +252,11 @@ fn put_prefixes(
     p: u32,
     list: &mut [u32],
 ) -> Form
-    requires { ⌜ Ready (lent (now terms) (now cells) (now chars) (now reasons) (now keys)) c ⌝ ∗ ⌜ isString (storeOf (lent (now terms) (now cells) (now chars) (now reasons) (now keys)) c) a ≡ true ⌝ ∗ ⌜ isString (storeOf (lent (now terms) (now cells) (now chars) (now reasons) (now keys)) c) b ≡ true ⌝ ∗ ⌜ 3 ≤ length (now list) ⌝ }
-    ensures { λ r. ⌜ Working (prefixAtoms p a b) (lent (now (terms .entry)) (now (cells .entry)) (now (chars .entry)) (now (reasons .entry)) (now (keys .entry))) (lent (now (terms .exit)) (now (cells .exit)) (now (chars .exit)) (now (reasons .entry)) (now (keys .entry))) c (listed r (lent (now (terms .exit)) (now (cells .exit)) (now (chars .exit)) (now (reasons .entry)) (now (keys .entry))) (now (list .exit))) ⌝ }
+    requires { ⌜ Ready (lends terms cells chars reasons keys) c ⌝ }
+    requires { ⌜ isString (storeOf (lends terms cells chars reasons keys) c) a ≡ true ⌝ }
+    requires { ⌜ isString (storeOf (lends terms cells chars reasons keys) c) b ≡ true ⌝ }
+    requires { ⌜ 3 ≤ length (now list) ⌝ }
+    ensures { λ r. ⌜ Does (prefixAtoms p a b) (across terms cells chars reasons keys) c (listed r into list) ⌝ }
 {
     let first = prefix_unchecked(terms, cells, chars, reasons, keys, c, a, b);
     match first {
@@ -277,8 +288,11 @@ pub fn split_heads_unchecked(
     b: u32,
     list: &mut [u32],
 ) -> Form
-    requires { ⌜ Ready (lent (now terms) (now cells) (now chars) (now reasons) (now keys)) c ⌝ ∗ ⌜ isString (storeOf (lent (now terms) (now cells) (now chars) (now reasons) (now keys)) c) a ≡ true ⌝ ∗ ⌜ isString (storeOf (lent (now terms) (now cells) (now chars) (now reasons) (now keys)) c) b ≡ true ⌝ ∗ ⌜ 3 ≤ length (now list) ⌝ }
-    ensures { λ r. ⌜ Working (headAtoms a b) (lent (now (terms .entry)) (now (cells .entry)) (now (chars .entry)) (now (reasons .entry)) (now (keys .entry))) (lent (now (terms .exit)) (now (cells .exit)) (now (chars .exit)) (now (reasons .entry)) (now (keys .entry))) c (listed r (lent (now (terms .exit)) (now (cells .exit)) (now (chars .exit)) (now (reasons .entry)) (now (keys .entry))) (now (list .exit))) ⌝ }
+    requires { ⌜ Ready (lends terms cells chars reasons keys) c ⌝ }
+    requires { ⌜ isString (storeOf (lends terms cells chars reasons keys) c) a ≡ true ⌝ }
+    requires { ⌜ isString (storeOf (lends terms cells chars reasons keys) c) b ≡ true ⌝ }
+    requires { ⌜ 3 ≤ length (now list) ⌝ }
+    ensures { λ r. ⌜ Does (headAtoms a b) (across terms cells chars reasons keys) c (listed r into list) ⌝ }
 {
     let lengths = lengths_unchecked(terms, cells, chars, reasons, keys, c, a, b);
     match lengths {

@@ -3,10 +3,10 @@ ghost use mathlib.Core.Path.{_≡_};
 ghost use mathlib.Core.Bool.{true};
 ghost use Prim.Native.Nat.{_≤_};
 ghost use lib.ListN.{length};
-ghost use Rattle.records.specs.View.{lent, storeOf};
+ghost use Rattle.records.specs.View.{storeOf, lends, across, Between};
 ghost use Rattle.records.specs.Rules.{listLimit};
 ghost use Rattle.records.specs.Audited.{Ready};
-ghost use Rattle.records.specs.Calls.{Working};
+ghost use Rattle.records.specs.Calls.{Does, _into_};
 ghost use Rattle.wordeq.specs.Wordeq.{_orElse_, occurs, constants, after, isBare, steps, isGuard};
 ghost use Rattle.wordeq.specs.Results.{BothLists, resolved, tried, Tries};
 ghost use Rattle.wordeq.specs.Heads.{HeadsApart};
@@ -31,8 +31,9 @@ fn conflicts_unchecked<'a>(
     lhs: &'a [u32],
     rhs: &'a [u32],
 ) -> StepResult
-    requires { ⌜ Ready (lent (now terms) (now cells) (now chars) (now reasons) (now keys)) c ⌝ ∗ ⌜ BothLists (storeOf (lent (now terms) (now cells) (now chars) (now reasons) (now keys)) c) (now lhs) (now rhs) ⌝ }
-    ensures { λ o. ⌜ Tries (occurs (now (lhs .entry)) (now (rhs .entry)) orElse occurs (now (rhs .entry)) (now (lhs .entry)) orElse constants (now (lhs .entry)) (now (rhs .entry))) (lent (now (terms .entry)) (now (cells .entry)) (now (chars .entry)) (now (reasons .entry)) (now (keys .entry))) (lent (now (terms .entry)) (now (cells .entry)) (now (chars .entry)) (now (reasons .exit)) (now (keys .entry))) c o ⌝ }
+    requires { ⌜ Ready (lends terms cells chars reasons keys) c ⌝ }
+    requires { ⌜ BothLists (storeOf (lends terms cells chars reasons keys) c) (now lhs) (now rhs) ⌝ }
+    ensures { λ o. ⌜ Between (Tries (occurs (now (lhs .entry)) (now (rhs .entry)) orElse occurs (now (rhs .entry)) (now (lhs .entry)) orElse constants (now (lhs .entry)) (now (rhs .entry)))) (across terms cells chars reasons keys) c o ⌝ }
 {
     let o = occurring::occurs_unchecked(terms, cells, chars, reasons, keys, c, lhs, rhs);
     let StepResult::Done(d) = o else {
@@ -58,8 +59,12 @@ pub(crate) fn after_unchecked<'a>(
     added: bool,
     list: &mut [u32],
 ) -> StepResult
-    requires { ⌜ Ready (lent (now terms) (now cells) (now chars) (now reasons) (now keys)) c ⌝ ∗ ⌜ BothLists (storeOf (lent (now terms) (now cells) (now chars) (now reasons) (now keys)) c) (now lhs) (now rhs) ⌝ ∗ ⌜ HeadsApart (now lhs) (now rhs) ⌝ ∗ ⌜ isGuard guard ≡ true ⌝ ∗ ⌜ listLimit ≤ length (now list) ⌝ }
-    ensures { λ o. ⌜ Working (after guard added (now (lhs .entry)) (now (rhs .entry))) (lent (now (terms .entry)) (now (cells .entry)) (now (chars .entry)) (now (reasons .entry)) (now (keys .entry))) (lent (now (terms .exit)) (now (cells .exit)) (now (chars .exit)) (now (reasons .exit)) (now (keys .exit))) c (tried o (lent (now (terms .exit)) (now (cells .exit)) (now (chars .exit)) (now (reasons .exit)) (now (keys .exit))) (now (list .exit))) ⌝ }
+    requires { ⌜ Ready (lends terms cells chars reasons keys) c ⌝ }
+    requires { ⌜ BothLists (storeOf (lends terms cells chars reasons keys) c) (now lhs) (now rhs) ⌝ }
+    requires { ⌜ HeadsApart (now lhs) (now rhs) ⌝ }
+    requires { ⌜ isGuard guard ≡ true ⌝ }
+    requires { ⌜ listLimit ≤ length (now list) ⌝ }
+    ensures { λ o. ⌜ Does (after guard added (now (lhs .entry)) (now (rhs .entry))) (across terms cells chars reasons keys) c (tried o into list) ⌝ }
 {
     let early = conflicts_unchecked(terms, cells, chars, reasons, keys, c, lhs, rhs);
     let StepResult::Done(d) = early else {
@@ -110,8 +115,11 @@ pub(crate) fn steps_unchecked<'a>(
     guard: i32,
     list: &mut [u32],
 ) -> StepResult
-    requires { ⌜ Ready (lent (now terms) (now cells) (now chars) (now reasons) (now keys)) c ⌝ ∗ ⌜ BothLists (storeOf (lent (now terms) (now cells) (now chars) (now reasons) (now keys)) c) (now lhs) (now rhs) ⌝ ∗ ⌜ isGuard guard ≡ true ⌝ ∗ ⌜ listLimit ≤ length (now list) ⌝ }
-    ensures { λ o. ⌜ Working (steps guard (now (lhs .entry)) (now (rhs .entry))) (lent (now (terms .entry)) (now (cells .entry)) (now (chars .entry)) (now (reasons .entry)) (now (keys .entry))) (lent (now (terms .exit)) (now (cells .exit)) (now (chars .exit)) (now (reasons .exit)) (now (keys .exit))) c (resolved o (lent (now (terms .exit)) (now (cells .exit)) (now (chars .exit)) (now (reasons .exit)) (now (keys .exit))) (now (list .exit))) ⌝ }
+    requires { ⌜ Ready (lends terms cells chars reasons keys) c ⌝ }
+    requires { ⌜ BothLists (storeOf (lends terms cells chars reasons keys) c) (now lhs) (now rhs) ⌝ }
+    requires { ⌜ isGuard guard ≡ true ⌝ }
+    requires { ⌜ listLimit ≤ length (now list) ⌝ }
+    ensures { λ o. ⌜ Does (steps guard (now (lhs .entry)) (now (rhs .entry))) (across terms cells chars reasons keys) c (resolved o into list) ⌝ }
 {
     let parts = stripping::strip_unchecked(terms, cells, chars, reasons, keys, c, lhs, rhs);
     match parts {

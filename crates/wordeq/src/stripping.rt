@@ -7,9 +7,9 @@ ghost use lib.ListN.{length, drop};
 ghost use lib.Dec.{eqb};
 ghost use Rattle.records.specs.Lists.{all, sameWord};
 ghost use Rattle.records.specs.Store.{termIn, isConstant, isString, text, sameClass};
-ghost use Rattle.records.specs.View.{termsView, lent};
+ghost use Rattle.records.specs.View.{termsView, lends, across, Between};
 ghost use Rattle.records.specs.Audited.{Ready};
-ghost use Rattle.records.specs.Calls.{Working, added};
+ghost use Rattle.records.specs.Calls.{added, Does};
 ghost use Rattle.wordeq.specs.Wordeq.{same, explainMatch, strip};
 ghost use Rattle.wordeq.specs.Stripping.{readIn, Readable, Pair, stripTails, Strips, StripsHeads};
 use crate::Stripped;
@@ -31,7 +31,8 @@ pub(crate) fn both_constant(terms: &[u32], n: usize, a: u32, b: u32) -> bool
 
 // Whether two constants have equal characters.
 pub(crate) fn same_text(terms: &[u32], chars: &[u32], c: State, a: u32, b: u32) -> bool
-    requires { ⌜ Readable (now terms) (now chars) c ⌝ ∗ ⌜ isConstant (readIn (now terms) (now chars) c) a && isConstant (readIn (now terms) (now chars) c) b ≡ true ⌝ }
+    requires { ⌜ Readable (now terms) (now chars) c ⌝ }
+    requires { ⌜ isConstant (readIn (now terms) (now chars) c) a && isConstant (readIn (now terms) (now chars) c) b ≡ true ⌝ }
     ensures { λ r. ⌜ r ≡ sameWord (text (readIn (now (terms .entry)) (now (chars .entry)) c) a) (text (readIn (now (terms .entry)) (now (chars .entry)) c) b) ⌝ }
 {
     let k = fields::second(terms, a);
@@ -77,8 +78,10 @@ pub fn explain_match_unchecked(
     a: u32,
     b: u32,
 ) -> Added
-    requires { ⌜ Ready (lent (now terms) (now cells) (now chars) (now reasons) (now keys)) c ⌝ ∗ ⌜ Pair (readIn (now terms) (now chars) c) a b ⌝ ∗ ⌜ same (readIn (now terms) (now chars) c) a b ≡ true ⌝ }
-    ensures { λ r. ⌜ Working (explainMatch a b) (lent (now (terms .entry)) (now (cells .entry)) (now (chars .entry)) (now (reasons .entry)) (now (keys .entry))) (lent (now (terms .entry)) (now (cells .entry)) (now (chars .entry)) (now (reasons .exit)) (now (keys .entry))) c (added r (lent (now (terms .entry)) (now (cells .entry)) (now (chars .entry)) (now (reasons .exit)) (now (keys .entry)))) ⌝ }
+    requires { ⌜ Ready (lends terms cells chars reasons keys) c ⌝ }
+    requires { ⌜ Pair (readIn (now terms) (now chars) c) a b ⌝ }
+    requires { ⌜ same (readIn (now terms) (now chars) c) a b ≡ true ⌝ }
+    ensures { λ r. ⌜ Does (explainMatch a b) (across terms cells chars reasons keys) c (added r) ⌝ }
 {
     if a == b {
         return Added::Counts(c);
@@ -109,8 +112,10 @@ fn strip_heads(
     lhs: &[u32],
     rhs: &[u32],
 ) -> Stripped
-    requires { ⌜ Ready (lent (now terms) (now cells) (now chars) (now reasons) (now keys)) c ⌝ ∗ ⌜ all (isString (readIn (now terms) (now chars) c)) (now lhs) ≡ true ⌝ ∗ ⌜ all (isString (readIn (now terms) (now chars) c)) (now rhs) ≡ true ⌝ }
-    ensures { λ r. ⌜ StripsHeads (lent (now (terms .entry)) (now (cells .entry)) (now (chars .entry)) (now (reasons .entry)) (now (keys .entry))) (lent (now (terms .entry)) (now (cells .entry)) (now (chars .entry)) (now (reasons .exit)) (now (keys .entry))) c (now (lhs .entry)) (now (rhs .entry)) r ⌝ }
+    requires { ⌜ Ready (lends terms cells chars reasons keys) c ⌝ }
+    requires { ⌜ all (isString (readIn (now terms) (now chars) c)) (now lhs) ≡ true ⌝ }
+    requires { ⌜ all (isString (readIn (now terms) (now chars) c)) (now rhs) ≡ true ⌝ }
+    ensures { λ r. ⌜ Between StripsHeads (across terms cells chars reasons keys) c (now (lhs .entry)) (now (rhs .entry)) r ⌝ }
 {
     let n = shorter(lhs.len(), rhs.len());
     let mut d = c;
@@ -146,8 +151,11 @@ fn strip_tails(
     rhs: &[u32],
     from: usize,
 ) -> Stripped
-    requires { ⌜ Ready (lent (now terms) (now cells) (now chars) (now reasons) (now keys)) c ⌝ ∗ ⌜ all (isString (readIn (now terms) (now chars) c)) (now lhs) ≡ true ⌝ ∗ ⌜ all (isString (readIn (now terms) (now chars) c)) (now rhs) ≡ true ⌝ ∗ ⌜ from ≤ min (length (now lhs)) (length (now rhs)) ⌝ }
-    ensures { λ r. ⌜ Strips (stripTails (drop from (now (lhs .entry))) (drop from (now (rhs .entry)))) (lent (now (terms .entry)) (now (cells .entry)) (now (chars .entry)) (now (reasons .entry)) (now (keys .entry))) (lent (now (terms .entry)) (now (cells .entry)) (now (chars .entry)) (now (reasons .exit)) (now (keys .entry))) c (now (lhs .entry)) (now (rhs .entry)) r ⌝ }
+    requires { ⌜ Ready (lends terms cells chars reasons keys) c ⌝ }
+    requires { ⌜ all (isString (readIn (now terms) (now chars) c)) (now lhs) ≡ true ⌝ }
+    requires { ⌜ all (isString (readIn (now terms) (now chars) c)) (now rhs) ≡ true ⌝ }
+    requires { ⌜ from ≤ min (length (now lhs)) (length (now rhs)) ⌝ }
+    ensures { λ r. ⌜ Between (Strips (stripTails (drop from (now (lhs .entry))) (drop from (now (rhs .entry))))) (across terms cells chars reasons keys) c (now (lhs .entry)) (now (rhs .entry)) r ⌝ }
 {
     let n = shorter(lhs.len(), rhs.len());
     let mut d = c;
@@ -182,8 +190,10 @@ pub fn strip_unchecked(
     lhs: &[u32],
     rhs: &[u32],
 ) -> Stripped
-    requires { ⌜ Ready (lent (now terms) (now cells) (now chars) (now reasons) (now keys)) c ⌝ ∗ ⌜ all (isString (readIn (now terms) (now chars) c)) (now lhs) ≡ true ⌝ ∗ ⌜ all (isString (readIn (now terms) (now chars) c)) (now rhs) ≡ true ⌝ }
-    ensures { λ r. ⌜ Strips (strip (now (lhs .entry)) (now (rhs .entry))) (lent (now (terms .entry)) (now (cells .entry)) (now (chars .entry)) (now (reasons .entry)) (now (keys .entry))) (lent (now (terms .entry)) (now (cells .entry)) (now (chars .entry)) (now (reasons .exit)) (now (keys .entry))) c (now (lhs .entry)) (now (rhs .entry)) r ⌝ }
+    requires { ⌜ Ready (lends terms cells chars reasons keys) c ⌝ }
+    requires { ⌜ all (isString (readIn (now terms) (now chars) c)) (now lhs) ≡ true ⌝ }
+    requires { ⌜ all (isString (readIn (now terms) (now chars) c)) (now rhs) ≡ true ⌝ }
+    ensures { λ r. ⌜ Between (Strips (strip (now (lhs .entry)) (now (rhs .entry)))) (across terms cells chars reasons keys) c (now (lhs .entry)) (now (rhs .entry)) r ⌝ }
 {
     match strip_heads(terms, cells, chars, reasons, keys, c, lhs, rhs) {
         Stripped::Parts(d, from, _, _) => {

@@ -15,11 +15,25 @@ labels-deep-normal-form-spec =
     (λ c. deep-untold _ _ _ _ _ _ (sym (c .before .is-roomy .ensures) ∙ not-true _ (c .if1 .taken)))
     (λ c κs. search needs)
     (λ c κs. search needs)
-    (λ c κs. (sym (c .before .before .before .before .before .before .before .before .before .before .before .before .before .before .before .before .before .before .is-roomy .ensures) ∙ not-false _ (c .before .before .before .before .before .before .before .before .before .before .before .before .before .before .before .before .before .if1 .left), deep-tellable (c .before .before .before .before .before .before .before .before .before .before .deep-normal-form-cited .ensures), none-tellable (c .before .before .before .before .before .before .before .before .before .before .deep-normal-form-cited .ensures)))
+    (λ c κs.
+    let at-deep-normal-form-cited = c .before .before .before .before .before .before .before .before .before .before in
+    let at-if1 = at-deep-normal-form-cited .before .before .before .before .before .before .before in
+    let at-is-roomy = at-if1 .before in (
+      sym (at-is-roomy .is-roomy .ensures) ∙ not-false _ (at-if1 .if1 .left),
+      deep-tellable (at-deep-normal-form-cited .deep-normal-form-cited .ensures),
+      none-tellable (at-deep-normal-form-cited .deep-normal-form-cited .ensures),
+    ))
     (λ c. search needs)
     (λ c. search needs)
     (λ c. search needs)
     (λ c. search needs)
     (λ c. search needs)
     (λ c. search needs)
-    (λ c. deep-exported (c .before .before .before .before .before .before .before .before .before .before .before .before .before .before .before .deep-normal-form-cited .ensures) (sym (c .before .before .before .before .before .before .before .before .before .before .before .before .before .before .before .before .before .before .before .before .before .before .before .is-roomy .ensures) ∙ not-false _ (c .before .before .before .before .before .before .before .before .before .before .before .before .before .before .before .before .before .before .before .before .before .before .if1 .left)) (c .before .before .before .before .before .before .before .before .before .before .before .before .before .before .before .before .before .before .before .before .state-of .ensures) (c .before .before .before .before .tell-deep-form .ensures)))
+    (λ c.
+    let at-tell-deep-form = c .before .before .before .before in
+    let at-deep-normal-form-cited = at-tell-deep-form .before .before .before .before .before .before .before .before .before .before .before in
+    let at-state-of = at-deep-normal-form-cited .before .before .before .before .before in
+    let at-if1 = at-state-of .before .before in
+    let at-is-roomy = at-if1 .before in
+    deep-exported (at-deep-normal-form-cited .deep-normal-form-cited .ensures) (sym (at-is-roomy .is-roomy .ensures) ∙ not-false _ (at-if1 .if1 .left))
+    (at-state-of .state-of .ensures) (at-tell-deep-form .tell-deep-form .ensures)))

@@ -11,7 +11,10 @@ labels-explain-spec =
     (λ c. explain-short _ _ _ _ (c .if1 .taken))
     (λ c κs. search needs)
     (λ c κs. search needs)
-    (λ c κs. (omega arith, explain-tellable (c .before .before .before .explain .ensures)))
+    (λ c κs. let at-explain = c .before .before .before in (omega arith, explain-tellable (at-explain .explain .ensures)))
     (λ c. search needs)
     (λ c. search needs)
-    (λ c. explain-exported (c .before .before .before .before .before .before .explain .ensures) (omega arith) (c .before .before .before .before .before .before .before .before .state-of .ensures) (c .before .before .tell-counts .ensures)))
+    (λ c.
+    let at-explain = c .before .before .before .before .before .before in
+    let at-state-of = at-explain .before .before in
+    explain-exported (at-explain .explain .ensures) (omega arith) (at-state-of .state-of .ensures) (c .before .before .tell-counts .ensures)))

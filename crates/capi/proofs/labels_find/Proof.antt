@@ -18,9 +18,24 @@ labels-find-spec =
     (λ c κs. search needs)
     (λ c κs. search needs)
     (λ c. search needs)
-    (λ c. let h = roomy-answer _ _ (sym (c .before .before .before .before .before .before .is-roomy .ensures) ∙ not-false _ (c .before .before .before .before .before .if1 .left)) in omega arith)
+    (λ c.
+    let at-if1 = c .before .before .before .before .before in
+    let at-is-roomy = at-if1 .before in
+    let h = roomy-answer _ _ (sym (at-is-roomy .is-roomy .ensures) ∙ not-false _ (at-if1 .if1 .left)) in omega arith)
     (λ c. search needs)
     (λ c. search needs)
-    (λ c. find-told _ _ _ _ (c .before .before .before .find .ensures) _ _ (sym (c .before .before .before .before .before .before .is-roomy .ensures) ∙ not-false _ (c .before .before .before .before .before .if1 .left)) (c .before .before .before .before .state-of .ensures) _ (c .before .found .given .1))
+    (λ c.
+    let at-find = c .before .before .before in
+    let at-state-of = at-find .before in
+    let at-if1 = at-state-of .before in
+    let at-is-roomy = at-if1 .before in
+    find-told _ _ _ _ (at-find .find .ensures) _ _ (sym (at-is-roomy .is-roomy .ensures) ∙ not-false _ (at-if1 .if1 .left)) (at-state-of .state-of .ensures) _
+    (c .before .found .given .1))
     (λ c. search needs)
-    (λ c. find-untold _ _ _ _ (c .before .before .before .find .ensures) _ _ (sym (c .before .before .before .before .before .before .is-roomy .ensures) ∙ not-false _ (c .before .before .before .before .before .if1 .left)) (c .before .before .before .before .state-of .ensures) _ (c .before .found2 .given .1)))
+    (λ c.
+    let at-find = c .before .before .before in
+    let at-state-of = at-find .before in
+    let at-if1 = at-state-of .before in
+    let at-is-roomy = at-if1 .before in
+    find-untold _ _ _ _ (at-find .find .ensures) _ _ (sym (at-is-roomy .is-roomy .ensures) ∙ not-false _ (at-if1 .if1 .left)) (at-state-of .state-of .ensures) _
+    (c .before .found2 .given .1)))

@@ -16,9 +16,24 @@ labels-make-concatenation-spec =
     (λ c. untold _ _ _ _ _ _ (sym (c .before .is-roomy .ensures) ∙ not-true _ (c .if1 .taken)))
     (λ c κs. search needs)
     (λ c κs. search needs)
-    (λ c κs. (sym (c .before .before .before .before .before .before .before .before .before .before .before .before .is-roomy .ensures) ∙ not-false _ (c .before .before .before .before .before .before .before .before .before .before .before .if1 .left), tellable (concat-tells (c .before .before .before .before .before .before .before .before .before .before .before .before .before .before .before .before .before .before .before .before .before .before .before .args .parts .now)) (c .before .before .before .before .before .before .make-concatenation .ensures)))
+    (λ c κs.
+    let at-make-concatenation = c .before .before .before .before .before .before in
+    let at-if1 = at-make-concatenation .before .before .before .before .before in
+    let at-is-roomy = at-if1 .before in
+    let at-start = at-is-roomy .before .before .before .before .before .before .before .before .before .before .before in (
+      sym (at-is-roomy .is-roomy .ensures) ∙ not-false _ (at-if1 .if1 .left),
+      tellable (concat-tells (at-start .args .parts .now)) (at-make-concatenation .make-concatenation .ensures),
+    ))
     (λ c. search needs)
     (λ c. search needs)
     (λ c. search needs)
     (λ c. search needs)
-    (λ c. exported (concat-tells (c .before .before .before .before .before .before .before .before .before .before .before .before .before .before .before .before .before .before .before .before .before .before .before .before .before .before .before .before .args .parts .now)) (c .before .before .before .before .before .before .before .before .before .before .before .make-concatenation .ensures) (sym (c .before .before .before .before .before .before .before .before .before .before .before .before .before .before .before .before .before .is-roomy .ensures) ∙ not-false _ (c .before .before .before .before .before .before .before .before .before .before .before .before .before .before .before .before .if1 .left)) (c .before .before .before .before .before .before .before .before .before .before .before .before .before .before .state-of .ensures) (c .before .before .before .before .tell .ensures)))
+    (λ c.
+    let at-tell = c .before .before .before .before in
+    let at-make-concatenation = at-tell .before .before .before .before .before .before .before in
+    let at-state-of = at-make-concatenation .before .before .before in
+    let at-if1 = at-state-of .before .before in
+    let at-is-roomy = at-if1 .before in
+    let at-start = at-is-roomy .before .before .before .before .before .before .before .before .before .before .before in
+    exported (concat-tells (at-start .args .parts .now)) (at-make-concatenation .make-concatenation .ensures)
+    (sym (at-is-roomy .is-roomy .ensures) ∙ not-false _ (at-if1 .if1 .left)) (at-state-of .state-of .ensures) (at-tell .tell .ensures)))

@@ -16,8 +16,19 @@ labels-make-equation-spec =
     (λ c. untold _ _ _ _ _ _ (sym (c .before .is-roomy .ensures) ∙ not-true _ (c .if1 .taken)))
     (λ c κs. search needs)
     (λ c κs. search needs)
-    (λ c κs. (sym (c .before .before .before .before .before .before .before .before .before .is-roomy .ensures) ∙ not-false _ (c .before .before .before .before .before .before .before .before .if1 .left), tellable (equation-tells _ _) (c .before .before .before .before .make-equation .ensures)))
+    (λ c κs.
+    let at-make-equation = c .before .before .before .before in
+    let at-if1 = at-make-equation .before .before .before .before in
+    let at-is-roomy = at-if1 .before in
+    (sym (at-is-roomy .is-roomy .ensures) ∙ not-false _ (at-if1 .if1 .left), tellable (equation-tells _ _) (at-make-equation .make-equation .ensures)))
     (λ c. search needs)
     (λ c. search needs)
     (λ c. search needs)
-    (λ c. exported (equation-tells _ _) (c .before .before .before .before .before .before .before .before .before .make-equation .ensures) (sym (c .before .before .before .before .before .before .before .before .before .before .before .before .before .before .is-roomy .ensures) ∙ not-false _ (c .before .before .before .before .before .before .before .before .before .before .before .before .before .if1 .left)) (c .before .before .before .before .before .before .before .before .before .before .before .state-of .ensures) (c .before .before .before .before .tell .ensures)))
+    (λ c.
+    let at-tell = c .before .before .before .before in
+    let at-make-equation = at-tell .before .before .before .before .before in
+    let at-state-of = at-make-equation .before .before in
+    let at-if1 = at-state-of .before .before in
+    let at-is-roomy = at-if1 .before in
+    exported (equation-tells _ _) (at-make-equation .make-equation .ensures) (sym (at-is-roomy .is-roomy .ensures) ∙ not-false _ (at-if1 .if1 .left))
+    (at-state-of .state-of .ensures) (at-tell .tell .ensures)))

@@ -16,8 +16,19 @@ labels-make-length-spec =
     (λ c. untold _ _ _ _ _ _ (sym (c .before .is-roomy .ensures) ∙ not-true _ (c .if1 .taken)))
     (λ c κs. search needs)
     (λ c κs. search needs)
-    (λ c κs. (sym (c .before .before .before .before .before .before .before .before .before .is-roomy .ensures) ∙ not-false _ (c .before .before .before .before .before .before .before .before .if1 .left), tellable (length-tells _) (c .before .before .before .before .make-length .ensures)))
+    (λ c κs.
+    let at-make-length = c .before .before .before .before in
+    let at-if1 = at-make-length .before .before .before .before in
+    let at-is-roomy = at-if1 .before in
+    (sym (at-is-roomy .is-roomy .ensures) ∙ not-false _ (at-if1 .if1 .left), tellable (length-tells _) (at-make-length .make-length .ensures)))
     (λ c. search needs)
     (λ c. search needs)
     (λ c. search needs)
-    (λ c. exported (length-tells _) (c .before .before .before .before .before .before .before .before .before .make-length .ensures) (sym (c .before .before .before .before .before .before .before .before .before .before .before .before .before .before .is-roomy .ensures) ∙ not-false _ (c .before .before .before .before .before .before .before .before .before .before .before .before .before .if1 .left)) (c .before .before .before .before .before .before .before .before .before .before .before .state-of .ensures) (c .before .before .before .before .tell .ensures)))
+    (λ c.
+    let at-tell = c .before .before .before .before in
+    let at-make-length = at-tell .before .before .before .before .before in
+    let at-state-of = at-make-length .before .before in
+    let at-if1 = at-state-of .before .before in
+    let at-is-roomy = at-if1 .before in
+    exported (length-tells _) (at-make-length .make-length .ensures) (sym (at-is-roomy .is-roomy .ensures) ∙ not-false _ (at-if1 .if1 .left)) (at-state-of .state-of .ensures)
+    (at-tell .tell .ensures)))

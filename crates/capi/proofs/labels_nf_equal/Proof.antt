@@ -18,9 +18,24 @@ labels-nf-equal-spec =
     (λ c κs. search needs)
     (λ c. search needs)
     (λ c κs. search needs)
-    (λ c. let h = roomy-answer _ _ (sym (c .before .before .before .before .before .before .before .is-roomy .ensures) ∙ not-false _ (c .before .before .before .before .before .before .if1 .left)) in omega arith)
+    (λ c.
+    let at-if1 = c .before .before .before .before .before .before in
+    let at-is-roomy = at-if1 .before in
+    let h = roomy-answer _ _ (sym (at-is-roomy .is-roomy .ensures) ∙ not-false _ (at-if1 .if1 .left)) in omega arith)
     (λ c. search needs)
     (λ c. search needs)
-    (λ c. equal-told _ _ _ _ _ (c .before .before .before .before .nf-equal .ensures) _ _ (sym (c .before .before .before .before .before .before .before .is-roomy .ensures) ∙ not-false _ (c .before .before .before .before .before .before .if1 .left)) (c .before .before .before .before .before .state-of .ensures) _ (c .before .before .compared .given .1) _ (c .flag-of .ensures))
+    (λ c.
+    let at-nf-equal = c .before .before .before .before in
+    let at-state-of = at-nf-equal .before in
+    let at-if1 = at-state-of .before in
+    let at-is-roomy = at-if1 .before in
+    equal-told _ _ _ _ _ (at-nf-equal .nf-equal .ensures) _ _ (sym (at-is-roomy .is-roomy .ensures) ∙ not-false _ (at-if1 .if1 .left)) (at-state-of .state-of .ensures) _
+    (c .before .before .compared .given .1) _ (c .flag-of .ensures))
     (λ c. search needs)
-    (λ c. equal-untold _ _ _ _ _ (c .before .before .before .nf-equal .ensures) _ _ (sym (c .before .before .before .before .before .before .is-roomy .ensures) ∙ not-false _ (c .before .before .before .before .before .if1 .left)) (c .before .before .before .before .state-of .ensures) _ (c .before .compared2 .given .1)))
+    (λ c.
+    let at-nf-equal = c .before .before .before in
+    let at-state-of = at-nf-equal .before in
+    let at-if1 = at-state-of .before in
+    let at-is-roomy = at-if1 .before in
+    equal-untold _ _ _ _ _ (at-nf-equal .nf-equal .ensures) _ _ (sym (at-is-roomy .is-roomy .ensures) ∙ not-false _ (at-if1 .if1 .left)) (at-state-of .state-of .ensures) _
+    (c .before .compared2 .given .1)))

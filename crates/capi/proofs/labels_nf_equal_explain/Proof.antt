@@ -11,7 +11,10 @@ labels-nf-equal-explain-spec =
     (λ c. pairs-short _ _ _ _ (c .if1 .taken))
     (λ c κs. search needs)
     (λ c κs. search needs)
-    (λ c κs. (omega arith, pairs-tellable (c .before .before .before .nf-equal-explain .ensures)))
+    (λ c κs. let at-nf-equal-explain = c .before .before .before in (omega arith, pairs-tellable (at-nf-equal-explain .nf-equal-explain .ensures)))
     (λ c. search needs)
     (λ c. search needs)
-    (λ c. pairs-exported (c .before .before .before .before .before .before .nf-equal-explain .ensures) (omega arith) (c .before .before .before .before .before .before .before .before .state-of .ensures) (c .before .before .tell-counts .ensures)))
+    (λ c.
+    let at-nf-equal-explain = c .before .before .before .before .before .before in
+    let at-state-of = at-nf-equal-explain .before .before in
+    pairs-exported (at-nf-equal-explain .nf-equal-explain .ensures) (omega arith) (at-state-of .state-of .ensures) (c .before .before .tell-counts .ensures)))

@@ -15,11 +15,22 @@ labels-normal-form-spec =
     (λ c. form-untold _ _ _ _ _ _ (sym (c .before .is-roomy .ensures) ∙ not-true _ (c .if1 .taken)))
     (λ c κs. search needs)
     (λ c κs. search needs)
-    (λ c κs. (sym (c .before .before .before .before .before .before .before .before .before .before .before .before .before .before .before .before .before .before .is-roomy .ensures) ∙ not-false _ (c .before .before .before .before .before .before .before .before .before .before .before .before .before .before .before .before .before .if1 .left), form-tellable (c .before .before .before .before .before .before .before .before .before .before .normal-form-cited .ensures)))
+    (λ c κs.
+    let at-normal-form-cited = c .before .before .before .before .before .before .before .before .before .before in
+    let at-if1 = at-normal-form-cited .before .before .before .before .before .before .before in
+    let at-is-roomy = at-if1 .before in
+    (sym (at-is-roomy .is-roomy .ensures) ∙ not-false _ (at-if1 .if1 .left), form-tellable (at-normal-form-cited .normal-form-cited .ensures)))
     (λ c. search needs)
     (λ c. search needs)
     (λ c. search needs)
     (λ c. search needs)
     (λ c. search needs)
     (λ c. search needs)
-    (λ c. form-exported (c .before .before .before .before .before .before .before .before .before .before .before .before .before .before .before .normal-form-cited .ensures) (sym (c .before .before .before .before .before .before .before .before .before .before .before .before .before .before .before .before .before .before .before .before .before .before .before .is-roomy .ensures) ∙ not-false _ (c .before .before .before .before .before .before .before .before .before .before .before .before .before .before .before .before .before .before .before .before .before .before .if1 .left)) (c .before .before .before .before .before .before .before .before .before .before .before .before .before .before .before .before .before .before .before .before .state-of .ensures) (c .before .before .before .before .tell-form .ensures)))
+    (λ c.
+    let at-tell-form = c .before .before .before .before in
+    let at-normal-form-cited = at-tell-form .before .before .before .before .before .before .before .before .before .before .before in
+    let at-state-of = at-normal-form-cited .before .before .before .before .before in
+    let at-if1 = at-state-of .before .before in
+    let at-is-roomy = at-if1 .before in
+    form-exported (at-normal-form-cited .normal-form-cited .ensures) (sym (at-is-roomy .is-roomy .ensures) ∙ not-false _ (at-if1 .if1 .left)) (at-state-of .state-of .ensures)
+    (at-tell-form .tell-form .ensures)))

@@ -16,7 +16,15 @@ labels-resolve-equation-spec =
     (λ c. resolve-untold _ _ _ _ _ _ _ (sym (c .before .is-roomy .ensures) ∙ not-true _ (c .if1 .taken)))
     (λ c κs. search needs)
     (λ c κs. search needs)
-    (λ c κs. ((sym (c .before .before .before .before .before .before .before .before .before .before .before .before .before .before .before .before .before .before .before .before .before .before .before .before .is-roomy .ensures) ∙ not-false _ (c .before .before .before .before .before .before .before .before .before .before .before .before .before .before .before .before .before .before .before .before .before .before .before .if1 .left)), resolve-tellable _ (c .before .before .before .before .before .before .before .before .before .before .before .before .before .before .before .before .before .before .before .before .before .before .before .before .before .before .before .before .before .before .before .before .before .before .before .before .before .fits .guard) (c .before .before .before .before .before .before .before .before .before .before .before .before .before .before .resolve-equation .ensures) (let k = c .before .before .before .before .before .before .before .before .before .before .before .before .before .before .resolve-equation .kept .1 .1 .1 .1 .1 .1 .1 .1 .1 .0 in omega arith)))
+    (λ c κs.
+    let at-resolve-equation = c .before .before .before .before .before .before .before .before .before .before .before .before .before .before in
+    let at-if1 = at-resolve-equation .before .before .before .before .before .before .before .before .before in
+    let at-is-roomy = at-if1 .before in
+    let at-start = at-is-roomy .before .before .before .before .before .before .before .before .before .before .before .before .before in (
+      (sym (at-is-roomy .is-roomy .ensures) ∙ not-false _ (at-if1 .if1 .left)),
+      resolve-tellable _ (at-start .fits .guard) (at-resolve-equation .resolve-equation .ensures)
+          (let k = at-resolve-equation .resolve-equation .kept .1 .1 .1 .1 .1 .1 .1 .1 .1 .0 in omega arith),
+    ))
     (λ c. search needs)
     (λ c. search needs)
     (λ c. search needs)
@@ -25,4 +33,13 @@ labels-resolve-equation-spec =
     (λ c. search needs)
     (λ c. search needs)
     (λ c. search needs)
-    (λ c. resolve-exported _ (c .before .before .before .before .before .before .before .before .before .before .before .before .before .before .before .before .before .before .before .before .before .before .before .before .before .before .before .before .before .before .before .before .before .before .before .before .before .before .before .before .before .before .fits .guard) (c .before .before .before .before .before .before .before .before .before .before .before .before .before .before .before .before .before .before .before .resolve-equation .ensures) (let k = c .before .before .before .before .before .before .before .before .before .before .before .before .before .before .before .before .before .before .before .resolve-equation .kept .1 .1 .1 .1 .1 .1 .1 .1 .1 .0 in omega arith) (sym (c .before .before .before .before .before .before .before .before .before .before .before .before .before .before .before .before .before .before .before .before .before .before .before .before .before .before .before .before .before .is-roomy .ensures) ∙ not-false _ (c .before .before .before .before .before .before .before .before .before .before .before .before .before .before .before .before .before .before .before .before .before .before .before .before .before .before .before .before .if1 .left)) (c .before .before .before .before .before .before .before .before .before .before .before .before .before .before .before .before .before .before .before .before .before .before .before .before .before .before .state-of .ensures) (c .before .before .before .before .tell-answer .ensures)))
+    (λ c.
+    let at-tell-answer = c .before .before .before .before in
+    let at-resolve-equation = at-tell-answer .before .before .before .before .before .before .before .before .before .before .before .before .before .before .before in
+    let at-state-of = at-resolve-equation .before .before .before .before .before .before .before in
+    let at-if1 = at-state-of .before .before in
+    let at-is-roomy = at-if1 .before in
+    let at-start = at-is-roomy .before .before .before .before .before .before .before .before .before .before .before .before .before in
+    resolve-exported _ (at-start .fits .guard) (at-resolve-equation .resolve-equation .ensures)
+    (let k = at-resolve-equation .resolve-equation .kept .1 .1 .1 .1 .1 .1 .1 .1 .1 .0 in omega arith) (sym (at-is-roomy .is-roomy .ensures) ∙ not-false _ (at-if1 .if1 .left))
+    (at-state-of .state-of .ensures) (at-tell-answer .tell-answer .ensures)))

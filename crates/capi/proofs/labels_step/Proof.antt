@@ -16,7 +16,14 @@ labels-step-spec =
     (λ c. step-untold _ _ _ _ _ _ _ (sym (c .before .is-roomy .ensures) ∙ not-true _ (c .if1 .taken)))
     (λ c κs. search needs)
     (λ c κs. search needs)
-    (λ c κs. ((sym (c .before .before .before .before .before .before .before .before .before .before .before .before .before .before .before .before .before .before .before .before .before .before .before .before .is-roomy .ensures) ∙ not-false _ (c .before .before .before .before .before .before .before .before .before .before .before .before .before .before .before .before .before .before .before .before .before .before .before .if1 .left)), step-tellable _ (c .before .before .before .before .before .before .before .before .before .before .before .before .before .before .before .before .before .before .before .before .before .before .before .before .before .before .before .before .before .before .before .before .before .before .before .before .fits .guard) (c .before .before .before .before .before .before .before .before .before .before .before .before .before .before .step .ensures) (let k = c .before .before .before .before .before .before .before .before .before .before .before .before .before .before .step .kept .1 .1 .1 .1 .1 .1 .1 .1 .1 .0 in omega arith)))
+    (λ c κs.
+    let at-step = c .before .before .before .before .before .before .before .before .before .before .before .before .before .before in
+    let at-if1 = at-step .before .before .before .before .before .before .before .before .before in
+    let at-is-roomy = at-if1 .before in
+    let at-start = at-is-roomy .before .before .before .before .before .before .before .before .before .before .before .before in (
+      (sym (at-is-roomy .is-roomy .ensures) ∙ not-false _ (at-if1 .if1 .left)),
+      step-tellable _ (at-start .fits .guard) (at-step .step .ensures) (let k = at-step .step .kept .1 .1 .1 .1 .1 .1 .1 .1 .1 .0 in omega arith),
+    ))
     (λ c. search needs)
     (λ c. search needs)
     (λ c. search needs)
@@ -25,4 +32,12 @@ labels-step-spec =
     (λ c. search needs)
     (λ c. search needs)
     (λ c. search needs)
-    (λ c. step-exported _ (c .before .before .before .before .before .before .before .before .before .before .before .before .before .before .before .before .before .before .before .before .before .before .before .before .before .before .before .before .before .before .before .before .before .before .before .before .before .before .before .before .before .fits .guard) (c .before .before .before .before .before .before .before .before .before .before .before .before .before .before .before .before .before .before .before .step .ensures) (let k = c .before .before .before .before .before .before .before .before .before .before .before .before .before .before .before .before .before .before .before .step .kept .1 .1 .1 .1 .1 .1 .1 .1 .1 .0 in omega arith) (sym (c .before .before .before .before .before .before .before .before .before .before .before .before .before .before .before .before .before .before .before .before .before .before .before .before .before .before .before .before .before .is-roomy .ensures) ∙ not-false _ (c .before .before .before .before .before .before .before .before .before .before .before .before .before .before .before .before .before .before .before .before .before .before .before .before .before .before .before .before .if1 .left)) (c .before .before .before .before .before .before .before .before .before .before .before .before .before .before .before .before .before .before .before .before .before .before .before .before .before .before .state-of .ensures) (c .before .before .before .before .tell-outcome .ensures)))
+    (λ c.
+    let at-tell-outcome = c .before .before .before .before in
+    let at-step = at-tell-outcome .before .before .before .before .before .before .before .before .before .before .before .before .before .before .before in
+    let at-state-of = at-step .before .before .before .before .before .before .before in
+    let at-if1 = at-state-of .before .before in
+    let at-is-roomy = at-if1 .before in
+    let at-start = at-is-roomy .before .before .before .before .before .before .before .before .before .before .before .before in
+    step-exported _ (at-start .fits .guard) (at-step .step .ensures) (let k = at-step .step .kept .1 .1 .1 .1 .1 .1 .1 .1 .1 .0 in omega arith)
+    (sym (at-is-roomy .is-roomy .ensures) ∙ not-false _ (at-if1 .if1 .left)) (at-state-of .state-of .ensures) (at-tell-outcome .tell-outcome .ensures)))

@@ -94,22 +94,74 @@ pub +expand-edge+explain-rec-spec : {M : Type 1} → statement M
     (λ c. pairing-begin _ _ _ _ _ _ _ _ _ _ (c .match .keys3) (record { kind-is = c .before .before .label-kind .ensures; value-is = c .before .label-value .ensures }))
     (λ c κs. search needs)
     (λ c κs. search needs)
-    (λ c κs. (let h = pairing-low _ _ _ _ _ _ _ _ _ _ _ _ _ _ _ (c .before .before .before .before .before .before .before .before .before .before .before .before .before .pre .1) (c .before .before .before .before .before .loop .inv) (c .before .before .before .before .loop-test .taken) (c .before .before .before .value .ensures) (c .before .before .other .ensures) in omega (arith, c .before .before .before .before .before .before .before .before .before .before .before .before .before .pre .0), pairing-walkable _ _ _ _ _ _ _ _ _ _ _ _ _ _ _ (c .before .before .before .before .before .before .before .before .before .before .before .before .before .pre .1) (c .before .before .before .before .before .loop .inv) (c .before .before .before .before .loop-test .taken) (c .before .before .before .value .ensures) (c .before .before .other .ensures)))
+    (λ c κs.
+    let at-other = c .before .before in
+    let at-value = at-other .before in
+    let at-loop-test = at-value .before in
+    let at-loop = at-loop-test .before in
+    let at-start = at-loop .before .before .before .before .before .before .before .before in (
+      let h = pairing-low _ _ _ _ _ _ _ _ _ _ _ _ _ _ _ (at-start .pre .1) (at-loop .loop .inv) (at-loop-test .loop-test .taken) (at-value .value .ensures)
+          (at-other .other .ensures) in
+          omega (arith, at-start .pre .0),
+      pairing-walkable _ _ _ _ _ _ _ _ _ _ _ _ _ _ _ (at-start .pre .1) (at-loop .loop .inv) (at-loop-test .loop-test .taken) (at-value .value .ensures)
+          (at-other .other .ensures),
+    ))
     (λ c. search needs)
     (λ c. search needs)
-    (λ c. pairing-stop _ _ _ _ _ _ _ _ _ _ _ _ _ _ _ _ (c .before .before .before .before .before .before .before .before .before .before .before .before .loop .inv) (c .before .before .before .before .before .before .before .before .before .before .before .loop-test .taken) (record { one = c .before .before .before .before .before .before .before .before .before .before .value .ensures; other = c .before .before .before .before .before .before .before .before .before .other .ensures; next-is = refl }) _ _ _ (c .before .before .before .before .before .before .explain-rec .kept .1 .1 .1 .1 .1 .1 .0) (c .before .before .before .before .before .before .explain-rec .kept .1 .1 .1 .1 .1 .1 .1 .0) (c .before .before .before .before .before .before .explain-rec .ensures) (c .if1 .taken) _ _ (c .before .before .before .before .before .before .before .before .before .before .before .before .before .match .keys3) refl (record { kind-is = c .before .before .before .before .before .before .before .before .before .before .before .before .before .before .before .label-kind .ensures; value-is = c .before .before .before .before .before .before .before .before .before .before .before .before .before .before .label-value .ensures }))
+    (λ c.
+    let at-explain-rec = c .before .before .before .before .before .before in
+    let at-other = at-explain-rec .before .before .before in
+    let at-value = at-other .before in
+    let at-loop-test = at-value .before in
+    let at-loop = at-loop-test .before in
+    let at-match = at-loop .before in
+    let at-label-value = at-match .before in
+    let at-label-kind = at-label-value .before in
+    pairing-stop _ _ _ _ _ _ _ _ _ _ _ _ _ _ _ _ (at-loop .loop .inv) (at-loop-test .loop-test .taken)
+    (record { one = at-value .value .ensures; other = at-other .other .ensures; next-is = refl }) _ _ _ (at-explain-rec .explain-rec .kept .1 .1 .1 .1 .1 .1 .0)
+    (at-explain-rec .explain-rec .kept .1 .1 .1 .1 .1 .1 .1 .0) (at-explain-rec .explain-rec .ensures) (c .if1 .taken) _ _ (at-match .match .keys3) refl
+    (record { kind-is = at-label-kind .label-kind .ensures; value-is = at-label-value .label-value .ensures }))
     (λ c κs. search needs)
-    (λ c. pairing-less _ _ _ _ _ _ _ _ _ _ _ 0 0 _ _ (c .before .before .before .before .before .before .before .before .before .before .before .before .before .before .before .before .before .before .before .before .before .pre .1) (c .before .before .before .before .before .before .before .before .before .before .before .before .before .loop .inv) (c .before .before .before .before .before .before .before .before .before .before .before .before .loop-test .taken) _ (c .next .ensures))
-    (λ c. pairing-turn _ _ _ _ _ _ _ _ _ _ _ _ _ _ _ _ (c .before .before .before .before .before .before .before .before .before .before .before .before .before .loop .inv) (c .before .before .before .before .before .before .before .before .before .before .before .before .loop-test .taken) (record { one = c .before .before .before .before .before .before .before .before .before .before .before .value .ensures; other = c .before .before .before .before .before .before .before .before .before .before .other .ensures; next-is = c .next .ensures }) _ _ _ (c .before .before .before .before .before .before .before .explain-rec .kept .1 .1 .1 .1 .1 .1 .0) (c .before .before .before .before .before .before .before .explain-rec .kept .1 .1 .1 .1 .1 .1 .1 .0) (c .before .before .before .before .before .before .before .explain-rec .ensures) (c .before .if1 .left))
+    (λ c.
+    let at-loop-test = c .before .before .before .before .before .before .before .before .before .before .before .before in
+    let at-loop = at-loop-test .before in
+    let at-start = at-loop .before .before .before .before .before .before .before .before in
+    pairing-less _ _ _ _ _ _ _ _ _ _ _ 0 0 _ _ (at-start .pre .1) (at-loop .loop .inv) (at-loop-test .loop-test .taken) _ (c .next .ensures))
+    (λ c.
+    let at-explain-rec = c .before .before .before .before .before .before .before in
+    let at-other = at-explain-rec .before .before .before in
+    let at-value = at-other .before in
+    let at-loop-test = at-value .before in
+    let at-loop = at-loop-test .before in
+    pairing-turn _ _ _ _ _ _ _ _ _ _ _ _ _ _ _ _ (at-loop .loop .inv) (at-loop-test .loop-test .taken)
+    (record { one = at-value .value .ensures; other = at-other .other .ensures; next-is = c .next .ensures }) _ _ _ (at-explain-rec .explain-rec .kept .1 .1 .1 .1 .1 .1 .0)
+    (at-explain-rec .explain-rec .kept .1 .1 .1 .1 .1 .1 .1 .0) (at-explain-rec .explain-rec .ensures) (c .before .if1 .left))
     (λ c. search needs)
-    (λ c. edge-gives _ _ _ _ _ _ _ _ 1 _ _ _ _ (inl refl) (c .before .before .before .before .match .keys1) (record { kind-is = c .before .before .before .before .before .before .label-kind .ensures; value-is = c .before .before .before .before .before .label-value .ensures }) (c .before .before .give .ensures))
+    (λ c.
+    let at-match = c .before .before .before .before in
+    let at-label-value = at-match .before in
+    let at-label-kind = at-label-value .before in
+    edge-gives _ _ _ _ _ _ _ _ 1 _ _ _ _ (inl refl) (at-match .match .keys1)
+    (record { kind-is = at-label-kind .label-kind .ensures; value-is = at-label-value .label-value .ensures }) (c .before .before .give .ensures))
     (λ c. search needs)
-    (λ c. edge-gives _ _ _ _ _ _ _ _ 2 _ _ _ _ (inr refl) (c .before .before .before .before .match .keys2) (record { kind-is = c .before .before .before .before .before .before .label-kind .ensures; value-is = c .before .before .before .before .before .label-value .ensures }) (c .before .before .give2 .ensures))
+    (λ c.
+    let at-match = c .before .before .before .before in
+    let at-label-value = at-match .before in
+    let at-label-kind = at-label-value .before in
+    edge-gives _ _ _ _ _ _ _ _ 2 _ _ _ _ (inr refl) (at-match .match .keys2)
+    (record { kind-is = at-label-kind .label-kind .ensures; value-is = at-label-value .label-value .ensures }) (c .before .before .give2 .ensures))
     (λ c. search needs)
     (λ c. search needs)
-    (λ c. pairing-done _ _ _ _ _ _ _ _ _ _ _ _ _ (c .before .loop .inv) (c .loop-test .left) _ _ (c .before .before .match .keys3) refl (record { kind-is = c .before .before .before .before .label-kind .ensures; value-is = c .before .before .before .label-value .ensures }))
+    (λ c.
+    let at-label-value = c .before .before .before in
+    let at-label-kind = at-label-value .before in
+    pairing-done _ _ _ _ _ _ _ _ _ _ _ _ _ (c .before .loop .inv) (c .loop-test .left) _ _ (c .before .before .match .keys3) refl
+    (record { kind-is = at-label-kind .label-kind .ensures; value-is = at-label-value .label-value .ensures }))
     (λ c. edge-nothing _ _ _ _ _ _ _ _ _ _ (c .match .keys4) (record { kind-is = c .before .before .label-kind .ensures; value-is = c .before .label-value .ensures }))
-    (λ c. edge-other _ _ _ _ _ _ _ _ _ _ (c .match .rest .0 .0 .0 .1) (c .match .rest .0 .0 .1) (c .match .rest .0 .1) (c .match .rest .1) (record { kind-is = c .before .before .label-kind .ensures; value-is = c .before .label-value .ensures }) (c .before .before .before .before .before .before .before .pre .1)))
+    (λ c.
+    let at-start = c .before .before .before .before .before .before .before in
+    edge-other _ _ _ _ _ _ _ _ _ _ (c .match .rest .0 .0 .0 .1) (c .match .rest .0 .0 .1) (c .match .rest .0 .1) (c .match .rest .1)
+    (record { kind-is = c .before .before .label-kind .ensures; value-is = c .before .label-value .ensures }) (at-start .pre .1)))
     λ t. explain-rec-lts.spec (
       place-reads.Asked,
       place-reads.Learnt,
@@ -130,21 +182,64 @@ pub +expand-edge+explain-rec-spec : {M : Type 1} → statement M
     explain-rec-μ-loop
     (λ c. pair-same _ _ _ _ _ _ _ _ _ (c .if1 .taken))
     (λ c κs. search needs)
-    (λ c κs. place-inside _ _ _ _ _ _ _ _ _ (c .before .before .before .before .before .before .before .pre .1) (c .before .place .ensures))
+    (λ c κs.
+    let at-start = c .before .before .before .before .before .before .before in
+    place-inside _ _ _ _ _ _ _ _ _ (at-start .pre .1) (c .before .place .ensures))
     (λ c. search needs)
-    (λ c. pair-seen _ _ _ _ _ _ _ _ _ _ _ (c .before .before .before .place .ensures) (c .before .is-marked .ensures) (c .if2 .taken))
-    (λ c κs. (place-inside _ _ _ _ _ _ _ _ _ (c .before .before .before .before .before .before .before .before .before .before .pre .1) (c .before .before .before .before .place .ensures), sym (c .before .before .is-marked .ensures) ∙ c .before .if2 .left))
-    (λ c κs. nearest-fit _ _ _ _ _ _ _ _ (c .before .before .before .before .before .before .before .before .before .before .before .before .before .pre .1))
+    (λ c.
+    let at-place = c .before .before .before in
+    pair-seen _ _ _ _ _ _ _ _ _ _ _ (at-place .place .ensures) (c .before .is-marked .ensures) (c .if2 .taken))
+    (λ c κs.
+    let at-place = c .before .before .before .before in
+    let at-start = at-place .before .before .before .before .before .before in
+    (place-inside _ _ _ _ _ _ _ _ _ (at-start .pre .1) (at-place .place .ensures), sym (c .before .before .is-marked .ensures) ∙ c .before .if2 .left))
+    (λ c κs.
+    let at-start = c .before .before .before .before .before .before .before .before .before .before .before .before .before in
+    nearest-fit _ _ _ _ _ _ _ _ (at-start .pre .1))
     (λ c. rising-begin _ _ _ _ _ _ _ _ _ _ (c .nearest-unchecked .ensures))
     (λ c. search needs)
     (λ c. search needs)
-    (λ c. rising-done _ _ _ _ _ _ _ _ _ _ _ (c .before .before .before .before .before .before .before .before .before .before .before .before .if1 .left) _ (c .before .before .before .before .before .before .before .before .before .before .before .place .ensures) (c .before .before .before .before .before .before .before .before .before .is-marked .ensures) (c .before .before .before .before .before .before .before .before .if2 .left) (c .before .before .before .before .before .before .mark .ensures) _ _ _ _ _ _ (c .before .before .loop .inv) (c .if4 .taken) (c .before .if3 .taken))
+    (λ c.
+    let at-mark = c .before .before .before .before .before .before in
+    let at-if2 = at-mark .before .before in
+    let at-is-marked = at-if2 .before in
+    let at-place = at-is-marked .before .before in
+    let at-if1 = at-place .before in
+    rising-done _ _ _ _ _ _ _ _ _ _ _ (at-if1 .if1 .left) _ (at-place .place .ensures) (at-is-marked .is-marked .ensures) (at-if2 .if2 .left) (at-mark .mark .ensures) _ _ _ _ _
+    _ (c .before .before .loop .inv) (c .if4 .taken) (c .before .if3 .taken))
     (λ c. far-switch _ _ _ _ _ (c .before .if3 .taken) (c .if4 .left))
     (λ c. rising-switch _ _ _ _ _ _ _ _ _ _ _ _ _ _ _ (c .before .before .loop .inv) (c .if4 .left) (c .before .if3 .taken))
-    (λ c κs. (let h = rising-low _ _ _ _ _ _ _ _ _ _ _ _ _ _ _ _ (c .before .before .before .before .before .before .before .before .before .before .before .before .before .before .before .before .before .before .pre .1) (c .before .before .before .loop .inv) (c .before .before .if3 .left) in omega (arith, c .before .before .before .before .before .before .before .before .before .before .before .before .before .before .before .before .before .before .pre .0), rising-walkable _ _ _ _ _ _ _ _ _ _ _ _ _ _ _ _ (c .before .before .before .before .before .before .before .before .before .before .before .before .before .before .before .before .before .before .pre .1) (c .before .before .before .loop .inv) (c .before .before .if3 .left) (c .before .before .before .before .before .before .before .mark .ensures .long)))
+    (λ c κs.
+    let at-if3 = c .before .before in
+    let at-loop = at-if3 .before in
+    let at-mark = at-loop .before .before .before .before in
+    let at-start = at-mark .before .before .before .before .before .before .before .before .before .before .before in (
+      let h = rising-low _ _ _ _ _ _ _ _ _ _ _ _ _ _ _ _ (at-start .pre .1) (at-loop .loop .inv) (at-if3 .if3 .left) in omega (arith, at-start .pre .0),
+      rising-walkable _ _ _ _ _ _ _ _ _ _ _ _ _ _ _ _ (at-start .pre .1) (at-loop .loop .inv) (at-if3 .if3 .left) (at-mark .mark .ensures .long),
+    ))
     (λ c. search needs)
     (λ c. search needs)
-    (λ c. rising-stop _ _ _ _ _ _ _ _ _ _ _ (c .before .before .before .before .before .before .before .before .before .before .before .before .before .before .before .before .before .before .before .before .if1 .left) _ (c .before .before .before .before .before .before .before .before .before .before .before .before .before .before .before .before .before .before .before .place .ensures) (c .before .before .before .before .before .before .before .before .before .before .before .before .before .before .before .before .before .is-marked .ensures) (c .before .before .before .before .before .before .before .before .before .before .before .before .before .before .before .before .if2 .left) (c .before .before .before .before .before .before .before .before .before .before .before .before .before .before .mark .ensures) _ _ _ _ _ _ (c .before .before .before .before .before .before .before .before .before .before .loop .inv) (c .before .before .before .before .before .before .before .before .before .if3 .left) _ _ _ (c .before .before .before .before .before .before .expand-edge .kept .1 .1 .1 .1 .1 .0) (c .before .before .before .before .before .before .expand-edge .kept .1 .1 .1 .1 .1 .1 .0) (c .before .before .before .before .before .before .expand-edge .ensures) (c .if5 .taken))
+    (λ c.
+    let at-expand-edge = c .before .before .before .before .before .before in
+    let at-if3 = at-expand-edge .before .before .before in
+    let at-loop = at-if3 .before in
+    let at-mark = at-loop .before .before .before .before in
+    let at-if2 = at-mark .before .before in
+    let at-is-marked = at-if2 .before in
+    let at-place = at-is-marked .before .before in
+    let at-if1 = at-place .before in
+    rising-stop _ _ _ _ _ _ _ _ _ _ _ (at-if1 .if1 .left) _ (at-place .place .ensures) (at-is-marked .is-marked .ensures) (at-if2 .if2 .left) (at-mark .mark .ensures) _ _ _ _ _
+    _ (at-loop .loop .inv) (at-if3 .if3 .left) _ _ _ (at-expand-edge .expand-edge .kept .1 .1 .1 .1 .1 .0) (at-expand-edge .expand-edge .kept .1 .1 .1 .1 .1 .1 .0)
+    (at-expand-edge .expand-edge .ensures) (c .if5 .taken))
     (λ c κs. search needs)
-    (λ c. far-turn _ _ _ _ _ _ _ _ _ _ _ _ _ _ _ _ (c .before .before .before .before .before .before .before .before .before .before .before .before .before .before .before .before .before .before .before .before .before .before .before .before .before .before .pre .1) (c .before .before .before .before .before .before .before .before .before .before .before .loop .inv) (c .before .before .before .before .before .before .before .before .before .before .if3 .left) _ (c .forest-parent .ensures))
-    (λ c. rising-turn _ _ _ _ _ _ _ _ _ _ _ _ _ _ _ (c .before .before .before .before .before .before .before .before .before .before .before .loop .inv) (c .before .before .before .before .before .before .before .before .before .before .if3 .left) _ _ _ (c .before .before .before .before .before .before .before .expand-edge .kept .1 .1 .1 .1 .1 .0) (c .before .before .before .before .before .before .before .expand-edge .kept .1 .1 .1 .1 .1 .1 .0) (c .before .before .before .before .before .before .before .expand-edge .ensures) (c .before .if5 .left) _ (c .forest-parent .ensures))
+    (λ c.
+    let at-if3 = c .before .before .before .before .before .before .before .before .before .before in
+    let at-loop = at-if3 .before in
+    let at-start = at-loop .before .before .before .before .before .before .before .before .before .before .before .before .before .before .before in
+    far-turn _ _ _ _ _ _ _ _ _ _ _ _ _ _ _ _ (at-start .pre .1) (at-loop .loop .inv) (at-if3 .if3 .left) _ (c .forest-parent .ensures))
+    (λ c.
+    let at-expand-edge = c .before .before .before .before .before .before .before in
+    let at-if3 = at-expand-edge .before .before .before in
+    let at-loop = at-if3 .before in
+    rising-turn _ _ _ _ _ _ _ _ _ _ _ _ _ _ _ (at-loop .loop .inv) (at-if3 .if3 .left) _ _ _ (at-expand-edge .expand-edge .kept .1 .1 .1 .1 .1 .0)
+    (at-expand-edge .expand-edge .kept .1 .1 .1 .1 .1 .1 .0) (at-expand-edge .expand-edge .ensures) (c .before .if5 .left) _ (c .forest-parent .ensures))

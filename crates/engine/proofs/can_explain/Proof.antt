@@ -8,9 +8,25 @@ can-explain-spec =
     tie.close
     (tie.spec
     (λ c κs. search needs)
-    (λ c. can-not-first _ _ _ _ (c .before .before .before .before .before .before .before .pre) _ (c .before .is-string .ensures) (c .if1 .taken))
+    (λ c.
+    let at-start = c .before .before .before .before .before .before .before in
+    can-not-first _ _ _ _ (at-start .pre) _ (c .before .is-string .ensures) (c .if1 .taken))
     (λ c κs. search needs)
-    (λ c. can-not-second _ _ _ _ (c .before .before .before .before .before .before .before .before .before .pre) _ (c .before .before .before .is-string .ensures) (c .before .before .if1 .left) _ (c .before .is-string2 .ensures) (c .if2 .taken))
-    (λ c κs. can-here _ _ 0 0 (c .before .before .before .before .before .before .before .before .before .pre) _ _ (c .before .before .before .is-string .ensures) (c .before .before .if1 .left))
-    (λ c κs. can-here _ _ 0 0 (c .before .before .before .before .before .before .before .before .before .before .pre) _ _ (c .before .before .is-string2 .ensures) (c .before .if2 .left))
-    (λ c. can-classes _ _ _ _ (c .before .before .before .before .before .before .before .before .before .before .before .pre) _ (c .before .before .before .before .before .is-string .ensures) (c .before .before .before .before .if1 .left) _ (c .before .before .before .is-string2 .ensures) (c .before .before .if2 .left) _ _ (c .before .root-unchecked .ensures) (c .root-unchecked2 .ensures)))
+    (λ c.
+    let at-is-string = c .before .before .before in
+    let at-start = at-is-string .before .before .before .before .before .before in
+    can-not-second _ _ _ _ (at-start .pre) _ (at-is-string .is-string .ensures) (c .before .before .if1 .left) _ (c .before .is-string2 .ensures) (c .if2 .taken))
+    (λ c κs.
+    let at-is-string = c .before .before .before in
+    let at-start = at-is-string .before .before .before .before .before .before in
+    can-here _ _ 0 0 (at-start .pre) _ _ (at-is-string .is-string .ensures) (c .before .before .if1 .left))
+    (λ c κs.
+    let at-start = c .before .before .before .before .before .before .before .before .before .before in
+    can-here _ _ 0 0 (at-start .pre) _ _ (c .before .before .is-string2 .ensures) (c .before .if2 .left))
+    (λ c.
+    let at-is-string2 = c .before .before .before in
+    let at-if1 = at-is-string2 .before in
+    let at-is-string = at-if1 .before in
+    let at-start = at-is-string .before .before .before .before .before .before in
+    can-classes _ _ _ _ (at-start .pre) _ (at-is-string .is-string .ensures) (at-if1 .if1 .left) _ (at-is-string2 .is-string2 .ensures) (c .before .before .if2 .left) _ _
+    (c .before .root-unchecked .ensures) (c .root-unchecked2 .ensures)))

@@ -14,7 +14,19 @@ explain-spec =
     (λ c. explain-unready _ _ _ _ _ (c .before .audit .ensures) (c .if1 .taken))
     (λ c κs. ready-of _ _ (sym (c .before .before .audit .ensures) ∙ c .before .if1 .left))
     (λ c. search needs)
-    (λ c. explain-unfit _ _ _ _ _ (c .before .before .before .before .audit .ensures) (c .before .before .before .if1 .left) _ (c .before .can-explain .ensures) (c .if2 .taken))
-    (λ c κs. explain-fit _ _ _ _ _ (c .before .before .before .before .before .audit .ensures) (c .before .before .before .before .if1 .left) _ (c .before .before .can-explain .ensures) (c .before .if2 .left))
+    (λ c.
+    let at-if1 = c .before .before .before in
+    let at-audit = at-if1 .before in
+    explain-unfit _ _ _ _ _ (at-audit .audit .ensures) (at-if1 .if1 .left) _ (c .before .can-explain .ensures) (c .if2 .taken))
+    (λ c κs.
+    let at-if1 = c .before .before .before .before in
+    let at-audit = at-if1 .before in
+    explain-fit _ _ _ _ _ (at-audit .audit .ensures) (at-if1 .if1 .left) _ (c .before .before .can-explain .ensures) (c .before .if2 .left))
     (λ c. search needs)
-    (λ c. explain-called _ _ _ _ _ (c .before .before .before .before .before .before .before .before .audit .ensures) (c .before .before .before .before .before .before .before .if1 .left) _ (c .before .before .before .before .before .can-explain .ensures) (c .before .before .before .before .if2 .left) _ _ (c .before .before .explain-unchecked .ensures)))
+    (λ c.
+    let at-if2 = c .before .before .before .before in
+    let at-can-explain = at-if2 .before in
+    let at-if1 = at-can-explain .before .before in
+    let at-audit = at-if1 .before in
+    explain-called _ _ _ _ _ (at-audit .audit .ensures) (at-if1 .if1 .left) _ (at-can-explain .can-explain .ensures) (at-if2 .if2 .left) _ _
+    (c .before .before .explain-unchecked .ensures)))

@@ -6,4 +6,11 @@ use Rattle.engine.proofs.explain_few.Tie as tie
 
 pub explain-few-spec : {M : Type 1} → statement M
 explain-few-spec =
-    tie.close (tie.spec (λ c. search needs) (λ c κs. explainable-walk _ _ _ _ _ _ _ 31 32 (c .before .before .before .before .before .pre .0) (omega arith) (omega arith) (c .before .before .before .before .before .pre .1)) (λ c. search needs) (λ c. explained-by _ _ _ _ _ _ _ _ _ _ 32 _ (c .before .before .before .explain-rec .ensures)))
+    tie.close
+    (tie.spec
+    (λ c. search needs)
+    (λ c κs.
+    let at-start = c .before .before .before .before .before in
+    explainable-walk _ _ _ _ _ _ _ 31 32 (at-start .pre .0) (omega arith) (omega arith) (at-start .pre .1))
+    (λ c. search needs)
+    (λ c. let at-explain-rec = c .before .before .before in explained-by _ _ _ _ _ _ _ _ _ _ 32 _ (at-explain-rec .explain-rec .ensures)))

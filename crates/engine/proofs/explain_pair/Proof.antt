@@ -14,11 +14,25 @@ explain-pair-spec =
     (λ c κs. search needs)
     (λ c. search needs)
     (λ c. search needs)
-    (λ c. c .before .before .before .before .before .explain-plain .ensures .done _ (c .before .p .given .1) _ _)
+    (λ c.
+    let at-explain-plain = c .before .before .before .before .before in
+    at-explain-plain .explain-plain .ensures .done _ (c .before .p .given .1) _ _)
     (λ c. search needs)
-    (λ c κs. (omega arith, explainable-on _ _ _ _ _ _ _ _ 0 (c .before .before .before .before .before .before .explain-plain .kept .1 .1 .1 .1 .0) (c .before .before .before .before .before .before .before .before .before .before .before .before .pre .1)))
+    (λ c κs.
+    let at-explain-plain = c .before .before .before .before .before .before in
+    let at-start = at-explain-plain .before .before .before .before .before .before in
+    (omega arith, explainable-on _ _ _ _ _ _ _ _ 0 (at-explain-plain .explain-plain .kept .1 .1 .1 .1 .0) (at-start .pre .1)))
     (λ c. search needs)
-    (λ c. explained-anew _ _ _ _ _ _ _ _ _ (c .before .before .before .before .before .before .before .before .before .explain-plain .kept .1 .1 .1 .1 .0) (c .before .before .before .before .before .before .before .before .before .explain-plain .ensures .kept) _ _ (c .before .before .explain-some .ensures))
-    (λ c κs. (c .before .before .before .before .before .before .before .before .before .before .before .before .pre .0, explainable-on _ _ _ _ _ _ _ _ 0 (c .before .before .before .before .before .before .explain-plain .kept .1 .1 .1 .1 .0) (c .before .before .before .before .before .before .before .before .before .before .before .before .pre .1)))
+    (λ c.
+    let at-explain-plain = c .before .before .before .before .before .before .before .before .before in
+    explained-anew _ _ _ _ _ _ _ _ _ (at-explain-plain .explain-plain .kept .1 .1 .1 .1 .0) (at-explain-plain .explain-plain .ensures .kept) _ _
+    (c .before .before .explain-some .ensures))
+    (λ c κs.
+    let at-explain-plain = c .before .before .before .before .before .before in
+    let at-start = at-explain-plain .before .before .before .before .before .before in
+    (at-start .pre .0, explainable-on _ _ _ _ _ _ _ _ 0 (at-explain-plain .explain-plain .kept .1 .1 .1 .1 .0) (at-start .pre .1)))
     (λ c. search needs)
-    (λ c. explained-anew _ _ _ _ _ _ _ _ _ (c .before .before .before .before .before .before .before .before .before .explain-plain .kept .1 .1 .1 .1 .0) (c .before .before .before .before .before .before .before .before .before .explain-plain .ensures .kept) _ _ (c .before .before .explain-many .ensures)))
+    (λ c.
+    let at-explain-plain = c .before .before .before .before .before .before .before .before .before in
+    explained-anew _ _ _ _ _ _ _ _ _ (at-explain-plain .explain-plain .kept .1 .1 .1 .1 .0) (at-explain-plain .explain-plain .ensures .kept) _ _
+    (c .before .before .explain-many .ensures)))

@@ -20,19 +20,48 @@ explain-plain-spec =
     Inv-loop
     μ-loop
     (λ c. plain-same _ _ _ _ _ _ (c .if1 .taken))
-    (λ c κs. nearest-fit _ _ _ _ _ _ _ _ (plain-walkable _ _ _ _ _ (c .before .before .before .pre .0) (c .before .before .before .pre .1)))
+    (λ c κs. let at-start = c .before .before .before in nearest-fit _ _ _ _ _ _ _ _ (plain-walkable _ _ _ _ _ (at-start .pre .0) (at-start .pre .1)))
     (λ c cells tab k. rising-begin _ cells tab _ _ k _ _ _ _ (c .nearest-unchecked .ensures))
     (λ c. c .before .before .loop .inv [] [] 0 .along .long)
-    (λ c. plain-done _ _ _ _ _ _ _ _ _ _ _ (c .before .before .before .before .if1 .left) (c .before .before .loop .inv) (c .if3 .taken) (c .before .if2 .taken))
+    (λ c.
+    let at-if1 = c .before .before .before .before in
+    plain-done _ _ _ _ _ _ _ _ _ _ _ (at-if1 .if1 .left) (c .before .before .loop .inv) (c .if3 .taken) (c .before .if2 .taken))
     (λ c. far-switch _ _ _ _ _ (c .before .if2 .taken) (c .if3 .left))
     (λ c cells tab k. rising-switch _ _ _ _ _ _ _ _ _ _ _ _ _ _ _ (c .before .before .loop .inv cells tab k) (c .if3 .left) (c .before .if2 .taken))
     (λ c κs. search needs)
     (λ c. search needs)
     (λ c. search needs)
-    (λ c. c .before .before .before .before .plain-edge .kept .1 .1 .0 ∙ c .before .before .before .before .before .before .before .loop .inv [] [] 0 .along .long)
-    (λ c. plain-met _ _ _ _ _ _ _ _ _ _ _ (c .before .before .before .before .before .before .before .before .before .if1 .left) (c .before .before .before .before .before .before .before .loop .inv) _ (c .before .before .before .before .plain-edge .ensures .kept))
-    (λ c. c .before .before .before .before .before .before .before .plain-edge .kept .1 .1 .0 ∙ c .before .before .before .before .before .before .before .before .before .before .loop .inv [] [] 0 .along .long)
-    (λ c. plain-stop _ _ _ _ _ _ _ _ _ _ _ (c .before .before .before .before .before .before .before .before .before .before .before .before .if1 .left) (c .before .before .before .before .before .before .before .before .before .before .loop .inv) _ (c .before .before .before .before .before .before .before .before .before .if2 .left) (c .before .before .before .before .before .before .before .plain-edge .kept .1 .1 .0) _ (c .before .before .before .before .before .before .before .plain-edge .ensures .done _ (c .before .before .before .p .given .1)) (c .if4 .taken))
+    (λ c.
+    let at-plain-edge = c .before .before .before .before in
+    let at-loop = at-plain-edge .before .before .before in
+    at-plain-edge .plain-edge .kept .1 .1 .0 ∙ at-loop .loop .inv [] [] 0 .along .long)
+    (λ c.
+    let at-plain-edge = c .before .before .before .before in
+    let at-loop = at-plain-edge .before .before .before in
+    let at-if1 = at-loop .before .before in
+    plain-met _ _ _ _ _ _ _ _ _ _ _ (at-if1 .if1 .left) (at-loop .loop .inv) _ (at-plain-edge .plain-edge .ensures .kept))
+    (λ c.
+    let at-plain-edge = c .before .before .before .before .before .before .before in
+    let at-loop = at-plain-edge .before .before .before in
+    at-plain-edge .plain-edge .kept .1 .1 .0 ∙ at-loop .loop .inv [] [] 0 .along .long)
+    (λ c.
+    let at-p = c .before .before .before in
+    let at-plain-edge = at-p .before .before .before .before in
+    let at-if2 = at-plain-edge .before .before in
+    let at-loop = at-if2 .before in
+    let at-if1 = at-loop .before .before in
+    plain-stop _ _ _ _ _ _ _ _ _ _ _ (at-if1 .if1 .left) (at-loop .loop .inv) _ (at-if2 .if2 .left) (at-plain-edge .plain-edge .kept .1 .1 .0) _
+    (at-plain-edge .plain-edge .ensures .done _ (at-p .p .given .1)) (c .if4 .taken))
     (λ c κs. search needs)
-    (λ c. far-turn _ _ _ [] [] _ _ _ _ _ _ _ _ _ _ _ (plain-walkable _ _ _ _ _ (c .before .before .before .before .before .before .before .before .before .before .before .before .before .before .before .before .pre .0) (c .before .before .before .before .before .before .before .before .before .before .before .before .before .before .before .before .pre .1)) (c .before .before .before .before .before .before .before .before .before .before .before .loop .inv _ [] _) (c .before .before .before .before .before .before .before .before .before .before .if2 .left) _ (c .forest-parent .ensures))
-    (λ c cells tab k. rising-turn _ _ _ _ _ _ _ _ _ _ _ _ _ _ _ (c .before .before .before .before .before .before .before .before .before .before .before .loop .inv cells tab k) (c .before .before .before .before .before .before .before .before .before .before .if2 .left) _ _ _ refl (c .before .before .before .before .before .before .before .before .plain-edge .kept .1 .1 .0) (c .before .before .before .before .before .before .before .before .plain-edge .ensures .done _ (c .before .before .before .before .p .given .1) cells tab _ k) (c .before .if4 .left) _ (c .forest-parent .ensures)))
+    (λ c.
+    let at-if2 = c .before .before .before .before .before .before .before .before .before .before in
+    let at-loop = at-if2 .before in
+    let at-start = at-loop .before .before .before .before .before in
+    far-turn _ _ _ [] [] _ _ _ _ _ _ _ _ _ _ _ (plain-walkable _ _ _ _ _ (at-start .pre .0) (at-start .pre .1)) (at-loop .loop .inv _ [] _) (at-if2 .if2 .left) _ (c .forest-parent .ensures))
+    (λ c cells tab k.
+    let at-p = c .before .before .before .before in
+    let at-plain-edge = at-p .before .before .before .before in
+    let at-if2 = at-plain-edge .before .before in
+    let at-loop = at-if2 .before in
+    rising-turn _ _ _ _ _ _ _ _ _ _ _ _ _ _ _ (at-loop .loop .inv cells tab k) (at-if2 .if2 .left) _ _ _ refl (at-plain-edge .plain-edge .kept .1 .1 .0)
+    (at-plain-edge .plain-edge .ensures .done _ (at-p .p .given .1) cells tab _ k) (c .before .if4 .left) _ (c .forest-parent .ensures)))

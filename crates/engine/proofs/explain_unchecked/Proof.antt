@@ -5,4 +5,20 @@ use Rattle.engine.proofs.explain_unchecked.Tie as tie
 
 pub explain-unchecked-spec : {M : Type 1} → statement M
 explain-unchecked-spec =
-    tie.close (tie.spec (λ c κs. (c .before .before .before .before .before .before .pre .0 .sized .termLimited, explainable-of _ _ _ _ (c .before .before .before .before .before .before .pre .0) (c .before .before .before .before .before .before .pre .1))) (λ c. search needs) (λ c. explain-refused _ _ _ _ (c .before .before .before .before .before .before .before .before .before .before .before .pre .0) (c .before .before .before .before .before .before .before .before .before .before .before .pre .1) _ (c .before .before .before .before .explain-pair .kept .1 .1 .1 .1 .1 .1 .0) _ (c .before .before .before .before .explain-pair .ensures) (c .if1 .taken)) (λ c. search needs) (λ c. explain-came _ _ _ _ (c .before .before .before .before .before .before .before .before .before .before .before .pre .0) (c .before .before .before .before .before .before .before .before .before .before .before .pre .1) _ (c .before .before .before .before .explain-pair .kept .1 .1 .1 .1 .1 .1 .0) _ (c .before .before .before .before .explain-pair .ensures) (c .if1 .left)))
+    tie.close
+    (tie.spec
+    (λ c κs.
+    let at-start = c .before .before .before .before .before .before in
+    (at-start .pre .0 .sized .termLimited, explainable-of _ _ _ _ (at-start .pre .0) (at-start .pre .1)))
+    (λ c. search needs)
+    (λ c.
+    let at-explain-pair = c .before .before .before .before in
+    let at-start = at-explain-pair .before .before .before .before .before .before .before in
+    explain-refused _ _ _ _ (at-start .pre .0) (at-start .pre .1) _ (at-explain-pair .explain-pair .kept .1 .1 .1 .1 .1 .1 .0) _ (at-explain-pair .explain-pair .ensures)
+    (c .if1 .taken))
+    (λ c. search needs)
+    (λ c.
+    let at-explain-pair = c .before .before .before .before in
+    let at-start = at-explain-pair .before .before .before .before .before .before .before in
+    explain-came _ _ _ _ (at-start .pre .0) (at-start .pre .1) _ (at-explain-pair .explain-pair .kept .1 .1 .1 .1 .1 .1 .0) _ (at-explain-pair .explain-pair .ensures)
+    (c .if1 .left)))

@@ -10,6 +10,13 @@ find-spec =
     (λ c κs. search needs)
     (λ c. find-unready _ _ _ _ (c .before .audit .ensures) (c .if1 .taken))
     (λ c κs. search needs)
-    (λ c. find-unfit _ _ _ _ (c .before .before .before .audit .ensures) (c .before .before .if1 .left) _ (c .before .is-string .ensures) (c .if2 .taken))
-    (λ c κs. find-here _ _ _ _ (c .before .before .before .audit .ensures) (c .before .before .if1 .left) _ (c .before .is-string .ensures) (c .if2 .left))
-    (λ c. find-gives _ _ _ _ (c .before .before .before .before .audit .ensures) (c .before .before .before .if1 .left) _ (c .before .before .is-string .ensures) (c .before .if2 .left) _ (c .root-unchecked .ensures)))
+    (λ c.
+    let at-audit = c .before .before .before in
+    find-unfit _ _ _ _ (at-audit .audit .ensures) (c .before .before .if1 .left) _ (c .before .is-string .ensures) (c .if2 .taken))
+    (λ c κs.
+    let at-audit = c .before .before .before in
+    find-here _ _ _ _ (at-audit .audit .ensures) (c .before .before .if1 .left) _ (c .before .is-string .ensures) (c .if2 .left))
+    (λ c.
+    let at-if1 = c .before .before .before in
+    let at-audit = at-if1 .before in
+    find-gives _ _ _ _ (at-audit .audit .ensures) (at-if1 .if1 .left) _ (c .before .before .is-string .ensures) (c .before .if2 .left) _ (c .root-unchecked .ensures)))

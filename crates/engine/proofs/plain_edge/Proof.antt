@@ -14,8 +14,18 @@ plain-edge-spec =
     (λ c κs. search needs)
     (λ c κs. search needs)
     (λ c. search needs)
-    (λ c. plain-gives _ _ _ _ 1 _ _ _ _ (inl refl) (c .before .before .before .before .match .keys1) (record { kind-is = c .before .before .before .before .before .before .label-kind .ensures; value-is = c .before .before .before .before .before .label-value .ensures }) (c .before .before .give .ensures))
+    (λ c.
+    let at-match = c .before .before .before .before in
+    let at-label-value = at-match .before in
+    let at-label-kind = at-label-value .before in
+    plain-gives _ _ _ _ 1 _ _ _ _ (inl refl) (at-match .match .keys1) (record { kind-is = at-label-kind .label-kind .ensures; value-is = at-label-value .label-value .ensures })
+    (c .before .before .give .ensures))
     (λ c. search needs)
-    (λ c. plain-gives _ _ _ _ 2 _ _ _ _ (inr refl) (c .before .before .before .before .match .keys2) (record { kind-is = c .before .before .before .before .before .before .label-kind .ensures; value-is = c .before .before .before .before .before .label-value .ensures }) (c .before .before .give2 .ensures))
+    (λ c.
+    let at-match = c .before .before .before .before in
+    let at-label-value = at-match .before in
+    let at-label-kind = at-label-value .before in
+    plain-gives _ _ _ _ 2 _ _ _ _ (inr refl) (at-match .match .keys2) (record { kind-is = at-label-kind .label-kind .ensures; value-is = at-label-value .label-value .ensures })
+    (c .before .before .give2 .ensures))
     (λ c. plain-nothing _ _ _ _ _ _ (c .match .keys3) (record { kind-is = c .before .before .label-kind .ensures; value-is = c .before .label-value .ensures }))
     (λ c. plainly-met refl))

@@ -12,11 +12,34 @@ can-step-spec =
     tie.close
     (tie.spec
     (λ c κs. search needs)
-    (λ c. steps-no-list (c .before .before .before .before .args .terms .now) (c .before .before .before .before .args .c) (c .before .before .before .before .args .known .now) (c .before .before .before .before .args .e) (c .before .before .before .before .args .guard) _ (c .before .is-list .ensures) (c .if1 .taken))
+    (λ c.
+    let at-start = c .before .before .before .before in
+    steps-no-list (at-start .args .terms .now) (at-start .args .c) (at-start .args .known .now) (at-start .args .e) (at-start .args .guard) _ (c .before .is-list .ensures)
+    (c .if1 .taken))
     (λ c κs. search needs)
-    (λ c. steps-no-equation (c .before .before .before .before .before .before .args .terms .now) (c .before .before .before .before .before .before .args .c) (c .before .before .before .before .before .before .args .known .now) (c .before .before .before .before .before .before .args .e) (c .before .before .before .before .before .before .args .guard) _ (c .before .before .before .is-list .ensures) (c .before .before .if1 .left) _ (c .before .kind-of .ensures) (c .if2 .taken))
+    (λ c.
+    let at-is-list = c .before .before .before in
+    let at-start = at-is-list .before .before .before in
+    steps-no-equation (at-start .args .terms .now) (at-start .args .c) (at-start .args .known .now) (at-start .args .e) (at-start .args .guard) _ (at-is-list .is-list .ensures)
+    (c .before .before .if1 .left) _ (c .before .kind-of .ensures) (c .if2 .taken))
     (λ c κs. search needs)
     (λ c κs. search needs)
-    (λ c. steps-no-string (c .before .before .before .before .before .before .before .before .before .args .terms .now) (c .before .before .before .before .before .before .before .before .before .args .c) (c .before .before .before .before .before .before .before .before .before .args .known .now) (c .before .before .before .before .before .before .before .before .before .args .e) (c .before .before .before .before .before .before .before .before .before .args .guard) _ (c .before .before .before .before .before .before .is-list .ensures) (c .before .before .before .before .before .if1 .left) _ (c .before .before .before .before .kind-of .ensures) (c .before .before .before .if2 .left) _ (c .before .before .first .ensures) _ (c .before .is-string .ensures) (c .if3 .taken))
+    (λ c.
+    let at-if2 = c .before .before .before in
+    let at-kind-of = at-if2 .before in
+    let at-if1 = at-kind-of .before in
+    let at-is-list = at-if1 .before in
+    let at-start = at-is-list .before .before .before in
+    steps-no-string (at-start .args .terms .now) (at-start .args .c) (at-start .args .known .now) (at-start .args .e) (at-start .args .guard) _ (at-is-list .is-list .ensures)
+    (at-if1 .if1 .left) _ (at-kind-of .kind-of .ensures) (at-if2 .if2 .left) _ (c .before .before .first .ensures) _ (c .before .is-string .ensures) (c .if3 .taken))
     (λ c κs. search needs)
-    (λ c. steps-last (c .before .before .before .before .before .before .before .before .before .before .args .terms .now) (c .before .before .before .before .before .before .before .before .before .before .args .c) (c .before .before .before .before .before .before .before .before .before .before .args .known .now) (c .before .before .before .before .before .before .before .before .before .before .args .e) (c .before .before .before .before .before .before .before .before .before .before .args .guard) _ (c .before .before .before .before .before .before .before .is-list .ensures) (c .before .before .before .before .before .before .if1 .left) _ (c .before .before .before .before .before .kind-of .ensures) (c .before .before .before .before .if2 .left) _ (c .before .before .before .first .ensures) _ (c .before .before .is-string .ensures) (c .before .if3 .left) _ (c .is-guard .ensures ∙ ap isGuard (toZ-ofZ w32 (c .before .before .before .before .before .before .before .before .before .before .args .guard) (c .before .before .before .before .before .before .before .before .before .before .fits .guard)))))
+    (λ c.
+    let at-first = c .before .before .before in
+    let at-if2 = at-first .before in
+    let at-kind-of = at-if2 .before in
+    let at-if1 = at-kind-of .before in
+    let at-is-list = at-if1 .before in
+    let at-start = at-is-list .before .before .before in
+    steps-last (at-start .args .terms .now) (at-start .args .c) (at-start .args .known .now) (at-start .args .e) (at-start .args .guard) _ (at-is-list .is-list .ensures)
+    (at-if1 .if1 .left) _ (at-kind-of .kind-of .ensures) (at-if2 .if2 .left) _ (at-first .first .ensures) _ (c .before .before .is-string .ensures) (c .before .if3 .left) _
+    (c .is-guard .ensures ∙ ap isGuard (toZ-ofZ w32 (at-start .args .guard) (at-start .fits .guard)))))

@@ -17,9 +17,14 @@ carried-spec =
     (λ c. search needs)
     (λ c. search needs)
     (λ c. search needs)
-    (λ c. carried-is _ (c .before .before .before .before .args .incoming) _ (c .before .before .o .given .1) (let r = c .with-reasons .ensures in cc))
-    (λ c. carried-is _ (c .before .before .before .args .incoming) _ (c .before .o2 .given .1) refl)
-    (λ c. carried-is _ (c .before .before .before .args .incoming) _ (c .before .o3 .given .1) refl)
-    (λ c. carried-is _ (c .before .before .before .args .incoming) _ (c .before .o4 .given .1) refl)
-    (λ c. carried-is _ (c .before .before .before .args .incoming) _ (c .before .o5 .given .1) (let q = toZ-ofZ w32 (c .before .o5 .given .0 .1 .1 .0) (record { sfits = c .known-told5 .given .1 .1 .0 .1 }) in cc))
-    (λ c. carried-is _ (c .before .before .before .args .incoming) _ (c .before .o6 .given .1) refl))
+    (λ c.
+    let at-start = c .before .before .before .before in
+    carried-is _ (at-start .args .incoming) _ (c .before .before .o .given .1) (let r = c .with-reasons .ensures in cc))
+    (λ c. let at-start = c .before .before .before in carried-is _ (at-start .args .incoming) _ (c .before .o2 .given .1) refl)
+    (λ c. let at-start = c .before .before .before in carried-is _ (at-start .args .incoming) _ (c .before .o3 .given .1) refl)
+    (λ c. let at-start = c .before .before .before in carried-is _ (at-start .args .incoming) _ (c .before .o4 .given .1) refl)
+    (λ c.
+    let at-start = c .before .before .before in
+    carried-is _ (at-start .args .incoming) _ (c .before .o5 .given .1)
+    (let q = toZ-ofZ w32 (c .before .o5 .given .0 .1 .1 .0) (record { sfits = c .known-told5 .given .1 .1 .0 .1 }) in cc))
+    (λ c. let at-start = c .before .before .before in carried-is _ (at-start .args .incoming) _ (c .before .o6 .given .1) refl))

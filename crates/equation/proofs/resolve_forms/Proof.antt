@@ -12,7 +12,9 @@ pub resolve-forms-spec : {M : Type 1} → statement M
 resolve-forms-spec =
     tie.close
     (tie.spec
-    (λ c κs. (c .before .before .before .before .before .before .before .before .before .before .before .before .before .before .pre .0, (c .before .before .before .before .before .before .before .before .before .before .before .before .before .before .pre .1 .0, (ap isGuard (toZ-ofZ w32 (c .before .before .before .before .before .before .before .before .before .before .before .before .before .before .args .guard) (c .before .before .before .before .before .before .before .before .before .before .before .before .before .before .fits .guard)) ∙ c .before .before .before .before .before .before .before .before .before .before .before .before .before .before .pre .1 .1 .0, c .before .before .before .before .before .before .before .before .before .before .before .before .before .before .pre .1 .1 .1 .0))))
+    (λ c κs.
+    let at-start = c .before .before .before .before .before .before .before .before .before .before .before .before .before .before in
+    (at-start .pre .0, (at-start .pre .1 .0, (ap isGuard (toZ-ofZ w32 (at-start .args .guard) (at-start .fits .guard)) ∙ at-start .pre .1 .1 .0, at-start .pre .1 .1 .1 .0))))
     (λ c κs. search needs)
     (λ c. search needs)
     (λ c. search needs)
@@ -20,4 +22,9 @@ resolve-forms-spec =
     (λ c. search needs)
     (λ c. search needs)
     (λ c. search needs)
-    (λ c. forms-resolved (c .before .before .before .before .before .before .before .before .before .before .before .before .before .before .before .before .before .before .before .before .before .before .before .before .before .before .before .before .args .lhs .now) (c .before .before .before .before .before .before .before .before .before .before .before .before .before .before .before .before .before .before .before .before .before .before .before .before .before .before .before .before .args .rhs .now) (c .before .before .before .before .before .before .before .before .before .before .before .before .before .resolve-unchecked .last .1 .1 .1 .1 .1 .1 .1 .1 .1 .0) (c .before .before .before .before .before .before .before .before .before .before .before .before .before .before .before .before .before .before .before .before .before .before .before .before .before .before .before .before .args .guard) (toZ w32 (ofZ w32 (c .before .before .before .before .before .before .before .before .before .before .before .before .before .before .before .before .before .before .before .before .before .before .before .before .before .before .before .before .args .guard))) (c .before .before .before .before .before .before .before .before .before .before .before .before .before .before .before .before .before .before .before .before .before .before .before .before .before .before .before .before .args .incoming) (c .before .before .before .before .before .before .before .before .before .before .before .before .before .resolve-unchecked .result) _ (c .before .before .before .before .before .before .before .before .before .before .before .before .before .before .before .before .before .before .before .before .before .before .before .before .before .before .before .before .pre .1 .1 .1 .1) (toZ-ofZ w32 (c .before .before .before .before .before .before .before .before .before .before .before .before .before .before .before .before .before .before .before .before .before .before .before .before .before .before .before .before .args .guard) (c .before .before .before .before .before .before .before .before .before .before .before .before .before .before .before .before .before .before .before .before .before .before .before .before .before .before .before .before .fits .guard)) (c .before .before .before .before .before .before .before .before .before .before .before .before .before .resolve-unchecked .ensures) (c .carried .ensures)))
+    (λ c.
+    let at-resolve-unchecked = c .before .before .before .before .before .before .before .before .before .before .before .before .before in
+    let at-start = at-resolve-unchecked .before .before .before .before .before .before .before .before .before .before .before .before .before .before .before in
+    forms-resolved (at-start .args .lhs .now) (at-start .args .rhs .now) (at-resolve-unchecked .resolve-unchecked .last .1 .1 .1 .1 .1 .1 .1 .1 .1 .0) (at-start .args .guard)
+    (toZ w32 (ofZ w32 (at-start .args .guard))) (at-start .args .incoming) (at-resolve-unchecked .resolve-unchecked .result) _ (at-start .pre .1 .1 .1 .1)
+    (toZ-ofZ w32 (at-start .args .guard) (at-start .fits .guard)) (at-resolve-unchecked .resolve-unchecked .ensures) (c .carried .ensures)))

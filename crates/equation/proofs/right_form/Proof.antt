@@ -15,11 +15,45 @@ right-form-spec =
     tie.close
     (tie.spec
     (λ c. search needs)
-    (λ c κs. (c .before .before .before .before .before .before .before .before .before .before .before .before .before .before .pre .0 .0, (c .before .before .before .before .before .before .before .before .before .before .before .before .before .before .pre .0 .1, (term-string (c .before .before .before .before .before .before .before .before .before .before .before .before .before .before .pre .0 .0) (c .before .before .before .before .before .before .before .before .before .before .before .before .before .before .args .known .now) (c .before .before .before .before .before .before .before .before .before .before .before .before .before .before .args .t) (c .before .before .before .before .before .before .before .before .before .before .before .before .before .before .pre .1 .0), omega arith))))
+    (λ c κs.
+    let at-start = c .before .before .before .before .before .before .before .before .before .before .before .before .before .before in
+    (at-start .pre .0 .0, (at-start .pre .0 .1, (term-string (at-start .pre .0 .0) (at-start .args .known .now) (at-start .args .t) (at-start .pre .1 .0), omega arith))))
     (λ c. search needs)
-    (λ c. (let h = form-short (c .before .before .before .before .before .before .before .before .before .before .before .before .before .before .before .deep-form .last .1 .1 .1 .1 .1 .1 .1 .1 .1 .0) (c .before .before .before .before .before .before .before .before .before .before .before .before .before .before .before .before .before .before .before .before .before .before .before .before .before .before .before .before .before .before .args .known .now) (c .before .before .before .before .before .before .before .before .before .before .before .before .before .before .before .before .before .before .before .before .before .before .before .before .before .before .before .before .before .before .args .t) _ (c .before .before .before .before .before .before .before .before .before .before .before .before .before .before .before .before .before .before .before .before .before .before .before .before .before .before .before .before .before .before .pre .0 .0) (c .before .before .before .before .before .before .before .before .before .before .before .before .before .before .before .before .before .before .before .before .before .before .before .before .before .before .before .before .before .before .pre .1 .0) (c .before .before .before .before .before .before .before .before .before .before .before .before .before .before .before .deep-form .ensures) (c .before .before .before .before .before .before .n .given .1) (c .before .before .before .before .before .before .before .before .before .before .before .before .before .before .before .deep-form .kept .0) refl in let k = c .before .before .before .before .before .before .before .before .before .before .before .before .before .before .before .deep-form .kept .1 .1 .1 .1 .1 .1 .1 .1 .1 .0 in omega arith))
-    (λ c. (let h = form-short (c .before .before .before .before .before .before .before .before .before .before .before .before .before .before .before .before .deep-form .last .1 .1 .1 .1 .1 .1 .1 .1 .1 .0) (c .before .before .before .before .before .before .before .before .before .before .before .before .before .before .before .before .before .before .before .before .before .before .before .before .before .before .before .before .before .before .before .args .known .now) (c .before .before .before .before .before .before .before .before .before .before .before .before .before .before .before .before .before .before .before .before .before .before .before .before .before .before .before .before .before .before .before .args .t) _ (c .before .before .before .before .before .before .before .before .before .before .before .before .before .before .before .before .before .before .before .before .before .before .before .before .before .before .before .before .before .before .before .pre .0 .0) (c .before .before .before .before .before .before .before .before .before .before .before .before .before .before .before .before .before .before .before .before .before .before .before .before .before .before .before .before .before .before .before .pre .1 .0) (c .before .before .before .before .before .before .before .before .before .before .before .before .before .before .before .before .deep-form .ensures) (c .before .before .before .before .before .before .before .n .given .1) (c .before .before .before .before .before .before .before .before .before .before .before .before .before .before .before .before .deep-form .kept .0) refl in let k = c .before .before .before .before .before .before .before .before .before .before .before .before .before .before .before .before .deep-form .kept .1 .1 .1 .1 .1 .1 .1 .1 .1 .0 in sym (length-take-le _ (c .before .before .before .before .before .before .before .before .before .before .before .before .before .before .before .before .deep-form .last .1 .1 .1 .1 .1 .1 .1 .1 .1 .0) (omega arith))))
-    (λ c κs. (form-ready (c .before .before .before .before .before .before .before .before .before .before .before .before .before .before .before .before .before .deep-form .last .1 .1 .1 .1 .1 .1 .1 .1 .1 .0) (c .before .before .before .before .before .before .before .before .before .before .before .before .before .before .before .before .before .before .before .before .before .before .before .before .before .before .before .before .before .before .before .before .args .known .now) (c .before .before .before .before .before .before .before .before .before .before .before .before .before .before .before .before .before .before .before .before .before .before .before .before .before .before .before .before .before .before .before .before .args .t) _ (c .before .before .before .before .before .before .before .before .before .before .before .before .before .before .before .before .before .before .before .before .before .before .before .before .before .before .before .before .before .before .before .before .pre .0 .0) (c .before .before .before .before .before .before .before .before .before .before .before .before .before .before .before .before .before .before .before .before .before .before .before .before .before .before .before .before .before .before .before .before .pre .1 .0) (c .before .before .before .before .before .before .before .before .before .before .before .before .before .before .before .before .before .deep-form .ensures) (c .before .before .before .before .before .before .before .before .n .given .1) (c .before .before .before .before .before .before .before .before .before .before .before .before .before .before .before .before .before .deep-form .kept .0) refl, (record { left = form-keeps (c .before .before .before .before .before .before .before .before .before .before .before .before .before .before .before .before .before .deep-form .last .1 .1 .1 .1 .1 .1 .1 .1 .1 .0) (c .before .before .before .before .before .before .before .before .before .before .before .before .before .before .before .before .before .before .before .before .before .before .before .before .before .before .before .before .before .before .before .before .args .known .now) (c .before .before .before .before .before .before .before .before .before .before .before .before .before .before .before .before .before .before .before .before .before .before .before .before .before .before .before .before .before .before .before .before .args .t) _ (c .before .before .before .before .before .before .before .before .before .before .before .before .before .before .before .before .before .before .before .before .before .before .before .before .before .before .before .before .before .before .before .before .pre .0 .0) (c .before .before .before .before .before .before .before .before .before .before .before .before .before .before .before .before .before .before .before .before .before .before .before .before .before .before .before .before .before .before .before .before .pre .1 .0) (c .before .before .before .before .before .before .before .before .before .before .before .before .before .before .before .before .before .deep-form .ensures) (c .before .before .before .before .before .before .before .before .n .given .1) (c .before .before .before .before .before .before .before .before .before .before .before .before .before .before .before .before .before .deep-form .kept .0) refl (c .before .before .before .before .before .before .before .before .before .before .before .before .before .before .before .before .before .before .before .before .before .before .before .before .before .before .before .before .before .before .before .before .args .lhs .now) (c .before .before .before .before .before .before .before .before .before .before .before .before .before .before .before .before .before .before .before .before .before .before .before .before .before .before .before .before .before .before .before .before .pre .1 .1 .0); right = form-list (c .before .before .before .before .before .before .before .before .before .before .before .before .before .before .before .before .before .deep-form .last .1 .1 .1 .1 .1 .1 .1 .1 .1 .0) (c .before .before .before .before .before .before .before .before .before .before .before .before .before .before .before .before .before .before .before .before .before .before .before .before .before .before .before .before .before .before .before .before .args .known .now) (c .before .before .before .before .before .before .before .before .before .before .before .before .before .before .before .before .before .before .before .before .before .before .before .before .before .before .before .before .before .before .before .before .args .t) _ (c .before .before .before .before .before .before .before .before .before .before .before .before .before .before .before .before .before .before .before .before .before .before .before .before .before .before .before .before .before .before .before .before .pre .0 .0) (c .before .before .before .before .before .before .before .before .before .before .before .before .before .before .before .before .before .before .before .before .before .before .before .before .before .before .before .before .before .before .before .before .pre .1 .0) (c .before .before .before .before .before .before .before .before .before .before .before .before .before .before .before .before .before .deep-form .ensures) (c .before .before .before .before .before .before .before .before .n .given .1) (c .before .before .before .before .before .before .before .before .before .before .before .before .before .before .before .before .before .deep-form .kept .0) refl (first-part (c .before .before .before .before .before .before .before .before .before .before .before .before .before .before .before .before .before .deep-form .last .1 .1 .1 .1 .1 .1 .1 .1 .1 .0) _ (let h = form-short (c .before .before .before .before .before .before .before .before .before .before .before .before .before .before .before .before .before .deep-form .last .1 .1 .1 .1 .1 .1 .1 .1 .1 .0) (c .before .before .before .before .before .before .before .before .before .before .before .before .before .before .before .before .before .before .before .before .before .before .before .before .before .before .before .before .before .before .before .before .args .known .now) (c .before .before .before .before .before .before .before .before .before .before .before .before .before .before .before .before .before .before .before .before .before .before .before .before .before .before .before .before .before .before .before .before .args .t) _ (c .before .before .before .before .before .before .before .before .before .before .before .before .before .before .before .before .before .before .before .before .before .before .before .before .before .before .before .before .before .before .before .before .pre .0 .0) (c .before .before .before .before .before .before .before .before .before .before .before .before .before .before .before .before .before .before .before .before .before .before .before .before .before .before .before .before .before .before .before .before .pre .1 .0) (c .before .before .before .before .before .before .before .before .before .before .before .before .before .before .before .before .before .deep-form .ensures) (c .before .before .before .before .before .before .before .before .n .given .1) (c .before .before .before .before .before .before .before .before .before .before .before .before .before .before .before .before .before .deep-form .kept .0) refl in let k = c .before .before .before .before .before .before .before .before .before .before .before .before .before .before .before .before .before .deep-form .kept .1 .1 .1 .1 .1 .1 .1 .1 .1 .0 in omega arith)) }, (ap isGuard (toZ-ofZ w32 (c .before .before .before .before .before .before .before .before .before .before .before .before .before .before .before .before .before .before .before .before .before .before .before .before .before .before .before .before .before .before .before .before .args .guard) (c .before .before .before .before .before .before .before .before .before .before .before .before .before .before .before .before .before .before .before .before .before .before .before .before .before .before .before .before .before .before .before .before .fits .guard)) ∙ c .before .before .before .before .before .before .before .before .before .before .before .before .before .before .before .before .before .before .before .before .before .before .before .before .before .before .before .before .before .before .before .before .pre .1 .1 .1 .0, (c .before .before .before .before .before .before .before .before .before .before .before .before .before .before .before .before .before .before .before .before .before .before .before .before .before .before .before .before .before .before .before .before .pre .1 .1 .1 .1 .0, form-incoming (c .before .before .before .before .before .before .before .before .before .before .before .before .before .before .before .before .before .deep-form .last .1 .1 .1 .1 .1 .1 .1 .1 .1 .0) (c .before .before .before .before .before .before .before .before .before .before .before .before .before .before .before .before .before .before .before .before .before .before .before .before .before .before .before .before .before .before .before .before .args .known .now) (c .before .before .before .before .before .before .before .before .before .before .before .before .before .before .before .before .before .before .before .before .before .before .before .before .before .before .before .before .before .before .before .before .args .t) _ (c .before .before .before .before .before .before .before .before .before .before .before .before .before .before .before .before .before .before .before .before .before .before .before .before .before .before .before .before .before .before .before .before .pre .0 .0) (c .before .before .before .before .before .before .before .before .before .before .before .before .before .before .before .before .before .before .before .before .before .before .before .before .before .before .before .before .before .before .before .before .pre .1 .0) (c .before .before .before .before .before .before .before .before .before .before .before .before .before .before .before .before .before .deep-form .ensures) (c .before .before .before .before .before .before .before .before .n .given .1) (c .before .before .before .before .before .before .before .before .before .before .before .before .before .before .before .before .before .deep-form .kept .0) refl (c .before .before .before .before .before .before .before .before .before .before .before .before .before .before .before .before .before .before .before .before .before .before .before .before .before .before .before .before .before .before .before .before .pre .1 .1 .1 .1 .1))))))
+    (λ c.
+    let at-n = c .before .before .before .before .before .before in
+    let at-deep-form = at-n .before .before .before .before .before .before .before .before .before in
+    let at-start = at-deep-form .before .before .before .before .before .before .before .before .before .before .before .before .before .before .before in
+    (let h = form-short (at-deep-form .deep-form .last .1 .1 .1 .1 .1 .1 .1 .1 .1 .0) (at-start .args .known .now) (at-start .args .t) _ (at-start .pre .0 .0) (at-start .pre .1 .0)
+    (at-deep-form .deep-form .ensures) (at-n .n .given .1) (at-deep-form .deep-form .kept .0) refl in
+    let k = at-deep-form .deep-form .kept .1 .1 .1 .1 .1 .1 .1 .1 .1 .0 in omega arith))
+    (λ c.
+    let at-n = c .before .before .before .before .before .before .before in
+    let at-deep-form = at-n .before .before .before .before .before .before .before .before .before in
+    let at-start = at-deep-form .before .before .before .before .before .before .before .before .before .before .before .before .before .before .before in
+    (let h = form-short (at-deep-form .deep-form .last .1 .1 .1 .1 .1 .1 .1 .1 .1 .0) (at-start .args .known .now) (at-start .args .t) _ (at-start .pre .0 .0) (at-start .pre .1 .0)
+    (at-deep-form .deep-form .ensures) (at-n .n .given .1) (at-deep-form .deep-form .kept .0) refl in
+    let k = at-deep-form .deep-form .kept .1 .1 .1 .1 .1 .1 .1 .1 .1 .0 in sym (length-take-le _ (at-deep-form .deep-form .last .1 .1 .1 .1 .1 .1 .1 .1 .1 .0) (omega arith))))
+    (λ c κs.
+    let at-n = c .before .before .before .before .before .before .before .before in
+    let at-deep-form = at-n .before .before .before .before .before .before .before .before .before in
+    let at-start = at-deep-form .before .before .before .before .before .before .before .before .before .before .before .before .before .before .before in
+    let the-deep-form = at-deep-form .deep-form .last .1 .1 .1 .1 .1 .1 .1 .1 .1 .0 in
+    let the-deep-form-ensures = at-deep-form .deep-form .ensures in
+    let the-deep-form-kept = at-deep-form .deep-form .kept .0 in (
+      form-ready the-deep-form (at-start .args .known .now) (at-start .args .t) _ (at-start .pre .0 .0) (at-start .pre .1 .0) the-deep-form-ensures (at-n .n .given .1)
+          the-deep-form-kept refl,
+      (
+        record { left = form-keeps the-deep-form (at-start .args .known .now) (at-start .args .t) _ (at-start .pre .0 .0) (at-start .pre .1 .0) the-deep-form-ensures (at-n .n .given .1) the-deep-form-kept refl (at-start .args .lhs .now) (at-start .pre .1 .1 .0); right = form-list the-deep-form (at-start .args .known .now) (at-start .args .t) _ (at-start .pre .0 .0) (at-start .pre .1 .0) the-deep-form-ensures (at-n .n .given .1) the-deep-form-kept refl (first-part the-deep-form _ (let h = form-short the-deep-form (at-start .args .known .now) (at-start .args .t) _ (at-start .pre .0 .0) (at-start .pre .1 .0) the-deep-form-ensures (at-n .n .given .1) the-deep-form-kept refl in let k = at-deep-form .deep-form .kept .1 .1 .1 .1 .1 .1 .1 .1 .1 .0 in omega arith)) },
+        (
+          ap isGuard (toZ-ofZ w32 (at-start .args .guard) (at-start .fits .guard)) ∙ at-start .pre .1 .1 .1 .0,
+          (
+            at-start .pre .1 .1 .1 .1 .0,
+            form-incoming the-deep-form (at-start .args .known .now) (at-start .args .t) _ (at-start .pre .0 .0) (at-start .pre .1 .0) the-deep-form-ensures (at-n .n .given .1)
+                the-deep-form-kept refl (at-start .pre .1 .1 .1 .1 .1),
+          ),
+        ),
+      ),
+    ))
     (λ c. search needs)
     (λ c κs. search needs)
     (λ c. search needs)
@@ -29,16 +63,38 @@ right-form-spec =
     (λ c. search needs)
     (λ c. search needs)
     (λ c. search needs)
-    (λ c. right-some (c .before .before .before .before .before .before .before .before .before .before .before .before .before .before .before .before .before .before .before .before .before .before .before .before .before .before .before .before .before .before .deep-form .last .1 .1 .1 .1 .1 .1 .1 .1 .1 .0) (c .before .before .before .before .before .before .before .before .before .before .before .before .before .before .before .before .before .before .before .before .before .before .before .before .before .before .before .before .before .before .before .before .before .before .before .before .before .before .before .before .before .before .before .before .before .args .known .now) (c .before .before .before .before .before .before .before .before .before .before .before .before .before .before .before .before .before .before .before .before .before .before .before .before .before .before .before .before .before .before .before .before .before .before .before .before .before .before .before .before .before .before .before .before .before .args .t) (c .before .before .before .before .before .before .before .before .before .before .before .before .before .before .before .before .before .before .before .before .before .before .before .before .before .before .before .before .before .before .before .before .before .before .before .before .before .before .before .before .before .before .before .before .before .args .incoming) _ (c .before .before .before .before .before .before .before .before .before .before .before .before .before .before .before .before .before .before .before .before .before .before .before .before .before .before .before .before .before .before .before .before .before .before .before .before .before .before .before .before .before .before .before .before .before .args .guard) (c .before .before .before .before .before .before .before .before .before .before .before .before .before .before .before .before .before .before .before .before .before .before .before .before .before .before .before .before .before .before .before .before .before .before .before .before .before .before .before .before .before .before .before .before .before .args .lhs .now) (c .before .before .before .before .before .before .before .before .before .before .before .before .before .before .before .before .before .before .before .before .before .before .before .before .before .before .before .before .before .before .before .before .before .before .before .before .before .before .before .before .before .before .before .before .before .pre .1 .1 .1 .1 .1) (c .before .before .before .before .before .before .before .before .before .before .before .before .before .before .before .before .before .before .before .before .before .before .before .before .before .before .before .before .before .before .before .before .before .before .before .before .before .before .before .before .before .before .before .before .before .pre .0 .0) (c .before .before .before .before .before .before .before .before .before .before .before .before .before .before .before .before .before .before .before .before .before .before .before .before .before .before .before .before .before .before .before .before .before .before .before .before .before .before .before .before .before .before .before .before .before .pre .1 .0) (c .before .before .before .before .before .before .before .before .before .before .before .before .before .before .before .before .before .before .before .before .before .before .before .before .before .before .before .before .before .before .deep-form .ensures) (c .before .before .before .before .before .before .before .before .before .before .before .before .before .before .before .before .before .before .before .before .before .n .given .1) (c .before .before .before .before .before .before .before .before .before .before .before .before .before .before .before .before .before .before .before .before .before .before .before .before .before .before .before .before .before .before .deep-form .kept .0) refl (first-part (c .before .before .before .before .before .before .before .before .before .before .before .before .before .before .before .before .before .before .before .before .before .before .before .before .before .before .before .before .before .before .deep-form .last .1 .1 .1 .1 .1 .1 .1 .1 .1 .0) _ (let h = form-short (c .before .before .before .before .before .before .before .before .before .before .before .before .before .before .before .before .before .before .before .before .before .before .before .before .before .before .before .before .before .before .deep-form .last .1 .1 .1 .1 .1 .1 .1 .1 .1 .0) (c .before .before .before .before .before .before .before .before .before .before .before .before .before .before .before .before .before .before .before .before .before .before .before .before .before .before .before .before .before .before .before .before .before .before .before .before .before .before .before .before .before .before .before .before .before .args .known .now) (c .before .before .before .before .before .before .before .before .before .before .before .before .before .before .before .before .before .before .before .before .before .before .before .before .before .before .before .before .before .before .before .before .before .before .before .before .before .before .before .before .before .before .before .before .before .args .t) _ (c .before .before .before .before .before .before .before .before .before .before .before .before .before .before .before .before .before .before .before .before .before .before .before .before .before .before .before .before .before .before .before .before .before .before .before .before .before .before .before .before .before .before .before .before .before .pre .0 .0) (c .before .before .before .before .before .before .before .before .before .before .before .before .before .before .before .before .before .before .before .before .before .before .before .before .before .before .before .before .before .before .before .before .before .before .before .before .before .before .before .before .before .before .before .before .before .pre .1 .0) (c .before .before .before .before .before .before .before .before .before .before .before .before .before .before .before .before .before .before .before .before .before .before .before .before .before .before .before .before .before .before .deep-form .ensures) (c .before .before .before .before .before .before .before .before .before .before .before .before .before .before .before .before .before .before .before .before .before .n .given .1) (c .before .before .before .before .before .before .before .before .before .before .before .before .before .before .before .before .before .before .before .before .before .before .before .before .before .before .before .before .before .before .deep-form .kept .0) refl in let k = c .before .before .before .before .before .before .before .before .before .before .before .before .before .before .before .before .before .before .before .before .before .before .before .before .before .before .before .before .before .before .deep-form .kept .1 .1 .1 .1 .1 .1 .1 .1 .1 .0 in omega arith)) _ (toZ-ofZ w32 (c .before .before .before .before .before .before .before .before .before .before .before .before .before .before .before .before .before .before .before .before .before .before .before .before .before .before .before .before .before .before .before .before .before .before .before .before .before .before .before .before .before .before .before .before .before .args .guard) (c .before .before .before .before .before .before .before .before .before .before .before .before .before .before .before .before .before .before .before .before .before .before .before .before .before .before .before .before .before .before .before .before .before .before .before .before .before .before .before .before .before .before .before .before .before .fits .guard)) (c .before .before .before .before .before .before .before .before .before .before .before .before .resolve-forms .ensures))
+    (λ c.
+    let at-resolve-forms = c .before .before .before .before .before .before .before .before .before .before .before .before in
+    let at-n = at-resolve-forms .before .before .before .before .before .before .before .before .before in
+    let at-deep-form = at-n .before .before .before .before .before .before .before .before .before in
+    let at-start = at-deep-form .before .before .before .before .before .before .before .before .before .before .before .before .before .before .before in
+    right-some (at-deep-form .deep-form .last .1 .1 .1 .1 .1 .1 .1 .1 .1 .0) (at-start .args .known .now) (at-start .args .t) (at-start .args .incoming) _
+    (at-start .args .guard) (at-start .args .lhs .now) (at-start .pre .1 .1 .1 .1 .1) (at-start .pre .0 .0) (at-start .pre .1 .0) (at-deep-form .deep-form .ensures)
+    (at-n .n .given .1) (at-deep-form .deep-form .kept .0) refl
+    (first-part (at-deep-form .deep-form .last .1 .1 .1 .1 .1 .1 .1 .1 .1 .0) _
+    (let h = form-short (at-deep-form .deep-form .last .1 .1 .1 .1 .1 .1 .1 .1 .1 .0) (at-start .args .known .now) (at-start .args .t) _ (at-start .pre .0 .0)
+    (at-start .pre .1 .0) (at-deep-form .deep-form .ensures) (at-n .n .given .1) (at-deep-form .deep-form .kept .0) refl in
+    let k = at-deep-form .deep-form .kept .1 .1 .1 .1 .1 .1 .1 .1 .1 .0 in omega arith))
+    _ (toZ-ofZ w32 (at-start .args .guard) (at-start .fits .guard)) (at-resolve-forms .resolve-forms .ensures))
     (λ c. search needs)
     (λ c. search needs)
     (λ c. search needs)
     (λ c. search needs)
     (λ c. search needs)
-    (λ c. right-none (c .before .before .before .before .before .before .before .before .before .before .before .deep-form .last .1 .1 .1 .1 .1 .1 .1 .1 .1 .0) (c .before .before .before .before .before .before .before .before .before .before .before .before .before .before .before .before .before .before .before .before .before .before .before .before .before .before .args .known .now) (c .before .before .before .before .before .before .before .before .before .before .before .before .before .before .before .before .before .before .before .before .before .before .before .before .before .before .args .t) (c .before .before .before .before .before .before .before .before .before .before .before .before .before .before .before .before .before .before .before .before .before .before .before .before .before .before .args .incoming) _ (c .before .before .before .before .before .before .before .before .before .before .before .before .before .before .before .before .before .before .before .before .before .before .before .before .before .before .args .guard) (c .before .before .before .before .before .before .before .before .before .before .before .before .before .before .before .before .before .before .before .before .before .before .before .before .before .before .args .lhs .now) (c .before .before .before .before .before .before .before .before .before .before .before .before .before .before .before .before .before .before .before .before .before .before .before .before .before .before .pre .1 .1 .1 .1 .1) (c .before .before .before .before .before .before .before .before .before .before .before .before .before .before .before .before .before .before .before .before .before .before .before .before .before .before .pre .0 .0) (c .before .before .before .before .before .before .before .before .before .before .before .before .before .before .before .before .before .before .before .before .before .before .before .before .before .before .pre .1 .0) (c .before .before .before .before .before .before .before .before .before .before .before .deep-form .ensures) (c .before .before .d .given .1) (c .with-reasons .ensures))
+    (λ c.
+    let at-deep-form = c .before .before .before .before .before .before .before .before .before .before .before in
+    let at-start = at-deep-form .before .before .before .before .before .before .before .before .before .before .before .before .before .before .before in
+    right-none (at-deep-form .deep-form .last .1 .1 .1 .1 .1 .1 .1 .1 .1 .0) (at-start .args .known .now) (at-start .args .t) (at-start .args .incoming) _
+    (at-start .args .guard) (at-start .args .lhs .now) (at-start .pre .1 .1 .1 .1 .1) (at-start .pre .0 .0) (at-start .pre .1 .0) (at-deep-form .deep-form .ensures)
+    (c .before .before .d .given .1) (c .with-reasons .ensures))
     (λ c. search needs)
     (λ c. search needs)
     (λ c. search needs)
     (λ c. search needs)
     (λ c. search needs)
-    (λ c. right-stop (c .before .before .before .before .before .before .before .before .before .before .deep-form .last .1 .1 .1 .1 .1 .1 .1 .1 .1 .0) (c .before .before .before .before .before .before .before .before .before .before .before .before .before .before .before .before .before .before .before .before .before .before .before .before .before .args .known .now) (c .before .before .before .before .before .before .before .before .before .before .before .before .before .before .before .before .before .before .before .before .before .before .before .before .before .args .t) (c .before .before .before .before .before .before .before .before .before .before .before .before .before .before .before .before .before .before .before .before .before .before .before .before .before .args .incoming) _ (c .before .before .before .before .before .before .before .before .before .before .before .before .before .before .before .before .before .before .before .before .before .before .before .before .before .args .guard) (c .before .before .before .before .before .before .before .before .before .before .before .before .before .before .before .before .before .before .before .before .before .before .before .before .before .args .lhs .now) (c .before .before .before .before .before .before .before .before .before .before .before .before .before .before .before .before .before .before .before .before .before .before .before .before .before .pre .1 .1 .1 .1 .1) (c .before .before .before .before .before .before .before .before .before .before .before .before .before .before .before .before .before .before .before .before .before .before .before .before .before .pre .0 .0) (c .before .before .before .before .before .before .before .before .before .before .before .before .before .before .before .before .before .before .before .before .before .before .before .before .before .pre .1 .0) (c .before .before .before .before .before .before .before .before .before .before .deep-form .ensures) (c .before .k .given .1)))
+    (λ c.
+    let at-deep-form = c .before .before .before .before .before .before .before .before .before .before in
+    let at-start = at-deep-form .before .before .before .before .before .before .before .before .before .before .before .before .before .before .before in
+    right-stop (at-deep-form .deep-form .last .1 .1 .1 .1 .1 .1 .1 .1 .1 .0) (at-start .args .known .now) (at-start .args .t) (at-start .args .incoming) _
+    (at-start .args .guard) (at-start .args .lhs .now) (at-start .pre .1 .1 .1 .1 .1) (at-start .pre .0 .0) (at-start .pre .1 .0) (at-deep-form .deep-form .ensures)
+    (c .before .k .given .1)))

@@ -9,26 +9,62 @@ pub step-spec : {M : Type 1} → statement M
 step-spec =
     tie.close
     (tie.spec
-    (λ c. call-short (c .before .before .before .before .before .before .before .before .args .known .now) (c .before .before .before .before .before .before .before .before .args .e) (c .before .before .before .before .before .before .before .before .args .guard) _ _ (c .before .before .before .before .before .before .before .before .args .list .now) (c .if1 .taken))
+    (λ c.
+    let at-start = c .before .before .before .before .before .before .before .before in
+    call-short (at-start .args .known .now) (at-start .args .e) (at-start .args .guard) _ _ (at-start .args .list .now) (c .if1 .taken))
     (λ c κs. search needs)
     (λ c. search needs)
     (λ c. search needs)
     (λ c. search needs)
     (λ c. search needs)
     (λ c. search needs)
-    (λ c. call-unready (c .before .before .before .before .before .before .before .before .before .before .before .before .before .before .before .args .known .now) (c .before .before .before .before .before .before .before .before .before .before .before .before .before .before .before .args .e) (c .before .before .before .before .before .before .before .before .before .before .before .before .before .before .before .args .guard) _ _ (c .before .before .before .before .before .before .before .before .before .before .before .before .before .before .before .args .list .now) (c .before .before .before .before .before .before .before .if1 .left) _ (c .before .audit .ensures) (c .if2 .taken))
+    (λ c.
+    let at-if1 = c .before .before .before .before .before .before .before in
+    let at-start = at-if1 .before .before .before .before .before .before .before .before in
+    call-unready (at-start .args .known .now) (at-start .args .e) (at-start .args .guard) _ _ (at-start .args .list .now) (at-if1 .if1 .left) _ (c .before .audit .ensures)
+    (c .if2 .taken))
     (λ c κs. search needs)
     (λ c. search needs)
     (λ c. search needs)
     (λ c. search needs)
     (λ c. search needs)
     (λ c. search needs)
-    (λ c. call-unfit (c .before .before .before .before .before .before .before .before .before .before .before .before .before .before .before .before .before .before .args .known .now) (c .before .before .before .before .before .before .before .before .before .before .before .before .before .before .before .before .before .before .args .e) (c .before .before .before .before .before .before .before .before .before .before .before .before .before .before .before .before .before .before .args .guard) _ _ (c .before .before .before .before .before .before .before .before .before .before .before .before .before .before .before .before .before .before .args .list .now) (c .before .before .before .before .before .before .before .before .before .before .if1 .left) _ (c .before .before .before .before .audit .ensures) (c .before .before .before .if2 .left) _ (toZ-ofZ w32 (c .before .before .before .before .before .before .before .before .before .before .before .before .before .before .before .before .before .before .args .guard) (c .before .before .before .before .before .before .before .before .before .before .before .before .before .before .before .before .before .before .fits .guard)) _ (c .before .can-step .ensures) (c .if3 .taken))
-    (λ c κs. (call-ready (c .before .before .before .before .before .before .before .before .before .before .before .before .before .before .before .before .before .before .before .before .before .before .before .before .args .known .now) (c .before .before .before .before .before .before .before .before .before .before .before .before .before .before .before .before .before .before .before .before .before .before .before .before .args .e) (c .before .before .before .before .before .before .before .before .before .before .before .before .before .before .before .before .before .before .before .before .before .before .before .before .args .guard) _ _ (c .before .before .before .before .before .before .before .before .before .before .before .before .before .before .before .before .before .before .before .before .before .before .before .before .args .list .now) (c .before .before .before .before .before .before .before .before .before .before .before .before .before .before .before .before .if1 .left) _ (c .before .before .before .before .before .before .before .before .before .before .audit .ensures) (c .before .before .before .before .before .before .before .before .before .if2 .left) _ (toZ-ofZ w32 (c .before .before .before .before .before .before .before .before .before .before .before .before .before .before .before .before .before .before .before .before .before .before .before .before .args .guard) (c .before .before .before .before .before .before .before .before .before .before .before .before .before .before .before .before .before .before .before .before .before .before .before .before .fits .guard)) _ (c .before .before .before .before .before .before .before .can-step .ensures) (c .before .before .before .before .before .before .if3 .left), (call-fit (c .before .before .before .before .before .before .before .before .before .before .before .before .before .before .before .before .before .before .before .before .before .before .before .before .args .known .now) (c .before .before .before .before .before .before .before .before .before .before .before .before .before .before .before .before .before .before .before .before .before .before .before .before .args .e) (c .before .before .before .before .before .before .before .before .before .before .before .before .before .before .before .before .before .before .before .before .before .before .before .before .args .guard) _ _ (c .before .before .before .before .before .before .before .before .before .before .before .before .before .before .before .before .before .before .before .before .before .before .before .before .args .list .now) (c .before .before .before .before .before .before .before .before .before .before .before .before .before .before .before .before .if1 .left) _ (c .before .before .before .before .before .before .before .before .before .before .audit .ensures) (c .before .before .before .before .before .before .before .before .before .if2 .left) _ (toZ-ofZ w32 (c .before .before .before .before .before .before .before .before .before .before .before .before .before .before .before .before .before .before .before .before .before .before .before .before .args .guard) (c .before .before .before .before .before .before .before .before .before .before .before .before .before .before .before .before .before .before .before .before .before .before .before .before .fits .guard)) _ (c .before .before .before .before .before .before .before .can-step .ensures) (c .before .before .before .before .before .before .if3 .left), c .before .before .before .before .before .before .before .before .before .before .before .before .before .before .before .before .if1 .left)))
+    (λ c.
+    let at-if2 = c .before .before .before in
+    let at-audit = at-if2 .before in
+    let at-if1 = at-audit .before .before .before .before .before .before in
+    let at-start = at-if1 .before .before .before .before .before .before .before .before in
+    call-unfit (at-start .args .known .now) (at-start .args .e) (at-start .args .guard) _ _ (at-start .args .list .now) (at-if1 .if1 .left) _ (at-audit .audit .ensures)
+    (at-if2 .if2 .left) _ (toZ-ofZ w32 (at-start .args .guard) (at-start .fits .guard)) _ (c .before .can-step .ensures) (c .if3 .taken))
+    (λ c κs.
+    let at-if3 = c .before .before .before .before .before .before in
+    let at-can-step = at-if3 .before in
+    let at-if2 = at-can-step .before .before in
+    let at-audit = at-if2 .before in
+    let at-if1 = at-audit .before .before .before .before .before .before in
+    let at-start = at-if1 .before .before .before .before .before .before .before .before in (
+      call-ready (at-start .args .known .now) (at-start .args .e) (at-start .args .guard) _ _ (at-start .args .list .now) (at-if1 .if1 .left) _ (at-audit .audit .ensures)
+          (at-if2 .if2 .left) _ (toZ-ofZ w32 (at-start .args .guard) (at-start .fits .guard)) _ (at-can-step .can-step .ensures) (at-if3 .if3 .left),
+      (
+        call-fit (at-start .args .known .now) (at-start .args .e) (at-start .args .guard) _ _ (at-start .args .list .now) (at-if1 .if1 .left) _ (at-audit .audit .ensures)
+            (at-if2 .if2 .left) _ (toZ-ofZ w32 (at-start .args .guard) (at-start .fits .guard)) _ (at-can-step .can-step .ensures) (at-if3 .if3 .left),
+        at-if1 .if1 .left,
+      ),
+    ))
     (λ c. search needs)
     (λ c. search needs)
     (λ c. search needs)
     (λ c. search needs)
     (λ c. search needs)
     (λ c. search needs)
-    (λ c. call-steps (c .before .before .before .before .before .before .before .before .before .before .before .before .before .before .before .before .before .before .before .before .before .before .before .before .before .before .before .before .before .before .before .before .before .before .before .before .before .args .known .now) (c .before .before .before .before .before .before .before .before .before .before .before .before .before .before .before .before .before .before .before .before .before .before .before .before .before .before .before .before .before .before .before .before .before .before .before .before .before .args .e) (c .before .before .before .before .before .before .before .before .before .before .before .before .before .before .before .before .before .before .before .before .before .before .before .before .before .before .before .before .before .before .before .before .before .before .before .before .before .args .guard) _ _ (c .before .before .before .before .before .before .before .before .before .before .before .before .before .before .before .before .before .before .before .before .before .before .before .before .before .before .before .before .before .before .before .before .before .before .before .before .before .args .list .now) (c .before .before .before .before .before .before .before .before .before .before .before .before .before .before .before .before .before .before .before .before .before .before .before .before .before .before .before .before .before .if1 .left) _ (c .before .before .before .before .before .before .before .before .before .before .before .before .before .before .before .before .before .before .before .before .before .before .before .audit .ensures) (c .before .before .before .before .before .before .before .before .before .before .before .before .before .before .before .before .before .before .before .before .before .before .if2 .left) _ (toZ-ofZ w32 (c .before .before .before .before .before .before .before .before .before .before .before .before .before .before .before .before .before .before .before .before .before .before .before .before .before .before .before .before .before .before .before .before .before .before .before .before .before .args .guard) (c .before .before .before .before .before .before .before .before .before .before .before .before .before .before .before .before .before .before .before .before .before .before .before .before .before .before .before .before .before .before .before .before .before .before .before .before .before .fits .guard)) _ (c .before .before .before .before .before .before .before .before .before .before .before .before .before .before .before .before .before .before .before .before .can-step .ensures) (c .before .before .before .before .before .before .before .before .before .before .before .before .before .before .before .before .before .before .before .if3 .left) (c .before .before .before .before .before .before .before .before .before .before .before .before .step-unchecked .ensures)))
+    (λ c.
+    let at-step-unchecked = c .before .before .before .before .before .before .before .before .before .before .before .before in
+    let at-if3 = at-step-unchecked .before .before .before .before .before .before .before in
+    let at-can-step = at-if3 .before in
+    let at-if2 = at-can-step .before .before in
+    let at-audit = at-if2 .before in
+    let at-if1 = at-audit .before .before .before .before .before .before in
+    let at-start = at-if1 .before .before .before .before .before .before .before .before in
+    call-steps (at-start .args .known .now) (at-start .args .e) (at-start .args .guard) _ _ (at-start .args .list .now) (at-if1 .if1 .left) _ (at-audit .audit .ensures)
+    (at-if2 .if2 .left) _ (toZ-ofZ w32 (at-start .args .guard) (at-start .fits .guard)) _ (at-can-step .can-step .ensures) (at-if3 .if3 .left)
+    (at-step-unchecked .step-unchecked .ensures)))

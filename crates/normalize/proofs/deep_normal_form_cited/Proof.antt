@@ -7,20 +7,53 @@ pub deep-normal-form-cited-spec : {M : Type 1} → statement M
 deep-normal-form-cited-spec =
     tie.close
     (tie.spec
-    (λ c. deep-short _ _ _ _ (c .before .before .before .before .before .before .before .before .args .list .now) (c .if1 .taken))
+    (λ c.
+    let at-start = c .before .before .before .before .before .before .before .before in
+    deep-short _ _ _ _ (at-start .args .list .now) (c .if1 .taken))
     (λ c κs. search needs)
     (λ c. search needs)
     (λ c. search needs)
     (λ c. search needs)
-    (λ c. deep-unready _ _ _ _ (c .before .before .before .before .before .before .before .before .before .before .before .before .before .args .list .now) (c .before .before .before .before .before .if1 .left) _ (c .before .audit .ensures) (c .if2 .taken))
+    (λ c.
+    let at-if1 = c .before .before .before .before .before in
+    let at-start = at-if1 .before .before .before .before .before .before .before .before in
+    deep-unready _ _ _ _ (at-start .args .list .now) (at-if1 .if1 .left) _ (c .before .audit .ensures) (c .if2 .taken))
     (λ c κs. search needs)
     (λ c. search needs)
     (λ c. search needs)
     (λ c. search needs)
-    (λ c. deep-unfit _ _ _ _ (c .before .before .before .before .before .before .before .before .before .before .before .before .before .before .before .before .args .list .now) (c .before .before .before .before .before .before .before .before .if1 .left) _ (c .before .before .before .before .audit .ensures) (c .before .before .before .if2 .left) _ (c .before .can-form .ensures) (c .if3 .taken))
-    (λ c κs. (form-ready (c .before .before .before .before .before .before .before .before .before .before .before .before .before .before .before .before .before .before .before .before .args .known .now) (c .before .before .before .before .before .before .before .before .before .before .before .before .before .before .before .before .before .before .before .before .args .t) _ _ (c .before .before .before .before .before .before .before .before .before .before .before .before .before .before .before .before .before .before .before .before .args .list .now) (c .before .before .before .before .before .before .before .before .before .before .before .before .if1 .left) _ (c .before .before .before .before .before .before .before .before .audit .ensures) (c .before .before .before .before .before .before .before .if2 .left) _ (c .before .before .before .before .before .can-form .ensures) (c .before .before .before .before .if3 .left), (form-fit (c .before .before .before .before .before .before .before .before .before .before .before .before .before .before .before .before .before .before .before .before .args .known .now) (c .before .before .before .before .before .before .before .before .before .before .before .before .before .before .before .before .before .before .before .before .args .t) _ _ (c .before .before .before .before .before .before .before .before .before .before .before .before .before .before .before .before .before .before .before .before .args .list .now) (c .before .before .before .before .before .before .before .before .before .before .before .before .if1 .left) _ (c .before .before .before .before .before .before .before .before .audit .ensures) (c .before .before .before .before .before .before .before .if2 .left) _ (c .before .before .before .before .before .can-form .ensures) (c .before .before .before .before .if3 .left), c .before .before .before .before .before .before .before .before .before .before .before .before .if1 .left)))
+    (λ c.
+    let at-if2 = c .before .before .before in
+    let at-audit = at-if2 .before in
+    let at-if1 = at-audit .before .before .before .before in
+    let at-start = at-if1 .before .before .before .before .before .before .before .before in
+    deep-unfit _ _ _ _ (at-start .args .list .now) (at-if1 .if1 .left) _ (at-audit .audit .ensures) (at-if2 .if2 .left) _ (c .before .can-form .ensures) (c .if3 .taken))
+    (λ c κs.
+    let at-if3 = c .before .before .before .before in
+    let at-can-form = at-if3 .before in
+    let at-if2 = at-can-form .before .before in
+    let at-audit = at-if2 .before in
+    let at-if1 = at-audit .before .before .before .before in
+    let at-start = at-if1 .before .before .before .before .before .before .before .before in (
+      form-ready (at-start .args .known .now) (at-start .args .t) _ _ (at-start .args .list .now) (at-if1 .if1 .left) _ (at-audit .audit .ensures) (at-if2 .if2 .left) _
+          (at-can-form .can-form .ensures) (at-if3 .if3 .left),
+      (
+        form-fit (at-start .args .known .now) (at-start .args .t) _ _ (at-start .args .list .now) (at-if1 .if1 .left) _ (at-audit .audit .ensures) (at-if2 .if2 .left) _
+            (at-can-form .can-form .ensures) (at-if3 .if3 .left),
+        at-if1 .if1 .left,
+      ),
+    ))
     (λ c. search needs)
     (λ c. search needs)
     (λ c. search needs)
     (λ c. search needs)
-    (λ c. deep-called _ _ _ _ (c .before .before .before .before .before .before .before .before .before .before .before .before .before .before .before .before .before .before .before .before .before .before .before .before .before .before .before .before .before .args .list .now) (c .before .before .before .before .before .before .before .before .before .before .before .before .before .before .before .before .before .before .before .before .before .if1 .left) _ (c .before .before .before .before .before .before .before .before .before .before .before .before .before .before .before .before .before .audit .ensures) (c .before .before .before .before .before .before .before .before .before .before .before .before .before .before .before .before .if2 .left) _ (c .before .before .before .before .before .before .before .before .before .before .before .before .before .before .can-form .ensures) (c .before .before .before .before .before .before .before .before .before .before .before .before .before .if3 .left) (c .before .before .before .before .before .before .before .before .deep-normal-form-cited-unchecked .ensures)))
+    (λ c.
+    let at-deep-normal-form-cited-unchecked = c .before .before .before .before .before .before .before .before in
+    let at-if3 = at-deep-normal-form-cited-unchecked .before .before .before .before .before in
+    let at-can-form = at-if3 .before in
+    let at-if2 = at-can-form .before .before in
+    let at-audit = at-if2 .before in
+    let at-if1 = at-audit .before .before .before .before in
+    let at-start = at-if1 .before .before .before .before .before .before .before .before in
+    deep-called _ _ _ _ (at-start .args .list .now) (at-if1 .if1 .left) _ (at-audit .audit .ensures) (at-if2 .if2 .left) _ (at-can-form .can-form .ensures) (at-if3 .if3 .left)
+    (at-deep-normal-form-cited-unchecked .deep-normal-form-cited-unchecked .ensures)))

@@ -10,9 +10,35 @@ audit-spec =
     (λ c κs. search needs)
     (λ c. audit-short _ _ _ (c .before .sizes .ensures) (c .if1 .taken))
     (λ c κs. audit-sized _ _ _ (c .before .sizes .ensures) (c .if1 .left))
-    (λ c. audit-unrecorded _ _ _ (c .before .before .before .sizes .ensures) (c .before .before .if1 .left) _ (c .before .records-ok .ensures) (c .if2 .taken))
-    (λ c κs. audit-sized _ _ _ (c .before .before .before .sizes .ensures) (c .before .before .if1 .left) .termLimited)
-    (λ c. audit-unclassed _ _ _ (c .before .before .before .before .before .sizes .ensures) (c .before .before .before .before .if1 .left) _ (c .before .before .before .records-ok .ensures) (c .before .before .if2 .left) _ (c .before .classes-ok .ensures) (c .if3 .taken))
-    (λ c κs. audit-congruable _ _ _ (c .before .before .before .before .before .sizes .ensures) (c .before .before .before .before .if1 .left) _ (c .before .before .before .records-ok .ensures) (c .before .before .if2 .left) _ (c .before .classes-ok .ensures) (c .if3 .left))
-    (λ c. audit-incongruent _ _ _ (c .before .before .before .before .before .before .before .sizes .ensures) (c .before .before .before .before .before .before .if1 .left) _ (c .before .before .before .before .before .records-ok .ensures) (c .before .before .before .before .if2 .left) _ (c .before .before .before .classes-ok .ensures) (c .before .before .if3 .left) _ (c .before .congruences-ok .ensures) (c .if4 .taken))
-    (λ c. audit-passed _ _ _ (c .before .before .before .before .before .before .before .sizes .ensures) (c .before .before .before .before .before .before .if1 .left) _ (c .before .before .before .before .before .records-ok .ensures) (c .before .before .before .before .if2 .left) _ (c .before .before .before .classes-ok .ensures) (c .before .before .if3 .left) _ (c .before .congruences-ok .ensures) (c .if4 .left)))
+    (λ c.
+    let at-sizes = c .before .before .before in
+    audit-unrecorded _ _ _ (at-sizes .sizes .ensures) (c .before .before .if1 .left) _ (c .before .records-ok .ensures) (c .if2 .taken))
+    (λ c κs. let at-sizes = c .before .before .before in audit-sized _ _ _ (at-sizes .sizes .ensures) (c .before .before .if1 .left) .termLimited)
+    (λ c.
+    let at-records-ok = c .before .before .before in
+    let at-if1 = at-records-ok .before in
+    let at-sizes = at-if1 .before in
+    audit-unclassed _ _ _ (at-sizes .sizes .ensures) (at-if1 .if1 .left) _ (at-records-ok .records-ok .ensures) (c .before .before .if2 .left) _
+    (c .before .classes-ok .ensures) (c .if3 .taken))
+    (λ c κs.
+    let at-records-ok = c .before .before .before in
+    let at-if1 = at-records-ok .before in
+    let at-sizes = at-if1 .before in
+    audit-congruable _ _ _ (at-sizes .sizes .ensures) (at-if1 .if1 .left) _ (at-records-ok .records-ok .ensures) (c .before .before .if2 .left) _
+    (c .before .classes-ok .ensures) (c .if3 .left))
+    (λ c.
+    let at-classes-ok = c .before .before .before in
+    let at-if2 = at-classes-ok .before in
+    let at-records-ok = at-if2 .before in
+    let at-if1 = at-records-ok .before in
+    let at-sizes = at-if1 .before in
+    audit-incongruent _ _ _ (at-sizes .sizes .ensures) (at-if1 .if1 .left) _ (at-records-ok .records-ok .ensures) (at-if2 .if2 .left) _ (at-classes-ok .classes-ok .ensures)
+    (c .before .before .if3 .left) _ (c .before .congruences-ok .ensures) (c .if4 .taken))
+    (λ c.
+    let at-classes-ok = c .before .before .before in
+    let at-if2 = at-classes-ok .before in
+    let at-records-ok = at-if2 .before in
+    let at-if1 = at-records-ok .before in
+    let at-sizes = at-if1 .before in
+    audit-passed _ _ _ (at-sizes .sizes .ensures) (at-if1 .if1 .left) _ (at-records-ok .records-ok .ensures) (at-if2 .if2 .left) _ (at-classes-ok .classes-ok .ensures)
+    (c .before .before .if3 .left) _ (c .before .congruences-ok .ensures) (c .if4 .left)))

@@ -6,4 +6,4 @@ use Rattle.wordeq.proofs.can_pair.Statement.{statement}
 use Rattle.wordeq.proofs.can_pair.Tie as tie
 
 pub can-pair-spec : {M : Type 1} → statement M
-can-pair-spec = tie.close (tie.spec (λ c κs. search needs) (λ c. pair-stop (storeOf (lent (c .before .before .before .before .before .args .terms .now) [] [] [] []) (c .before .before .before .before .before .args .c)) (c .before .before .before .before .before .args .lhs .now) (c .before .before .before .before .before .args .rhs .now) _ (c .before .are-lists .ensures) (c .if1 .taken)) (λ c. pair-last (storeOf (lent (c .before .before .before .before .before .args .terms .now) [] [] [] []) (c .before .before .before .before .before .args .c)) (c .before .before .before .before .before .args .lhs .now) (c .before .before .before .before .before .args .rhs .now) _ (c .before .are-lists .ensures) (c .if1 .left)))
+can-pair-spec = tie.close (tie.spec (λ c κs. search needs) (λ c. let at-start = c .before .before .before .before .before in pair-stop (storeOf (lent (at-start .args .terms .now) [] [] [] []) (at-start .args .c)) (at-start .args .lhs .now) (at-start .args .rhs .now) _ (c .before .are-lists .ensures) (c .if1 .taken)) (λ c. let at-start = c .before .before .before .before .before in pair-last (storeOf (lent (at-start .args .terms .now) [] [] [] []) (at-start .args .c)) (at-start .args .lhs .now) (at-start .args .rhs .now) _ (c .before .are-lists .ensures) (c .if1 .left)))

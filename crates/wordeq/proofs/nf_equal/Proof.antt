@@ -9,8 +9,32 @@ nf-equal-spec =
     tie.close
     (tie.spec
     (λ c κs. search needs)
-    (λ c. equal-unready _ _ (c .before .before .before .before .before .before .before .before .before .args .lhs .now) (c .before .before .before .before .before .before .before .before .before .args .rhs .now) _ (c .before .audit .ensures) (c .if1 .taken))
+    (λ c.
+    let at-start = c .before .before .before .before .before .before .before .before .before in
+    equal-unready _ _ (at-start .args .lhs .now) (at-start .args .rhs .now) _ (c .before .audit .ensures) (c .if1 .taken))
     (λ c κs. search needs)
-    (λ c. equal-unfit _ _ (c .before .before .before .before .before .before .before .before .before .before .before .args .lhs .now) (c .before .before .before .before .before .before .before .before .before .before .before .args .rhs .now) _ (c .before .before .before .audit .ensures) (c .before .before .if1 .left) _ (c .before .are-lists .ensures) (c .if2 .taken))
-    (λ c κs. (equal-readable (lent (c .before .before .before .before .before .before .before .before .before .before .before .args .terms .now) (c .before .before .before .before .before .before .before .before .before .before .before .args .cells .now) (c .before .before .before .before .before .before .before .before .before .before .before .args .chars .now) (c .before .before .before .before .before .before .before .before .before .before .before .args .reasons .now) (c .before .before .before .before .before .before .before .before .before .before .before .args .keys .now)) (c .before .before .before .before .before .before .before .before .before .before .before .args .c) (c .before .before .before .before .before .before .before .before .before .before .before .args .lhs .now) (c .before .before .before .before .before .before .before .before .before .before .before .args .rhs .now) _ (c .before .before .before .audit .ensures) (c .before .before .if1 .left) _ (c .before .are-lists .ensures) (c .if2 .left), (equal-left (lent (c .before .before .before .before .before .before .before .before .before .before .before .args .terms .now) (c .before .before .before .before .before .before .before .before .before .before .before .args .cells .now) (c .before .before .before .before .before .before .before .before .before .before .before .args .chars .now) (c .before .before .before .before .before .before .before .before .before .before .before .args .reasons .now) (c .before .before .before .before .before .before .before .before .before .before .before .args .keys .now)) (c .before .before .before .before .before .before .before .before .before .before .before .args .c) (c .before .before .before .before .before .before .before .before .before .before .before .args .lhs .now) (c .before .before .before .before .before .before .before .before .before .before .before .args .rhs .now) _ (c .before .before .before .audit .ensures) (c .before .before .if1 .left) _ (c .before .are-lists .ensures) (c .if2 .left), equal-right (lent (c .before .before .before .before .before .before .before .before .before .before .before .args .terms .now) (c .before .before .before .before .before .before .before .before .before .before .before .args .cells .now) (c .before .before .before .before .before .before .before .before .before .before .before .args .chars .now) (c .before .before .before .before .before .before .before .before .before .before .before .args .reasons .now) (c .before .before .before .before .before .before .before .before .before .before .before .args .keys .now)) (c .before .before .before .before .before .before .before .before .before .before .before .args .c) (c .before .before .before .before .before .before .before .before .before .before .before .args .lhs .now) (c .before .before .before .before .before .before .before .before .before .before .before .args .rhs .now) _ (c .before .before .before .audit .ensures) (c .before .before .if1 .left) _ (c .before .are-lists .ensures) (c .if2 .left))))
-    (λ c. equal-gives _ _ (c .before .before .before .before .before .before .before .before .before .before .before .before .args .lhs .now) (c .before .before .before .before .before .before .before .before .before .before .before .before .args .rhs .now) _ (c .before .before .before .before .audit .ensures) (c .before .before .before .if1 .left) _ (c .before .before .are-lists .ensures) (c .before .if2 .left) _ (c .nf-equal-unchecked .ensures)))
+    (λ c.
+    let at-audit = c .before .before .before in
+    let at-start = at-audit .before .before .before .before .before .before .before .before in
+    equal-unfit _ _ (at-start .args .lhs .now) (at-start .args .rhs .now) _ (at-audit .audit .ensures) (c .before .before .if1 .left) _ (c .before .are-lists .ensures)
+    (c .if2 .taken))
+    (λ c κs.
+    let at-if1 = c .before .before in
+    let at-audit = at-if1 .before in
+    let at-start = at-audit .before .before .before .before .before .before .before .before in
+    let by-lent = lent (at-start .args .terms .now) (at-start .args .cells .now) (at-start .args .chars .now) (at-start .args .reasons .now) (at-start .args .keys .now) in (
+      equal-readable by-lent (at-start .args .c) (at-start .args .lhs .now) (at-start .args .rhs .now) _ (at-audit .audit .ensures) (at-if1 .if1 .left) _
+          (c .before .are-lists .ensures) (c .if2 .left),
+      (
+        equal-left by-lent (at-start .args .c) (at-start .args .lhs .now) (at-start .args .rhs .now) _ (at-audit .audit .ensures) (at-if1 .if1 .left) _
+            (c .before .are-lists .ensures) (c .if2 .left),
+        equal-right by-lent (at-start .args .c) (at-start .args .lhs .now) (at-start .args .rhs .now) _ (at-audit .audit .ensures) (at-if1 .if1 .left) _
+            (c .before .are-lists .ensures) (c .if2 .left),
+      ),
+    ))
+    (λ c.
+    let at-if1 = c .before .before .before in
+    let at-audit = at-if1 .before in
+    let at-start = at-audit .before .before .before .before .before .before .before .before in
+    equal-gives _ _ (at-start .args .lhs .now) (at-start .args .rhs .now) _ (at-audit .audit .ensures) (at-if1 .if1 .left) _ (c .before .before .are-lists .ensures)
+    (c .before .if2 .left) _ (c .nf-equal-unchecked .ensures)))

@@ -13,7 +13,33 @@ nf-equal-explain-spec =
     (λ c. explain-unready _ _ _ _ _ (c .before .audit .ensures) (c .if1 .taken))
     (λ c κs. search needs)
     (λ c. search needs)
-    (λ c. explain-unfit _ _ _ _ _ (c .before .before .before .audit .ensures) (c .before .before .if1 .left) _ (c .before .can-pair .ensures) (c .if2 .taken))
-    (λ c κs. (explain-ready (lent (c .before .before .before .before .before .before .before .before .before .before .before .before .before .args .terms .now) (c .before .before .before .before .before .before .before .before .before .before .before .before .before .args .cells .now) (c .before .before .before .before .before .before .before .before .before .before .before .before .before .args .chars .now) (c .before .before .before .before .before .before .before .before .before .before .before .before .before .args .reasons .now) (c .before .before .before .before .before .before .before .before .before .before .before .before .before .args .keys .now)) (c .before .before .before .before .before .before .before .before .before .before .before .before .before .args .c) (c .before .before .before .before .before .before .before .before .before .before .before .before .before .args .lhs .now) (c .before .before .before .before .before .before .before .before .before .before .before .before .before .args .rhs .now) _ (c .before .before .before .before .audit .ensures) (c .before .before .before .if1 .left) _ (c .before .before .can-pair .ensures) (c .before .if2 .left), (explain-left (lent (c .before .before .before .before .before .before .before .before .before .before .before .before .before .args .terms .now) (c .before .before .before .before .before .before .before .before .before .before .before .before .before .args .cells .now) (c .before .before .before .before .before .before .before .before .before .before .before .before .before .args .chars .now) (c .before .before .before .before .before .before .before .before .before .before .before .before .before .args .reasons .now) (c .before .before .before .before .before .before .before .before .before .before .before .before .before .args .keys .now)) (c .before .before .before .before .before .before .before .before .before .before .before .before .before .args .c) (c .before .before .before .before .before .before .before .before .before .before .before .before .before .args .lhs .now) (c .before .before .before .before .before .before .before .before .before .before .before .before .before .args .rhs .now) _ (c .before .before .before .before .audit .ensures) (c .before .before .before .if1 .left) _ (c .before .before .can-pair .ensures) (c .before .if2 .left), (explain-right (lent (c .before .before .before .before .before .before .before .before .before .before .before .before .before .args .terms .now) (c .before .before .before .before .before .before .before .before .before .before .before .before .before .args .cells .now) (c .before .before .before .before .before .before .before .before .before .before .before .before .before .args .chars .now) (c .before .before .before .before .before .before .before .before .before .before .before .before .before .args .reasons .now) (c .before .before .before .before .before .before .before .before .before .before .before .before .before .args .keys .now)) (c .before .before .before .before .before .before .before .before .before .before .before .before .before .args .c) (c .before .before .before .before .before .before .before .before .before .before .before .before .before .args .lhs .now) (c .before .before .before .before .before .before .before .before .before .before .before .before .before .args .rhs .now) _ (c .before .before .before .before .audit .ensures) (c .before .before .before .if1 .left) _ (c .before .before .can-pair .ensures) (c .before .if2 .left), explain-lengths (lent (c .before .before .before .before .before .before .before .before .before .before .before .before .before .args .terms .now) (c .before .before .before .before .before .before .before .before .before .before .before .before .before .args .cells .now) (c .before .before .before .before .before .before .before .before .before .before .before .before .before .args .chars .now) (c .before .before .before .before .before .before .before .before .before .before .before .before .before .args .reasons .now) (c .before .before .before .before .before .before .before .before .before .before .before .before .before .args .keys .now)) (c .before .before .before .before .before .before .before .before .before .before .before .before .before .args .c) (c .before .before .before .before .before .before .before .before .before .before .before .before .before .args .lhs .now) (c .before .before .before .before .before .before .before .before .before .before .before .before .before .args .rhs .now) _ (c .before .before .before .before .audit .ensures) (c .before .before .before .if1 .left) _ (c .before .before .can-pair .ensures) (c .before .if2 .left)))))
+    (λ c.
+    let at-audit = c .before .before .before in
+    explain-unfit _ _ _ _ _ (at-audit .audit .ensures) (c .before .before .if1 .left) _ (c .before .can-pair .ensures) (c .if2 .taken))
+    (λ c κs.
+    let at-can-pair = c .before .before in
+    let at-if1 = at-can-pair .before in
+    let at-audit = at-if1 .before in
+    let at-start = at-audit .before .before .before .before .before .before .before .before .before in
+    let by-lent = lent (at-start .args .terms .now) (at-start .args .cells .now) (at-start .args .chars .now) (at-start .args .reasons .now) (at-start .args .keys .now) in (
+      explain-ready by-lent (at-start .args .c) (at-start .args .lhs .now) (at-start .args .rhs .now) _ (at-audit .audit .ensures) (at-if1 .if1 .left) _
+          (at-can-pair .can-pair .ensures) (c .before .if2 .left),
+      (
+        explain-left by-lent (at-start .args .c) (at-start .args .lhs .now) (at-start .args .rhs .now) _ (at-audit .audit .ensures) (at-if1 .if1 .left) _
+            (at-can-pair .can-pair .ensures) (c .before .if2 .left),
+        (
+          explain-right by-lent (at-start .args .c) (at-start .args .lhs .now) (at-start .args .rhs .now) _ (at-audit .audit .ensures) (at-if1 .if1 .left) _
+              (at-can-pair .can-pair .ensures) (c .before .if2 .left),
+          explain-lengths by-lent (at-start .args .c) (at-start .args .lhs .now) (at-start .args .rhs .now) _ (at-audit .audit .ensures) (at-if1 .if1 .left) _
+              (at-can-pair .can-pair .ensures) (c .before .if2 .left),
+        ),
+      ),
+    ))
     (λ c. search needs)
-    (λ c. explain-called _ _ _ _ _ (c .before .before .before .before .before .before .before .audit .ensures) (c .before .before .before .before .before .before .if1 .left) _ (c .before .before .before .before .before .can-pair .ensures) (c .before .before .before .before .if2 .left) _ _ (c .before .before .nf-equal-explain-unchecked .ensures)))
+    (λ c.
+    let at-if2 = c .before .before .before .before in
+    let at-can-pair = at-if2 .before in
+    let at-if1 = at-can-pair .before in
+    let at-audit = at-if1 .before in
+    explain-called _ _ _ _ _ (at-audit .audit .ensures) (at-if1 .if1 .left) _ (at-can-pair .can-pair .ensures) (at-if2 .if2 .left) _ _
+    (c .before .before .nf-equal-explain-unchecked .ensures)))

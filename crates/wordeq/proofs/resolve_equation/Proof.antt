@@ -9,26 +9,67 @@ pub resolve-equation-spec : {M : Type 1} → statement M
 resolve-equation-spec =
     tie.close
     (tie.spec
-    (λ c. resolve-short _ _ _ _ _ (c .before .before .before .before .before .before .before .before .before .args .list .now) (c .if1 .taken))
+    (λ c.
+    let at-start = c .before .before .before .before .before .before .before .before .before in
+    resolve-short _ _ _ _ _ (at-start .args .list .now) (c .if1 .taken))
     (λ c κs. search needs)
     (λ c. search needs)
     (λ c. search needs)
     (λ c. search needs)
     (λ c. search needs)
     (λ c. search needs)
-    (λ c. resolve-unready _ _ _ _ _ (c .before .before .before .before .before .before .before .before .before .before .before .before .before .before .before .before .args .list .now) (c .before .before .before .before .before .before .before .if1 .left) _ (c .before .audit .ensures) (c .if2 .taken))
+    (λ c.
+    let at-if1 = c .before .before .before .before .before .before .before in
+    let at-start = at-if1 .before .before .before .before .before .before .before .before .before in
+    resolve-unready _ _ _ _ _ (at-start .args .list .now) (at-if1 .if1 .left) _ (c .before .audit .ensures) (c .if2 .taken))
     (λ c κs. search needs)
     (λ c. search needs)
     (λ c. search needs)
     (λ c. search needs)
     (λ c. search needs)
     (λ c. search needs)
-    (λ c. resolve-unfit (c .before .before .before .before .before .before .before .before .before .before .before .before .before .before .before .before .before .before .before .args .lhs .now) (c .before .before .before .before .before .before .before .before .before .before .before .before .before .before .before .before .before .before .before .args .rhs .now) (c .before .before .before .before .before .before .before .before .before .before .before .before .before .before .before .before .before .before .before .args .guard) _ _ (c .before .before .before .before .before .before .before .before .before .before .before .before .before .before .before .before .before .before .before .args .list .now) (c .before .before .before .before .before .before .before .before .before .before .if1 .left) _ (c .before .before .before .before .audit .ensures) (c .before .before .before .if2 .left) (c .before .before .before .before .before .before .before .before .before .before .before .before .before .before .before .before .before .before .before .fits .guard) _ (c .before .can-resolve .ensures) (c .if3 .taken))
-    (λ c κs. (resolve-ready (c .before .before .before .before .before .before .before .before .before .before .before .before .before .before .before .before .before .before .before .before .before .before .before .before .before .args .lhs .now) (c .before .before .before .before .before .before .before .before .before .before .before .before .before .before .before .before .before .before .before .before .before .before .before .before .before .args .rhs .now) (c .before .before .before .before .before .before .before .before .before .before .before .before .before .before .before .before .before .before .before .before .before .before .before .before .before .args .guard) (lent (c .before .before .before .before .before .before .before .before .before .before .before .before .before .before .before .before .before .before .before .before .before .before .before .before .before .args .terms .now) (c .before .before .before .before .before .before .before .before .before .before .before .before .before .before .before .before .before .before .before .before .before .before .before .before .before .args .cells .now) (c .before .before .before .before .before .before .before .before .before .before .before .before .before .before .before .before .before .before .before .before .before .before .before .before .before .args .chars .now) (c .before .before .before .before .before .before .before .before .before .before .before .before .before .before .before .before .before .before .before .before .before .before .before .before .before .args .reasons .now) (c .before .before .before .before .before .before .before .before .before .before .before .before .before .before .before .before .before .before .before .before .before .before .before .before .before .args .keys .now)) (c .before .before .before .before .before .before .before .before .before .before .before .before .before .before .before .before .before .before .before .before .before .before .before .before .before .args .c) (c .before .before .before .before .before .before .before .before .before .before .before .before .before .before .before .before .before .before .before .before .before .before .before .before .before .args .list .now) (c .before .before .before .before .before .before .before .before .before .before .before .before .before .before .before .before .if1 .left) _ (c .before .before .before .before .before .before .before .before .before .before .audit .ensures) (c .before .before .before .before .before .before .before .before .before .if2 .left) (c .before .before .before .before .before .before .before .before .before .before .before .before .before .before .before .before .before .before .before .before .before .before .before .before .before .fits .guard) _ (c .before .before .before .before .before .before .before .can-resolve .ensures) (c .before .before .before .before .before .before .if3 .left), (resolve-lists (c .before .before .before .before .before .before .before .before .before .before .before .before .before .before .before .before .before .before .before .before .before .before .before .before .before .args .lhs .now) (c .before .before .before .before .before .before .before .before .before .before .before .before .before .before .before .before .before .before .before .before .before .before .before .before .before .args .rhs .now) (c .before .before .before .before .before .before .before .before .before .before .before .before .before .before .before .before .before .before .before .before .before .before .before .before .before .args .guard) (lent (c .before .before .before .before .before .before .before .before .before .before .before .before .before .before .before .before .before .before .before .before .before .before .before .before .before .args .terms .now) (c .before .before .before .before .before .before .before .before .before .before .before .before .before .before .before .before .before .before .before .before .before .before .before .before .before .args .cells .now) (c .before .before .before .before .before .before .before .before .before .before .before .before .before .before .before .before .before .before .before .before .before .before .before .before .before .args .chars .now) (c .before .before .before .before .before .before .before .before .before .before .before .before .before .before .before .before .before .before .before .before .before .before .before .before .before .args .reasons .now) (c .before .before .before .before .before .before .before .before .before .before .before .before .before .before .before .before .before .before .before .before .before .before .before .before .before .args .keys .now)) (c .before .before .before .before .before .before .before .before .before .before .before .before .before .before .before .before .before .before .before .before .before .before .before .before .before .args .c) (c .before .before .before .before .before .before .before .before .before .before .before .before .before .before .before .before .before .before .before .before .before .before .before .before .before .args .list .now) (c .before .before .before .before .before .before .before .before .before .before .before .before .before .before .before .before .if1 .left) _ (c .before .before .before .before .before .before .before .before .before .before .audit .ensures) (c .before .before .before .before .before .before .before .before .before .if2 .left) (c .before .before .before .before .before .before .before .before .before .before .before .before .before .before .before .before .before .before .before .before .before .before .before .before .before .fits .guard) _ (c .before .before .before .before .before .before .before .can-resolve .ensures) (c .before .before .before .before .before .before .if3 .left), (guard-passed _ (c .before .before .before .before .before .before .before .before .before .before .before .before .before .before .before .before .before .before .before .before .before .before .before .before .before .fits .guard) (resolve-guard (c .before .before .before .before .before .before .before .before .before .before .before .before .before .before .before .before .before .before .before .before .before .before .before .before .before .args .lhs .now) (c .before .before .before .before .before .before .before .before .before .before .before .before .before .before .before .before .before .before .before .before .before .before .before .before .before .args .rhs .now) (c .before .before .before .before .before .before .before .before .before .before .before .before .before .before .before .before .before .before .before .before .before .before .before .before .before .args .guard) (lent (c .before .before .before .before .before .before .before .before .before .before .before .before .before .before .before .before .before .before .before .before .before .before .before .before .before .args .terms .now) (c .before .before .before .before .before .before .before .before .before .before .before .before .before .before .before .before .before .before .before .before .before .before .before .before .before .args .cells .now) (c .before .before .before .before .before .before .before .before .before .before .before .before .before .before .before .before .before .before .before .before .before .before .before .before .before .args .chars .now) (c .before .before .before .before .before .before .before .before .before .before .before .before .before .before .before .before .before .before .before .before .before .before .before .before .before .args .reasons .now) (c .before .before .before .before .before .before .before .before .before .before .before .before .before .before .before .before .before .before .before .before .before .before .before .before .before .args .keys .now)) (c .before .before .before .before .before .before .before .before .before .before .before .before .before .before .before .before .before .before .before .before .before .before .before .before .before .args .c) (c .before .before .before .before .before .before .before .before .before .before .before .before .before .before .before .before .before .before .before .before .before .before .before .before .before .args .list .now) (c .before .before .before .before .before .before .before .before .before .before .before .before .before .before .before .before .if1 .left) _ (c .before .before .before .before .before .before .before .before .before .before .audit .ensures) (c .before .before .before .before .before .before .before .before .before .if2 .left) (c .before .before .before .before .before .before .before .before .before .before .before .before .before .before .before .before .before .before .before .before .before .before .before .before .before .fits .guard) _ (c .before .before .before .before .before .before .before .can-resolve .ensures) (c .before .before .before .before .before .before .if3 .left)), c .before .before .before .before .before .before .before .before .before .before .before .before .before .before .before .before .if1 .left))))
+    (λ c.
+    let at-if2 = c .before .before .before in
+    let at-audit = at-if2 .before in
+    let at-if1 = at-audit .before .before .before .before .before .before in
+    let at-start = at-if1 .before .before .before .before .before .before .before .before .before in
+    resolve-unfit (at-start .args .lhs .now) (at-start .args .rhs .now) (at-start .args .guard) _ _ (at-start .args .list .now) (at-if1 .if1 .left) _ (at-audit .audit .ensures)
+    (at-if2 .if2 .left) (at-start .fits .guard) _ (c .before .can-resolve .ensures) (c .if3 .taken))
+    (λ c κs.
+    let at-if3 = c .before .before .before .before .before .before in
+    let at-can-resolve = at-if3 .before in
+    let at-if2 = at-can-resolve .before .before in
+    let at-audit = at-if2 .before in
+    let at-if1 = at-audit .before .before .before .before .before .before in
+    let at-start = at-if1 .before .before .before .before .before .before .before .before .before in
+    let by-lent = lent (at-start .args .terms .now) (at-start .args .cells .now) (at-start .args .chars .now) (at-start .args .reasons .now) (at-start .args .keys .now) in (
+      resolve-ready (at-start .args .lhs .now) (at-start .args .rhs .now) (at-start .args .guard) by-lent (at-start .args .c) (at-start .args .list .now) (at-if1 .if1 .left) _
+          (at-audit .audit .ensures) (at-if2 .if2 .left) (at-start .fits .guard) _ (at-can-resolve .can-resolve .ensures) (at-if3 .if3 .left),
+      (
+        resolve-lists (at-start .args .lhs .now) (at-start .args .rhs .now) (at-start .args .guard) by-lent (at-start .args .c) (at-start .args .list .now) (at-if1 .if1 .left)
+            _ (at-audit .audit .ensures) (at-if2 .if2 .left) (at-start .fits .guard) _ (at-can-resolve .can-resolve .ensures) (at-if3 .if3 .left),
+        (
+          guard-passed _ (at-start .fits .guard)
+              (resolve-guard (at-start .args .lhs .now) (at-start .args .rhs .now) (at-start .args .guard) by-lent (at-start .args .c) (at-start .args .list .now)
+              (at-if1 .if1 .left) _ (at-audit .audit .ensures) (at-if2 .if2 .left) (at-start .fits .guard) _ (at-can-resolve .can-resolve .ensures) (at-if3 .if3 .left)),
+          at-if1 .if1 .left,
+        ),
+      ),
+    ))
     (λ c. search needs)
     (λ c. search needs)
     (λ c. search needs)
     (λ c. search needs)
     (λ c. search needs)
     (λ c. search needs)
-    (λ c. resolve-called (c .before .before .before .before .before .before .before .before .before .before .before .before .before .before .before .before .before .before .before .before .before .before .before .before .before .before .before .before .before .before .before .before .before .before .before .before .before .before .args .lhs .now) (c .before .before .before .before .before .before .before .before .before .before .before .before .before .before .before .before .before .before .before .before .before .before .before .before .before .before .before .before .before .before .before .before .before .before .before .before .before .before .args .rhs .now) (c .before .before .before .before .before .before .before .before .before .before .before .before .before .before .before .before .before .before .before .before .before .before .before .before .before .before .before .before .before .before .before .before .before .before .before .before .before .before .args .guard) _ _ (c .before .before .before .before .before .before .before .before .before .before .before .before .before .before .before .before .before .before .before .before .before .before .before .before .before .before .before .before .before .before .before .before .before .before .before .before .before .before .args .list .now) (c .before .before .before .before .before .before .before .before .before .before .before .before .before .before .before .before .before .before .before .before .before .before .before .before .before .before .before .before .before .if1 .left) _ (c .before .before .before .before .before .before .before .before .before .before .before .before .before .before .before .before .before .before .before .before .before .before .before .audit .ensures) (c .before .before .before .before .before .before .before .before .before .before .before .before .before .before .before .before .before .before .before .before .before .before .if2 .left) (c .before .before .before .before .before .before .before .before .before .before .before .before .before .before .before .before .before .before .before .before .before .before .before .before .before .before .before .before .before .before .before .before .before .before .before .before .before .before .fits .guard) _ (c .before .before .before .before .before .before .before .before .before .before .before .before .before .before .before .before .before .before .before .before .can-resolve .ensures) (c .before .before .before .before .before .before .before .before .before .before .before .before .before .before .before .before .before .before .before .if3 .left) (c .before .before .before .before .before .before .before .before .before .before .before .before .resolve-unchecked .ensures)))
+    (λ c.
+    let at-resolve-unchecked = c .before .before .before .before .before .before .before .before .before .before .before .before in
+    let at-if3 = at-resolve-unchecked .before .before .before .before .before .before .before in
+    let at-can-resolve = at-if3 .before in
+    let at-if2 = at-can-resolve .before .before in
+    let at-audit = at-if2 .before in
+    let at-if1 = at-audit .before .before .before .before .before .before in
+    let at-start = at-if1 .before .before .before .before .before .before .before .before .before in
+    resolve-called (at-start .args .lhs .now) (at-start .args .rhs .now) (at-start .args .guard) _ _ (at-start .args .list .now) (at-if1 .if1 .left) _
+    (at-audit .audit .ensures) (at-if2 .if2 .left) (at-start .fits .guard) _ (at-can-resolve .can-resolve .ensures) (at-if3 .if3 .left)
+    (at-resolve-unchecked .resolve-unchecked .ensures)))

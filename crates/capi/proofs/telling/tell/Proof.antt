@@ -10,10 +10,14 @@ tell-spec =
     tie.close
     (tie.spec
     (λ c. search needs)
-    (λ c κs. (roomy-state _ _ (c .before .before .before .before .before .before .pre .0), c .before .before .before .before .before .before .pre .1 _ _ (c .before .before .made .given .1)))
-    (λ c. let h = roomy-answer _ _ (c .before .before .before .before .before .before .before .before .before .pre .0) in omega arith)
+    (λ c κs.
+    let at-start = c .before .before .before .before .before .before in
+    (roomy-state _ _ (at-start .pre .0), at-start .pre .1 _ _ (c .before .before .made .given .1)))
+    (λ c.
+    let at-start = c .before .before .before .before .before .before .before .before .before in
+    let h = roomy-answer _ _ (at-start .pre .0) in omega arith)
     (λ c. search needs)
     (λ c. search needs)
     (λ c. search needs)
-    (λ c. told-term (c .before .before .before .before .before .made .given .1) (c .before .before .write-state .ensures) refl)
+    (λ c. let at-made = c .before .before .before .before .before in told-term (at-made .made .given .1) (c .before .before .write-state .ensures) refl)
     (λ c. search needs))

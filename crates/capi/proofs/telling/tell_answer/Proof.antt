@@ -11,32 +11,69 @@ tell-answer-spec =
     tie.close
     (tie.spec
     (λ c. search needs)
-    (λ c κs. (c .before .before .before .before .before .before .before .pre .0, c .before .before .before .before .before .before .before .pre .1 .counts _ _ (ap answerTelling (c .before .before .before .made .given .1))))
+    (λ c κs.
+    let at-made = c .before .before .before in
+    let at-start = at-made .before .before .before .before in
+    (at-start .pre .0, at-start .pre .1 .counts _ _ (ap answerTelling (at-made .made .given .1))))
     (λ c. search needs)
-    (λ c κs. (c .before .before .before .before .before .before .before .pre .0, c .before .before .before .before .before .before .before .pre .1 .counts _ _ (ap answerTelling (c .before .before .before .made2 .given .1))))
+    (λ c κs.
+    let at-made2 = c .before .before .before in
+    let at-start = at-made2 .before .before .before .before in
+    (at-start .pre .0, at-start .pre .1 .counts _ _ (ap answerTelling (at-made2 .made2 .given .1))))
     (λ c. search needs)
-    (λ c κs. (c .before .before .before .before .before .before .before .pre .0, c .before .before .before .before .before .before .before .pre .1 .counts _ _ (ap answerTelling (c .before .before .before .made3 .given .1))))
+    (λ c κs.
+    let at-made3 = c .before .before .before in
+    let at-start = at-made3 .before .before .before .before in
+    (at-start .pre .0, at-start .pre .1 .counts _ _ (ap answerTelling (at-made3 .made3 .given .1))))
     (λ c. search needs)
     (λ c κs. search needs)
-    (λ c κs. (c .before .before .before .before .before .before .before .before .pre .0, c .before .before .before .before .before .before .before .before .pre .1 .counts _ _ (ap answerTelling (c .before .before .before .before .made4 .given .1))))
+    (λ c κs.
+    let at-made4 = c .before .before .before .before in
+    let at-start = at-made4 .before .before .before .before in
+    (at-start .pre .0, at-start .pre .1 .counts _ _ (ap answerTelling (at-made4 .made4 .given .1))))
     (λ c. search needs)
-    (λ c. record { fits = c .before .before .before .before .before .before .before .pre .1 .split _ _ _ (c .before .before .before .made5 .given .1) .list })
+    (λ c.
+    let at-made5 = c .before .before .before in
+    let at-start = at-made5 .before .before .before .before in
+    record { fits = at-start .pre .1 .split _ _ _ (at-made5 .made5 .given .1) .list })
     (λ c κs. search needs)
-    (λ c κs. (c .before .before .before .before .before .before .before .before .pre .0, c .before .before .before .before .before .before .before .before .pre .1 .counts _ _ (ap answerTelling (c .before .before .before .before .made5 .given .1))))
+    (λ c κs.
+    let at-made5 = c .before .before .before .before in
+    let at-start = at-made5 .before .before .before .before in
+    (at-start .pre .0, at-start .pre .1 .counts _ _ (ap answerTelling (at-made5 .made5 .given .1))))
     (λ c. search needs)
     (λ c. search needs)
     (λ c. search needs)
-    (λ c. told-by (ap answerTelling (c .before .before .before .before .before .before .before .before .made .given .1)) (c .before .before .before .before .tell-one .ensures))
+    (λ c.
+    let at-tell-one = c .before .before .before .before in
+    let at-made = at-tell-one .before .before .before .before in
+    told-by (ap answerTelling (at-made .made .given .1)) (at-tell-one .tell-one .ensures))
     (λ c. search needs)
     (λ c. search needs)
-    (λ c. told-by (ap answerTelling (c .before .before .before .before .before .before .before .before .made2 .given .1)) (c .before .before .before .before .tell-one2 .ensures))
+    (λ c.
+    let at-tell-one2 = c .before .before .before .before in
+    let at-made2 = at-tell-one2 .before .before .before .before in
+    told-by (ap answerTelling (at-made2 .made2 .given .1)) (at-tell-one2 .tell-one2 .ensures))
     (λ c. search needs)
     (λ c. search needs)
-    (λ c. told-by (ap answerTelling (c .before .before .before .before .before .before .before .before .made3 .given .1)) (c .before .before .before .before .tell-one3 .ensures))
+    (λ c.
+    let at-tell-one3 = c .before .before .before .before in
+    let at-made3 = at-tell-one3 .before .before .before .before in
+    told-by (ap answerTelling (at-made3 .made3 .given .1)) (at-tell-one3 .tell-one3 .ensures))
     (λ c. search needs)
     (λ c. search needs)
-    (λ c. told-flag (ap answerTelling (c .before .before .before .before .before .before .before .before .before .made4 .given .1)) (c .before .before .before .before .before .flag-of .ensures) (c .before .before .before .before .tell-four .ensures))
+    (λ c.
+    let at-tell-four = c .before .before .before .before in
+    let at-flag-of = at-tell-four .before in
+    let at-made4 = at-flag-of .before .before .before .before in
+    told-flag (ap answerTelling (at-made4 .made4 .given .1)) (at-flag-of .flag-of .ensures) (at-tell-four .tell-four .ensures))
     (λ c. search needs)
     (λ c. search needs)
-    (λ c. told-guard (ap answerTelling (c .before .before .before .before .before .before .before .before .before .made5 .given .1)) (c .before .before .before .before .before .before .before .before .before .before .before .before .before .pre .1 .split _ _ _ (c .before .before .before .before .before .before .before .before .before .made5 .given .1) .guard) (c .before .before .before .before .before .bits-of .ensures) (c .before .before .before .before .tell-three .ensures))
+    (λ c.
+    let at-tell-three = c .before .before .before .before in
+    let at-bits-of = at-tell-three .before in
+    let at-made5 = at-bits-of .before .before .before .before in
+    let at-start = at-made5 .before .before .before .before in
+    told-guard (ap answerTelling (at-made5 .made5 .given .1)) (at-start .pre .1 .split _ _ _ (at-made5 .made5 .given .1) .guard) (at-bits-of .bits-of .ensures)
+    (at-tell-three .tell-three .ensures))
     (λ c. told-refuses (ap answerTelling (c .before .made6 .given .1))))

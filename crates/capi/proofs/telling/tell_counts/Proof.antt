@@ -8,8 +8,8 @@ tell-counts-spec =
     tie.close
     (tie.spec
     (λ c. search needs)
-    (λ c κs. (c .before .before .before .before .before .pre .0, c .before .before .before .before .before .pre .1 _ (c .before .before .added .given .1)))
+    (λ c κs. let at-start = c .before .before .before .before .before in (at-start .pre .0, at-start .pre .1 _ (c .before .before .added .given .1)))
     (λ c. search needs)
     (λ c. search needs)
-    (λ c. told-counts (c .before .before .before .before .before .added .given .1) (c .before .before .write-state .ensures))
+    (λ c. let at-added = c .before .before .before .before .before in told-counts (at-added .added .given .1) (c .before .before .write-state .ensures))
     (λ c. search needs))

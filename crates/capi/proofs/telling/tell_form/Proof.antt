@@ -10,10 +10,19 @@ tell-form-spec =
     tie.close
     (tie.spec
     (λ c. search needs)
-    (λ c. record { fits = c .before .before .before .before .before .before .before .pre .1 _ _ (c .before .before .before .made .given .1) .list })
-    (λ c κs. (c .before .before .before .before .before .before .before .pre .0, c .before .before .before .before .before .before .before .pre .1 _ _ (c .before .before .before .made .given .1) .counts))
+    (λ c.
+    let at-made = c .before .before .before in
+    let at-start = at-made .before .before .before .before in
+    record { fits = at-start .pre .1 _ _ (at-made .made .given .1) .list })
+    (λ c κs.
+    let at-made = c .before .before .before in
+    let at-start = at-made .before .before .before .before in
+    (at-start .pre .0, at-start .pre .1 _ _ (at-made .made .given .1) .counts))
     (λ c. search needs)
     (λ c. search needs)
     (λ c. search needs)
-    (λ c. told-by (ap formTelling (c .before .before .before .before .before .before .before .before .made .given .1)) (c .before .before .before .before .tell-two .ensures))
+    (λ c.
+    let at-tell-two = c .before .before .before .before in
+    let at-made = at-tell-two .before .before .before .before in
+    told-by (ap formTelling (at-made .made .given .1)) (at-tell-two .tell-two .ensures))
     (λ c. search needs))

@@ -11,11 +11,19 @@ pub tell-four-spec : {M : Type 1} → statement M
 tell-four-spec =
     tie.close
     (tie.spec
-    (λ c κs. (roomy-state _ _ (c .before .before .before .pre .0), c .before .before .before .pre .1))
-    (λ c. let h = roomy-answer _ _ (c .before .before .before .before .before .before .pre .0) in omega arith)
-    (λ c. let h = roomy-answer _ _ (c .before .before .before .before .before .before .pre .0) in simp length-set (omega arith))
-    (λ c. let h = roomy-answer _ _ (c .before .before .before .before .before .before .pre .0) in simp length-set (omega arith))
-    (λ c. let h = roomy-answer _ _ (c .before .before .before .before .before .before .pre .0) in simp length-set (omega arith))
+    (λ c κs. let at-start = c .before .before .before in (roomy-state _ _ (at-start .pre .0), at-start .pre .1))
+    (λ c. let at-start = c .before .before .before .before .before .before in let h = roomy-answer _ _ (at-start .pre .0) in omega arith)
+    (λ c.
+    let at-start = c .before .before .before .before .before .before in
+    let h = roomy-answer _ _ (at-start .pre .0) in simp length-set (omega arith))
+    (λ c.
+    let at-start = c .before .before .before .before .before .before in
+    let h = roomy-answer _ _ (at-start .pre .0) in simp length-set (omega arith))
+    (λ c.
+    let at-start = c .before .before .before .before .before .before in
+    let h = roomy-answer _ _ (at-start .pre .0) in simp length-set (omega arith))
     (λ c. search needs)
     (λ c. search needs)
-    (λ c. four-told (c .before .before .before .before .before .before .pre .0) (c .before .before .write-state .ensures) refl))
+    (λ c.
+    let at-start = c .before .before .before .before .before .before in
+    four-told (at-start .pre .0) (c .before .before .write-state .ensures) refl))

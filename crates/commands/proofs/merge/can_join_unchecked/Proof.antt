@@ -9,13 +9,54 @@ can-join-unchecked-spec =
     tie.close
     (tie.spec
     (λ c κs. search needs)
-    (λ c. join-1 (lent (c .before .before .before .before .before .before .before .args .terms .now) (c .before .before .before .before .before .before .before .args .cells .now) (c .before .before .before .before .before .before .before .args .chars .now) (c .before .before .before .before .before .before .before .args .reasons .now) (c .before .before .before .before .before .before .before .args .keys .now)) (c .before .before .before .before .before .before .before .args .c) (c .before .before .before .before .before .before .before .args .child) (c .before .before .before .before .before .before .before .args .parent) (c .before .before .before .before .before .before .before .args .n) _ (c .before .is-string .ensures) (c .if1 .taken))
+    (λ c.
+    let at-start = c .before .before .before .before .before .before .before in
+    join-1 (lent (at-start .args .terms .now) (at-start .args .cells .now) (at-start .args .chars .now) (at-start .args .reasons .now) (at-start .args .keys .now))
+    (at-start .args .c) (at-start .args .child) (at-start .args .parent) (at-start .args .n) _ (c .before .is-string .ensures) (c .if1 .taken))
     (λ c κs. search needs)
-    (λ c. join-2 (lent (c .before .before .before .before .before .before .before .before .before .args .terms .now) (c .before .before .before .before .before .before .before .before .before .args .cells .now) (c .before .before .before .before .before .before .before .before .before .args .chars .now) (c .before .before .before .before .before .before .before .before .before .args .reasons .now) (c .before .before .before .before .before .before .before .before .before .args .keys .now)) (c .before .before .before .before .before .before .before .before .before .args .c) (c .before .before .before .before .before .before .before .before .before .args .child) (c .before .before .before .before .before .before .before .before .before .args .parent) (c .before .before .before .before .before .before .before .before .before .args .n) _ (c .before .is-string2 .ensures) (c .if2 .taken))
+    (λ c.
+    let at-start = c .before .before .before .before .before .before .before .before .before in
+    join-2 (lent (at-start .args .terms .now) (at-start .args .cells .now) (at-start .args .chars .now) (at-start .args .reasons .now) (at-start .args .keys .now))
+    (at-start .args .c) (at-start .args .child) (at-start .args .parent) (at-start .args .n) _ (c .before .is-string2 .ensures) (c .if2 .taken))
     (λ c κs. search needs)
-    (λ c. join-3 (lent (c .before .before .before .before .before .before .before .before .before .before .before .args .terms .now) (c .before .before .before .before .before .before .before .before .before .before .before .args .cells .now) (c .before .before .before .before .before .before .before .before .before .before .before .args .chars .now) (c .before .before .before .before .before .before .before .before .before .before .before .args .reasons .now) (c .before .before .before .before .before .before .before .before .before .before .before .args .keys .now)) (c .before .before .before .before .before .before .before .before .before .before .before .args .c) (c .before .before .before .before .before .before .before .before .before .before .before .args .child) (c .before .before .before .before .before .before .before .before .before .before .before .args .parent) (c .before .before .before .before .before .before .before .before .before .before .before .args .n) _ (c .before .is-number .ensures) (c .if3 .taken))
-    (λ c κs. string-within (lent (c .before .before .before .before .before .before .before .before .before .before .before .args .terms .now) (c .before .before .before .before .before .before .before .before .before .before .before .args .cells .now) (c .before .before .before .before .before .before .before .before .before .before .before .args .chars .now) (c .before .before .before .before .before .before .before .before .before .before .before .args .reasons .now) (c .before .before .before .before .before .before .before .before .before .before .before .args .keys .now)) (c .before .before .before .before .before .before .before .before .before .before .before .args .c) (c .before .before .before .before .before .before .before .before .before .before .before .args .child) (c .before .before .before .before .before .before .before .before .before .before .before .args .parent) (c .before .before .before .before .before .before .before .before .before .before .before .args .n) (c .before .before .before .before .before .before .before .before .before .before .before .args .child) _ (c .before .before .before .before .before .is-string .ensures) (c .before .before .before .before .if1 .left))
-    (λ c. join-4 (lent (c .before .before .before .before .before .before .before .before .before .before .before .before .before .args .terms .now) (c .before .before .before .before .before .before .before .before .before .before .before .before .before .args .cells .now) (c .before .before .before .before .before .before .before .before .before .before .before .before .before .args .chars .now) (c .before .before .before .before .before .before .before .before .before .before .before .before .before .args .reasons .now) (c .before .before .before .before .before .before .before .before .before .before .before .before .before .args .keys .now)) (c .before .before .before .before .before .before .before .before .before .before .before .before .before .args .c) (c .before .before .before .before .before .before .before .before .before .before .before .before .before .args .child) (c .before .before .before .before .before .before .before .before .before .before .before .before .before .args .parent) (c .before .before .before .before .before .before .before .before .before .before .before .before .before .args .n) _ (c .before .is-root .ensures) (c .if4 .taken))
-    (λ c κs. can-climb (lent (c .before .before .before .before .before .before .before .before .before .before .before .before .before .args .terms .now) (c .before .before .before .before .before .before .before .before .before .before .before .before .before .args .cells .now) (c .before .before .before .before .before .before .before .before .before .before .before .before .before .args .chars .now) (c .before .before .before .before .before .before .before .before .before .before .before .before .before .args .reasons .now) (c .before .before .before .before .before .before .before .before .before .before .before .before .before .args .keys .now)) (c .before .before .before .before .before .before .before .before .before .before .before .before .before .args .c) (c .before .before .before .before .before .before .before .before .before .before .before .before .before .args .child) (c .before .before .before .before .before .before .before .before .before .before .before .before .before .args .parent) (c .before .before .before .before .before .before .before .before .before .before .before .before .before .args .n) (c .before .before .before .before .before .before .before .before .before .before .before .before .before .pre) (c .before .before .before .before .before .before .before .before .before .before .before .before .before .args .child) _ (c .before .before .before .before .before .before .before .is-string .ensures) (c .before .before .before .before .before .before .if1 .left))
-    (λ c κs. can-climb (lent (c .before .before .before .before .before .before .before .before .before .before .before .before .before .before .args .terms .now) (c .before .before .before .before .before .before .before .before .before .before .before .before .before .before .args .cells .now) (c .before .before .before .before .before .before .before .before .before .before .before .before .before .before .args .chars .now) (c .before .before .before .before .before .before .before .before .before .before .before .before .before .before .args .reasons .now) (c .before .before .before .before .before .before .before .before .before .before .before .before .before .before .args .keys .now)) (c .before .before .before .before .before .before .before .before .before .before .before .before .before .before .args .c) (c .before .before .before .before .before .before .before .before .before .before .before .before .before .before .args .child) (c .before .before .before .before .before .before .before .before .before .before .before .before .before .before .args .parent) (c .before .before .before .before .before .before .before .before .before .before .before .before .before .before .args .n) (c .before .before .before .before .before .before .before .before .before .before .before .before .before .before .pre) (c .before .before .before .before .before .before .before .before .before .before .before .before .before .before .args .parent) _ (c .before .before .before .before .before .before .is-string2 .ensures) (c .before .before .before .before .before .if2 .left))
-    (λ c. join-last (lent (c .before .before .before .before .before .before .before .before .before .before .before .before .before .before .before .args .terms .now) (c .before .before .before .before .before .before .before .before .before .before .before .before .before .before .before .args .cells .now) (c .before .before .before .before .before .before .before .before .before .before .before .before .before .before .before .args .chars .now) (c .before .before .before .before .before .before .before .before .before .before .before .before .before .before .before .args .reasons .now) (c .before .before .before .before .before .before .before .before .before .before .before .before .before .before .before .args .keys .now)) (c .before .before .before .before .before .before .before .before .before .before .before .before .before .before .before .args .c) (c .before .before .before .before .before .before .before .before .before .before .before .before .before .before .before .args .child) (c .before .before .before .before .before .before .before .before .before .before .before .before .before .before .before .args .parent) (c .before .before .before .before .before .before .before .before .before .before .before .before .before .before .before .args .n) _ _ _ _ (c .before .before .before .before .before .before .before .before .before .is-string .ensures) (c .before .before .before .before .before .before .before .before .if1 .left) (c .before .before .before .before .before .before .before .is-string2 .ensures) (c .before .before .before .before .before .before .if2 .left) (c .before .before .before .before .before .is-number .ensures) (c .before .before .before .before .if3 .left) (c .before .before .before .is-root .ensures) (c .before .before .if4 .left) _ _ (c .before .root-unchecked .ensures) (c .root-unchecked2 .ensures)))
+    (λ c.
+    let at-start = c .before .before .before .before .before .before .before .before .before .before .before in
+    join-3 (lent (at-start .args .terms .now) (at-start .args .cells .now) (at-start .args .chars .now) (at-start .args .reasons .now) (at-start .args .keys .now))
+    (at-start .args .c) (at-start .args .child) (at-start .args .parent) (at-start .args .n) _ (c .before .is-number .ensures) (c .if3 .taken))
+    (λ c κs.
+    let at-if1 = c .before .before .before .before in
+    let at-is-string = at-if1 .before in
+    let at-start = at-is-string .before .before .before .before .before .before in
+    string-within (lent (at-start .args .terms .now) (at-start .args .cells .now) (at-start .args .chars .now) (at-start .args .reasons .now) (at-start .args .keys .now))
+    (at-start .args .c) (at-start .args .child) (at-start .args .parent) (at-start .args .n) (at-start .args .child) _ (at-is-string .is-string .ensures) (at-if1 .if1 .left))
+    (λ c.
+    let at-start = c .before .before .before .before .before .before .before .before .before .before .before .before .before in
+    join-4 (lent (at-start .args .terms .now) (at-start .args .cells .now) (at-start .args .chars .now) (at-start .args .reasons .now) (at-start .args .keys .now))
+    (at-start .args .c) (at-start .args .child) (at-start .args .parent) (at-start .args .n) _ (c .before .is-root .ensures) (c .if4 .taken))
+    (λ c κs.
+    let at-if1 = c .before .before .before .before .before .before in
+    let at-is-string = at-if1 .before in
+    let at-start = at-is-string .before .before .before .before .before .before in
+    can-climb (lent (at-start .args .terms .now) (at-start .args .cells .now) (at-start .args .chars .now) (at-start .args .reasons .now) (at-start .args .keys .now))
+    (at-start .args .c) (at-start .args .child) (at-start .args .parent) (at-start .args .n) (at-start .pre) (at-start .args .child) _ (at-is-string .is-string .ensures)
+    (at-if1 .if1 .left))
+    (λ c κs.
+    let at-if2 = c .before .before .before .before .before in
+    let at-is-string2 = at-if2 .before in
+    let at-start = at-is-string2 .before .before .before .before .before .before .before .before in
+    can-climb (lent (at-start .args .terms .now) (at-start .args .cells .now) (at-start .args .chars .now) (at-start .args .reasons .now) (at-start .args .keys .now))
+    (at-start .args .c) (at-start .args .child) (at-start .args .parent) (at-start .args .n) (at-start .pre) (at-start .args .parent) _ (at-is-string2 .is-string2 .ensures)
+    (at-if2 .if2 .left))
+    (λ c.
+    let at-is-root = c .before .before .before in
+    let at-if3 = at-is-root .before in
+    let at-is-number = at-if3 .before in
+    let at-if2 = at-is-number .before in
+    let at-is-string2 = at-if2 .before in
+    let at-if1 = at-is-string2 .before in
+    let at-is-string = at-if1 .before in
+    let at-start = at-is-string .before .before .before .before .before .before in
+    join-last (lent (at-start .args .terms .now) (at-start .args .cells .now) (at-start .args .chars .now) (at-start .args .reasons .now) (at-start .args .keys .now))
+    (at-start .args .c) (at-start .args .child) (at-start .args .parent) (at-start .args .n) _ _ _ _ (at-is-string .is-string .ensures) (at-if1 .if1 .left)
+    (at-is-string2 .is-string2 .ensures) (at-if2 .if2 .left) (at-is-number .is-number .ensures) (at-if3 .if3 .left) (at-is-root .is-root .ensures)
+    (c .before .before .if4 .left) _ _ (c .before .root-unchecked .ensures) (c .root-unchecked2 .ensures)))

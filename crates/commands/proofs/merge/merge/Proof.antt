@@ -11,10 +11,36 @@ merge-spec =
     (tie.spec
     (λ c κs. search needs)
     (λ c. search needs)
-    (λ c. merge-unready (lent (c .before .before .before .before .before .before .before .before .args .terms .now) (c .before .before .before .before .before .before .before .before .args .cells .now) (c .before .before .before .before .before .before .before .before .args .chars .now) (c .before .before .before .before .before .before .before .before .args .reasons .now) (c .before .before .before .before .before .before .before .before .args .keys .now)) (c .before .before .before .before .before .before .before .before .args .c) (c .before .before .before .before .before .before .before .before .args .child) (c .before .before .before .before .before .before .before .before .args .parent) (c .before .before .before .before .before .before .before .before .args .n) (c .before .before .before .before .before .before .before .before .args .stamp) _ (c .before .audit .ensures) (c .if1 .taken))
-    (λ c κs. passed-ready (lent (c .before .before .before .before .before .before .before .before .before .args .terms .now) (c .before .before .before .before .before .before .before .before .before .args .cells .now) (c .before .before .before .before .before .before .before .before .before .args .chars .now) (c .before .before .before .before .before .before .before .before .before .args .reasons .now) (c .before .before .before .before .before .before .before .before .before .args .keys .now)) (c .before .before .before .before .before .before .before .before .before .args .c) _ (c .before .before .audit .ensures) (c .before .if1 .left))
+    (λ c.
+    let at-start = c .before .before .before .before .before .before .before .before in
+    merge-unready (lent (at-start .args .terms .now) (at-start .args .cells .now) (at-start .args .chars .now) (at-start .args .reasons .now) (at-start .args .keys .now))
+    (at-start .args .c) (at-start .args .child) (at-start .args .parent) (at-start .args .n) (at-start .args .stamp) _ (c .before .audit .ensures) (c .if1 .taken))
+    (λ c κs.
+    let at-start = c .before .before .before .before .before .before .before .before .before in
+    passed-ready (lent (at-start .args .terms .now) (at-start .args .cells .now) (at-start .args .chars .now) (at-start .args .reasons .now) (at-start .args .keys .now))
+    (at-start .args .c) _ (c .before .before .audit .ensures) (c .before .if1 .left))
     (λ c. search needs)
-    (λ c. merge-unfit (lent (c .before .before .before .before .before .before .before .before .before .before .before .args .terms .now) (c .before .before .before .before .before .before .before .before .before .before .before .args .cells .now) (c .before .before .before .before .before .before .before .before .before .before .before .args .chars .now) (c .before .before .before .before .before .before .before .before .before .before .before .args .reasons .now) (c .before .before .before .before .before .before .before .before .before .before .before .args .keys .now)) (c .before .before .before .before .before .before .before .before .before .before .before .args .c) (c .before .before .before .before .before .before .before .before .before .before .before .args .child) (c .before .before .before .before .before .before .before .before .before .before .before .args .parent) (c .before .before .before .before .before .before .before .before .before .before .before .args .n) (c .before .before .before .before .before .before .before .before .before .before .before .args .stamp) _ (c .before .before .before .before .audit .ensures) (c .before .before .before .if1 .left) _ (c .before .can-join-unchecked .ensures) (c .if2 .taken))
-    (λ c κs. merge-room (lent (c .before .before .before .before .before .before .before .before .before .before .before .before .args .terms .now) (c .before .before .before .before .before .before .before .before .before .before .before .before .args .cells .now) (c .before .before .before .before .before .before .before .before .before .before .before .before .args .chars .now) (c .before .before .before .before .before .before .before .before .before .before .before .before .args .reasons .now) (c .before .before .before .before .before .before .before .before .before .before .before .before .args .keys .now)) (c .before .before .before .before .before .before .before .before .before .before .before .before .args .c) (c .before .before .before .before .before .before .before .before .before .before .before .before .args .child) (c .before .before .before .before .before .before .before .before .before .before .before .before .args .parent) (c .before .before .before .before .before .before .before .before .before .before .before .before .args .n) (c .before .before .before .before .before .before .before .before .before .before .before .before .args .stamp) _ (c .before .before .before .before .before .audit .ensures) (c .before .before .before .before .if1 .left) _ (c .before .before .can-join-unchecked .ensures) (c .before .if2 .left))
+    (λ c.
+    let at-if1 = c .before .before .before in
+    let at-audit = at-if1 .before in
+    let at-start = at-audit .before .before .before .before .before .before .before in
+    merge-unfit (lent (at-start .args .terms .now) (at-start .args .cells .now) (at-start .args .chars .now) (at-start .args .reasons .now) (at-start .args .keys .now))
+    (at-start .args .c) (at-start .args .child) (at-start .args .parent) (at-start .args .n) (at-start .args .stamp) _ (at-audit .audit .ensures) (at-if1 .if1 .left) _
+    (c .before .can-join-unchecked .ensures) (c .if2 .taken))
+    (λ c κs.
+    let at-if1 = c .before .before .before .before in
+    let at-audit = at-if1 .before in
+    let at-start = at-audit .before .before .before .before .before .before .before in
+    merge-room (lent (at-start .args .terms .now) (at-start .args .cells .now) (at-start .args .chars .now) (at-start .args .reasons .now) (at-start .args .keys .now))
+    (at-start .args .c) (at-start .args .child) (at-start .args .parent) (at-start .args .n) (at-start .args .stamp) _ (at-audit .audit .ensures) (at-if1 .if1 .left) _
+    (c .before .before .can-join-unchecked .ensures) (c .before .if2 .left))
     (λ c. search needs)
-    (λ c. merge-is (c .before .before .before .before .before .before .before .before .before .before .before .before .before .before .before .args .terms .now) (c .before .before .before .before .before .before .before .before .before .before .before .before .before .before .before .args .cells .now) (c .before .before .before .before .before .before .before .before .before .before .before .before .before .before .before .args .chars .now) (c .before .before .before .before .before .before .before .before .before .before .before .before .before .before .before .args .reasons .now) (c .before .before .before .before .before .before .before .before .before .before .before .before .before .before .before .args .keys .now) _ (c .before .before .before .before .before .before .before .before .before .before .before .before .before .before .before .args .c) (c .before .before .before .before .before .before .before .before .before .before .before .before .before .before .before .args .child) (c .before .before .before .before .before .before .before .before .before .before .before .before .before .before .before .args .parent) (c .before .before .before .before .before .before .before .before .before .before .before .before .before .before .before .args .n) (c .before .before .before .before .before .before .before .before .before .before .before .before .before .before .before .args .stamp) _ (c .before .before .before .before .before .before .before .before .audit .ensures) (c .before .before .before .before .before .before .before .if1 .left) _ (c .before .before .before .before .before .can-join-unchecked .ensures) (c .before .before .before .before .if2 .left) (c .before .before .put-under-unchecked .ensures)))
+    (λ c.
+    let at-if2 = c .before .before .before .before in
+    let at-can-join-unchecked = at-if2 .before in
+    let at-if1 = at-can-join-unchecked .before .before in
+    let at-audit = at-if1 .before in
+    let at-start = at-audit .before .before .before .before .before .before .before in
+    merge-is (at-start .args .terms .now) (at-start .args .cells .now) (at-start .args .chars .now) (at-start .args .reasons .now) (at-start .args .keys .now) _
+    (at-start .args .c) (at-start .args .child) (at-start .args .parent) (at-start .args .n) (at-start .args .stamp) _ (at-audit .audit .ensures) (at-if1 .if1 .left) _
+    (at-can-join-unchecked .can-join-unchecked .ensures) (at-if2 .if2 .left) (c .before .before .put-under-unchecked .ensures)))

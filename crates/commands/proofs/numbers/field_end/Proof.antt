@@ -19,8 +19,8 @@ field-end-spec =
     μ-loop
     (λ c. passed-none _ _ (c .pre))
     (λ c. search needs)
-    (λ c. passed-here _ _ _ (c .before .before .before .loop .inv) (c .before .before .loop-test .taken) (c .if1 .taken))
+    (λ c. let at-loop = c .before .before .before in passed-here _ _ _ (at-loop .loop .inv) (c .before .before .loop-test .taken) (c .if1 .taken))
     (λ c. search needs)
     (λ c. search needs)
-    (λ c. passed-one _ _ _ (c .before .before .before .loop .inv) (c .before .before .loop-test .taken) (c .if1 .left))
+    (λ c. let at-loop = c .before .before .before in passed-one _ _ _ (at-loop .loop .inv) (c .before .before .loop-test .taken) (c .if1 .left))
     (λ c. passed-all _ _ _ (c .before .loop .inv) (c .loop-test .left)))

@@ -16,12 +16,28 @@ guard-of-spec =
     (λ c κs. search needs)
     (λ c. search needs)
     (λ c. search needs)
-    (λ c. below-none _ (c .before .before .before .before .before .before .if1 .left) _ (c .before .before .before .before .if2 .taken) (c .before .before .number-of .ensures) (c .enum-told .given .1))
-    (λ c κs. let h = number-low _ _ _ _ (c .before .before .before .number-of .ensures) (c .before .x .given .1) in omega arith)
-    (λ c. below-is _ (c .before .before .before .before .before .before .before .before .if1 .left) _ (c .before .before .before .before .before .before .if2 .taken) (c .before .before .before .before .number-of .ensures) _ _ (c .before .before .x .given .1) (c .negative .ensures))
+    (λ c.
+    let at-if2 = c .before .before .before .before in
+    let at-if1 = at-if2 .before .before in
+    below-none _ (at-if1 .if1 .left) _ (at-if2 .if2 .taken) (c .before .before .number-of .ensures) (c .enum-told .given .1))
+    (λ c κs.
+    let at-number-of = c .before .before .before in
+    let h = number-low _ _ _ _ (at-number-of .number-of .ensures) (c .before .x .given .1) in omega arith)
+    (λ c.
+    let at-number-of = c .before .before .before .before in
+    let at-if2 = at-number-of .before .before in
+    let at-if1 = at-if2 .before .before in
+    below-is _ (at-if1 .if1 .left) _ (at-if2 .if2 .taken) (at-number-of .number-of .ensures) _ _ (c .before .before .x .given .1) (c .negative .ensures))
     (λ c κs. search needs)
     (λ c. search needs)
     (λ c. search needs)
-    (λ c. above-none _ (c .before .before .before .before .before .if1 .left) _ (c .before .before .before .if2 .left) (c .before .before .number-of2 .ensures) (c .enum-told2 .given .1))
-    (λ c κs. number-low _ _ _ _ (c .before .before .before .number-of2 .ensures) (c .before .y .given .1))
-    (λ c. above-is _ (c .before .before .before .before .before .before .before .if1 .left) _ (c .before .before .before .before .before .if2 .left) (c .before .before .before .before .number-of2 .ensures) _ _ (c .before .before .y .given .1) (c .positive .ensures)))
+    (λ c.
+    let at-if2 = c .before .before .before in
+    let at-if1 = at-if2 .before .before in
+    above-none _ (at-if1 .if1 .left) _ (at-if2 .if2 .left) (c .before .before .number-of2 .ensures) (c .enum-told2 .given .1))
+    (λ c κs. let at-number-of2 = c .before .before .before in number-low _ _ _ _ (at-number-of2 .number-of2 .ensures) (c .before .y .given .1))
+    (λ c.
+    let at-number-of2 = c .before .before .before .before in
+    let at-if2 = at-number-of2 .before in
+    let at-if1 = at-if2 .before .before in
+    above-is _ (at-if1 .if1 .left) _ (at-if2 .if2 .left) (at-number-of2 .number-of2 .ensures) _ _ (c .before .before .y .given .1) (c .positive .ensures)))

@@ -21,14 +21,29 @@ number-of-spec =
     (λ c. number-none _ _ (c .if1 .taken))
     (λ c. read-none _ _ (c .before .pre .0) (c .if1 .left))
     (λ c. search needs)
-    (λ c. read-low _ _ _ _ (c .before .before .before .loop .inv) (c .before .before .loop-test .taken) (c .if2 .taken))
-    (λ c. read-high _ _ _ _ (c .before .before .before .before .loop .inv) (c .before .before .before .loop-test .taken) (c .if3 .taken))
-    (λ c. let b = c .before .before .before .before .loop .inv .below in let p = c .before .before .before .before .before .before .pre .1 in record { fits = omega arith })
+    (λ c. let at-loop = c .before .before .before in read-low _ _ _ _ (at-loop .loop .inv) (c .before .before .loop-test .taken) (c .if2 .taken))
+    (λ c.
+    let at-loop-test = c .before .before .before in
+    let at-loop = at-loop-test .before in
+    read-high _ _ _ _ (at-loop .loop .inv) (at-loop-test .loop-test .taken) (c .if3 .taken))
+    (λ c.
+    let at-loop = c .before .before .before .before in
+    let at-start = at-loop .before .before in
+    let b = at-loop .loop .inv .below in let p = at-start .pre .1 in record { fits = omega arith })
     (λ c. search needs)
-    (λ c. let b = c .before .before .before .before .loop .inv .below in let p = c .before .before .before .before .before .before .pre .1 in let q = c .if3 .left in record { fits = omega arith })
-    (λ c. read-past _ _ _ _ (c .before .before .before .before .before .loop .inv) (c .before .before .before .before .loop-test .taken) (c .if4 .taken))
+    (λ c.
+    let at-loop = c .before .before .before .before in
+    let at-start = at-loop .before .before in
+    let b = at-loop .loop .inv .below in let p = at-start .pre .1 in let q = c .if3 .left in record { fits = omega arith })
+    (λ c.
+    let at-loop-test = c .before .before .before .before in
+    let at-loop = at-loop-test .before in
+    read-past _ _ _ _ (at-loop .loop .inv) (at-loop-test .loop-test .taken) (c .if4 .taken))
     (λ c. search needs)
     (λ c. search needs)
-    (λ c. read-one _ _ _ _ (c .before .before .before .before .before .loop .inv) (c .before .before .before .before .loop-test .taken) (c .before .before .if2 .left) (c .before .if3 .left) (c .if4 .left))
-    (λ c. let b = c .before .loop .inv .below in let p = c .before .before .before .pre .1 in record { fits = omega arith })
+    (λ c.
+    let at-loop-test = c .before .before .before .before in
+    let at-loop = at-loop-test .before in
+    read-one _ _ _ _ (at-loop .loop .inv) (at-loop-test .loop-test .taken) (c .before .before .if2 .left) (c .before .if3 .left) (c .if4 .left))
+    (λ c. let at-start = c .before .before .before in let b = c .before .loop .inv .below in let p = at-start .pre .1 in record { fits = omega arith })
     (λ c. read-all _ _ _ _ (c .before .loop .inv) (c .loop-test .left)))

@@ -20,22 +20,48 @@ read-numbers-spec =
     μ-loop
     (λ c. numbered-none _ _)
     (λ c. search needs)
-    (λ c. c .before .before .before .loop .inv .filled .long)
-    (λ c. numbered-odd _ _ _ _ _ (c .before .before .before .loop .inv) (c .before .before .loop-test .taken) (c .if1 .taken))
+    (λ c. let at-loop = c .before .before .before in at-loop .loop .inv .filled .long)
+    (λ c. let at-loop = c .before .before .before in numbered-odd _ _ _ _ _ (at-loop .loop .inv) (c .before .before .loop-test .taken) (c .if1 .taken))
     (λ c. search needs)
     (λ c κs. search needs)
     (λ c. let q = c .field-end .ensures in omega arith)
     (λ c. let q = c .field-end .ensures in omega arith)
-    (λ c. field-within _ _ _ (let t = c .before .before .before .loop-test .taken in omega arith) (c .field-end .ensures))
+    (λ c.
+    let at-loop-test = c .before .before .before in
+    field-within _ _ _ (let t = at-loop-test .loop-test .taken in omega arith) (c .field-end .ensures))
     (λ c κs. search needs)
     (λ c. search needs)
     (λ c. search needs)
-    (λ c. c .before .before .before .before .before .before .before .before .loop .inv .filled .long)
-    (λ c. numbered-bad _ _ _ _ _ (c .before .before .before .before .before .before .before .before .loop .inv) (c .before .before .before .before .before .before .before .loop-test .taken) _ (c .before .before .before .before .before .if1 .left) (c .before .before .before .before .field-end .ensures) _ (c .before .before .number-of .ensures) (c .enum-told .given .1))
+    (λ c. let at-loop = c .before .before .before .before .before .before .before .before in at-loop .loop .inv .filled .long)
+    (λ c.
+    let at-field-end = c .before .before .before .before in
+    let at-if1 = at-field-end .before in
+    let at-loop-test = at-if1 .before .before in
+    let at-loop = at-loop-test .before in
+    numbered-bad _ _ _ _ _ (at-loop .loop .inv) (at-loop-test .loop-test .taken) _ (at-if1 .if1 .left) (at-field-end .field-end .ensures) _
+    (c .before .before .number-of .ensures) (c .enum-told .given .1))
     (λ c. search needs)
-    (λ c. let a = c .before .before .before .before .before .before .before .before .before .loop .inv .low in let b = c .before .before .before .before .before .before .before .before .before .loop .inv .filled .long in let p = c .before .before .before .before .before .before .before .before .before .before .before .before .pre in let t = c .before .before .before .before .before .before .before .before .loop-test .taken in omega arith)
-    (λ c. let a = c .before .before .before .before .before .before .before .before .before .loop .inv .low in let t = c .before .before .before .before .before .before .before .before .loop-test .taken in omega arith)
-    (λ c. let q = c .before .before .before .before .before .field-end .ensures in let t = c .before .before .before .before .before .before .before .before .loop-test .taken in omega arith)
-    (λ c. numbered-one _ _ _ _ _ (c .before .before .before .before .before .before .before .before .before .loop .inv) (c .before .before .before .before .before .before .before .before .loop-test .taken) _ (c .before .before .before .before .before .before .if1 .left) (c .before .before .before .before .before .field-end .ensures) _ (c .before .before .before .number-of .ensures) _ (c .before .x .given .1) (c .before .before .before .before .before .before .before .before .before .before .before .before .pre))
+    (λ c.
+    let at-loop-test = c .before .before .before .before .before .before .before .before in
+    let at-loop = at-loop-test .before in
+    let at-start = at-loop .before .before .before in
+    let a = at-loop .loop .inv .low in let b = at-loop .loop .inv .filled .long in let p = at-start .pre in let t = at-loop-test .loop-test .taken in omega arith)
+    (λ c.
+    let at-loop-test = c .before .before .before .before .before .before .before .before in
+    let at-loop = at-loop-test .before in
+    let a = at-loop .loop .inv .low in let t = at-loop-test .loop-test .taken in omega arith)
+    (λ c.
+    let at-field-end = c .before .before .before .before .before in
+    let at-loop-test = at-field-end .before .before .before in
+    let q = at-field-end .field-end .ensures in let t = at-loop-test .loop-test .taken in omega arith)
+    (λ c.
+    let at-number-of = c .before .before .before in
+    let at-field-end = at-number-of .before .before in
+    let at-if1 = at-field-end .before in
+    let at-loop-test = at-if1 .before .before in
+    let at-loop = at-loop-test .before in
+    let at-start = at-loop .before .before .before in
+    numbered-one _ _ _ _ _ (at-loop .loop .inv) (at-loop-test .loop-test .taken) _ (at-if1 .if1 .left) (at-field-end .field-end .ensures) _ (at-number-of .number-of .ensures) _
+    (c .before .x .given .1) (at-start .pre))
     (λ c. c .before .loop .inv .filled .long)
-    (λ c. numbered-all _ _ _ _ _ (c .before .loop .inv) (c .loop-test .left) (c .before .before .before .before .pre)))
+    (λ c. let at-start = c .before .before .before .before in numbered-all _ _ _ _ _ (c .before .loop .inv) (c .loop-test .left) (at-start .pre)))

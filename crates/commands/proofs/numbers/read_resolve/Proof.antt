@@ -13,22 +13,57 @@ read-resolve-spec =
     (λ c. search needs)
     (λ c. record { says = λ l. resolve-odd _ (c .before .before .if1 .left) (c .if2 .taken) })
     (λ c κs. search needs)
-    (λ c. record { says = λ l. resolve-one _ (c .before .before .before .before .if1 .left) (c .before .before .if2 .left) _ (c .before .field-end .ensures) (c .if3 .taken) })
+    (λ c.
+    let at-if1 = c .before .before .before .before in
+    record { says = λ l. resolve-one _ (at-if1 .if1 .left) (c .before .before .if2 .left) _ (c .before .field-end .ensures) (c .if3 .taken) })
     (λ c. search needs)
     (λ c κs. search needs)
-    (λ c. record { says = λ l. resolve-more _ (c .before .before .before .before .before .before .if1 .left) (c .before .before .before .before .if2 .left) _ (c .before .before .before .field-end .ensures) (c .before .before .if3 .left) _ (c .before .field-end2 .ensures) (c .if4 .taken) })
+    (λ c.
+    let at-field-end = c .before .before .before in
+    let at-if2 = at-field-end .before in
+    let at-if1 = at-if2 .before .before in
+    record { says = λ l. resolve-more _ (at-if1 .if1 .left) (at-if2 .if2 .left) _ (at-field-end .field-end .ensures) (c .before .before .if3 .left) _ (c .before .field-end2 .ensures) (c .if4 .taken) })
     (λ c. search needs)
     (λ c. search needs)
     (λ c. search needs)
     (λ c κs. search needs)
     (λ c. search needs)
     (λ c. search needs)
-    (λ c. record { says = λ l. resolve-bad _ (c .before .before .before .before .before .before .before .before .before .before .if1 .left) (c .before .before .before .before .before .before .before .before .if2 .left) _ (c .before .before .before .before .before .before .before .field-end .ensures) (c .before .before .before .before .before .before .if3 .left) _ (c .before .before .before .before .before .field-end2 .ensures) (c .before .before .before .before .if4 .left) _ (c .before .before .number-of .ensures) (c .enum-told .given .1) })
+    (λ c.
+    let at-if4 = c .before .before .before .before in
+    let at-field-end2 = at-if4 .before in
+    let at-if3 = at-field-end2 .before in
+    let at-field-end = at-if3 .before in
+    let at-if2 = at-field-end .before in
+    let at-if1 = at-if2 .before .before in
+    record { says = λ l. resolve-bad _ (at-if1 .if1 .left) (at-if2 .if2 .left) _ (at-field-end .field-end .ensures) (at-if3 .if3 .left) _ (at-field-end2 .field-end2 .ensures) (at-if4 .if4 .left) _ (c .before .before .number-of .ensures) (c .enum-told .given .1) })
     (λ c. search needs)
     (λ c. search needs)
-    (λ c. field-within _ _ _ (let t = c .before .before .before .before .before .before .before .if3 .left in omega arith) (c .before .before .before .before .before .before .field-end2 .ensures))
+    (λ c.
+    let at-field-end2 = c .before .before .before .before .before .before in
+    let at-if3 = at-field-end2 .before in
+    field-within _ _ _ (let t = at-if3 .if3 .left in omega arith) (at-field-end2 .field-end2 .ensures))
     (λ c κs. search needs)
     (λ c. search needs)
     (λ c. search needs)
-    (λ c. record { says = λ l. resolve-free _ (c .before .before .before .before .before .before .before .before .before .before .before .before .before .before .before .if1 .left) (c .before .before .before .before .before .before .before .before .before .before .before .before .before .if2 .left) _ (c .before .before .before .before .before .before .before .before .before .before .before .before .field-end .ensures) (c .before .before .before .before .before .before .before .before .before .before .before .if3 .left) _ (c .before .before .before .before .before .before .before .before .before .before .field-end2 .ensures) (c .before .before .before .before .before .before .before .before .before .if4 .left) _ (c .before .before .before .before .before .before .before .number-of .ensures) _ (c .before .before .before .before .before .t .given .1) _ (c .before .before .guard-of .ensures) (c .enum-told2 .given .1) })
-    (λ c. record { says = λ l. resolve-is _ (c .before .before .before .before .before .before .before .before .before .before .before .before .before .before .before .before .if1 .left) (c .before .before .before .before .before .before .before .before .before .before .before .before .before .before .if2 .left) _ (c .before .before .before .before .before .before .before .before .before .before .before .before .before .field-end .ensures) (c .before .before .before .before .before .before .before .before .before .before .before .before .if3 .left) _ (c .before .before .before .before .before .before .before .before .before .before .before .field-end2 .ensures) (c .before .before .before .before .before .before .before .before .before .before .if4 .left) _ (c .before .before .before .before .before .before .before .before .number-of .ensures) _ (c .before .before .before .before .before .before .t .given .1) _ (c .before .before .before .guard-of .ensures) _ (c .before .g .given .1) (record { sfits = omega (arith, c .known-told2 .given) }) }))
+    (λ c.
+    let at-t = c .before .before .before .before .before in
+    let at-number-of = at-t .before .before in
+    let at-if4 = at-number-of .before .before in
+    let at-field-end2 = at-if4 .before in
+    let at-if3 = at-field-end2 .before in
+    let at-field-end = at-if3 .before in
+    let at-if2 = at-field-end .before in
+    let at-if1 = at-if2 .before .before in
+    record { says = λ l. resolve-free _ (at-if1 .if1 .left) (at-if2 .if2 .left) _ (at-field-end .field-end .ensures) (at-if3 .if3 .left) _ (at-field-end2 .field-end2 .ensures) (at-if4 .if4 .left) _ (at-number-of .number-of .ensures) _ (at-t .t .given .1) _ (c .before .before .guard-of .ensures) (c .enum-told2 .given .1) })
+    (λ c.
+    let at-guard-of = c .before .before .before in
+    let at-t = at-guard-of .before .before .before in
+    let at-number-of = at-t .before .before in
+    let at-if4 = at-number-of .before .before in
+    let at-field-end2 = at-if4 .before in
+    let at-if3 = at-field-end2 .before in
+    let at-field-end = at-if3 .before in
+    let at-if2 = at-field-end .before in
+    let at-if1 = at-if2 .before .before in
+    record { says = λ l. resolve-is _ (at-if1 .if1 .left) (at-if2 .if2 .left) _ (at-field-end .field-end .ensures) (at-if3 .if3 .left) _ (at-field-end2 .field-end2 .ensures) (at-if4 .if4 .left) _ (at-number-of .number-of .ensures) _ (at-t .t .given .1) _ (at-guard-of .guard-of .ensures) _ (c .before .g .given .1) (record { sfits = omega (arith, c .known-told2 .given) }) }))

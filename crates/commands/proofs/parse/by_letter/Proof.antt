@@ -15,16 +15,24 @@ by-letter-spec =
     (λ c κs. search needs)
     (λ c κs. search needs)
     (λ c. search needs)
-    (λ c. letter-constant _ _ _ (c .before .before .before .before .match .keys1) (c .before .before .read-constant .ensures))
+    (λ c.
+    let at-match = c .before .before .before .before in
+    letter-constant _ _ _ (at-match .match .keys1) (c .before .before .read-constant .ensures))
     (λ c. search needs)
-    (λ c. letter-variable _ _ _ (c .before .before .before .before .match .keys2) (c .before .before .read-variable .ensures))
+    (λ c.
+    let at-match = c .before .before .before .before in
+    letter-variable _ _ _ (at-match .match .keys2) (c .before .before .read-variable .ensures))
     (λ c. search needs)
-    (λ c. letter-concatenation _ _ _ (c .before .before .before .before .match .keys3) (c .before .before .read-concatenation .ensures))
+    (λ c.
+    let at-match = c .before .before .before .before in
+    letter-concatenation _ _ _ (at-match .match .keys3) (c .before .before .read-concatenation .ensures))
     (λ c. search needs)
-    (λ c. letter-equation _ _ _ (c .before .before .before .before .match .keys4) (c .before .before .read-equation .ensures))
+    (λ c.
+    let at-match = c .before .before .before .before in
+    letter-equation _ _ _ (at-match .match .keys4) (c .before .before .read-equation .ensures))
     (λ c. search needs)
-    (λ c. letter-merge _ _ _ (c .before .before .before .before .match .keys5) (c .before .before .read-merge .ensures))
+    (λ c. let at-match = c .before .before .before .before in letter-merge _ _ _ (at-match .match .keys5) (c .before .before .read-merge .ensures))
     (λ c. search needs)
-    (λ c. letter-known _ _ _ (c .before .before .before .before .match .keys6) (c .before .before .read-known .ensures))
+    (λ c. let at-match = c .before .before .before .before in letter-known _ _ _ (at-match .match .keys6) (c .before .before .read-known .ensures))
     (λ c. letter-resolve _ _ _ (c .before .match .keys7) (c .read-resolve .ensures .says _))
     (λ c. other-letter _ _ (c .match .rest .0 .0 .0 .0 .0 .0 .1) (c .match .rest .0 .0 .0 .0 .0 .1) (c .match .rest .0 .0 .0 .0 .1) (c .match .rest .0 .0 .0 .1) (c .match .rest .0 .0 .1) (c .match .rest .0 .1) (c .match .rest .1)))

@@ -14,4 +14,7 @@ parse-spec =
     (λ c. search needs)
     (λ c. search needs)
     (λ c κs. search needs)
-    (λ c. line-is _ _ (c .before .before .before .before .before .if1 .left) (c .before .before .before .before .if2 .left) (c .by-letter .ensures)))
+    (λ c.
+    let at-if2 = c .before .before .before .before in
+    let at-if1 = at-if2 .before in
+    line-is _ _ (at-if1 .if1 .left) (at-if2 .if2 .left) (c .by-letter .ensures)))

@@ -12,6 +12,10 @@ read-concatenation-spec =
     (λ c. search needs)
     (λ c. search needs)
     (λ c. search needs)
-    (λ c. listed-bad asConcatenation _ _ _ (c .before .before .before .before .read-numbers .ensures) (c .enum-told .given .1))
+    (λ c.
+    let at-read-numbers = c .before .before .before .before in
+    listed-bad asConcatenation _ _ _ (at-read-numbers .read-numbers .ensures) (c .enum-told .given .1))
     (λ c. search needs)
-    (λ c. listed-count asConcatenation _ _ _ (c .before .before .before .before .before .read-numbers .ensures) _ (c .before .n .given .1)))
+    (λ c.
+    let at-read-numbers = c .before .before .before .before .before in
+    listed-count asConcatenation _ _ _ (at-read-numbers .read-numbers .ensures) _ (c .before .n .given .1)))

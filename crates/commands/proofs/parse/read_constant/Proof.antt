@@ -12,6 +12,10 @@ read-constant-spec =
     (λ c. search needs)
     (λ c. search needs)
     (λ c. search needs)
-    (λ c. listed-bad asConstant _ _ _ (c .before .before .before .before .read-text .ensures) (c .enum-told .given .1))
+    (λ c.
+    let at-read-text = c .before .before .before .before in
+    listed-bad asConstant _ _ _ (at-read-text .read-text .ensures) (c .enum-told .given .1))
     (λ c. search needs)
-    (λ c. listed-count asConstant _ _ _ (c .before .before .before .before .before .read-text .ensures) _ (c .before .n .given .1)))
+    (λ c.
+    let at-read-text = c .before .before .before .before .before in
+    listed-count asConstant _ _ _ (at-read-text .read-text .ensures) _ (c .before .n .given .1)))

@@ -13,10 +13,23 @@ read-equation-spec =
     (λ c. search needs)
     (λ c. search needs)
     (λ c. search needs)
-    (λ c. listed-bad asEquation _ _ _ (c .before .before .before .before .read-numbers .ensures) (c .enum-told .given .1))
+    (λ c.
+    let at-read-numbers = c .before .before .before .before in
+    listed-bad asEquation _ _ _ (at-read-numbers .read-numbers .ensures) (c .enum-told .given .1))
     (λ c. search needs)
-    (λ c. equation-not _ _ _ (c .before .before .before .before .before .before .read-numbers .ensures) _ (c .before .before .n .given .1) (c .if1 .taken))
-    (λ c. let k = count-within asEquation _ _ _ (c .before .before .before .before .before .before .before .read-numbers .ensures) _ (c .before .before .before .n .given .1) in let e = c .before .if1 .left in omega arith)
-    (λ c. let k = count-within asEquation _ _ _ (c .before .before .before .before .before .before .before .before .read-numbers .ensures) _ (c .before .before .before .before .n .given .1) in let e = c .before .before .if1 .left in omega arith)
+    (λ c.
+    let at-read-numbers = c .before .before .before .before .before .before in
+    equation-not _ _ _ (at-read-numbers .read-numbers .ensures) _ (c .before .before .n .given .1) (c .if1 .taken))
+    (λ c.
+    let at-n = c .before .before .before in
+    let at-read-numbers = at-n .before .before .before .before in
+    let k = count-within asEquation _ _ _ (at-read-numbers .read-numbers .ensures) _ (at-n .n .given .1) in let e = c .before .if1 .left in omega arith)
+    (λ c.
+    let at-n = c .before .before .before .before in
+    let at-read-numbers = at-n .before .before .before .before in
+    let k = count-within asEquation _ _ _ (at-read-numbers .read-numbers .ensures) _ (at-n .n .given .1) in let e = c .before .before .if1 .left in omega arith)
     (λ c. search needs)
-    (λ c. equation-is _ _ _ (c .before .before .before .before .before .before .before .before .read-numbers .ensures) _ (c .before .before .before .before .n .given .1) (c .before .before .if1 .left)))
+    (λ c.
+    let at-n = c .before .before .before .before in
+    let at-read-numbers = at-n .before .before .before .before in
+    equation-is _ _ _ (at-read-numbers .read-numbers .ensures) _ (at-n .n .given .1) (c .before .before .if1 .left)))

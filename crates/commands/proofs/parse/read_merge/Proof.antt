@@ -13,11 +13,29 @@ read-merge-spec =
     (λ c. search needs)
     (λ c. search needs)
     (λ c. search needs)
-    (λ c. listed-bad asMerge _ _ _ (c .before .before .before .before .read-numbers .ensures) (c .enum-told .given .1))
+    (λ c.
+    let at-read-numbers = c .before .before .before .before in
+    listed-bad asMerge _ _ _ (at-read-numbers .read-numbers .ensures) (c .enum-told .given .1))
     (λ c. search needs)
-    (λ c. merge-not _ _ _ (c .before .before .before .before .before .before .read-numbers .ensures) _ (c .before .before .n .given .1) (c .if1 .taken))
-    (λ c. let k = count-within asMerge _ _ _ (c .before .before .before .before .before .before .before .read-numbers .ensures) _ (c .before .before .before .n .given .1) in let e = c .before .if1 .left in omega arith)
-    (λ c. let k = count-within asMerge _ _ _ (c .before .before .before .before .before .before .before .before .read-numbers .ensures) _ (c .before .before .before .before .n .given .1) in let e = c .before .before .if1 .left in omega arith)
-    (λ c. let k = count-within asMerge _ _ _ (c .before .before .before .before .before .before .before .before .before .read-numbers .ensures) _ (c .before .before .before .before .before .n .given .1) in let e = c .before .before .before .if1 .left in omega arith)
+    (λ c.
+    let at-read-numbers = c .before .before .before .before .before .before in
+    merge-not _ _ _ (at-read-numbers .read-numbers .ensures) _ (c .before .before .n .given .1) (c .if1 .taken))
+    (λ c.
+    let at-n = c .before .before .before in
+    let at-read-numbers = at-n .before .before .before .before in
+    let k = count-within asMerge _ _ _ (at-read-numbers .read-numbers .ensures) _ (at-n .n .given .1) in let e = c .before .if1 .left in omega arith)
+    (λ c.
+    let at-n = c .before .before .before .before in
+    let at-read-numbers = at-n .before .before .before .before in
+    let k = count-within asMerge _ _ _ (at-read-numbers .read-numbers .ensures) _ (at-n .n .given .1) in let e = c .before .before .if1 .left in omega arith)
+    (λ c.
+    let at-if1 = c .before .before .before in
+    let at-n = at-if1 .before .before in
+    let at-read-numbers = at-n .before .before .before .before in
+    let k = count-within asMerge _ _ _ (at-read-numbers .read-numbers .ensures) _ (at-n .n .given .1) in let e = at-if1 .if1 .left in omega arith)
     (λ c. search needs)
-    (λ c. merge-is _ _ _ (c .before .before .before .before .before .before .before .before .before .read-numbers .ensures) _ (c .before .before .before .before .before .n .given .1) (c .before .before .before .if1 .left)))
+    (λ c.
+    let at-if1 = c .before .before .before in
+    let at-n = at-if1 .before .before in
+    let at-read-numbers = at-n .before .before .before .before in
+    merge-is _ _ _ (at-read-numbers .read-numbers .ensures) _ (at-n .n .given .1) (at-if1 .if1 .left)))

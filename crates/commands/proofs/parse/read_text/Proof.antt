@@ -15,4 +15,7 @@ read-text-spec =
     (λ c. search needs)
     (λ c κs. search needs)
     (λ c. search needs)
-    (λ c. text-is _ _ (c .before .before .before .before .before .before .before .if1 .left) _ (c .before .before .before .before .before .if2 .left) (c .before .before .read-chars .ensures)))
+    (λ c.
+    let at-if2 = c .before .before .before .before .before in
+    let at-if1 = at-if2 .before .before in
+    text-is _ _ (at-if1 .if1 .left) _ (at-if2 .if2 .left) (c .before .before .read-chars .ensures)))

@@ -12,6 +12,10 @@ read-variable-spec =
     (λ c. search needs)
     (λ c. search needs)
     (λ c. search needs)
-    (λ c. listed-bad asVariable _ _ _ (c .before .before .before .before .read-text .ensures) (c .enum-told .given .1))
+    (λ c.
+    let at-read-text = c .before .before .before .before in
+    listed-bad asVariable _ _ _ (at-read-text .read-text .ensures) (c .enum-told .given .1))
     (λ c. search needs)
-    (λ c. listed-count asVariable _ _ _ (c .before .before .before .before .before .read-text .ensures) _ (c .before .n .given .1)))
+    (λ c.
+    let at-read-text = c .before .before .before .before .before in
+    listed-count asVariable _ _ _ (at-read-text .read-text .ensures) _ (c .before .n .given .1)))

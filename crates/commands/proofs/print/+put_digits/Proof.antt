@@ -62,9 +62,28 @@ pub +put-digits-spec : {M : Type 1} → statement M
     (λ c. search decimal-one)
     (λ c. search needs)
     (λ c κs. (omega arith, omega arith))
-    (λ c. let h = mod-lt (c .before .before .before .before .before .before .before .args .x) {m = 10} (omega arith) in record { fits = omega arith })
-    (λ c. let h = mod-lt (c .before .before .before .before .before .before .before .args .x) {m = 10} (omega arith) in record { fits = omega arith })
-    (λ c. let a = c .before .before .before .before .before .before .before .args in decimal-room (a .out .now) (c .before .before .put-digits .last .0) (a .at) (a .n) (a .x) (c .before .before .put-digits .result) (c .before .before .before .before .before .if1 .left) (c .before .before .before .before .before .before .before .pre .1) (c .before .before .put-digits .kept .0) (c .before .before .put-digits .ensures))
-    (λ c. let a = c .before .before .before .before .before .before .before .args in omega (arith, decimal-room (a .out .now) (c .before .before .put-digits .last .0) (a .at) (a .n) (a .x) (c .before .before .put-digits .result) (c .before .before .before .before .before .if1 .left) (c .before .before .before .before .before .before .before .pre .1) (c .before .before .put-digits .kept .0) (c .before .before .put-digits .ensures)))
+    (λ c.
+    let at-start = c .before .before .before .before .before .before .before in
+    let h = mod-lt (at-start .args .x) {m = 10} (omega arith) in record { fits = omega arith })
+    (λ c.
+    let at-start = c .before .before .before .before .before .before .before in
+    let h = mod-lt (at-start .args .x) {m = 10} (omega arith) in record { fits = omega arith })
+    (λ c.
+    let at-put-digits = c .before .before in
+    let at-if1 = at-put-digits .before .before .before in
+    let at-start = at-if1 .before .before in
+    let a = at-start .args in
+    decimal-room (a .out .now) (at-put-digits .put-digits .last .0) (a .at) (a .n) (a .x) (at-put-digits .put-digits .result) (at-if1 .if1 .left) (at-start .pre .1)
+    (at-put-digits .put-digits .kept .0) (at-put-digits .put-digits .ensures))
+    (λ c.
+    let at-put-digits = c .before .before in
+    let at-if1 = at-put-digits .before .before .before in
+    let at-start = at-if1 .before .before in
+    let a = at-start .args in
+    omega (
+      arith,
+      decimal-room (a .out .now) (at-put-digits .put-digits .last .0) (a .at) (a .n) (a .x) (at-put-digits .put-digits .result) (at-if1 .if1 .left) (at-start .pre .1)
+          (at-put-digits .put-digits .kept .0) (at-put-digits .put-digits .ensures),
+    ))
     (λ c. search needs)
     (λ c. search decimal-more)

@@ -19,8 +19,23 @@ guard-into-spec =
     (λ c κs. search needs)
     (λ c κs. simp length-set (omega arith))
     (λ c. c .before .before .put-digits .kept .0 ∙ simp length-set)
-    (λ c. guard-below (c .before .before .before .before .before .before .before .before .args .out .now) _ (c .before .before .before .before .before .before .before .before .args .g) _ _ (c .before .before .before .before .before .before .before .before .pre) (c .before .before .before .size-of .ensures ∙ ap natAbs (toZ-ofZ (c .before .before .before .before .before .before .before .before .fits .g))) _ (c .before .before .before .before .before .before .is-below .ensures ∙ ap isBelow (toZ-ofZ (c .before .before .before .before .before .before .before .before .fits .g))) (c .before .before .before .before .before .if1 .taken) (c .before .before .put-digits .kept .0) (c .before .before .put-digits .ensures))
+    (λ c.
+    let at-put-digits = c .before .before in
+    let at-size-of = at-put-digits .before in
+    let at-if1 = at-size-of .before .before in
+    let at-is-below = at-if1 .before in
+    let at-start = at-is-below .before .before in
+    guard-below (at-start .args .out .now) _ (at-start .args .g) _ _ (at-start .pre) (at-size-of .size-of .ensures ∙ ap natAbs (toZ-ofZ (at-start .fits .g))) _
+    (at-is-below .is-below .ensures ∙ ap isBelow (toZ-ofZ (at-start .fits .g))) (at-if1 .if1 .taken) (at-put-digits .put-digits .kept .0) (at-put-digits .put-digits .ensures))
     (λ c κs. search needs)
     (λ c κs. simp length-set (omega arith))
     (λ c. c .before .before .put-digits2 .kept .0 ∙ simp length-set)
-    (λ c. guard-above (c .before .before .before .before .before .before .before .before .args .out .now) _ (c .before .before .before .before .before .before .before .before .args .g) _ _ (c .before .before .before .before .before .before .before .before .pre) (c .before .before .before .size-of2 .ensures ∙ ap natAbs (toZ-ofZ (c .before .before .before .before .before .before .before .before .fits .g))) _ (c .before .before .before .before .before .before .is-below .ensures ∙ ap isBelow (toZ-ofZ (c .before .before .before .before .before .before .before .before .fits .g))) (c .before .before .before .before .before .if1 .left) (c .before .before .put-digits2 .kept .0) (c .before .before .put-digits2 .ensures)))
+    (λ c.
+    let at-put-digits2 = c .before .before in
+    let at-size-of2 = at-put-digits2 .before in
+    let at-if1 = at-size-of2 .before .before in
+    let at-is-below = at-if1 .before in
+    let at-start = at-is-below .before .before in
+    guard-above (at-start .args .out .now) _ (at-start .args .g) _ _ (at-start .pre) (at-size-of2 .size-of2 .ensures ∙ ap natAbs (toZ-ofZ (at-start .fits .g))) _
+    (at-is-below .is-below .ensures ∙ ap isBelow (toZ-ofZ (at-start .fits .g))) (at-if1 .if1 .left) (at-put-digits2 .put-digits2 .kept .0)
+    (at-put-digits2 .put-digits2 .ensures)))

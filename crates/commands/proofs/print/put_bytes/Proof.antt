@@ -20,9 +20,11 @@ put-bytes-spec =
     μ-loop
     (λ c. copying-none _ _)
     (λ c. search needs)
-    (λ c. let g = c .before .before .loop .inv .long in let t = c .before .loop-test .taken in let p = c .before .before .before .pre in omega arith)
+    (λ c.
+    let at-start = c .before .before .before in
+    let g = c .before .before .loop .inv .long in let t = c .before .loop-test .taken in let p = at-start .pre in omega arith)
     (λ c. search needs)
     (λ c. search needs)
-    (λ c. copying-one _ _ _ _ (c .before .before .loop .inv) (c .before .loop-test .taken) (c .before .before .before .pre))
+    (λ c. let at-start = c .before .before .before in copying-one _ _ _ _ (c .before .before .loop .inv) (c .before .loop-test .taken) (at-start .pre))
     (λ c. c .before .loop .inv .long)
     (λ c. copying-all _ _ _ _ (c .before .loop .inv) (c .loop-test .left) (c .before .before .pre)))

@@ -23,11 +23,36 @@ put-name-spec =
     (λ c κs. search needs)
     (λ c. search needs)
     (λ c κs. search needs)
-    (λ c. name-is _ (c .before .before .before .before .args .k) 0 _ (c .before .before .before .match .keys1) (c .put-bytes .ensures))
-    (λ c. name-is _ (c .before .before .before .before .args .k) 1 _ (c .before .before .before .match .keys2) (c .put-bytes2 .ensures))
-    (λ c. name-is _ (c .before .before .before .before .args .k) 2 _ (c .before .before .before .match .keys3) (c .put-bytes3 .ensures))
-    (λ c. name-is _ (c .before .before .before .before .args .k) 3 _ (c .before .before .before .match .keys4) (c .put-bytes4 .ensures))
-    (λ c. name-is _ (c .before .before .before .before .args .k) 4 _ (c .before .before .before .match .keys5) (c .put-bytes5 .ensures))
-    (λ c. name-is _ (c .before .before .before .before .args .k) 5 _ (c .before .before .before .match .keys6) (c .put-bytes6 .ensures))
-    (λ c. name-is _ (c .before .before .before .before .args .k) 6 _ (c .before .before .before .match .keys7) (c .put-bytes7 .ensures))
-    (λ c. other-name _ (c .before .before .before .before .args .k) _ (c .before .before .before .match .rest .0 .0 .0 .0 .0 .0 .1) (c .before .before .before .match .rest .0 .0 .0 .0 .0 .1) (c .before .before .before .match .rest .0 .0 .0 .0 .1) (c .before .before .before .match .rest .0 .0 .0 .1) (c .before .before .before .match .rest .0 .0 .1) (c .before .before .before .match .rest .0 .1) (c .before .before .before .match .rest .1) (c .put-bytes8 .ensures)))
+    (λ c.
+    let at-match = c .before .before .before in
+    let at-start = at-match .before in
+    name-is _ (at-start .args .k) 0 _ (at-match .match .keys1) (c .put-bytes .ensures))
+    (λ c.
+    let at-match = c .before .before .before in
+    let at-start = at-match .before in
+    name-is _ (at-start .args .k) 1 _ (at-match .match .keys2) (c .put-bytes2 .ensures))
+    (λ c.
+    let at-match = c .before .before .before in
+    let at-start = at-match .before in
+    name-is _ (at-start .args .k) 2 _ (at-match .match .keys3) (c .put-bytes3 .ensures))
+    (λ c.
+    let at-match = c .before .before .before in
+    let at-start = at-match .before in
+    name-is _ (at-start .args .k) 3 _ (at-match .match .keys4) (c .put-bytes4 .ensures))
+    (λ c.
+    let at-match = c .before .before .before in
+    let at-start = at-match .before in
+    name-is _ (at-start .args .k) 4 _ (at-match .match .keys5) (c .put-bytes5 .ensures))
+    (λ c.
+    let at-match = c .before .before .before in
+    let at-start = at-match .before in
+    name-is _ (at-start .args .k) 5 _ (at-match .match .keys6) (c .put-bytes6 .ensures))
+    (λ c.
+    let at-match = c .before .before .before in
+    let at-start = at-match .before in
+    name-is _ (at-start .args .k) 6 _ (at-match .match .keys7) (c .put-bytes7 .ensures))
+    (λ c.
+    let at-match = c .before .before .before in
+    let at-start = at-match .before in
+    other-name _ (at-start .args .k) _ (at-match .match .rest .0 .0 .0 .0 .0 .0 .1) (at-match .match .rest .0 .0 .0 .0 .0 .1) (at-match .match .rest .0 .0 .0 .0 .1)
+    (at-match .match .rest .0 .0 .0 .1) (at-match .match .rest .0 .0 .1) (at-match .match .rest .0 .1) (at-match .match .rest .1) (c .put-bytes8 .ensures)))

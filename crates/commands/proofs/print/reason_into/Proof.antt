@@ -15,4 +15,9 @@ reason-into-spec =
     (λ c. simp length-set (omega arith))
     (λ c κs. simp length-set (omega arith))
     (λ c. c .before .before .put-digits .kept .0 ∙ simp length-set)
-    (λ c. reason-put (c .before .before .before .before .before .before .args .out .now) _ (c .before .before .before .before .before .before .args .kind) (c .before .before .before .before .before .before .args .number) _ _ (c .before .before .before .before .before .before .pre) (c .before .before .put-digits .kept .0) (c .before .before .before .before .reason-letter .ensures) (c .before .before .put-digits .ensures)))
+    (λ c.
+    let at-put-digits = c .before .before in
+    let at-reason-letter = at-put-digits .before .before in
+    let at-start = at-reason-letter .before .before in
+    reason-put (at-start .args .out .now) _ (at-start .args .kind) (at-start .args .number) _ _ (at-start .pre) (at-put-digits .put-digits .kept .0)
+    (at-reason-letter .reason-letter .ensures) (at-put-digits .put-digits .ensures)))

@@ -8,9 +8,9 @@ size-of-spec =
     tie.close
     (tie.spec
     (λ c κs. search needs)
-    (λ c. size-sub (c .before .before .args .g) (c .before .before .fits .g) _ (c .before .is-below .ensures) (c .if1 .taken))
-    (λ c. size-cast (c .before .before .args .g) (c .before .before .fits .g) _ (c .before .is-below .ensures) (c .if1 .taken))
-    (λ c. size-add (c .before .before .args .g) (c .before .before .fits .g) _ (c .before .is-below .ensures) (c .if1 .taken))
-    (λ c. size-is (c .before .before .args .g) (c .before .before .fits .g) _ (c .before .is-below .ensures) (c .if1 .taken))
-    (λ c. size-up (c .before .before .args .g) (c .before .before .fits .g) _ (c .before .is-below .ensures) (c .if1 .left))
+    (λ c. let at-start = c .before .before in size-sub (at-start .args .g) (at-start .fits .g) _ (c .before .is-below .ensures) (c .if1 .taken))
+    (λ c. let at-start = c .before .before in size-cast (at-start .args .g) (at-start .fits .g) _ (c .before .is-below .ensures) (c .if1 .taken))
+    (λ c. let at-start = c .before .before in size-add (at-start .args .g) (at-start .fits .g) _ (c .before .is-below .ensures) (c .if1 .taken))
+    (λ c. let at-start = c .before .before in size-is (at-start .args .g) (at-start .fits .g) _ (c .before .is-below .ensures) (c .if1 .taken))
+    (λ c. let at-start = c .before .before in size-up (at-start .args .g) (at-start .fits .g) _ (c .before .is-below .ensures) (c .if1 .left))
     (λ c. search needs))

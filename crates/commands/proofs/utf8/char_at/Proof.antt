@@ -15,4 +15,9 @@ char-at-spec =
     (λ c. search needs)
     (λ c κs. search needs)
     (λ c κs. search needs)
-    (λ c. char-at (c .before .before .before .before .before .before .args .s .now) (c .before .before .before .before .before .before .args .at) _ _ _ _ _ (c .before .before .before .before .byte .ensures) (c .before .before .before .byte2 .ensures) (c .before .before .byte3 .ensures) (c .before .byte4 .ensures) (c .char-by .ensures)))
+    (λ c.
+    let at-byte2 = c .before .before .before in
+    let at-byte = at-byte2 .before in
+    let at-start = at-byte .before .before in
+    char-at (at-start .args .s .now) (at-start .args .at) _ _ _ _ _ (at-byte .byte .ensures) (at-byte2 .byte2 .ensures) (c .before .before .byte3 .ensures)
+    (c .before .byte4 .ensures) (c .char-by .ensures)))

@@ -8,11 +8,21 @@ char-by-spec =
     tie.close
     (tie.spec
     (λ c. by-one (c .before .args .a) (c .before .args .b) (c .before .args .c) (c .before .args .d) (c .if1 .taken))
-    (λ c. by-none (c .before .before .args .a) (c .before .before .args .b) (c .before .before .args .c) (c .before .before .args .d) (c .before .if1 .left) (c .if2 .taken))
+    (λ c.
+    let at-start = c .before .before in
+    by-none (at-start .args .a) (at-start .args .b) (at-start .args .c) (at-start .args .d) (c .before .if1 .left) (c .if2 .taken))
     (λ c κs. search needs)
-    (λ c. by-two (c .before .before .before .before .args .a) (c .before .before .before .before .args .b) (c .before .before .before .before .args .c) (c .before .before .before .before .args .d) _ (c .two-bytes .ensures) (c .before .before .if2 .left) (c .before .if3 .taken))
+    (λ c.
+    let at-start = c .before .before .before .before in
+    by-two (at-start .args .a) (at-start .args .b) (at-start .args .c) (at-start .args .d) _ (c .two-bytes .ensures) (c .before .before .if2 .left) (c .before .if3 .taken))
     (λ c κs. search needs)
-    (λ c. by-three (c .before .before .before .before .before .args .a) (c .before .before .before .before .before .args .b) (c .before .before .before .before .before .args .c) (c .before .before .before .before .before .args .d) _ (c .three-bytes .ensures) (c .before .before .if3 .left) (c .before .if4 .taken))
+    (λ c.
+    let at-start = c .before .before .before .before .before in
+    by-three (at-start .args .a) (at-start .args .b) (at-start .args .c) (at-start .args .d) _ (c .three-bytes .ensures) (c .before .before .if3 .left) (c .before .if4 .taken))
     (λ c κs. search needs)
-    (λ c. by-four (c .before .before .before .before .before .before .args .a) (c .before .before .before .before .before .before .args .b) (c .before .before .before .before .before .before .args .c) (c .before .before .before .before .before .before .args .d) _ (c .four-bytes .ensures) (c .before .before .if4 .left) (c .before .if5 .taken))
-    (λ c. by-more (c .before .before .before .before .before .args .a) (c .before .before .before .before .before .args .b) (c .before .before .before .before .before .args .c) (c .before .before .before .before .before .args .d) (c .if5 .left)))
+    (λ c.
+    let at-start = c .before .before .before .before .before .before in
+    by-four (at-start .args .a) (at-start .args .b) (at-start .args .c) (at-start .args .d) _ (c .four-bytes .ensures) (c .before .before .if4 .left) (c .before .if5 .taken))
+    (λ c.
+    let at-start = c .before .before .before .before .before in
+    by-more (at-start .args .a) (at-start .args .b) (at-start .args .c) (at-start .args .d) (c .if5 .left)))

@@ -14,15 +14,42 @@ four-bytes-spec =
     tie.close
     (tie.spec
     (λ c κs. search needs)
-    (λ c. unshaped _ _ _ _ (sym (three-1 (isNext (c .before .before .args .b)) (isNext (c .before .before .args .c)) (isNext (c .before .before .args .d)) (failed _ _ (c .before .is-next .ensures) (c .if1 .taken)))))
+    (λ c.
+    let at-start = c .before .before in
+    unshaped _ _ _ _
+    (sym (three-1 (isNext (at-start .args .b)) (isNext (at-start .args .c)) (isNext (at-start .args .d)) (failed _ _ (c .before .is-next .ensures) (c .if1 .taken)))))
     (λ c κs. search needs)
-    (λ c. unshaped _ _ _ _ (sym (three-2 (isNext (c .before .before .before .before .args .b)) (isNext (c .before .before .before .before .args .c)) (isNext (c .before .before .before .before .args .d)) (failed _ _ (c .before .is-next2 .ensures) (c .if2 .taken)))))
+    (λ c.
+    let at-start = c .before .before .before .before in
+    unshaped _ _ _ _
+    (sym (three-2 (isNext (at-start .args .b)) (isNext (at-start .args .c)) (isNext (at-start .args .d)) (failed _ _ (c .before .is-next2 .ensures) (c .if2 .taken)))))
     (λ c κs. search needs)
-    (λ c. unshaped _ _ _ _ (sym (three-3 (isNext (c .before .before .before .before .before .before .args .b)) (isNext (c .before .before .before .before .before .before .args .c)) (isNext (c .before .before .before .before .before .before .args .d)) (failed _ _ (c .before .is-next3 .ensures) (c .if3 .taken)))))
+    (λ c.
+    let at-start = c .before .before .before .before .before .before in
+    unshaped _ _ _ _
+    (sym (three-3 (isNext (at-start .args .b)) (isNext (at-start .args .c)) (isNext (at-start .args .d)) (failed _ _ (c .before .is-next3 .ensures) (c .if3 .taken)))))
     (λ c. search needs)
     (λ c. search needs)
     (λ c κs. search needs)
     (λ c κs. let e = c .six-more .ensures in omega arith)
     (λ c κs. let e = c .before .six-more .ensures in let f = c .six-more2 .ensures in omega arith)
     (λ c κs. search needs)
-    (λ c. shaped-by _ _ _ _ _ (sym (three-last (isNext (c .before .before .before .before .before .before .before .before .before .before .args .b)) (isNext (c .before .before .before .before .before .before .before .before .before .before .args .c)) (isNext (c .before .before .before .before .before .before .before .before .before .before .args .d)) true (passed _ _ (c .before .before .before .before .before .before .before .before .before .is-next .ensures) (c .before .before .before .before .before .before .before .before .if1 .left)) (passed _ _ (c .before .before .before .before .before .before .before .is-next2 .ensures) (c .before .before .before .before .before .before .if2 .left)) (sym (passed _ _ (c .before .before .before .before .before .is-next3 .ensures) (c .before .before .before .before .if3 .left))))) (c .shape .ensures ∙ ap (shaped 4 0x1_0000 true) (c .before .six-more3 .ensures ∙ ap (λ (x : ℕ). sixMore x (c .before .before .before .before .before .before .before .before .before .before .args .d)) (c .before .before .six-more2 .ensures ∙ ap (λ (x : ℕ). sixMore x (c .before .before .before .before .before .before .before .before .before .before .args .c)) (c .before .before .before .six-more .ensures))))))
+    (λ c.
+    let at-six-more = c .before .before .before in
+    let at-if3 = at-six-more .before in
+    let at-is-next3 = at-if3 .before in
+    let at-if2 = at-is-next3 .before in
+    let at-is-next2 = at-if2 .before in
+    let at-if1 = at-is-next2 .before in
+    let at-is-next = at-if1 .before in
+    let at-start = at-is-next .before in
+    shaped-by _ _ _ _ _
+    (sym
+    (three-last (isNext (at-start .args .b)) (isNext (at-start .args .c)) (isNext (at-start .args .d)) true
+    (passed _ _ (at-is-next .is-next .ensures) (at-if1 .if1 .left)) (passed _ _ (at-is-next2 .is-next2 .ensures) (at-if2 .if2 .left))
+    (sym (passed _ _ (at-is-next3 .is-next3 .ensures) (at-if3 .if3 .left)))))
+    (c .shape .ensures
+    ∙ ap (shaped 4 0x1_0000 true)
+    (c .before .six-more3 .ensures
+    ∙ ap (λ (x : ℕ). sixMore x (at-start .args .d))
+    (c .before .before .six-more2 .ensures ∙ ap (λ (x : ℕ). sixMore x (at-start .args .c)) (at-six-more .six-more .ensures))))))

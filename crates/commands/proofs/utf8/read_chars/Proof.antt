@@ -22,13 +22,36 @@ read-chars-spec =
     (λ c κs. search needs)
     (λ c. search needs)
     (λ c. search needs)
-    (λ c. c .before .before .before .before .loop .inv .filled .long)
-    (λ c. decoded-bad _ _ _ _ _ (c .before .before .before .before .loop .inv) (c .before .before .before .loop-test .taken) _ (c .before .before .char-at .ensures) (c .enum-told .given .1))
+    (λ c. let at-loop = c .before .before .before .before in at-loop .loop .inv .filled .long)
+    (λ c.
+    let at-loop-test = c .before .before .before in
+    let at-loop = at-loop-test .before in
+    decoded-bad _ _ _ _ _ (at-loop .loop .inv) (at-loop-test .loop-test .taken) _ (c .before .before .char-at .ensures) (c .enum-told .given .1))
     (λ c. search needs)
-    (λ c. let a = c .before .before .before .before .before .loop .inv .low in let b = c .before .before .before .before .before .loop .inv .filled .long in let p = c .before .before .before .before .before .before .before .before .pre .1 in let t = c .before .before .before .before .loop-test .taken in omega arith)
-    (λ c. let a = c .before .before .before .before .before .loop .inv .low in let t = c .before .before .before .before .loop-test .taken in let p = c .before .before .before .before .before .before .before .before .pre .0 in omega arith)
-    (λ c. let z = char-size _ _ _ _ (c .before .before .before .char-at .ensures) (c .before .k .given .1) in let t = c .before .before .before .before .loop-test .taken in let p = c .before .before .before .before .before .before .before .before .pre .0 in omega arith)
-    (λ c. let z = char-size _ _ _ _ (c .before .before .before .char-at .ensures) (c .before .k .given .1) in let t = c .before .before .before .before .loop-test .taken in omega arith)
-    (λ c. decoded-one _ _ _ _ _ (c .before .before .before .before .before .loop .inv) (c .before .before .before .before .loop-test .taken) _ _ _ (c .before .before .before .before .before .before .before .before .pre .1) (c .before .before .before .char-at .ensures) (c .before .k .given .1))
+    (λ c.
+    let at-loop-test = c .before .before .before .before in
+    let at-loop = at-loop-test .before in
+    let at-start = at-loop .before .before .before in
+    let a = at-loop .loop .inv .low in let b = at-loop .loop .inv .filled .long in let p = at-start .pre .1 in let t = at-loop-test .loop-test .taken in omega arith)
+    (λ c.
+    let at-loop-test = c .before .before .before .before in
+    let at-loop = at-loop-test .before in
+    let at-start = at-loop .before .before .before in
+    let a = at-loop .loop .inv .low in let t = at-loop-test .loop-test .taken in let p = at-start .pre .0 in omega arith)
+    (λ c.
+    let at-char-at = c .before .before .before in
+    let at-loop-test = at-char-at .before in
+    let at-start = at-loop-test .before .before .before .before in
+    let z = char-size _ _ _ _ (at-char-at .char-at .ensures) (c .before .k .given .1) in let t = at-loop-test .loop-test .taken in let p = at-start .pre .0 in omega arith)
+    (λ c.
+    let at-char-at = c .before .before .before in
+    let at-loop-test = at-char-at .before in
+    let z = char-size _ _ _ _ (at-char-at .char-at .ensures) (c .before .k .given .1) in let t = at-loop-test .loop-test .taken in omega arith)
+    (λ c.
+    let at-char-at = c .before .before .before in
+    let at-loop-test = at-char-at .before in
+    let at-loop = at-loop-test .before in
+    let at-start = at-loop .before .before .before in
+    decoded-one _ _ _ _ _ (at-loop .loop .inv) (at-loop-test .loop-test .taken) _ _ _ (at-start .pre .1) (at-char-at .char-at .ensures) (c .before .k .given .1))
     (λ c. c .before .loop .inv .filled .long)
-    (λ c. decoded-all _ _ _ _ _ (c .before .loop .inv) (c .loop-test .left) (c .before .before .before .before .pre .1)))
+    (λ c. let at-start = c .before .before .before .before in decoded-all _ _ _ _ _ (c .before .loop .inv) (c .loop-test .left) (at-start .pre .1)))

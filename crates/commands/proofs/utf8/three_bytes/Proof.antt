@@ -17,12 +17,27 @@ three-bytes-spec =
     tie.close
     (tie.spec
     (λ c κs. search needs)
-    (λ c. unshaped 3 0x800 (isNext (c .before .before .args .b) && isNext (c .before .before .args .c)) (sixMore (sixMore (c .before .before .args .a - 0xE0) (c .before .before .args .b)) (c .before .before .args .c)) (left-false (isNext (c .before .before .args .b)) (isNext (c .before .before .args .c)) (failed _ _ (c .before .is-next .ensures) (c .if1 .taken))))
+    (λ c.
+    let at-start = c .before .before in
+    unshaped 3 0x800 (isNext (at-start .args .b) && isNext (at-start .args .c)) (sixMore (sixMore (at-start .args .a - 0xE0) (at-start .args .b)) (at-start .args .c))
+    (left-false (isNext (at-start .args .b)) (isNext (at-start .args .c)) (failed _ _ (c .before .is-next .ensures) (c .if1 .taken))))
     (λ c κs. search needs)
-    (λ c. unshaped 3 0x800 (isNext (c .before .before .before .before .args .b) && isNext (c .before .before .before .before .args .c)) (sixMore (sixMore (c .before .before .before .before .args .a - 0xE0) (c .before .before .before .before .args .b)) (c .before .before .before .before .args .c)) (right-false (isNext (c .before .before .before .before .args .b)) (isNext (c .before .before .before .before .args .c)) (failed _ _ (c .before .is-next2 .ensures) (c .if2 .taken))))
+    (λ c.
+    let at-start = c .before .before .before .before in
+    unshaped 3 0x800 (isNext (at-start .args .b) && isNext (at-start .args .c)) (sixMore (sixMore (at-start .args .a - 0xE0) (at-start .args .b)) (at-start .args .c))
+    (right-false (isNext (at-start .args .b)) (isNext (at-start .args .c)) (failed _ _ (c .before .is-next2 .ensures) (c .if2 .taken))))
     (λ c. search needs)
     (λ c. search needs)
     (λ c κs. search needs)
     (λ c κs. let e = c .six-more .ensures in omega arith)
     (λ c κs. search needs)
-    (λ c. shaped-by 3 0x800 (isNext (c .before .before .before .before .before .before .before .args .b) && isNext (c .before .before .before .before .before .before .before .args .c)) (sixMore (sixMore (c .before .before .before .before .before .before .before .args .a - 0xE0) (c .before .before .before .before .before .before .before .args .b)) (c .before .before .before .before .before .before .before .args .c)) _ (both-true (isNext (c .before .before .before .before .before .before .before .args .b)) (isNext (c .before .before .before .before .before .before .before .args .c)) (passed _ _ (c .before .before .before .before .before .before .is-next .ensures) (c .before .before .before .before .before .if1 .left)) (passed _ _ (c .before .before .before .before .is-next2 .ensures) (c .before .before .before .if2 .left))) (c .shape .ensures ∙ ap (shaped 3 0x800 true) (c .before .six-more2 .ensures ∙ ap (λ (x : ℕ). sixMore x (c .before .before .before .before .before .before .before .args .c)) (c .before .before .six-more .ensures)))))
+    (λ c.
+    let at-if2 = c .before .before .before in
+    let at-is-next2 = at-if2 .before in
+    let at-if1 = at-is-next2 .before in
+    let at-is-next = at-if1 .before in
+    let at-start = at-is-next .before in
+    shaped-by 3 0x800 (isNext (at-start .args .b) && isNext (at-start .args .c)) (sixMore (sixMore (at-start .args .a - 0xE0) (at-start .args .b)) (at-start .args .c)) _
+    (both-true (isNext (at-start .args .b)) (isNext (at-start .args .c)) (passed _ _ (at-is-next .is-next .ensures) (at-if1 .if1 .left))
+    (passed _ _ (at-is-next2 .is-next2 .ensures) (at-if2 .if2 .left)))
+    (c .shape .ensures ∙ ap (shaped 3 0x800 true) (c .before .six-more2 .ensures ∙ ap (λ (x : ℕ). sixMore x (at-start .args .c)) (c .before .before .six-more .ensures)))))

@@ -17,4 +17,6 @@ two-bytes-spec =
     (λ c. search needs)
     (λ c κs. search needs)
     (λ c κs. search needs)
-    (λ c. shaped-by _ _ _ _ _ (passed _ _ (c .before .before .before .is-next .ensures) (c .before .before .if1 .left)) (c .shape .ensures ∙ ap (shaped 2 0x80 true) (c .before .six-more .ensures))))
+    (λ c.
+    let at-is-next = c .before .before .before in
+    shaped-by _ _ _ _ _ (passed _ _ (at-is-next .is-next .ensures) (c .before .before .if1 .left)) (c .shape .ensures ∙ ap (shaped 2 0x80 true) (c .before .six-more .ensures))))

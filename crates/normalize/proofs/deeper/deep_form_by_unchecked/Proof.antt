@@ -16,16 +16,49 @@ deep-form-by-unchecked-spec =
     (λ c. search needs)
     (λ c. search needs)
     (λ c. search needs)
-    (λ c. deep-long (c .before .before .before .before .before .before .before .before .before .before .before .before .before .before .before .before .before .before .before .before .before .before .before .before .pre .0) _ _ (c .before .before .before .before .before .before .before .before .before .before .before .before .before .before .before .before .before .before .before .before .before .before .before .before .pre .1 .0) _ (c .before .before .before .before .before .before .before .before .before .before .before .before .before .before .before .before .before .before .before .before .before .before .before .before .pre .1 .1 .0) (c .before .before .before .before .before .before .before .before .before .before .before .before .form-by .last .1 .1 .1 .1 .1 .1 .1 .1 .1 .0) (c .before .before .before .before .before .before .before .before .before .before .before .before .form-by .result) (c .before .before .before .before .before .before .before .before .before .before .before .before .form-by .ensures) _ _ (c .before .before .made .given .1) (c .if1 .taken))
-    (λ c κs. (carried-ready (deep-carried (c .before .before .before .before .before .before .before .before .before .before .before .before .before .before .before .before .before .before .before .before .before .before .before .before .before .before .before .before .pre .0) _ _ (c .before .before .before .before .before .before .before .before .before .before .before .before .before .before .before .before .before .before .before .before .before .before .before .before .before .before .before .before .pre .1 .0) _ (c .before .before .before .before .before .before .before .before .before .before .before .before .before .before .before .before .before .before .before .before .before .before .before .before .before .before .before .before .pre .1 .1 .0) (c .before .before .before .before .before .before .before .before .before .before .before .before .before .before .before .before .form-by .last .1 .1 .1 .1 .1 .1 .1 .1 .1 .0) (c .before .before .before .before .before .before .before .before .before .before .before .before .before .before .before .before .form-by .result) (c .before .before .before .before .before .before .before .before .before .before .before .before .before .before .before .before .form-by .ensures) _ _ (c .before .before .before .before .before .before .made .given .1) (c .before .before .before .before .before .before .before .before .before .before .before .before .before .before .before .before .form-by .kept .0) refl) (c .before .before .before .before .before .before .before .before .before .before .before .before .before .before .before .before .before .before .before .before .before .before .before .before .before .before .before .before .pre .0), (deep-candidates (c .before .before .before .before .before .before .before .before .before .before .before .before .before .before .before .before .before .before .before .before .before .before .before .before .before .before .before .before .pre .0) _ _ (c .before .before .before .before .before .before .before .before .before .before .before .before .before .before .before .before .before .before .before .before .before .before .before .before .before .before .before .before .pre .1 .0) _ (c .before .before .before .before .before .before .before .before .before .before .before .before .before .before .before .before .before .before .before .before .before .before .before .before .before .before .before .before .pre .1 .1 .0) (c .before .before .before .before .before .before .before .before .before .before .before .before .before .before .before .before .form-by .last .1 .1 .1 .1 .1 .1 .1 .1 .1 .0) (c .before .before .before .before .before .before .before .before .before .before .before .before .before .before .before .before .form-by .result) (c .before .before .before .before .before .before .before .before .before .before .before .before .before .before .before .before .form-by .ensures) _ _ (c .before .before .before .before .before .before .made .given .1), (deep-strings (c .before .before .before .before .before .before .before .before .before .before .before .before .before .before .before .before .before .before .before .before .before .before .before .before .before .before .before .before .pre .0) _ _ (c .before .before .before .before .before .before .before .before .before .before .before .before .before .before .before .before .before .before .before .before .before .before .before .before .before .before .before .before .pre .1 .0) _ (c .before .before .before .before .before .before .before .before .before .before .before .before .before .before .before .before .before .before .before .before .before .before .before .before .before .before .before .before .pre .1 .1 .0) (c .before .before .before .before .before .before .before .before .before .before .before .before .before .before .before .before .form-by .last .1 .1 .1 .1 .1 .1 .1 .1 .1 .0) (c .before .before .before .before .before .before .before .before .before .before .before .before .before .before .before .before .form-by .result) (c .before .before .before .before .before .before .before .before .before .before .before .before .before .before .before .before .form-by .ensures) _ _ (c .before .before .before .before .before .before .made .given .1), (c .before .before .before .before .if1 .left, (let e = c .before .before .before .before .before .before .before .before .before .before .before .before .before .before .before .before .form-by .kept .1 .1 .1 .1 .1 .1 .1 .1 .1 .0 in let p = c .before .before .before .before .before .before .before .before .before .before .before .before .before .before .before .before .before .before .before .before .before .before .before .before .before .before .before .before .pre .1 .1 .1 in omega arith))))))
+    (λ c.
+    let at-form-by = c .before .before .before .before .before .before .before .before .before .before .before .before in
+    let at-start = at-form-by .before .before .before .before .before .before .before .before .before .before .before .before in
+    deep-long (at-start .pre .0) _ _ (at-start .pre .1 .0) _ (at-start .pre .1 .1 .0) (at-form-by .form-by .last .1 .1 .1 .1 .1 .1 .1 .1 .1 .0) (at-form-by .form-by .result)
+    (at-form-by .form-by .ensures) _ _ (c .before .before .made .given .1) (c .if1 .taken))
+    (λ c κs.
+    let at-if1 = c .before .before .before .before in
+    let at-made = at-if1 .before .before in
+    let at-form-by = at-made .before .before .before .before .before .before .before .before .before .before in
+    let at-start = at-form-by .before .before .before .before .before .before .before .before .before .before .before .before in (
+      carried-ready
+          (deep-carried (at-start .pre .0) _ _ (at-start .pre .1 .0) _ (at-start .pre .1 .1 .0) (at-form-by .form-by .last .1 .1 .1 .1 .1 .1 .1 .1 .1 .0)
+          (at-form-by .form-by .result) (at-form-by .form-by .ensures) _ _ (at-made .made .given .1) (at-form-by .form-by .kept .0) refl)
+          (at-start .pre .0),
+      (
+        deep-candidates (at-start .pre .0) _ _ (at-start .pre .1 .0) _ (at-start .pre .1 .1 .0) (at-form-by .form-by .last .1 .1 .1 .1 .1 .1 .1 .1 .1 .0)
+            (at-form-by .form-by .result) (at-form-by .form-by .ensures) _ _ (at-made .made .given .1),
+        (
+          deep-strings (at-start .pre .0) _ _ (at-start .pre .1 .0) _ (at-start .pre .1 .1 .0) (at-form-by .form-by .last .1 .1 .1 .1 .1 .1 .1 .1 .1 .0)
+              (at-form-by .form-by .result) (at-form-by .form-by .ensures) _ _ (at-made .made .given .1),
+          (at-if1 .if1 .left, (let e = at-form-by .form-by .kept .1 .1 .1 .1 .1 .1 .1 .1 .1 .0 in let p = at-start .pre .1 .1 .1 in omega arith)),
+        ),
+      ),
+    ))
     (λ c. search needs)
     (λ c. search needs)
     (λ c. search needs)
     (λ c. search needs)
     (λ c. search needs)
-    (λ c. deep-done (c .before .before .before .before .before .before .before .before .before .before .before .before .before .before .before .before .before .before .before .before .before .before .before .before .before .before .before .before .before .before .before .before .before .before .before .before .before .pre .0) _ _ (c .before .before .before .before .before .before .before .before .before .before .before .before .before .before .before .before .before .before .before .before .before .before .before .before .before .before .before .before .before .before .before .before .before .before .before .before .before .pre .1 .0) _ (c .before .before .before .before .before .before .before .before .before .before .before .before .before .before .before .before .before .before .before .before .before .before .before .before .before .before .before .before .before .before .before .before .before .before .before .before .before .pre .1 .1 .0) (c .before .before .before .before .before .before .before .before .before .before .before .before .before .before .before .before .before .before .before .before .before .before .before .before .before .form-by .last .1 .1 .1 .1 .1 .1 .1 .1 .1 .0) (c .before .before .before .before .before .before .before .before .before .before .before .before .before .before .before .before .before .before .before .before .before .before .before .before .before .form-by .result) (c .before .before .before .before .before .before .before .before .before .before .before .before .before .before .before .before .before .before .before .before .before .before .before .before .before .form-by .ensures) _ _ (c .before .before .before .before .before .before .before .before .before .before .before .before .before .before .before .made .given .1) (c .before .before .before .before .before .before .before .before .before .before .before .before .before .before .before .before .before .before .before .before .before .before .before .before .before .form-by .kept .0) refl (c .before .before .before .before .before .before .before .before .before .before .before .before .before .if1 .left) (c .before .before .before .before .before .before .before .before .rounds .ensures))
+    (λ c.
+    let at-rounds = c .before .before .before .before .before .before .before .before in
+    let at-if1 = at-rounds .before .before .before .before .before in
+    let at-made = at-if1 .before .before in
+    let at-form-by = at-made .before .before .before .before .before .before .before .before .before .before in
+    let at-start = at-form-by .before .before .before .before .before .before .before .before .before .before .before .before in
+    deep-done (at-start .pre .0) _ _ (at-start .pre .1 .0) _ (at-start .pre .1 .1 .0) (at-form-by .form-by .last .1 .1 .1 .1 .1 .1 .1 .1 .1 .0) (at-form-by .form-by .result)
+    (at-form-by .form-by .ensures) _ _ (at-made .made .given .1) (at-form-by .form-by .kept .0) refl (at-if1 .if1 .left) (at-rounds .rounds .ensures))
     (λ c. search needs)
     (λ c. search needs)
     (λ c. search needs)
     (λ c. search needs)
-    (λ c. deep-stopped (c .before .before .before .before .before .before .before .before .before .before .before .before .before .before .before .before .before .before .before .before .before .before .before .pre .0) _ _ (c .before .before .before .before .before .before .before .before .before .before .before .before .before .before .before .before .before .before .before .before .before .before .before .pre .1 .0) _ (c .before .before .before .before .before .before .before .before .before .before .before .before .before .before .before .before .before .before .before .before .before .before .before .pre .1 .1 .0) (c .before .before .before .before .before .before .before .before .before .before .before .form-by .last .1 .1 .1 .1 .1 .1 .1 .1 .1 .0) (c .before .before .before .before .before .before .before .before .before .before .before .form-by .result) (c .before .before .before .before .before .before .before .before .before .before .before .form-by .ensures) _ (c .before .made2 .given .1)))
+    (λ c.
+    let at-form-by = c .before .before .before .before .before .before .before .before .before .before .before in
+    let at-start = at-form-by .before .before .before .before .before .before .before .before .before .before .before .before in
+    deep-stopped (at-start .pre .0) _ _ (at-start .pre .1 .0) _ (at-start .pre .1 .1 .0) (at-form-by .form-by .last .1 .1 .1 .1 .1 .1 .1 .1 .1 .0) (at-form-by .form-by .result)
+    (at-form-by .form-by .ensures) _ (c .before .made2 .given .1)))

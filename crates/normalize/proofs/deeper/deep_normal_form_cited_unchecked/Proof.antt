@@ -7,8 +7,18 @@ pub deep-normal-form-cited-unchecked-spec : {M : Type 1} → statement M
 deep-normal-form-cited-unchecked-spec =
     tie.close
     (tie.spec
-    (λ c κs. (c .before .before .before .before .before .before .before .before .before .before .pre .0, known-list (c .before .before .before .before .before .before .before .before .before .before .pre .0) (c .before .before .before .before .before .before .before .before .before .before .args .known .now) (c .before .before .before .before .before .before .before .before .before .before .args .t) (c .before .before .before .before .before .before .before .before .before .before .pre .1 .0)))
-    (λ c κs. (c .before .before .before .before .before .before .before .before .before .before .before .before .before .before .before .before .pre .0, (c .before .before .before .before .before .known-table-unchecked .ensures, (term-string (c .before .before .before .before .before .before .before .before .before .before .before .before .before .before .before .before .pre .0) (c .before .before .before .before .before .before .before .before .before .before .before .before .before .before .before .before .args .known .now) (c .before .before .before .before .before .before .before .before .before .before .before .before .before .before .before .before .args .t) (c .before .before .before .before .before .before .before .before .before .before .before .before .before .before .before .before .pre .1 .0), c .before .before .before .before .before .before .before .before .before .before .before .before .before .before .before .before .pre .1 .1))))
+    (λ c κs.
+    let at-start = c .before .before .before .before .before .before .before .before .before .before in
+    (at-start .pre .0, known-list (at-start .pre .0) (at-start .args .known .now) (at-start .args .t) (at-start .pre .1 .0)))
+    (λ c κs.
+    let at-known-table-unchecked = c .before .before .before .before .before in
+    let at-start = at-known-table-unchecked .before .before .before .before .before .before .before .before .before .before .before in (
+      at-start .pre .0,
+      (
+        at-known-table-unchecked .known-table-unchecked .ensures,
+        (term-string (at-start .pre .0) (at-start .args .known .now) (at-start .args .t) (at-start .pre .1 .0), at-start .pre .1 .1),
+      ),
+    ))
     (λ c. search needs)
     (λ c. search needs)
     (λ c. search needs)

@@ -21,20 +21,53 @@ push-all-spec =
     (tie.spec
     Inv-loop
     μ-loop
-    (λ c. (omega arith, refl, refl, refl, heaping-none _ _ (c .before .before .before .before .before .before .before .pre .0)))
+    (λ c.
+    let at-start = c .before .before .before .before .before .before .before in
+    (omega arith, refl, refl, refl, heaping-none _ _ (at-start .pre .0)))
     (λ c. search needs)
     (λ c. search needs)
-    (λ c κs. (heap-ready (c .before .before .before .before .before .before .before .before .before .before .before .before .before .args .next .now) (c .before .before .before .before .before .before .before .before .before .before .before .before .before .args .k) (c .before .before .before .before .before .loop .inv .4) (c .before .before .before .before .before .before .before .before .before .before .before .before .before .pre .0) (c .before .before .before .before .before .before .before .before .before .before .before .before .before .pre .1 .0) (c .before .before .before .before .loop-test .taken), ((let h = c .before .before .before .before .loop-test .taken in let l = c .before .before .before .before .before .loop .inv .4 .low in let p = c .before .before .before .before .before .before .before .before .before .before .before .before .before .pre .1 .1 .1 .0 in omega arith), (let l = c .before .before .before .before .before .loop .inv .3 in let p = c .before .before .before .before .before .before .before .before .before .before .before .before .before .pre .1 .1 .1 .1 in omega arith))))
+    (λ c κs.
+    let at-loop-test = c .before .before .before .before in
+    let at-loop = at-loop-test .before in
+    let at-start = at-loop .before .before .before .before .before .before .before .before in (
+      heap-ready (at-start .args .next .now) (at-start .args .k) (at-loop .loop .inv .4) (at-start .pre .0) (at-start .pre .1 .0) (at-loop-test .loop-test .taken),
+      (
+        (let h = at-loop-test .loop-test .taken in let l = at-loop .loop .inv .4 .low in let p = at-start .pre .1 .1 .1 .0 in omega arith),
+        (let l = at-loop .loop .inv .3 in let p = at-start .pre .1 .1 .1 .1 in omega arith),
+      ),
+    ))
     (λ c. search needs)
     (λ c. search needs)
     (λ c. search needs)
     (λ c. search needs)
     (λ c. search needs)
-    (λ c. heaping-stopped (c .before .before .before .before .before .before .before .before .before .before .before .before .before .before .before .before .before .before .before .before .before .before .before .args .next .now) (c .before .before .before .before .before .before .before .before .before .before .before .before .before .before .before .before .before .before .before .before .before .before .before .args .k) (c .before .before .before .before .before .before .before .before .before .before .before .before .before .before .before .loop .inv .4) (c .before .before .before .before .before .before .before .before .before .before .before .before .before .before .before .before .before .before .before .before .before .before .before .pre .0) (c .before .before .before .before .before .before .before .before .before .before .before .before .before .before .before .before .before .before .before .before .before .before .before .pre .1 .0) (c .before .before .before .before .before .before .before .before .before .before .before .before .before .before .loop-test .taken) _ _ (c .before .before .before .before .before .before .before .before .before .push .kept .0) refl (c .before .before .before .before .before .before .before .before .before .push .ensures) _ (c .before .form2 .given .1))
-    (λ c. (let h = c .before .before .before .before .before .before .before .before .before .before .before .before .before .before .loop-test .taken in let p = c .before .before .before .before .before .before .before .before .before .before .before .before .before .before .before .before .before .before .before .before .before .before .before .pre .1 .1 .1 .0 in omega arith))
+    (λ c.
+    let at-push = c .before .before .before .before .before .before .before .before .before in
+    let at-loop-test = at-push .before .before .before .before .before in
+    let at-loop = at-loop-test .before in
+    let at-start = at-loop .before .before .before .before .before .before .before .before in
+    heaping-stopped (at-start .args .next .now) (at-start .args .k) (at-loop .loop .inv .4) (at-start .pre .0) (at-start .pre .1 .0) (at-loop-test .loop-test .taken) _ _
+    (at-push .push .kept .0) refl (at-push .push .ensures) _ (c .before .form2 .given .1))
+    (λ c.
+    let at-loop-test = c .before .before .before .before .before .before .before .before .before .before .before .before .before .before in
+    let at-start = at-loop-test .before .before .before .before .before .before .before .before .before in
+    (let h = at-loop-test .loop-test .taken in let p = at-start .pre .1 .1 .1 .0 in omega arith))
     (λ c. search needs)
-    (λ c. (omega arith, search needs, search needs, search needs, heaping-turn (c .before .before .before .before .before .before .before .before .before .before .before .before .before .before .before .before .before .before .before .before .before .before .before .args .next .now) (c .before .before .before .before .before .before .before .before .before .before .before .before .before .before .before .before .before .before .before .before .before .before .before .args .k) (c .before .before .before .before .before .before .before .before .before .before .before .before .before .before .before .loop .inv .4) (c .before .before .before .before .before .before .before .before .before .before .before .before .before .before .before .before .before .before .before .before .before .before .before .pre .0) (c .before .before .before .before .before .before .before .before .before .before .before .before .before .before .before .before .before .before .before .before .before .before .before .pre .1 .0) (c .before .before .before .before .before .before .before .before .before .before .before .before .before .before .loop-test .taken) _ _ (c .before .before .before .before .before .before .before .before .before .push .kept .0) refl (c .before .before .before .before .before .before .before .before .before .push .ensures) _ _ (c .before .form .given .1)))
+    (λ c. (
+      omega arith,
+      search needs,
+      search needs,
+      search needs,
+      let at-push = c .before .before .before .before .before .before .before .before .before in
+          let at-loop-test = at-push .before .before .before .before .before in
+          let at-loop = at-loop-test .before in
+          let at-start = at-loop .before .before .before .before .before .before .before .before in
+          heaping-turn (at-start .args .next .now) (at-start .args .k) (at-loop .loop .inv .4) (at-start .pre .0) (at-start .pre .1 .0) (at-loop-test .loop-test .taken) _ _
+          (at-push .push .kept .0) refl (at-push .push .ensures) _ _ (c .before .form .given .1),
+    ))
     (λ c. search needs)
     (λ c. search needs)
     (λ c. search needs)
-    (λ c. heaping-done (c .before .before .before .before .before .before .before .before .before .args .next .now) (c .before .before .before .before .before .before .before .before .before .args .k) (c .before .loop .inv .4) (c .loop-test .left)))
+    (λ c.
+    let at-start = c .before .before .before .before .before .before .before .before .before in
+    heaping-done (at-start .args .next .now) (at-start .args .k) (c .before .loop .inv .4) (c .loop-test .left)))

@@ -13,22 +13,72 @@ pub round-spec : {M : Type 1} → statement M
 round-spec =
     tie.close
     (tie.spec
-    (λ c κs. (let p = c .before .before .before .before .before .before .before .before .before .pre .1 .1 .1 .0 in omega arith))
+    (λ c κs.
+    let at-start = c .before .before .before .before .before .before .before .before .before in
+    (let p = at-start .pre .1 .1 .1 .0 in omega arith))
     (λ c. search needs)
     (λ c. search needs)
-    (λ c. round-stands _ _ (c .before .before .before .before .before .before .before .before .before .before .before .args .list .now) (c .before .before .before .before .before .before .before .before .before .before .before .args .count) _ _ (c .before .any-opens .ensures) (c .if1 .taken))
+    (λ c.
+    let at-start = c .before .before .before .before .before .before .before .before .before .before .before in
+    round-stands _ _ (at-start .args .list .now) (at-start .args .count) _ _ (c .before .any-opens .ensures) (c .if1 .taken))
     (λ c. search needs)
-    (λ c κs. (c .before .before .before .before .before .before .before .before .before .before .before .before .before .before .before .before .before .pre .0, (c .before .before .before .before .before .before .before .before .before .before .before .before .before .before .before .before .before .pre .1 .0, (record { strings = c .before .before .before .before .before .before .before .before .before .before .before .before .before .before .before .before .before .pre .1 .1 .0; short = c .before .before .before .before .before .before .before .before .before .before .before .before .before .before .before .before .before .pre .1 .1 .1 .0 .0; within = (let p = c .before .before .before .before .before .before .before .before .before .before .before .before .before .before .before .before .before .pre .1 .1 .1 .0 in omega arith); marked = c .before .before .before .before .before .before .before .before .before .before .before .before .before .before .before .before .before .pre .1 .1 .1 .1; room = lit≤ tt }))))
+    (λ c κs.
+    let at-start = c .before .before .before .before .before .before .before .before .before .before .before .before .before .before .before .before .before in (
+      at-start .pre .0,
+      (
+        at-start .pre .1 .0,
+        (record { strings = at-start .pre .1 .1 .0; short = at-start .pre .1 .1 .1 .0 .0; within = (let p = at-start .pre .1 .1 .1 .0 in omega arith); marked = at-start .pre .1 .1 .1 .1; room = lit≤ tt }),
+      ),
+    ))
     (λ c. search needs)
     (λ c. search needs)
     (λ c. search needs)
     (λ c. search needs)
     (λ c. search needs)
-    (λ c. round-ended _ _ (c .before .before .before .before .before .before .before .before .before .before .before .before .before .before .before .before .before .before .before .before .before .before .before .before .before .before .args .list .now) (c .before .before .before .before .before .before .before .before .before .before .before .before .before .before .before .before .before .before .before .before .before .before .before .before .before .before .args .count) _ _ (c .before .before .before .before .before .before .before .before .before .before .before .before .before .before .before .before .any-opens .ensures) (c .before .before .before .before .before .before .before .before .before .before .before .before .before .before .before .if1 .left) (replicate 512 0) _ _ _ (c .before .before .before .before .before .before .before .before .expand .ensures) (c .match .keys2) _)
+    (λ c.
+    let at-expand = c .before .before .before .before .before .before .before .before in
+    let at-if1 = at-expand .before .before .before .before .before .before .before in
+    let at-any-opens = at-if1 .before in
+    let at-start = at-any-opens .before .before .before .before .before .before .before .before .before .before in
+    round-ended _ _ (at-start .args .list .now) (at-start .args .count) _ _ (at-any-opens .any-opens .ensures) (at-if1 .if1 .left) (replicate 512 0) _ _ _
+    (at-expand .expand .ensures) (c .match .keys2) _)
     (λ c. search needs)
-    (λ c κs. (carried-ready (round-carried (c .before .before .before .before .before .before .before .before .before .before .before .before .before .before .before .before .before .before .before .before .before .before .before .before .before .before .before .before .before .before .before .before .before .pre .0) _ _ (c .before .before .before .before .before .before .before .before .before .before .before .before .before .before .before .before .before .before .before .before .before .before .before .before .before .before .before .before .before .before .before .before .before .pre .1 .0) _ {list = c .before .before .before .before .before .before .before .before .before .before .before .before .before .before .before .before .before .before .before .before .before .before .before .before .before .before .before .before .before .before .before .before .before .args .list .now} {next = replicate 512 0} {n = c .before .before .before .before .before .before .before .before .before .before .before .before .before .before .before .before .before .before .before .before .before .before .before .before .before .before .before .before .before .before .before .before .before .args .count} (record { strings = c .before .before .before .before .before .before .before .before .before .before .before .before .before .before .before .before .before .before .before .before .before .before .before .before .before .before .before .before .before .before .before .before .before .pre .1 .1 .0; short = c .before .before .before .before .before .before .before .before .before .before .before .before .before .before .before .before .before .before .before .before .before .before .before .before .before .before .before .before .before .before .before .before .before .pre .1 .1 .1 .0 .0; within = (let p = c .before .before .before .before .before .before .before .before .before .before .before .before .before .before .before .before .before .before .before .before .before .before .before .before .before .before .before .before .before .before .before .before .before .pre .1 .1 .1 .0 in omega arith); marked = c .before .before .before .before .before .before .before .before .before .before .before .before .before .before .before .before .before .before .before .before .before .before .before .before .before .before .before .before .before .before .before .before .before .pre .1 .1 .1 .1; room = lit≤ tt }) (c .before .before .before .before .before .before .before .before .before .before .before .before .before .before .before .expand .kept .0) refl _ (c .before .before .before .before .before .before .before .before .before .before .before .before .before .before .before .expand .ensures) _ _ (c .before .before .before .before .before .before .made .given .1)) (c .before .before .before .before .before .before .before .before .before .before .before .before .before .before .before .before .before .before .before .before .before .before .before .before .before .before .before .before .before .before .before .before .before .pre .0), (round-strings (c .before .before .before .before .before .before .before .before .before .before .before .before .before .before .before .before .before .before .before .before .before .before .before .before .before .before .before .before .before .before .before .before .before .pre .0) _ _ (c .before .before .before .before .before .before .before .before .before .before .before .before .before .before .before .before .before .before .before .before .before .before .before .before .before .before .before .before .before .before .before .before .before .pre .1 .0) _ {list = c .before .before .before .before .before .before .before .before .before .before .before .before .before .before .before .before .before .before .before .before .before .before .before .before .before .before .before .before .before .before .before .before .before .args .list .now} {next = replicate 512 0} {n = c .before .before .before .before .before .before .before .before .before .before .before .before .before .before .before .before .before .before .before .before .before .before .before .before .before .before .before .before .before .before .before .before .before .args .count} (record { strings = c .before .before .before .before .before .before .before .before .before .before .before .before .before .before .before .before .before .before .before .before .before .before .before .before .before .before .before .before .before .before .before .before .before .pre .1 .1 .0; short = c .before .before .before .before .before .before .before .before .before .before .before .before .before .before .before .before .before .before .before .before .before .before .before .before .before .before .before .before .before .before .before .before .before .pre .1 .1 .1 .0 .0; within = (let p = c .before .before .before .before .before .before .before .before .before .before .before .before .before .before .before .before .before .before .before .before .before .before .before .before .before .before .before .before .before .before .before .before .before .pre .1 .1 .1 .0 in omega arith); marked = c .before .before .before .before .before .before .before .before .before .before .before .before .before .before .before .before .before .before .before .before .before .before .before .before .before .before .before .before .before .before .before .before .before .pre .1 .1 .1 .1; room = lit≤ tt }) (c .before .before .before .before .before .before .before .before .before .before .before .before .before .before .before .expand .kept .0) refl _ (c .before .before .before .before .before .before .before .before .before .before .before .before .before .before .before .expand .ensures) _ _ (c .before .before .before .before .before .before .made .given .1), ((let s = round-short (c .before .before .before .before .before .before .before .before .before .before .before .before .before .before .before .before .before .before .before .before .before .before .before .before .before .before .before .before .before .before .before .before .before .pre .0) _ _ (c .before .before .before .before .before .before .before .before .before .before .before .before .before .before .before .before .before .before .before .before .before .before .before .before .before .before .before .before .before .before .before .before .before .pre .1 .0) _ {list = c .before .before .before .before .before .before .before .before .before .before .before .before .before .before .before .before .before .before .before .before .before .before .before .before .before .before .before .before .before .before .before .before .before .args .list .now} {next = replicate 512 0} {n = c .before .before .before .before .before .before .before .before .before .before .before .before .before .before .before .before .before .before .before .before .before .before .before .before .before .before .before .before .before .before .before .before .before .args .count} (record { strings = c .before .before .before .before .before .before .before .before .before .before .before .before .before .before .before .before .before .before .before .before .before .before .before .before .before .before .before .before .before .before .before .before .before .pre .1 .1 .0; short = c .before .before .before .before .before .before .before .before .before .before .before .before .before .before .before .before .before .before .before .before .before .before .before .before .before .before .before .before .before .before .before .before .before .pre .1 .1 .1 .0 .0; within = (let p = c .before .before .before .before .before .before .before .before .before .before .before .before .before .before .before .before .before .before .before .before .before .before .before .before .before .before .before .before .before .before .before .before .before .pre .1 .1 .1 .0 in omega arith); marked = c .before .before .before .before .before .before .before .before .before .before .before .before .before .before .before .before .before .before .before .before .before .before .before .before .before .before .before .before .before .before .before .before .before .pre .1 .1 .1 .1; room = lit≤ tt }) (c .before .before .before .before .before .before .before .before .before .before .before .before .before .before .before .expand .kept .0) refl _ (c .before .before .before .before .before .before .before .before .before .before .before .before .before .before .before .expand .ensures) _ _ (c .before .before .before .before .before .before .made .given .1) in let e = c .before .before .before .before .before .before .before .before .before .before .before .before .before .before .before .expand .kept .1 .1 .1 .1 .1 .1 .1 .1 .1 .1 .1 .1 .0 in (omega arith, omega arith)), ((let p = c .before .before .before .before .before .before .before .before .before .before .before .before .before .before .before .before .before .before .before .before .before .before .before .before .before .before .before .before .before .before .before .before .before .pre .1 .1 .1 .0 in omega arith), (let p = c .before .before .before .before .before .before .before .before .before .before .before .before .before .before .before .before .before .before .before .before .before .before .before .before .before .before .before .before .before .before .before .before .before .pre .1 .1 .1 .0 in omega arith))))))
+    (λ c κs.
+    let at-made = c .before .before .before .before .before .before in
+    let at-expand = at-made .before .before .before .before .before .before .before .before .before in
+    let at-start = at-expand .before .before .before .before .before .before .before .before .before .before .before .before .before .before .before .before .before .before in (
+      carried-ready
+          (round-carried (at-start .pre .0) _ _ (at-start .pre .1 .0) _ {list = at-start .args .list .now} {next = replicate 512 0} {n = at-start .args .count}
+          (record { strings = at-start .pre .1 .1 .0; short = at-start .pre .1 .1 .1 .0 .0; within = (let p = at-start .pre .1 .1 .1 .0 in omega arith); marked = at-start .pre .1 .1 .1 .1; room = lit≤ tt })
+          (at-expand .expand .kept .0) refl _ (at-expand .expand .ensures) _ _ (at-made .made .given .1))
+          (at-start .pre .0),
+      (
+        round-strings (at-start .pre .0) _ _ (at-start .pre .1 .0) _ {list = at-start .args .list .now} {next = replicate 512 0} {n = at-start .args .count}
+            (record { strings = at-start .pre .1 .1 .0; short = at-start .pre .1 .1 .1 .0 .0; within = (let p = at-start .pre .1 .1 .1 .0 in omega arith); marked = at-start .pre .1 .1 .1 .1; room = lit≤ tt })
+            (at-expand .expand .kept .0) refl _ (at-expand .expand .ensures) _ _ (at-made .made .given .1),
+        (
+          (let s = round-short (at-start .pre .0) _ _ (at-start .pre .1 .0) _ {list = at-start .args .list .now} {next = replicate 512 0} {n = at-start .args .count}
+              (record { strings = at-start .pre .1 .1 .0; short = at-start .pre .1 .1 .1 .0 .0; within = (let p = at-start .pre .1 .1 .1 .0 in omega arith); marked = at-start .pre .1 .1 .1 .1; room = lit≤ tt })
+              (at-expand .expand .kept .0) refl _ (at-expand .expand .ensures) _ _ (at-made .made .given .1) in
+              let e = at-expand .expand .kept .1 .1 .1 .1 .1 .1 .1 .1 .1 .1 .1 .1 .0 in (omega arith, omega arith)),
+          ((let p = at-start .pre .1 .1 .1 .0 in omega arith), (let p = at-start .pre .1 .1 .1 .0 in omega arith)),
+        ),
+      ),
+    ))
     (λ c. search needs)
     (λ c. search needs)
     (λ c. search needs)
     (λ c. search needs)
-    (λ c. round-settled _ _ (c .before .before .before .before .before .before .before .before .before .before .before .before .before .before .before .before .before .before .before .before .before .before .before .before .before .before .before .before .before .before .before .before .before .before .before .before .before .before .before .before .args .list .now) (c .before .before .before .before .before .before .before .before .before .before .before .before .before .before .before .before .before .before .before .before .before .before .before .before .before .before .before .before .before .before .before .before .before .before .before .before .before .before .before .before .args .count) _ _ (c .before .before .before .before .before .before .before .before .before .before .before .before .before .before .before .before .before .before .before .before .before .before .before .before .before .before .before .before .before .before .any-opens .ensures) (c .before .before .before .before .before .before .before .before .before .before .before .before .before .before .before .before .before .before .before .before .before .before .before .before .before .before .before .before .before .if1 .left) (replicate 512 0) _ _ _ (c .before .before .before .before .before .before .before .before .before .before .before .before .before .before .before .before .before .before .before .before .before .before .expand .ensures) _ _ (c .before .before .before .before .before .before .before .before .before .before .before .before .before .made .given .1) (round-carried (c .before .before .before .before .before .before .before .before .before .before .before .before .before .before .before .before .before .before .before .before .before .before .before .before .before .before .before .before .before .before .before .before .before .before .before .before .before .before .before .before .pre .0) _ _ (c .before .before .before .before .before .before .before .before .before .before .before .before .before .before .before .before .before .before .before .before .before .before .before .before .before .before .before .before .before .before .before .before .before .before .before .before .before .before .before .before .pre .1 .0) _ {list = c .before .before .before .before .before .before .before .before .before .before .before .before .before .before .before .before .before .before .before .before .before .before .before .before .before .before .before .before .before .before .before .before .before .before .before .before .before .before .before .before .args .list .now} {next = replicate 512 0} {n = c .before .before .before .before .before .before .before .before .before .before .before .before .before .before .before .before .before .before .before .before .before .before .before .before .before .before .before .before .before .before .before .before .before .before .before .before .before .before .before .before .args .count} (record { strings = c .before .before .before .before .before .before .before .before .before .before .before .before .before .before .before .before .before .before .before .before .before .before .before .before .before .before .before .before .before .before .before .before .before .before .before .before .before .before .before .before .pre .1 .1 .0; short = c .before .before .before .before .before .before .before .before .before .before .before .before .before .before .before .before .before .before .before .before .before .before .before .before .before .before .before .before .before .before .before .before .before .before .before .before .before .before .before .before .pre .1 .1 .1 .0 .0; within = (let p = c .before .before .before .before .before .before .before .before .before .before .before .before .before .before .before .before .before .before .before .before .before .before .before .before .before .before .before .before .before .before .before .before .before .before .before .before .before .before .before .before .pre .1 .1 .1 .0 in omega arith); marked = c .before .before .before .before .before .before .before .before .before .before .before .before .before .before .before .before .before .before .before .before .before .before .before .before .before .before .before .before .before .before .before .before .before .before .before .before .before .before .before .before .pre .1 .1 .1 .1; room = lit≤ tt }) (c .before .before .before .before .before .before .before .before .before .before .before .before .before .before .before .before .before .before .before .before .before .before .expand .kept .0) refl _ (c .before .before .before .before .before .before .before .before .before .before .before .before .before .before .before .before .before .before .before .before .before .before .expand .ensures) _ _ (c .before .before .before .before .before .before .before .before .before .before .before .before .before .made .given .1)) _ _ (c .before .before .before .before .before .before .settle .ensures)))
+    (λ c.
+    let at-settle = c .before .before .before .before .before .before in
+    let at-made = at-settle .before .before .before .before .before .before .before in
+    let at-expand = at-made .before .before .before .before .before .before .before .before .before in
+    let at-if1 = at-expand .before .before .before .before .before .before .before in
+    let at-any-opens = at-if1 .before in
+    let at-start = at-any-opens .before .before .before .before .before .before .before .before .before .before in
+    round-settled _ _ (at-start .args .list .now) (at-start .args .count) _ _ (at-any-opens .any-opens .ensures) (at-if1 .if1 .left) (replicate 512 0) _ _ _
+    (at-expand .expand .ensures) _ _ (at-made .made .given .1)
+    (round-carried (at-start .pre .0) _ _ (at-start .pre .1 .0) _ {list = at-start .args .list .now} {next = replicate 512 0} {n = at-start .args .count}
+    (record { strings = at-start .pre .1 .1 .0; short = at-start .pre .1 .1 .1 .0 .0; within = (let p = at-start .pre .1 .1 .1 .0 in omega arith); marked = at-start .pre .1 .1 .1 .1; room = lit≤ tt })
+    (at-expand .expand .kept .0) refl _ (at-expand .expand .ensures) _ _ (at-made .made .given .1))
+    _ _ (at-settle .settle .ensures)))

@@ -21,20 +21,63 @@ rounds-spec =
     (tie.spec
     Inv-loop
     μ-loop
-    (λ c. (omega arith, refl, refl, refl, refl, rounding-none _ _ (c .before .before .before .before .before .before .before .args .list .now) (c .before .before .before .before .before .before .before .args .count) (replicate 513 0) (c .before .before .before .before .before .before .before .pre .0) (c .before .before .before .before .before .before .before .pre .1 .1 .0) (c .before .before .before .before .before .before .before .pre .1 .1 .1 .0) refl (λ i h. getD-replicate 513 i 0 0 h)))
-    (λ c κs. (rounding-ready (c .before .before .before .before .before .before .loop .inv .5) (c .before .before .before .before .before .before .before .before .before .before .before .before .before .before .pre .0) _ (c .before .before .before .before .before .before .before .before .before .before .before .before .before .before .pre .1 .0), (rounding-candidates (c .before .before .before .before .before .before .loop .inv .5) (c .before .before .before .before .before .before .before .before .before .before .before .before .before .before .pre .0) _ (c .before .before .before .before .before .before .before .before .before .before .before .before .before .before .pre .1 .0), (c .before .before .before .before .before .before .loop .inv .5 .strings, ((c .before .before .before .before .before .before .loop .inv .5 .short, (let e = c .before .before .before .before .before .before .loop .inv .4 in let p = c .before .before .before .before .before .before .before .before .before .before .before .before .before .before .pre .1 .1 .1 .1 in omega arith)), rounding-marked (c .before .before .before .before .before .before .loop .inv .5) (c .before .before .before .before .before .before .before .before .before .before .before .before .before .before .pre .0) _ (c .before .before .before .before .before .before .before .before .before .before .before .before .before .before .pre .1 .0))))))
+    (λ c.
+    let at-start = c .before .before .before .before .before .before .before in (
+      omega arith,
+      refl,
+      refl,
+      refl,
+      refl,
+      rounding-none _ _ (at-start .args .list .now) (at-start .args .count) (replicate 513 0) (at-start .pre .0) (at-start .pre .1 .1 .0) (at-start .pre .1 .1 .1 .0) refl
+          (λ i h. getD-replicate 513 i 0 0 h),
+    ))
+    (λ c κs.
+    let at-loop = c .before .before .before .before .before .before in
+    let at-start = at-loop .before .before .before .before .before .before .before .before in (
+      rounding-ready (at-loop .loop .inv .5) (at-start .pre .0) _ (at-start .pre .1 .0),
+      (
+        rounding-candidates (at-loop .loop .inv .5) (at-start .pre .0) _ (at-start .pre .1 .0),
+        (
+          at-loop .loop .inv .5 .strings,
+          (
+            (at-loop .loop .inv .5 .short, (let e = at-loop .loop .inv .4 in let p = at-start .pre .1 .1 .1 .1 in omega arith)),
+            rounding-marked (at-loop .loop .inv .5) (at-start .pre .0) _ (at-start .pre .1 .0),
+          ),
+        ),
+      ),
+    ))
     (λ c. search needs)
     (λ c. search needs)
     (λ c. search needs)
     (λ c. search needs)
     (λ c. search needs)
     (λ c. search needs)
-    (λ c. rounds-ended (c .before .before .before .before .before .before .before .before .before .before .before .before .before .before .before .before .before .before .loop .inv .5) (c .before .before .before .before .before .before .before .before .before .before .before .before .before .before .before .before .before .before .before .before .before .before .before .before .before .before .pre .0) _ (c .before .before .before .before .before .before .before .before .before .before .before .before .before .before .before .before .before .before .before .before .before .before .before .before .before .before .pre .1 .0) (c .before .before .before .before .before .before .before .before .before .before .before .before .before .before .before .before .before .loop-test .taken) _ _ _ (c .before .before .before .before .before .before .before .before .before .before .before .round .ensures) _ (c .before .turn2 .given .1))
+    (λ c.
+    let at-round = c .before .before .before .before .before .before .before .before .before .before .before in
+    let at-loop-test = at-round .before .before .before .before .before .before in
+    let at-loop = at-loop-test .before in
+    let at-start = at-loop .before .before .before .before .before .before .before .before in
+    rounds-ended (at-loop .loop .inv .5) (at-start .pre .0) _ (at-start .pre .1 .0) (at-loop-test .loop-test .taken) _ _ _ (at-round .round .ensures) _
+    (c .before .turn2 .given .1))
     (λ c. search needs)
     (λ c. search needs)
-    (λ c. (omega arith, search needs, search needs, search needs, search needs, rounding-turn (c .before .before .before .before .before .before .before .before .before .before .before .before .before .before .before .before .before .before .loop .inv .5) (c .before .before .before .before .before .before .before .before .before .before .before .before .before .before .before .before .before .before .before .before .before .before .before .before .before .before .pre .0) _ (c .before .before .before .before .before .before .before .before .before .before .before .before .before .before .before .before .before .before .before .before .before .before .before .before .before .before .pre .1 .0) (c .before .before .before .before .before .before .before .before .before .before .before .before .before .before .before .before .before .loop-test .taken) _ _ _ (c .before .before .before .before .before .before .before .before .before .before .before .round .ensures) _ _ (c .before .turn .given .1) (c .before .before .before .before .before .before .before .before .before .before .before .round .kept .0) refl))
+    (λ c. (
+      omega arith,
+      search needs,
+      search needs,
+      search needs,
+      search needs,
+      let at-round = c .before .before .before .before .before .before .before .before .before .before .before in
+          let at-loop-test = at-round .before .before .before .before .before .before in
+          let at-loop = at-loop-test .before in
+          let at-start = at-loop .before .before .before .before .before .before .before .before in
+          rounding-turn (at-loop .loop .inv .5) (at-start .pre .0) _ (at-start .pre .1 .0) (at-loop-test .loop-test .taken) _ _ _ (at-round .round .ensures) _ _
+          (c .before .turn .given .1) (at-round .round .kept .0) refl,
+    ))
     (λ c. search needs)
     (λ c. search needs)
     (λ c. search needs)
     (λ c. search needs)
-    (λ c. rounds-done (c .before .loop .inv .5) (c .before .before .before .before .before .before .before .before .before .pre .0) _ (c .before .before .before .before .before .before .before .before .before .pre .1 .0) (c .loop-test .left)))
+    (λ c.
+    let at-start = c .before .before .before .before .before .before .before .before .before in
+    rounds-done (c .before .loop .inv .5) (at-start .pre .0) _ (at-start .pre .1 .0) (c .loop-test .left)))

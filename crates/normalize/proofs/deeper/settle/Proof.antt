@@ -10,24 +10,66 @@ settle-spec =
     tie.close
     (tie.spec
     (λ c. search needs)
-    (λ c κs. (c .before .before .before .before .before .before .before .before .before .before .pre .0, (c .before .before .before .before .before .before .before .before .before .before .pre .1 .0, (c .before .before .before .before .before .before .before .before .before .before .pre .1 .1 .0 .0, (c .before .before .before .before .before .before .before .before .before .before .pre .1 .1 .0 .1, search needs)))))
+    (λ c κs. (
+      let at-start = c .before .before .before .before .before .before .before .before .before .before in at-start .pre .0,
+      (
+        let at-start = c .before .before .before .before .before .before .before .before .before .before in at-start .pre .1 .0,
+        (
+          let at-start = c .before .before .before .before .before .before .before .before .before .before in at-start .pre .1 .1 .0 .0,
+          (
+            let at-start = c .before .before .before .before .before .before .before .before .before .before in at-start .pre .1 .1 .0 .1,
+            search needs,
+          ),
+        ),
+      ),
+    ))
     (λ c. search needs)
     (λ c. search needs)
     (λ c. search needs)
-    (λ c. settle-long _ _ (c .before .before .before .before .before .before .before .before .before .push-all .last .1 .1 .1 .1 .1 .1 .1 .1 .0) (c .before .before .before .before .before .before .before .before .before .push-all .result) (c .before .before .before .before .before .before .before .before .before .push-all .ensures) _ _ (c .before .before .made .given .1) (c .if1 .taken) _)
+    (λ c.
+    let at-push-all = c .before .before .before .before .before .before .before .before .before in
+    settle-long _ _ (at-push-all .push-all .last .1 .1 .1 .1 .1 .1 .1 .1 .0) (at-push-all .push-all .result) (at-push-all .push-all .ensures) _ _
+    (c .before .before .made .given .1) (c .if1 .taken) _)
     (λ c. search needs)
-    (λ c κs. ((let h = c .before .before .if1 .left in let e = c .before .before .before .before .before .before .before .before .before .before .before .push-all .kept .1 .1 .1 .1 .1 .1 .1 .1 .0 in omega arith), c .before .before .before .before .before .before .before .before .before .before .before .before .before .before .before .before .before .before .before .before .before .before .pre .1 .1 .1 .0))
-    (λ c. search needs)
-    (λ c. search needs)
-    (λ c. search needs)
-    (λ c. settle-same _ _ (c .before .before .before .before .before .before .before .before .before .before .before .before .before .push-all .last .1 .1 .1 .1 .1 .1 .1 .1 .0) (c .before .before .before .before .before .before .before .before .before .before .before .before .before .push-all .result) (c .before .before .before .before .before .before .before .before .before .before .before .before .before .push-all .ensures) _ _ (c .before .before .before .before .before .before .made .given .1) (c .before .before .before .before .if1 .left) _ (c .before .same-words .ensures) (c .if2 .taken) (c .before .before .before .before .before .before .before .before .before .before .before .before .before .before .before .before .before .before .before .before .before .before .before .before .args .list .now) (c .before .before .before .before .before .before .before .before .before .before .before .before .before .before .before .before .before .before .before .before .before .before .before .before .args .count) refl)
-    (λ c. search needs)
-    (λ c κs. ((let h = c .before .before .before .before .before .before .if1 .left in let e = c .before .before .before .before .before .before .before .before .before .before .before .before .before .before .before .push-all .kept .1 .1 .1 .1 .1 .1 .1 .1 .0 in omega arith), (let h = c .before .before .before .before .before .before .if1 .left in let p = c .before .before .before .before .before .before .before .before .before .before .before .before .before .before .before .before .before .before .before .before .before .before .before .before .before .before .pre .1 .1 .1 .1 in omega arith)))
-    (λ c. search needs)
-    (λ c. search needs)
+    (λ c κs.
+    let at-push-all = c .before .before .before .before .before .before .before .before .before .before .before in
+    let at-start = at-push-all .before .before .before .before .before .before .before .before .before .before .before in
+    ((let h = c .before .before .if1 .left in let e = at-push-all .push-all .kept .1 .1 .1 .1 .1 .1 .1 .1 .0 in omega arith), at-start .pre .1 .1 .1 .0))
     (λ c. search needs)
     (λ c. search needs)
-    (λ c. settle-other _ _ (c .before .before .before .before .before .before .before .before .before .before .before .before .before .before .before .before .before .before .push-all .last .1 .1 .1 .1 .1 .1 .1 .1 .0) (c .before .before .before .before .before .before .before .before .before .before .before .before .before .before .before .before .before .before .push-all .result) (c .before .before .before .before .before .before .before .before .before .before .before .before .before .before .before .before .before .before .push-all .ensures) _ _ (c .before .before .before .before .before .before .before .before .before .before .before .made .given .1) (c .before .before .before .before .before .before .before .before .before .if1 .left) _ (c .before .before .before .before .before .before .same-words .ensures) (c .before .before .before .before .before .if2 .left) (c .before .before .before .before .before .before .before .before .before .before .before .before .before .before .before .before .before .before .before .before .before .before .before .before .before .before .before .before .before .args .list .now) (c .before .before .append .last .0) (c .before .before .append .ensures))
+    (λ c. search needs)
+    (λ c.
+    let at-if1 = c .before .before .before .before in
+    let at-made = at-if1 .before .before in
+    let at-push-all = at-made .before .before .before .before .before .before .before in
+    let at-start = at-push-all .before .before .before .before .before .before .before .before .before .before .before in
+    settle-same _ _ (at-push-all .push-all .last .1 .1 .1 .1 .1 .1 .1 .1 .0) (at-push-all .push-all .result) (at-push-all .push-all .ensures) _ _ (at-made .made .given .1)
+    (at-if1 .if1 .left) _ (c .before .same-words .ensures) (c .if2 .taken) (at-start .args .list .now) (at-start .args .count) refl)
+    (λ c. search needs)
+    (λ c κs.
+    let at-if1 = c .before .before .before .before .before .before in
+    let at-push-all = at-if1 .before .before .before .before .before .before .before .before .before in
+    let at-start = at-push-all .before .before .before .before .before .before .before .before .before .before .before in (
+      (let h = at-if1 .if1 .left in let e = at-push-all .push-all .kept .1 .1 .1 .1 .1 .1 .1 .1 .0 in omega arith),
+      (let h = at-if1 .if1 .left in let p = at-start .pre .1 .1 .1 .1 in omega arith),
+    ))
     (λ c. search needs)
     (λ c. search needs)
-    (λ c. settle-stopped _ _ (c .before .before .before .before .before .before .before .before .push-all .last .1 .1 .1 .1 .1 .1 .1 .1 .0) (c .before .before .before .before .before .before .before .before .push-all .result) (c .before .before .before .before .before .before .before .before .push-all .ensures) _ (c .before .made2 .given .1) _))
+    (λ c. search needs)
+    (λ c. search needs)
+    (λ c.
+    let at-append = c .before .before in
+    let at-if2 = at-append .before .before .before in
+    let at-same-words = at-if2 .before in
+    let at-if1 = at-same-words .before .before .before in
+    let at-made = at-if1 .before .before in
+    let at-push-all = at-made .before .before .before .before .before .before .before in
+    let at-start = at-push-all .before .before .before .before .before .before .before .before .before .before .before in
+    settle-other _ _ (at-push-all .push-all .last .1 .1 .1 .1 .1 .1 .1 .1 .0) (at-push-all .push-all .result) (at-push-all .push-all .ensures) _ _ (at-made .made .given .1)
+    (at-if1 .if1 .left) _ (at-same-words .same-words .ensures) (at-if2 .if2 .left) (at-start .args .list .now) (at-append .append .last .0) (at-append .append .ensures))
+    (λ c. search needs)
+    (λ c. search needs)
+    (λ c.
+    let at-push-all = c .before .before .before .before .before .before .before .before in
+    settle-stopped _ _ (at-push-all .push-all .last .1 .1 .1 .1 .1 .1 .1 .1 .0) (at-push-all .push-all .result) (at-push-all .push-all .ensures) _ (c .before .made2 .given .1)
+    _))

@@ -24,12 +24,27 @@ any-opens-spec =
     (tie.spec
     Inv-loop
     μ-loop
-    (λ c. (omega arith, any-zero (opensIn (termsView (c .before .before .args .terms .now) (c .before .before .args .n)) (c .before .before .args .t)) (λ (j : ℕ). getD (c .before .before .args .list .now) j 0)))
+    (λ c.
+    let at-start = c .before .before in
+    (omega arith, any-zero (opensIn (termsView (at-start .args .terms .now) (at-start .args .n)) (at-start .args .t)) (λ (j : ℕ). getD (at-start .args .list .now) j 0)))
     (λ c. search needs)
     (λ c. search needs)
     (λ c κs. search needs)
-    (λ c. any-stop (opensIn (termsView (c .before .before .before .before .before .before .before .args .terms .now) (c .before .before .before .before .before .before .before .args .n)) (c .before .before .before .before .before .before .before .args .t)) (λ (j : ℕ). getD (c .before .before .before .before .before .before .before .args .list .now) j 0) _ _ _ (c .before .opens .ensures) (c .if1 .taken) (c .before .before .before .loop-test .taken))
+    (λ c.
+    let at-loop-test = c .before .before .before in
+    let at-start = at-loop-test .before .before .before .before in
+    any-stop (opensIn (termsView (at-start .args .terms .now) (at-start .args .n)) (at-start .args .t)) (λ (j : ℕ). getD (at-start .args .list .now) j 0) _ _ _
+    (c .before .opens .ensures) (c .if1 .taken) (at-loop-test .loop-test .taken))
     (λ c. search needs)
     (λ c. search needs)
-    (λ c. (omega arith, any-turn (opensIn (termsView (c .before .before .before .before .before .before .before .args .terms .now) (c .before .before .before .before .before .before .before .args .n)) (c .before .before .before .before .before .before .before .args .t)) (λ (j : ℕ). getD (c .before .before .before .before .before .before .before .args .list .now) j 0) _ _ (c .before .opens .ensures) (c .if1 .left) (c .before .before .before .before .loop .inv .1)))
-    (λ c. any-done (opensIn (termsView (c .before .before .before .before .args .terms .now) (c .before .before .before .before .args .n)) (c .before .before .before .before .args .t)) (λ (j : ℕ). getD (c .before .before .before .before .args .list .now) j 0) _ _ (c .before .loop .inv .0) (c .loop-test .left) (c .before .loop .inv .1)))
+    (λ c.
+    let at-loop = c .before .before .before .before in
+    let at-start = at-loop .before .before .before in (
+      omega arith,
+      any-turn (opensIn (termsView (at-start .args .terms .now) (at-start .args .n)) (at-start .args .t)) (λ (j : ℕ). getD (at-start .args .list .now) j 0) _ _
+          (c .before .opens .ensures) (c .if1 .left) (at-loop .loop .inv .1),
+    ))
+    (λ c.
+    let at-start = c .before .before .before .before in
+    any-done (opensIn (termsView (at-start .args .terms .now) (at-start .args .n)) (at-start .args .t)) (λ (j : ℕ). getD (at-start .args .list .now) j 0) _ _
+    (c .before .loop .inv .0) (c .loop-test .left) (c .before .loop .inv .1)))

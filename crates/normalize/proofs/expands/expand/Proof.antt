@@ -21,21 +21,69 @@ expand-spec =
     (tie.spec
     Inv-loop
     μ-loop
-    (λ c. (omega arith, refl, refl, refl, refl, walking-none _ _ _ _ _ (c .before .before .before .before .before .before .before .before .pre .0)))
+    (λ c.
+    let at-start = c .before .before .before .before .before .before .before .before in
+    (omega arith, refl, refl, refl, refl, walking-none _ _ _ _ _ (at-start .pre .0)))
     (λ c. search needs)
-    (λ c. (let h = c .before .before .before .before .loop-test .taken in let w = c .before .before .before .before .before .before .before .before .before .before .before .before .before .before .pre .1 .1 .within in omega arith))
-    (λ c κs. (walk-ready (c .before .before .before .before .before .before .before .before .before .before .before .before .before .before .before .before .args .list .now) (c .before .before .before .before .before .before .before .before .before .before .before .before .before .before .before .before .args .count) (c .before .before .before .before .before .before .before .loop .inv .5) (c .before .before .before .before .before .before .before .before .before .before .before .before .before .before .before .before .pre .0) _ (c .before .before .before .before .before .before .before .before .before .before .before .before .before .before .before .before .pre .1 .0) (c .before .before .before .before .before .before .before .before .before .before .before .before .before .before .before .before .pre .1 .1) (c .before .before .before .before .before .before .loop-test .taken), (walk-candidates (c .before .before .before .before .before .before .before .before .before .before .before .before .before .before .before .before .args .list .now) (c .before .before .before .before .before .before .before .before .before .before .before .before .before .before .before .before .args .count) (c .before .before .before .before .before .before .before .loop .inv .5) (c .before .before .before .before .before .before .before .before .before .before .before .before .before .before .before .before .pre .0) _ (c .before .before .before .before .before .before .before .before .before .before .before .before .before .before .before .before .pre .1 .0) (c .before .before .before .before .before .before .before .before .before .before .before .before .before .before .before .before .pre .1 .1) (c .before .before .before .before .before .before .loop-test .taken), (walk-string (c .before .before .before .before .before .before .before .before .before .before .before .before .before .before .before .before .args .list .now) (c .before .before .before .before .before .before .before .before .before .before .before .before .before .before .before .before .args .count) (c .before .before .before .before .before .before .before .loop .inv .5) (c .before .before .before .before .before .before .before .before .before .before .before .before .before .before .before .before .pre .0) _ (c .before .before .before .before .before .before .before .before .before .before .before .before .before .before .before .before .pre .1 .0) (c .before .before .before .before .before .before .before .before .before .before .before .before .before .before .before .before .pre .1 .1) (c .before .before .before .before .before .before .loop-test .taken), ((let l = walk-low (c .before .before .before .before .before .before .before .before .before .before .before .before .before .before .before .before .args .list .now) (c .before .before .before .before .before .before .before .before .before .before .before .before .before .before .before .before .args .count) (c .before .before .before .before .before .before .before .loop .inv .5) (c .before .before .before .before .before .before .before .before .before .before .before .before .before .before .before .before .pre .0) _ (c .before .before .before .before .before .before .before .before .before .before .before .before .before .before .before .before .pre .1 .0) (c .before .before .before .before .before .before .before .before .before .before .before .before .before .before .before .before .pre .1 .1) (c .before .before .before .before .before .before .loop-test .taken) in let r = c .before .before .before .before .before .before .before .before .before .before .before .before .before .before .before .before .pre .1 .1 .room in let e = c .before .before .before .before .before .before .before .loop .inv .4 in omega arith), (let r = c .before .before .before .before .before .before .before .before .before .before .before .before .before .before .before .before .pre .1 .1 .room in let e = c .before .before .before .before .before .before .before .loop .inv .4 in omega arith))))))
+    (λ c.
+    let at-loop-test = c .before .before .before .before in
+    let at-start = at-loop-test .before .before .before .before .before .before .before .before .before .before in
+    (let h = at-loop-test .loop-test .taken in let w = at-start .pre .1 .1 .within in omega arith))
+    (λ c κs.
+    let at-loop-test = c .before .before .before .before .before .before in
+    let at-loop = at-loop-test .before in
+    let at-start = at-loop .before .before .before .before .before .before .before .before .before in (
+      walk-ready (at-start .args .list .now) (at-start .args .count) (at-loop .loop .inv .5) (at-start .pre .0) _ (at-start .pre .1 .0) (at-start .pre .1 .1)
+          (at-loop-test .loop-test .taken),
+      (
+        walk-candidates (at-start .args .list .now) (at-start .args .count) (at-loop .loop .inv .5) (at-start .pre .0) _ (at-start .pre .1 .0) (at-start .pre .1 .1)
+            (at-loop-test .loop-test .taken),
+        (
+          walk-string (at-start .args .list .now) (at-start .args .count) (at-loop .loop .inv .5) (at-start .pre .0) _ (at-start .pre .1 .0) (at-start .pre .1 .1)
+              (at-loop-test .loop-test .taken),
+          (
+            (let l = walk-low (at-start .args .list .now) (at-start .args .count) (at-loop .loop .inv .5) (at-start .pre .0) _ (at-start .pre .1 .0) (at-start .pre .1 .1)
+                (at-loop-test .loop-test .taken) in
+                let r = at-start .pre .1 .1 .room in let e = at-loop .loop .inv .4 in omega arith),
+            (let r = at-start .pre .1 .1 .room in let e = at-loop .loop .inv .4 in omega arith),
+          ),
+        ),
+      ),
+    ))
     (λ c. search needs)
     (λ c. search needs)
     (λ c. search needs)
     (λ c. search needs)
     (λ c. search needs)
-    (λ c. walking-ended (c .before .before .before .before .before .before .before .before .before .before .before .before .before .before .before .before .before .before .before .before .before .before .before .before .before .before .args .list .now) (c .before .before .before .before .before .before .before .before .before .before .before .before .before .before .before .before .before .before .before .before .before .before .before .before .before .before .args .count) (c .before .before .before .before .before .before .before .before .before .before .before .before .before .before .before .before .before .loop .inv .5) (c .before .before .before .before .before .before .before .before .before .before .before .before .before .before .before .before .before .before .before .before .before .before .before .before .before .before .pre .0) _ (c .before .before .before .before .before .before .before .before .before .before .before .before .before .before .before .before .before .before .before .before .before .before .before .before .before .before .pre .1 .0) (c .before .before .before .before .before .before .before .before .before .before .before .before .before .before .before .before .before .before .before .before .before .before .before .before .before .before .pre .1 .1) (c .before .before .before .before .before .before .before .before .before .before .before .before .before .before .before .before .loop-test .taken) _ _ _ (c .before .before .before .before .before .before .before .before .before .expand-one .kept .0) refl (c .before .before .before .before .before .before .before .before .before .expand-one .ensures) (c .match .keys2))
-    (λ c. (let h = c .before .before .before .before .before .before .before .before .before .before .before .before .before .before .before .before .before .before .loop-test .taken in let p = c .before .before .before .before .before .before .before .before .before .before .before .before .before .before .before .before .before .before .before .before .before .before .before .before .before .before .before .before .pre .1 .1 .short in omega arith))
+    (λ c.
+    let at-expand-one = c .before .before .before .before .before .before .before .before .before in
+    let at-loop-test = at-expand-one .before .before .before .before .before .before .before in
+    let at-loop = at-loop-test .before in
+    let at-start = at-loop .before .before .before .before .before .before .before .before .before in
+    walking-ended (at-start .args .list .now) (at-start .args .count) (at-loop .loop .inv .5) (at-start .pre .0) _ (at-start .pre .1 .0) (at-start .pre .1 .1)
+    (at-loop-test .loop-test .taken) _ _ _ (at-expand-one .expand-one .kept .0) refl (at-expand-one .expand-one .ensures) (c .match .keys2))
+    (λ c.
+    let at-loop-test = c .before .before .before .before .before .before .before .before .before .before .before .before .before .before .before .before .before .before in
+    let at-start = at-loop-test .before .before .before .before .before .before .before .before .before .before in
+    (let h = at-loop-test .loop-test .taken in let p = at-start .pre .1 .1 .short in omega arith))
     (λ c. search needs)
-    (λ c. (omega arith, search needs, search needs, search needs, search needs, walking-turn (c .before .before .before .before .before .before .before .before .before .before .before .before .before .before .before .before .before .before .before .before .before .before .before .before .before .before .before .before .args .list .now) (c .before .before .before .before .before .before .before .before .before .before .before .before .before .before .before .before .before .before .before .before .before .before .before .before .before .before .before .before .args .count) (c .before .before .before .before .before .before .before .before .before .before .before .before .before .before .before .before .before .before .before .loop .inv .5) (c .before .before .before .before .before .before .before .before .before .before .before .before .before .before .before .before .before .before .before .before .before .before .before .before .before .before .before .before .pre .0) _ (c .before .before .before .before .before .before .before .before .before .before .before .before .before .before .before .before .before .before .before .before .before .before .before .before .before .before .before .before .pre .1 .0) (c .before .before .before .before .before .before .before .before .before .before .before .before .before .before .before .before .before .before .before .before .before .before .before .before .before .before .before .before .pre .1 .1) (c .before .before .before .before .before .before .before .before .before .before .before .before .before .before .before .before .before .before .loop-test .taken) _ _ _ (c .before .before .before .before .before .before .before .before .before .before .before .expand-one .kept .0) refl (c .before .before .before .before .before .before .before .before .before .before .before .expand-one .ensures) _ _ (c .before .made .given .1)))
+    (λ c. (
+      omega arith,
+      search needs,
+      search needs,
+      search needs,
+      search needs,
+      let at-expand-one = c .before .before .before .before .before .before .before .before .before .before .before in
+          let at-loop-test = at-expand-one .before .before .before .before .before .before .before in
+          let at-loop = at-loop-test .before in
+          let at-start = at-loop .before .before .before .before .before .before .before .before .before in
+          walking-turn (at-start .args .list .now) (at-start .args .count) (at-loop .loop .inv .5) (at-start .pre .0) _ (at-start .pre .1 .0) (at-start .pre .1 .1)
+          (at-loop-test .loop-test .taken) _ _ _ (at-expand-one .expand-one .kept .0) refl (at-expand-one .expand-one .ensures) _ _ (c .before .made .given .1),
+    ))
     (λ c. search needs)
     (λ c. search needs)
     (λ c. search needs)
     (λ c. search needs)
-    (λ c. walking-done (c .before .before .before .before .before .before .before .before .before .before .args .list .now) (c .before .before .before .before .before .before .before .before .before .before .args .count) (c .before .loop .inv .5) (c .loop-test .left)))
+    (λ c.
+    let at-start = c .before .before .before .before .before .before .before .before .before .before in
+    walking-done (at-start .args .list .now) (at-start .args .count) (c .before .loop .inv .5) (c .loop-test .left)))

@@ -14,14 +14,37 @@ expand-one-spec =
     (λ c. search needs)
     (λ c. search needs)
     (λ c. search needs)
-    (λ c. one-plain (c .before .before .before .before .before .before .before .before .before .before .pre .0) _ _ _ (c .before .before .before .before .before .before .before .before .before .before .pre .1 .1 .0) _ _ _ _ (c .before .opens .ensures) (c .if1 .taken) (c .before .before .before .before .before .before .before .before .before .before .pre .1 .1 .1 .0))
-    (λ c. (let h = atom-place (c .before .before .before .before .before .before .before .before .before .before .pre .0) (c .before .before .before .before .before .before .before .before .before .before .args .known .now) (c .before .before .before .before .before .before .before .before .before .before .args .t) (c .before .before .before .before .before .before .before .before .before .before .args .a) (c .before .before .before .before .before .before .before .before .before .before .pre .1 .1 .0) (c .before .before .before .before .before .before .before .before .before .before .args .next .now) (c .before .before .before .before .before .before .before .before .before .before .args .k) (c .before .before .before .before .before .before .before .before .before .before .args .met .now) _ (c .before .opens .ensures) in omega arith))
+    (λ c.
+    let at-start = c .before .before .before .before .before .before .before .before .before .before in
+    one-plain (at-start .pre .0) _ _ _ (at-start .pre .1 .1 .0) _ _ _ _ (c .before .opens .ensures) (c .if1 .taken) (at-start .pre .1 .1 .1 .0))
+    (λ c.
+    let at-start = c .before .before .before .before .before .before .before .before .before .before in
+    (let h = atom-place (at-start .pre .0) (at-start .args .known .now) (at-start .args .t) (at-start .args .a) (at-start .pre .1 .1 .0) (at-start .args .next .now)
+    (at-start .args .k) (at-start .args .met .now) _ (c .before .opens .ensures) in
+    omega arith))
     (λ c. search needs)
-    (λ c. one-again (c .before .before .before .before .before .before .before .before .before .before .before .before .pre .0) _ _ _ (c .before .before .before .before .before .before .before .before .before .before .before .before .pre .1 .1 .0) _ _ _ _ (c .before .before .before .opens .ensures) (c .before .before .if1 .left) (c .if2 .taken))
-    (λ c. (let h = atom-place (c .before .before .before .before .before .before .before .before .before .before .before .before .pre .0) (c .before .before .before .before .before .before .before .before .before .before .before .before .args .known .now) (c .before .before .before .before .before .before .before .before .before .before .before .before .args .t) (c .before .before .before .before .before .before .before .before .before .before .before .before .args .a) (c .before .before .before .before .before .before .before .before .before .before .before .before .pre .1 .1 .0) (c .before .before .before .before .before .before .before .before .before .before .before .before .args .next .now) (c .before .before .before .before .before .before .before .before .before .before .before .before .args .k) (c .before .before .before .before .before .before .before .before .before .before .before .before .args .met .now) _ (c .before .before .before .opens .ensures) in omega arith))
-    (λ c κs. (c .before .before .before .before .before .before .before .before .before .before .before .before .before .before .before .before .pre .0, (c .before .before .before .before .before .before .before .before .before .before .before .before .before .before .before .before .pre .1 .0, (c .before .before .before .before .before .before .before .before .before .before .before .before .before .before .before .before .pre .1 .1 .0, (c .before .before .before .before .before .before .before .before .before .before .before .before .before .before .before .before .pre .1 .1 .1 .0, c .before .before .before .before .before .before .before .before .before .before .before .before .before .before .before .before .pre .1 .1 .1 .1)))))
+    (λ c.
+    let at-opens = c .before .before .before in
+    let at-start = at-opens .before .before .before .before .before .before .before .before .before in
+    one-again (at-start .pre .0) _ _ _ (at-start .pre .1 .1 .0) _ _ _ _ (at-opens .opens .ensures) (c .before .before .if1 .left) (c .if2 .taken))
+    (λ c.
+    let at-opens = c .before .before .before in
+    let at-start = at-opens .before .before .before .before .before .before .before .before .before in
+    (let h = atom-place (at-start .pre .0) (at-start .args .known .now) (at-start .args .t) (at-start .args .a) (at-start .pre .1 .1 .0) (at-start .args .next .now)
+    (at-start .args .k) (at-start .args .met .now) _ (at-opens .opens .ensures) in
+    omega arith))
+    (λ c κs.
+    let at-start = c .before .before .before .before .before .before .before .before .before .before .before .before .before .before .before .before in
+    (at-start .pre .0, (at-start .pre .1 .0, (at-start .pre .1 .1 .0, (at-start .pre .1 .1 .1 .0, at-start .pre .1 .1 .1 .1)))))
     (λ c. search needs)
     (λ c. search needs)
     (λ c. search needs)
     (λ c. search needs)
-    (λ c. one-opened (c .before .before .before .before .before .before .before .before .before .before .before .before .before .before .before .before .before .before .before .before .before .before .before .before .before .pre .0) _ _ _ (c .before .before .before .before .before .before .before .before .before .before .before .before .before .before .before .before .before .before .before .before .before .before .before .before .before .pre .1 .1 .0) _ _ _ _ (c .before .before .before .before .before .before .before .before .before .before .before .before .before .before .before .before .opens .ensures) (c .before .before .before .before .before .before .before .before .before .before .before .before .before .before .before .if1 .left) (c .before .before .before .before .before .before .before .before .before .before .before .before .before .if2 .left) _ _ (c .before .before .before .before .before .before .before .before .expand-atom .ensures)))
+    (λ c.
+    let at-expand-atom = c .before .before .before .before .before .before .before .before in
+    let at-if2 = at-expand-atom .before .before .before .before .before in
+    let at-if1 = at-if2 .before .before in
+    let at-opens = at-if1 .before in
+    let at-start = at-opens .before .before .before .before .before .before .before .before .before in
+    one-opened (at-start .pre .0) _ _ _ (at-start .pre .1 .1 .0) _ _ _ _ (at-opens .opens .ensures) (at-if1 .if1 .left) (at-if2 .if2 .left) _ _
+    (at-expand-atom .expand-atom .ensures)))

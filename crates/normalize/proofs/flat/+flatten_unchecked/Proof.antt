@@ -62,7 +62,16 @@ flatten-unchecked-flatten-unchecked-requires :
     flatten-unchecked.Post
     flatten-unchecked-Inv-loop
     flatten-unchecked-μ-loop
-flatten-unchecked-flatten-unchecked-requires t c κs = let w = step-words (c .before .before .before .before .before .before .before .before .before .before .before .before .args .cells .now) (c .before .before .before .before .before .before .before .before .before .before .before .before .args .m) _ (c .before .before .link .given .0 .0) (c .before .before .link .given .0 .1 .0) (c .before .before .link .given .0 .1 .1 .0) (sym (c .before .before .link .given .1) ∙ c .before .before .before .before .next-link .ensures) in ((let h = part-lower _ _ _ _ (c .before .before .before .before .before .before .before .before .before .before .before .before .pre .1 .0) (c .before .before .before .before .before .loop .inv .1) _ true (w .counted) refl (w .value) in let e = c .before .before .before .before .before .before .before .before .before .before .before .before .pre .0 in omega arith), (c .before .before .before .before .before .before .before .before .before .before .before .before .pre .1 .0, (c .before .before .before .before .before .loop .inv .1 .from, omega arith)))
+flatten-unchecked-flatten-unchecked-requires t c κs =
+    let at-link = c .before .before in
+    let at-next-link = at-link .before .before in
+    let at-loop = at-next-link .before in
+    let at-start = at-loop .before .before .before .before .before .before .before in
+    let w = step-words (at-start .args .cells .now) (at-start .args .m) _ (at-link .link .given .0 .0) (at-link .link .given .0 .1 .0) (at-link .link .given .0 .1 .1 .0)
+    (sym (at-link .link .given .1) ∙ at-next-link .next-link .ensures) in (
+      (let h = part-lower _ _ _ _ (at-start .pre .1 .0) (at-loop .loop .inv .1) _ true (w .counted) refl (w .value) in let e = at-start .pre .0 in omega arith),
+      (at-start .pre .1 .0, (at-loop .loop .inv .1 .from, omega arith)),
+    )
 
 pub +flatten-unchecked-spec : {M : Type 1} → statement M
 +flatten-unchecked-spec = close μ-flatten-unchecked λ t. flatten-unchecked-lts.spec (
@@ -90,9 +99,42 @@ pub +flatten-unchecked-spec : {M : Type 1} → statement M
     (λ c κs. search needs)
     (λ c. search needs)
     (λ c. search needs)
-    (λ c. ended _ _ _ _ (c .before .before .before .before .before .before .before .before .before .pre .1 .0) (c .before .before .loop .inv .1) false (words-none (c .before .before .before .before .before .before .before .before .before .args .cells .now) (c .before .before .before .before .before .before .before .before .before .args .m) _ (c .before .before .before .before .before .before .before .before .before .pre .1 .0 .ascends) (ap isCell (sym (c .before .next-link .ensures)) ∙ other-tag (c .before .next-link .result) (c .match .keys2))) refl)
+    (λ c.
+    let at-start = c .before .before .before .before .before .before .before .before .before in
+    ended _ _ _ _ (at-start .pre .1 .0) (c .before .before .loop .inv .1) false
+    (words-none (at-start .args .cells .now) (at-start .args .m) _ (at-start .pre .1 .0 .ascends)
+    (ap isCell (sym (c .before .next-link .ensures)) ∙ other-tag (c .before .next-link .result) (c .match .keys2)))
+    refl)
     (flatten-unchecked-flatten-unchecked-requires t)
     (λ c. search needs)
-    (λ c. let w = step-words (c .before .before .before .before .before .before .before .before .before .before .before .before .before .before .before .before .args .cells .now) (c .before .before .before .before .before .before .before .before .before .before .before .before .before .before .before .before .args .m) _ (c .before .before .before .before .before .before .link .given .0 .0) (c .before .before .before .before .before .before .link .given .0 .1 .0) (c .before .before .before .before .before .before .link .given .0 .1 .1 .0) (sym (c .before .before .before .before .before .before .link .given .1) ∙ c .before .before .before .before .before .before .before .before .next-link .ensures) in part-passes _ _ _ _ (c .before .before .before .before .before .before .before .before .before .before .before .before .before .before .before .before .pre .1 .0) (c .before .before .before .before .before .before .before .before .before .loop .inv .1) _ true (w .counted) refl (w .value) _ _ (omega arith) (let f = c .before .before .before .before .before .before .before .before .before .loop .inv .1 .from in let l = c .before .before .before .before .before .before .before .before .before .loop .inv .0 in let p = c .before .before .before .before .before .before .before .before .before .before .before .before .before .before .before .before .pre .1 in omega arith) (c .before .before .before .flatten-unchecked .ensures) (c .if2 .taken))
-    (λ c. let w = step-words (c .before .before .before .before .before .before .before .before .before .before .before .before .before .before .before .before .args .cells .now) (c .before .before .before .before .before .before .before .before .before .before .before .before .before .before .before .before .args .m) _ (c .before .before .before .before .before .before .link .given .0 .0) (c .before .before .before .before .before .before .link .given .0 .1 .0) (c .before .before .before .before .before .before .link .given .0 .1 .1 .0) (sym (c .before .before .before .before .before .before .link .given .1) ∙ c .before .before .before .before .before .before .before .before .next-link .ensures) in chain-falls _ _ _ _ (c .before .before .before .before .before .before .before .before .before .before .before .before .before .before .before .before .pre .1 .0) (c .before .before .before .before .before .before .before .before .before .loop .inv .1) _ true (w .counted) refl (w .value) _ (w .next))
-    (λ c. let w = step-words (c .before .before .before .before .before .before .before .before .before .before .before .before .before .before .before .before .args .cells .now) (c .before .before .before .before .before .before .before .before .before .before .before .before .before .before .before .before .args .m) _ (c .before .before .before .before .before .before .link .given .0 .0) (c .before .before .before .before .before .before .link .given .0 .1 .0) (c .before .before .before .before .before .before .link .given .0 .1 .1 .0) (sym (c .before .before .before .before .before .before .link .given .1) ∙ c .before .before .before .before .before .before .before .before .next-link .ensures) in (omega arith, part-done _ _ _ _ (c .before .before .before .before .before .before .before .before .before .before .before .before .before .before .before .before .pre .1 .0) (c .before .before .before .before .before .before .before .before .before .loop .inv .1) _ true (w .counted) refl (w .value) _ (w .next) _ _ (c .before .before .before .flatten-unchecked .ensures) (c .if2 .left)))
+    (λ c.
+    let at-flatten-unchecked = c .before .before .before in
+    let at-link = at-flatten-unchecked .before .before .before in
+    let at-next-link = at-link .before .before in
+    let at-loop = at-next-link .before in
+    let at-start = at-loop .before .before .before .before .before .before .before in
+    let w = step-words (at-start .args .cells .now) (at-start .args .m) _ (at-link .link .given .0 .0) (at-link .link .given .0 .1 .0) (at-link .link .given .0 .1 .1 .0)
+    (sym (at-link .link .given .1) ∙ at-next-link .next-link .ensures) in
+    part-passes _ _ _ _ (at-start .pre .1 .0) (at-loop .loop .inv .1) _ true (w .counted) refl (w .value) _ _ (omega arith)
+    (let f = at-loop .loop .inv .1 .from in let l = at-loop .loop .inv .0 in let p = at-start .pre .1 in omega arith) (at-flatten-unchecked .flatten-unchecked .ensures)
+    (c .if2 .taken))
+    (λ c.
+    let at-link = c .before .before .before .before .before .before in
+    let at-next-link = at-link .before .before in
+    let at-loop = at-next-link .before in
+    let at-start = at-loop .before .before .before .before .before .before .before in
+    let w = step-words (at-start .args .cells .now) (at-start .args .m) _ (at-link .link .given .0 .0) (at-link .link .given .0 .1 .0) (at-link .link .given .0 .1 .1 .0)
+    (sym (at-link .link .given .1) ∙ at-next-link .next-link .ensures) in
+    chain-falls _ _ _ _ (at-start .pre .1 .0) (at-loop .loop .inv .1) _ true (w .counted) refl (w .value) _ (w .next))
+    (λ c.
+    let at-flatten-unchecked = c .before .before .before in
+    let at-link = at-flatten-unchecked .before .before .before in
+    let at-next-link = at-link .before .before in
+    let at-loop = at-next-link .before in
+    let at-start = at-loop .before .before .before .before .before .before .before in
+    let w = step-words (at-start .args .cells .now) (at-start .args .m) _ (at-link .link .given .0 .0) (at-link .link .given .0 .1 .0) (at-link .link .given .0 .1 .1 .0)
+    (sym (at-link .link .given .1) ∙ at-next-link .next-link .ensures) in (
+      omega arith,
+      part-done _ _ _ _ (at-start .pre .1 .0) (at-loop .loop .inv .1) _ true (w .counted) refl (w .value) _ (w .next) _ _ (at-flatten-unchecked .flatten-unchecked .ensures)
+          (c .if2 .left),
+    ))

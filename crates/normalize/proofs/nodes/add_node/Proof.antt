@@ -7,7 +7,11 @@ root-unchecked-requires : tie.Need-root-unchecked-requires
 root-unchecked-requires c κs = search needs
 
 put-node-requires : tie.Need-put-node-requires
-put-node-requires c κs = (root-place (c .before .before .before .args .terms .now) _ _ _ (c .before .before .before .pre .0) (c .before .before .before .pre .1 .0) (c .before .before .before .pre .1 .1) (c .before .root-unchecked .ensures), c .before .root-unchecked .ensures)
+put-node-requires c κs =
+    let at-start = c .before .before .before in (
+      root-place (at-start .args .terms .now) _ _ _ (at-start .pre .0) (at-start .pre .1 .0) (at-start .pre .1 .1) (c .before .root-unchecked .ensures),
+      c .before .root-unchecked .ensures,
+    )
 
 returns : tie.Need-returns
 returns c = search needs

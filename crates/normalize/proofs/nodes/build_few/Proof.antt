@@ -25,8 +25,13 @@ build-few-spec =
     (λ c. (omega arith, refl))
     (λ c. search needs)
     (λ c. search needs)
-    (λ c κs. (c .before .before .before .before .before .before .pre .0, (every-at _ _ 0 (c .before .before .before .before .before .before .pre .1 .0) (c .before .before .loop-test .taken), c .before .before .before .before .before .before .pre .1 .1)))
+    (λ c κs.
+    let at-start = c .before .before .before .before .before .before in
+    (at-start .pre .0, (every-at _ _ 0 (at-start .pre .1 .0) (c .before .before .loop-test .taken), at-start .pre .1 .1)))
     (λ c. search needs)
     (λ c. search needs)
-    (λ c. (omega arith, nodes-turn _ _ _ _ _ _ _ (c .before .before .before .loop-test .taken) refl (c .add-node .ensures) (c .before .before .before .before .loop .inv .1)))
+    (λ c.
+    let at-loop-test = c .before .before .before in
+    let at-loop = at-loop-test .before in
+    (omega arith, nodes-turn _ _ _ _ _ _ _ (at-loop-test .loop-test .taken) refl (c .add-node .ensures) (at-loop .loop .inv .1)))
     (λ c. nodes-done _ _ _ _ _ (c .loop-test .left) (c .before .loop .inv .1)))

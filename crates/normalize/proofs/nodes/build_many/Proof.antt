@@ -29,7 +29,11 @@ shared-slice-read-keep-node : tie.Need-shared-slice-read-keep-node Inv-loop μ-l
 shared-slice-read-keep-node c = search needs
 
 keep-node-requires : tie.Need-keep-node-requires Inv-loop μ-loop
-keep-node-requires c κs = (c .before .before .before .before .before .before .before .pre .0, (every-at _ _ 0 (c .before .before .before .before .before .before .before .pre .1 .0) (c .before .before .before .loop-test .taken), (c .before .before .before .before .before .before .before .pre .1 .1, c .before .before .before .before .loop .inv .2)))
+keep-node-requires c κs =
+    let at-loop-test = c .before .before .before in
+    let at-loop = at-loop-test .before in
+    let at-start = at-loop .before .before .before in
+    (at-start .pre .0, (every-at _ _ 0 (at-start .pre .1 .0) (at-loop-test .loop-test .taken), (at-start .pre .1 .1, at-loop .loop .inv .2)))
 
 add-i : tie.Need-add-i Inv-loop μ-loop
 add-i c = search needs
@@ -38,7 +42,10 @@ loop-less : tie.Need-loop-less Inv-loop μ-loop
 loop-less c = search needs
 
 loop-again : tie.Need-loop-again Inv-loop μ-loop
-loop-again c = (omega arith, nodes-turn _ _ _ _ _ _ _ (c .before .before .before .before .loop-test .taken) refl (c .keep-node .ensures .adds) (c .before .before .before .before .before .loop .inv .1), c .keep-node .ensures .kept)
+loop-again c =
+    let at-loop-test = c .before .before .before .before in
+    let at-loop = at-loop-test .before in
+    (omega arith, nodes-turn _ _ _ _ _ _ _ (at-loop-test .loop-test .taken) refl (c .keep-node .ensures .adds) (at-loop .loop .inv .1), c .keep-node .ensures .kept)
 
 returns : tie.Need-returns Inv-loop μ-loop
 returns c = nodes-done _ _ _ _ _ (c .loop-test .left) (c .before .loop .inv .1)

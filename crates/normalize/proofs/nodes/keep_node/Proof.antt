@@ -11,10 +11,14 @@ mul-roots : tie.Need-mul-roots
 mul-roots c = search needs
 
 element-write-roots : tie.Need-element-write-roots
-element-write-roots c = term-place _ _ (c .before .before .before .pre .0) (c .before .before .before .pre .1 .0)
+element-write-roots c = let at-start = c .before .before .before in term-place _ _ (at-start .pre .0) (at-start .pre .1 .0)
 
 put-node-requires : tie.Need-put-node-requires
-put-node-requires c κs = (root-place (c .before .before .before .before .args .terms .now) _ _ _ (c .before .before .before .before .pre .0) (c .before .before .before .before .pre .1 .0) (c .before .before .before .before .pre .1 .1 .0 .stays) (c .before .kept-root-unchecked .ensures), c .before .kept-root-unchecked .ensures)
+put-node-requires c κs =
+    let at-start = c .before .before .before .before in (
+      root-place (at-start .args .terms .now) _ _ _ (at-start .pre .0) (at-start .pre .1 .0) (at-start .pre .1 .1 .0 .stays) (c .before .kept-root-unchecked .ensures),
+      c .before .kept-root-unchecked .ensures,
+    )
 
 returns : tie.Need-returns
 returns c =

@@ -16,7 +16,7 @@ element-write-nodes : tie.Need-element-write-nodes
 element-write-nodes c = search needs
 
 returns : tie.Need-returns
-returns c = node-free _ _ _ _ (c .before .before .before .pre .1) (c .if1 .taken)
+returns c = let at-start = c .before .before .before in node-free _ _ _ _ (at-start .pre .1) (c .if1 .taken)
 
 rep-rank-requires : tie.Need-rep-rank-requires
 rep-rank-requires c κs = search needs
@@ -31,10 +31,16 @@ element-write-nodes-2 : tie.Need-element-write-nodes-2
 element-write-nodes-2 c = search needs
 
 returns-2 : tie.Need-returns-2
-returns-2 c = node-better _ _ _ _ (c .before .before .before .before .before .before .pre .1) _ _ (c .before .before .before .if1 .left) (c .before .before .rep-rank .ensures) (c .before .rep-rank2 .ensures) (c .if2 .taken)
+returns-2 c =
+    let at-if1 = c .before .before .before in
+    let at-start = at-if1 .before .before .before in
+    node-better _ _ _ _ (at-start .pre .1) _ _ (at-if1 .if1 .left) (c .before .before .rep-rank .ensures) (c .before .rep-rank2 .ensures) (c .if2 .taken)
 
 returns-3 : tie.Need-returns-3
-returns-3 c = node-stays _ _ _ _ (c .before .before .before .before .before .before .pre .1) _ _ (c .before .before .before .if1 .left) (c .before .before .rep-rank .ensures) (c .before .rep-rank2 .ensures) (c .if2 .left)
+returns-3 c =
+    let at-if1 = c .before .before .before in
+    let at-start = at-if1 .before .before .before in
+    node-stays _ _ _ _ (at-start .pre .1) _ _ (at-if1 .if1 .left) (c .before .before .rep-rank .ensures) (c .before .rep-rank2 .ensures) (c .if2 .left)
 
 pub put-node-spec : {M : Type 1} → statement M
 put-node-spec =

@@ -6,4 +6,12 @@ use Rattle.normalize.proofs.nodes.rep.Tie as tie
 pub rep-spec : {M : Type 1} → statement M
 rep-spec =
     tie.close
-    (tie.spec (λ c κs. search needs) (λ c. search needs) (λ c. search needs) (λ c. root-place (c .before .before .args .terms .now) _ _ _ (c .before .before .pre .0) (c .before .before .pre .1 .0) (c .before .before .pre .1 .1) (c .root-unchecked .ensures)) (λ c. at-none _ _ _ _ (c .before .before .root-unchecked .ensures) (c .if1 .taken)) (λ c. at-some _ _ _ _ (c .before .before .root-unchecked .ensures) (c .if1 .left)))
+    (tie.spec
+    (λ c κs. search needs)
+    (λ c. search needs)
+    (λ c. search needs)
+    (λ c.
+    let at-start = c .before .before in
+    root-place (at-start .args .terms .now) _ _ _ (at-start .pre .0) (at-start .pre .1 .0) (at-start .pre .1 .1) (c .root-unchecked .ensures))
+    (λ c. at-none _ _ _ _ (c .before .before .root-unchecked .ensures) (c .if1 .taken))
+    (λ c. at-some _ _ _ _ (c .before .before .root-unchecked .ensures) (c .if1 .left)))

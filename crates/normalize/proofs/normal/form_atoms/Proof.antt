@@ -7,8 +7,15 @@ pub form-atoms-spec : {M : Type 1} → statement M
 form-atoms-spec =
     tie.close
     (tie.spec
-    (λ c κs. (c .before .before .before .before .before .before .before .before .before .before .before .pre .0 .sized .termLimited, (strings-within (c .before .before .before .before .before .before .before .before .before .before .before .pre .0) _ (c .before .before .before .before .before .before .before .before .before .before .before .pre .1 .1 .0), ready-rooting (c .before .before .before .before .before .before .before .before .before .before .before .pre .0))))
-    (λ c κs. (c .before .before .before .before .before .before .before .before .before .before .before .before .before .before .before .before .before .pre .0, (more-table (c .before .before .before .before .before .before .before .before .before .before .before .before .before .before .before .before .before .pre .0) _ _ _ (c .before .before .before .before .before .before .before .before .before .before .before .before .before .before .before .before .before .pre .1 .0) (c .before .before .before .before .before .before .before .before .before .before .before .before .before .before .before .before .before .pre .1 .1 .0) _ (c .before .before .before .before .before .build-node-of .ensures), c .before .before .before .before .before .before .before .before .before .before .before .before .before .before .before .before .before .pre .1 .1 .1)))
+    (λ c κs.
+    let at-start = c .before .before .before .before .before .before .before .before .before .before .before in
+    (at-start .pre .0 .sized .termLimited, (strings-within (at-start .pre .0) _ (at-start .pre .1 .1 .0), ready-rooting (at-start .pre .0))))
+    (λ c κs.
+    let at-build-node-of = c .before .before .before .before .before in
+    let at-start = at-build-node-of .before .before .before .before .before .before .before .before .before .before .before .before in (
+      at-start .pre .0,
+      (more-table (at-start .pre .0) _ _ _ (at-start .pre .1 .0) (at-start .pre .1 .1 .0) _ (at-build-node-of .build-node-of .ensures), at-start .pre .1 .1 .1),
+    ))
     (λ c. search needs)
     (λ c. search needs)
     (λ c. search needs)

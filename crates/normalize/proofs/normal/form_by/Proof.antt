@@ -10,12 +10,20 @@ form-by-spec =
     (tie.spec
     (λ c κs. search needs)
     (λ c. search needs)
-    (λ c κs. (c .before .before .before .before .before .before .before .before .before .before .before .before .before .before .before .pre .0, (c .before .before .before .before .before .before .before .before .before .before .before .before .before .before .before .pre .1 .0, (one-string (c .before .before .before .before .before .before .before .before .before .before .before .before .before .before .before .pre .0) _ (c .before .before .before .before .before .before .before .before .before .before .before .before .before .before .before .pre .1 .1 .0), (omega arith, c .before .before .before .before .before .before .before .before .before .before .before .before .before .before .before .pre .1 .1 .1)))))
+    (λ c κs.
+    let at-start = c .before .before .before .before .before .before .before .before .before .before .before .before .before .before .before in
+    (at-start .pre .0, (at-start .pre .1 .0, (one-string (at-start .pre .0) _ (at-start .pre .1 .1 .0), (omega arith, at-start .pre .1 .1 .1)))))
     (λ c. search needs)
     (λ c. search needs)
     (λ c. search needs)
     (λ c. search needs)
-    (λ c. one-done (c .before .before .before .before .before .before .before .before .before .before .before .before .before .before .before .before .before .before .before .before .before .before .before .before .pre .0) _ _ (c .before .before .before .before .before .before .before .before .form-atoms .last .1 .1 .1 .1 .1 .1 .1 .1 .1 .0) (c .before .before .before .before .before .before .before .before .form-atoms .result) _ (c .before .before .before .before .before .before .before .before .before .before .before .before .before .before .before .kind-of .ensures) (c .before .before .before .before .before .before .before .before .before .before .before .before .before .before .if1 .taken) (c .before .before .before .before .before .before .before .before .form-atoms .ensures))
+    (λ c.
+    let at-form-atoms = c .before .before .before .before .before .before .before .before in
+    let at-if1 = at-form-atoms .before .before .before .before .before .before in
+    let at-kind-of = at-if1 .before in
+    let at-start = at-kind-of .before .before .before .before .before .before .before .before .before in
+    one-done (at-start .pre .0) _ _ (at-form-atoms .form-atoms .last .1 .1 .1 .1 .1 .1 .1 .1 .1 .0) (at-form-atoms .form-atoms .result) _ (at-kind-of .kind-of .ensures)
+    (at-if1 .if1 .taken) (at-form-atoms .form-atoms .ensures))
     (λ c κs. search needs)
     (λ c. search needs)
     (λ c. search needs)

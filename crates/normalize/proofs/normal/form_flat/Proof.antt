@@ -11,14 +11,41 @@ form-flat-spec =
     tie.close
     (tie.spec
     (λ c. search needs)
-    (λ c κs. (ready-nested (c .before .before .before .before .before .before .before .before .before .pre .0), (omega arith, search needs)))
+    (λ c κs. (
+      let at-start = c .before .before .before .before .before .before .before .before .before in ready-nested (at-start .pre .0),
+      (omega arith, search needs),
+    ))
     (λ c. search needs)
-    (λ c. form-passes (c .before .before .before .before .before .before .before .before .before .before .before .before .pre .0) _ _ _ _ (c .before .before .flatten-unchecked .ensures) (c .if1 .taken) _)
+    (λ c.
+    let at-start = c .before .before .before .before .before .before .before .before .before .before .before .before in
+    form-passes (at-start .pre .0) _ _ _ _ (c .before .before .flatten-unchecked .ensures) (c .if1 .taken) _)
     (λ c. search needs)
-    (λ c. (let k = c .before .before .before .before .before .before .flatten-unchecked .kept .1 .1 .1 .1 .1 .0 in let h = c .before .before .before .before .if1 .left in sym (length-take-le _ (c .before .before .before .before .before .before .flatten-unchecked .last .1 .1 .1 .1 .1 .0) (omega arith))))
-    (λ c κs. (c .before .before .before .before .before .before .before .before .before .before .before .before .before .before .before .before .before .pre .0, (c .before .before .before .before .before .before .before .before .before .before .before .before .before .before .before .before .before .pre .1 .0, (flat-strings (c .before .before .before .before .before .before .before .before .before .before .before .before .before .before .before .before .before .pre .0) _ _ _ _ (c .before .before .before .before .before .before .before .flatten-unchecked .ensures) (c .before .before .before .before .before .if1 .left) (c .before .before .before .before .before .before .before .before .before .before .before .before .before .before .before .before .before .pre .1 .1 .0), (flat-length (c .before .before .before .before .before .before .before .before .before .before .before .before .before .before .before .before .before .pre .0) _ _ _ _ (c .before .before .before .before .before .before .before .flatten-unchecked .ensures) (c .before .before .before .before .before .if1 .left), c .before .before .before .before .before .before .before .before .before .before .before .before .before .before .before .before .before .pre .1 .1 .1)))))
+    (λ c.
+    let at-if1 = c .before .before .before .before in
+    let at-flatten-unchecked = at-if1 .before .before in
+    (let k = at-flatten-unchecked .flatten-unchecked .kept .1 .1 .1 .1 .1 .0 in
+    let h = at-if1 .if1 .left in sym (length-take-le _ (at-flatten-unchecked .flatten-unchecked .last .1 .1 .1 .1 .1 .0) (omega arith))))
+    (λ c κs.
+    let at-if1 = c .before .before .before .before .before in
+    let at-flatten-unchecked = at-if1 .before .before in
+    let at-start = at-flatten-unchecked .before .before .before .before .before .before .before .before .before .before in (
+      at-start .pre .0,
+      (
+        at-start .pre .1 .0,
+        (
+          flat-strings (at-start .pre .0) _ _ _ _ (at-flatten-unchecked .flatten-unchecked .ensures) (at-if1 .if1 .left) (at-start .pre .1 .1 .0),
+          (flat-length (at-start .pre .0) _ _ _ _ (at-flatten-unchecked .flatten-unchecked .ensures) (at-if1 .if1 .left), at-start .pre .1 .1 .1),
+        ),
+      ),
+    ))
     (λ c. search needs)
     (λ c. search needs)
     (λ c. search needs)
     (λ c. search needs)
-    (λ c. form-done (c .before .before .before .before .before .before .before .before .before .before .before .before .before .before .before .before .before .before .before .before .before .before .before .before .before .before .pre .0) _ _ _ _ (c .before .before .before .before .before .before .before .before .before .before .before .before .before .before .before .before .flatten-unchecked .ensures) (c .before .before .before .before .before .before .before .before .before .before .before .before .before .before .if1 .left) _ (c .before .before .before .before .before .before .before .before .form-atoms .last .1 .1 .1 .1 .1 .1 .1 .1 .1 .0) (c .before .before .before .before .before .before .before .before .form-atoms .result) (c .before .before .before .before .before .before .before .before .form-atoms .ensures)))
+    (λ c.
+    let at-form-atoms = c .before .before .before .before .before .before .before .before in
+    let at-if1 = at-form-atoms .before .before .before .before .before .before in
+    let at-flatten-unchecked = at-if1 .before .before in
+    let at-start = at-flatten-unchecked .before .before .before .before .before .before .before .before .before .before in
+    form-done (at-start .pre .0) _ _ _ _ (at-flatten-unchecked .flatten-unchecked .ensures) (at-if1 .if1 .left) _
+    (at-form-atoms .form-atoms .last .1 .1 .1 .1 .1 .1 .1 .1 .1 .0) (at-form-atoms .form-atoms .result) (at-form-atoms .form-atoms .ensures)))

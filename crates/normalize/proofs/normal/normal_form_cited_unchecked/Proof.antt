@@ -11,8 +11,24 @@ pub normal-form-cited-unchecked-spec : {M : Type 1} → statement M
 normal-form-cited-unchecked-spec =
     tie.close
     (tie.spec
-    (λ c κs. (c .before .before .before .before .before .before .before .before .before .pre .0 .sized .termLimited, (strings-within (c .before .before .before .before .before .before .before .before .before .pre .0) _ (known-strings (c .before .before .before .before .before .before .before .before .before .pre .0) (c .before .before .before .before .before .before .before .before .before .args .known .now) (c .before .before .before .before .before .before .before .before .before .args .t) (c .before .before .before .before .before .before .before .before .before .pre .1 .0)), ready-rooting (c .before .before .before .before .before .before .before .before .before .pre .0))))
-    (λ c κs. (c .before .before .before .before .before .before .before .before .before .before .before .before .before .before .before .pre .0, (known-table (c .before .before .before .before .before .before .before .before .before .before .before .before .before .before .before .pre .0) _ (replicate 513 0) (known-list (c .before .before .before .before .before .before .before .before .before .before .before .before .before .before .before .pre .0) (c .before .before .before .before .before .before .before .before .before .before .before .before .before .before .before .args .known .now) (c .before .before .before .before .before .before .before .before .before .before .before .before .before .before .before .args .t) (c .before .before .before .before .before .before .before .before .before .before .before .before .before .before .before .pre .1 .0)) refl (λ i h. getD-replicate 513 i 0 0 h) _ (c .before .before .before .before .before .build-node-of .ensures), (term-string (c .before .before .before .before .before .before .before .before .before .before .before .before .before .before .before .pre .0) (c .before .before .before .before .before .before .before .before .before .before .before .before .before .before .before .args .known .now) (c .before .before .before .before .before .before .before .before .before .before .before .before .before .before .before .args .t) (c .before .before .before .before .before .before .before .before .before .before .before .before .before .before .before .pre .1 .0), c .before .before .before .before .before .before .before .before .before .before .before .before .before .before .before .pre .1 .1))))
+    (λ c κs.
+    let at-start = c .before .before .before .before .before .before .before .before .before in (
+      at-start .pre .0 .sized .termLimited,
+      (
+        strings-within (at-start .pre .0) _ (known-strings (at-start .pre .0) (at-start .args .known .now) (at-start .args .t) (at-start .pre .1 .0)),
+        ready-rooting (at-start .pre .0),
+      ),
+    ))
+    (λ c κs.
+    let at-build-node-of = c .before .before .before .before .before in
+    let at-start = at-build-node-of .before .before .before .before .before .before .before .before .before .before in (
+      at-start .pre .0,
+      (
+        known-table (at-start .pre .0) _ (replicate 513 0) (known-list (at-start .pre .0) (at-start .args .known .now) (at-start .args .t) (at-start .pre .1 .0)) refl
+            (λ i h. getD-replicate 513 i 0 0 h) _ (at-build-node-of .build-node-of .ensures),
+        (term-string (at-start .pre .0) (at-start .args .known .now) (at-start .args .t) (at-start .pre .1 .0), at-start .pre .1 .1),
+      ),
+    ))
     (λ c. search needs)
     (λ c. search needs)
     (λ c. search needs)

@@ -10,14 +10,28 @@ push-for-spec =
     (tie.spec
     (λ c κs. search needs)
     (λ c. search needs)
-    (λ c κs. (cited-ready (c .before .before .before .before .before .before .before .before .before .before .before .before .before .before .before .before .before .before .before .pre .0) _ _ _ (c .before .before .before .before .before .before .before .before .before .before .before .before .before .before .before .before .before .before .before .pre .1 .0) refl refl (c .before .before .before .before .before .before .before .before .before .cite .ensures) _ (c .before .before .before .before .before .cited .given .1), (c .before .before .before .before .before .before .before .before .before .before .before .before .before .before .before .before .before .before .before .pre .1 .1 .0, c .before .before .before .before .before .before .before .before .before .before .before .before .before .before .before .before .before .before .before .pre .1 .1 .1)))
+    (λ c κs.
+    let at-cited = c .before .before .before .before .before in
+    let at-cite = at-cited .before .before .before .before in
+    let at-start = at-cite .before .before .before .before .before .before .before .before .before .before in (
+      cited-ready (at-start .pre .0) _ _ _ (at-start .pre .1 .0) refl refl (at-cite .cite .ensures) _ (at-cited .cited .given .1),
+      (at-start .pre .1 .1 .0, at-start .pre .1 .1 .1),
+    ))
     (λ c. search needs)
     (λ c. search needs)
     (λ c. search needs)
     (λ c. search needs)
     (λ c. search needs)
-    (λ c. push-for-done (c .before .before .before .before .before .before .before .before .before .before .before .before .before .before .before .before .before .before .before .before .before .before .before .before .before .before .pre .0) _ _ _ (c .before .before .before .before .before .before .before .before .before .before .before .before .before .before .before .before .before .before .before .before .before .before .before .before .before .before .pre .1 .0) refl refl (c .before .before .before .before .before .before .before .before .before .before .before .before .before .before .before .before .cite .ensures) _ _ (c .before .before .before .before .before .before .before .before .before .before .before .before .cited .given .1) (c .before .before .before .before .before .before .push .ensures))
+    (λ c.
+    let at-push = c .before .before .before .before .before .before in
+    let at-cited = at-push .before .before .before .before .before .before in
+    let at-cite = at-cited .before .before .before .before in
+    let at-start = at-cite .before .before .before .before .before .before .before .before .before .before in
+    push-for-done (at-start .pre .0) _ _ _ (at-start .pre .1 .0) refl refl (at-cite .cite .ensures) _ _ (at-cited .cited .given .1) (at-push .push .ensures))
     (λ c. search needs)
     (λ c. search needs)
     (λ c. search needs)
-    (λ c. push-for-stopped (c .before .before .before .before .before .before .before .before .before .before .before .before .before .before .before .pre .0) _ _ _ (c .before .before .before .before .before .before .before .before .before .before .before .before .before .before .before .pre .1 .0) refl refl (c .before .before .before .before .before .cite .ensures) _ _ (c .before .cited2 .given .1)))
+    (λ c.
+    let at-cite = c .before .before .before .before .before in
+    let at-start = at-cite .before .before .before .before .before .before .before .before .before .before in
+    push-for-stopped (at-start .pre .0) _ _ _ (at-start .pre .1 .0) refl refl (at-cite .cite .ensures) _ _ (c .before .cited2 .given .1)))

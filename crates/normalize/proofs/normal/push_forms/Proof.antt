@@ -22,21 +22,65 @@ push-forms-spec =
     (tie.spec
     Inv-loop
     μ-loop
-    (λ c. (omega arith, refl, refl, refl, refl, going-none _ _ _ (c .before .before .before .before .before .before .before .before .pre .0)))
+    (λ c.
+    let at-start = c .before .before .before .before .before .before .before .before in
+    (omega arith, refl, refl, refl, refl, going-none _ _ _ (at-start .pre .0)))
     (λ c. search needs)
     (λ c. search needs)
-    (λ c κs. going-rep (c .before .before .before .loop .inv .5) (c .before .before .before .before .before .before .before .before .before .before .before .before .pre .0) _ (c .before .before .before .before .before .before .before .before .before .before .before .before .pre .1 .0) (every-right (c .before .before .before .before .before .before .before .before .before .before .before .before .args .known .now) _ (all-every _ _ (c .before .before .before .before .before .before .before .before .before .before .before .before .pre .1 .0 .strings))) (c .before .before .loop-test .taken))
-    (λ c κs. (now-ready (c .before .before .before .before .before .before .before .before .loop .inv .5) (c .before .before .before .before .before .before .before .before .before .before .before .before .before .before .before .before .before .pre .0) _ (c .before .before .before .before .before .before .before .before .before .before .before .before .before .before .before .before .before .pre .1 .0) (every-right (c .before .before .before .before .before .before .before .before .before .before .before .before .before .before .before .before .before .args .known .now) _ (all-every _ _ (c .before .before .before .before .before .before .before .before .before .before .before .before .before .before .before .before .before .pre .1 .0 .strings))) (c .before .before .before .before .before .before .before .loop-test .taken), (for-arguments (c .before .before .before .before .before .before .before .before .loop .inv .5) (c .before .before .before .before .before .before .before .before .before .before .before .before .before .before .before .before .before .pre .0) _ (c .before .before .before .before .before .before .before .before .before .before .before .before .before .before .before .before .before .pre .1 .0) (every-right (c .before .before .before .before .before .before .before .before .before .before .before .before .before .before .before .before .before .args .known .now) _ (all-every _ _ (c .before .before .before .before .before .before .before .before .before .before .before .before .before .before .before .before .before .pre .1 .0 .strings))) (c .before .before .before .before .before .before .before .loop-test .taken) _ (c .before .before .before .before .rep .ensures), ((let h = c .before .before .before .before .before .before .before .loop-test .taken in let l = c .before .before .before .before .before .before .before .before .loop .inv .5 .low in let p = c .before .before .before .before .before .before .before .before .before .before .before .before .before .before .before .before .before .pre .1 .1 .0 in omega arith), (let l = c .before .before .before .before .before .before .before .before .loop .inv .4 in let p = c .before .before .before .before .before .before .before .before .before .before .before .before .before .before .before .before .before .pre .1 .1 .1 in omega arith)))))
+    (λ c κs.
+    let at-loop = c .before .before .before in
+    let at-start = at-loop .before .before .before .before .before .before .before .before .before in
+    going-rep (at-loop .loop .inv .5) (at-start .pre .0) _ (at-start .pre .1 .0) (every-right (at-start .args .known .now) _ (all-every _ _ (at-start .pre .1 .0 .strings)))
+    (c .before .before .loop-test .taken))
+    (λ c κs.
+    let at-rep = c .before .before .before .before in
+    let at-loop-test = at-rep .before .before .before in
+    let at-loop = at-loop-test .before in
+    let at-start = at-loop .before .before .before .before .before .before .before .before .before in (
+      now-ready (at-loop .loop .inv .5) (at-start .pre .0) _ (at-start .pre .1 .0) (every-right (at-start .args .known .now) _ (all-every _ _ (at-start .pre .1 .0 .strings)))
+          (at-loop-test .loop-test .taken),
+      (
+        for-arguments (at-loop .loop .inv .5) (at-start .pre .0) _ (at-start .pre .1 .0)
+            (every-right (at-start .args .known .now) _ (all-every _ _ (at-start .pre .1 .0 .strings))) (at-loop-test .loop-test .taken) _ (at-rep .rep .ensures),
+        (
+          (let h = at-loop-test .loop-test .taken in let l = at-loop .loop .inv .5 .low in let p = at-start .pre .1 .1 .0 in omega arith),
+          (let l = at-loop .loop .inv .4 in let p = at-start .pre .1 .1 .1 in omega arith),
+        ),
+      ),
+    ))
     (λ c. search needs)
     (λ c. search needs)
     (λ c. search needs)
     (λ c. search needs)
     (λ c. search needs)
     (λ c. search needs)
-    (λ c. going-stopped (c .before .before .before .before .before .before .before .before .before .before .before .before .before .before .before .before .before .before .before .before .loop .inv .5) (c .before .before .before .before .before .before .before .before .before .before .before .before .before .before .before .before .before .before .before .before .before .before .before .before .before .before .before .before .before .pre .0) _ (c .before .before .before .before .before .before .before .before .before .before .before .before .before .before .before .before .before .before .before .before .before .before .before .before .before .before .before .before .before .pre .1 .0) (every-right (c .before .before .before .before .before .before .before .before .before .before .before .before .before .before .before .before .before .before .before .before .before .before .before .before .before .before .before .before .before .args .known .now) _ (all-every _ _ (c .before .before .before .before .before .before .before .before .before .before .before .before .before .before .before .before .before .before .before .before .before .before .before .before .before .before .before .before .before .pre .1 .0 .strings))) (c .before .before .before .before .before .before .before .before .before .before .before .before .before .before .before .before .before .before .before .loop-test .taken) _ (c .before .before .before .before .before .before .before .before .before .before .before .before .before .before .before .before .rep .ensures) _ _ (c .before .before .before .before .before .before .before .before .before .before .before .push-for .kept .0) refl (c .before .before .before .before .before .before .before .before .before .before .before .push-for .ensures) _ (c .before .form2 .given .1))
-    (λ c. (let h = c .before .before .before .before .before .before .before .before .before .before .before .before .before .before .before .before .before .before .before .loop-test .taken in let p = c .before .before .before .before .before .before .before .before .before .before .before .before .before .before .before .before .before .before .before .before .before .before .before .before .before .before .before .before .before .pre .1 .1 .0 in omega arith))
+    (λ c.
+    let at-push-for = c .before .before .before .before .before .before .before .before .before .before .before in
+    let at-rep = at-push-for .before .before .before .before .before in
+    let at-loop-test = at-rep .before .before .before in
+    let at-loop = at-loop-test .before in
+    let at-start = at-loop .before .before .before .before .before .before .before .before .before in
+    going-stopped (at-loop .loop .inv .5) (at-start .pre .0) _ (at-start .pre .1 .0) (every-right (at-start .args .known .now) _ (all-every _ _ (at-start .pre .1 .0 .strings)))
+    (at-loop-test .loop-test .taken) _ (at-rep .rep .ensures) _ _ (at-push-for .push-for .kept .0) refl (at-push-for .push-for .ensures) _ (c .before .form2 .given .1))
+    (λ c.
+    let at-loop-test = c .before .before .before .before .before .before .before .before .before .before .before .before .before .before .before .before .before .before .before in
+    let at-start = at-loop-test .before .before .before .before .before .before .before .before .before .before in
+    (let h = at-loop-test .loop-test .taken in let p = at-start .pre .1 .1 .0 in omega arith))
     (λ c. search needs)
-    (λ c. (omega arith, search needs, search needs, search needs, search needs, going-turn (c .before .before .before .before .before .before .before .before .before .before .before .before .before .before .before .before .before .before .before .before .loop .inv .5) (c .before .before .before .before .before .before .before .before .before .before .before .before .before .before .before .before .before .before .before .before .before .before .before .before .before .before .before .before .before .pre .0) _ (c .before .before .before .before .before .before .before .before .before .before .before .before .before .before .before .before .before .before .before .before .before .before .before .before .before .before .before .before .before .pre .1 .0) (every-right (c .before .before .before .before .before .before .before .before .before .before .before .before .before .before .before .before .before .before .before .before .before .before .before .before .before .before .before .before .before .args .known .now) _ (all-every _ _ (c .before .before .before .before .before .before .before .before .before .before .before .before .before .before .before .before .before .before .before .before .before .before .before .before .before .before .before .before .before .pre .1 .0 .strings))) (c .before .before .before .before .before .before .before .before .before .before .before .before .before .before .before .before .before .before .before .loop-test .taken) _ (c .before .before .before .before .before .before .before .before .before .before .before .before .before .before .before .before .rep .ensures) _ _ (c .before .before .before .before .before .before .before .before .before .before .before .push-for .kept .0) refl (c .before .before .before .before .before .before .before .before .before .before .before .push-for .ensures) _ _ (c .before .form .given .1)))
+    (λ c. (
+      omega arith,
+      search needs,
+      search needs,
+      search needs,
+      search needs,
+      let at-push-for = c .before .before .before .before .before .before .before .before .before .before .before in
+          let at-rep = at-push-for .before .before .before .before .before in
+          let at-loop-test = at-rep .before .before .before in
+          let at-loop = at-loop-test .before in
+          let at-start = at-loop .before .before .before .before .before .before .before .before .before in
+          going-turn (at-loop .loop .inv .5) (at-start .pre .0) _ (at-start .pre .1 .0) (every-right (at-start .args .known .now) _ (all-every _ _ (at-start .pre .1 .0 .strings)))
+          (at-loop-test .loop-test .taken) _ (at-rep .rep .ensures) _ _ (at-push-for .push-for .kept .0) refl (at-push-for .push-for .ensures) _ _ (c .before .form .given .1),
+    ))
     (λ c. search needs)
     (λ c. search needs)
     (λ c. search needs)

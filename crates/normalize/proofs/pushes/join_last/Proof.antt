@@ -13,15 +13,27 @@ join-last-spec =
     (λ c. search needs)
     (λ c. search needs)
     (λ c. search needs)
-    (λ c κs. (c .before .before .before .before .before .before .before .before .before .before .pre .0, (omega arith, pair-constants (c .before .before .before .before .before .before .before .before .before .before .pre .0) _ _ (c .before .before .before .before .before .before .before .before .before .before .args .list .now) (c .before .before .before .before .before .before .before .before .before .before .pre .1 .1 .0) (c .before .before .before .before .before .before .before .before .before .before .pre .1 .1 .1) (c .before .before .before .before .before .before .before .before .before .before .pre .1 .0))))
+    (λ c κs.
+    let at-start = c .before .before .before .before .before .before .before .before .before .before in
+    (at-start .pre .0, (omega arith, pair-constants (at-start .pre .0) _ _ (at-start .args .list .now) (at-start .pre .1 .1 .0) (at-start .pre .1 .1 .1) (at-start .pre .1 .0))))
     (λ c. search needs)
-    (λ c. omega (arith, c .before .before .before .before .before .before .before .before .before .before .before .before .before .before .before .before .before .before .good))
-    (λ c. search needs)
-    (λ c. search needs)
-    (λ c. search needs)
-    (λ c. search needs)
-    (λ c. search needs)
-    (λ c. join-made (c .before .before .before .before .before .before .before .before .before .before .before .before .before .before .before .before .before .before .pre .0) _ _ (c .before .before .before .before .before .before .before .before .before .before .before .before .before .before .before .before .before .before .args .list .now) (c .before .before .before .before .before .before .before .before .before .before .before .before .before .before .before .before .before .before .pre .1 .1 .0) (c .before .before .before .before .before .before .before .before .before .before .before .before .before .before .before .before .before .before .pre .1 .1 .1) (c .before .before .before .before .before .before .before .before .before .before .before .before .before .before .before .before .before .before .pre .1 .0) _ _ _ (c .before .before .before .before .before .before .before .join-constants-unchecked .ensures) (c .before .made .given .1))
+    (λ c.
+    let at-start = c .before .before .before .before .before .before .before .before .before .before .before .before .before .before .before .before .before .before in
+    omega (arith, at-start .good))
     (λ c. search needs)
     (λ c. search needs)
-    (λ c. join-stopped (c .before .before .before .before .before .before .before .before .before .before .before .before .before .before .before .before .before .before .pre .0) _ _ (c .before .before .before .before .before .before .before .before .before .before .before .before .before .before .before .before .before .before .args .list .now) (c .before .before .before .before .before .before .before .before .before .before .before .before .before .before .before .before .before .before .pre .1 .1 .0) (c .before .before .before .before .before .before .before .before .before .before .before .before .before .before .before .before .before .before .pre .1 .1 .1) (c .before .before .before .before .before .before .before .before .before .before .before .before .before .before .before .before .before .before .pre .1 .0) _ _ (c .before .before .before .before .before .before .before .join-constants-unchecked .ensures) (c .before .made2 .given .1)))
+    (λ c. search needs)
+    (λ c. search needs)
+    (λ c. search needs)
+    (λ c.
+    let at-join-constants-unchecked = c .before .before .before .before .before .before .before in
+    let at-start = at-join-constants-unchecked .before .before .before .before .before .before .before .before .before .before .before in
+    join-made (at-start .pre .0) _ _ (at-start .args .list .now) (at-start .pre .1 .1 .0) (at-start .pre .1 .1 .1) (at-start .pre .1 .0) _ _ _
+    (at-join-constants-unchecked .join-constants-unchecked .ensures) (c .before .made .given .1))
+    (λ c. search needs)
+    (λ c. search needs)
+    (λ c.
+    let at-join-constants-unchecked = c .before .before .before .before .before .before .before in
+    let at-start = at-join-constants-unchecked .before .before .before .before .before .before .before .before .before .before .before in
+    join-stopped (at-start .pre .0) _ _ (at-start .args .list .now) (at-start .pre .1 .1 .0) (at-start .pre .1 .1 .1) (at-start .pre .1 .0) _ _
+    (at-join-constants-unchecked .join-constants-unchecked .ensures) (c .before .made2 .given .1)))

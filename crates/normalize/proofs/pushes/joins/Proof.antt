@@ -7,11 +7,15 @@ pub joins-spec : {M : Type 1} → statement M
 joins-spec =
     tie.close
     (tie.spec
-    (λ c. joins-none _ _ (c .before .before .before .args .list .now) _ (c .if1 .taken))
+    (λ c. let at-start = c .before .before .before in joins-none _ _ (at-start .args .list .now) _ (c .if1 .taken))
     (λ c κs. search needs)
     (λ c. joins-other _ _ _ _ (c .before .kind-of .ensures) (c .if2 .taken))
     (λ c. search needs)
     (λ c. search needs)
     (λ c. search needs)
     (λ c κs. search needs)
-    (λ c. joins-last _ _ (c .before .before .before .before .before .before .before .args .list .now) _ _ _ (c .before .before .before .before .if1 .left) (c .before .before .before .kind-of .ensures) (c .before .before .if2 .left) (c .kind-of2 .ensures)))
+    (λ c.
+    let at-kind-of = c .before .before .before in
+    let at-if1 = at-kind-of .before in
+    let at-start = at-if1 .before .before .before in
+    joins-last _ _ (at-start .args .list .now) _ _ _ (at-if1 .if1 .left) (at-kind-of .kind-of .ensures) (c .before .before .if2 .left) (c .kind-of2 .ensures)))

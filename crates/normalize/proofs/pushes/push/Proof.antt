@@ -11,16 +11,37 @@ push-spec =
     (tie.spec
     (λ c κs. search needs)
     (λ c. search needs)
-    (λ c. push-empty (c .before .before .before .before .before .before .before .before .before .pre .0) _ _ _ (c .before .is-empty .ensures) (c .if1 .taken))
+    (λ c.
+    let at-start = c .before .before .before .before .before .before .before .before .before in
+    push-empty (at-start .pre .0) _ _ _ (c .before .is-empty .ensures) (c .if1 .taken))
     (λ c κs. search needs)
-    (λ c κs. (c .before .before .before .before .before .before .before .before .before .before .before .before .before .before .before .before .pre .0, (sym (c .before .before .before .before .joins .ensures) ∙ c .before .before .before .if2 .taken, (joins-some _ _ (c .before .before .before .before .before .before .before .before .before .before .before .before .before .before .before .before .args .list .now) _ (sym (c .before .before .before .before .joins .ensures) ∙ c .before .before .before .if2 .taken), (let h = c .before .before .before .before .before .before .before .before .before .before .before .before .before .before .before .before .pre .1 in omega arith)))))
+    (λ c κs.
+    let at-if2 = c .before .before .before in
+    let at-joins = at-if2 .before in
+    let at-start = at-joins .before .before .before .before .before .before .before .before .before .before .before .before in (
+      at-start .pre .0,
+      (
+        sym (at-joins .joins .ensures) ∙ at-if2 .if2 .taken,
+        (joins-some _ _ (at-start .args .list .now) _ (sym (at-joins .joins .ensures) ∙ at-if2 .if2 .taken), (let h = at-start .pre .1 in omega arith)),
+      ),
+    ))
     (λ c. search needs)
     (λ c. search needs)
     (λ c. search needs)
-    (λ c. push-joined (c .before .before .before .before .before .before .before .before .before .before .before .before .before .before .before .before .before .before .before .before .before .before .before .pre .0) _ _ _ (c .before .before .before .before .before .before .before .before .before .before .before .before .before .before .before .is-empty .ensures) (c .before .before .before .before .before .before .before .before .before .before .before .before .before .before .if1 .left) (c .before .before .before .before .before .before .join-last .ensures))
+    (λ c.
+    let at-join-last = c .before .before .before .before .before .before in
+    let at-if1 = at-join-last .before .before .before .before .before .before .before .before in
+    let at-is-empty = at-if1 .before in
+    let at-start = at-is-empty .before .before .before .before .before .before .before .before in
+    push-joined (at-start .pre .0) _ _ _ (at-is-empty .is-empty .ensures) (at-if1 .if1 .left) (at-join-last .join-last .ensures))
     (λ c. search needs)
     (λ c. search needs)
     (λ c. search needs)
     (λ c. search needs)
     (λ c. search needs)
-    (λ c. push-plain (c .before .before .before .before .before .before .before .before .before .before .before .before .before .pre .0) _ _ _ (c .before .before .before .before .before .is-empty .ensures) (c .before .before .before .before .if1 .left) (c .before .before .before .before .before .before .before .before .before .before .before .before .before .args .list .now) (c .before .before .before .before .before .before .before .before .before .before .before .before .before .args .count) refl (let h = c .before .before .before .before .before .before .before .before .before .before .before .before .before .pre .1 in omega arith) _ (c .before .joins .ensures) (c .if2 .left)))
+    (λ c.
+    let at-if1 = c .before .before .before .before in
+    let at-is-empty = at-if1 .before in
+    let at-start = at-is-empty .before .before .before .before .before .before .before .before in
+    push-plain (at-start .pre .0) _ _ _ (at-is-empty .is-empty .ensures) (at-if1 .if1 .left) (at-start .args .list .now) (at-start .args .count) refl
+    (let h = at-start .pre .1 in omega arith) _ (c .before .joins .ensures) (c .if2 .left)))

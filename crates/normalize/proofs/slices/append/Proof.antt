@@ -29,6 +29,15 @@ append-spec =
     (λ c. search needs)
     (λ c. search needs)
     (λ c. search needs)
-    (λ c. (omega arith, search needs, append-turn (c .before .before .before .args .to .now) (c .before .before .before .args .k) (c .before .before .before .args .from .now) (c .before .before .loop .to) (c .before .before .loop .i) (omega arith) (c .before .before .loop .inv .2)))
+    (λ c. (
+      omega arith,
+      search needs,
+      let at-loop = c .before .before in
+          let at-start = at-loop .before in
+          append-turn (at-start .args .to .now) (at-start .args .k) (at-start .args .from .now) (at-loop .loop .to) (at-loop .loop .i) (omega arith) (at-loop .loop .inv .2),
+    ))
     (λ c. search needs)
-    (λ c. append-done (c .before .before .args .to .now) (c .before .before .args .k) (c .before .before .args .from .now) (c .before .loop .to) (c .before .before .args .n) (c .before .loop .i) (c .before .loop .inv .0) (c .loop-test .left) (c .before .loop .inv .2)))
+    (λ c.
+    let at-start = c .before .before in
+    append-done (at-start .args .to .now) (at-start .args .k) (at-start .args .from .now) (c .before .loop .to) (at-start .args .n) (c .before .loop .i)
+    (c .before .loop .inv .0) (c .loop-test .left) (c .before .loop .inv .2)))

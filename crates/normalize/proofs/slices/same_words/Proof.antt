@@ -25,8 +25,18 @@ same-words-spec =
     (λ c. search needs)
     (λ c. search needs)
     (λ c. search needs)
-    (λ c. compare-stop (c .before .before .before .before .before .before .args .one .now) (c .before .before .before .before .before .before .args .other .now) _ _ _ (c .before .before .before .before .before .if1 .left) (c .before .before .before .loop-test .taken) (c .if2 .taken))
+    (λ c.
+    let at-loop-test = c .before .before .before in
+    let at-if1 = at-loop-test .before .before in
+    let at-start = at-if1 .before in
+    compare-stop (at-start .args .one .now) (at-start .args .other .now) _ _ _ (at-if1 .if1 .left) (at-loop-test .loop-test .taken) (c .if2 .taken))
     (λ c. search needs)
     (λ c. search needs)
-    (λ c. (omega arith, compare-turn (c .before .before .before .before .before .before .args .one .now) (c .before .before .before .before .before .before .args .other .now) _ (c .before .before .before .before .loop .inv .1) (c .if2 .left)))
-    (λ c. compare-done (c .before .before .before .args .one .now) (c .before .before .before .args .other .now) _ _ _ (c .before .before .if1 .left) (c .before .loop .inv .0) (c .loop-test .left) (c .before .loop .inv .1)))
+    (λ c.
+    let at-loop = c .before .before .before .before in
+    let at-start = at-loop .before .before in
+    (omega arith, compare-turn (at-start .args .one .now) (at-start .args .other .now) _ (at-loop .loop .inv .1) (c .if2 .left)))
+    (λ c.
+    let at-start = c .before .before .before in
+    compare-done (at-start .args .one .now) (at-start .args .other .now) _ _ _ (c .before .before .if1 .left) (c .before .loop .inv .0) (c .loop-test .left)
+    (c .before .loop .inv .1)))

@@ -14,10 +14,25 @@ append-parts-spec =
     (λ c. search needs)
     (λ c. search needs)
     (λ c. search append-full)
-    (λ c κs. let a = c .before .before .before .before .before .before .before .before .before .before .before .before .before .args in let t = a .terms .now in let e = a .cells .now in let h = a .chars .now in let r = a .reasons .now in let k = a .keys .now in let p = c .before .before .before .before .before .cells-fit .ensures in let s = c .before .before .before .before .before .before .before .before .before .before .before .before .before .pre in (append-limit t e h r k (a .c) (a .l .now) _ p s (c .before .before .before .before .if1 .left), append-words t e h r k (a .c) (a .l .now) _ p s (c .before .before .before .before .if1 .left)))
+    (λ c κs.
+    let at-if1 = c .before .before .before .before in
+    let at-cells-fit = at-if1 .before in
+    let at-start = at-cells-fit .before .before .before .before .before .before .before .before in
+    let a = at-start .args in
+    let t = a .terms .now in
+    let e = a .cells .now in
+    let h = a .chars .now in
+    let r = a .reasons .now in
+    let k = a .keys .now in
+    let p = at-cells-fit .cells-fit .ensures in
+    let s = at-start .pre in (append-limit t e h r k (a .c) (a .l .now) _ p s (at-if1 .if1 .left), append-words t e h r k (a .c) (a .l .now) _ p s (at-if1 .if1 .left)))
     (λ c. search needs)
     (λ c. search needs)
-    (λ c κs. let t = c .before .before .before .before .before .before .before .before .before .before .before .before .before .before .before .before .before .args .terms .now in let p = c .before .before .before .before .before .before .term-fits .ensures in (one-limit t _ _ p (c .before .before .before .before .before .if2 .left), one-words t _ _ p (c .before .before .before .before .before .if2 .left)))
+    (λ c κs.
+    let at-if2 = c .before .before .before .before .before in
+    let at-term-fits = at-if2 .before in
+    let at-start = at-term-fits .before .before .before .before .before .before .before .before .before .before .before in
+    let t = at-start .args .terms .now in let p = at-term-fits .term-fits .ensures in (one-limit t _ _ p (at-if2 .if2 .left), one-words t _ _ p (at-if2 .if2 .left)))
     (λ c. search needs)
     (λ c. search needs)
     (λ c κs. search (needs, append-limit))

@@ -16,7 +16,10 @@ make-concatenation-spec =
     (λ c. search needs)
     (λ c. search concat-few)
     (λ c κs. search needs)
-    (λ c κs. passed-ready _ _ _ (c .before .before .before .before .before .before .before .audit .ensures) (c .before .before .before .before .before .before .if1 .left))
+    (λ c κs.
+    let at-if1 = c .before .before .before .before .before .before in
+    let at-audit = at-if1 .before in
+    passed-ready _ _ _ (at-audit .audit .ensures) (at-if1 .if1 .left))
     (λ c. search needs)
     (λ c. search needs)
     (λ c. search concat-called)

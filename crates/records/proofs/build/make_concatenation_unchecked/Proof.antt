@@ -8,7 +8,9 @@ make-concatenation-unchecked-spec =
     tie.close
     (tie.spec
     (λ c κs. search needs)
-    (λ c κs. (c .before .before .before .before .before .before .before .before .before .pre .sized .termLimited, (c .before .before .before .before .before .before .before .before .before .pre .audited .recorded .nexts, parts-from _ _ _ _ (c .before .before .before .before .before .before .before .before .before .pre) (c .before .before .up-to-last .ensures))))
+    (λ c κs.
+    let at-start = c .before .before .before .before .before .before .before .before .before in
+    (at-start .pre .sized .termLimited, (at-start .pre .audited .recorded .nexts, parts-from _ _ _ _ (at-start .pre) (c .before .before .up-to-last .ensures))))
     (λ c. search needs)
     (λ c. search needs)
     (λ c. search concat-old)

@@ -10,11 +10,18 @@ make-sides-spec =
     (tie.spec
     (λ c κs. search needs)
     (λ c κs. search needs)
-    (λ c κs. (c .before .before .before .before .before .before .before .before .pre .0 .sized .termLimited, sides-from _ _ _ _ _ _ _ (c .before .before .before .before .before .before .before .before .pre .0) (c .before .before .before .before .before .before .before .before .pre .1) (c .before .before .higher .ensures) (c .before .up-to-part .ensures)))
+    (λ c κs.
+    let at-start = c .before .before .before .before .before .before .before .before in
+    (at-start .pre .0 .sized .termLimited, sides-from _ _ _ _ _ _ _ (at-start .pre .0) (at-start .pre .1) (c .before .before .higher .ensures) (c .before .up-to-part .ensures)))
     (λ c. search needs)
     (λ c. search sides-old)
     (λ c κs. search needs)
-    (λ c κs. (fits-limit (c .before .before .before .before .before .before .before .before .before .before .before .before .before .before .args .terms .now) _ _ (c .before .before .term-fits .ensures) (c .before .if2 .taken), fits-words (c .before .before .before .before .before .before .before .before .before .before .before .before .before .before .args .terms .now) _ _ (c .before .before .term-fits .ensures) (c .before .if2 .taken)))
+    (λ c κs.
+    let at-term-fits = c .before .before in
+    let at-start = at-term-fits .before .before .before .before .before .before .before .before .before .before .before .before in (
+      fits-limit (at-start .args .terms .now) _ _ (at-term-fits .term-fits .ensures) (c .before .if2 .taken),
+      fits-words (at-start .args .terms .now) _ _ (at-term-fits .term-fits .ensures) (c .before .if2 .taken),
+    ))
     (λ c. search needs)
     (λ c. search needs)
     (λ c κs. search (needs, fits-limit))

@@ -16,16 +16,19 @@ is-string-requires c κs = search needs
 
 returns-2 : tie.Need-returns-2
 returns-2 c =
-    let s = c .before .before .before .before .before in
-    alone-child (s .args .terms .now) (s .args .c) (s .args .t) (s .pre) _ (c .before .before .before .class-parent .ensures) _ (c .before .before .if1 .left) (c .before .is-string .ensures) (c .if2 .taken)
+    let at-class-parent = c .before .before .before in
+    let s = at-class-parent .before .before in
+    alone-child (s .args .terms .now) (s .args .c) (s .args .t) (s .pre) _ (at-class-parent .class-parent .ensures) _ (c .before .before .if1 .left) (c .before .is-string .ensures) (c .if2 .taken)
 
 is-string-requires-2 : tie.Need-is-string-requires-2
 is-string-requires-2 c κs = search needs
 
 returns-3 : tie.Need-returns-3
 returns-3 c =
-    let s = c .before .before .before .before .before .before in
-    alone-parent (s .args .terms .now) (s .args .c) (s .args .t) (s .pre) _ (c .before .before .before .before .class-parent .ensures) _ _ (c .before .before .before .if1 .left) (c .before .before .is-string .ensures) (c .before .if2 .left) (c .is-string2 .ensures)
+    let at-if1 = c .before .before .before in
+    let at-class-parent = at-if1 .before in
+    let s = at-class-parent .before .before in
+    alone-parent (s .args .terms .now) (s .args .c) (s .args .t) (s .pre) _ (at-class-parent .class-parent .ensures) _ _ (at-if1 .if1 .left) (c .before .before .is-string .ensures) (c .before .if2 .left) (c .is-string2 .ensures)
 
 pub alone-ok-spec : {M : Type 1} → statement M
 alone-ok-spec =

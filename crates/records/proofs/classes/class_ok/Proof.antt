@@ -6,7 +6,7 @@ root-unchecked-requires : tie.Need-root-unchecked-requires
 root-unchecked-requires c κs = (c .before .pre .0, seen-roots (c .before .args .terms .now) (c .before .args .c) (c .before .pre .1))
 
 top-unchecked-requires : tie.Need-top-unchecked-requires
-top-unchecked-requires c κs = (c .before .before .pre .0, seen-tops (c .before .before .args .terms .now) (c .before .before .args .c) (c .before .before .pre .1))
+top-unchecked-requires c κs = let at-start = c .before .before in (at-start .pre .0, seen-tops (at-start .args .terms .now) (at-start .args .c) (at-start .pre .1))
 
 root-unchecked-requires-2 : tie.Need-root-unchecked-requires-2
 root-unchecked-requires-2 c κs =
@@ -22,8 +22,9 @@ top-unchecked-requires-2 c κs =
 
 rooted-ok-requires : tie.Need-rooted-ok-requires
 rooted-ok-requires c κs =
-    let s = c .before .before .before .before .before in
-    (seen-rooted (s .args .terms .now) (s .args .c) (s .pre .1) _ _ _ (s .pre .0) (c .before .before .before .root-unchecked .ensures) (c .before .before .top-unchecked .ensures), (c .before .root-unchecked2 .ensures, c .top-unchecked2 .ensures))
+    let at-root-unchecked = c .before .before .before in
+    let s = at-root-unchecked .before .before in
+    (seen-rooted (s .args .terms .now) (s .args .c) (s .pre .1) _ _ _ (s .pre .0) (at-root-unchecked .root-unchecked .ensures) (c .before .before .top-unchecked .ensures), (c .before .root-unchecked2 .ensures, c .top-unchecked2 .ensures))
 
 returns : tie.Need-returns
 returns c = c .rooted-ok .ensures

@@ -14,7 +14,7 @@ returns c =
     classes-not (seen (s .args .terms .now) (s .args .c)) (failed _ _ (c .before .parents-hold .ensures) (c .if1 .taken))
 
 classes-hold-requires : tie.Need-classes-hold-requires
-classes-hold-requires c κs = (c .before .before .before .pre, passed _ _ (c .before .parents-hold .ensures) (c .if1 .left))
+classes-hold-requires c κs = let at-start = c .before .before .before in (at-start .pre, passed _ _ (c .before .parents-hold .ensures) (c .if1 .left))
 
 returns-2 : tie.Need-returns-2
 returns-2 c =

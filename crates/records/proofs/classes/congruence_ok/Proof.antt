@@ -11,16 +11,20 @@ kind-requires c κs = search needs
 
 returns : tie.Need-returns
 returns c =
-    let s = c .before .before .before .before .before .args in
-    congruent-child (s .terms .now) (s .cells .now) (s .c) _ _ (c .before .before .before .before .before .pre .0) (c .before .before .before .before .before .pre .1) (c .before .before .forest-parent .ensures) _ (c .before .kind .ensures) (c .if1 .taken)
+    let at-start = c .before .before .before .before .before in
+    let s = at-start .args in
+    congruent-child (s .terms .now) (s .cells .now) (s .c) _ _ (at-start .pre .0) (at-start .pre .1) (c .before .before .forest-parent .ensures) _ (c .before .kind .ensures) (c .if1 .taken)
 
 kind-requires-2 : tie.Need-kind-requires-2
 kind-requires-2 c κs = search needs
 
 returns-2 : tie.Need-returns-2
 returns-2 c =
-    let s = c .before .before .before .before .before .before .before .args in
-    congruent-parent (s .terms .now) (s .cells .now) (s .c) _ _ (c .before .before .before .before .before .before .before .pre .0) (c .before .before .before .before .before .before .before .pre .1) (c .before .before .before .before .forest-parent .ensures) _ (c .before .before .before .kind .ensures) _ (c .before .kind2 .ensures) (c .if2 .taken)
+    let at-kind = c .before .before .before in
+    let at-forest-parent = at-kind .before in
+    let at-start = at-forest-parent .before .before .before in
+    let s = at-start .args in
+    congruent-parent (s .terms .now) (s .cells .now) (s .c) _ _ (at-start .pre .0) (at-start .pre .1) (at-forest-parent .forest-parent .ensures) _ (at-kind .kind .ensures) _ (c .before .kind2 .ensures) (c .if2 .taken)
 
 label-value-requires : tie.Need-label-value-requires
 label-value-requires c κs = search needs
@@ -36,26 +40,51 @@ pairs-either-ok-requires c κs = search needs
 
 returns-3 : tie.Need-returns-3
 returns-3 c =
-    let s = c .before .before .before .before .before .before .before .before .before .before .before .before .args in
-    congruent-pairs (s .terms .now) (s .cells .now) (s .c) _ _ (c .before .before .before .before .before .before .before .before .before .before .before .before .pre .0) (c .before .before .before .before .before .before .before .before .before .before .before .before .pre .1) (c .before .before .before .before .before .before .before .before .before .forest-parent .ensures) _ (c .before .before .before .before .before .before .before .before .kind .ensures) _ (c .before .before .before .before .before .before .kind2 .ensures) _ _ _ _
-    (c .before .before .before .before .label-value .ensures) (c .before .before .before .first .ensures) (c .before .before .first2 .ensures) (c .before .pairs-either-ok .ensures) (c .if3 .taken)
+    let at-first = c .before .before .before in
+    let at-label-value = at-first .before in
+    let at-kind2 = at-label-value .before .before in
+    let at-kind = at-kind2 .before .before in
+    let at-forest-parent = at-kind .before in
+    let at-start = at-forest-parent .before .before .before in
+    let s = at-start .args in
+    congruent-pairs (s .terms .now) (s .cells .now) (s .c) _ _ (at-start .pre .0) (at-start .pre .1) (at-forest-parent .forest-parent .ensures) _ (at-kind .kind .ensures) _ (at-kind2 .kind2 .ensures) _ _ _ _
+    (at-label-value .label-value .ensures) (at-first .first .ensures) (c .before .before .first2 .ensures) (c .before .pairs-either-ok .ensures) (c .if3 .taken)
 
 stamp-requires : tie.Need-stamp-requires
 stamp-requires c κs = search needs
 
 falls-hold-requires : tie.Need-falls-hold-requires
 falls-hold-requires c κs =
-    let s = c .before .before .before .before .before .before .before .before .before .before .before .before .before .args in (
-      pathed-seen (s .terms .now) (s .cells .now) (s .c) (c .before .before .before .before .before .before .before .before .before .before .before .before .before .pre .0 .pathed),
-      congruent-terms (s .terms .now) (s .cells .now) (s .c) _ _ (c .before .before .before .before .before .before .before .before .before .before .before .before .before .pre .0) (c .before .before .before .before .before .before .before .before .before .before .before .before .before .pre .1) (c .before .before .before .before .before .before .before .before .before .before .forest-parent .ensures) _ (c .before .before .before .before .before .before .before .before .before .kind .ensures) _ (c .before .before .before .before .before .before .before .kind2 .ensures) _ _ _ _
-          (c .before .before .before .before .before .label-value .ensures) (c .before .before .before .before .first .ensures) (c .before .before .before .first2 .ensures) (c .before .before .pairs-either-ok .ensures) (c .before .before .before .before .before .before .before .before .if1 .left) (c .before .before .before .before .before .before .if2 .left) (c .before .if3 .left),
+    let at-first2 = c .before .before .before in
+    let at-first = at-first2 .before in
+    let at-label-value = at-first .before in
+    let at-if2 = at-label-value .before in
+    let at-kind2 = at-if2 .before in
+    let at-if1 = at-kind2 .before in
+    let at-kind = at-if1 .before in
+    let at-forest-parent = at-kind .before in
+    let at-start = at-forest-parent .before .before .before in
+    let s = at-start .args in (
+      pathed-seen (s .terms .now) (s .cells .now) (s .c) (at-start .pre .0 .pathed),
+      congruent-terms (s .terms .now) (s .cells .now) (s .c) _ _ (at-start .pre .0) (at-start .pre .1) (at-forest-parent .forest-parent .ensures) _ (at-kind .kind .ensures) _ (at-kind2 .kind2 .ensures) _ _ _ _
+          (at-label-value .label-value .ensures) (at-first .first .ensures) (at-first2 .first2 .ensures) (c .before .before .pairs-either-ok .ensures) (at-if1 .if1 .left) (at-if2 .if2 .left) (c .before .if3 .left),
     )
 
 returns-4 : tie.Need-returns-4
 returns-4 c =
-    let s = c .before .before .before .before .before .before .before .before .before .before .before .before .before .before .args in
-    congruent-last (s .terms .now) (s .cells .now) (s .c) _ _ (c .before .before .before .before .before .before .before .before .before .before .before .before .before .before .pre .0) (c .before .before .before .before .before .before .before .before .before .before .before .before .before .before .pre .1) (c .before .before .before .before .before .before .before .before .before .before .before .forest-parent .ensures) _ (c .before .before .before .before .before .before .before .before .before .before .kind .ensures) _ (c .before .before .before .before .before .before .before .before .kind2 .ensures) _ _ _ _
-    (c .before .before .before .before .before .before .label-value .ensures) (c .before .before .before .before .before .first .ensures) (c .before .before .before .before .first2 .ensures) (c .before .before .before .pairs-either-ok .ensures) (c .before .before .before .before .before .before .before .before .before .if1 .left) (c .before .before .before .before .before .before .before .if2 .left) (c .before .before .if3 .left) _ _ (c .before .stamp .ensures) (c .falls-hold .ensures)
+    let at-pairs-either-ok = c .before .before .before in
+    let at-first2 = at-pairs-either-ok .before in
+    let at-first = at-first2 .before in
+    let at-label-value = at-first .before in
+    let at-if2 = at-label-value .before in
+    let at-kind2 = at-if2 .before in
+    let at-if1 = at-kind2 .before in
+    let at-kind = at-if1 .before in
+    let at-forest-parent = at-kind .before in
+    let at-start = at-forest-parent .before .before .before in
+    let s = at-start .args in
+    congruent-last (s .terms .now) (s .cells .now) (s .c) _ _ (at-start .pre .0) (at-start .pre .1) (at-forest-parent .forest-parent .ensures) _ (at-kind .kind .ensures) _ (at-kind2 .kind2 .ensures) _ _ _ _
+    (at-label-value .label-value .ensures) (at-first .first .ensures) (at-first2 .first2 .ensures) (at-pairs-either-ok .pairs-either-ok .ensures) (at-if1 .if1 .left) (at-if2 .if2 .left) (c .before .before .if3 .left) _ _ (c .before .stamp .ensures) (c .falls-hold .ensures)
 
 pub congruence-ok-spec : {M : Type 1} → statement M
 congruence-ok-spec =

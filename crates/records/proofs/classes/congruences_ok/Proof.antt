@@ -24,33 +24,39 @@ cast-if1 : tie.Need-cast-if1 Inv-loop μ-loop
 cast-if1 c = search needs
 
 add-edge-ok : tie.Need-add-edge-ok Inv-loop μ-loop
-add-edge-ok c = omega (arith, c .before .before .before .before .before .pre .pathed .limited)
+add-edge-ok c = let at-start = c .before .before .before .before .before in omega (arith, at-start .pre .pathed .limited)
 
 edge-ok-requires : tie.Need-edge-ok-requires Inv-loop μ-loop
-edge-ok-requires c κs = (c .before .before .before .before .before .pre, within-is _ _ (omega arith) (omega arith))
+edge-ok-requires c κs = let at-start = c .before .before .before .before .before in (at-start .pre, within-is _ _ (omega arith) (omega arith))
 
 returns : tie.Need-returns Inv-loop μ-loop
 unfolding congruencesRule
 returns c =
-    let s = c .before .before .before .before .before .before .before .args in
-    each-stop (edgeRule (both (s .terms .now) (s .cells .now) (s .c))) (λ j. termAt (s .terms .now) (suc j)) (s .c .terms) (c .before .before .before .before .loop .i) _ (c .before .edge-ok .ensures) (c .if2 .taken) (c .before .before .if1 .taken)
+    let at-loop = c .before .before .before .before in
+    let at-start = at-loop .before .before .before in
+    let s = at-start .args in
+    each-stop (edgeRule (both (s .terms .now) (s .cells .now) (s .c))) (λ j. termAt (s .terms .now) (suc j)) (s .c .terms) (at-loop .loop .i) _ (c .before .edge-ok .ensures) (c .if2 .taken) (c .before .before .if1 .taken)
 
 add-i : tie.Need-add-i Inv-loop μ-loop
-add-i c = omega (arith, c .before .before .before .before .before .before .before .pre .pathed .limited)
+add-i c = let at-start = c .before .before .before .before .before .before .before in omega (arith, at-start .pre .pathed .limited)
 
 loop-less : tie.Need-loop-less Inv-loop μ-loop
 loop-less c = search needs
 
 loop-again : tie.Need-loop-again Inv-loop μ-loop
 loop-again c =
-    let s = c .before .before .before .before .before .before .before .args in
-    (omega arith, each-turn (edgeRule (both (s .terms .now) (s .cells .now) (s .c))) (c .before .before .before .before .loop .i) _ (c .before .edge-ok .ensures) (c .if2 .left) (c .before .before .before .before .loop .inv .1))
+    let at-loop = c .before .before .before .before in
+    let at-start = at-loop .before .before .before in
+    let s = at-start .args in
+    (omega arith, each-turn (edgeRule (both (s .terms .now) (s .cells .now) (s .c))) (at-loop .loop .i) _ (c .before .edge-ok .ensures) (c .if2 .left) (at-loop .loop .inv .1))
 
 returns-2 : tie.Need-returns-2 Inv-loop μ-loop
 unfolding congruencesRule
 returns-2 c =
-    let s = c .before .before .before .before .before .args in
-    each-done (edgeRule (both (s .terms .now) (s .cells .now) (s .c))) (λ j. termAt (s .terms .now) (suc j)) (s .c .terms) (c .before .before .loop .i) (c .before .before .loop .inv .0) (c .if1 .left) (c .before .before .loop .inv .1)
+    let at-loop = c .before .before in
+    let at-start = at-loop .before .before .before in
+    let s = at-start .args in
+    each-done (edgeRule (both (s .terms .now) (s .cells .now) (s .c))) (λ j. termAt (s .terms .now) (suc j)) (s .c .terms) (at-loop .loop .i) (at-loop .loop .inv .0) (c .if1 .left) (at-loop .loop .inv .1)
 
 pub congruences-ok-spec : {M : Type 1} → statement M
 congruences-ok-spec =

@@ -8,24 +8,29 @@ forest-parent-requires c κs = search needs
 
 returns : tie.Need-returns
 returns c =
-    let s = c .before .before .before .before .args in
-    edge-root (s .terms .now) (s .cells .now) (s .c) _ (c .before .before .before .before .pre .1) _ (c .before .forest-parent .ensures) (c .if1 .taken)
+    let at-start = c .before .before .before .before in
+    let s = at-start .args in
+    edge-root (s .terms .now) (s .cells .now) (s .c) _ (at-start .pre .1) _ (c .before .forest-parent .ensures) (c .if1 .taken)
 
 label-kind-requires : tie.Need-label-kind-requires
 label-kind-requires c κs = search needs
 
 returns-2 : tie.Need-returns-2
 returns-2 c =
-    let s = c .before .before .before .before .before .before .args in
-    edge-other (s .terms .now) (s .cells .now) (s .c) _ (c .before .before .before .before .before .before .pre .1) _ (c .before .label-kind .ensures) (c .if2 .taken)
+    let at-start = c .before .before .before .before .before .before in
+    let s = at-start .args in
+    edge-other (s .terms .now) (s .cells .now) (s .c) _ (at-start .pre .1) _ (c .before .label-kind .ensures) (c .if2 .taken)
 
 congruence-ok-requires : tie.Need-congruence-ok-requires
 congruence-ok-requires c κs = search needs
 
 returns-3 : tie.Need-returns-3
 returns-3 c =
-    let s = c .before .before .before .before .before .before .before .args in
-    edge-congruence (s .terms .now) (s .cells .now) (s .c) _ (c .before .before .before .before .before .before .before .pre .1) _ (c .before .before .label-kind .ensures) _ _ (c .before .before .before .before .forest-parent .ensures) (c .before .before .before .if1 .left) (c .before .if2 .left) (c .congruence-ok .ensures)
+    let at-if1 = c .before .before .before in
+    let at-forest-parent = at-if1 .before in
+    let at-start = at-forest-parent .before .before .before in
+    let s = at-start .args in
+    edge-congruence (s .terms .now) (s .cells .now) (s .c) _ (at-start .pre .1) _ (c .before .before .label-kind .ensures) _ _ (at-forest-parent .forest-parent .ensures) (at-if1 .if1 .left) (c .before .if2 .left) (c .congruence-ok .ensures)
 
 pub edge-ok-spec : {M : Type 1} → statement M
 edge-ok-spec =

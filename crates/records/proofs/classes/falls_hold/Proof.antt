@@ -20,7 +20,9 @@ is-within-requires : tie.Need-is-within-requires Inv-loop μ-loop
 is-within-requires c κs = search needs
 
 returns : tie.Need-returns Inv-loop μ-loop
-returns c = chaining-end _ _ _ _ _ _ _ (c .before .before .before .before .loop .inv) _ (c .before .is-within .ensures) (c .if2 .taken)
+returns c =
+    let at-loop = c .before .before .before .before in
+    chaining-end _ _ _ _ _ _ _ (at-loop .loop .inv) _ (c .before .is-within .ensures) (c .if2 .taken)
 
 value-requires : tie.Need-value-requires Inv-loop μ-loop
 value-requires c κs = search needs
@@ -30,11 +32,22 @@ other-requires c κs = search needs
 
 falls-ok-requires : tie.Need-falls-ok-requires Inv-loop μ-loop
 falls-ok-requires c κs =
-    let h = chaining-head _ _ _ _ _ _ _ (c .before .before .before .before .before .before .loop .inv) _ _ _ (c .before .before .before .before .if1 .taken) (c .before .before .before .is-within .ensures) (c .before .before .if2 .left) (c .before .value .ensures) (c .other .ensures) in
-    (c .before .before .before .before .before .before .before .before .before .pre .0, h .one, h .other)
+    let at-is-within = c .before .before .before in
+    let at-if1 = at-is-within .before in
+    let at-loop = at-if1 .before .before in
+    let at-start = at-loop .before .before .before in
+    let h = chaining-head _ _ _ _ _ _ _ (at-loop .loop .inv) _ _ _ (at-if1 .if1 .taken) (at-is-within .is-within .ensures) (c .before .before .if2 .left) (c .before .value .ensures) (c .other .ensures) in
+    (at-start .pre .0, h .one, h .other)
 
 returns-2 : tie.Need-returns-2 Inv-loop μ-loop
-returns-2 c = chaining-stop _ _ _ _ _ _ _ (c .before .before .before .before .before .before .before .before .loop .inv) _ _ _ (c .before .before .before .before .before .before .if1 .taken) (c .before .before .before .before .before .is-within .ensures) (c .before .before .before .before .if2 .left) (c .before .before .before .value .ensures) (c .before .before .other .ensures) _ (c .before .falls-ok .ensures) (c .if3 .taken)
+returns-2 c =
+    let at-value = c .before .before .before in
+    let at-if2 = at-value .before in
+    let at-is-within = at-if2 .before in
+    let at-if1 = at-is-within .before in
+    let at-loop = at-if1 .before .before in
+    chaining-stop _ _ _ _ _ _ _ (at-loop .loop .inv) _ _ _ (at-if1 .if1 .taken) (at-is-within .is-within .ensures) (at-if2 .if2 .left) (at-value .value .ensures)
+    (c .before .before .other .ensures) _ (c .before .falls-ok .ensures) (c .if3 .taken)
 
 next-requires : tie.Need-next-requires Inv-loop μ-loop
 next-requires c κs = search needs
@@ -47,7 +60,14 @@ loop-less c = search needs
 
 loop-again : tie.Need-loop-again Inv-loop μ-loop
 loop-again c =
-    chaining-turn _ _ _ _ _ _ _ (c .before .before .before .before .before .before .before .before .before .loop .inv) _ _ _ (c .before .before .before .before .before .before .before .if1 .taken) (c .before .before .before .before .before .before .is-within .ensures) (c .before .before .before .before .before .if2 .left) (c .before .before .before .before .value .ensures) (c .before .before .before .other .ensures) _ _ (c .before .before .falls-ok .ensures) (c .before .if3 .left) (c .next .ensures)
+    let at-other = c .before .before .before in
+    let at-value = at-other .before in
+    let at-if2 = at-value .before in
+    let at-is-within = at-if2 .before in
+    let at-if1 = at-is-within .before in
+    let at-loop = at-if1 .before .before in
+    chaining-turn _ _ _ _ _ _ _ (at-loop .loop .inv) _ _ _ (at-if1 .if1 .taken) (at-is-within .is-within .ensures) (at-if2 .if2 .left) (at-value .value .ensures)
+    (at-other .other .ensures) _ _ (c .before .before .falls-ok .ensures) (c .before .if3 .left) (c .next .ensures)
 
 returns-3 : tie.Need-returns-3 Inv-loop μ-loop
 returns-3 c = chaining-done _ _ _ _ _ _ _ (c .before .before .loop .inv) (c .if1 .left)

@@ -7,8 +7,9 @@ nearest-unchecked-requires c κs = (c .before .pre .0 .limited, c .before .pre .
 
 returns : tie.Need-returns
 returns c =
-    let s = c .before .before .before .args in
-    falls-none (s .terms .now) (s .c) _ _ _ _ (c .before .before .before .pre .0) (c .before .before .before .pre .1) (c .before .before .before .pre .2) (c .before .nearest-unchecked .ensures) (c .if1 .taken)
+    let at-start = c .before .before .before in
+    let s = at-start .args in
+    falls-none (s .terms .now) (s .c) _ _ _ _ (at-start .pre .0) (at-start .pre .1) (at-start .pre .2) (c .before .nearest-unchecked .ensures) (c .if1 .taken)
 
 stamps-below-requires : tie.Need-stamps-below-requires
 stamps-below-requires c κs =
@@ -17,8 +18,10 @@ stamps-below-requires c κs =
 
 returns-2 : tie.Need-returns-2
 returns-2 c =
-    let s = c .before .before .before .before .before .args in
-    falls-stop (s .terms .now) (s .c) _ _ _ _ (c .before .before .before .before .before .pre .0) (c .before .before .before .before .before .pre .1) (c .before .before .before .before .before .pre .2) (c .before .before .before .nearest-unchecked .ensures) _ (c .before .stamps-below .ensures) (c .if2 .taken)
+    let at-nearest-unchecked = c .before .before .before in
+    let at-start = at-nearest-unchecked .before .before in
+    let s = at-start .args in
+    falls-stop (s .terms .now) (s .c) _ _ _ _ (at-start .pre .0) (at-start .pre .1) (at-start .pre .2) (at-nearest-unchecked .nearest-unchecked .ensures) _ (c .before .stamps-below .ensures) (c .if2 .taken)
 
 stamps-below-requires-2 : tie.Need-stamps-below-requires-2
 stamps-below-requires-2 c κs =
@@ -27,8 +30,11 @@ stamps-below-requires-2 c κs =
 
 returns-3 : tie.Need-returns-3
 returns-3 c =
-    let s = c .before .before .before .before .before .before .args in
-    falls-last (s .terms .now) (s .c) _ _ _ _ (c .before .before .before .before .before .before .pre .0) (c .before .before .before .before .before .before .pre .1) (c .before .before .before .before .before .before .pre .2) (c .before .before .before .before .nearest-unchecked .ensures) _ _ (c .before .before .before .if1 .left) (c .before .before .stamps-below .ensures) (c .before .if2 .left) (c .stamps-below2 .ensures)
+    let at-if1 = c .before .before .before in
+    let at-nearest-unchecked = at-if1 .before in
+    let at-start = at-nearest-unchecked .before .before in
+    let s = at-start .args in
+    falls-last (s .terms .now) (s .c) _ _ _ _ (at-start .pre .0) (at-start .pre .1) (at-start .pre .2) (at-nearest-unchecked .nearest-unchecked .ensures) _ _ (at-if1 .if1 .left) (c .before .before .stamps-below .ensures) (c .before .if2 .left) (c .stamps-below2 .ensures)
 
 pub falls-ok-spec : {M : Type 1} → statement M
 falls-ok-spec =

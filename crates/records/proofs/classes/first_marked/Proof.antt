@@ -28,15 +28,21 @@ element-copy-out-if1 : tie.Need-element-copy-out-if1 Inv-loop μ-loop
 element-copy-out-if1 c = omega (arith, within-high _ _ (c .before .loop .inv .here))
 
 returns : tie.Need-returns Inv-loop μ-loop
-returns c = rising-stop (c .before .before .before .loop .inv) _ (c .before .before .loop-test .taken) (λ r. seek-here (c .before .before .before .before .before .args .seen .now) (c .before .before .before .loop .x) r (c .if1 .taken))
+returns c =
+    let at-loop = c .before .before .before in
+    let at-start = at-loop .before .before in
+    rising-stop (at-loop .loop .inv) _ (c .before .before .loop-test .taken) (λ r. seek-here (at-start .args .seen .now) (at-loop .loop .x) r (c .if1 .taken))
 
 forest-parent-requires : tie.Need-forest-parent-requires Inv-loop μ-loop
 forest-parent-requires c κs = search needs
 
 returns-2 : tie.Need-returns-2 Inv-loop μ-loop
 returns-2 c =
-    let s = c .before .before .before .before .before .before .before .args .seen .now in
-    sym (seek-none s) ∙ sym (seek-past s (c .before .before .before .before .before .loop .x) _ (c .before .before .if1 .left)) ∙ rising-root (c .before .before .before .before .before .loop .inv) _ (c .before .before .before .before .loop-test .taken) (c .before .forest-parent .ensures) (c .if2 .taken)
+    let at-loop-test = c .before .before .before .before in
+    let at-loop = at-loop-test .before in
+    let at-start = at-loop .before .before in
+    let s = at-start .args .seen .now in
+    sym (seek-none s) ∙ sym (seek-past s (at-loop .loop .x) _ (c .before .before .if1 .left)) ∙ rising-root (at-loop .loop .inv) _ (at-loop-test .loop-test .taken) (c .before .forest-parent .ensures) (c .if2 .taken)
 
 add-i : tie.Need-add-i Inv-loop μ-loop
 add-i c = search needs
@@ -46,11 +52,16 @@ loop-less c = search needs
 
 loop-again : tie.Need-loop-again Inv-loop μ-loop
 loop-again c =
-    let s = c .before .before .before .before .before .before .before .args .seen .now in
-    rising-turn (c .before .before .before .before .before .loop .inv) (λ (r : List ℕ). orNone (firstOf (isMarked s) r)) _ (c .before .before .before .before .before .before .before .pre .2) (c .before .before .before .before .loop-test .taken) (c .before .forest-parent .ensures) (c .if2 .left) (λ r. seek-past s (c .before .before .before .before .before .loop .x) r (c .before .before .if1 .left))
+    let at-loop-test = c .before .before .before .before in
+    let at-loop = at-loop-test .before in
+    let at-start = at-loop .before .before in
+    let s = at-start .args .seen .now in
+    rising-turn (at-loop .loop .inv) (λ (r : List ℕ). orNone (firstOf (isMarked s) r)) _ (at-start .pre .2) (at-loop-test .loop-test .taken) (c .before .forest-parent .ensures) (c .if2 .left) (λ r. seek-past s (at-loop .loop .x) r (c .before .before .if1 .left))
 
 returns-3 : tie.Need-returns-3 Inv-loop μ-loop
-returns-3 c = sym (seek-none (c .before .before .before .args .seen .now)) ∙ rising-done (c .before .loop .inv) (c .loop-test .left)
+returns-3 c =
+    let at-start = c .before .before .before in
+    sym (seek-none (at-start .args .seen .now)) ∙ rising-done (c .before .loop .inv) (c .loop-test .left)
 
 pub first-marked-spec : {M : Type 1} → statement M
 first-marked-spec =

@@ -32,7 +32,9 @@ forest-parent-requires c κs = search needs
 
 returns : tie.Need-returns Inv-loop μ-loop
 unfolding marked
-returns c = rising-root (c .before .before .before .loop .inv) _ (c .before .before .loop-test .taken) (c .before .forest-parent .ensures) (c .if1 .taken)
+returns c =
+    let at-loop = c .before .before .before in
+    rising-root (at-loop .loop .inv) _ (c .before .before .loop-test .taken) (c .before .forest-parent .ensures) (c .if1 .taken)
 
 add-i : tie.Need-add-i Inv-loop μ-loop
 add-i c = search needs
@@ -42,7 +44,11 @@ loop-less c = search needs
 
 loop-again : tie.Need-loop-again Inv-loop μ-loop
 unfolding marked
-loop-again c = rising-turn (c .before .before .before .loop .inv) (λ (r : List ℕ). marked r (set (c .before .before .before .loop .seen) (c .before .before .before .loop .x) 1)) _ (c .before .before .before .before .before .pre .2) (c .before .before .loop-test .taken) (c .before .forest-parent .ensures) (c .if1 .left) (λ r. refl)
+loop-again c =
+    let at-loop = c .before .before .before in
+    let at-start = at-loop .before .before in
+    rising-turn (at-loop .loop .inv) (λ (r : List ℕ). marked r (set (at-loop .loop .seen) (at-loop .loop .x) 1)) _ (at-start .pre .2) (c .before .before .loop-test .taken)
+    (c .before .forest-parent .ensures) (c .if1 .left) (λ r. refl)
 
 returns-2 : tie.Need-returns-2 Inv-loop μ-loop
 unfolding marked

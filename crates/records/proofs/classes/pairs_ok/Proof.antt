@@ -21,13 +21,21 @@ both-ended-requires : tie.Need-both-ended-requires Inv-loop μ-loop
 both-ended-requires c κs = search needs
 
 returns : tie.Need-returns Inv-loop μ-loop
-returns c = linking-end _ _ _ _ _ _ _ _ _ (c .before .before .before .before .loop .inv) _ _ (c .before .before .before .loop-test .taken) (c .before .before .is-within .ensures) (c .before .if1 .taken) (c .both-ended .ensures)
+returns c =
+    let at-loop-test = c .before .before .before in
+    let at-loop = at-loop-test .before in
+    linking-end _ _ _ _ _ _ _ _ _ (at-loop .loop .inv) _ _ (at-loop-test .loop-test .taken) (c .before .before .is-within .ensures) (c .before .if1 .taken) (c .both-ended .ensures)
 
 pair-meets-requires : tie.Need-pair-meets-requires Inv-loop μ-loop
 pair-meets-requires c κs = passed _ _ (c .before .is-within .ensures) (c .if1 .left)
 
 returns-2 : tie.Need-returns-2 Inv-loop μ-loop
-returns-2 c = linking-stop _ _ _ _ _ _ _ _ _ (c .before .before .before .before .before .loop .inv) _ _ (c .before .before .before .before .loop-test .taken) (c .before .before .before .is-within .ensures) (c .before .before .if1 .left) (c .before .pair-meets .ensures) (c .if2 .taken)
+returns-2 c =
+    let at-is-within = c .before .before .before in
+    let at-loop-test = at-is-within .before in
+    let at-loop = at-loop-test .before in
+    linking-stop _ _ _ _ _ _ _ _ _ (at-loop .loop .inv) _ _ (at-loop-test .loop-test .taken) (at-is-within .is-within .ensures) (c .before .before .if1 .left)
+    (c .before .pair-meets .ensures) (c .if2 .taken)
 
 next-requires : tie.Need-next-requires Inv-loop μ-loop
 next-requires c κs = search needs
@@ -46,7 +54,14 @@ loop-less c = search needs
 
 loop-again : tie.Need-loop-again Inv-loop μ-loop
 loop-again c =
-    linking-turn _ _ _ _ _ _ _ _ _ (c .before .before .before .before .before .before .before .before .loop .inv) _ _ (c .before .before .before .before .before .before .before .loop-test .taken) (c .before .before .before .before .before .before .is-within .ensures) (c .before .before .before .before .before .if1 .left) (c .before .before .before .before .pair-meets .ensures) _ _ _ (c .before .before .before .if2 .left) (c .before .before .next .ensures) (c .before .next2 .ensures) (c .next3 .ensures)
+    let at-if2 = c .before .before .before in
+    let at-pair-meets = at-if2 .before in
+    let at-if1 = at-pair-meets .before in
+    let at-is-within = at-if1 .before in
+    let at-loop-test = at-is-within .before in
+    let at-loop = at-loop-test .before in
+    linking-turn _ _ _ _ _ _ _ _ _ (at-loop .loop .inv) _ _ (at-loop-test .loop-test .taken) (at-is-within .is-within .ensures) (at-if1 .if1 .left)
+    (at-pair-meets .pair-meets .ensures) _ _ _ (at-if2 .if2 .left) (c .before .before .next .ensures) (c .before .next2 .ensures) (c .next3 .ensures)
 
 returns-3 : tie.Need-returns-3 Inv-loop μ-loop
 returns-3 c = linking-done _ _ _ _ _ _ _ _ _ (c .before .loop .inv) (c .loop-test .left)

@@ -25,31 +25,37 @@ cast-if1 : tie.Need-cast-if1 Inv-loop μ-loop
 cast-if1 c = search needs
 
 add-parents-ok : tie.Need-add-parents-ok Inv-loop μ-loop
-add-parents-ok c = omega (arith, c .before .before .before .before .pre)
+add-parents-ok c = let at-start = c .before .before .before .before in omega (arith, at-start .pre)
 
 parents-ok-requires : tie.Need-parents-ok-requires Inv-loop μ-loop
 parents-ok-requires c κs = within-is _ _ (omega arith) (omega arith)
 
 returns : tie.Need-returns Inv-loop μ-loop
 returns c =
-    let a = c .before .before .before .before .before .before .args in
-    each-stop (parentsRule (seen (a .terms .now) (a .c))) (λ j. termAt (a .terms .now) (suc j)) (a .c .terms) (c .before .before .before .before .loop .i) _ (c .before .parents-ok .ensures) (c .if2 .taken) (c .before .before .if1 .taken)
+    let at-loop = c .before .before .before .before in
+    let at-start = at-loop .before .before in
+    let a = at-start .args in
+    each-stop (parentsRule (seen (a .terms .now) (a .c))) (λ j. termAt (a .terms .now) (suc j)) (a .c .terms) (at-loop .loop .i) _ (c .before .parents-ok .ensures) (c .if2 .taken) (c .before .before .if1 .taken)
 
 add-i : tie.Need-add-i Inv-loop μ-loop
-add-i c = omega (arith, c .before .before .before .before .before .before .pre)
+add-i c = let at-start = c .before .before .before .before .before .before in omega (arith, at-start .pre)
 
 loop-less : tie.Need-loop-less Inv-loop μ-loop
 loop-less c = search needs
 
 loop-again : tie.Need-loop-again Inv-loop μ-loop
 loop-again c =
-    let a = c .before .before .before .before .before .before .args in
-    (omega arith, each-turn (parentsRule (seen (a .terms .now) (a .c))) (c .before .before .before .before .loop .i) _ (c .before .parents-ok .ensures) (c .if2 .left) (c .before .before .before .before .loop .inv .1))
+    let at-loop = c .before .before .before .before in
+    let at-start = at-loop .before .before in
+    let a = at-start .args in
+    (omega arith, each-turn (parentsRule (seen (a .terms .now) (a .c))) (at-loop .loop .i) _ (c .before .parents-ok .ensures) (c .if2 .left) (at-loop .loop .inv .1))
 
 returns-2 : tie.Need-returns-2 Inv-loop μ-loop
 returns-2 c =
-    let a = c .before .before .before .before .args in
-    each-done (parentsRule (seen (a .terms .now) (a .c))) (λ j. termAt (a .terms .now) (suc j)) (a .c .terms) (c .before .before .loop .i) (c .before .before .loop .inv .0) (c .if1 .left) (c .before .before .loop .inv .1)
+    let at-loop = c .before .before in
+    let at-start = at-loop .before .before in
+    let a = at-start .args in
+    each-done (parentsRule (seen (a .terms .now) (a .c))) (λ j. termAt (a .terms .now) (suc j)) (a .c .terms) (at-loop .loop .i) (at-loop .loop .inv .0) (c .if1 .left) (at-loop .loop .inv .1)
 
 pub parents-hold-spec : {M : Type 1} → statement M
 parents-hold-spec =

@@ -22,8 +22,10 @@ is-within-requires-2 c κs = search needs
 
 returns-2 : tie.Need-returns-2
 returns-2 c =
-    let s = c .before .before .before .before .before .before in
-    parents-last (s .args .terms .now) (s .args .c) (s .args .t) (s .pre) _ _ _ _ (c .before .before .before .before .class-parent .ensures) (c .before .before .before .is-within .ensures) (c .before .before .if1 .left) (c .before .forest-parent .ensures) (c .is-within2 .ensures)
+    let at-is-within = c .before .before .before in
+    let at-class-parent = at-is-within .before in
+    let s = at-class-parent .before .before in
+    parents-last (s .args .terms .now) (s .args .c) (s .args .t) (s .pre) _ _ _ _ (at-class-parent .class-parent .ensures) (at-is-within .is-within .ensures) (c .before .before .if1 .left) (c .before .forest-parent .ensures) (c .is-within2 .ensures)
 
 pub parents-ok-spec : {M : Type 1} → statement M
 parents-ok-spec =

@@ -20,9 +20,11 @@ class-parent-requires c κs = search needs
 
 returns : tie.Need-returns Inv-loop μ-loop
 returns c =
-    let l = c .before .before .before .before .before .args .terms .now in
-    let n = c .before .before .before .before .before .args .n in
-    root-counted l n _ _ (climbing-here _ _ _ _ _ _ (c .before .before .before .loop .inv) (view-class l n _ _ (c .before .before .before .loop .inv .here) (c .before .class-parent .ensures)) (c .if1 .taken))
+    let at-loop = c .before .before .before in
+    let at-start = at-loop .before .before in
+    let l = at-start .args .terms .now in
+    let n = at-start .args .n in
+    root-counted l n _ _ (climbing-here _ _ _ _ _ _ (at-loop .loop .inv) (view-class l n _ _ (at-loop .loop .inv .here) (c .before .class-parent .ensures)) (c .if1 .taken))
 
 add-i : tie.Need-add-i Inv-loop μ-loop
 add-i c = search needs
@@ -32,8 +34,10 @@ loop-less c = search needs
 
 loop-again : tie.Need-loop-again Inv-loop μ-loop
 loop-again c =
-    let e = view-class (c .before .before .before .before .before .args .terms .now) (c .before .before .before .before .before .args .n) _ _ (c .before .before .before .loop .inv .here) (c .before .class-parent .ensures) in
-    climbing-turn _ _ _ _ _ _ (c .before .before .before .loop .inv) e (c .before .before .before .before .before .pre .1) (c .before .before .loop-test .taken)
+    let at-loop = c .before .before .before in
+    let at-start = at-loop .before .before in
+    let e = view-class (at-start .args .terms .now) (at-start .args .n) _ _ (at-loop .loop .inv .here) (c .before .class-parent .ensures) in
+    climbing-turn _ _ _ _ _ _ (at-loop .loop .inv) e (at-start .pre .1) (c .before .before .loop-test .taken)
 
 returns-2 : tie.Need-returns-2 Inv-loop μ-loop
 returns-2 c =

@@ -24,7 +24,8 @@ loop-holds c =
 
 returns : tie.Need-returns Inv-loop μ-loop
 returns c =
-    let a = c .before .before .before .before .args in
+    let at-start = c .before .before .before .before in
+    let a = at-start .args in
     rising-stop (c .before .before .loop .inv) true (c .before .loop-test .taken) (λ r. sym (upto-end (stampBelow (termsView (a .terms .now) (a .n)) (a .m)) _ _ r (c .if1 .taken)))
 
 stamp-requires : tie.Need-stamp-requires Inv-loop μ-loop
@@ -32,19 +33,27 @@ stamp-requires c κs = search needs
 
 returns-2 : tie.Need-returns-2 Inv-loop μ-loop
 returns-2 c =
-    let a = c .before .before .before .before .before .before .args in
-    let h = stamp-high (a .terms .now) (a .n) _ _ _ (c .before .before .before .before .loop .inv .here) (c .before .stamp .ensures) (c .if2 .taken) in
-    rising-stop (c .before .before .before .before .loop .inv) false (c .before .before .before .loop-test .taken) (λ r. upto-stop (stampBelow (termsView (a .terms .now) (a .n)) (a .m)) _ _ r (c .before .before .if1 .left) h)
+    let at-loop-test = c .before .before .before in
+    let at-loop = at-loop-test .before in
+    let at-start = at-loop .before .before in
+    let a = at-start .args in
+    let h = stamp-high (a .terms .now) (a .n) _ _ _ (at-loop .loop .inv .here) (c .before .stamp .ensures) (c .if2 .taken) in
+    rising-stop (at-loop .loop .inv) false (at-loop-test .loop-test .taken) (λ r. upto-stop (stampBelow (termsView (a .terms .now) (a .n)) (a .m)) _ _ r (c .before .before .if1 .left) h)
 
 forest-parent-requires : tie.Need-forest-parent-requires Inv-loop μ-loop
 forest-parent-requires c κs = search needs
 
 returns-3 : tie.Need-returns-3 Inv-loop μ-loop
 returns-3 c =
-    let a = c .before .before .before .before .before .before .before .before .args in
+    let at-stamp = c .before .before .before in
+    let at-if1 = at-stamp .before in
+    let at-loop-test = at-if1 .before in
+    let at-loop = at-loop-test .before in
+    let at-start = at-loop .before .before in
+    let a = at-start .args in
     let q : ℕ → Bool = stampBelow (termsView (a .terms .now) (a .n)) (a .m) in
-    let h = stamp-low (a .terms .now) (a .n) _ _ _ (c .before .before .before .before .before .before .loop .inv .here) (c .before .before .before .stamp .ensures) (c .before .before .if2 .left) in
-    sym (upto-turn q _ _ [] (c .before .before .before .before .if1 .left) h ∙ upto-none q _) ∙ rising-root (c .before .before .before .before .before .before .loop .inv) _ (c .before .before .before .before .before .loop-test .taken) (c .before .forest-parent .ensures) (c .if3 .taken)
+    let h = stamp-low (a .terms .now) (a .n) _ _ _ (at-loop .loop .inv .here) (at-stamp .stamp .ensures) (c .before .before .if2 .left) in
+    sym (upto-turn q _ _ [] (at-if1 .if1 .left) h ∙ upto-none q _) ∙ rising-root (at-loop .loop .inv) _ (at-loop-test .loop-test .taken) (c .before .forest-parent .ensures) (c .if3 .taken)
 
 add-i : tie.Need-add-i Inv-loop μ-loop
 add-i c = search needs
@@ -54,14 +63,20 @@ loop-less c = search needs
 
 loop-again : tie.Need-loop-again Inv-loop μ-loop
 loop-again c =
-    let a = c .before .before .before .before .before .before .before .before .args in
+    let at-stamp = c .before .before .before in
+    let at-if1 = at-stamp .before in
+    let at-loop-test = at-if1 .before in
+    let at-loop = at-loop-test .before in
+    let at-start = at-loop .before .before in
+    let a = at-start .args in
     let q : ℕ → Bool = stampBelow (termsView (a .terms .now) (a .n)) (a .m) in
-    let h = stamp-low (a .terms .now) (a .n) _ _ _ (c .before .before .before .before .before .before .loop .inv .here) (c .before .before .before .stamp .ensures) (c .before .before .if2 .left) in
-    rising-turn (c .before .before .before .before .before .before .loop .inv) (λ (r : List ℕ). all q (upTo (a .x) r)) _ (c .before .before .before .before .before .before .before .before .pre .2) (c .before .before .before .before .before .loop-test .taken) (c .before .forest-parent .ensures) (c .if3 .left) (λ r. upto-turn q _ _ r (c .before .before .before .before .if1 .left) h)
+    let h = stamp-low (a .terms .now) (a .n) _ _ _ (at-loop .loop .inv .here) (at-stamp .stamp .ensures) (c .before .before .if2 .left) in
+    rising-turn (at-loop .loop .inv) (λ (r : List ℕ). all q (upTo (a .x) r)) _ (at-start .pre .2) (at-loop-test .loop-test .taken) (c .before .forest-parent .ensures) (c .if3 .left) (λ r. upto-turn q _ _ r (at-if1 .if1 .left) h)
 
 returns-4 : tie.Need-returns-4 Inv-loop μ-loop
 returns-4 c =
-    let a = c .before .before .before .args in
+    let at-start = c .before .before .before in
+    let a = at-start .args in
     sym (upto-none (stampBelow (termsView (a .terms .now) (a .n)) (a .m)) (a .x)) ∙ rising-done (c .before .loop .inv) (c .loop-test .left)
 
 pub stamps-below-spec : {M : Type 1} → statement M

@@ -15,15 +15,55 @@ append-text-spec =
     (λ c κs. search needs)
     (λ c. search needs)
     (λ c. search needs)
-    (λ c. text-full _ _ _ refl _ (c .before .before .before .before .text-fits .ensures) (c .before .before .before .if1 .left) _ (c .before .term-fits .ensures) (c .if2 .taken))
-    (λ c κs. long-room (c .before .before .before .before .before .before .before .before .before .before .before .before .before .pre) _ (c .before .before .before .before .if1 .left) _ (c .before .before .before .before .before .text-fits .ensures))
+    (λ c.
+    let at-if1 = c .before .before .before in
+    let at-text-fits = at-if1 .before in
+    text-full _ _ _ refl _ (at-text-fits .text-fits .ensures) (at-if1 .if1 .left) _ (c .before .term-fits .ensures) (c .if2 .taken))
+    (λ c κs.
+    let at-if1 = c .before .before .before .before in
+    let at-text-fits = at-if1 .before in
+    let at-start = at-text-fits .before .before .before .before .before .before .before .before in
+    long-room (at-start .pre) _ (at-if1 .if1 .left) _ (at-text-fits .text-fits .ensures))
     (λ c. search needs)
-    (λ c. omega (arith, long-limit (c .before .before .before .before .before .before .before .before .before .before .before .before .before .before .before .before .before .before .pre) _ (c .before .before .before .before .before .before .before .before .before .if1 .left) _ (c .before .before .before .before .before .before .before .before .before .before .text-fits .ensures)))
-    (λ c κs. (one-limit (c .before .before .before .before .before .before .before .before .before .before .before .before .before .before .before .before .before .before .pre) _ (c .before .before .before .before .before .before .if2 .left) (c .before .before .before .before .before .before .before .term-fits .ensures), one-room (c .before .before .before .before .before .before .before .before .before .before .before .before .before .before .before .before .before .before .pre) _ (c .before .before .before .before .before .before .if2 .left) (c .before .before .before .before .before .before .before .term-fits .ensures)))
-    (λ c κs. long-limit (c .before .before .before .before .before .before .before .before .before .before .before .before .before .before .before .before .before .before .before .before .before .pre) _ (c .before .before .before .before .before .before .before .before .before .before .before .before .if1 .left) _ (c .before .before .before .before .before .before .before .before .before .before .before .before .before .text-fits .ensures))
-    (λ c. omega (arith, one-limit (c .before .before .before .before .before .before .before .before .before .before .before .before .before .before .before .before .before .before .before .before .before .before .pre) _ (c .before .before .before .before .before .before .before .before .before .before .if2 .left) (c .before .before .before .before .before .before .before .before .before .before .before .term-fits .ensures)))
-    (λ c. omega (arith, one-limit (c .before .before .before .before .before .before .before .before .before .before .before .before .before .before .before .before .before .before .before .before .before .before .pre) _ (c .before .before .before .before .before .before .before .before .before .before .if2 .left) (c .before .before .before .before .before .before .before .before .before .before .before .term-fits .ensures)))
-    (λ c κs. next-limit (c .before .before .before .before .before .before .before .before .before .before .before .before .before .before .before .before .before .before .before .before .before .before .pre) _ (c .before .before .before .before .before .before .before .before .before .before .if2 .left) _ (c .with-chars .ensures) (c .before .before .before .before .before .before .before .before .before .before .before .term-fits .ensures))
+    (λ c.
+    let at-if1 = c .before .before .before .before .before .before .before .before .before in
+    let at-text-fits = at-if1 .before in
+    let at-start = at-text-fits .before .before .before .before .before .before .before .before in
+    omega (arith, long-limit (at-start .pre) _ (at-if1 .if1 .left) _ (at-text-fits .text-fits .ensures)))
+    (λ c κs.
+    let at-if2 = c .before .before .before .before .before .before in
+    let at-term-fits = at-if2 .before in
+    let at-start = at-term-fits .before .before .before .before .before .before .before .before .before .before .before in
+    (one-limit (at-start .pre) _ (at-if2 .if2 .left) (at-term-fits .term-fits .ensures), one-room (at-start .pre) _ (at-if2 .if2 .left) (at-term-fits .term-fits .ensures)))
+    (λ c κs.
+    let at-if1 = c .before .before .before .before .before .before .before .before .before .before .before .before in
+    let at-text-fits = at-if1 .before in
+    let at-start = at-text-fits .before .before .before .before .before .before .before .before in
+    long-limit (at-start .pre) _ (at-if1 .if1 .left) _ (at-text-fits .text-fits .ensures))
+    (λ c.
+    let at-if2 = c .before .before .before .before .before .before .before .before .before .before in
+    let at-term-fits = at-if2 .before in
+    let at-start = at-term-fits .before .before .before .before .before .before .before .before .before .before .before in
+    omega (arith, one-limit (at-start .pre) _ (at-if2 .if2 .left) (at-term-fits .term-fits .ensures)))
+    (λ c.
+    let at-if2 = c .before .before .before .before .before .before .before .before .before .before in
+    let at-term-fits = at-if2 .before in
+    let at-start = at-term-fits .before .before .before .before .before .before .before .before .before .before .before in
+    omega (arith, one-limit (at-start .pre) _ (at-if2 .if2 .left) (at-term-fits .term-fits .ensures)))
+    (λ c κs.
+    let at-if2 = c .before .before .before .before .before .before .before .before .before .before in
+    let at-term-fits = at-if2 .before in
+    let at-start = at-term-fits .before .before .before .before .before .before .before .before .before .before .before in
+    next-limit (at-start .pre) _ (at-if2 .if2 .left) _ (c .with-chars .ensures) (at-term-fits .term-fits .ensures))
     (λ c. search needs)
     (λ c. search needs)
-    (λ c. text-made _ _ _ refl _ (c .before .before .before .before .before .before .before .before .before .before .before .before .before .before .before .text-fits .ensures) (c .before .before .before .before .before .before .before .before .before .before .before .before .before .before .if1 .left) _ (c .before .before .before .before .before .before .before .before .before .before .before .before .term-fits .ensures) (c .before .before .before .before .before .before .before .before .before .before .before .if2 .left) (c .before .before .before .before .before .before .before .before .before .put-text-unchecked .ensures) (c .before .before .before .before .before .before .before .before .before .put-text-unchecked .kept .0) (c .before .before .before .before .put-term-unchecked .ensures) (c .before .before .before .before .put-term-unchecked .kept .0) (c .before .with-chars .ensures) (c .with-term .ensures)))
+    (λ c.
+    let at-put-term-unchecked = c .before .before .before .before in
+    let at-put-text-unchecked = at-put-term-unchecked .before .before .before .before .before in
+    let at-if2 = at-put-text-unchecked .before .before in
+    let at-term-fits = at-if2 .before in
+    let at-if1 = at-term-fits .before .before in
+    let at-text-fits = at-if1 .before in
+    text-made _ _ _ refl _ (at-text-fits .text-fits .ensures) (at-if1 .if1 .left) _ (at-term-fits .term-fits .ensures) (at-if2 .if2 .left)
+    (at-put-text-unchecked .put-text-unchecked .ensures) (at-put-text-unchecked .put-text-unchecked .kept .0) (at-put-term-unchecked .put-term-unchecked .ensures)
+    (at-put-term-unchecked .put-term-unchecked .kept .0) (c .before .with-chars .ensures) (c .with-term .ensures)))

@@ -21,7 +21,11 @@ find-text-unchecked-spec =
     (λ c. search needs)
     (λ c. search needs)
     (λ c κs. search needs)
-    (λ c. hit _ _ _ (c .before .before .before .loop .inv) _ (c .before .before .loop-test .taken) (c .before .has-text .ensures) (c .if1 .taken))
+    (λ c.
+    let at-loop = c .before .before .before in
+    hit _ _ _ (at-loop .loop .inv) _ (c .before .before .loop-test .taken) (c .before .has-text .ensures) (c .if1 .taken))
     (λ c. search needs)
-    (λ c. passed-one _ _ _ (c .before .before .before .loop .inv) _ (c .before .before .loop-test .taken) (c .before .has-text .ensures) (c .if1 .left))
+    (λ c.
+    let at-loop = c .before .before .before in
+    passed-one _ _ _ (at-loop .loop .inv) _ (c .before .before .loop-test .taken) (c .before .has-text .ensures) (c .if1 .left))
     (λ c. passed-all _ _ _ (c .before .loop .inv) (c .loop-test .left)))

@@ -12,7 +12,16 @@ has-joined-spec =
     (λ c. other-kind _ _ _ _ _ _ (c .before .kind .ensures) (c .if1 .taken))
     (λ c κs. search needs)
     (λ c. search needs)
-    (λ c. joined-other _ _ _ _ _ (c .before .before .before .kind .ensures) _ _ (c .before .second .ensures) (c .before .before .before .before .before .before .before .pre .1 .1) (c .if2 .taken))
+    (λ c.
+    let at-kind = c .before .before .before in
+    let at-start = at-kind .before .before .before .before in
+    joined-other _ _ _ _ _ (at-kind .kind .ensures) _ _ (c .before .second .ensures) (at-start .pre .1 .1) (c .if2 .taken))
     (λ c κs. search needs)
     (λ c κs. search needs)
-    (λ c. joined-equal _ _ _ _ _ (c .before .before .before .before .before .kind .ensures) _ _ (c .before .before .before .second .ensures) (c .before .before .before .before .before .before .before .before .before .pre .1 .1) _ _ (c .before .before .before .before .if1 .left) (c .before .before .if2 .left) (c .before .first .ensures) (c .joined-is-unchecked .ensures)))
+    (λ c.
+    let at-second = c .before .before .before in
+    let at-if1 = at-second .before in
+    let at-kind = at-if1 .before in
+    let at-start = at-kind .before .before .before .before in
+    joined-equal _ _ _ _ _ (at-kind .kind .ensures) _ _ (at-second .second .ensures) (at-start .pre .1 .1) _ _ (at-if1 .if1 .left) (c .before .before .if2 .left)
+    (c .before .first .ensures) (c .joined-is-unchecked .ensures)))

@@ -11,7 +11,12 @@ has-text-spec =
     (λ c. other-kind _ _ _ _ _ _ (c .before .kind .ensures) (c .if1 .taken))
     (λ c κs. search needs)
     (λ c. search needs)
-    (λ c. other-length _ _ _ _ _ _ (c .before .before .before .kind .ensures) _ (c .before .second .ensures) (c .if2 .taken))
+    (λ c. let at-kind = c .before .before .before in other-length _ _ _ _ _ _ (at-kind .kind .ensures) _ (c .before .second .ensures) (c .if2 .taken))
     (λ c κs. search needs)
     (λ c κs. search needs)
-    (λ c. same-kind _ _ _ _ _ _ (c .before .before .before .before .before .kind .ensures) _ (c .before .before .before .second .ensures) _ _ (c .before .before .before .before .if1 .left) (c .before .before .if2 .left) (c .before .first .ensures) (c .text-is .ensures)))
+    (λ c.
+    let at-second = c .before .before .before in
+    let at-if1 = at-second .before in
+    let at-kind = at-if1 .before in
+    same-kind _ _ _ _ _ _ (at-kind .kind .ensures) _ (at-second .second .ensures) _ _ (at-if1 .if1 .left) (c .before .before .if2 .left) (c .before .first .ensures)
+    (c .text-is .ensures)))

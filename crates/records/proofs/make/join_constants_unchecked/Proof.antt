@@ -9,26 +9,63 @@ use Rattle.records.proofs.make.join_constants_unchecked.Tie as tie
 
 returns : tie.Need-returns
 unfolding within
-returns c = joined-made (c .before .before .before .before .before .before .before .before .before .before .before .before .pre .0) _ (c .before .before .before .before .before .before .before .before .before .before .before .before .pre .1 .1) (text-found (c .before .before .before .before .before .before .before .before .before .before .before .before .pre .0) 1 refl _ _ (c .before .find-joined .ensures) (c .if1 .taken))
+returns c =
+    let at-start = c .before .before .before .before .before .before .before .before .before .before .before .before in
+    joined-made (at-start .pre .0) _ (at-start .pre .1 .1) (text-found (at-start .pre .0) 1 refl _ _ (c .before .find-joined .ensures) (c .if1 .taken))
 
 returns-2 : tie.Need-returns-2
 unfolding within
-returns-2 c = joined-made (c .before .before .before .before .before .before .before .before .before .before .before .before .before .before .before .pre .0) _ (c .before .before .before .before .before .before .before .before .before .before .before .before .before .before .before .pre .1 .1) (text-new (c .before .before .before .before .before .before .before .before .before .before .before .before .before .before .before .pre .0) 1 refl _ _ (c .before .before .before .before .find-joined .ensures) (c .before .before .before .if1 .left) (text-long 1 _ _ (total-long (c .before .before .before .before .before .before .before .before .before .before .before .before .before .before .before .pre .0) _ _ (c .before .before .before .before .before .before .before .joined-length-unchecked .ensures)) _ (c .before .text-fits .ensures) (c .if2 .taken)))
+returns-2 c =
+    let at-if1 = c .before .before .before in
+    let at-find-joined = at-if1 .before in
+    let at-joined-length-unchecked = at-find-joined .before .before .before in
+    let at-start = at-joined-length-unchecked .before .before .before .before .before .before .before .before in
+    joined-made (at-start .pre .0) _ (at-start .pre .1 .1)
+    (text-new (at-start .pre .0) 1 refl _ _ (at-find-joined .find-joined .ensures) (at-if1 .if1 .left)
+    (text-long 1 _ _ (total-long (at-start .pre .0) _ _ (at-joined-length-unchecked .joined-length-unchecked .ensures)) _ (c .before .text-fits .ensures) (c .if2 .taken)))
 
 returns-3 : tie.Need-returns-3
 unfolding within
-returns-3 c = joined-made (c .before .before .before .before .before .before .before .before .before .before .before .before .before .before .before .before .before .before .pre .0) _ (c .before .before .before .before .before .before .before .before .before .before .before .before .before .before .before .before .before .before .pre .1 .1) (text-new (c .before .before .before .before .before .before .before .before .before .before .before .before .before .before .before .before .before .before .pre .0) 1 refl _ _ (c .before .before .before .before .before .before .before .find-joined .ensures) (c .before .before .before .before .before .before .if1 .left) (text-full 1 _ _ (total-long (c .before .before .before .before .before .before .before .before .before .before .before .before .before .before .before .before .before .before .pre .0) _ _ (c .before .before .before .before .before .before .before .before .before .before .joined-length-unchecked .ensures)) _ (c .before .before .before .before .text-fits .ensures) (c .before .before .before .if2 .left) _ (c .before .term-fits .ensures) (c .if3 .taken)))
+returns-3 c =
+    let at-if2 = c .before .before .before in
+    let at-text-fits = at-if2 .before in
+    let at-if1 = at-text-fits .before .before in
+    let at-find-joined = at-if1 .before in
+    let at-joined-length-unchecked = at-find-joined .before .before .before in
+    let at-start = at-joined-length-unchecked .before .before .before .before .before .before .before .before in
+    joined-made (at-start .pre .0) _ (at-start .pre .1 .1)
+    (text-new (at-start .pre .0) 1 refl _ _ (at-find-joined .find-joined .ensures) (at-if1 .if1 .left)
+    (text-full 1 _ _ (total-long (at-start .pre .0) _ _ (at-joined-length-unchecked .joined-length-unchecked .ensures)) _ (at-text-fits .text-fits .ensures)
+    (at-if2 .if2 .left) _ (c .before .term-fits .ensures) (c .if3 .taken)))
 
 returns-4 : tie.Need-returns-4
 unfolding within
-returns-4 c = joined-made (c .before .before .before .before .before .before .before .before .before .before .before .before .before .before .before .before .before .before .before .before .before .before .before .before .before .before .before .before .before .before .pre .0) _ (c .before .before .before .before .before .before .before .before .before .before .before .before .before .before .before .before .before .before .before .before .before .before .before .before .before .before .before .before .before .before .pre .1 .1) (text-new (c .before .before .before .before .before .before .before .before .before .before .before .before .before .before .before .before .before .before .before .before .before .before .before .before .before .before .before .before .before .before .pre .0) 1 refl _ _ (c .before .before .before .before .before .before .before .before .before .before .before .before .before .before .before .before .before .before .before .find-joined .ensures) (c .before .before .before .before .before .before .before .before .before .before .before .before .before .before .before .before .before .before .if1 .left) (text-made 1 _ _ (total-long (c .before .before .before .before .before .before .before .before .before .before .before .before .before .before .before .before .before .before .before .before .before .before .before .before .before .before .before .before .before .before .pre .0) _ _ (c .before .before .before .before .before .before .before .before .before .before .before .before .before .before .before .before .before .before .before .before .before .before .joined-length-unchecked .ensures)) _ (c .before .before .before .before .before .before .before .before .before .before .before .before .before .before .before .before .text-fits .ensures) (c .before .before .before .before .before .before .before .before .before .before .before .before .before .before .before .if2 .left) _ (c .before .before .before .before .before .before .before .before .before .before .before .before .before .term-fits .ensures) (c .before .before .before .before .before .before .before .before .before .before .before .before .if3 .left) (c .before .before .before .before .before .before .before .before .before .put-joined-unchecked .ensures) (c .before .before .before .before .before .before .before .before .before .put-joined-unchecked .kept .1 .0) (c .before .before .before .before .put-term-unchecked .ensures) (c .before .before .before .before .put-term-unchecked .kept .0) (c .before .with-chars .ensures) (c .with-term .ensures)))
+returns-4 c =
+    let at-put-term-unchecked = c .before .before .before .before in
+    let at-put-joined-unchecked = at-put-term-unchecked .before .before .before .before .before in
+    let at-if3 = at-put-joined-unchecked .before .before .before in
+    let at-term-fits = at-if3 .before in
+    let at-if2 = at-term-fits .before .before in
+    let at-text-fits = at-if2 .before in
+    let at-if1 = at-text-fits .before .before in
+    let at-find-joined = at-if1 .before in
+    let at-joined-length-unchecked = at-find-joined .before .before .before in
+    let at-start = at-joined-length-unchecked .before .before .before .before .before .before .before .before in
+    joined-made (at-start .pre .0) _ (at-start .pre .1 .1)
+    (text-new (at-start .pre .0) 1 refl _ _ (at-find-joined .find-joined .ensures) (at-if1 .if1 .left)
+    (text-made 1 _ _ (total-long (at-start .pre .0) _ _ (at-joined-length-unchecked .joined-length-unchecked .ensures)) _ (at-text-fits .text-fits .ensures)
+    (at-if2 .if2 .left) _ (at-term-fits .term-fits .ensures) (at-if3 .if3 .left) (at-put-joined-unchecked .put-joined-unchecked .ensures)
+    (at-put-joined-unchecked .put-joined-unchecked .kept .1 .0) (at-put-term-unchecked .put-term-unchecked .ensures) (at-put-term-unchecked .put-term-unchecked .kept .0)
+    (c .before .with-chars .ensures) (c .with-term .ensures)))
 
 pub join-constants-unchecked-spec : {M : Type 1} → statement M
 join-constants-unchecked-spec =
     tie.close
     (tie.spec
     (λ c κs. search needs)
-    (λ c κs. (c .before .before .before .before .before .before .before .before .before .before .pre .0 .sized .termLimited, (c .before .before .before .before .before .before .before .before .before .before .pre .1 .0, (texts-there (c .before .before .before .before .before .before .before .before .before .before .pre .0) _ (c .before .before .before .before .before .before .before .before .before .before .pre .1 .1), c .before .before .joined-length-unchecked .ensures))))
+    (λ c κs.
+    let at-start = c .before .before .before .before .before .before .before .before .before .before in
+    (at-start .pre .0 .sized .termLimited, (at-start .pre .1 .0, (texts-there (at-start .pre .0) _ (at-start .pre .1 .1), c .before .before .joined-length-unchecked .ensures))))
     (λ c. search needs)
     (λ c. search needs)
     returns
@@ -40,14 +77,49 @@ join-constants-unchecked-spec =
     (λ c. search needs)
     (λ c. search needs)
     returns-3
-    (λ c κs. (texts-counted (c .before .before .before .before .before .before .before .before .before .before .before .before .before .before .before .before .before .before .before .before .pre .0) _ (c .before .before .before .before .before .before .before .before .before .before .before .before .before .before .before .before .before .before .before .before .pre .1 .1), total-room (c .before .before .before .before .before .before .before .before .before .before .before .before .before .before .before .before .before .before .before .before .pre .0) _ _ (c .before .before .before .before .before .before .before .before .before .before .before .before .joined-length-unchecked .ensures) _ (c .before .before .before .before .before .if2 .left) (c .before .before .before .before .before .before .text-fits .ensures)))
-    (λ c. omega (arith, c .before .before .before .before .before .before .before .before .before .before .before .before .before .before .before .before .before .before .before .before .before .before .before .before .before .pre .0 .sized .charLimited))
-    (λ c. omega (arith, long-limit (c .before .before .before .before .before .before .before .before .before .before .before .before .before .before .before .before .before .before .before .before .before .before .before .before .before .pre .0 .sized) _ (c .before .before .before .before .before .before .before .before .before .before .if2 .left) _ (c .before .before .before .before .before .before .before .before .before .before .before .text-fits .ensures)))
-    (λ c κs. (one-limit (c .before .before .before .before .before .before .before .before .before .before .before .before .before .before .before .before .before .before .before .before .before .before .before .before .before .pre .0 .sized) _ (c .before .before .before .before .before .before .before .if3 .left) (c .before .before .before .before .before .before .before .before .term-fits .ensures), one-room (c .before .before .before .before .before .before .before .before .before .before .before .before .before .before .before .before .before .before .before .before .before .before .before .before .before .pre .0 .sized) _ (c .before .before .before .before .before .before .before .if3 .left) (c .before .before .before .before .before .before .before .before .term-fits .ensures)))
-    (λ c κs. long-limit (c .before .before .before .before .before .before .before .before .before .before .before .before .before .before .before .before .before .before .before .before .before .before .before .before .before .before .before .before .pre .0 .sized) _ (c .before .before .before .before .before .before .before .before .before .before .before .before .before .if2 .left) _ (c .before .before .before .before .before .before .before .before .before .before .before .before .before .before .text-fits .ensures))
-    (λ c. omega (arith, one-limit (c .before .before .before .before .before .before .before .before .before .before .before .before .before .before .before .before .before .before .before .before .before .before .before .before .before .before .before .before .before .pre .0 .sized) _ (c .before .before .before .before .before .before .before .before .before .before .before .if3 .left) (c .before .before .before .before .before .before .before .before .before .before .before .before .term-fits .ensures)))
-    (λ c. omega (arith, one-limit (c .before .before .before .before .before .before .before .before .before .before .before .before .before .before .before .before .before .before .before .before .before .before .before .before .before .before .before .before .before .pre .0 .sized) _ (c .before .before .before .before .before .before .before .before .before .before .before .if3 .left) (c .before .before .before .before .before .before .before .before .before .before .before .before .term-fits .ensures)))
-    (λ c κs. next-limit (c .before .before .before .before .before .before .before .before .before .before .before .before .before .before .before .before .before .before .before .before .before .before .before .before .before .before .before .before .before .pre .0 .sized) _ (c .before .before .before .before .before .before .before .before .before .before .before .if3 .left) _ (c .with-chars .ensures) (c .before .before .before .before .before .before .before .before .before .before .before .before .term-fits .ensures))
+    (λ c κs.
+    let at-if2 = c .before .before .before .before .before in
+    let at-text-fits = at-if2 .before in
+    let at-joined-length-unchecked = at-text-fits .before .before .before .before .before .before in
+    let at-start = at-joined-length-unchecked .before .before .before .before .before .before .before .before in (
+      texts-counted (at-start .pre .0) _ (at-start .pre .1 .1),
+      total-room (at-start .pre .0) _ _ (at-joined-length-unchecked .joined-length-unchecked .ensures) _ (at-if2 .if2 .left) (at-text-fits .text-fits .ensures),
+    ))
+    (λ c.
+    let at-start = c .before .before .before .before .before .before .before .before .before .before .before .before .before .before .before .before .before .before .before .before .before .before .before .before .before in
+    omega (arith, at-start .pre .0 .sized .charLimited))
+    (λ c.
+    let at-if2 = c .before .before .before .before .before .before .before .before .before .before in
+    let at-text-fits = at-if2 .before in
+    let at-start = at-text-fits .before .before .before .before .before .before .before .before .before .before .before .before .before .before in
+    omega (arith, long-limit (at-start .pre .0 .sized) _ (at-if2 .if2 .left) _ (at-text-fits .text-fits .ensures)))
+    (λ c κs.
+    let at-if3 = c .before .before .before .before .before .before .before in
+    let at-term-fits = at-if3 .before in
+    let at-start = at-term-fits .before .before .before .before .before .before .before .before .before .before .before .before .before .before .before .before .before in (
+      one-limit (at-start .pre .0 .sized) _ (at-if3 .if3 .left) (at-term-fits .term-fits .ensures),
+      one-room (at-start .pre .0 .sized) _ (at-if3 .if3 .left) (at-term-fits .term-fits .ensures),
+    ))
+    (λ c κs.
+    let at-if2 = c .before .before .before .before .before .before .before .before .before .before .before .before .before in
+    let at-text-fits = at-if2 .before in
+    let at-start = at-text-fits .before .before .before .before .before .before .before .before .before .before .before .before .before .before in
+    long-limit (at-start .pre .0 .sized) _ (at-if2 .if2 .left) _ (at-text-fits .text-fits .ensures))
+    (λ c.
+    let at-if3 = c .before .before .before .before .before .before .before .before .before .before .before in
+    let at-term-fits = at-if3 .before in
+    let at-start = at-term-fits .before .before .before .before .before .before .before .before .before .before .before .before .before .before .before .before .before in
+    omega (arith, one-limit (at-start .pre .0 .sized) _ (at-if3 .if3 .left) (at-term-fits .term-fits .ensures)))
+    (λ c.
+    let at-if3 = c .before .before .before .before .before .before .before .before .before .before .before in
+    let at-term-fits = at-if3 .before in
+    let at-start = at-term-fits .before .before .before .before .before .before .before .before .before .before .before .before .before .before .before .before .before in
+    omega (arith, one-limit (at-start .pre .0 .sized) _ (at-if3 .if3 .left) (at-term-fits .term-fits .ensures)))
+    (λ c κs.
+    let at-if3 = c .before .before .before .before .before .before .before .before .before .before .before in
+    let at-term-fits = at-if3 .before in
+    let at-start = at-term-fits .before .before .before .before .before .before .before .before .before .before .before .before .before .before .before .before .before in
+    next-limit (at-start .pre .0 .sized) _ (at-if3 .if3 .left) _ (c .with-chars .ensures) (at-term-fits .term-fits .ensures))
     (λ c. search needs)
     (λ c. search needs)
     returns-4)

@@ -12,12 +12,28 @@ make-constant-spec =
     (λ c κs. search needs)
     (λ c. search needs)
     (λ c. search needs)
-    (λ c. constant-unready (c .before .before .before .before .before .before .before .before .before .before .args .w .now) _ _ _ (c .before .audit .ensures) (c .if1 .taken))
+    (λ c.
+    let at-start = c .before .before .before .before .before .before .before .before .before .before in
+    constant-unready (at-start .args .w .now) _ _ _ (c .before .audit .ensures) (c .if1 .taken))
     (λ c κs. search needs)
     (λ c. search needs)
     (λ c. search needs)
-    (λ c. constant-unfit (c .before .before .before .before .before .before .before .before .before .before .before .before .args .w .now) _ _ _ (c .before .before .before .audit .ensures) (c .before .before .if1 .left) _ (c .before .chars-ok .ensures) (c .if2 .taken))
-    (λ c κs. ready-of _ _ (sym (c .before .before .before .before .before .audit .ensures) ∙ c .before .before .before .before .if1 .left))
+    (λ c.
+    let at-audit = c .before .before .before in
+    let at-start = at-audit .before .before .before .before .before .before .before .before .before in
+    constant-unfit (at-start .args .w .now) _ _ _ (at-audit .audit .ensures) (c .before .before .if1 .left) _ (c .before .chars-ok .ensures) (c .if2 .taken))
+    (λ c κs.
+    let at-if1 = c .before .before .before .before in
+    let at-audit = at-if1 .before in
+    ready-of _ _ (sym (at-audit .audit .ensures) ∙ at-if1 .if1 .left))
     (λ c. search needs)
     (λ c. search needs)
-    (λ c. constant-called (c .before .before .before .before .before .before .before .before .before .before .before .before .before .before .before .before .before .before .before .args .w .now) _ _ _ (c .before .before .before .before .before .before .before .before .before .before .audit .ensures) (c .before .before .before .before .before .before .before .before .before .if1 .left) _ (c .before .before .before .before .before .before .before .before .chars-ok .ensures) (c .before .before .before .before .before .before .before .if2 .left) (c .before .before .before .before .make-constant-unchecked .ensures)))
+    (λ c.
+    let at-make-constant-unchecked = c .before .before .before .before in
+    let at-if2 = at-make-constant-unchecked .before .before .before in
+    let at-chars-ok = at-if2 .before in
+    let at-if1 = at-chars-ok .before in
+    let at-audit = at-if1 .before in
+    let at-start = at-audit .before .before .before .before .before .before .before .before .before in
+    constant-called (at-start .args .w .now) _ _ _ (at-audit .audit .ensures) (at-if1 .if1 .left) _ (at-chars-ok .chars-ok .ensures) (at-if2 .if2 .left)
+    (at-make-constant-unchecked .make-constant-unchecked .ensures)))

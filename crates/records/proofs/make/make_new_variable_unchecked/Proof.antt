@@ -5,4 +5,12 @@ use Rattle.records.proofs.make.make_new_variable_unchecked.Tie as tie
 
 pub make-new-variable-unchecked-spec : {M : Type 1} → statement M
 make-new-variable-unchecked-spec =
-    tie.close (tie.spec (λ c κs. c .before .before .before .before .before .before .before .before .pre .0 .sized) (λ c. search needs) (λ c. search needs) (λ c. variable-new _ (c .before .before .before .before .before .before .before .before .before .before .before .before .before .pre .1) (c .before .before .before .before .append-text .ensures)))
+    tie.close
+    (tie.spec
+    (λ c κs. let at-start = c .before .before .before .before .before .before .before .before in at-start .pre .0 .sized)
+    (λ c. search needs)
+    (λ c. search needs)
+    (λ c.
+    let at-append-text = c .before .before .before .before in
+    let at-start = at-append-text .before .before .before .before .before .before .before .before .before in
+    variable-new _ (at-start .pre .1) (at-append-text .append-text .ensures)))

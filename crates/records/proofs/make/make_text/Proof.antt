@@ -10,8 +10,15 @@ make-text-spec =
     (λ c κs. search needs)
     (λ c. search needs)
     (λ c. search needs)
-    (λ c. text-found (c .before .before .before .before .before .before .before .before .before .before .pre .0) _ (c .before .before .before .before .before .before .before .before .before .before .pre .1) _ _ (c .before .find-text-unchecked .ensures) (c .if1 .taken))
-    (λ c κs. c .before .before .before .before .before .before .before .before .before .before .before .before .pre .0 .sized)
+    (λ c.
+    let at-start = c .before .before .before .before .before .before .before .before .before .before in
+    text-found (at-start .pre .0) _ (at-start .pre .1) _ _ (c .before .find-text-unchecked .ensures) (c .if1 .taken))
+    (λ c κs. let at-start = c .before .before .before .before .before .before .before .before .before .before .before .before in at-start .pre .0 .sized)
     (λ c. search needs)
     (λ c. search needs)
-    (λ c. text-new (c .before .before .before .before .before .before .before .before .before .before .before .before .before .before .before .before .before .pre .0) _ (c .before .before .before .before .before .before .before .before .before .before .before .before .before .before .before .before .before .pre .1) _ _ (c .before .before .before .before .before .before .before .before .find-text-unchecked .ensures) (c .before .before .before .before .before .before .before .if1 .left) (c .before .before .before .before .append-text .ensures)))
+    (λ c.
+    let at-append-text = c .before .before .before .before in
+    let at-if1 = at-append-text .before .before .before in
+    let at-find-text-unchecked = at-if1 .before in
+    let at-start = at-find-text-unchecked .before .before .before .before .before .before .before .before .before in
+    text-new (at-start .pre .0) _ (at-start .pre .1) _ _ (at-find-text-unchecked .find-text-unchecked .ensures) (at-if1 .if1 .left) (at-append-text .append-text .ensures)))

@@ -7,8 +7,8 @@ use Rattle.records.proofs.make.make_variable_unchecked.Tie as tie
 
 make-text-requires : tie.Need-make-text-requires
 unfolding within
-make-text-requires c κs = (c .before .before .before .before .before .before .before .before .pre, refl)
+make-text-requires c κs = let at-start = c .before .before .before .before .before .before .before .before in (at-start .pre, refl)
 
 pub make-variable-unchecked-spec : {M : Type 1} → statement M
 make-variable-unchecked-spec =
-    tie.close (tie.spec make-text-requires (λ c. search needs) (λ c. search needs) (λ c. variable-made _ (c .before .before .before .before .make-text .ensures)))
+    tie.close (tie.spec make-text-requires (λ c. search needs) (λ c. search needs) (λ c. let at-make-text = c .before .before .before .before in variable-made _ (at-make-text .make-text .ensures)))

@@ -38,8 +38,26 @@ pub +put-decimal-spec : {M : Type 1} → statement M
     (λ c. search needs)
     (λ c κs. (omega arith, omega arith))
     (λ c. search needs)
-    (λ c. let a = c .before .before .before .before .before .before .before .args in omega (arith, decimal-room (a .name .now) (c .before .before .put-decimal .last .0) (a .at) (a .n) (a .x) (c .before .before .put-decimal .result) (c .before .before .before .before .before .if1 .left) (c .before .before .before .before .before .before .before .pre .1) (c .before .before .put-decimal .kept .0) (c .before .before .put-decimal .ensures)))
+    (λ c.
+    let at-put-decimal = c .before .before in
+    let at-if1 = at-put-decimal .before .before .before in
+    let at-start = at-if1 .before .before in
+    let a = at-start .args in
+    omega (
+      arith,
+      decimal-room (a .name .now) (at-put-decimal .put-decimal .last .0) (a .at) (a .n) (a .x) (at-put-decimal .put-decimal .result) (at-if1 .if1 .left) (at-start .pre .1)
+          (at-put-decimal .put-decimal .kept .0) (at-put-decimal .put-decimal .ensures),
+    ))
     (λ c. search decimal-room)
-    (λ c. let a = c .before .before .before .before .before .before .before .args in omega (arith, decimal-room (a .name .now) (c .before .before .put-decimal .last .0) (a .at) (a .n) (a .x) (c .before .before .put-decimal .result) (c .before .before .before .before .before .if1 .left) (c .before .before .before .before .before .before .before .pre .1) (c .before .before .put-decimal .kept .0) (c .before .before .put-decimal .ensures)))
+    (λ c.
+    let at-put-decimal = c .before .before in
+    let at-if1 = at-put-decimal .before .before .before in
+    let at-start = at-if1 .before .before in
+    let a = at-start .args in
+    omega (
+      arith,
+      decimal-room (a .name .now) (at-put-decimal .put-decimal .last .0) (a .at) (a .n) (a .x) (at-put-decimal .put-decimal .result) (at-if1 .if1 .left) (at-start .pre .1)
+          (at-put-decimal .put-decimal .kept .0) (at-put-decimal .put-decimal .ensures),
+    ))
     (λ c. search needs)
     (λ c. search decimal-more)

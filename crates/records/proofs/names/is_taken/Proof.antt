@@ -11,6 +11,6 @@ is-taken-spec =
     (λ c. search needs)
     (λ c κs. search needs)
     (λ c. name-here _ _ _ _ refl (c .before .put-name .kept .0) (c .before .put-name .ensures))
-    (λ c. name-part _ _ _ _ refl (c .before .before .put-name .kept .0) (c .before .before .put-name .ensures))
+    (λ c. let at-put-name = c .before .before in name-part _ _ _ _ refl (at-put-name .put-name .kept .0) (at-put-name .put-name .ensures))
     (λ c κs. search needs)
     (λ c. search taken-is))

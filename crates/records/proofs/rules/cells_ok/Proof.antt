@@ -30,7 +30,12 @@ cell-ok-requires : tie.Need-cell-ok-requires Inv-loop μ-loop
 cell-ok-requires c κs = within-is _ _ (omega arith) (omega arith)
 
 returns : tie.Need-returns Inv-loop μ-loop
-returns c = let a = c .before .before .before .before .before .before .args in each-stop (cellRule (storeOf (lent [] (a .cells .now) [] [] []) (a .c))) (λ j. cellAt (a .cells .now) (suc j)) (a .c .cells) (c .before .before .before .before .loop .i) _ (c .before .cell-ok .ensures) (c .if2 .taken) (c .before .before .if1 .taken)
+returns c =
+    let at-loop = c .before .before .before .before in
+    let at-start = at-loop .before .before in
+    let a = at-start .args in
+    each-stop (cellRule (storeOf (lent [] (a .cells .now) [] [] []) (a .c))) (λ j. cellAt (a .cells .now) (suc j)) (a .c .cells) (at-loop .loop .i) _ (c .before .cell-ok .ensures)
+    (c .if2 .taken) (c .before .before .if1 .taken)
 
 add-i : tie.Need-add-i Inv-loop μ-loop
 add-i c = search needs
@@ -39,10 +44,19 @@ loop-less : tie.Need-loop-less Inv-loop μ-loop
 loop-less c = search needs
 
 loop-again : tie.Need-loop-again Inv-loop μ-loop
-loop-again c = let a = c .before .before .before .before .before .before .args in let o = c .before .before .before .before .loop in (omega arith, each-turn (cellRule (storeOf (lent [] (a .cells .now) [] [] []) (a .c))) (o .i) _ (c .before .cell-ok .ensures) (c .if2 .left) (o .inv .1))
+loop-again c =
+    let at-loop = c .before .before .before .before in
+    let at-start = at-loop .before .before in
+    let a = at-start .args in
+    let o = at-loop .loop in
+    (omega arith, each-turn (cellRule (storeOf (lent [] (a .cells .now) [] [] []) (a .c))) (o .i) _ (c .before .cell-ok .ensures) (c .if2 .left) (o .inv .1))
 
 returns-2 : tie.Need-returns-2 Inv-loop μ-loop
-returns-2 c = let a = c .before .before .before .before .args in let o = c .before .before .loop in each-done (cellRule (storeOf (lent [] (a .cells .now) [] [] []) (a .c))) (λ j. cellAt (a .cells .now) (suc j)) (a .c .cells) (o .i) (o .inv .0) (c .if1 .left) (o .inv .1)
+returns-2 c =
+    let at-start = c .before .before .before .before in
+    let a = at-start .args in
+    let o = c .before .before .loop in
+    each-done (cellRule (storeOf (lent [] (a .cells .now) [] [] []) (a .c))) (λ j. cellAt (a .cells .now) (suc j)) (a .c .cells) (o .i) (o .inv .0) (c .if1 .left) (o .inv .1)
 
 pub cells-ok-spec : {M : Type 1} → statement M
 cells-ok-spec =

@@ -26,7 +26,13 @@ is-char-requires : tie.Need-is-char-requires Inv-loop μ-loop
 is-char-requires c κs = search needs
 
 returns : tie.Need-returns Inv-loop μ-loop
-returns c = let a = c .before .before .before .before .before .before .args in table-stop isChar (λ j. getD (a .chars .now) j 0) (a .n) (c .before .before .before .before .loop .i) _ (c .before .is-char .ensures ∙ ap isChar (c .before .before .word .ensures)) (c .if1 .taken) (c .before .before .before .loop-test .taken)
+returns c =
+    let at-loop-test = c .before .before .before in
+    let at-loop = at-loop-test .before in
+    let at-start = at-loop .before .before in
+    let a = at-start .args in
+    table-stop isChar (λ j. getD (a .chars .now) j 0) (a .n) (at-loop .loop .i) _ (c .before .is-char .ensures ∙ ap isChar (c .before .before .word .ensures)) (c .if1 .taken)
+    (at-loop-test .loop-test .taken)
 
 add-i : tie.Need-add-i Inv-loop μ-loop
 add-i c = search needs
@@ -35,10 +41,19 @@ loop-less : tie.Need-loop-less Inv-loop μ-loop
 loop-less c = search needs
 
 loop-again : tie.Need-loop-again Inv-loop μ-loop
-loop-again c = let o = c .before .before .before .before .loop in (omega arith, below-turn (λ j. isChar (getD (c .before .before .before .before .before .before .args .chars .now) j 0)) (o .i) _ (c .before .is-char .ensures ∙ ap isChar (c .before .before .word .ensures)) (c .if1 .left) (o .inv .1))
+loop-again c =
+    let at-loop = c .before .before .before .before in
+    let at-start = at-loop .before .before in
+    let o = at-loop .loop in (
+      omega arith,
+      below-turn (λ j. isChar (getD (at-start .args .chars .now) j 0)) (o .i) _ (c .before .is-char .ensures ∙ ap isChar (c .before .before .word .ensures)) (c .if1 .left)
+          (o .inv .1),
+    )
 
 returns-2 : tie.Need-returns-2 Inv-loop μ-loop
-returns-2 c = let a = c .before .before .before .args in let o = c .before .loop in table-done isChar (λ j. getD (a .chars .now) j 0) (a .n) (o .i) (o .inv .0) (c .loop-test .left) (o .inv .1)
+returns-2 c =
+    let at-start = c .before .before .before in
+    let a = at-start .args in let o = c .before .loop in table-done isChar (λ j. getD (a .chars .now) j 0) (a .n) (o .i) (o .inv .0) (c .loop-test .left) (o .inv .1)
 
 pub chars-ok-spec : {M : Type 1} → statement M
 chars-ok-spec =

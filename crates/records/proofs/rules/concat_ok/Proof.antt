@@ -8,7 +8,9 @@ second-requires : tie.Need-second-requires
 second-requires c κs = search needs
 
 returns : tie.Need-returns
-returns c = concat-second _ _ _ (c .if1 .taken) (second-at (c .before .before .before .before .args .terms .now) _ _ _ (c .before .before .before .before .pre) (c .before .second .ensures))
+returns c =
+    let at-start = c .before .before .before .before in
+    concat-second _ _ _ (c .if1 .taken) (second-at (at-start .args .terms .now) _ _ _ (at-start .pre) (c .before .second .ensures))
 
 first-requires : tie.Need-first-requires
 first-requires c κs = search needs

@@ -43,7 +43,16 @@ key-ok-requires : tie.Need-key-ok-requires Inv-loop μ-loop
 key-ok-requires c κs = search needs
 
 returns : tie.Need-returns Inv-loop μ-loop
-returns c = let a = c .before .before .before .before .before .before .before .before .before .args in let o = c .before .before .before .before .before .before .loop in (let rule = keyRule (storeOf (lent (a .terms .now) [] [] [] []) (a .c)) in table-stop rule (pairAt (a .keys .now)) (a .c .keys) (o .i) _ (pair-test rule (a .keys .now) (o .i) _ _ _ (c .before .key-ok .ensures) (c .before .before .before .word .ensures) (c .before .before .word2 .ensures)) (c .if2 .taken) (c .before .before .before .before .if1 .taken))
+returns c =
+    let at-word = c .before .before .before in
+    let at-if1 = at-word .before in
+    let at-loop = at-if1 .before .before in
+    let at-start = at-loop .before .before .before in
+    let a = at-start .args in
+    let o = at-loop .loop in
+    (let rule = keyRule (storeOf (lent (a .terms .now) [] [] [] []) (a .c)) in
+    table-stop rule (pairAt (a .keys .now)) (a .c .keys) (o .i) _
+    (pair-test rule (a .keys .now) (o .i) _ _ _ (c .before .key-ok .ensures) (at-word .word .ensures) (c .before .before .word2 .ensures)) (c .if2 .taken) (at-if1 .if1 .taken))
 
 add-i : tie.Need-add-i Inv-loop μ-loop
 add-i c = search needs
@@ -52,10 +61,24 @@ loop-less : tie.Need-loop-less Inv-loop μ-loop
 loop-less c = search needs
 
 loop-again : tie.Need-loop-again Inv-loop μ-loop
-loop-again c = let a = c .before .before .before .before .before .before .before .before .before .args in let o = c .before .before .before .before .before .before .loop in (let rule = keyRule (storeOf (lent (a .terms .now) [] [] [] []) (a .c)) in (omega arith, below-turn (λ j. rule (pairAt (a .keys .now) j)) (o .i) _ (pair-test rule (a .keys .now) (o .i) _ _ _ (c .before .key-ok .ensures) (c .before .before .before .word .ensures) (c .before .before .word2 .ensures)) (c .if2 .left) (o .inv .1)))
+loop-again c =
+    let at-word = c .before .before .before in
+    let at-loop = at-word .before .before .before in
+    let at-start = at-loop .before .before .before in
+    let a = at-start .args in
+    let o = at-loop .loop in
+    (let rule = keyRule (storeOf (lent (a .terms .now) [] [] [] []) (a .c)) in (
+      omega arith,
+      below-turn (λ j. rule (pairAt (a .keys .now) j)) (o .i) _
+          (pair-test rule (a .keys .now) (o .i) _ _ _ (c .before .key-ok .ensures) (at-word .word .ensures) (c .before .before .word2 .ensures)) (c .if2 .left) (o .inv .1),
+    ))
 
 returns-2 : tie.Need-returns-2 Inv-loop μ-loop
-returns-2 c = let a = c .before .before .before .before .before .args in let o = c .before .before .loop in (let rule = keyRule (storeOf (lent (a .terms .now) [] [] [] []) (a .c)) in table-done rule (pairAt (a .keys .now)) (a .c .keys) (o .i) (o .inv .0) (c .if1 .left) (o .inv .1))
+returns-2 c =
+    let at-start = c .before .before .before .before .before in
+    let a = at-start .args in
+    let o = c .before .before .loop in
+    (let rule = keyRule (storeOf (lent (a .terms .now) [] [] [] []) (a .c)) in table-done rule (pairAt (a .keys .now)) (a .c .keys) (o .i) (o .inv .0) (c .if1 .left) (o .inv .1))
 
 pub keys-ok-spec : {M : Type 1} → statement M
 keys-ok-spec =

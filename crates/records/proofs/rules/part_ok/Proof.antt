@@ -8,7 +8,9 @@ other-requires : tie.Need-other-requires
 other-requires c κs = search needs
 
 returns : tie.Need-returns
-returns c = part-other _ _ _ _ _ (c .if1 .taken) (other-at (c .before .before .before .before .args .cells .now) _ _ _ (c .before .before .before .before .pre) (c .before .other .ensures))
+returns c =
+    let at-start = c .before .before .before .before in
+    part-other _ _ _ _ _ (c .if1 .taken) (other-at (at-start .args .cells .now) _ _ _ (at-start .pre) (c .before .other .ensures))
 
 value-requires : tie.Need-value-requires
 value-requires c κs = search needs

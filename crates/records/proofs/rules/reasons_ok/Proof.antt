@@ -42,7 +42,16 @@ reason-ok-requires : tie.Need-reason-ok-requires Inv-loop μ-loop
 reason-ok-requires c κs = search needs
 
 returns : tie.Need-returns Inv-loop μ-loop
-returns c = let a = c .before .before .before .before .before .before .before .args in let o = c .before .before .before .before .before .loop in table-stop reasonRule (pairAt (a .reasons .now)) (a .n) (o .i) _ (pair-test reasonRule (a .reasons .now) (o .i) _ _ _ (c .before .reason-ok .ensures) (c .before .before .before .word .ensures) (c .before .before .word2 .ensures)) (c .if1 .taken) (c .before .before .before .before .loop-test .taken)
+returns c =
+    let at-word = c .before .before .before in
+    let at-loop-test = at-word .before in
+    let at-loop = at-loop-test .before in
+    let at-start = at-loop .before .before in
+    let a = at-start .args in
+    let o = at-loop .loop in
+    table-stop reasonRule (pairAt (a .reasons .now)) (a .n) (o .i) _
+    (pair-test reasonRule (a .reasons .now) (o .i) _ _ _ (c .before .reason-ok .ensures) (at-word .word .ensures) (c .before .before .word2 .ensures)) (c .if1 .taken)
+    (at-loop-test .loop-test .taken)
 
 add-i : tie.Need-add-i Inv-loop μ-loop
 add-i c = search needs
@@ -51,10 +60,21 @@ loop-less : tie.Need-loop-less Inv-loop μ-loop
 loop-less c = search needs
 
 loop-again : tie.Need-loop-again Inv-loop μ-loop
-loop-again c = let a = c .before .before .before .before .before .before .before .args in let o = c .before .before .before .before .before .loop in (omega arith, below-turn (λ j. reasonRule (pairAt (a .reasons .now) j)) (o .i) _ (pair-test reasonRule (a .reasons .now) (o .i) _ _ _ (c .before .reason-ok .ensures) (c .before .before .before .word .ensures) (c .before .before .word2 .ensures)) (c .if1 .left) (o .inv .1))
+loop-again c =
+    let at-word = c .before .before .before in
+    let at-loop = at-word .before .before in
+    let at-start = at-loop .before .before in
+    let a = at-start .args in
+    let o = at-loop .loop in (
+      omega arith,
+      below-turn (λ j. reasonRule (pairAt (a .reasons .now) j)) (o .i) _
+          (pair-test reasonRule (a .reasons .now) (o .i) _ _ _ (c .before .reason-ok .ensures) (at-word .word .ensures) (c .before .before .word2 .ensures)) (c .if1 .left) (o .inv .1),
+    )
 
 returns-2 : tie.Need-returns-2 Inv-loop μ-loop
-returns-2 c = let a = c .before .before .before .args in let o = c .before .loop in table-done reasonRule (pairAt (a .reasons .now)) (a .n) (o .i) (o .inv .0) (c .loop-test .left) (o .inv .1)
+returns-2 c =
+    let at-start = c .before .before .before in
+    let a = at-start .args in let o = c .before .loop in table-done reasonRule (pairAt (a .reasons .now)) (a .n) (o .i) (o .inv .0) (c .loop-test .left) (o .inv .1)
 
 pub reasons-ok-spec : {M : Type 1} → statement M
 reasons-ok-spec =

@@ -7,31 +7,51 @@ terms-ok-requires : tie.Need-terms-ok-requires
 terms-ok-requires c κs = search needs
 
 returns : tie.Need-returns
-returns c = let a = c .before .before .before .before .before .before .before .args in records-terms (a .terms .now) (a .cells .now) (a .chars .now) (a .reasons .now) (a .keys .now) (a .c) _ (c .before .terms-ok .ensures) (c .if1 .taken)
+returns c =
+    let at-start = c .before .before .before .before .before .before .before in
+    let a = at-start .args in records-terms (a .terms .now) (a .cells .now) (a .chars .now) (a .reasons .now) (a .keys .now) (a .c) _ (c .before .terms-ok .ensures) (c .if1 .taken)
 
 cells-ok-requires : tie.Need-cells-ok-requires
 cells-ok-requires c κs = search needs
 
 returns-2 : tie.Need-returns-2
-returns-2 c = let a = c .before .before .before .before .before .before .before .before .before .args in records-cells (a .terms .now) (a .cells .now) (a .chars .now) (a .reasons .now) (a .keys .now) (a .c) _ (c .before .before .before .terms-ok .ensures) _ (c .before .cells-ok .ensures) (c .if2 .taken)
+returns-2 c =
+    let at-terms-ok = c .before .before .before in
+    let at-start = at-terms-ok .before .before .before .before .before .before in
+    let a = at-start .args in
+    records-cells (a .terms .now) (a .cells .now) (a .chars .now) (a .reasons .now) (a .keys .now) (a .c) _ (at-terms-ok .terms-ok .ensures) _ (c .before .cells-ok .ensures) (c .if2 .taken)
 
 chars-ok-requires : tie.Need-chars-ok-requires
 chars-ok-requires c κs = search needs
 
 returns-3 : tie.Need-returns-3
-returns-3 c = let a = c .before .before .before .before .before .before .before .before .before .before .before .args in records-chars (a .terms .now) (a .cells .now) (a .chars .now) (a .reasons .now) (a .keys .now) (a .c) _ (c .before .chars-ok .ensures) (c .if3 .taken)
+returns-3 c =
+    let at-start = c .before .before .before .before .before .before .before .before .before .before .before in
+    let a = at-start .args in records-chars (a .terms .now) (a .cells .now) (a .chars .now) (a .reasons .now) (a .keys .now) (a .c) _ (c .before .chars-ok .ensures) (c .if3 .taken)
 
 reasons-ok-requires : tie.Need-reasons-ok-requires
 reasons-ok-requires c κs = search needs
 
 returns-4 : tie.Need-returns-4
-returns-4 c = let a = c .before .before .before .before .before .before .before .before .before .before .before .before .before .args in records-reasons (a .terms .now) (a .cells .now) (a .chars .now) (a .reasons .now) (a .keys .now) (a .c) _ (c .before .reasons-ok .ensures) (c .if4 .taken)
+returns-4 c =
+    let at-start = c .before .before .before .before .before .before .before .before .before .before .before .before .before in
+    let a = at-start .args in
+    records-reasons (a .terms .now) (a .cells .now) (a .chars .now) (a .reasons .now) (a .keys .now) (a .c) _ (c .before .reasons-ok .ensures) (c .if4 .taken)
 
 keys-ok-requires : tie.Need-keys-ok-requires
 keys-ok-requires c κs = search needs
 
 returns-5 : tie.Need-returns-5
-returns-5 c = let a = c .before .before .before .before .before .before .before .before .before .before .before .before .before .before .args in records-is (a .terms .now) (a .cells .now) (a .chars .now) (a .reasons .now) (a .keys .now) (a .c) _ (c .before .before .before .before .before .before .before .before .terms-ok .ensures) _ (c .before .before .before .before .before .before .cells-ok .ensures) _ _ _ (c .before .before .before .before .before .before .before .if1 .left) (c .before .before .before .before .before .if2 .left) (c .before .before .before .before .chars-ok .ensures) (c .before .before .before .if3 .left) (c .before .before .reasons-ok .ensures) (c .before .if4 .left) (c .keys-ok .ensures)
+returns-5 c =
+    let at-if3 = c .before .before .before in
+    let at-chars-ok = at-if3 .before in
+    let at-if2 = at-chars-ok .before in
+    let at-cells-ok = at-if2 .before in
+    let at-if1 = at-cells-ok .before in
+    let at-terms-ok = at-if1 .before in
+    let at-start = at-terms-ok .before .before .before .before .before .before in
+    let a = at-start .args in
+    records-is (a .terms .now) (a .cells .now) (a .chars .now) (a .reasons .now) (a .keys .now) (a .c) _ (at-terms-ok .terms-ok .ensures) _ (at-cells-ok .cells-ok .ensures) _ _ _ (at-if1 .if1 .left) (at-if2 .if2 .left) (at-chars-ok .chars-ok .ensures) (at-if3 .if3 .left) (c .before .before .reasons-ok .ensures) (c .before .if4 .left) (c .keys-ok .ensures)
 
 pub records-ok-spec : {M : Type 1} → statement M
 records-ok-spec =

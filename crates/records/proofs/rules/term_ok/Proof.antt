@@ -16,15 +16,51 @@ term-ok-spec =
     (tie.spec
     (λ c κs. search needs)
     (λ c κs. search needs)
-    (λ c κs. let r = c .before .before .before .before .before .before .before .before .before .before .pre in (r .1, eq-eqb _ 2 (sym (kind-at (c .before .before .before .before .before .before .before .before .before .before .args .terms .now) _ _ _ (r .0) (c .before .before .before .before .kind .ensures)) ∙ c .before .before .before .match .keys2), r .2))
+    (λ c κs.
+    let at-match = c .before .before .before in
+    let at-kind = at-match .before in
+    let at-start = at-kind .before .before .before .before .before .before in
+    let r = at-start .pre in (r .1, eq-eqb _ 2 (sym (kind-at (at-start .args .terms .now) _ _ _ (r .0) (at-kind .kind .ensures)) ∙ at-match .match .keys2), r .2))
     (λ c κs. search needs)
     (λ c κs. search needs)
     (λ c κs. search needs)
-    (λ c. let a = c .before .before .before .before .before .before .before .before .args in let k = kind-at (a .terms .now) _ _ _ (c .before .before .before .before .before .before .before .before .pre .0) (c .before .before .kind .ensures) in passing-other (a .terms .now) (a .chars .now) (a .c) _ _ _ (a .t) _ _ _ (c .before .before .before .before .before .before .before .before .pre .2) k (λ q. omega (arith, c .before .match .keys1)) (term-constant _ _ _ _ k (c .before .match .keys1) (c .text-ok .ensures ∙ text-anywhere (a .terms .now) [] [] (a .cells .now) (a .chars .now) (a .c) (a .t))))
+    (λ c.
+    let at-start = c .before .before .before .before .before .before .before .before in
+    let a = at-start .args in
+    let k = kind-at (a .terms .now) _ _ _ (at-start .pre .0) (c .before .before .kind .ensures) in
+    passing-other (a .terms .now) (a .chars .now) (a .c) _ _ _ (a .t) _ _ _ (at-start .pre .2) k (λ q. omega (arith, c .before .match .keys1))
+    (term-constant _ _ _ _ k (c .before .match .keys1) (c .text-ok .ensures ∙ text-anywhere (a .terms .now) [] [] (a .cells .now) (a .chars .now) (a .c) (a .t))))
     (λ c. search needs)
     (λ c. search needs)
-    (λ c. let a = c .before .before .before .before .before .before .before .before .before .before .before .before .before .before .before .args in record { passes = term-variable _ _ _ _ (kind-at (a .terms .now) _ _ _ (c .before .before .before .before .before .before .before .before .before .before .before .before .before .before .before .pre .0) (c .before .before .before .before .before .before .before .before .before .kind .ensures)) (c .before .before .before .before .before .before .before .before .match .keys2) (c .before .before .before .before .variable-ok .ensures .passes ∙ variable-of (a .terms .now) (a .cells .now) (a .chars .now) (a .c) (a .t)); tables = c .before .before .before .before .variable-ok .ensures .tables })
-    (λ c. let a = c .before .before .before .before .before .before .before .before .args in let k = kind-at (a .terms .now) _ _ _ (c .before .before .before .before .before .before .before .before .pre .0) (c .before .before .kind .ensures) in passing-other (a .terms .now) (a .chars .now) (a .c) _ _ _ (a .t) _ _ _ (c .before .before .before .before .before .before .before .before .pre .2) k (λ q. omega (arith, c .before .match .keys3)) (term-concat _ _ _ _ k (c .before .match .keys3) (c .concat-ok .ensures ∙ concat-of (a .terms .now) (a .cells .now) (a .chars .now) (a .c) (a .t))))
-    (λ c. let a = c .before .before .before .before .before .before .before .before .args in let k = kind-at (a .terms .now) _ _ _ (c .before .before .before .before .before .before .before .before .pre .0) (c .before .before .kind .ensures) in passing-other (a .terms .now) (a .chars .now) (a .c) _ _ _ (a .t) _ _ _ (c .before .before .before .before .before .before .before .before .pre .2) k (λ q. omega (arith, c .before .match .keys4)) (term-length _ _ _ _ k (c .before .match .keys4) (c .length-ok .ensures ∙ length-of (a .terms .now) (a .cells .now) (a .chars .now) (a .c) (a .t))))
-    (λ c. let a = c .before .before .before .before .before .before .before .before .args in let k = kind-at (a .terms .now) _ _ _ (c .before .before .before .before .before .before .before .before .pre .0) (c .before .before .kind .ensures) in passing-other (a .terms .now) (a .chars .now) (a .c) _ _ _ (a .t) _ _ _ (c .before .before .before .before .before .before .before .before .pre .2) k (λ q. omega (arith, c .before .match .keys5)) (term-equation _ _ _ _ k (c .before .match .keys5) (c .equation-ok .ensures ∙ equation-of (a .terms .now) (a .cells .now) (a .chars .now) (a .c) (a .t))))
-    (λ c. let a = c .before .before .before .before .before .before .before .args in passing-not (a .terms .now) (a .chars .now) (a .c) _ _ _ (a .t) _ (term-other (storeOf (lent (a .terms .now) (a .cells .now) (a .chars .now) [] []) (a .c)) (a .t) _ (kind-at (a .terms .now) _ _ _ (c .before .before .before .before .before .before .before .pre .0) (c .before .kind .ensures)) (c .match .rest .0 .0 .0 .0 .1) (c .match .rest .0 .0 .0 .1) (c .match .rest .0 .0 .1) (c .match .rest .0 .1) (c .match .rest .1))))
+    (λ c.
+    let at-variable-ok = c .before .before .before .before in
+    let at-match = at-variable-ok .before .before .before .before in
+    let at-kind = at-match .before in
+    let at-start = at-kind .before .before .before .before .before .before in
+    let a = at-start .args in
+    record { passes = term-variable _ _ _ _ (kind-at (a .terms .now) _ _ _ (at-start .pre .0) (at-kind .kind .ensures)) (at-match .match .keys2) (at-variable-ok .variable-ok .ensures .passes ∙ variable-of (a .terms .now) (a .cells .now) (a .chars .now) (a .c) (a .t)); tables = at-variable-ok .variable-ok .ensures .tables })
+    (λ c.
+    let at-start = c .before .before .before .before .before .before .before .before in
+    let a = at-start .args in
+    let k = kind-at (a .terms .now) _ _ _ (at-start .pre .0) (c .before .before .kind .ensures) in
+    passing-other (a .terms .now) (a .chars .now) (a .c) _ _ _ (a .t) _ _ _ (at-start .pre .2) k (λ q. omega (arith, c .before .match .keys3))
+    (term-concat _ _ _ _ k (c .before .match .keys3) (c .concat-ok .ensures ∙ concat-of (a .terms .now) (a .cells .now) (a .chars .now) (a .c) (a .t))))
+    (λ c.
+    let at-start = c .before .before .before .before .before .before .before .before in
+    let a = at-start .args in
+    let k = kind-at (a .terms .now) _ _ _ (at-start .pre .0) (c .before .before .kind .ensures) in
+    passing-other (a .terms .now) (a .chars .now) (a .c) _ _ _ (a .t) _ _ _ (at-start .pre .2) k (λ q. omega (arith, c .before .match .keys4))
+    (term-length _ _ _ _ k (c .before .match .keys4) (c .length-ok .ensures ∙ length-of (a .terms .now) (a .cells .now) (a .chars .now) (a .c) (a .t))))
+    (λ c.
+    let at-start = c .before .before .before .before .before .before .before .before in
+    let a = at-start .args in
+    let k = kind-at (a .terms .now) _ _ _ (at-start .pre .0) (c .before .before .kind .ensures) in
+    passing-other (a .terms .now) (a .chars .now) (a .c) _ _ _ (a .t) _ _ _ (at-start .pre .2) k (λ q. omega (arith, c .before .match .keys5))
+    (term-equation _ _ _ _ k (c .before .match .keys5) (c .equation-ok .ensures ∙ equation-of (a .terms .now) (a .cells .now) (a .chars .now) (a .c) (a .t))))
+    (λ c.
+    let at-start = c .before .before .before .before .before .before .before in
+    let a = at-start .args in
+    passing-not (a .terms .now) (a .chars .now) (a .c) _ _ _ (a .t) _
+    (term-other (storeOf (lent (a .terms .now) (a .cells .now) (a .chars .now) [] []) (a .c)) (a .t) _
+    (kind-at (a .terms .now) _ _ _ (at-start .pre .0) (c .before .kind .ensures)) (c .match .rest .0 .0 .0 .0 .1) (c .match .rest .0 .0 .0 .1) (c .match .rest .0 .0 .1)
+    (c .match .rest .0 .1) (c .match .rest .1))))

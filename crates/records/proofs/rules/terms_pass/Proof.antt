@@ -27,16 +27,33 @@ terms-pass-spec =
     (tie.spec
     Inv-loop
     μ-loop
-    (λ c. let a = c .before .before .before .before .before .args in (omega arith, refl, refl, below-zero _, tables-start (a .terms .now) (a .chars .now) (a .c) _ _ (c .before .before .before .before .before .pre .2) (c .before .before .before .before .before .pre .3)))
+    (λ c.
+    let at-start = c .before .before .before .before .before in
+    let a = at-start .args in (omega arith, refl, refl, below-zero _, tables-start (a .terms .now) (a .chars .now) (a .c) _ _ (at-start .pre .2) (at-start .pre .3)))
     (λ c. search needs)
     (λ c. search needs)
-    (λ c κs. (within-is _ _ (omega arith) (omega arith), c .before .before .before .before .before .before .before .before .before .before .before .pre .1, c .before .before .before .before .before .loop .inv .4))
+    (λ c κs.
+    let at-loop = c .before .before .before .before .before in
+    let at-start = at-loop .before .before .before .before .before .before in
+    (within-is _ _ (omega arith) (omega arith), at-start .pre .1, at-loop .loop .inv .4))
     (λ c. search needs)
     (λ c. search needs)
-    (λ c. let a = c .before .before .before .before .before .before .before .before .before .before .before .before .before .before .before .before .before .args in each-stop (termRule (storeOf (lent (a .terms .now) (a .cells .now) (a .chars .now) [] []) (a .c))) (λ j. termAt (a .terms .now) (suc j)) (a .c .terms) (c .before .before .before .before .before .before .before .before .before .before .before .loop .i) _ (c .before .before .before .before .before .term-ok .ensures .passes) (c .if2 .taken) (c .before .before .before .before .before .before .before .before .before .if1 .taken))
+    (λ c.
+    let at-term-ok = c .before .before .before .before .before in
+    let at-if1 = at-term-ok .before .before .before .before in
+    let at-loop = at-if1 .before .before in
+    let at-start = at-loop .before .before .before .before .before .before in
+    let a = at-start .args in
+    each-stop (termRule (storeOf (lent (a .terms .now) (a .cells .now) (a .chars .now) [] []) (a .c))) (λ j. termAt (a .terms .now) (suc j)) (a .c .terms) (at-loop .loop .i) _
+    (at-term-ok .term-ok .ensures .passes) (c .if2 .taken) (at-if1 .if1 .taken))
     (λ c. search needs)
     (λ c. search needs)
     (λ c. let a = c .before .before .before .before .before .before .before .before .before .before .before .before .before .before .before .before .before .args in let o = c .before .before .before .before .before .before .before .before .before .before .before .loop in (omega arith, search needs, search needs, each-turn (termRule (storeOf (lent (a .terms .now) (a .cells .now) (a .chars .now) [] []) (a .c))) (o .i) _ (c .before .before .before .before .before .term-ok .ensures .passes) (c .if2 .left) (o .inv .3), c .before .before .before .before .before .term-ok .ensures .tables (not-false _ (c .if2 .left))))
     (λ c. search needs)
     (λ c. search needs)
-    (λ c. let a = c .before .before .before .before .before .before .before .before .args in let o = c .before .before .loop in each-done (termRule (storeOf (lent (a .terms .now) (a .cells .now) (a .chars .now) [] []) (a .c))) (λ j. termAt (a .terms .now) (suc j)) (a .c .terms) (o .i) (o .inv .0) (c .if1 .left) (o .inv .3)))
+    (λ c.
+    let at-start = c .before .before .before .before .before .before .before .before in
+    let a = at-start .args in
+    let o = c .before .before .loop in
+    each-done (termRule (storeOf (lent (a .terms .now) (a .cells .now) (a .chars .now) [] []) (a .c))) (λ j. termAt (a .terms .now) (suc j)) (a .c .terms) (o .i) (o .inv .0)
+    (c .if1 .left) (o .inv .3)))

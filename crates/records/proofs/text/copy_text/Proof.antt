@@ -27,6 +27,8 @@ copy-text-spec =
     (λ c. search needs)
     (λ c. search needs)
     (λ c. search needs)
-    (λ c. moved-one _ _ _ _ _ _ (c .before .before .loop .inv) (c .before .loop-test .taken) (c .before .before .before .pre .0) (c .before .before .before .pre .1))
+    (λ c.
+    let at-start = c .before .before .before in
+    moved-one _ _ _ _ _ _ (c .before .before .loop .inv) (c .before .loop-test .taken) (at-start .pre .0) (at-start .pre .1))
     (λ c. search needs)
     (λ c. moved-all _ _ _ _ _ _ (c .before .loop .inv) (c .loop-test .left)))

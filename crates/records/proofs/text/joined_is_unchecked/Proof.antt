@@ -25,10 +25,23 @@ joined-is-unchecked-spec =
     (λ c. search needs)
     (λ c κs. search needs)
     (λ c. search needs)
-    (λ c κs. (omega arith, within-at (c .before .before .before .before .before .before .before .before .args .terms .now) _ _ _ _ _ (c .before .before .before .before .before .before .before .before .pre .1) (c .before .before .before .loop-test .taken) (c .before .first .ensures) (c .second .ensures)))
-    (λ c. matched-stop _ _ _ _ _ _ (c .before .before .before .before .before .before .loop .inv) (c .before .before .before .before .before .loop-test .taken) _ _ (c .before .before .before .first .ensures) (c .before .before .second .ensures) _ (c .before .spans-agree .ensures) (c .if1 .taken))
+    (λ c κs.
+    let at-loop-test = c .before .before .before in
+    let at-start = at-loop-test .before .before .before .before .before in
+    (omega arith, within-at (at-start .args .terms .now) _ _ _ _ _ (at-start .pre .1) (at-loop-test .loop-test .taken) (c .before .first .ensures) (c .second .ensures)))
+    (λ c.
+    let at-first = c .before .before .before in
+    let at-loop-test = at-first .before .before in
+    let at-loop = at-loop-test .before in
+    matched-stop _ _ _ _ _ _ (at-loop .loop .inv) (at-loop-test .loop-test .taken) _ _ (at-first .first .ensures) (c .before .before .second .ensures) _
+    (c .before .spans-agree .ensures) (c .if1 .taken))
     (λ c. search needs)
     (λ c. search needs)
     (λ c. search needs)
-    (λ c. matched-one _ _ _ _ _ _ (c .before .before .before .before .before .before .loop .inv) (c .before .before .before .before .before .loop-test .taken) _ _ (c .before .before .before .first .ensures) (c .before .before .second .ensures) _ (c .before .spans-agree .ensures) (c .if1 .left) (omega arith))
+    (λ c.
+    let at-first = c .before .before .before in
+    let at-loop-test = at-first .before .before in
+    let at-loop = at-loop-test .before in
+    matched-one _ _ _ _ _ _ (at-loop .loop .inv) (at-loop-test .loop-test .taken) _ _ (at-first .first .ensures) (c .before .before .second .ensures) _
+    (c .before .spans-agree .ensures) (c .if1 .left) (omega arith))
     (λ c. matched-all _ _ _ _ _ _ (c .before .loop .inv) (c .loop-test .left)))

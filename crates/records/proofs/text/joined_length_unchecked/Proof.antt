@@ -26,5 +26,7 @@ joined-length-unchecked-spec =
     (λ c. search needs)
     (λ c. search needs)
     (λ c. search needs)
-    (λ c. summed-one _ _ _ _ _ (c .before .before .before .loop .inv) (c .before .before .loop-test .taken) (c .second .ensures) (omega arith))
+    (λ c.
+    let at-loop = c .before .before .before in
+    summed-one _ _ _ _ _ (at-loop .loop .inv) (c .before .before .loop-test .taken) (c .second .ensures) (omega arith))
     (λ c. summed-all _ _ _ _ (c .before .loop .inv) (c .loop-test .left)))

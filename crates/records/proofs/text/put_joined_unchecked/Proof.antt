@@ -25,10 +25,37 @@ put-joined-unchecked-spec =
     (λ c. search needs)
     (λ c κs. search needs)
     (λ c. search needs)
-    (λ c κs. (joined-below _ _ _ _ _ _ _ (c .before .before .before .before .before .loop .inv) (c .before .before .before .before .before .before .before .before .before .pre .0) (c .before .before .before .before .before .before .before .before .before .pre .1) (c .before .before .before .before .loop-test .taken) _ _ (c .before .before .first .ensures) (c .before .second .ensures), joined-room _ _ _ _ _ _ _ (c .before .before .before .before .before .loop .inv) (c .before .before .before .before .before .before .before .before .before .pre .0) (c .before .before .before .before .before .before .before .before .before .pre .1) (c .before .before .before .before .loop-test .taken) _ _ (c .before .before .first .ensures) (c .before .second .ensures)))
-    (λ c. omega (arith, joined-room _ _ _ _ _ _ _ (c .before .before .before .before .before .before .before .before .loop .inv) (c .before .before .before .before .before .before .before .before .before .before .before .before .pre .0) (c .before .before .before .before .before .before .before .before .before .before .before .before .pre .1) (c .before .before .before .before .before .before .before .loop-test .taken) _ _ (c .before .before .before .before .before .first .ensures) (c .before .before .before .before .second .ensures)))
+    (λ c κs.
+    let at-first = c .before .before in
+    let at-loop-test = at-first .before .before in
+    let at-loop = at-loop-test .before in
+    let at-start = at-loop .before .before .before .before in (
+      joined-below _ _ _ _ _ _ _ (at-loop .loop .inv) (at-start .pre .0) (at-start .pre .1) (at-loop-test .loop-test .taken) _ _ (at-first .first .ensures)
+          (c .before .second .ensures),
+      joined-room _ _ _ _ _ _ _ (at-loop .loop .inv) (at-start .pre .0) (at-start .pre .1) (at-loop-test .loop-test .taken) _ _ (at-first .first .ensures)
+          (c .before .second .ensures),
+    ))
+    (λ c.
+    let at-second = c .before .before .before .before in
+    let at-first = at-second .before in
+    let at-loop-test = at-first .before .before in
+    let at-loop = at-loop-test .before in
+    let at-start = at-loop .before .before .before .before in
+    omega (
+      arith,
+      joined-room _ _ _ _ _ _ _ (at-loop .loop .inv) (at-start .pre .0) (at-start .pre .1) (at-loop-test .loop-test .taken) _ _ (at-first .first .ensures)
+          (at-second .second .ensures),
+    ))
     (λ c. search needs)
     (λ c. search needs)
-    (λ c. joined-one _ _ _ _ _ _ _ (c .before .before .before .before .before .before .before .before .loop .inv) (c .before .before .before .before .before .before .before .before .before .before .before .before .pre .0) (c .before .before .before .before .before .before .before .before .before .before .before .before .pre .1) (c .before .before .before .before .before .before .before .loop-test .taken) _ _ (c .before .before .before .before .before .first .ensures) (c .before .before .before .before .second .ensures) _ (c .before .before .copy-text .ensures) (c .before .before .copy-text .kept .0))
+    (λ c.
+    let at-copy-text = c .before .before in
+    let at-second = at-copy-text .before .before in
+    let at-first = at-second .before in
+    let at-loop-test = at-first .before .before in
+    let at-loop = at-loop-test .before in
+    let at-start = at-loop .before .before .before .before in
+    joined-one _ _ _ _ _ _ _ (at-loop .loop .inv) (at-start .pre .0) (at-start .pre .1) (at-loop-test .loop-test .taken) _ _ (at-first .first .ensures)
+    (at-second .second .ensures) _ (at-copy-text .copy-text .ensures) (at-copy-text .copy-text .kept .0))
     (λ c. c .before .loop .inv .long)
     (λ c. joined-all _ _ _ _ _ _ _ (c .before .loop .inv) (c .loop-test .left)))

@@ -27,6 +27,8 @@ put-text-unchecked-spec =
     (λ c. omega (arith, c .before .before .loop .inv .long))
     (λ c. search needs)
     (λ c. search needs)
-    (λ c. copied-one _ _ _ _ _ _ (c .before .before .loop .inv) (c .before .loop-test .taken) (c .before .before .before .pre) refl)
+    (λ c.
+    let at-start = c .before .before .before in
+    copied-one _ _ _ _ _ _ (c .before .before .loop .inv) (c .before .loop-test .taken) (at-start .pre) refl)
     (λ c. search needs)
     (λ c. copied-all _ _ _ _ _ (c .before .loop .inv) (c .loop-test .left)))

@@ -13,4 +13,6 @@ spans-agree-spec =
     (λ c. search needs)
     (λ c. search needs)
     (λ c κs. search needs)
-    (λ c. agree-part (c .before .before .before .args .chars .now) (c .before .before .before .args .at) (c .before .before .before .args .from) (c .before .before .before .args .n) _ (c .before .before .before .pre .1) (c .text-from .ensures)))
+    (λ c.
+    let at-start = c .before .before .before in
+    agree-part (at-start .args .chars .now) (at-start .args .at) (at-start .args .from) (at-start .args .n) _ (at-start .pre .1) (c .text-from .ensures)))

@@ -26,8 +26,14 @@ text-from-spec =
     (λ c. search needs)
     (λ c. search needs)
     (λ c. search needs)
-    (λ c. disagree _ _ _ _ (c .before .before .before .before .loop .inv) (c .before .before .before .loop-test .taken) (c .if2 .taken))
+    (λ c.
+    let at-loop-test = c .before .before .before in
+    let at-loop = at-loop-test .before in
+    disagree _ _ _ _ (at-loop .loop .inv) (at-loop-test .loop-test .taken) (c .if2 .taken))
     (λ c. search needs)
     (λ c. search needs)
-    (λ c. agreed-one _ _ _ _ (c .before .before .before .before .loop .inv) (c .before .before .before .loop-test .taken) (c .if2 .left))
+    (λ c.
+    let at-loop-test = c .before .before .before in
+    let at-loop = at-loop-test .before in
+    agreed-one _ _ _ _ (at-loop .loop .inv) (at-loop-test .loop-test .taken) (c .if2 .left))
     (λ c. agreed-all _ _ _ _ (c .before .loop .inv) (c .loop-test .left)))

@@ -10,7 +10,9 @@ is-named-spec =
     (tie.spec
     (λ c. search needs)
     (λ c. search needs)
-    (λ c. let a = c .before .before .before .before .before .args in let r = c .before .before .before .before .before .pre in named-other (a .terms .now) (a .chars .now) (a .c) (a .m) (a .t) (r .2) _ (a .u) (r .3) (c .if1 .taken))
+    (λ c.
+    let at-start = c .before .before .before .before .before in
+    let a = at-start .args in let r = at-start .pre in named-other (a .terms .now) (a .chars .now) (a .c) (a .m) (a .t) (r .2) _ (a .u) (r .3) (c .if1 .taken))
     (λ c κs. search needs)
     (λ c κs. search needs)
     (λ c κs. search needs)
@@ -19,6 +21,22 @@ is-named-spec =
     (λ c. search needs)
     (λ c. search needs)
     (λ c. search needs)
-    (λ c. let a = c .before .before .before .before .before .before .before .before .before .args in let r = c .before .before .before .before .before .before .before .before .before .pre in name-ends (a .terms .now) (a .chars .now) (a .c) (a .t) (r .2 .variable) (r .2 .fits) _ _ (c .before .before .wide .ensures ∙ c .before .before .before .first .ensures) (c .wide2 .ensures ∙ c .before .second .ensures) (r .0))
+    (λ c.
+    let at-first = c .before .before .before in
+    let at-start = at-first .before .before .before .before .before .before in
+    let a = at-start .args in
+    let r = at-start .pre in
+    name-ends (a .terms .now) (a .chars .now) (a .c) (a .t) (r .2 .variable) (r .2 .fits) _ _ (c .before .before .wide .ensures ∙ at-first .first .ensures)
+    (c .wide2 .ensures ∙ c .before .second .ensures) (r .0))
     (λ c κs. search needs)
-    (λ c. let a = c .before .before .before .before .before .before .before .before .before .before .before .args in let r = c .before .before .before .before .before .before .before .before .before .before .before .pre in named-test (a .terms .now) (a .chars .now) (a .c) (a .m) (a .t) (r .2) _ (a .u) (r .3) _ _ (c .has-text .ensures) (name-part (a .terms .now) (a .chars .now) (a .c) (a .t) (r .2 .variable) (r .2 .fits) (c .before .before .before .before .wide .result) (c .before .before .wide2 .result) (c .before .before .before .before .wide .ensures ∙ c .before .before .before .before .before .first .ensures) (c .before .before .wide2 .ensures ∙ c .before .before .before .second .ensures) (r .0))))
+    (λ c.
+    let at-wide2 = c .before .before in
+    let at-second = at-wide2 .before in
+    let at-wide = at-second .before in
+    let at-first = at-wide .before in
+    let at-start = at-first .before .before .before .before .before .before in
+    let a = at-start .args in
+    let r = at-start .pre in
+    named-test (a .terms .now) (a .chars .now) (a .c) (a .m) (a .t) (r .2) _ (a .u) (r .3) _ _ (c .has-text .ensures)
+    (name-part (a .terms .now) (a .chars .now) (a .c) (a .t) (r .2 .variable) (r .2 .fits) (at-wide .wide .result) (at-wide2 .wide2 .result)
+    (at-wide .wide .ensures ∙ at-first .first .ensures) (at-wide2 .wide2 .ensures ∙ at-second .second .ensures) (r .0))))

@@ -12,5 +12,18 @@ name-mark-spec =
     (λ c κs. search needs)
     (λ c κs. search needs)
     (λ c κs. search needs)
-    (λ c κs. let a = c .before .before .before .before .before .before .args in let r = c .before .before .before .before .before .before .pre in name-ends (a .terms .now) (a .chars .now) (a .c) (a .t) (r .1) (r .2) _ _ (c .before .before .wide .ensures ∙ c .before .before .before .first .ensures) (c .wide2 .ensures ∙ c .before .second .ensures) (r .0))
-    (λ c. let a = c .before .before .before .before .before .before .before .args in let r = c .before .before .before .before .before .before .before .pre in mark-is (a .terms .now) (a .chars .now) (a .c) (a .t) (r .1) (r .2) _ _ (c .before .before .before .wide .ensures ∙ c .before .before .before .before .first .ensures) (c .before .wide2 .ensures ∙ c .before .before .second .ensures) _ (c .text-mark .ensures)))
+    (λ c κs.
+    let at-first = c .before .before .before in
+    let at-start = at-first .before .before .before in
+    let a = at-start .args in
+    let r = at-start .pre in
+    name-ends (a .terms .now) (a .chars .now) (a .c) (a .t) (r .1) (r .2) _ _ (c .before .before .wide .ensures ∙ at-first .first .ensures)
+    (c .wide2 .ensures ∙ c .before .second .ensures) (r .0))
+    (λ c.
+    let at-wide = c .before .before .before in
+    let at-first = at-wide .before in
+    let at-start = at-first .before .before .before in
+    let a = at-start .args in
+    let r = at-start .pre in
+    mark-is (a .terms .now) (a .chars .now) (a .c) (a .t) (r .1) (r .2) _ _ (at-wide .wide .ensures ∙ at-first .first .ensures)
+    (c .before .wide2 .ensures ∙ c .before .before .second .ensures) _ (c .text-mark .ensures)))

@@ -19,16 +19,61 @@ name-ok-spec =
     Inv-loop
     μ-loop
     (λ c κs. search needs)
-    (λ c. let a = c .before .before .before .before .before .before .args in name-empty (a .terms .now) (a .chars .now) (a .c) (a .m) (a .t) (c .before .before .before .before .before .before .pre .1) _ (c .before .second .ensures) (c .if1 .taken))
+    (λ c.
+    let at-start = c .before .before .before .before .before .before in
+    let a = at-start .args in name-empty (a .terms .now) (a .chars .now) (a .c) (a .m) (a .t) (at-start .pre .1) _ (c .before .second .ensures) (c .if1 .taken))
     (λ c. search needs)
     (λ c. search needs)
     (λ c. search needs)
-    (λ c. let a = c .before .before .before .before .before .before .before .args in walk-start (a .terms .now) (a .chars .now) (a .c) (a .m) (a .t) (c .before .before .before .before .before .before .before .pre .1) _ _ _ (c .before .before .before .before .before .before .before .pre .2))
-    (λ c κs. let a = c .before .before .before .before .before .before .before .before .before .args in let r = c .before .before .before .before .before .before .before .before .before .pre in let o = c .before .loop in (r .0, (let i = tables-room (a .terms .now) (a .chars .now) (a .c) _ _ _ (a .t) (r .2) (r .1 .variable) in omega (arith, o .inv .lower)), r .1, walk-marked (a .terms .now) (a .chars .now) (a .c) (a .m) (a .t) (r .1) _ _ _ (r .2) (o .u) (o .inv) (c .loop-test .taken)))
-    (λ c. let a = c .before .before .before .before .before .before .before .before .before .before .before .args in let o = c .before .before .before .loop in name-taken (a .terms .now) (a .chars .now) (a .c) (a .m) (a .t) (c .before .before .before .before .before .before .before .before .before .before .before .pre .1) (o .u) (o .inv) _ (c .before .is-named .ensures) (c .if2 .taken))
+    (λ c.
+    let at-start = c .before .before .before .before .before .before .before in
+    let a = at-start .args in walk-start (a .terms .now) (a .chars .now) (a .c) (a .m) (a .t) (at-start .pre .1) _ _ _ (at-start .pre .2))
+    (λ c κs.
+    let at-start = c .before .before .before .before .before .before .before .before .before in
+    let a = at-start .args in
+    let r = at-start .pre in
+    let o = c .before .loop in (
+      r .0,
+      (let i = tables-room (a .terms .now) (a .chars .now) (a .c) _ _ _ (a .t) (r .2) (r .1 .variable) in omega (arith, o .inv .lower)),
+      r .1,
+      walk-marked (a .terms .now) (a .chars .now) (a .c) (a .m) (a .t) (r .1) _ _ _ (r .2) (o .u) (o .inv) (c .loop-test .taken),
+    ))
+    (λ c.
+    let at-loop = c .before .before .before in
+    let at-start = at-loop .before .before .before .before .before .before .before .before in
+    let a = at-start .args in
+    let o = at-loop .loop in name-taken (a .terms .now) (a .chars .now) (a .c) (a .m) (a .t) (at-start .pre .1) (o .u) (o .inv) _ (c .before .is-named .ensures) (c .if2 .taken))
     (λ c. search needs)
-    (λ c. let a = c .before .before .before .before .before .before .before .before .before .before .before .args in let r = c .before .before .before .before .before .before .before .before .before .before .before .pre in let i = tables-room (a .terms .now) (a .chars .now) (a .c) _ _ _ (a .t) (r .2) (r .1 .variable) in omega (arith, c .before .before .before .loop .inv .lower))
-    (λ c. let a = c .before .before .before .before .before .before .before .before .before .before .before .before .args in let r = c .before .before .before .before .before .before .before .before .before .before .before .before .pre in let i = tables-room (a .terms .now) (a .chars .now) (a .c) _ _ _ (a .t) (r .2) (r .1 .variable) in omega (arith, c .before .before .before .before .loop .inv .lower))
-    (λ c. let a = c .before .before .before .before .before .before .before .before .before .before .before .before .args in let r = c .before .before .before .before .before .before .before .before .before .before .before .before .pre in let o = c .before .before .before .before .loop in walk-less (a .terms .now) (a .chars .now) (a .c) (a .m) (a .t) (r .1) _ _ _ (r .2) (o .u) (o .inv) (c .before .before .before .loop-test .taken))
-    (λ c. let a = c .before .before .before .before .before .before .before .before .before .before .before .before .args in let r = c .before .before .before .before .before .before .before .before .before .before .before .before .pre in let o = c .before .before .before .before .loop in walk-turn (a .terms .now) (a .chars .now) (a .c) (a .m) (a .t) (r .1) _ _ _ (r .2) (o .u) (o .inv) (c .before .before .before .loop-test .taken) _ (c .before .before .is-named .ensures) (c .before .if2 .left))
-    (λ c. let a = c .before .before .before .before .before .before .before .before .before .args in let o = c .before .loop in name-free (a .terms .now) (a .chars .now) (a .c) (a .m) (a .t) (c .before .before .before .before .before .before .before .before .before .pre .1) (o .u) (o .inv) _ (c .before .before .before .before .second .ensures) (c .before .before .before .if1 .left) (c .loop-test .left)))
+    (λ c.
+    let at-loop = c .before .before .before in
+    let at-start = at-loop .before .before .before .before .before .before .before .before in
+    let a = at-start .args in
+    let r = at-start .pre in let i = tables-room (a .terms .now) (a .chars .now) (a .c) _ _ _ (a .t) (r .2) (r .1 .variable) in omega (arith, at-loop .loop .inv .lower))
+    (λ c.
+    let at-loop = c .before .before .before .before in
+    let at-start = at-loop .before .before .before .before .before .before .before .before in
+    let a = at-start .args in
+    let r = at-start .pre in let i = tables-room (a .terms .now) (a .chars .now) (a .c) _ _ _ (a .t) (r .2) (r .1 .variable) in omega (arith, at-loop .loop .inv .lower))
+    (λ c.
+    let at-loop-test = c .before .before .before in
+    let at-loop = at-loop-test .before in
+    let at-start = at-loop .before .before .before .before .before .before .before .before in
+    let a = at-start .args in
+    let r = at-start .pre in
+    let o = at-loop .loop in walk-less (a .terms .now) (a .chars .now) (a .c) (a .m) (a .t) (r .1) _ _ _ (r .2) (o .u) (o .inv) (at-loop-test .loop-test .taken))
+    (λ c.
+    let at-loop-test = c .before .before .before in
+    let at-loop = at-loop-test .before in
+    let at-start = at-loop .before .before .before .before .before .before .before .before in
+    let a = at-start .args in
+    let r = at-start .pre in
+    let o = at-loop .loop in
+    walk-turn (a .terms .now) (a .chars .now) (a .c) (a .m) (a .t) (r .1) _ _ _ (r .2) (o .u) (o .inv) (at-loop-test .loop-test .taken) _ (c .before .before .is-named .ensures)
+    (c .before .if2 .left))
+    (λ c.
+    let at-if1 = c .before .before .before in
+    let at-second = at-if1 .before in
+    let at-start = at-second .before .before .before .before .before in
+    let a = at-start .args in
+    let o = c .before .loop in
+    name-free (a .terms .now) (a .chars .now) (a .c) (a .m) (a .t) (at-start .pre .1) (o .u) (o .inv) _ (at-second .second .ensures) (at-if1 .if1 .left) (c .loop-test .left)))

@@ -37,7 +37,10 @@ wide-requires : tie.Need-wide-requires Inv-loop μ-loop
 wide-requires c κs = search needs
 
 add-h-2 : tie.Need-add-h-2 Inv-loop μ-loop
-add-h-2 c = omega (arith, c .wide .ensures, c .before .shared-slice-known2 .given (c .before .before .before .before .before .args .p + c .before .before .before .loop .i))
+add-h-2 c =
+    let at-loop = c .before .before .before in
+    let at-start = at-loop .before .before in
+    omega (arith, c .wide .ensures, c .before .shared-slice-known2 .given (at-start .args .p + at-loop .loop .i))
 
 add-i : tie.Need-add-i Inv-loop μ-loop
 add-i c = search needs
@@ -46,13 +49,18 @@ loop-less : tie.Need-loop-less Inv-loop μ-loop
 loop-less c = search needs
 
 loop-again : tie.Need-loop-again Inv-loop μ-loop
-loop-again c = let a = c .before .before .before .before .before .args in let o = c .before .before .before .loop in (omega arith, omega arith, mark-turn (a .chars .now) (a .p) (o .i) (o .h) (c .wide .result) (o .inv .2) (c .wide .ensures))
+loop-again c =
+    let at-loop = c .before .before .before in
+    let at-start = at-loop .before .before in
+    let a = at-start .args in let o = at-loop .loop in (omega arith, omega arith, mark-turn (a .chars .now) (a .p) (o .i) (o .h) (c .wide .result) (o .inv .2) (c .wide .ensures))
 
 cast-result : tie.Need-cast-result Inv-loop μ-loop
 cast-result c = search needs
 
 returns : tie.Need-returns Inv-loop μ-loop
-returns c = let a = c .before .before .before .args in let o = c .before .loop in mark-done (a .chars .now) (a .p) (a .n) (o .i) (o .h) (o .inv .2) (o .inv .0) (c .loop-test .left)
+returns c =
+    let at-start = c .before .before .before in
+    let a = at-start .args in let o = c .before .loop in mark-done (a .chars .now) (a .p) (a .n) (o .i) (o .h) (o .inv .2) (o .inv .0) (c .loop-test .left)
 
 pub text-mark-spec : {M : Type 1} → statement M
 text-mark-spec =

@@ -14,8 +14,12 @@ ask-make-spec =
     (λ c κs. search needs)
     (λ c κs. search needs)
     (λ c κs. search needs)
-    (λ c. c .before .before .before .before .before .before .before .before .before .before .before .before .before .before .before .make-of .kept .1 .1 .0)
+    (λ c.
+    let at-make-of = c .before .before .before .before .before .before .before .before .before .before .before .before .before .before .before in
+    at-make-of .make-of .kept .1 .1 .0)
     (λ c. search needs)
     (λ c. search needs)
-    (λ c. c .before .before .before .before .before .before .before .before .before .before .before .before .before .before .before .before .before .before .before .before .before .save .kept .1 .1 .1 .0)
+    (λ c.
+    let at-save = c .before .before .before .before .before .before .before .before .before .before .before .before .before .before .before .before .before .before .before .before .before in
+    at-save .save .kept .1 .1 .1 .0)
     (λ c. search needs))

@@ -19,18 +19,61 @@ nf-equal-explain-unchecked-spec =
     (tie.spec
     Inv-loop
     μ-loop
-    (λ c. (omega arith, (refl, pairing-none (c .before .before .before .before .before .before .before .args .terms .now) (c .before .before .before .before .before .before .before .args .cells .now) (c .before .before .before .before .before .before .before .args .chars .now) (c .before .before .before .before .before .before .before .args .keys .now) (c .before .before .before .before .before .before .before .args .lhs .now) (c .before .before .before .before .before .before .before .args .rhs .now) (c .before .before .before .before .before .before .before .pre .0))))
+    (λ c.
+    let at-start = c .before .before .before .before .before .before .before in (
+      omega arith,
+      (
+        refl,
+        pairing-none (at-start .args .terms .now) (at-start .args .cells .now) (at-start .args .chars .now) (at-start .args .keys .now) (at-start .args .lhs .now)
+            (at-start .args .rhs .now) (at-start .pre .0),
+      ),
+    ))
     (λ c. search needs)
     (λ c. search needs)
     (λ c. search needs)
-    (λ c. (let p = c .before .before .before .loop-test .taken in let q = c .before .before .before .before .before .before .before .before .before .before .before .before .pre .1 .1 .1 in omega arith))
-    (λ c κs. (c .before .before .before .before .loop .inv .1 .1 .going .ready, pairing-pair (c .before .before .before .before .before .before .before .before .before .before .before .before .args .terms .now) (c .before .before .before .before .before .before .before .before .before .before .before .before .args .cells .now) (c .before .before .before .before .before .before .before .before .before .before .before .before .args .chars .now) (c .before .before .before .before .before .before .before .before .before .before .before .before .args .keys .now) (c .before .before .before .before .before .before .before .before .before .before .before .before .args .lhs .now) (c .before .before .before .before .before .before .before .before .before .before .before .before .args .rhs .now) (c .before .before .before .before .loop .inv .1 .1) (c .before .before .before .loop-test .taken) (c .before .before .before .before .before .before .before .before .before .before .before .before .pre .1 .1 .1) (c .before .before .before .before .before .before .before .before .before .before .before .before .pre .1 .0) (c .before .before .before .before .before .before .before .before .before .before .before .before .pre .1 .1 .0)))
+    (λ c.
+    let at-loop-test = c .before .before .before in
+    let at-start = at-loop-test .before .before .before .before .before .before .before .before .before in
+    (let p = at-loop-test .loop-test .taken in let q = at-start .pre .1 .1 .1 in omega arith))
+    (λ c κs.
+    let at-loop-test = c .before .before .before in
+    let at-loop = at-loop-test .before in
+    let at-start = at-loop .before .before .before .before .before .before .before .before in (
+      at-loop .loop .inv .1 .1 .going .ready,
+      pairing-pair (at-start .args .terms .now) (at-start .args .cells .now) (at-start .args .chars .now) (at-start .args .keys .now) (at-start .args .lhs .now)
+          (at-start .args .rhs .now) (at-loop .loop .inv .1 .1) (at-loop-test .loop-test .taken) (at-start .pre .1 .1 .1) (at-start .pre .1 .0) (at-start .pre .1 .1 .0),
+    ))
     (λ c. search needs)
     (λ c. search needs)
     (λ c. search needs)
-    (λ c. pairing-refused (c .before .before .before .before .before .before .before .before .before .before .before .before .before .before .before .before .before .before .args .terms .now) (c .before .before .before .before .before .before .before .before .before .before .before .before .before .before .before .before .before .before .args .cells .now) (c .before .before .before .before .before .before .before .before .before .before .before .before .before .before .before .before .before .before .args .chars .now) (c .before .before .before .before .before .before .before .before .before .before .before .before .before .before .before .before .before .before .args .keys .now) (c .before .before .before .before .before .before .before .before .before .before .before .before .before .before .before .before .before .before .args .lhs .now) (c .before .before .before .before .before .before .before .before .before .before .before .before .before .before .before .before .before .before .args .rhs .now) (c .before .before .before .before .before .before .before .before .before .before .loop .inv .1 .1) (c .before .before .before .before .before .before .before .before .before .loop-test .taken) (c .before .before .before .before .before .before .before .before .before .before .before .before .before .before .before .before .before .before .pre .1 .1 .1) (c .before .before .before .before .before .before .before .before .before .before .before .before .before .before .before .before .before .before .pre .1 .0) (c .before .before .before .before .before .before .before .before .before .before .before .before .before .before .before .before .before .before .pre .1 .1 .0) _ _ (c .before .before .before .before .before .explain-pair .ensures) _ (c .before .k .given .1))
+    (λ c.
+    let at-explain-pair = c .before .before .before .before .before in
+    let at-loop-test = at-explain-pair .before .before .before .before in
+    let at-loop = at-loop-test .before in
+    let at-start = at-loop .before .before .before .before .before .before .before .before in
+    pairing-refused (at-start .args .terms .now) (at-start .args .cells .now) (at-start .args .chars .now) (at-start .args .keys .now) (at-start .args .lhs .now)
+    (at-start .args .rhs .now) (at-loop .loop .inv .1 .1) (at-loop-test .loop-test .taken) (at-start .pre .1 .1 .1) (at-start .pre .1 .0) (at-start .pre .1 .1 .0) _ _
+    (at-explain-pair .explain-pair .ensures) _ (c .before .k .given .1))
     (λ c. search (needs, c .before .before .before .before .before .before .before .before .before .loop-test .taken, c .before .before .before .before .before .before .before .before .before .before .before .before .before .before .before .before .before .before .good))
-    (λ c. (let p = c .before .before .before .before .before .before .before .before .before .loop-test .taken in omega arith))
-    (λ c. (let p = c .before .before .before .before .before .before .before .before .before .loop-test .taken in omega arith, (search needs, pairing-turn (c .before .before .before .before .before .before .before .before .before .before .before .before .before .before .before .before .before .before .args .terms .now) (c .before .before .before .before .before .before .before .before .before .before .before .before .before .before .before .before .before .before .args .cells .now) (c .before .before .before .before .before .before .before .before .before .before .before .before .before .before .before .before .before .before .args .chars .now) (c .before .before .before .before .before .before .before .before .before .before .before .before .before .before .before .before .before .before .args .keys .now) (c .before .before .before .before .before .before .before .before .before .before .before .before .before .before .before .before .before .before .args .lhs .now) (c .before .before .before .before .before .before .before .before .before .before .before .before .before .before .before .before .before .before .args .rhs .now) (c .before .before .before .before .before .before .before .before .before .before .loop .inv .1 .1) (c .before .before .before .before .before .before .before .before .before .loop-test .taken) (c .before .before .before .before .before .before .before .before .before .before .before .before .before .before .before .before .before .before .pre .1 .1 .1) (c .before .before .before .before .before .before .before .before .before .before .before .before .before .before .before .before .before .before .pre .1 .0) (c .before .before .before .before .before .before .before .before .before .before .before .before .before .before .before .before .before .before .pre .1 .1 .0) _ _ (c .before .before .before .before .before .explain-pair .ensures) _ (c .before .e .given .1))))
+    (λ c.
+    let at-loop-test = c .before .before .before .before .before .before .before .before .before in
+    (let p = at-loop-test .loop-test .taken in omega arith))
+    (λ c. (
+      let at-loop-test = c .before .before .before .before .before .before .before .before .before in
+          let p = at-loop-test .loop-test .taken in omega arith,
+      (
+        search needs,
+        let at-explain-pair = c .before .before .before .before .before in
+            let at-loop-test = at-explain-pair .before .before .before .before in
+            let at-loop = at-loop-test .before in
+            let at-start = at-loop .before .before .before .before .before .before .before .before in
+            pairing-turn (at-start .args .terms .now) (at-start .args .cells .now) (at-start .args .chars .now) (at-start .args .keys .now) (at-start .args .lhs .now)
+            (at-start .args .rhs .now) (at-loop .loop .inv .1 .1) (at-loop-test .loop-test .taken) (at-start .pre .1 .1 .1) (at-start .pre .1 .0) (at-start .pre .1 .1 .0) _ _
+            (at-explain-pair .explain-pair .ensures) _ (c .before .e .given .1),
+      ),
+    ))
     (λ c. search needs)
-    (λ c. pairing-end (c .before .before .before .before .before .before .before .before .before .args .terms .now) (c .before .before .before .before .before .before .before .before .before .args .cells .now) (c .before .before .before .before .before .before .before .before .before .args .chars .now) (c .before .before .before .before .before .before .before .before .before .args .keys .now) (c .before .before .before .before .before .before .before .before .before .args .lhs .now) (c .before .before .before .before .before .before .before .before .before .args .rhs .now) (c .before .loop .inv .1 .1) (c .loop-test .left)))
+    (λ c.
+    let at-start = c .before .before .before .before .before .before .before .before .before in
+    pairing-end (at-start .args .terms .now) (at-start .args .cells .now) (at-start .args .chars .now) (at-start .args .keys .now) (at-start .args .lhs .now)
+    (at-start .args .rhs .now) (c .before .loop .inv .1 .1) (c .loop-test .left)))

@@ -21,15 +21,40 @@ nf-equal-unchecked-spec =
     (tie.spec
     Inv-loop
     μ-loop
-    (λ c. unequal-lengths _ (c .before .before .before .before .before .args .lhs .now) (c .before .before .before .before .before .args .rhs .now) (c .if1 .taken))
+    (λ c.
+    let at-start = c .before .before .before .before .before in
+    unequal-lengths _ (at-start .args .lhs .now) (at-start .args .rhs .now) (c .if1 .taken))
     (λ c. (omega arith, refl))
     (λ c. search needs)
     (λ c. search needs)
     (λ c. search needs)
-    (λ c. (let p = c .before .before .loop-test .taken in let q = c .before .before .before .before .if1 .left in omega arith))
-    (λ c κs. (c .before .before .before .before .before .before .before .before .before .pre .0, strings-pair _ (c .before .before .before .before .before .before .before .before .before .args .lhs .now) (c .before .before .before .before .before .before .before .before .before .args .rhs .now) (c .before .before .before .before .before .before .before .before .before .pre .1 .0) (c .before .before .before .before .before .before .before .before .before .pre .1 .1) _ (c .before .before .loop-test .taken) (let p = c .before .before .loop-test .taken in let q = c .before .before .before .before .if1 .left in omega arith)))
-    (λ c. equal-stop _ (c .before .before .before .before .before .before .before .before .before .before .before .args .lhs .now) (c .before .before .before .before .before .before .before .before .before .before .before .args .rhs .now) _ (c .before .before .before .before .before .before .if1 .left) (c .before .before .before .before .before .loop .inv .1) (c .before .before .before .before .loop-test .taken) _ (c .before .same-unchecked .ensures) (c .if2 .taken))
+    (λ c. let at-if1 = c .before .before .before .before in (let p = c .before .before .loop-test .taken in let q = at-if1 .if1 .left in omega arith))
+    (λ c κs.
+    let at-loop-test = c .before .before in
+    let at-if1 = at-loop-test .before .before in
+    let at-start = at-if1 .before .before .before .before .before in (
+      at-start .pre .0,
+      strings-pair _ (at-start .args .lhs .now) (at-start .args .rhs .now) (at-start .pre .1 .0) (at-start .pre .1 .1) _ (at-loop-test .loop-test .taken)
+          (let p = at-loop-test .loop-test .taken in let q = at-if1 .if1 .left in omega arith),
+    ))
+    (λ c.
+    let at-loop-test = c .before .before .before .before in
+    let at-loop = at-loop-test .before in
+    let at-if1 = at-loop .before in
+    let at-start = at-if1 .before .before .before .before .before in
+    equal-stop _ (at-start .args .lhs .now) (at-start .args .rhs .now) _ (at-if1 .if1 .left) (at-loop .loop .inv .1) (at-loop-test .loop-test .taken) _
+    (c .before .same-unchecked .ensures) (c .if2 .taken))
     (λ c. search needs)
-    (λ c. (let p = c .before .before .before .before .loop-test .taken in omega arith))
-    (λ c. (let p = c .before .before .before .before .loop-test .taken in omega arith, equal-turn _ (c .before .before .before .before .before .before .before .before .before .before .before .args .lhs .now) (c .before .before .before .before .before .before .before .before .before .before .before .args .rhs .now) _ (c .before .before .before .before .before .before .if1 .left) (c .before .before .before .before .before .loop .inv .1) (c .before .before .before .before .loop-test .taken) _ (c .before .same-unchecked .ensures) (c .if2 .left)))
-    (λ c. equal-end _ (c .before .before .before .before .before .before .before .args .lhs .now) (c .before .before .before .before .before .before .before .args .rhs .now) _ (c .before .before .if1 .left) (c .before .loop .inv .1) (c .loop-test .left)))
+    (λ c. let at-loop-test = c .before .before .before .before in (let p = at-loop-test .loop-test .taken in omega arith))
+    (λ c.
+    let at-loop-test = c .before .before .before .before in
+    let at-loop = at-loop-test .before in
+    let at-if1 = at-loop .before in
+    let at-start = at-if1 .before .before .before .before .before in (
+      let p = at-loop-test .loop-test .taken in omega arith,
+      equal-turn _ (at-start .args .lhs .now) (at-start .args .rhs .now) _ (at-if1 .if1 .left) (at-loop .loop .inv .1) (at-loop-test .loop-test .taken) _
+          (c .before .same-unchecked .ensures) (c .if2 .left),
+    ))
+    (λ c.
+    let at-start = c .before .before .before .before .before .before .before in
+    equal-end _ (at-start .args .lhs .now) (at-start .args .rhs .now) _ (c .before .before .if1 .left) (c .before .loop .inv .1) (c .loop-test .left)))

@@ -19,16 +19,59 @@ explain-all-unchecked-spec =
     (tie.spec
     Inv-loop
     μ-loop
-    (λ c. (omega arith, (refl, citing-none (c .before .before .before .before .before .before .args .terms .now) (c .before .before .before .before .before .before .args .cells .now) (c .before .before .before .before .before .before .args .chars .now) (c .before .before .before .before .before .before .args .keys .now) (c .before .before .before .before .before .before .args .side .now) (c .before .before .before .before .before .before .args .v) (c .before .before .before .before .before .before .pre .0))))
+    (λ c.
+    let at-start = c .before .before .before .before .before .before in (
+      omega arith,
+      (
+        refl,
+        citing-none (at-start .args .terms .now) (at-start .args .cells .now) (at-start .args .chars .now) (at-start .args .keys .now) (at-start .args .side .now)
+            (at-start .args .v) (at-start .pre .0),
+      ),
+    ))
     (λ c. search needs)
     (λ c. search needs)
-    (λ c κs. (c .before .before .before .loop .inv .1 .1 .going .ready, (citing-pair (c .before .before .before .before .before .before .before .before .before .before .args .terms .now) (c .before .before .before .before .before .before .before .before .before .before .args .cells .now) (c .before .before .before .before .before .before .before .before .before .before .args .chars .now) (c .before .before .before .before .before .before .before .before .before .before .args .keys .now) (c .before .before .before .before .before .before .before .before .before .before .args .side .now) (c .before .before .before .before .before .before .before .before .before .before .args .v) (c .before .before .before .loop .inv .1 .1) (c .before .before .loop-test .taken) (c .before .before .before .before .before .before .before .before .before .before .pre .1 .0) (c .before .before .before .before .before .before .before .before .before .before .pre .1 .1), citing-class (c .before .before .before .before .before .before .before .before .before .before .args .terms .now) (c .before .before .before .before .before .before .before .before .before .before .args .cells .now) (c .before .before .before .before .before .before .before .before .before .before .args .chars .now) (c .before .before .before .before .before .before .before .before .before .before .args .keys .now) (c .before .before .before .before .before .before .before .before .before .before .args .side .now) (c .before .before .before .before .before .before .before .before .before .before .args .v) (c .before .before .before .loop .inv .1 .1) (c .before .before .loop-test .taken) (c .before .before .before .before .before .before .before .before .before .before .pre .1 .0) (c .before .before .before .before .before .before .before .before .before .before .pre .1 .1))))
+    (λ c κs.
+    let at-loop-test = c .before .before in
+    let at-loop = at-loop-test .before in
+    let at-start = at-loop .before .before .before .before .before .before .before in (
+      at-loop .loop .inv .1 .1 .going .ready,
+      (
+        citing-pair (at-start .args .terms .now) (at-start .args .cells .now) (at-start .args .chars .now) (at-start .args .keys .now) (at-start .args .side .now)
+            (at-start .args .v) (at-loop .loop .inv .1 .1) (at-loop-test .loop-test .taken) (at-start .pre .1 .0) (at-start .pre .1 .1),
+        citing-class (at-start .args .terms .now) (at-start .args .cells .now) (at-start .args .chars .now) (at-start .args .keys .now) (at-start .args .side .now)
+            (at-start .args .v) (at-loop .loop .inv .1 .1) (at-loop-test .loop-test .taken) (at-start .pre .1 .0) (at-start .pre .1 .1),
+      ),
+    ))
     (λ c. search needs)
     (λ c. search needs)
     (λ c. search needs)
-    (λ c. citing-refused (c .before .before .before .before .before .before .before .before .before .before .before .before .before .before .before .before .args .terms .now) (c .before .before .before .before .before .before .before .before .before .before .before .before .before .before .before .before .args .cells .now) (c .before .before .before .before .before .before .before .before .before .before .before .before .before .before .before .before .args .chars .now) (c .before .before .before .before .before .before .before .before .before .before .before .before .before .before .before .before .args .keys .now) (c .before .before .before .before .before .before .before .before .before .before .before .before .before .before .before .before .args .side .now) (c .before .before .before .before .before .before .before .before .before .before .before .before .before .before .before .before .args .v) (c .before .before .before .before .before .before .before .before .before .loop .inv .1 .1) (c .before .before .before .before .before .before .before .before .loop-test .taken) (c .before .before .before .before .before .before .before .before .before .before .before .before .before .before .before .before .pre .1 .0) (c .before .before .before .before .before .before .before .before .before .before .before .before .before .before .before .before .pre .1 .1) _ _ (c .before .before .before .before .before .explain-atom .ensures) _ (c .before .k .given .1))
+    (λ c.
+    let at-explain-atom = c .before .before .before .before .before in
+    let at-loop-test = at-explain-atom .before .before .before in
+    let at-loop = at-loop-test .before in
+    let at-start = at-loop .before .before .before .before .before .before .before in
+    citing-refused (at-start .args .terms .now) (at-start .args .cells .now) (at-start .args .chars .now) (at-start .args .keys .now) (at-start .args .side .now)
+    (at-start .args .v) (at-loop .loop .inv .1 .1) (at-loop-test .loop-test .taken) (at-start .pre .1 .0) (at-start .pre .1 .1) _ _ (at-explain-atom .explain-atom .ensures) _
+    (c .before .k .given .1))
     (λ c. search (needs, c .before .before .before .before .before .before .before .before .loop-test .taken, c .before .before .before .before .before .before .before .before .before .before .before .before .before .before .before .before .good))
-    (λ c. (let p = c .before .before .before .before .before .before .before .before .loop-test .taken in omega arith))
-    (λ c. (let p = c .before .before .before .before .before .before .before .before .loop-test .taken in omega arith, (search needs, citing-turn (c .before .before .before .before .before .before .before .before .before .before .before .before .before .before .before .before .args .terms .now) (c .before .before .before .before .before .before .before .before .before .before .before .before .before .before .before .before .args .cells .now) (c .before .before .before .before .before .before .before .before .before .before .before .before .before .before .before .before .args .chars .now) (c .before .before .before .before .before .before .before .before .before .before .before .before .before .before .before .before .args .keys .now) (c .before .before .before .before .before .before .before .before .before .before .before .before .before .before .before .before .args .side .now) (c .before .before .before .before .before .before .before .before .before .before .before .before .before .before .before .before .args .v) (c .before .before .before .before .before .before .before .before .before .loop .inv .1 .1) (c .before .before .before .before .before .before .before .before .loop-test .taken) (c .before .before .before .before .before .before .before .before .before .before .before .before .before .before .before .before .pre .1 .0) (c .before .before .before .before .before .before .before .before .before .before .before .before .before .before .before .before .pre .1 .1) _ _ (c .before .before .before .before .before .explain-atom .ensures) _ (c .before .e .given .1))))
+    (λ c.
+    let at-loop-test = c .before .before .before .before .before .before .before .before in
+    (let p = at-loop-test .loop-test .taken in omega arith))
+    (λ c. (
+      let at-loop-test = c .before .before .before .before .before .before .before .before in let p = at-loop-test .loop-test .taken in omega arith,
+      (
+        search needs,
+        let at-explain-atom = c .before .before .before .before .before in
+            let at-loop-test = at-explain-atom .before .before .before in
+            let at-loop = at-loop-test .before in
+            let at-start = at-loop .before .before .before .before .before .before .before in
+            citing-turn (at-start .args .terms .now) (at-start .args .cells .now) (at-start .args .chars .now) (at-start .args .keys .now) (at-start .args .side .now)
+            (at-start .args .v) (at-loop .loop .inv .1 .1) (at-loop-test .loop-test .taken) (at-start .pre .1 .0) (at-start .pre .1 .1) _ _ (at-explain-atom .explain-atom .ensures)
+            _ (c .before .e .given .1),
+      ),
+    ))
     (λ c. search needs)
-    (λ c. citing-end (c .before .before .before .before .before .before .before .before .args .terms .now) (c .before .before .before .before .before .before .before .before .args .cells .now) (c .before .before .before .before .before .before .before .before .args .chars .now) (c .before .before .before .before .before .before .before .before .args .keys .now) (c .before .before .before .before .before .before .before .before .args .side .now) (c .before .before .before .before .before .before .before .before .args .v) (c .before .loop .inv .1 .1) (c .loop-test .left)))
+    (λ c.
+    let at-start = c .before .before .before .before .before .before .before .before in
+    citing-end (at-start .args .terms .now) (at-start .args .cells .now) (at-start .args .chars .now) (at-start .args .keys .now) (at-start .args .side .now)
+    (at-start .args .v) (c .before .loop .inv .1 .1) (c .loop-test .left)))

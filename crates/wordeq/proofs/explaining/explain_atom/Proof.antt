@@ -5,4 +5,23 @@ use Rattle.wordeq.proofs.explaining.explain_atom.Tie as tie
 
 pub explain-atom-spec : {M : Type 1} → statement M
 explain-atom-spec =
-    tie.close (tie.spec (λ c κs. search needs) (λ c. atom-constant (c .before .before .before .before .before .before .before .args .terms .now) (c .before .before .before .before .before .before .before .args .cells .now) (c .before .before .before .before .before .before .before .args .chars .now) (c .before .before .before .before .before .before .before .args .reasons .now) (c .before .before .before .before .before .before .before .args .keys .now) (c .before .before .before .before .before .before .before .args .c) _ _ _ (c .before .kind-of .ensures) (c .if1 .taken)) (λ c κs. (c .before .before .before .before .before .before .before .before .pre .0, atom-arguments (c .before .before .before .before .before .before .before .before .args .terms .now) (c .before .before .before .before .before .before .before .before .args .cells .now) (c .before .before .before .before .before .before .before .before .args .chars .now) (c .before .before .before .before .before .before .before .before .args .reasons .now) (c .before .before .before .before .before .before .before .before .args .keys .now) (c .before .before .before .before .before .before .before .before .args .c) _ _ _ (c .before .before .kind-of .ensures) (c .before .if1 .left) (c .before .before .before .before .before .before .before .before .pre .1 .0) (c .before .before .before .before .before .before .before .before .pre .1 .1))) (λ c. search needs) (λ c. atom-explained (c .before .before .before .before .before .before .before .before .before .before .before .args .terms .now) (c .before .before .before .before .before .before .before .before .before .before .before .args .cells .now) (c .before .before .before .before .before .before .before .before .before .before .before .args .chars .now) (c .before .before .before .before .before .before .before .before .before .before .before .args .reasons .now) (c .before .before .before .before .before .before .before .before .before .before .before .args .keys .now) (c .before .before .before .before .before .before .before .before .before .before .before .args .c) _ _ _ (c .before .before .before .before .before .kind-of .ensures) (c .before .before .before .before .if1 .left) (c .before .before .explain-unchecked .ensures)))
+    tie.close
+    (tie.spec
+    (λ c κs. search needs)
+    (λ c.
+    let at-start = c .before .before .before .before .before .before .before in
+    atom-constant (at-start .args .terms .now) (at-start .args .cells .now) (at-start .args .chars .now) (at-start .args .reasons .now) (at-start .args .keys .now)
+    (at-start .args .c) _ _ _ (c .before .kind-of .ensures) (c .if1 .taken))
+    (λ c κs.
+    let at-start = c .before .before .before .before .before .before .before .before in (
+      at-start .pre .0,
+      atom-arguments (at-start .args .terms .now) (at-start .args .cells .now) (at-start .args .chars .now) (at-start .args .reasons .now) (at-start .args .keys .now)
+          (at-start .args .c) _ _ _ (c .before .before .kind-of .ensures) (c .before .if1 .left) (at-start .pre .1 .0) (at-start .pre .1 .1),
+    ))
+    (λ c. search needs)
+    (λ c.
+    let at-if1 = c .before .before .before .before in
+    let at-kind-of = at-if1 .before in
+    let at-start = at-kind-of .before .before .before .before .before .before in
+    atom-explained (at-start .args .terms .now) (at-start .args .cells .now) (at-start .args .chars .now) (at-start .args .reasons .now) (at-start .args .keys .now)
+    (at-start .args .c) _ _ _ (at-kind-of .kind-of .ensures) (at-if1 .if1 .left) (c .before .before .explain-unchecked .ensures)))

@@ -13,7 +13,10 @@ word-requires : tie.Need-word-requires
 word-requires c κs = search needs
 
 returns : tie.Need-returns
-returns c = letter-first (c .before .before .before .before .before .args .terms .now) (c .before .before .before .before .before .args .chars .now) (c .before .before .before .before .before .args .c) (c .before .before .before .before .before .args .a) _ _ _ (c .before .before .before .before .before .pre .0) (c .before .before .before .before .before .pre .1) (c .before .before .first .ensures) (c .before .wide .ensures) (c .word .ensures)
+returns c =
+    let at-start = c .before .before .before .before .before in
+    letter-first (at-start .args .terms .now) (at-start .args .chars .now) (at-start .args .c) (at-start .args .a) _ _ _ (at-start .pre .0) (at-start .pre .1)
+    (c .before .before .first .ensures) (c .before .wide .ensures) (c .word .ensures)
 
 pub first-letter-spec : {M : Type 1} → statement M
 first-letter-spec = tie.close (tie.spec first-requires wide-requires word-requires returns)

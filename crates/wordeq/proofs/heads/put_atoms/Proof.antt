@@ -6,13 +6,21 @@ use Rattle.wordeq.proofs.heads.put_atoms.Statement.{statement}
 use Rattle.wordeq.proofs.heads.put_atoms.Tie as tie
 
 is-full-requires : tie.Need-is-full-requires
-is-full-requires c κs = texts-of (c .before .before .before .before .before .before .before .pre .0)
+is-full-requires c κs = let at-start = c .before .before .before .before .before .before .before in texts-of (at-start .pre .0)
 
 first-letter-requires : tie.Need-first-letter-requires
-first-letter-requires c κs = (spelled-of (c .before .before .before .before .before .before .before .before .before .before .before .pre .0), sym (c .before .before .before .is-full .ensures) ∙ c .before .before .if1 .taken)
+first-letter-requires c κs =
+    let at-is-full = c .before .before .before in
+    let at-start = at-is-full .before .before .before .before .before .before .before .before in
+    (spelled-of (at-start .pre .0), sym (at-is-full .is-full .ensures) ∙ c .before .before .if1 .taken)
 
 split-character-unchecked-requires : tie.Need-split-character-unchecked-requires
-split-character-unchecked-requires c κs = (c .before .before .before .before .before .before .before .before .before .before .before .before .before .before .before .before .pre .0, (c .before .before .before .before .before .before .before .before .before .before .before .before .before .before .before .before .pre .1 .0 .left, (first-char (c .before .before .before .before .before .before .before .before .before .before .before .before .before .before .before .before .args .b) _ _ (c .before .before .before .before .before .before .before .before .before .before .before .before .before .before .before .before .pre .0) (c .before .before .before .before .first-letter .ensures), (let h = c .before .before .before .before .before .before .before .before .before .before .before .before .before .before .before .before .pre .1 .1 in omega arith))))
+split-character-unchecked-requires c κs =
+    let at-first-letter = c .before .before .before .before in
+    let at-start = at-first-letter .before .before .before .before .before .before .before .before .before .before .before .before in (
+      at-start .pre .0,
+      (at-start .pre .1 .0 .left, (first-char (at-start .args .b) _ _ (at-start .pre .0) (at-first-letter .first-letter .ensures), (let h = at-start .pre .1 .1 in omega arith))),
+    )
 
 same-length : tie.Need-same-length
 same-length c = search needs
@@ -27,16 +35,31 @@ same-length-4 : tie.Need-same-length-4
 same-length-4 c = search needs
 
 returns : tie.Need-returns
-returns c = atoms-right (c .before .before .before .before .before .before .before .before .before .before .before .before .before .before .before .before .before .before .before .before .before .before .before .before .before .args .a) (c .before .before .before .before .before .before .before .before .before .before .before .before .before .before .before .before .before .before .before .before .before .before .before .before .before .args .b) _ _ (full-at (c .before .before .before .before .before .before .before .before .before .before .before .before .before .before .before .before .before .before .before .before .before .before .before .before .before .args .b) (c .before .before .before .before .before .before .before .before .before .before .before .before .before .before .before .before .before .before .before .before .before .before .before .before .before .pre .0) (c .before .before .before .before .before .before .before .before .before .before .before .before .before .before .before .before .before .is-full .ensures) (c .before .before .before .before .before .before .before .before .before .before .before .before .before .before .before .before .if1 .taken)) (c .before .before .before .before .before .before .before .before .before .before .before .before .before .first-letter .ensures) (c .before .before .before .before .before .before .before .before .split-character-unchecked .ensures)
+returns c =
+    let at-split-character-unchecked = c .before .before .before .before .before .before .before .before in
+    let at-first-letter = at-split-character-unchecked .before .before .before .before .before in
+    let at-if1 = at-first-letter .before .before .before in
+    let at-is-full = at-if1 .before in
+    let at-start = at-is-full .before .before .before .before .before .before .before .before in
+    atoms-right (at-start .args .a) (at-start .args .b) _ _ (full-at (at-start .args .b) (at-start .pre .0) (at-is-full .is-full .ensures) (at-if1 .if1 .taken))
+    (at-first-letter .first-letter .ensures) (at-split-character-unchecked .split-character-unchecked .ensures)
 
 is-full-requires-2 : tie.Need-is-full-requires-2
-is-full-requires-2 c κs = texts-of (c .before .before .before .before .before .before .before .before .before .before .pre .0)
+is-full-requires-2 c κs = let at-start = c .before .before .before .before .before .before .before .before .before .before in texts-of (at-start .pre .0)
 
 first-letter-requires-2 : tie.Need-first-letter-requires-2
-first-letter-requires-2 c κs = (spelled-of (c .before .before .before .before .before .before .before .before .before .before .before .before .before .before .pre .0), sym (c .before .before .before .is-full2 .ensures) ∙ c .before .before .if2 .taken)
+first-letter-requires-2 c κs =
+    let at-is-full2 = c .before .before .before in
+    let at-start = at-is-full2 .before .before .before .before .before .before .before .before .before .before .before in
+    (spelled-of (at-start .pre .0), sym (at-is-full2 .is-full2 .ensures) ∙ c .before .before .if2 .taken)
 
 split-character-unchecked-requires-2 : tie.Need-split-character-unchecked-requires-2
-split-character-unchecked-requires-2 c κs = (c .before .before .before .before .before .before .before .before .before .before .before .before .before .before .before .before .before .before .before .pre .0, (c .before .before .before .before .before .before .before .before .before .before .before .before .before .before .before .before .before .before .before .pre .1 .0 .right, (first-char (c .before .before .before .before .before .before .before .before .before .before .before .before .before .before .before .before .before .before .before .args .a) _ _ (c .before .before .before .before .before .before .before .before .before .before .before .before .before .before .before .before .before .before .before .pre .0) (c .before .before .before .before .first-letter2 .ensures), (let h = c .before .before .before .before .before .before .before .before .before .before .before .before .before .before .before .before .before .before .before .pre .1 .1 in omega arith))))
+split-character-unchecked-requires-2 c κs =
+    let at-first-letter2 = c .before .before .before .before in
+    let at-start = at-first-letter2 .before .before .before .before .before .before .before .before .before .before .before .before .before .before .before in (
+      at-start .pre .0,
+      (at-start .pre .1 .0 .right, (first-char (at-start .args .a) _ _ (at-start .pre .0) (at-first-letter2 .first-letter2 .ensures), (let h = at-start .pre .1 .1 in omega arith))),
+    )
 
 same-length-5 : tie.Need-same-length-5
 same-length-5 c = search needs
@@ -51,10 +74,20 @@ same-length-8 : tie.Need-same-length-8
 same-length-8 c = search needs
 
 returns-2 : tie.Need-returns-2
-returns-2 c = atoms-left (c .before .before .before .before .before .before .before .before .before .before .before .before .before .before .before .before .before .before .before .before .before .before .before .before .before .before .before .before .args .a) (c .before .before .before .before .before .before .before .before .before .before .before .before .before .before .before .before .before .before .before .before .before .before .before .before .before .before .before .before .args .b) (c .before .before .before .before .before .before .before .before .before .before .before .before .before .before .before .before .before .before .before .before .before .before .before .before .before .before .before .before .pre .1 .0) _ _ (full-at (c .before .before .before .before .before .before .before .before .before .before .before .before .before .before .before .before .before .before .before .before .before .before .before .before .before .before .before .before .args .a) (c .before .before .before .before .before .before .before .before .before .before .before .before .before .before .before .before .before .before .before .before .before .before .before .before .before .before .before .before .pre .0) (c .before .before .before .before .before .before .before .before .before .before .before .before .before .before .before .before .before .is-full2 .ensures) (c .before .before .before .before .before .before .before .before .before .before .before .before .before .before .before .before .if2 .taken)) (c .before .before .before .before .before .before .before .before .before .before .before .before .before .first-letter2 .ensures) (c .before .before .before .before .before .before .before .before .split-character-unchecked2 .ensures)
+returns-2 c =
+    let at-split-character-unchecked2 = c .before .before .before .before .before .before .before .before in
+    let at-first-letter2 = at-split-character-unchecked2 .before .before .before .before .before in
+    let at-if2 = at-first-letter2 .before .before .before in
+    let at-is-full2 = at-if2 .before in
+    let at-start = at-is-full2 .before .before .before .before .before .before .before .before .before .before .before in
+    atoms-left (at-start .args .a) (at-start .args .b) (at-start .pre .1 .0) _ _
+    (full-at (at-start .args .a) (at-start .pre .0) (at-is-full2 .is-full2 .ensures) (at-if2 .if2 .taken)) (at-first-letter2 .first-letter2 .ensures)
+    (at-split-character-unchecked2 .split-character-unchecked2 .ensures)
 
 split-heads-unchecked-requires : tie.Need-split-heads-unchecked-requires
-split-heads-unchecked-requires c κs = (c .before .before .before .before .before .before .before .before .before .before .before .before .before .before .before .before .pre .0, (c .before .before .before .before .before .before .before .before .before .before .before .before .before .before .before .before .pre .1 .0 .left, (c .before .before .before .before .before .before .before .before .before .before .before .before .before .before .before .before .pre .1 .0 .right, c .before .before .before .before .before .before .before .before .before .before .before .before .before .before .before .before .pre .1 .1)))
+split-heads-unchecked-requires c κs =
+    let at-start = c .before .before .before .before .before .before .before .before .before .before .before .before .before .before .before .before in
+    (at-start .pre .0, (at-start .pre .1 .0 .left, (at-start .pre .1 .0 .right, at-start .pre .1 .1)))
 
 same-length-9 : tie.Need-same-length-9
 same-length-9 c = search needs
@@ -69,7 +102,15 @@ same-length-12 : tie.Need-same-length-12
 same-length-12 c = search needs
 
 returns-3 : tie.Need-returns-3
-returns-3 c = atoms-heads (c .before .before .before .before .before .before .before .before .before .before .before .before .before .before .before .before .before .before .before .before .before .before .before .before .before .args .a) (c .before .before .before .before .before .before .before .before .before .before .before .before .before .before .before .before .before .before .before .before .before .before .before .before .before .args .b) (full-at (c .before .before .before .before .before .before .before .before .before .before .before .before .before .before .before .before .before .before .before .before .before .before .before .before .before .args .b) (c .before .before .before .before .before .before .before .before .before .before .before .before .before .before .before .before .before .before .before .before .before .before .before .before .before .pre .0) (c .before .before .before .before .before .before .before .before .before .before .before .before .before .before .before .before .before .is-full .ensures) (c .before .before .before .before .before .before .before .before .before .before .before .before .before .before .before .before .if1 .left)) (full-at (c .before .before .before .before .before .before .before .before .before .before .before .before .before .before .before .before .before .before .before .before .before .before .before .before .before .args .a) (c .before .before .before .before .before .before .before .before .before .before .before .before .before .before .before .before .before .before .before .before .before .before .before .before .before .pre .0) (c .before .before .before .before .before .before .before .before .before .before .before .before .before .before .is-full2 .ensures) (c .before .before .before .before .before .before .before .before .before .before .before .before .before .if2 .left)) (c .before .before .before .before .before .before .before .before .split-heads-unchecked .ensures)
+returns-3 c =
+    let at-split-heads-unchecked = c .before .before .before .before .before .before .before .before in
+    let at-if2 = at-split-heads-unchecked .before .before .before .before .before in
+    let at-is-full2 = at-if2 .before in
+    let at-if1 = at-is-full2 .before .before in
+    let at-is-full = at-if1 .before in
+    let at-start = at-is-full .before .before .before .before .before .before .before .before in
+    atoms-heads (at-start .args .a) (at-start .args .b) (full-at (at-start .args .b) (at-start .pre .0) (at-is-full .is-full .ensures) (at-if1 .if1 .left))
+    (full-at (at-start .args .a) (at-start .pre .0) (at-is-full2 .is-full2 .ensures) (at-if2 .if2 .left)) (at-split-heads-unchecked .split-heads-unchecked .ensures)
 
 pub put-atoms-spec : {M : Type 1} → statement M
 put-atoms-spec =

@@ -14,7 +14,18 @@ enum-known-key : tie.Need-enum-known-key
 enum-known-key c = search needs
 
 put-atoms-requires : tie.Need-put-atoms-requires
-put-atoms-requires c κs = (new-ready (c .before .before .before .before .before .before .before .before .before .before .before .before .before .before .before .before .before .before .before .before .before .before .args .guard) (c .before .before .before .before .before .before .before .before .before .before .before .before .before .before .before .before .before .before .before .before .before .before .args .a) (c .before .before .before .before .before .before .before .before .before .before .before .before .before .before .before .before .before .before .before .before .before .before .args .b) (c .before .before .before .before .before .before .before .before .before .before .add-key-unchecked .ensures) (c .before .before .before .before .before .before .key .given .1) (c .before .before .before .before .before .before .before .before .before .before .before .before .before .before .before .before .before .before .before .before .before .before .pre .0) (c .before .before .before .before .before .before .before .before .before .before .before .before .before .before .before .before .before .before .before .before .before .before .pre .1 .0) refl refl, (new-pair (c .before .before .before .before .before .before .before .before .before .before .before .before .before .before .before .before .before .before .before .before .before .before .args .guard) (c .before .before .before .before .before .before .before .before .before .before .before .before .before .before .before .before .before .before .before .before .before .before .args .a) (c .before .before .before .before .before .before .before .before .before .before .before .before .before .before .before .before .before .before .before .before .before .before .args .b) (c .before .before .before .before .before .before .before .before .before .before .add-key-unchecked .ensures) (c .before .before .before .before .before .before .key .given .1) (c .before .before .before .before .before .before .before .before .before .before .before .before .before .before .before .before .before .before .before .before .before .before .pre .0) (c .before .before .before .before .before .before .before .before .before .before .before .before .before .before .before .before .before .before .before .before .before .before .pre .1 .0), c .before .before .before .before .before .before .before .before .before .before .before .before .before .before .before .before .before .before .before .before .before .before .pre .1 .1 .1))
+put-atoms-requires c κs =
+    let at-key = c .before .before .before .before .before .before in
+    let at-add-key-unchecked = at-key .before .before .before .before in
+    let at-start = at-add-key-unchecked .before .before .before .before .before .before .before .before .before .before .before .before in (
+      new-ready (at-start .args .guard) (at-start .args .a) (at-start .args .b) (at-add-key-unchecked .add-key-unchecked .ensures) (at-key .key .given .1) (at-start .pre .0)
+          (at-start .pre .1 .0) refl refl,
+      (
+        new-pair (at-start .args .guard) (at-start .args .a) (at-start .args .b) (at-add-key-unchecked .add-key-unchecked .ensures) (at-key .key .given .1) (at-start .pre .0)
+            (at-start .pre .1 .0),
+        at-start .pre .1 .1 .1,
+      ),
+    )
 
 enum-known-atoms : tie.Need-enum-known-atoms
 enum-known-atoms c = search needs
@@ -41,7 +52,15 @@ same-length-5 : tie.Need-same-length-5
 same-length-5 c = search needs
 
 returns : tie.Need-returns
-returns c = new-done (c .before .before .before .before .before .before .before .before .before .before .before .before .before .before .before .before .before .before .before .before .before .before .before .before .before .before .before .before .before .before .before .before .before .before .args .guard) (c .before .before .before .before .before .before .before .before .before .before .before .before .before .before .before .before .before .before .before .before .before .before .before .before .before .before .before .before .before .before .before .before .before .before .args .a) (c .before .before .before .before .before .before .before .before .before .before .before .before .before .before .before .before .before .before .before .before .before .before .before .before .before .before .before .before .before .before .before .before .before .before .args .b) (c .before .before .before .before .before .before .before .before .before .before .before .before .before .before .before .before .before .before .before .before .before .before .add-key-unchecked .ensures) (c .before .before .before .before .before .before .before .before .before .before .before .before .before .before .before .before .before .before .key .given .1) _ (c .before .before .before .before .before .before .before .before .before .before .before .put-atoms .ensures) (c .before .atoms .given .1) (opposite-kept (c .before .before .before .before .before .before .before .before .before .before .before .before .before .before .before .before .before .before .before .before .before .before .before .before .before .before .before .before .before .before .before .before .before .before .args .guard) (c .before .before .before .before .before .before .before .before .before .before .before .before .before .before .before .before .before .before .before .before .before .before .before .before .before .before .before .before .before .before .before .before .before .before .pre .1 .1 .0) (c .before .before .before .before .before .before .before .before .before .before .before .before .before .before .before .before .before .before .before .before .before .before .before .before .before .before .before .before .before .before .before .before .before .before .fits .guard) _ (c .before .before .before .before .before .before .before .before .before .before .before .before .before .before .before .before .before .before .before .before .before .before .before .before .before .before .before .negated .ensures))
+returns c =
+    let at-put-atoms = c .before .before .before .before .before .before .before .before .before .before .before in
+    let at-key = at-put-atoms .before .before .before .before .before .before .before in
+    let at-add-key-unchecked = at-key .before .before .before .before in
+    let at-negated = at-add-key-unchecked .before .before .before .before .before in
+    let at-start = at-negated .before .before .before .before .before .before .before in
+    new-done (at-start .args .guard) (at-start .args .a) (at-start .args .b) (at-add-key-unchecked .add-key-unchecked .ensures) (at-key .key .given .1) _
+    (at-put-atoms .put-atoms .ensures) (c .before .atoms .given .1)
+    (opposite-kept (at-start .args .guard) (at-start .pre .1 .1 .0) (at-start .fits .guard) _ (at-negated .negated .ensures))
 
 same-length-6 : tie.Need-same-length-6
 same-length-6 c = search needs
@@ -59,7 +78,13 @@ same-length-10 : tie.Need-same-length-10
 same-length-10 c = search needs
 
 returns-2 : tie.Need-returns-2
-returns-2 c = new-stop-2 (c .before .before .before .before .before .before .before .before .before .before .before .before .before .before .before .before .before .before .before .before .before .before .before .before .before .before .before .before .before .before .before .before .before .before .args .guard) (c .before .before .before .before .before .before .before .before .before .before .before .before .before .before .before .before .before .before .before .before .before .before .before .before .before .before .before .before .before .before .before .before .before .before .args .a) (c .before .before .before .before .before .before .before .before .before .before .before .before .before .before .before .before .before .before .before .before .before .before .before .before .before .before .before .before .before .before .before .before .before .before .args .b) (c .before .before .before .before .before .before .before .before .before .before .before .before .before .before .before .before .before .before .before .before .before .before .add-key-unchecked .ensures) (c .before .before .before .before .before .before .before .before .before .before .before .before .before .before .before .before .before .before .key .given .1) _ (c .before .before .before .before .before .before .before .before .before .before .before .put-atoms .ensures) (c .before .atoms2 .given .1)
+returns-2 c =
+    let at-put-atoms = c .before .before .before .before .before .before .before .before .before .before .before in
+    let at-key = at-put-atoms .before .before .before .before .before .before .before in
+    let at-add-key-unchecked = at-key .before .before .before .before in
+    let at-start = at-add-key-unchecked .before .before .before .before .before .before .before .before .before .before .before .before in
+    new-stop-2 (at-start .args .guard) (at-start .args .a) (at-start .args .b) (at-add-key-unchecked .add-key-unchecked .ensures) (at-key .key .given .1) _
+    (at-put-atoms .put-atoms .ensures) (c .before .atoms2 .given .1)
 
 same-length-11 : tie.Need-same-length-11
 same-length-11 c = search needs
@@ -74,7 +99,10 @@ same-length-14 : tie.Need-same-length-14
 same-length-14 c = search needs
 
 returns-3 : tie.Need-returns-3
-returns-3 c = new-stop (c .before .before .before .before .before .before .before .before .before .before .before .before .before .before .before .before .before .args .guard) (c .before .before .before .before .before .before .before .before .before .before .before .before .before .before .before .before .before .args .a) (c .before .before .before .before .before .before .before .before .before .before .before .before .before .before .before .before .before .args .b) (c .before .before .before .before .before .add-key-unchecked .ensures) (c .before .key2 .given .1)
+returns-3 c =
+    let at-add-key-unchecked = c .before .before .before .before .before in
+    let at-start = at-add-key-unchecked .before .before .before .before .before .before .before .before .before .before .before .before in
+    new-stop (at-start .args .guard) (at-start .args .a) (at-start .args .b) (at-add-key-unchecked .add-key-unchecked .ensures) (c .before .key2 .given .1)
 
 pub split-new-spec : {M : Type 1} → statement M
 split-new-spec =

@@ -7,7 +7,7 @@ element-copy-out-if1 : tie.Need-element-copy-out-if1
 element-copy-out-if1 c = search needs
 
 returns : tie.Need-returns
-returns c = seen-here _ _ _ (c .before .before .before .args .i) (c .before .before .before .pre .2) (c .if1 .taken)
+returns c = let at-start = c .before .before .before in seen-here _ _ _ (at-start .args .i) (at-start .pre .2) (c .if1 .taken)
 
 mul-is-seen : tie.Need-mul-is-seen
 mul-is-seen c = search needs

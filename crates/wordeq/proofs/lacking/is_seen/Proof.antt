@@ -17,7 +17,9 @@ has-mark-requires : tie.Need-has-mark-requires Inv-loop μ-loop
 has-mark-requires c κs = search needs
 
 returns : tie.Need-returns Inv-loop μ-loop
-returns c = unseen-stop _ _ _ _ _ (c .before .before .before .loop .inv) _ (c .before .has-mark .ensures) (c .before .before .loop-test .taken) (c .if1 .taken)
+returns c =
+    let at-loop = c .before .before .before in
+    unseen-stop _ _ _ _ _ (at-loop .loop .inv) _ (c .before .has-mark .ensures) (c .before .before .loop-test .taken) (c .if1 .taken)
 
 add-i : tie.Need-add-i Inv-loop μ-loop
 add-i c = search needs
@@ -26,7 +28,9 @@ loop-less : tie.Need-loop-less Inv-loop μ-loop
 loop-less c = search needs
 
 loop-again : tie.Need-loop-again Inv-loop μ-loop
-loop-again c = unseen-one _ _ _ _ _ (c .before .before .before .loop .inv) _ (c .before .has-mark .ensures) (c .before .before .loop-test .taken) (c .if1 .left)
+loop-again c =
+    let at-loop = c .before .before .before in
+    unseen-one _ _ _ _ _ (at-loop .loop .inv) _ (c .before .has-mark .ensures) (c .before .before .loop-test .taken) (c .if1 .left)
 
 returns-2 : tie.Need-returns-2 Inv-loop μ-loop
 returns-2 c = unseen-done _ _ _ _ _ (c .before .loop .inv) (c .loop-test .left)

@@ -7,7 +7,9 @@ kind-of-requires : tie.Need-kind-of-requires
 kind-of-requires c κs = search needs
 
 returns : tie.Need-returns
-returns c = lack-atom-none (c .before .before .before .before .args .terms .now) (c .before .before .before .before .args .c) (c .before .before .before .before .args .a) _ (c .before .before .before .before .pre .0 .texts) (c .before .kind-of .ensures) (c .if1 .taken) _ _
+returns c =
+    let at-start = c .before .before .before .before in
+    lack-atom-none (at-start .args .terms .now) (at-start .args .c) (at-start .args .a) _ (at-start .pre .0 .texts) (c .before .kind-of .ensures) (c .if1 .taken) _ _
 
 first-requires : tie.Need-first-requires
 first-requires c κs = search needs
@@ -22,10 +24,29 @@ wide-requires-2 : tie.Need-wide-requires-2
 wide-requires-2 c κs = search needs
 
 lacks-text-requires : tie.Need-lacks-text-requires
-lacks-text-requires c κs = (c .before .before .before .before .before .before .before .before .before .pre .0 .room, c .before .before .before .before .before .before .before .before .before .pre .0 .texts .limited, text-fits (c .before .before .before .before .before .before .before .before .before .args .terms .now) (c .before .before .before .before .before .before .before .before .before .args .c) (c .before .before .before .before .before .before .before .before .before .args .a) _ (c .before .before .before .before .before .before .before .before .before .pre .0 .texts) (c .before .before .before .before .before .before .kind-of .ensures) (c .before .before .before .before .before .if1 .left) _ _ _ _ (c .before .before .before .before .first .ensures) (c .before .before .before .wide .ensures) (c .before .before .second .ensures) (c .before .wide2 .ensures), c .before .before .before .before .before .before .before .before .before .pre .1)
+lacks-text-requires c κs =
+    let at-wide = c .before .before .before in
+    let at-first = at-wide .before in
+    let at-if1 = at-first .before in
+    let at-kind-of = at-if1 .before in
+    let at-start = at-kind-of .before .before .before in (
+      at-start .pre .0 .room,
+      at-start .pre .0 .texts .limited,
+      text-fits (at-start .args .terms .now) (at-start .args .c) (at-start .args .a) _ (at-start .pre .0 .texts) (at-kind-of .kind-of .ensures) (at-if1 .if1 .left) _ _ _ _
+          (at-first .first .ensures) (at-wide .wide .ensures) (c .before .before .second .ensures) (c .before .wide2 .ensures),
+      at-start .pre .1,
+    )
 
 returns-2 : tie.Need-returns-2
-returns-2 c = lack-atom-is (c .before .before .before .before .before .before .before .before .before .before .args .terms .now) (c .before .before .before .before .before .before .before .before .before .before .args .c) (c .before .before .before .before .before .before .before .before .before .before .args .a) _ (c .before .before .before .before .before .before .before .before .before .before .pre .0 .texts) (c .before .before .before .before .before .before .before .kind-of .ensures) (c .before .before .before .before .before .before .if1 .left) _ _ _ _ (c .before .before .before .before .before .first .ensures) (c .before .before .before .before .wide .ensures) (c .before .before .before .second .ensures) (c .before .before .wide2 .ensures) _ _ _ _ (c .lacks-text .ensures)
+returns-2 c =
+    let at-second = c .before .before .before in
+    let at-wide = at-second .before in
+    let at-first = at-wide .before in
+    let at-if1 = at-first .before in
+    let at-kind-of = at-if1 .before in
+    let at-start = at-kind-of .before .before .before in
+    lack-atom-is (at-start .args .terms .now) (at-start .args .c) (at-start .args .a) _ (at-start .pre .0 .texts) (at-kind-of .kind-of .ensures) (at-if1 .if1 .left) _ _ _ _
+    (at-first .first .ensures) (at-wide .wide .ensures) (at-second .second .ensures) (c .before .before .wide2 .ensures) _ _ _ _ (c .lacks-text .ensures)
 
 pub lacks-atom-spec : {M : Type 1} → statement M
 lacks-atom-spec =

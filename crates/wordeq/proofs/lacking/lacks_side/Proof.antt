@@ -23,10 +23,16 @@ shared-slice-read-lacks-atom : tie.Need-shared-slice-read-lacks-atom Inv-loop μ
 shared-slice-read-lacks-atom c = search needs
 
 lacks-atom-requires : tie.Need-lacks-atom-requires Inv-loop μ-loop
-lacks-atom-requires c κs = (c .before .before .before .before .before .before .before .pre .0, c .before .before .before .loop .inv .size ∙ c .before .before .before .before .before .before .before .pre .1)
+lacks-atom-requires c κs =
+    let at-loop = c .before .before .before in
+    let at-start = at-loop .before .before .before .before in
+    (at-start .pre .0, at-loop .loop .inv .size ∙ at-start .pre .1)
 
 returns : tie.Need-returns Inv-loop μ-loop
-returns c = found-stop _ _ _ _ _ _ _ (c .before .before .before .before .before .loop .inv) _ _ (c .before .before .before .before .loop-test .taken) (c .before .lacks-atom .ensures) (c .if1 .taken)
+returns c =
+    let at-loop-test = c .before .before .before .before in
+    let at-loop = at-loop-test .before in
+    found-stop _ _ _ _ _ _ _ (at-loop .loop .inv) _ _ (at-loop-test .loop-test .taken) (c .before .lacks-atom .ensures) (c .if1 .taken)
 
 add-i : tie.Need-add-i Inv-loop μ-loop
 add-i c = search needs
@@ -35,7 +41,10 @@ loop-less : tie.Need-loop-less Inv-loop μ-loop
 loop-less c = search needs
 
 loop-again : tie.Need-loop-again Inv-loop μ-loop
-loop-again c = found-one _ _ _ _ _ _ _ (c .before .before .before .before .before .loop .inv) _ _ (c .before .before .before .before .loop-test .taken) (c .before .lacks-atom .ensures) (c .if1 .left)
+loop-again c =
+    let at-loop-test = c .before .before .before .before in
+    let at-loop = at-loop-test .before in
+    found-one _ _ _ _ _ _ _ (at-loop .loop .inv) _ _ (at-loop-test .loop-test .taken) (c .before .lacks-atom .ensures) (c .if1 .left)
 
 returns-2 : tie.Need-returns-2 Inv-loop μ-loop
 returns-2 c = found-done _ _ _ _ _ _ _ (c .before .loop .inv) (c .loop-test .left)

@@ -20,7 +20,10 @@ is-known-requires : tie.Need-is-known-requires Inv-loop μ-loop
 is-known-requires c κs = search needs
 
 returns : tie.Need-returns Inv-loop μ-loop
-returns c = looked-stop _ _ _ _ _ _ _ (c .before .before .before .before .loop .inv) _ (c .before .is-known .ensures) (c .before .before .before .loop-test .taken) (c .if1 .taken)
+returns c =
+    let at-loop-test = c .before .before .before in
+    let at-loop = at-loop-test .before in
+    looked-stop _ _ _ _ _ _ _ (at-loop .loop .inv) _ (c .before .is-known .ensures) (at-loop-test .loop-test .taken) (c .if1 .taken)
 
 add-table : tie.Need-add-table Inv-loop μ-loop
 add-table c = search needs
@@ -35,7 +38,12 @@ loop-less : tie.Need-loop-less Inv-loop μ-loop
 loop-less c = search needs
 
 loop-again : tie.Need-loop-again Inv-loop μ-loop
-loop-again c = looked-one _ _ _ _ _ _ _ (c .before .before .before .before .loop .inv) _ (c .before .is-known .ensures) (c .before .before .before .loop-test .taken) (c .before .before .before .before .before .before .pre .2) (c .before .before .before .before .before .before .pre .1) (c .before .before .before .before .before .before .pre .3) (c .if1 .left)
+loop-again c =
+    let at-loop-test = c .before .before .before in
+    let at-loop = at-loop-test .before in
+    let at-start = at-loop .before .before in
+    looked-one _ _ _ _ _ _ _ (at-loop .loop .inv) _ (c .before .is-known .ensures) (at-loop-test .loop-test .taken) (at-start .pre .2) (at-start .pre .1) (at-start .pre .3)
+    (c .if1 .left)
 
 returns-2 : tie.Need-returns-2 Inv-loop μ-loop
 returns-2 c = looked-done _ _ _ _ _ _ _ (c .before .loop .inv) (c .loop-test .left)

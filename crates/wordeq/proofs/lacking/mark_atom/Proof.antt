@@ -7,7 +7,9 @@ kind-of-requires : tie.Need-kind-of-requires
 kind-of-requires c κs = search needs
 
 returns : tie.Need-returns
-returns c = mark-atom-none (c .before .before .before .args .terms .now) (c .before .before .before .args .c) (c .before .before .before .args .a) _ (c .before .before .before .pre .0) (c .before .kind-of .ensures) (c .if1 .taken) _
+returns c =
+    let at-start = c .before .before .before in
+    mark-atom-none (at-start .args .terms .now) (at-start .args .c) (at-start .args .a) _ (at-start .pre .0) (c .before .kind-of .ensures) (c .if1 .taken) _
 
 first-requires : tie.Need-first-requires
 first-requires c κs = search needs
@@ -22,10 +24,25 @@ wide-requires-2 : tie.Need-wide-requires-2
 wide-requires-2 c κs = search needs
 
 mark-text-requires : tie.Need-mark-text-requires
-mark-text-requires c κs = text-limit (c .before .before .before .before .before .before .before .before .args .terms .now) (c .before .before .before .before .before .before .before .before .args .c) (c .before .before .before .before .before .before .before .before .args .a) _ (c .before .before .before .before .before .before .before .before .pre .0) (c .before .before .before .before .before .before .kind-of .ensures) (c .before .before .before .before .before .if1 .left) _ _ _ _ (c .before .before .before .before .first .ensures) (c .before .before .before .wide .ensures) (c .before .before .second .ensures) (c .before .wide2 .ensures)
+mark-text-requires c κs =
+    let at-wide = c .before .before .before in
+    let at-first = at-wide .before in
+    let at-if1 = at-first .before in
+    let at-kind-of = at-if1 .before in
+    let at-start = at-kind-of .before .before in
+    text-limit (at-start .args .terms .now) (at-start .args .c) (at-start .args .a) _ (at-start .pre .0) (at-kind-of .kind-of .ensures) (at-if1 .if1 .left) _ _ _ _
+    (at-first .first .ensures) (at-wide .wide .ensures) (c .before .before .second .ensures) (c .before .wide2 .ensures)
 
 returns-2 : tie.Need-returns-2
-returns-2 c = mark-atom-is (c .before .before .before .before .before .before .before .before .before .args .terms .now) (c .before .before .before .before .before .before .before .before .before .args .c) (c .before .before .before .before .before .before .before .before .before .args .a) _ (c .before .before .before .before .before .before .before .before .before .pre .0) (c .before .before .before .before .before .before .before .kind-of .ensures) (c .before .before .before .before .before .before .if1 .left) _ _ _ _ (c .before .before .before .before .before .first .ensures) (c .before .before .before .before .wide .ensures) (c .before .before .before .second .ensures) (c .before .before .wide2 .ensures) _ _ (c .before .before .before .before .before .before .before .before .before .pre .1) (c .mark-text .ensures)
+returns-2 c =
+    let at-second = c .before .before .before in
+    let at-wide = at-second .before in
+    let at-first = at-wide .before in
+    let at-if1 = at-first .before in
+    let at-kind-of = at-if1 .before in
+    let at-start = at-kind-of .before .before in
+    mark-atom-is (at-start .args .terms .now) (at-start .args .c) (at-start .args .a) _ (at-start .pre .0) (at-kind-of .kind-of .ensures) (at-if1 .if1 .left) _ _ _ _
+    (at-first .first .ensures) (at-wide .wide .ensures) (at-second .second .ensures) (c .before .before .wide2 .ensures) _ _ (at-start .pre .1) (c .mark-text .ensures)
 
 pub mark-atom-spec : {M : Type 1} → statement M
 mark-atom-spec =

@@ -22,7 +22,10 @@ shared-slice-read-mark-atom : tie.Need-shared-slice-read-mark-atom Inv-loop μ-l
 shared-slice-read-mark-atom c = search needs
 
 mark-atom-requires : tie.Need-mark-atom-requires Inv-loop μ-loop
-mark-atom-requires c κs = (c .before .before .before .before .before .before .pre .0, c .before .before .before .loop .inv .size ∙ c .before .before .before .before .before .before .pre .1)
+mark-atom-requires c κs =
+    let at-loop = c .before .before .before in
+    let at-start = at-loop .before .before .before in
+    (at-start .pre .0, at-loop .loop .inv .size ∙ at-start .pre .1)
 
 add-i : tie.Need-add-i Inv-loop μ-loop
 add-i c = search needs
@@ -31,7 +34,10 @@ loop-less : tie.Need-loop-less Inv-loop μ-loop
 loop-less c = search needs
 
 loop-again : tie.Need-loop-again Inv-loop μ-loop
-loop-again c = marking-one _ _ _ _ _ _ (c .before .before .before .before .loop .inv) _ (c .before .before .before .loop-test .taken) (c .mark-atom .ensures)
+loop-again c =
+    let at-loop-test = c .before .before .before in
+    let at-loop = at-loop-test .before in
+    marking-one _ _ _ _ _ _ (at-loop .loop .inv) _ (at-loop-test .loop-test .taken) (c .mark-atom .ensures)
 
 returns : tie.Need-returns Inv-loop μ-loop
 returns c = marking-done _ _ _ _ _ _ (c .before .loop .inv) (c .loop-test .left)

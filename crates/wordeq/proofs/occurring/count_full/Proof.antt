@@ -22,9 +22,15 @@ count-full-spec =
     (λ c. fulls-none _ _)
     (λ c. search needs)
     (λ c. search needs)
-    (λ c κs. c .before .before .before .before .before .pre .0)
-    (λ c. let z = fulls-turn _ _ _ _ _ (c .before .before .before .loop .inv) (c .before .before .loop-test .taken) (c .own-count .ensures) in let y = z .small in let x = z .within in let v = c .before .before .before .before .before .before .pre .1 in omega arith)
+    (λ c κs. let at-start = c .before .before .before .before .before in at-start .pre .0)
+    (λ c.
+    let at-loop = c .before .before .before in
+    let at-start = at-loop .before .before .before in
+    let z = fulls-turn _ _ _ _ _ (at-loop .loop .inv) (c .before .before .loop-test .taken) (c .own-count .ensures) in
+    let y = z .small in let x = z .within in let v = at-start .pre .1 in omega arith)
     (λ c. search needs)
     (λ c. search needs)
-    (λ c. fulls-turn _ _ _ _ _ (c .before .before .before .loop .inv) (c .before .before .loop-test .taken) (c .own-count .ensures))
+    (λ c.
+    let at-loop = c .before .before .before in
+    fulls-turn _ _ _ _ _ (at-loop .loop .inv) (c .before .before .loop-test .taken) (c .own-count .ensures))
     (λ c. fulls-all _ _ _ _ (c .before .loop .inv) (c .loop-test .left)))

@@ -17,7 +17,7 @@ count-full-requires : tie.Need-count-full-requires Inv-loop μ-loop
 count-full-requires c κs = c .before .before .pre .0
 
 root-unchecked-requires : tie.Need-root-unchecked-requires Inv-loop μ-loop
-root-unchecked-requires c κs = (c .before .before .before .pre .1 .1 .0, c .before .before .before .pre .1 .0)
+root-unchecked-requires c κs = let at-start = c .before .before .before in (at-start .pre .1 .1 .0, at-start .pre .1 .0)
 
 loop-holds : tie.Need-loop-holds Inv-loop μ-loop
 loop-holds c = seeking-none _ _ _
@@ -29,10 +29,21 @@ shared-slice-read-occurs-here : tie.Need-shared-slice-read-occurs-here Inv-loop 
 shared-slice-read-occurs-here c = search needs
 
 occurs-here-requires : tie.Need-occurs-here-requires Inv-loop μ-loop
-occurs-here-requires c κs = (c .before .before .before .before .before .before .before .pre .0 .0, (c .before .before .before .before .before .before .before .pre .1 .0, every-at (c .before .before .before .before .before .before .before .args .l .now) _ 0 (all-every _ (c .before .before .before .before .before .before .before .args .l .now) (c .before .before .before .before .before .before .before .pre .1 .1 .1)) (c .before .loop-test .taken)))
+occurs-here-requires c κs =
+    let at-start = c .before .before .before .before .before .before .before in (
+      at-start .pre .0 .0,
+      (at-start .pre .1 .0, every-at (at-start .args .l .now) _ 0 (all-every _ (at-start .args .l .now) (at-start .pre .1 .1 .1)) (c .before .loop-test .taken)),
+    )
 
 returns : tie.Need-returns Inv-loop μ-loop
-returns c = seeking-hit (termed (c .before .before .before .before .before .before .before .before .before .args .terms .now) (c .before .before .before .before .before .before .before .before .before .args .c)) (c .before .before .before .before .before .before .before .before .before .args .x) (c .before .before .before .before .before .before .before .before .before .args .l .now) _ _ _ _ (c .before .before .before .before .loop .inv) (c .before .before .before .loop-test .taken) (c .before .before .before .before .before .before .count-full .ensures) (c .before .before .before .before .before .root-unchecked .ensures) (c .before .occurs-here .ensures) (c .if1 .taken)
+returns c =
+    let at-loop-test = c .before .before .before in
+    let at-loop = at-loop-test .before in
+    let at-root-unchecked = at-loop .before in
+    let at-count-full = at-root-unchecked .before in
+    let at-start = at-count-full .before .before .before in
+    seeking-hit (termed (at-start .args .terms .now) (at-start .args .c)) (at-start .args .x) (at-start .args .l .now) _ _ _ _ (at-loop .loop .inv) (at-loop-test .loop-test .taken)
+    (at-count-full .count-full .ensures) (at-root-unchecked .root-unchecked .ensures) (c .before .occurs-here .ensures) (c .if1 .taken)
 
 add-i : tie.Need-add-i Inv-loop μ-loop
 add-i c = search needs
@@ -41,7 +52,14 @@ loop-less : tie.Need-loop-less Inv-loop μ-loop
 loop-less c = search needs
 
 loop-again : tie.Need-loop-again Inv-loop μ-loop
-loop-again c = seeking-turn (termed (c .before .before .before .before .before .before .before .before .before .args .terms .now) (c .before .before .before .before .before .before .before .before .before .args .c)) (c .before .before .before .before .before .before .before .before .before .args .x) (c .before .before .before .before .before .before .before .before .before .args .l .now) _ _ _ _ (c .before .before .before .before .loop .inv) (c .before .before .before .loop-test .taken) (c .before .before .before .before .before .before .count-full .ensures) (c .before .before .before .before .before .root-unchecked .ensures) (c .before .occurs-here .ensures) (c .if1 .left)
+loop-again c =
+    let at-loop-test = c .before .before .before in
+    let at-loop = at-loop-test .before in
+    let at-root-unchecked = at-loop .before in
+    let at-count-full = at-root-unchecked .before in
+    let at-start = at-count-full .before .before .before in
+    seeking-turn (termed (at-start .args .terms .now) (at-start .args .c)) (at-start .args .x) (at-start .args .l .now) _ _ _ _ (at-loop .loop .inv)
+    (at-loop-test .loop-test .taken) (at-count-full .count-full .ensures) (at-root-unchecked .root-unchecked .ensures) (c .before .occurs-here .ensures) (c .if1 .left)
 
 returns-2 : tie.Need-returns-2 Inv-loop μ-loop
 returns-2 c = seeking-end _ _ _ _ (c .before .loop .inv) (c .loop-test .left)

@@ -4,7 +4,10 @@ use Rattle.wordeq.proofs.occurring.occurs_in.Statement.{statement}
 use Rattle.wordeq.proofs.occurring.occurs_in.Tie as tie
 
 returns : tie.Need-returns
-returns c = not-lone (c .before .before .before .before .before .before .before .before .args .terms .now) (c .before .before .before .before .before .before .before .before .args .cells .now) (c .before .before .before .before .before .before .before .before .args .chars .now) (c .before .before .before .before .before .before .before .before .args .reasons .now) (c .before .before .before .before .before .before .before .before .args .keys .now) (c .before .before .before .before .before .before .before .before .args .c) (c .before .before .before .before .before .before .before .before .args .lone .now) (c .before .before .before .before .before .before .before .before .args .side .now) (c .if1 .taken)
+returns c =
+    let at-start = c .before .before .before .before .before .before .before .before in
+    not-lone (at-start .args .terms .now) (at-start .args .cells .now) (at-start .args .chars .now) (at-start .args .reasons .now) (at-start .args .keys .now) (at-start .args .c)
+    (at-start .args .lone .now) (at-start .args .side .now) (c .if1 .taken)
 
 shared-slice-read-x : tie.Need-shared-slice-read-x
 shared-slice-read-x c = search needs
@@ -13,13 +16,39 @@ kind-of-requires : tie.Need-kind-of-requires
 kind-of-requires c κs = search needs
 
 returns-2 : tie.Need-returns-2
-returns-2 c = lone-constant (c .before .before .before .before .before .before .before .before .before .before .before .args .terms .now) (c .before .before .before .before .before .before .before .before .before .before .before .args .cells .now) (c .before .before .before .before .before .before .before .before .before .before .before .args .chars .now) (c .before .before .before .before .before .before .before .before .before .before .before .args .reasons .now) (c .before .before .before .before .before .before .before .before .before .before .before .args .keys .now) (c .before .before .before .before .before .before .before .before .before .before .before .args .c) (c .before .before .before .before .before .before .before .before .before .before .before .args .lone .now) (c .before .before .before .before .before .before .before .before .before .before .before .args .side .now) (c .before .before .before .if1 .left) _ (c .before .kind-of .ensures) (c .if2 .taken)
+returns-2 c =
+    let at-if1 = c .before .before .before in
+    let at-start = at-if1 .before .before .before .before .before .before .before .before in
+    lone-constant (at-start .args .terms .now) (at-start .args .cells .now) (at-start .args .chars .now) (at-start .args .reasons .now) (at-start .args .keys .now)
+    (at-start .args .c) (at-start .args .lone .now) (at-start .args .side .now) (at-if1 .if1 .left) _ (c .before .kind-of .ensures) (c .if2 .taken)
 
 find-requires : tie.Need-find-requires
-find-requires c κs = (texts-known (c .before .before .before .before .before .before .before .before .before .before .before .args .terms .now) (c .before .before .before .before .before .before .before .before .before .before .before .args .cells .now) (c .before .before .before .before .before .before .before .before .before .before .before .args .chars .now) (c .before .before .before .before .before .before .before .before .before .before .before .args .reasons .now) (c .before .before .before .before .before .before .before .before .before .before .before .args .keys .now) (c .before .before .before .before .before .before .before .before .before .before .before .args .c) (c .before .before .before .before .before .before .before .before .before .before .before .args .lone .now) (c .before .before .before .before .before .before .before .before .before .before .before .args .side .now) (c .before .before .before .before .before .before .before .before .before .before .before .pre .0) (c .before .before .before .before .before .before .before .before .before .before .before .pre .1), (classes-known (c .before .before .before .before .before .before .before .before .before .before .before .args .terms .now) (c .before .before .before .before .before .before .before .before .before .before .before .args .cells .now) (c .before .before .before .before .before .before .before .before .before .before .before .args .chars .now) (c .before .before .before .before .before .before .before .before .before .before .before .args .reasons .now) (c .before .before .before .before .before .before .before .before .before .before .before .args .keys .now) (c .before .before .before .before .before .before .before .before .before .before .before .args .c) (c .before .before .before .before .before .before .before .before .before .before .before .args .lone .now) (c .before .before .before .before .before .before .before .before .before .before .before .args .side .now) (c .before .before .before .before .before .before .before .before .before .before .before .pre .0) (c .before .before .before .before .before .before .before .before .before .before .before .pre .1), (lone-within (c .before .before .before .before .before .before .before .before .before .before .before .args .terms .now) (c .before .before .before .before .before .before .before .before .before .before .before .args .cells .now) (c .before .before .before .before .before .before .before .before .before .before .before .args .chars .now) (c .before .before .before .before .before .before .before .before .before .before .before .args .reasons .now) (c .before .before .before .before .before .before .before .before .before .before .before .args .keys .now) (c .before .before .before .before .before .before .before .before .before .before .before .args .c) (c .before .before .before .before .before .before .before .before .before .before .before .args .lone .now) (c .before .before .before .before .before .before .before .before .before .before .before .args .side .now) (c .before .before .before .before .before .before .before .before .before .before .before .pre .0) (c .before .before .before .before .before .before .before .before .before .before .before .pre .1) (c .before .before .before .if1 .left), side-within (c .before .before .before .before .before .before .before .before .before .before .before .args .terms .now) (c .before .before .before .before .before .before .before .before .before .before .before .args .cells .now) (c .before .before .before .before .before .before .before .before .before .before .before .args .chars .now) (c .before .before .before .before .before .before .before .before .before .before .before .args .reasons .now) (c .before .before .before .before .before .before .before .before .before .before .before .args .keys .now) (c .before .before .before .before .before .before .before .before .before .before .before .args .c) (c .before .before .before .before .before .before .before .before .before .before .before .args .lone .now) (c .before .before .before .before .before .before .before .before .before .before .before .args .side .now) (c .before .before .before .before .before .before .before .before .before .before .before .pre .0) (c .before .before .before .before .before .before .before .before .before .before .before .pre .1))))
+find-requires c κs =
+    let at-if1 = c .before .before .before in
+    let at-start = at-if1 .before .before .before .before .before .before .before .before in
+    let the-reasons = at-start .args .reasons .now in (
+      texts-known (at-start .args .terms .now) (at-start .args .cells .now) (at-start .args .chars .now) the-reasons (at-start .args .keys .now) (at-start .args .c)
+          (at-start .args .lone .now) (at-start .args .side .now) (at-start .pre .0) (at-start .pre .1),
+      (
+        classes-known (at-start .args .terms .now) (at-start .args .cells .now) (at-start .args .chars .now) the-reasons (at-start .args .keys .now) (at-start .args .c)
+            (at-start .args .lone .now) (at-start .args .side .now) (at-start .pre .0) (at-start .pre .1),
+        (
+          lone-within (at-start .args .terms .now) (at-start .args .cells .now) (at-start .args .chars .now) the-reasons (at-start .args .keys .now) (at-start .args .c)
+              (at-start .args .lone .now) (at-start .args .side .now) (at-start .pre .0) (at-start .pre .1) (at-if1 .if1 .left),
+          side-within (at-start .args .terms .now) (at-start .args .cells .now) (at-start .args .chars .now) the-reasons (at-start .args .keys .now) (at-start .args .c)
+              (at-start .args .lone .now) (at-start .args .side .now) (at-start .pre .0) (at-start .pre .1),
+        ),
+      ),
+    )
 
 returns-3 : tie.Need-returns-3
-returns-3 c = not-found (c .before .before .before .before .before .before .before .before .before .before .before .before .before .args .terms .now) (c .before .before .before .before .before .before .before .before .before .before .before .before .before .args .cells .now) (c .before .before .before .before .before .before .before .before .before .before .before .before .before .args .chars .now) (c .before .before .before .before .before .before .before .before .before .before .before .before .before .args .reasons .now) (c .before .before .before .before .before .before .before .before .before .before .before .before .before .args .keys .now) (c .before .before .before .before .before .before .before .before .before .before .before .before .before .args .c) (c .before .before .before .before .before .before .before .before .before .before .before .before .before .args .lone .now) (c .before .before .before .before .before .before .before .before .before .before .before .before .before .args .side .now) (c .before .before .before .before .before .before .before .before .before .before .before .before .before .pre .0) (c .before .before .before .before .before .before .before .before .before .before .before .before .before .pre .1) (c .before .before .before .before .before .if1 .left) _ (c .before .before .before .kind-of .ensures) (c .before .before .if2 .left) _ (c .before .find .ensures) (c .if3 .taken)
+returns-3 c =
+    let at-kind-of = c .before .before .before in
+    let at-if1 = at-kind-of .before .before in
+    let at-start = at-if1 .before .before .before .before .before .before .before .before in
+    not-found (at-start .args .terms .now) (at-start .args .cells .now) (at-start .args .chars .now) (at-start .args .reasons .now) (at-start .args .keys .now) (at-start .args .c)
+    (at-start .args .lone .now) (at-start .args .side .now) (at-start .pre .0) (at-start .pre .1) (at-if1 .if1 .left) _ (at-kind-of .kind-of .ensures)
+    (c .before .before .if2 .left) _ (c .before .find .ensures) (c .if3 .taken)
 
 mul-explain-unchecked : tie.Need-mul-explain-unchecked
 mul-explain-unchecked c = search needs
@@ -28,7 +57,17 @@ shared-slice-read-explain-unchecked : tie.Need-shared-slice-read-explain-uncheck
 shared-slice-read-explain-unchecked c = search needs
 
 explain-unchecked-requires : tie.Need-explain-unchecked-requires
-explain-unchecked-requires c κs = (c .before .before .before .before .before .before .before .before .before .before .before .before .before .before .before .pre .0, found-arguments (c .before .before .before .before .before .before .before .before .before .before .before .before .before .before .before .args .terms .now) (c .before .before .before .before .before .before .before .before .before .before .before .before .before .before .before .args .cells .now) (c .before .before .before .before .before .before .before .before .before .before .before .before .before .before .before .args .chars .now) (c .before .before .before .before .before .before .before .before .before .before .before .before .before .before .before .args .reasons .now) (c .before .before .before .before .before .before .before .before .before .before .before .before .before .before .before .args .keys .now) (c .before .before .before .before .before .before .before .before .before .before .before .before .before .before .before .args .c) (c .before .before .before .before .before .before .before .before .before .before .before .before .before .before .before .args .lone .now) (c .before .before .before .before .before .before .before .before .before .before .before .before .before .before .before .args .side .now) (c .before .before .before .before .before .before .before .before .before .before .before .before .before .before .before .pre .0) (c .before .before .before .before .before .before .before .before .before .before .before .before .before .before .before .pre .1) (c .before .before .before .before .before .before .before .if1 .left) _ (c .before .before .before .before .before .kind-of .ensures) (c .before .before .before .before .if2 .left) _ (c .before .before .before .find .ensures) (c .before .before .if3 .left))
+explain-unchecked-requires c κs =
+    let at-find = c .before .before .before in
+    let at-if2 = at-find .before in
+    let at-kind-of = at-if2 .before in
+    let at-if1 = at-kind-of .before .before in
+    let at-start = at-if1 .before .before .before .before .before .before .before .before in (
+      at-start .pre .0,
+      found-arguments (at-start .args .terms .now) (at-start .args .cells .now) (at-start .args .chars .now) (at-start .args .reasons .now) (at-start .args .keys .now)
+          (at-start .args .c) (at-start .args .lone .now) (at-start .args .side .now) (at-start .pre .0) (at-start .pre .1) (at-if1 .if1 .left) _ (at-kind-of .kind-of .ensures)
+          (at-if2 .if2 .left) _ (at-find .find .ensures) (c .before .before .if3 .left),
+    )
 
 enum-known-d : tie.Need-enum-known-d
 enum-known-d c = search needs
@@ -40,13 +79,33 @@ same-length : tie.Need-same-length
 same-length c = search needs
 
 returns-4 : tie.Need-returns-4
-returns-4 c = found-conflict (c .before .before .before .before .before .before .before .before .before .before .before .before .before .before .before .before .before .before .before .before .before .args .terms .now) (c .before .before .before .before .before .before .before .before .before .before .before .before .before .before .before .before .before .before .before .before .before .args .cells .now) (c .before .before .before .before .before .before .before .before .before .before .before .before .before .before .before .before .before .before .before .before .before .args .chars .now) (c .before .before .before .before .before .before .before .before .before .before .before .before .before .before .before .before .before .before .before .before .before .args .reasons .now) (c .before .before .before .before .before .before .before .before .before .before .before .before .before .before .before .before .before .before .before .before .before .args .keys .now) (c .before .before .before .before .before .before .before .before .before .before .before .before .before .before .before .before .before .before .before .before .before .args .c) (c .before .before .before .before .before .before .before .before .before .before .before .before .before .before .before .before .before .before .before .before .before .args .lone .now) (c .before .before .before .before .before .before .before .before .before .before .before .before .before .before .before .before .before .before .before .before .before .args .side .now) (c .before .before .before .before .before .before .before .before .before .before .before .before .before .before .before .before .before .before .before .before .before .pre .0) (c .before .before .before .before .before .before .before .before .before .before .before .before .before .before .before .before .before .before .before .before .before .pre .1) (c .before .before .before .before .before .before .before .before .before .before .before .before .before .if1 .left) _ (c .before .before .before .before .before .before .before .before .before .before .before .kind-of .ensures) (c .before .before .before .before .before .before .before .before .before .before .if2 .left) _ (c .before .before .before .before .before .before .before .before .before .find .ensures) (c .before .before .before .before .before .before .before .before .if3 .left) _ _ (c .before .before .before .before .before .explain-unchecked .ensures) _ (c .before .d .given .1)
+returns-4 c =
+    let at-explain-unchecked = c .before .before .before .before .before in
+    let at-if3 = at-explain-unchecked .before .before .before in
+    let at-find = at-if3 .before in
+    let at-if2 = at-find .before in
+    let at-kind-of = at-if2 .before in
+    let at-if1 = at-kind-of .before .before in
+    let at-start = at-if1 .before .before .before .before .before .before .before .before in
+    found-conflict (at-start .args .terms .now) (at-start .args .cells .now) (at-start .args .chars .now) (at-start .args .reasons .now) (at-start .args .keys .now)
+    (at-start .args .c) (at-start .args .lone .now) (at-start .args .side .now) (at-start .pre .0) (at-start .pre .1) (at-if1 .if1 .left) _ (at-kind-of .kind-of .ensures)
+    (at-if2 .if2 .left) _ (at-find .find .ensures) (at-if3 .if3 .left) _ _ (at-explain-unchecked .explain-unchecked .ensures) _ (c .before .d .given .1)
 
 same-length-2 : tie.Need-same-length-2
 same-length-2 c = search needs
 
 returns-5 : tie.Need-returns-5
-returns-5 c = found-refused (c .before .before .before .before .before .before .before .before .before .before .before .before .before .before .before .before .before .before .before .before .before .args .terms .now) (c .before .before .before .before .before .before .before .before .before .before .before .before .before .before .before .before .before .before .before .before .before .args .cells .now) (c .before .before .before .before .before .before .before .before .before .before .before .before .before .before .before .before .before .before .before .before .before .args .chars .now) (c .before .before .before .before .before .before .before .before .before .before .before .before .before .before .before .before .before .before .before .before .before .args .reasons .now) (c .before .before .before .before .before .before .before .before .before .before .before .before .before .before .before .before .before .before .before .before .before .args .keys .now) (c .before .before .before .before .before .before .before .before .before .before .before .before .before .before .before .before .before .before .before .before .before .args .c) (c .before .before .before .before .before .before .before .before .before .before .before .before .before .before .before .before .before .before .before .before .before .args .lone .now) (c .before .before .before .before .before .before .before .before .before .before .before .before .before .before .before .before .before .before .before .before .before .args .side .now) (c .before .before .before .before .before .before .before .before .before .before .before .before .before .before .before .before .before .before .before .before .before .pre .0) (c .before .before .before .before .before .before .before .before .before .before .before .before .before .before .before .before .before .before .before .before .before .pre .1) (c .before .before .before .before .before .before .before .before .before .before .before .before .before .if1 .left) _ (c .before .before .before .before .before .before .before .before .before .before .before .kind-of .ensures) (c .before .before .before .before .before .before .before .before .before .before .if2 .left) _ (c .before .before .before .before .before .before .before .before .before .find .ensures) (c .before .before .before .before .before .before .before .before .if3 .left) _ _ (c .before .before .before .before .before .explain-unchecked .ensures) _ (c .before .k .given .1)
+returns-5 c =
+    let at-explain-unchecked = c .before .before .before .before .before in
+    let at-if3 = at-explain-unchecked .before .before .before in
+    let at-find = at-if3 .before in
+    let at-if2 = at-find .before in
+    let at-kind-of = at-if2 .before in
+    let at-if1 = at-kind-of .before .before in
+    let at-start = at-if1 .before .before .before .before .before .before .before .before in
+    found-refused (at-start .args .terms .now) (at-start .args .cells .now) (at-start .args .chars .now) (at-start .args .reasons .now) (at-start .args .keys .now)
+    (at-start .args .c) (at-start .args .lone .now) (at-start .args .side .now) (at-start .pre .0) (at-start .pre .1) (at-if1 .if1 .left) _ (at-kind-of .kind-of .ensures)
+    (at-if2 .if2 .left) _ (at-find .find .ensures) (at-if3 .if3 .left) _ _ (at-explain-unchecked .explain-unchecked .ensures) _ (c .before .k .given .1)
 
 pub occurs-in-spec : {M : Type 1} → statement M
 occurs-in-spec =

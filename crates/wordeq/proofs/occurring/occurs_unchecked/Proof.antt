@@ -16,16 +16,30 @@ same-length : tie.Need-same-length
 same-length c = search needs
 
 returns : tie.Need-returns
-returns c = first-answers _ _ _ (c .before .before .before .before .before .before .before .before .before .before .before .before .args .lhs .now) (c .before .before .before .before .before .before .before .before .before .before .before .before .args .rhs .now) _ (c .before .before .before .occurs-in .ensures) (λ d e. not-done _ (c .match .keys2) (ap (Declared.tagOf StepResult.the-type) e))
+returns c =
+    let at-occurs-in = c .before .before .before in
+    let at-start = at-occurs-in .before .before .before .before .before .before .before .before .before in
+    first-answers _ _ _ (at-start .args .lhs .now) (at-start .args .rhs .now) _ (at-occurs-in .occurs-in .ensures)
+    (λ d e. not-done _ (c .match .keys2) (ap (Declared.tagOf StepResult.the-type) e))
 
 occurs-in-requires-2 : tie.Need-occurs-in-requires-2
-occurs-in-requires-2 c κs = (second-ready _ _ _ (c .before .before .before .before .before .before .before .before .before .before .before .before .before .before .before .args .lhs .now) (c .before .before .before .before .before .before .before .before .before .before .before .before .before .before .before .args .rhs .now) _ (c .before .before .before .before .before .before .occurs-in .ensures) _ (c .before .before .o .given .1) refl refl (c .before .before .before .before .before .before .before .before .before .before .before .before .before .before .before .pre .0), second-lists _ _ _ (c .before .before .before .before .before .before .before .before .before .before .before .before .before .before .before .args .lhs .now) (c .before .before .before .before .before .before .before .before .before .before .before .before .before .before .before .args .rhs .now) _ (c .before .before .before .before .before .before .occurs-in .ensures) _ (c .before .before .o .given .1) (c .before .before .before .before .before .before .before .before .before .before .before .before .before .before .before .pre .1))
+occurs-in-requires-2 c κs =
+    let at-o = c .before .before in
+    let at-occurs-in = at-o .before .before .before .before in
+    let at-start = at-occurs-in .before .before .before .before .before .before .before .before .before in (
+      second-ready _ _ _ (at-start .args .lhs .now) (at-start .args .rhs .now) _ (at-occurs-in .occurs-in .ensures) _ (at-o .o .given .1) refl refl (at-start .pre .0),
+      second-lists _ _ _ (at-start .args .lhs .now) (at-start .args .rhs .now) _ (at-occurs-in .occurs-in .ensures) _ (at-o .o .given .1) (at-start .pre .1),
+    )
 
 same-length-2 : tie.Need-same-length-2
 same-length-2 c = search needs
 
 returns-2 : tie.Need-returns-2
-returns-2 c = second-tries _ _ _ (c .before .before .before .before .before .before .before .before .before .before .before .before .before .before .before .before .before .before .args .lhs .now) (c .before .before .before .before .before .before .before .before .before .before .before .before .before .before .before .before .before .before .args .rhs .now) _ (c .before .before .before .before .before .before .before .before .before .occurs-in .ensures) _ (c .before .before .before .before .before .o .given .1) _ _ (c .before .before .occurs-in2 .ensures)
+returns-2 c =
+    let at-o = c .before .before .before .before .before in
+    let at-occurs-in = at-o .before .before .before .before in
+    let at-start = at-occurs-in .before .before .before .before .before .before .before .before .before in
+    second-tries _ _ _ (at-start .args .lhs .now) (at-start .args .rhs .now) _ (at-occurs-in .occurs-in .ensures) _ (at-o .o .given .1) _ _ (c .before .before .occurs-in2 .ensures)
 
 pub occurs-unchecked-spec : {M : Type 1} → statement M
 occurs-unchecked-spec =

@@ -26,8 +26,22 @@ are-variables-spec =
     (λ c. search needs)
     (λ c. search needs)
     (λ c κs. search needs)
-    (λ c. variables-stop (termed (c .before .before .before .before .before .before .before .args .terms .now) (c .before .before .before .before .before .before .before .args .c)) (c .before .before .before .before .before .before .before .args .l .now) _ _ (c .before .before .before .before .loop .inv .1) (c .before .before .before .loop-test .taken) (c .before .kind-of .ensures) (c .if1 .taken))
+    (λ c.
+    let at-loop-test = c .before .before .before in
+    let at-loop = at-loop-test .before in
+    let at-start = at-loop .before .before .before in
+    variables-stop (termed (at-start .args .terms .now) (at-start .args .c)) (at-start .args .l .now) _ _ (at-loop .loop .inv .1) (at-loop-test .loop-test .taken)
+    (c .before .kind-of .ensures) (c .if1 .taken))
     (λ c. search needs)
     (λ c. search needs)
-    (λ c. (omega arith, variables-turn (termed (c .before .before .before .before .before .before .before .args .terms .now) (c .before .before .before .before .before .before .before .args .c)) (c .before .before .before .before .before .before .before .args .l .now) _ _ (c .before .before .before .before .loop .inv .1) (c .before .before .before .loop-test .taken) (c .before .kind-of .ensures) (c .if1 .left)))
-    (λ c. variables-done (termed (c .before .before .before .before .args .terms .now) (c .before .before .before .before .args .c)) (c .before .before .before .before .args .l .now) _ (c .before .loop .inv .1) (c .loop-test .left)))
+    (λ c.
+    let at-loop-test = c .before .before .before in
+    let at-loop = at-loop-test .before in
+    let at-start = at-loop .before .before .before in (
+      omega arith,
+      variables-turn (termed (at-start .args .terms .now) (at-start .args .c)) (at-start .args .l .now) _ _ (at-loop .loop .inv .1) (at-loop-test .loop-test .taken)
+          (c .before .kind-of .ensures) (c .if1 .left),
+    ))
+    (λ c.
+    let at-start = c .before .before .before .before in
+    variables-done (termed (at-start .args .terms .now) (at-start .args .c)) (at-start .args .l .now) _ (c .before .loop .inv .1) (c .loop-test .left)))

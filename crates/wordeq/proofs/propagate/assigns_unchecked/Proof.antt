@@ -8,12 +8,26 @@ pub assigns-unchecked-spec : {M : Type 1} → statement M
 assigns-unchecked-spec =
     tie.close
     (tie.spec
-    (λ c κs. (c .before .before .before .before .before .before .before .before .pre .0, (c .before .before .before .before .before .before .before .before .pre .1 .0, side-fixed (lent (c .before .before .before .before .before .before .before .before .args .terms .now) (c .before .before .before .before .before .before .before .before .args .cells .now) (c .before .before .before .before .before .before .before .before .args .chars .now) (c .before .before .before .before .before .before .before .before .args .reasons .now) (c .before .before .before .before .before .before .before .before .args .keys .now)) (c .before .before .before .before .before .before .before .before .args .c) (c .before .before .before .before .before .before .before .before .args .v) (c .before .before .before .before .before .before .before .before .args .side .now) (c .before .before .before .before .before .before .before .before .pre .1 .1))))
+    (λ c κs.
+    let at-start = c .before .before .before .before .before .before .before .before in (
+      at-start .pre .0,
+      (
+        at-start .pre .1 .0,
+        side-fixed (lent (at-start .args .terms .now) (at-start .args .cells .now) (at-start .args .chars .now) (at-start .args .reasons .now) (at-start .args .keys .now))
+            (at-start .args .c) (at-start .args .v) (at-start .args .side .now) (at-start .pre .1 .1),
+      ),
+    ))
     (λ c. search needs)
     (λ c. search needs)
     (λ c. search needs)
     (λ c. search needs)
-    (λ c. assigned-done (c .before .before .before .before .before .before .before .before .before .before .before .before .before .before .before .before .args .v) (c .before .before .before .before .before .before .before .before .before .before .before .before .before .before .before .before .args .side .now) (c .before .before .before .before .before .before .before .before .before .before .before .before .before .before .before .before .pre .1 .1) (c .before .before .before .before .before .before .before .side-word-unchecked .ensures) (c .before .word .given .1))
+    (λ c.
+    let at-side-word-unchecked = c .before .before .before .before .before .before .before in
+    let at-start = at-side-word-unchecked .before .before .before .before .before .before .before .before .before in
+    assigned-done (at-start .args .v) (at-start .args .side .now) (at-start .pre .1 .1) (at-side-word-unchecked .side-word-unchecked .ensures) (c .before .word .given .1))
     (λ c. search needs)
     (λ c. search needs)
-    (λ c. assigned-stop (c .before .before .before .before .before .before .before .before .before .before .before .before .before .before .before .before .args .v) (c .before .before .before .before .before .before .before .before .before .before .before .before .before .before .before .before .args .side .now) (c .before .before .before .before .before .before .before .before .before .before .before .before .before .before .before .before .pre .1 .1) (c .before .before .before .before .before .before .before .side-word-unchecked .ensures) (c .before .word2 .given .1)))
+    (λ c.
+    let at-side-word-unchecked = c .before .before .before .before .before .before .before in
+    let at-start = at-side-word-unchecked .before .before .before .before .before .before .before .before .before in
+    assigned-stop (at-start .args .v) (at-start .args .side .now) (at-start .pre .1 .1) (at-side-word-unchecked .side-word-unchecked .ensures) (c .before .word2 .given .1)))

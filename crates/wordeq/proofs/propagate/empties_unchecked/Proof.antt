@@ -11,11 +11,26 @@ empties-unchecked-spec =
     (λ c. search needs)
     (λ c κs. search needs)
     (λ c. search needs)
-    (λ c κs. (empties-able (c .before .before .before .before .before .before .before .before .before .before .before .before .before .before .before .before .before .before .before .args .side .now) (c .before .before .before .before .before .before .before .before .before .before .before .before .before .before .before .before .before .before .before .pre .1) (c .before .before .before .before .before .before .before .before .before .make-constant-unchecked .ensures) (c .before .before .before .empty .given .1) (c .before .before .before .before .before .before .before .before .before .before .before .before .before .before .before .before .before .before .before .pre .0) (c .before .before .before .before .before .before .before .before .before .make-constant-unchecked .kept .0) refl, empties-pairs (c .before .before .before .before .before .before .before .before .before .before .before .before .before .before .before .before .before .before .before .args .side .now) (c .before .before .before .before .before .before .before .before .before .before .before .before .before .before .before .before .before .before .before .pre .1) (c .before .before .before .before .before .before .before .before .before .make-constant-unchecked .ensures) (c .before .before .before .empty .given .1) (c .before .before .before .before .before .before .before .before .before .before .before .before .before .before .before .before .before .before .before .pre .0)))
+    (λ c κs.
+    let at-empty = c .before .before .before in
+    let at-make-constant-unchecked = at-empty .before .before .before .before .before .before in
+    let at-start = at-make-constant-unchecked .before .before .before .before .before .before .before .before .before .before in (
+      empties-able (at-start .args .side .now) (at-start .pre .1) (at-make-constant-unchecked .make-constant-unchecked .ensures) (at-empty .empty .given .1) (at-start .pre .0)
+          (at-make-constant-unchecked .make-constant-unchecked .kept .0) refl,
+      empties-pairs (at-start .args .side .now) (at-start .pre .1) (at-make-constant-unchecked .make-constant-unchecked .ensures) (at-empty .empty .given .1) (at-start .pre .0),
+    ))
     (λ c. search needs)
     (λ c. search needs)
     (λ c. search needs)
-    (λ c. empties-done (c .before .before .before .before .before .before .before .before .before .before .before .before .before .before .before .before .before .before .before .before .args .side .now) (c .before .before .before .before .before .before .before .before .before .before .before .before .before .before .before .before .before .before .before .before .pre .1) (c .before .before .before .before .before .before .before .before .before .before .make-constant-unchecked .ensures) (c .before .before .before .before .empty .given .1) (c .link-first .ensures))
+    (λ c.
+    let at-empty = c .before .before .before .before in
+    let at-make-constant-unchecked = at-empty .before .before .before .before .before .before in
+    let at-start = at-make-constant-unchecked .before .before .before .before .before .before .before .before .before .before in
+    empties-done (at-start .args .side .now) (at-start .pre .1) (at-make-constant-unchecked .make-constant-unchecked .ensures) (at-empty .empty .given .1)
+    (c .link-first .ensures))
     (λ c. search needs)
     (λ c. search needs)
-    (λ c. empties-stop (c .before .before .before .before .before .before .before .before .before .before .before .before .before .before .before .before .before .args .side .now) (c .before .before .before .before .before .before .before .before .before .before .before .before .before .before .before .before .before .pre .1) (c .before .before .before .before .before .before .before .make-constant-unchecked .ensures) (c .before .empty2 .given .1)))
+    (λ c.
+    let at-make-constant-unchecked = c .before .before .before .before .before .before .before in
+    let at-start = at-make-constant-unchecked .before .before .before .before .before .before .before .before .before .before in
+    empties-stop (at-start .args .side .now) (at-start .pre .1) (at-make-constant-unchecked .make-constant-unchecked .ensures) (c .before .empty2 .given .1)))

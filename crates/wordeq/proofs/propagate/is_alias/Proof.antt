@@ -8,11 +8,27 @@ pub is-alias-spec : {M : Type 1} → statement M
 is-alias-spec =
     tie.close
     (tie.spec
-    (λ c. aliased-left (spelled (c .before .before .before .before .before .args .terms .now) (c .before .before .before .before .before .args .chars .now) (c .before .before .before .before .before .args .c)) (c .before .before .before .before .before .args .l .now) (c .before .before .before .before .before .args .r .now) (c .if1 .taken))
-    (λ c. aliased-right (spelled (c .before .before .before .before .before .before .args .terms .now) (c .before .before .before .before .before .before .args .chars .now) (c .before .before .before .before .before .before .args .c)) (c .before .before .before .before .before .before .args .l .now) (c .before .before .before .before .before .before .args .r .now) (c .before .if1 .left) (c .if2 .taken))
+    (λ c.
+    let at-start = c .before .before .before .before .before in
+    aliased-left (spelled (at-start .args .terms .now) (at-start .args .chars .now) (at-start .args .c)) (at-start .args .l .now) (at-start .args .r .now) (c .if1 .taken))
+    (λ c.
+    let at-start = c .before .before .before .before .before .before in
+    aliased-right (spelled (at-start .args .terms .now) (at-start .args .chars .now) (at-start .args .c)) (at-start .args .l .now) (at-start .args .r .now)
+    (c .before .if1 .left) (c .if2 .taken))
     (λ c. search needs)
     (λ c κs. search needs)
-    (λ c. aliased-first (spelled (c .before .before .before .before .before .before .before .before .before .args .terms .now) (c .before .before .before .before .before .before .before .before .before .args .chars .now) (c .before .before .before .before .before .before .before .before .before .args .c)) (c .before .before .before .before .before .before .before .before .before .args .l .now) (c .before .before .before .before .before .before .before .before .before .args .r .now) (c .before .before .before .before .if1 .left) (c .before .before .before .if2 .left) _ (c .before .is-plain .ensures) (c .if3 .taken))
+    (λ c.
+    let at-if2 = c .before .before .before in
+    let at-if1 = at-if2 .before in
+    let at-start = at-if1 .before .before .before .before .before in
+    aliased-first (spelled (at-start .args .terms .now) (at-start .args .chars .now) (at-start .args .c)) (at-start .args .l .now) (at-start .args .r .now) (at-if1 .if1 .left)
+    (at-if2 .if2 .left) _ (c .before .is-plain .ensures) (c .if3 .taken))
     (λ c. search needs)
     (λ c κs. search needs)
-    (λ c. aliased-last (spelled (c .before .before .before .before .before .before .before .before .before .before .before .args .terms .now) (c .before .before .before .before .before .before .before .before .before .before .before .args .chars .now) (c .before .before .before .before .before .before .before .before .before .before .before .args .c)) (c .before .before .before .before .before .before .before .before .before .before .before .args .l .now) (c .before .before .before .before .before .before .before .before .before .before .before .args .r .now) (c .before .before .before .before .before .before .if1 .left) (c .before .before .before .before .before .if2 .left) _ (c .before .before .before .is-plain .ensures) (c .before .before .if3 .left) _ (c .is-plain2 .ensures)))
+    (λ c.
+    let at-is-plain = c .before .before .before in
+    let at-if2 = at-is-plain .before .before in
+    let at-if1 = at-if2 .before in
+    let at-start = at-if1 .before .before .before .before .before in
+    aliased-last (spelled (at-start .args .terms .now) (at-start .args .chars .now) (at-start .args .c)) (at-start .args .l .now) (at-start .args .r .now) (at-if1 .if1 .left)
+    (at-if2 .if2 .left) _ (at-is-plain .is-plain .ensures) (c .before .before .if3 .left) _ (c .is-plain2 .ensures)))

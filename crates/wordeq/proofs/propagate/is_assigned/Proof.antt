@@ -8,9 +8,19 @@ pub is-assigned-spec : {M : Type 1} → statement M
 is-assigned-spec =
     tie.close
     (tie.spec
-    (λ c. assigned-left (termed (c .before .before .before .before .args .terms .now) (c .before .before .before .before .args .c)) (c .before .before .before .before .args .l .now) (c .before .before .before .before .args .r .now) (c .if1 .taken))
+    (λ c.
+    let at-start = c .before .before .before .before in
+    assigned-left (termed (at-start .args .terms .now) (at-start .args .c)) (at-start .args .l .now) (at-start .args .r .now) (c .if1 .taken))
     (λ c. search needs)
     (λ c κs. search needs)
-    (λ c. assigned-kind (termed (c .before .before .before .before .before .before .before .args .terms .now) (c .before .before .before .before .before .before .before .args .c)) (c .before .before .before .before .before .before .before .args .l .now) (c .before .before .before .before .before .before .before .args .r .now) (c .before .before .before .if1 .left) _ (c .before .kind-of .ensures) (c .if2 .taken))
+    (λ c.
+    let at-if1 = c .before .before .before in
+    let at-start = at-if1 .before .before .before .before in
+    assigned-kind (termed (at-start .args .terms .now) (at-start .args .c)) (at-start .args .l .now) (at-start .args .r .now) (at-if1 .if1 .left) _
+    (c .before .kind-of .ensures) (c .if2 .taken))
     (λ c κs. search needs)
-    (λ c. assigned-last (termed (c .before .before .before .before .before .before .before .before .args .terms .now) (c .before .before .before .before .before .before .before .before .args .c)) (c .before .before .before .before .before .before .before .before .args .l .now) (c .before .before .before .before .before .before .before .before .args .r .now) (c .before .before .before .before .if1 .left) _ (c .before .before .kind-of .ensures) (c .before .if2 .left) _ (c .is-fixed .ensures)))
+    (λ c.
+    let at-if1 = c .before .before .before .before in
+    let at-start = at-if1 .before .before .before .before in
+    assigned-last (termed (at-start .args .terms .now) (at-start .args .c)) (at-start .args .l .now) (at-start .args .r .now) (at-if1 .if1 .left) _
+    (c .before .before .kind-of .ensures) (c .before .if2 .left) _ (c .is-fixed .ensures)))

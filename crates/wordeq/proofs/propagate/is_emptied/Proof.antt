@@ -5,16 +5,23 @@ use Rattle.wordeq.proofs.propagate.is_emptied.Statement.{statement}
 use Rattle.wordeq.proofs.propagate.is_emptied.Tie as tie
 
 returns : tie.Need-returns
-returns c = emptied-left (termed (c .before .before .before .before .args .terms .now) (c .before .before .before .before .args .c)) (c .before .before .before .before .args .l .now) (c .before .before .before .before .args .r .now) (c .if1 .taken)
+returns c =
+    let at-start = c .before .before .before .before in
+    emptied-left (termed (at-start .args .terms .now) (at-start .args .c)) (at-start .args .l .now) (at-start .args .r .now) (c .if1 .taken)
 
 returns-2 : tie.Need-returns-2
-returns-2 c = emptied-short (termed (c .before .before .before .before .before .args .terms .now) (c .before .before .before .before .before .args .c)) (c .before .before .before .before .before .args .l .now) (c .before .before .before .before .before .args .r .now) (c .before .if1 .left) (c .if2 .taken)
+returns-2 c =
+    let at-start = c .before .before .before .before .before in
+    emptied-short (termed (at-start .args .terms .now) (at-start .args .c)) (at-start .args .l .now) (at-start .args .r .now) (c .before .if1 .left) (c .if2 .taken)
 
 are-variables-requires : tie.Need-are-variables-requires
 are-variables-requires c κs = search needs
 
 returns-3 : tie.Need-returns-3
-returns-3 c = emptied-last (termed (c .before .before .before .before .before .before .args .terms .now) (c .before .before .before .before .before .before .args .c)) (c .before .before .before .before .before .before .args .l .now) (c .before .before .before .before .before .before .args .r .now) (c .before .before .if1 .left) (c .before .if2 .left) _ (c .are-variables .ensures)
+returns-3 c =
+    let at-start = c .before .before .before .before .before .before in
+    emptied-last (termed (at-start .args .terms .now) (at-start .args .c)) (at-start .args .l .now) (at-start .args .r .now) (c .before .before .if1 .left) (c .before .if2 .left) _
+    (c .are-variables .ensures)
 
 pub is-emptied-spec : {M : Type 1} → statement M
 is-emptied-spec =

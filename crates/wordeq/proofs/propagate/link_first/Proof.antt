@@ -27,9 +27,26 @@ link-first-spec =
     (λ c. (omega arith, refl))
     (λ c. search needs)
     (λ c. search needs)
-    (λ c κs. (c .before .before .before .before .before .before .pre .0, every-at (c .before .before .before .before .before .before .args .side .now) _ 0 (c .before .before .before .before .before .before .pre .1) (c .before .loop-test .taken)))
-    (λ c. linked-first (readIn (c .before .before .before .before .before .before .before .before .args .terms .now) (c .before .before .before .before .before .before .before .before .args .chars .now) (c .before .before .before .before .before .before .before .before .args .c)) (c .before .before .before .before .before .before .before .before .args .c) (c .before .before .before .before .before .before .before .before .args .side .now) (c .before .before .before .before .before .before .before .before .args .word) _ (c .before .before .before .before .loop .inv .1) (c .before .before .before .loop-test .taken) _ (c .before .same-unchecked .ensures) (c .if1 .taken))
+    (λ c κs.
+    let at-start = c .before .before .before .before .before .before in
+    (at-start .pre .0, every-at (at-start .args .side .now) _ 0 (at-start .pre .1) (c .before .loop-test .taken)))
+    (λ c.
+    let at-loop-test = c .before .before .before in
+    let at-loop = at-loop-test .before in
+    let at-start = at-loop .before .before .before .before in
+    linked-first (readIn (at-start .args .terms .now) (at-start .args .chars .now) (at-start .args .c)) (at-start .args .c) (at-start .args .side .now) (at-start .args .word) _
+    (at-loop .loop .inv .1) (at-loop-test .loop-test .taken) _ (c .before .same-unchecked .ensures) (c .if1 .taken))
     (λ c. search needs)
     (λ c. search needs)
-    (λ c. (omega arith, linked-turn (readIn (c .before .before .before .before .before .before .before .before .args .terms .now) (c .before .before .before .before .before .before .before .before .args .chars .now) (c .before .before .before .before .before .before .before .before .args .c)) (c .before .before .before .before .before .before .before .before .args .c) (c .before .before .before .before .before .before .before .before .args .side .now) (c .before .before .before .before .before .before .before .before .args .word) _ (c .before .before .before .before .loop .inv .1) (c .before .before .before .loop-test .taken) _ (c .before .same-unchecked .ensures) (c .if1 .left)))
-    (λ c. linked-none (readIn (c .before .before .before .before .before .args .terms .now) (c .before .before .before .before .before .args .chars .now) (c .before .before .before .before .before .args .c)) (c .before .before .before .before .before .args .c) (c .before .before .before .before .before .args .side .now) (c .before .before .before .before .before .args .word) _ (c .before .loop .inv .1) (c .loop-test .left)))
+    (λ c.
+    let at-loop-test = c .before .before .before in
+    let at-loop = at-loop-test .before in
+    let at-start = at-loop .before .before .before .before in (
+      omega arith,
+      linked-turn (readIn (at-start .args .terms .now) (at-start .args .chars .now) (at-start .args .c)) (at-start .args .c) (at-start .args .side .now) (at-start .args .word)
+          _ (at-loop .loop .inv .1) (at-loop-test .loop-test .taken) _ (c .before .same-unchecked .ensures) (c .if1 .left),
+    ))
+    (λ c.
+    let at-start = c .before .before .before .before .before in
+    linked-none (readIn (at-start .args .terms .now) (at-start .args .chars .now) (at-start .args .c)) (at-start .args .c) (at-start .args .side .now) (at-start .args .word) _
+    (c .before .loop .inv .1) (c .loop-test .left)))

@@ -11,34 +11,163 @@ pub propagate-unchecked-spec : {M : Type 1} → statement M
 propagate-unchecked-spec =
     tie.close
     (tie.spec
-    (λ c κs. ready-spelled (lent (c .before .before .before .before .before .before .before .before .before .args .terms .now) (c .before .before .before .before .before .before .before .before .before .args .cells .now) (c .before .before .before .before .before .before .before .before .before .args .chars .now) (c .before .before .before .before .before .before .before .before .before .args .reasons .now) (c .before .before .before .before .before .before .before .before .before .args .keys .now)) (c .before .before .before .before .before .before .before .before .before .args .c) (c .before .before .before .before .before .before .before .before .before .pre .0))
-    (λ c. (let n = aliased-lengths (spelled (c .before .before .before .before .before .before .before .before .before .before .before .before .args .terms .now) (c .before .before .before .before .before .before .before .before .before .before .before .before .args .chars .now) (c .before .before .before .before .before .before .before .before .before .before .before .before .args .c)) (c .before .before .before .before .before .before .before .before .before .before .before .before .args .lhs .now) (c .before .before .before .before .before .before .before .before .before .before .before .before .args .rhs .now) _ (c .before .if1 .taken) (c .before .before .is-alias .ensures) .0 in omega arith))
-    (λ c. (let n = aliased-lengths (spelled (c .before .before .before .before .before .before .before .before .before .before .before .before .before .args .terms .now) (c .before .before .before .before .before .before .before .before .before .before .before .before .before .args .chars .now) (c .before .before .before .before .before .before .before .before .before .before .before .before .before .args .c)) (c .before .before .before .before .before .before .before .before .before .before .before .before .before .args .lhs .now) (c .before .before .before .before .before .before .before .before .before .before .before .before .before .args .rhs .now) _ (c .before .before .if1 .taken) (c .before .before .before .is-alias .ensures) .1 in omega arith))
+    (λ c κs.
+    let at-start = c .before .before .before .before .before .before .before .before .before in
+    ready-spelled (lent (at-start .args .terms .now) (at-start .args .cells .now) (at-start .args .chars .now) (at-start .args .reasons .now) (at-start .args .keys .now))
+    (at-start .args .c) (at-start .pre .0))
+    (λ c.
+    let at-start = c .before .before .before .before .before .before .before .before .before .before .before .before in
+    (let n = aliased-lengths (spelled (at-start .args .terms .now) (at-start .args .chars .now) (at-start .args .c)) (at-start .args .lhs .now) (at-start .args .rhs .now) _
+    (c .before .if1 .taken) (c .before .before .is-alias .ensures) .0 in
+    omega arith))
+    (λ c.
+    let at-is-alias = c .before .before .before in
+    let at-start = at-is-alias .before .before .before .before .before .before .before .before .before .before in
+    (let n = aliased-lengths (spelled (at-start .args .terms .now) (at-start .args .chars .now) (at-start .args .c)) (at-start .args .lhs .now) (at-start .args .rhs .now) _
+    (c .before .before .if1 .taken) (at-is-alias .is-alias .ensures) .1 in
+    omega arith))
     (λ c. search needs)
     (λ c. search needs)
-    (λ c. choice-alias (lent (c .before .before .before .before .before .before .before .before .before .before .before .before .before .args .terms .now) (c .before .before .before .before .before .before .before .before .before .before .before .before .before .args .cells .now) (c .before .before .before .before .before .before .before .before .before .before .before .before .before .args .chars .now) (c .before .before .before .before .before .before .before .before .before .before .before .before .before .args .reasons .now) (c .before .before .before .before .before .before .before .before .before .before .before .before .before .args .keys .now)) (c .before .before .before .before .before .before .before .before .before .before .before .before .before .args .c) (c .before .before .before .before .before .before .before .before .before .before .before .before .before .args .lhs .now) (c .before .before .before .before .before .before .before .before .before .before .before .before .before .args .rhs .now) _ (c .before .before .before .is-alias .ensures) (c .before .before .if1 .taken))
+    (λ c.
+    let at-is-alias = c .before .before .before in
+    let at-start = at-is-alias .before .before .before .before .before .before .before .before .before .before in
+    choice-alias (lent (at-start .args .terms .now) (at-start .args .cells .now) (at-start .args .chars .now) (at-start .args .reasons .now) (at-start .args .keys .now))
+    (at-start .args .c) (at-start .args .lhs .now) (at-start .args .rhs .now) _ (at-is-alias .is-alias .ensures) (c .before .before .if1 .taken))
     (λ c κs. search needs)
-    (λ c κs. (c .before .before .before .before .before .before .before .before .before .before .before .before .before .before .before .before .pre .0, emptied-bare (termed (c .before .before .before .before .before .before .before .before .before .before .before .before .before .before .before .before .args .terms .now) (c .before .before .before .before .before .before .before .before .before .before .before .before .before .before .before .before .args .c)) (c .before .before .before .before .before .before .before .before .before .before .before .before .before .before .before .before .args .lhs .now) (c .before .before .before .before .before .before .before .before .before .before .before .before .before .before .before .before .args .rhs .now) _ (c .before .before .if2 .taken) (c .before .before .before .is-emptied .ensures)))
+    (λ c κs.
+    let at-is-emptied = c .before .before .before in
+    let at-start = at-is-emptied .before .before .before .before .before .before .before .before .before .before .before .before .before in (
+      at-start .pre .0,
+      emptied-bare (termed (at-start .args .terms .now) (at-start .args .c)) (at-start .args .lhs .now) (at-start .args .rhs .now) _ (c .before .before .if2 .taken)
+          (at-is-emptied .is-emptied .ensures),
+    ))
     (λ c. search needs)
     (λ c. search needs)
-    (λ c. choice-left (lent (c .before .before .before .before .before .before .before .before .before .before .before .before .before .before .before .before .before .before .before .before .before .args .terms .now) (c .before .before .before .before .before .before .before .before .before .before .before .before .before .before .before .before .before .before .before .before .before .args .cells .now) (c .before .before .before .before .before .before .before .before .before .before .before .before .before .before .before .before .before .before .before .before .before .args .chars .now) (c .before .before .before .before .before .before .before .before .before .before .before .before .before .before .before .before .before .before .before .before .before .args .reasons .now) (c .before .before .before .before .before .before .before .before .before .before .before .before .before .before .before .before .before .before .before .before .before .args .keys .now)) (c .before .before .before .before .before .before .before .before .before .before .before .before .before .before .before .before .before .before .before .before .before .args .c) (c .before .before .before .before .before .before .before .before .before .before .before .before .before .before .before .before .before .before .before .before .before .args .lhs .now) (c .before .before .before .before .before .before .before .before .before .before .before .before .before .before .before .before .before .before .before .before .before .args .rhs .now) _ (c .before .before .before .before .before .before .before .before .before .before .before .is-alias .ensures) (c .before .before .before .before .before .before .before .before .before .before .if1 .left) _ (c .before .before .before .before .before .before .before .before .is-emptied .ensures) (c .before .before .before .before .before .before .before .if2 .taken) (c .before .before .before .before .empties-unchecked .ensures))
+    (λ c.
+    let at-empties-unchecked = c .before .before .before .before in
+    let at-if2 = at-empties-unchecked .before .before .before in
+    let at-is-emptied = at-if2 .before in
+    let at-if1 = at-is-emptied .before .before in
+    let at-is-alias = at-if1 .before in
+    let at-start = at-is-alias .before .before .before .before .before .before .before .before .before .before in
+    choice-left (lent (at-start .args .terms .now) (at-start .args .cells .now) (at-start .args .chars .now) (at-start .args .reasons .now) (at-start .args .keys .now))
+    (at-start .args .c) (at-start .args .lhs .now) (at-start .args .rhs .now) _ (at-is-alias .is-alias .ensures) (at-if1 .if1 .left) _ (at-is-emptied .is-emptied .ensures)
+    (at-if2 .if2 .taken) (at-empties-unchecked .empties-unchecked .ensures))
     (λ c κs. search needs)
-    (λ c κs. (c .before .before .before .before .before .before .before .before .before .before .before .before .before .before .before .before .before .before .before .pre .0, emptied-bare (termed (c .before .before .before .before .before .before .before .before .before .before .before .before .before .before .before .before .before .before .before .args .terms .now) (c .before .before .before .before .before .before .before .before .before .before .before .before .before .before .before .before .before .before .before .args .c)) (c .before .before .before .before .before .before .before .before .before .before .before .before .before .before .before .before .before .before .before .args .rhs .now) (c .before .before .before .before .before .before .before .before .before .before .before .before .before .before .before .before .before .before .before .args .lhs .now) _ (c .before .before .if3 .taken) (c .before .before .before .is-emptied2 .ensures)))
+    (λ c κs.
+    let at-is-emptied2 = c .before .before .before in
+    let at-start = at-is-emptied2 .before .before .before .before .before .before .before .before .before .before .before .before .before .before .before .before in (
+      at-start .pre .0,
+      emptied-bare (termed (at-start .args .terms .now) (at-start .args .c)) (at-start .args .rhs .now) (at-start .args .lhs .now) _ (c .before .before .if3 .taken)
+          (at-is-emptied2 .is-emptied2 .ensures),
+    ))
     (λ c. search needs)
     (λ c. search needs)
-    (λ c. choice-right (lent (c .before .before .before .before .before .before .before .before .before .before .before .before .before .before .before .before .before .before .before .before .before .before .before .before .args .terms .now) (c .before .before .before .before .before .before .before .before .before .before .before .before .before .before .before .before .before .before .before .before .before .before .before .before .args .cells .now) (c .before .before .before .before .before .before .before .before .before .before .before .before .before .before .before .before .before .before .before .before .before .before .before .before .args .chars .now) (c .before .before .before .before .before .before .before .before .before .before .before .before .before .before .before .before .before .before .before .before .before .before .before .before .args .reasons .now) (c .before .before .before .before .before .before .before .before .before .before .before .before .before .before .before .before .before .before .before .before .before .before .before .before .args .keys .now)) (c .before .before .before .before .before .before .before .before .before .before .before .before .before .before .before .before .before .before .before .before .before .before .before .before .args .c) (c .before .before .before .before .before .before .before .before .before .before .before .before .before .before .before .before .before .before .before .before .before .before .before .before .args .lhs .now) (c .before .before .before .before .before .before .before .before .before .before .before .before .before .before .before .before .before .before .before .before .before .before .before .before .args .rhs .now) _ (c .before .before .before .before .before .before .before .before .before .before .before .before .before .before .is-alias .ensures) (c .before .before .before .before .before .before .before .before .before .before .before .before .before .if1 .left) _ (c .before .before .before .before .before .before .before .before .before .before .before .is-emptied .ensures) (c .before .before .before .before .before .before .before .before .before .before .if2 .left) _ (c .before .before .before .before .before .before .before .before .is-emptied2 .ensures) (c .before .before .before .before .before .before .before .if3 .taken) (c .before .before .before .before .empties-unchecked2 .ensures))
+    (λ c.
+    let at-empties-unchecked2 = c .before .before .before .before in
+    let at-if3 = at-empties-unchecked2 .before .before .before in
+    let at-is-emptied2 = at-if3 .before in
+    let at-if2 = at-is-emptied2 .before .before in
+    let at-is-emptied = at-if2 .before in
+    let at-if1 = at-is-emptied .before .before in
+    let at-is-alias = at-if1 .before in
+    let at-start = at-is-alias .before .before .before .before .before .before .before .before .before .before in
+    choice-right (lent (at-start .args .terms .now) (at-start .args .cells .now) (at-start .args .chars .now) (at-start .args .reasons .now) (at-start .args .keys .now))
+    (at-start .args .c) (at-start .args .lhs .now) (at-start .args .rhs .now) _ (at-is-alias .is-alias .ensures) (at-if1 .if1 .left) _ (at-is-emptied .is-emptied .ensures)
+    (at-if2 .if2 .left) _ (at-is-emptied2 .is-emptied2 .ensures) (at-if3 .if3 .taken) (at-empties-unchecked2 .empties-unchecked2 .ensures))
     (λ c κs. search needs)
-    (λ c. (let n = assigned-length (termed (c .before .before .before .before .before .before .before .before .before .before .before .before .before .before .before .before .before .before .before .before .before .before .before .args .terms .now) (c .before .before .before .before .before .before .before .before .before .before .before .before .before .before .before .before .before .before .before .before .before .before .before .args .c)) (c .before .before .before .before .before .before .before .before .before .before .before .before .before .before .before .before .before .before .before .before .before .before .before .args .lhs .now) (c .before .before .before .before .before .before .before .before .before .before .before .before .before .before .before .before .before .before .before .before .before .before .before .args .rhs .now) _ (c .before .before .before .if4 .taken) (c .before .before .before .before .is-assigned .ensures) in omega arith))
-    (λ c κs. (c .before .before .before .before .before .before .before .before .before .before .before .before .before .before .before .before .before .before .before .before .before .before .before .pre .0, (list-limited (storeOf (lent (c .before .before .before .before .before .before .before .before .before .before .before .before .before .before .before .before .before .before .before .before .before .before .before .args .terms .now) (c .before .before .before .before .before .before .before .before .before .before .before .before .before .before .before .before .before .before .before .before .before .before .before .args .cells .now) (c .before .before .before .before .before .before .before .before .before .before .before .before .before .before .before .before .before .before .before .before .before .before .before .args .chars .now) (c .before .before .before .before .before .before .before .before .before .before .before .before .before .before .before .before .before .before .before .before .before .before .before .args .reasons .now) (c .before .before .before .before .before .before .before .before .before .before .before .before .before .before .before .before .before .before .before .before .before .before .before .args .keys .now)) (c .before .before .before .before .before .before .before .before .before .before .before .before .before .before .before .before .before .before .before .before .before .before .before .args .c)) (c .before .before .before .before .before .before .before .before .before .before .before .before .before .before .before .before .before .before .before .before .before .before .before .args .rhs .now) (c .before .before .before .before .before .before .before .before .before .before .before .before .before .before .before .before .before .before .before .before .before .before .before .pre .1 .right), assigned-both (termed (c .before .before .before .before .before .before .before .before .before .before .before .before .before .before .before .before .before .before .before .before .before .before .before .args .terms .now) (c .before .before .before .before .before .before .before .before .before .before .before .before .before .before .before .before .before .before .before .before .before .before .before .args .c)) (c .before .before .before .before .before .before .before .before .before .before .before .before .before .before .before .before .before .before .before .before .before .before .before .args .lhs .now) (c .before .before .before .before .before .before .before .before .before .before .before .before .before .before .before .before .before .before .before .before .before .before .before .args .rhs .now) _ (c .before .before .before .if4 .taken) (c .before .before .before .before .is-assigned .ensures))))
+    (λ c.
+    let at-if4 = c .before .before .before in
+    let at-is-assigned = at-if4 .before in
+    let at-start = at-is-assigned .before .before .before .before .before .before .before .before .before .before .before .before .before .before .before .before .before .before .before in
+    (let n = assigned-length (termed (at-start .args .terms .now) (at-start .args .c)) (at-start .args .lhs .now) (at-start .args .rhs .now) _ (at-if4 .if4 .taken)
+    (at-is-assigned .is-assigned .ensures) in
+    omega arith))
+    (λ c κs.
+    let at-if4 = c .before .before .before in
+    let at-is-assigned = at-if4 .before in
+    let at-start = at-is-assigned .before .before .before .before .before .before .before .before .before .before .before .before .before .before .before .before .before .before .before in (
+      at-start .pre .0,
+      (
+        list-limited
+            (storeOf (lent (at-start .args .terms .now) (at-start .args .cells .now) (at-start .args .chars .now) (at-start .args .reasons .now) (at-start .args .keys .now))
+            (at-start .args .c))
+            (at-start .args .rhs .now) (at-start .pre .1 .right),
+        assigned-both (termed (at-start .args .terms .now) (at-start .args .c)) (at-start .args .lhs .now) (at-start .args .rhs .now) _ (at-if4 .if4 .taken)
+            (at-is-assigned .is-assigned .ensures),
+      ),
+    ))
     (λ c. search needs)
     (λ c. search needs)
-    (λ c. choice-first (lent (c .before .before .before .before .before .before .before .before .before .before .before .before .before .before .before .before .before .before .before .before .before .before .before .before .before .before .before .before .args .terms .now) (c .before .before .before .before .before .before .before .before .before .before .before .before .before .before .before .before .before .before .before .before .before .before .before .before .before .before .before .before .args .cells .now) (c .before .before .before .before .before .before .before .before .before .before .before .before .before .before .before .before .before .before .before .before .before .before .before .before .before .before .before .before .args .chars .now) (c .before .before .before .before .before .before .before .before .before .before .before .before .before .before .before .before .before .before .before .before .before .before .before .before .before .before .before .before .args .reasons .now) (c .before .before .before .before .before .before .before .before .before .before .before .before .before .before .before .before .before .before .before .before .before .before .before .before .before .before .before .before .args .keys .now)) (c .before .before .before .before .before .before .before .before .before .before .before .before .before .before .before .before .before .before .before .before .before .before .before .before .before .before .before .before .args .c) (c .before .before .before .before .before .before .before .before .before .before .before .before .before .before .before .before .before .before .before .before .before .before .before .before .before .before .before .before .args .lhs .now) (c .before .before .before .before .before .before .before .before .before .before .before .before .before .before .before .before .before .before .before .before .before .before .before .before .before .before .before .before .args .rhs .now) _ (c .before .before .before .before .before .before .before .before .before .before .before .before .before .before .before .before .before .before .is-alias .ensures) (c .before .before .before .before .before .before .before .before .before .before .before .before .before .before .before .before .before .if1 .left) _ (c .before .before .before .before .before .before .before .before .before .before .before .before .before .before .before .is-emptied .ensures) (c .before .before .before .before .before .before .before .before .before .before .before .before .before .before .if2 .left) _ (c .before .before .before .before .before .before .before .before .before .before .before .before .is-emptied2 .ensures) (c .before .before .before .before .before .before .before .before .before .before .before .if3 .left) _ (c .before .before .before .before .before .before .before .before .before .is-assigned .ensures) (c .before .before .before .before .before .before .before .before .if4 .taken) (c .before .before .before .before .assigns-unchecked .ensures))
+    (λ c.
+    let at-assigns-unchecked = c .before .before .before .before in
+    let at-if4 = at-assigns-unchecked .before .before .before .before in
+    let at-is-assigned = at-if4 .before in
+    let at-if3 = at-is-assigned .before .before in
+    let at-is-emptied2 = at-if3 .before in
+    let at-if2 = at-is-emptied2 .before .before in
+    let at-is-emptied = at-if2 .before in
+    let at-if1 = at-is-emptied .before .before in
+    let at-is-alias = at-if1 .before in
+    let at-start = at-is-alias .before .before .before .before .before .before .before .before .before .before in
+    choice-first (lent (at-start .args .terms .now) (at-start .args .cells .now) (at-start .args .chars .now) (at-start .args .reasons .now) (at-start .args .keys .now))
+    (at-start .args .c) (at-start .args .lhs .now) (at-start .args .rhs .now) _ (at-is-alias .is-alias .ensures) (at-if1 .if1 .left) _ (at-is-emptied .is-emptied .ensures)
+    (at-if2 .if2 .left) _ (at-is-emptied2 .is-emptied2 .ensures) (at-if3 .if3 .left) _ (at-is-assigned .is-assigned .ensures) (at-if4 .if4 .taken)
+    (at-assigns-unchecked .assigns-unchecked .ensures))
     (λ c κs. search needs)
-    (λ c. (let n = assigned-length (termed (c .before .before .before .before .before .before .before .before .before .before .before .before .before .before .before .before .before .before .before .before .before .before .before .before .before .before .args .terms .now) (c .before .before .before .before .before .before .before .before .before .before .before .before .before .before .before .before .before .before .before .before .before .before .before .before .before .before .args .c)) (c .before .before .before .before .before .before .before .before .before .before .before .before .before .before .before .before .before .before .before .before .before .before .before .before .before .before .args .rhs .now) (c .before .before .before .before .before .before .before .before .before .before .before .before .before .before .before .before .before .before .before .before .before .before .before .before .before .before .args .lhs .now) _ (c .before .before .before .if5 .taken) (c .before .before .before .before .is-assigned2 .ensures) in omega arith))
-    (λ c κs. (c .before .before .before .before .before .before .before .before .before .before .before .before .before .before .before .before .before .before .before .before .before .before .before .before .before .before .pre .0, (list-limited (storeOf (lent (c .before .before .before .before .before .before .before .before .before .before .before .before .before .before .before .before .before .before .before .before .before .before .before .before .before .before .args .terms .now) (c .before .before .before .before .before .before .before .before .before .before .before .before .before .before .before .before .before .before .before .before .before .before .before .before .before .before .args .cells .now) (c .before .before .before .before .before .before .before .before .before .before .before .before .before .before .before .before .before .before .before .before .before .before .before .before .before .before .args .chars .now) (c .before .before .before .before .before .before .before .before .before .before .before .before .before .before .before .before .before .before .before .before .before .before .before .before .before .before .args .reasons .now) (c .before .before .before .before .before .before .before .before .before .before .before .before .before .before .before .before .before .before .before .before .before .before .before .before .before .before .args .keys .now)) (c .before .before .before .before .before .before .before .before .before .before .before .before .before .before .before .before .before .before .before .before .before .before .before .before .before .before .args .c)) (c .before .before .before .before .before .before .before .before .before .before .before .before .before .before .before .before .before .before .before .before .before .before .before .before .before .before .args .lhs .now) (c .before .before .before .before .before .before .before .before .before .before .before .before .before .before .before .before .before .before .before .before .before .before .before .before .before .before .pre .1 .left), assigned-both (termed (c .before .before .before .before .before .before .before .before .before .before .before .before .before .before .before .before .before .before .before .before .before .before .before .before .before .before .args .terms .now) (c .before .before .before .before .before .before .before .before .before .before .before .before .before .before .before .before .before .before .before .before .before .before .before .before .before .before .args .c)) (c .before .before .before .before .before .before .before .before .before .before .before .before .before .before .before .before .before .before .before .before .before .before .before .before .before .before .args .rhs .now) (c .before .before .before .before .before .before .before .before .before .before .before .before .before .before .before .before .before .before .before .before .before .before .before .before .before .before .args .lhs .now) _ (c .before .before .before .if5 .taken) (c .before .before .before .before .is-assigned2 .ensures))))
+    (λ c.
+    let at-if5 = c .before .before .before in
+    let at-is-assigned2 = at-if5 .before in
+    let at-start = at-is-assigned2 .before .before .before .before .before .before .before .before .before .before .before .before .before .before .before .before .before .before .before .before .before .before in
+    (let n = assigned-length (termed (at-start .args .terms .now) (at-start .args .c)) (at-start .args .rhs .now) (at-start .args .lhs .now) _ (at-if5 .if5 .taken)
+    (at-is-assigned2 .is-assigned2 .ensures) in
+    omega arith))
+    (λ c κs.
+    let at-if5 = c .before .before .before in
+    let at-is-assigned2 = at-if5 .before in
+    let at-start = at-is-assigned2 .before .before .before .before .before .before .before .before .before .before .before .before .before .before .before .before .before .before .before .before .before .before in (
+      at-start .pre .0,
+      (
+        list-limited
+            (storeOf (lent (at-start .args .terms .now) (at-start .args .cells .now) (at-start .args .chars .now) (at-start .args .reasons .now) (at-start .args .keys .now))
+            (at-start .args .c))
+            (at-start .args .lhs .now) (at-start .pre .1 .left),
+        assigned-both (termed (at-start .args .terms .now) (at-start .args .c)) (at-start .args .rhs .now) (at-start .args .lhs .now) _ (at-if5 .if5 .taken)
+            (at-is-assigned2 .is-assigned2 .ensures),
+      ),
+    ))
     (λ c. search needs)
     (λ c. search needs)
-    (λ c. choice-last (lent (c .before .before .before .before .before .before .before .before .before .before .before .before .before .before .before .before .before .before .before .before .before .before .before .before .before .before .before .before .before .before .before .args .terms .now) (c .before .before .before .before .before .before .before .before .before .before .before .before .before .before .before .before .before .before .before .before .before .before .before .before .before .before .before .before .before .before .before .args .cells .now) (c .before .before .before .before .before .before .before .before .before .before .before .before .before .before .before .before .before .before .before .before .before .before .before .before .before .before .before .before .before .before .before .args .chars .now) (c .before .before .before .before .before .before .before .before .before .before .before .before .before .before .before .before .before .before .before .before .before .before .before .before .before .before .before .before .before .before .before .args .reasons .now) (c .before .before .before .before .before .before .before .before .before .before .before .before .before .before .before .before .before .before .before .before .before .before .before .before .before .before .before .before .before .before .before .args .keys .now)) (c .before .before .before .before .before .before .before .before .before .before .before .before .before .before .before .before .before .before .before .before .before .before .before .before .before .before .before .before .before .before .before .args .c) (c .before .before .before .before .before .before .before .before .before .before .before .before .before .before .before .before .before .before .before .before .before .before .before .before .before .before .before .before .before .before .before .args .lhs .now) (c .before .before .before .before .before .before .before .before .before .before .before .before .before .before .before .before .before .before .before .before .before .before .before .before .before .before .before .before .before .before .before .args .rhs .now) _ (c .before .before .before .before .before .before .before .before .before .before .before .before .before .before .before .before .before .before .before .before .before .is-alias .ensures) (c .before .before .before .before .before .before .before .before .before .before .before .before .before .before .before .before .before .before .before .before .if1 .left) _ (c .before .before .before .before .before .before .before .before .before .before .before .before .before .before .before .before .before .before .is-emptied .ensures) (c .before .before .before .before .before .before .before .before .before .before .before .before .before .before .before .before .before .if2 .left) _ (c .before .before .before .before .before .before .before .before .before .before .before .before .before .before .before .is-emptied2 .ensures) (c .before .before .before .before .before .before .before .before .before .before .before .before .before .before .if3 .left) _ (c .before .before .before .before .before .before .before .before .before .before .before .before .is-assigned .ensures) (c .before .before .before .before .before .before .before .before .before .before .before .if4 .left) _ (c .before .before .before .before .before .before .before .before .before .is-assigned2 .ensures) (c .before .before .before .before .before .before .before .before .if5 .taken) (c .before .before .before .before .assigns-unchecked2 .ensures))
+    (λ c.
+    let at-assigns-unchecked2 = c .before .before .before .before in
+    let at-if5 = at-assigns-unchecked2 .before .before .before .before in
+    let at-is-assigned2 = at-if5 .before in
+    let at-if4 = at-is-assigned2 .before .before in
+    let at-is-assigned = at-if4 .before in
+    let at-if3 = at-is-assigned .before .before in
+    let at-is-emptied2 = at-if3 .before in
+    let at-if2 = at-is-emptied2 .before .before in
+    let at-is-emptied = at-if2 .before in
+    let at-if1 = at-is-emptied .before .before in
+    let at-is-alias = at-if1 .before in
+    let at-start = at-is-alias .before .before .before .before .before .before .before .before .before .before in
+    choice-last (lent (at-start .args .terms .now) (at-start .args .cells .now) (at-start .args .chars .now) (at-start .args .reasons .now) (at-start .args .keys .now))
+    (at-start .args .c) (at-start .args .lhs .now) (at-start .args .rhs .now) _ (at-is-alias .is-alias .ensures) (at-if1 .if1 .left) _ (at-is-emptied .is-emptied .ensures)
+    (at-if2 .if2 .left) _ (at-is-emptied2 .is-emptied2 .ensures) (at-if3 .if3 .left) _ (at-is-assigned .is-assigned .ensures) (at-if4 .if4 .left) _
+    (at-is-assigned2 .is-assigned2 .ensures) (at-if5 .if5 .taken) (at-assigns-unchecked2 .assigns-unchecked2 .ensures))
     (λ c. search needs)
     (λ c. search needs)
-    (λ c. choice-none (lent (c .before .before .before .before .before .before .before .before .before .before .before .before .before .before .before .before .before .before .before .before .before .before .before .args .terms .now) (c .before .before .before .before .before .before .before .before .before .before .before .before .before .before .before .before .before .before .before .before .before .before .before .args .cells .now) (c .before .before .before .before .before .before .before .before .before .before .before .before .before .before .before .before .before .before .before .before .before .before .before .args .chars .now) (c .before .before .before .before .before .before .before .before .before .before .before .before .before .before .before .before .before .before .before .before .before .before .before .args .reasons .now) (c .before .before .before .before .before .before .before .before .before .before .before .before .before .before .before .before .before .before .before .before .before .before .before .args .keys .now)) (c .before .before .before .before .before .before .before .before .before .before .before .before .before .before .before .before .before .before .before .before .before .before .before .args .c) (c .before .before .before .before .before .before .before .before .before .before .before .before .before .before .before .before .before .before .before .before .before .before .before .args .lhs .now) (c .before .before .before .before .before .before .before .before .before .before .before .before .before .before .before .before .before .before .before .before .before .before .before .args .rhs .now) _ (c .before .before .before .before .before .before .before .before .before .before .before .before .before .is-alias .ensures) (c .before .before .before .before .before .before .before .before .before .before .before .before .if1 .left) _ (c .before .before .before .before .before .before .before .before .before .before .is-emptied .ensures) (c .before .before .before .before .before .before .before .before .before .if2 .left) _ (c .before .before .before .before .before .before .before .is-emptied2 .ensures) (c .before .before .before .before .before .before .if3 .left) _ (c .before .before .before .before .is-assigned .ensures) (c .before .before .before .if4 .left) _ (c .before .is-assigned2 .ensures) (c .if5 .left)))
+    (λ c.
+    let at-if4 = c .before .before .before in
+    let at-is-assigned = at-if4 .before in
+    let at-if3 = at-is-assigned .before .before in
+    let at-is-emptied2 = at-if3 .before in
+    let at-if2 = at-is-emptied2 .before .before in
+    let at-is-emptied = at-if2 .before in
+    let at-if1 = at-is-emptied .before .before in
+    let at-is-alias = at-if1 .before in
+    let at-start = at-is-alias .before .before .before .before .before .before .before .before .before .before in
+    choice-none (lent (at-start .args .terms .now) (at-start .args .cells .now) (at-start .args .chars .now) (at-start .args .reasons .now) (at-start .args .keys .now))
+    (at-start .args .c) (at-start .args .lhs .now) (at-start .args .rhs .now) _ (at-is-alias .is-alias .ensures) (at-if1 .if1 .left) _ (at-is-emptied .is-emptied .ensures)
+    (at-if2 .if2 .left) _ (at-is-emptied2 .is-emptied2 .ensures) (at-if3 .if3 .left) _ (at-is-assigned .is-assigned .ensures) (at-if4 .if4 .left) _
+    (c .before .is-assigned2 .ensures) (c .if5 .left)))

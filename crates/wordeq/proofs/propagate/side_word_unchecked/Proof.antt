@@ -5,4 +5,14 @@ use Rattle.wordeq.proofs.propagate.side_word_unchecked.Tie as tie
 
 pub side-word-unchecked-spec : {M : Type 1} → statement M
 side-word-unchecked-spec =
-    tie.close (tie.spec (λ c κs. (c .before .before .before .before .before .before .before .before .pre .0, (c .before .before .before .before .before .before .before .before .pre .1 .0, fixed-all _ (c .before .before .before .before .before .before .before .before .args .side .now) (c .before .before .before .before .before .before .before .before .pre .1 .1)))) (λ c. search needs) (λ c. search needs) (λ c. word-made (c .before .before .before .before .before .before .before .before .before .before .before .before .before .args .side .now) (c .before .before .before .before .before .before .before .before .before .before .before .before .before .pre .1 .1) (c .before .before .before .before .join-constants-unchecked .ensures)))
+    tie.close
+    (tie.spec
+    (λ c κs.
+    let at-start = c .before .before .before .before .before .before .before .before in
+    (at-start .pre .0, (at-start .pre .1 .0, fixed-all _ (at-start .args .side .now) (at-start .pre .1 .1))))
+    (λ c. search needs)
+    (λ c. search needs)
+    (λ c.
+    let at-join-constants-unchecked = c .before .before .before .before in
+    let at-start = at-join-constants-unchecked .before .before .before .before .before .before .before .before .before in
+    word-made (at-start .args .side .now) (at-start .pre .1 .1) (at-join-constants-unchecked .join-constants-unchecked .ensures)))

@@ -23,9 +23,17 @@ close-spec =
     (λ c. search needs)
     (λ c κs. search needs)
     (λ c. search needs)
-    (λ c. ap (λ (x : State). step.Done x) (c .with-reasons .ensures) ∙ sym (ap (λ (x : StepResult). closing (c .before .before .before .before .args .n) x) (c .before .before .o .given .1)))
-    (λ c. ap (λ (x : State). step.Saturated x) (c .with-reasons2 .ensures) ∙ sym (ap (λ (x : StepResult). closing (c .before .before .before .before .args .n) x) (c .before .before .o2 .given .1)))
-    (λ c. sym (ap (λ (x : StepResult). closing (c .before .before .before .args .n) x) (c .before .o3 .given .1)))
-    (λ c. sym (ap (λ (x : StepResult). closing (c .before .before .before .args .n) x) (c .before .o4 .given .1)))
-    (λ c. split-same (c .with-reasons3 .ensures) (toZ-ofZ w32 (c .before .before .o5 .given .0 .1 .1 .0) (record { sfits = c .before .known-told5 .given .1 .1 .0 .1 })) ∙ sym (ap (λ (x : StepResult). closing (c .before .before .before .before .args .n) x) (c .before .before .o5 .given .1)))
-    (λ c. sym (ap (λ (x : StepResult). closing (c .before .before .before .args .n) x) (c .before .o6 .given .1))))
+    (λ c.
+    let at-start = c .before .before .before .before in
+    ap (λ (x : State). step.Done x) (c .with-reasons .ensures) ∙ sym (ap (λ (x : StepResult). closing (at-start .args .n) x) (c .before .before .o .given .1)))
+    (λ c.
+    let at-start = c .before .before .before .before in
+    ap (λ (x : State). step.Saturated x) (c .with-reasons2 .ensures) ∙ sym (ap (λ (x : StepResult). closing (at-start .args .n) x) (c .before .before .o2 .given .1)))
+    (λ c. let at-start = c .before .before .before in sym (ap (λ (x : StepResult). closing (at-start .args .n) x) (c .before .o3 .given .1)))
+    (λ c. let at-start = c .before .before .before in sym (ap (λ (x : StepResult). closing (at-start .args .n) x) (c .before .o4 .given .1)))
+    (λ c.
+    let at-o5 = c .before .before in
+    let at-start = at-o5 .before .before in
+    split-same (c .with-reasons3 .ensures) (toZ-ofZ w32 (at-o5 .o5 .given .0 .1 .1 .0) (record { sfits = c .before .known-told5 .given .1 .1 .0 .1 }))
+    ∙ sym (ap (λ (x : StepResult). closing (at-start .args .n) x) (at-o5 .o5 .given .1)))
+    (λ c. let at-start = c .before .before .before in sym (ap (λ (x : StepResult). closing (at-start .args .n) x) (c .before .o6 .given .1))))

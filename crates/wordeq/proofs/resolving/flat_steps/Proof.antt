@@ -14,20 +14,56 @@ flat-steps-spec =
     tie.close
     (tie.spec
     (λ c. search needs)
-    (λ c κs. (ready-nested (c .before .before .before .before .before .before .before .before .before .before .before .pre .0), search needs))
+    (λ c κs. (
+      let at-start = c .before .before .before .before .before .before .before .before .before .before .before in ready-nested (at-start .pre .0),
+      search needs,
+    ))
     (λ c. search needs)
     (λ c. search needs)
-    (λ c. left-passes _ _ (c .before .before .before .before .before .before .before .before .before .before .before .before .before .before .args .lhs .now) (c .before .before .before .before .before .before .before .before .before .before .before .before .before .before .args .rhs .now) (c .before .before .before .before .before .before .before .before .before .before .before .before .before .before .args .guard) (list-passes (c .before .before .before .before .before .before .before .before .before .before .before .before .before .before .pre .0) (c .before .before .before .before .before .before .before .before .before .before .before .before .before .before .args .lhs .now) _ _ _ (c .before .before .flatten-list .ensures) (c .if1 .taken)))
+    (λ c.
+    let at-start = c .before .before .before .before .before .before .before .before .before .before .before .before .before .before in
+    left-passes _ _ (at-start .args .lhs .now) (at-start .args .rhs .now) (at-start .args .guard)
+    (list-passes (at-start .pre .0) (at-start .args .lhs .now) _ _ _ (c .before .before .flatten-list .ensures) (c .if1 .taken)))
     (λ c. search needs)
-    (λ c κs. (ready-nested (c .before .before .before .before .before .before .before .before .before .before .before .before .before .before .before .before .before .pre .0), search needs))
+    (λ c κs. (
+      let at-start = c .before .before .before .before .before .before .before .before .before .before .before .before .before .before .before .before .before in
+          ready-nested (at-start .pre .0),
+      search needs,
+    ))
     (λ c. search needs)
     (λ c. search needs)
-    (λ c. right-passes _ _ (c .before .before .before .before .before .before .before .before .before .before .before .before .before .before .before .before .before .before .before .before .args .lhs .now) (c .before .before .before .before .before .before .before .before .before .before .before .before .before .before .before .before .before .before .before .before .args .rhs .now) (c .before .before .before .before .before .before .before .before .before .before .before .before .before .before .before .before .before .before .before .before .args .guard) _ (list-says (c .before .before .before .before .before .before .before .before .before .before .before .before .before .before .before .before .before .before .before .before .pre .0) (c .before .before .before .before .before .before .before .before .before .before .before .before .before .before .before .before .before .before .before .before .args .lhs .now) _ _ _ (c .before .before .before .before .before .before .before .before .flatten-list .ensures) (c .before .before .before .before .before .before .if1 .left) (let k = c .before .before .before .before .before .before .before .before .flatten-list .kept .1 .1 .1 .1 .0 in omega arith)) (list-passes (c .before .before .before .before .before .before .before .before .before .before .before .before .before .before .before .before .before .before .before .before .pre .0) (c .before .before .before .before .before .before .before .before .before .before .before .before .before .before .before .before .before .before .before .before .args .rhs .now) _ _ _ (c .before .before .flatten-list2 .ensures) (c .if2 .taken)))
+    (λ c.
+    let at-if1 = c .before .before .before .before .before .before in
+    let at-flatten-list = at-if1 .before .before in
+    let at-start = at-flatten-list .before .before .before .before .before .before .before .before .before .before .before .before in
+    right-passes _ _ (at-start .args .lhs .now) (at-start .args .rhs .now) (at-start .args .guard) _
+    (list-says (at-start .pre .0) (at-start .args .lhs .now) _ _ _ (at-flatten-list .flatten-list .ensures) (at-if1 .if1 .left)
+    (let k = at-flatten-list .flatten-list .kept .1 .1 .1 .1 .0 in omega arith))
+    (list-passes (at-start .pre .0) (at-start .args .rhs .now) _ _ _ (c .before .before .flatten-list2 .ensures) (c .if2 .taken)))
     (λ c. search needs)
-    (λ c. (let k = c .before .before .before .before .before .before .before .before .before .before .before .before .before .before .flatten-list .kept .1 .1 .1 .1 .0 in let h = c .before .before .before .before .before .before .before .before .before .before .before .before .if1 .left in sym (length-take-le _ (c .before .before .before .before .before .before .before .before .before .before .before .before .before .before .flatten-list .last .1 .1 .1 .1 .0) (omega arith))))
+    (λ c.
+    let at-if1 = c .before .before .before .before .before .before .before .before .before .before .before .before in
+    let at-flatten-list = at-if1 .before .before in
+    (let k = at-flatten-list .flatten-list .kept .1 .1 .1 .1 .0 in
+    let h = at-if1 .if1 .left in sym (length-take-le _ (at-flatten-list .flatten-list .last .1 .1 .1 .1 .0) (omega arith))))
     (λ c. search needs)
-    (λ c. (let k = c .before .before .before .before .before .before .before .before .before .flatten-list2 .kept .1 .1 .1 .1 .0 in let h = c .before .before .before .before .before .before .before .if2 .left in sym (length-take-le _ (c .before .before .before .before .before .before .before .before .before .flatten-list2 .last .1 .1 .1 .1 .0) (omega arith))))
-    (λ c κs. (c .before .before .before .before .before .before .before .before .before .before .before .before .before .before .before .before .before .before .before .before .before .before .before .before .before .before .before .before .pre .0, (record { left = list-flat (c .before .before .before .before .before .before .before .before .before .before .before .before .before .before .before .before .before .before .before .before .before .before .before .before .before .before .before .before .pre .0) (c .before .before .before .before .before .before .before .before .before .before .before .before .before .before .before .before .before .before .before .before .before .before .before .before .before .before .before .before .args .lhs .now) _ _ _ (c .before .before .before .before .before .before .before .before .before .before .before .before .before .before .before .before .flatten-list .ensures) (c .before .before .before .before .before .before .before .before .before .before .before .before .before .before .if1 .left) (let k = c .before .before .before .before .before .before .before .before .before .before .before .before .before .before .before .before .flatten-list .kept .1 .1 .1 .1 .0 in omega arith) (c .before .before .before .before .before .before .before .before .before .before .before .before .before .before .before .before .before .before .before .before .before .before .before .before .before .before .before .before .pre .1 .0 .left); right = list-flat (c .before .before .before .before .before .before .before .before .before .before .before .before .before .before .before .before .before .before .before .before .before .before .before .before .before .before .before .before .pre .0) (c .before .before .before .before .before .before .before .before .before .before .before .before .before .before .before .before .before .before .before .before .before .before .before .before .before .before .before .before .args .rhs .now) _ _ _ (c .before .before .before .before .before .before .before .before .before .before .flatten-list2 .ensures) (c .before .before .before .before .before .before .before .before .if2 .left) (let k = c .before .before .before .before .before .before .before .before .before .before .flatten-list2 .kept .1 .1 .1 .1 .0 in omega arith) (c .before .before .before .before .before .before .before .before .before .before .before .before .before .before .before .before .before .before .before .before .before .before .before .before .before .before .before .before .pre .1 .0 .right) }, (guard-passed _ (c .before .before .before .before .before .before .before .before .before .before .before .before .before .before .before .before .before .before .before .before .before .before .before .before .before .before .before .before .fits .guard) (c .before .before .before .before .before .before .before .before .before .before .before .before .before .before .before .before .before .before .before .before .before .before .before .before .before .before .before .before .pre .1 .1 .0), c .before .before .before .before .before .before .before .before .before .before .before .before .before .before .before .before .before .before .before .before .before .before .before .before .before .before .before .before .pre .1 .1 .1))))
+    (λ c.
+    let at-if2 = c .before .before .before .before .before .before .before in
+    let at-flatten-list2 = at-if2 .before .before in
+    (let k = at-flatten-list2 .flatten-list2 .kept .1 .1 .1 .1 .0 in
+    let h = at-if2 .if2 .left in sym (length-take-le _ (at-flatten-list2 .flatten-list2 .last .1 .1 .1 .1 .0) (omega arith))))
+    (λ c κs.
+    let at-if2 = c .before .before .before .before .before .before .before .before in
+    let at-flatten-list2 = at-if2 .before .before in
+    let at-if1 = at-flatten-list2 .before .before .before .before in
+    let at-flatten-list = at-if1 .before .before in
+    let at-start = at-flatten-list .before .before .before .before .before .before .before .before .before .before .before .before in (
+      at-start .pre .0,
+      (
+        record { left = list-flat (at-start .pre .0) (at-start .args .lhs .now) _ _ _ (at-flatten-list .flatten-list .ensures) (at-if1 .if1 .left) (let k = at-flatten-list .flatten-list .kept .1 .1 .1 .1 .0 in omega arith) (at-start .pre .1 .0 .left); right = list-flat (at-start .pre .0) (at-start .args .rhs .now) _ _ _ (at-flatten-list2 .flatten-list2 .ensures) (at-if2 .if2 .left) (let k = at-flatten-list2 .flatten-list2 .kept .1 .1 .1 .1 .0 in omega arith) (at-start .pre .1 .0 .right) },
+        (guard-passed _ (at-start .fits .guard) (at-start .pre .1 .1 .0), at-start .pre .1 .1 .1),
+      ),
+    ))
     (λ c κs. search needs)
     (λ c. search needs)
     (λ c. search needs)
@@ -35,4 +71,22 @@ flat-steps-spec =
     (λ c. search needs)
     (λ c. search needs)
     (λ c. search needs)
-    (λ c. flat-done (lent (c .before .before .before .before .before .before .before .before .before .before .before .before .before .before .before .before .before .before .before .before .before .before .before .before .before .before .before .before .before .before .before .before .before .before .before .before .before .before .before .before .before .before .args .terms .now) (c .before .before .before .before .before .before .before .before .before .before .before .before .before .before .before .before .before .before .before .before .before .before .before .before .before .before .before .before .before .before .before .before .before .before .before .before .before .before .before .before .before .before .args .cells .now) (c .before .before .before .before .before .before .before .before .before .before .before .before .before .before .before .before .before .before .before .before .before .before .before .before .before .before .before .before .before .before .before .before .before .before .before .before .before .before .before .before .before .before .args .chars .now) (c .before .before .before .before .before .before .before .before .before .before .before .before .before .before .before .before .before .before .before .before .before .before .before .before .before .before .before .before .before .before .before .before .before .before .before .before .before .before .before .before .before .before .args .reasons .now) (c .before .before .before .before .before .before .before .before .before .before .before .before .before .before .before .before .before .before .before .before .before .before .before .before .before .before .before .before .before .before .before .before .before .before .before .before .before .before .before .before .before .before .args .keys .now)) (c .before .before .before .before .before .before .before .before .before .before .before .before .before .before .before .before .before .before .before .before .before .before .before .before .before .before .before .before .before .before .before .before .before .before .before .before .before .before .before .before .before .before .args .c) (c .before .before .before .before .before .before .before .before .before .before .before .before .before .before .before .before .before .before .before .before .before .before .before .before .before .before .before .before .before .before .before .before .before .before .before .before .before .before .before .before .before .before .args .lhs .now) (c .before .before .before .before .before .before .before .before .before .before .before .before .before .before .before .before .before .before .before .before .before .before .before .before .before .before .before .before .before .before .before .before .before .before .before .before .before .before .before .before .before .before .args .rhs .now) (c .before .before .before .before .before .before .before .before .before .before .before .before .before .before .before .before .before .before .before .before .before .before .before .before .before .before .before .before .before .before .before .before .before .before .before .before .before .before .before .before .before .before .args .guard) (take (c .before .before .before .before .before .before .before .before .before .before .before .before .before .before .before .before .before .before .before .before .before .before .before .before .before .before .before .before .before .before .flatten-list .result) (c .before .before .before .before .before .before .before .before .before .before .before .before .before .before .before .before .before .before .before .before .before .before .before .before .before .before .before .before .before .before .flatten-list .last .1 .1 .1 .1 .0)) (list-says {m = lent (c .before .before .before .before .before .before .before .before .before .before .before .before .before .before .before .before .before .before .before .before .before .before .before .before .before .before .before .before .before .before .before .before .before .before .before .before .before .before .before .before .before .before .args .terms .now) (c .before .before .before .before .before .before .before .before .before .before .before .before .before .before .before .before .before .before .before .before .before .before .before .before .before .before .before .before .before .before .before .before .before .before .before .before .before .before .before .before .before .before .args .cells .now) (c .before .before .before .before .before .before .before .before .before .before .before .before .before .before .before .before .before .before .before .before .before .before .before .before .before .before .before .before .before .before .before .before .before .before .before .before .before .before .before .before .before .before .args .chars .now) (c .before .before .before .before .before .before .before .before .before .before .before .before .before .before .before .before .before .before .before .before .before .before .before .before .before .before .before .before .before .before .before .before .before .before .before .before .before .before .before .before .before .before .args .reasons .now) (c .before .before .before .before .before .before .before .before .before .before .before .before .before .before .before .before .before .before .before .before .before .before .before .before .before .before .before .before .before .before .before .before .before .before .before .before .before .before .before .before .before .before .args .keys .now)} {c = c .before .before .before .before .before .before .before .before .before .before .before .before .before .before .before .before .before .before .before .before .before .before .before .before .before .before .before .before .before .before .before .before .before .before .before .before .before .before .before .before .before .before .args .c} (c .before .before .before .before .before .before .before .before .before .before .before .before .before .before .before .before .before .before .before .before .before .before .before .before .before .before .before .before .before .before .before .before .before .before .before .before .before .before .before .before .before .before .pre .0) (c .before .before .before .before .before .before .before .before .before .before .before .before .before .before .before .before .before .before .before .before .before .before .before .before .before .before .before .before .before .before .before .before .before .before .before .before .before .before .before .before .before .before .args .lhs .now) _ _ _ (c .before .before .before .before .before .before .before .before .before .before .before .before .before .before .before .before .before .before .before .before .before .before .before .before .before .before .before .before .before .before .flatten-list .ensures) (c .before .before .before .before .before .before .before .before .before .before .before .before .before .before .before .before .before .before .before .before .before .before .before .before .before .before .before .before .if1 .left) (let k = c .before .before .before .before .before .before .before .before .before .before .before .before .before .before .before .before .before .before .before .before .before .before .before .before .before .before .before .before .before .before .flatten-list .kept .1 .1 .1 .1 .0 in omega arith)) (c .before .before .before .before .before .before .before .before .before .before .before .before .before .before .before .before .before .before .before .before .before .before .before .before .before .before .before .before .before .before .before .before .before .before .before .before .before .before .before .before .before .before .fits .guard) (take (c .before .before .before .before .before .before .before .before .before .before .before .before .before .before .before .before .before .before .before .before .before .before .before .before .flatten-list2 .result) (c .before .before .before .before .before .before .before .before .before .before .before .before .before .before .before .before .before .before .before .before .before .before .before .before .flatten-list2 .last .1 .1 .1 .1 .0)) (list-says {m = lent (c .before .before .before .before .before .before .before .before .before .before .before .before .before .before .before .before .before .before .before .before .before .before .before .before .before .before .before .before .before .before .before .before .before .before .before .before .before .before .before .before .before .before .args .terms .now) (c .before .before .before .before .before .before .before .before .before .before .before .before .before .before .before .before .before .before .before .before .before .before .before .before .before .before .before .before .before .before .before .before .before .before .before .before .before .before .before .before .before .before .args .cells .now) (c .before .before .before .before .before .before .before .before .before .before .before .before .before .before .before .before .before .before .before .before .before .before .before .before .before .before .before .before .before .before .before .before .before .before .before .before .before .before .before .before .before .before .args .chars .now) (c .before .before .before .before .before .before .before .before .before .before .before .before .before .before .before .before .before .before .before .before .before .before .before .before .before .before .before .before .before .before .before .before .before .before .before .before .before .before .before .before .before .before .args .reasons .now) (c .before .before .before .before .before .before .before .before .before .before .before .before .before .before .before .before .before .before .before .before .before .before .before .before .before .before .before .before .before .before .before .before .before .before .before .before .before .before .before .before .before .before .args .keys .now)} {c = c .before .before .before .before .before .before .before .before .before .before .before .before .before .before .before .before .before .before .before .before .before .before .before .before .before .before .before .before .before .before .before .before .before .before .before .before .before .before .before .before .before .before .args .c} (c .before .before .before .before .before .before .before .before .before .before .before .before .before .before .before .before .before .before .before .before .before .before .before .before .before .before .before .before .before .before .before .before .before .before .before .before .before .before .before .before .before .before .pre .0) (c .before .before .before .before .before .before .before .before .before .before .before .before .before .before .before .before .before .before .before .before .before .before .before .before .before .before .before .before .before .before .before .before .before .before .before .before .before .before .before .before .before .before .args .rhs .now) _ _ _ (c .before .before .before .before .before .before .before .before .before .before .before .before .before .before .before .before .before .before .before .before .before .before .before .before .flatten-list2 .ensures) (c .before .before .before .before .before .before .before .before .before .before .before .before .before .before .before .before .before .before .before .before .before .before .if2 .left) (let k = c .before .before .before .before .before .before .before .before .before .before .before .before .before .before .before .before .before .before .before .before .before .before .before .before .flatten-list2 .kept .1 .1 .1 .1 .0 in omega arith)) _ (c .before .before .before .before .before .before .before .before .before .before .before .before .before .steps-unchecked .result) (c .before .before .before .before .before .before .before .before .before .before .before .before .before .steps-unchecked .ensures) _ (c .soften .ensures)))
+    (λ c.
+    let at-steps-unchecked = c .before .before .before .before .before .before .before .before .before .before .before .before .before in
+    let at-if2 = at-steps-unchecked .before .before .before .before .before .before .before .before .before in
+    let at-flatten-list2 = at-if2 .before .before in
+    let at-if1 = at-flatten-list2 .before .before .before .before in
+    let at-flatten-list = at-if1 .before .before in
+    let at-start = at-flatten-list .before .before .before .before .before .before .before .before .before .before .before .before in
+    let the-reasons = at-start .args .reasons .now in
+    flat-done (lent (at-start .args .terms .now) (at-start .args .cells .now) (at-start .args .chars .now) the-reasons (at-start .args .keys .now)) (at-start .args .c)
+    (at-start .args .lhs .now) (at-start .args .rhs .now) (at-start .args .guard)
+    (take (at-flatten-list .flatten-list .result) (at-flatten-list .flatten-list .last .1 .1 .1 .1 .0))
+    (list-says {m = lent (at-start .args .terms .now) (at-start .args .cells .now) (at-start .args .chars .now) the-reasons (at-start .args .keys .now)}
+    {c = at-start .args .c} (at-start .pre .0) (at-start .args .lhs .now) _ _ _ (at-flatten-list .flatten-list .ensures) (at-if1 .if1 .left)
+    (let k = at-flatten-list .flatten-list .kept .1 .1 .1 .1 .0 in omega arith))
+    (at-start .fits .guard) (take (at-flatten-list2 .flatten-list2 .result) (at-flatten-list2 .flatten-list2 .last .1 .1 .1 .1 .0))
+    (list-says {m = lent (at-start .args .terms .now) (at-start .args .cells .now) (at-start .args .chars .now) the-reasons (at-start .args .keys .now)}
+    {c = at-start .args .c} (at-start .pre .0) (at-start .args .rhs .now) _ _ _ (at-flatten-list2 .flatten-list2 .ensures) (at-if2 .if2 .left)
+    (let k = at-flatten-list2 .flatten-list2 .kept .1 .1 .1 .1 .0 in omega arith))
+    _ (at-steps-unchecked .steps-unchecked .result) (at-steps-unchecked .steps-unchecked .ensures) _ (c .soften .ensures)))

@@ -25,9 +25,30 @@ flatten-list-spec =
     (λ c. search needs)
     (λ c κs. search needs)
     (λ c. search needs)
-    (λ c. flattening-passes (bare (c .before .before .before .before .before .before .before .before .before .before .before .before .args .terms .now) (c .before .before .before .before .before .before .before .before .before .before .before .before .args .c .terms) (c .before .before .before .before .before .before .before .before .before .before .before .before .args .cells .now) (c .before .before .before .before .before .before .before .before .before .before .before .before .args .c .cells)) (c .before .before .before .before .before .before .before .before .before .before .before .before .args .l .now) (c .before .before .before .before .before .before .before .before .before .before .before .before .args .out .now) (c .before .before .before .before .before .before .before .loop .inv .1 .1) (c .before .before .before .before .before .before .loop-test .taken) _ _ (c .before .before .before .flatten-unchecked .ensures) (let p = c .before .before .before .before .before .before .before .loop .inv .1 .0 in let q = c .before .before .before .before .before .before .before .before .before .before .before .before .pre .1 in omega arith) (c .if1 .taken))
+    (λ c.
+    let at-flatten-unchecked = c .before .before .before in
+    let at-loop-test = at-flatten-unchecked .before .before .before in
+    let at-loop = at-loop-test .before in
+    let at-start = at-loop .before .before .before .before .before in
+    flattening-passes (bare (at-start .args .terms .now) (at-start .args .c .terms) (at-start .args .cells .now) (at-start .args .c .cells)) (at-start .args .l .now)
+    (at-start .args .out .now) (at-loop .loop .inv .1 .1) (at-loop-test .loop-test .taken) _ _ (at-flatten-unchecked .flatten-unchecked .ensures)
+    (let p = at-loop .loop .inv .1 .0 in let q = at-start .pre .1 in omega arith) (c .if1 .taken))
     (λ c. search needs)
     (λ c. search needs)
-    (λ c. (let p = c .before .before .before .before .before .before .loop-test .taken in omega arith, (search needs, flattening-turn (bare (c .before .before .before .before .before .before .before .before .before .before .before .before .args .terms .now) (c .before .before .before .before .before .before .before .before .before .before .before .before .args .c .terms) (c .before .before .before .before .before .before .before .before .before .before .before .before .args .cells .now) (c .before .before .before .before .before .before .before .before .before .before .before .before .args .c .cells)) (c .before .before .before .before .before .before .before .before .before .before .before .before .args .l .now) (c .before .before .before .before .before .before .before .before .before .before .before .before .args .out .now) (c .before .before .before .before .before .before .before .loop .inv .1 .1) (c .before .before .before .before .before .before .loop-test .taken) _ _ (c .before .before .before .flatten-unchecked .ensures) (c .if1 .left))))
+    (λ c. (
+      let at-loop-test = c .before .before .before .before .before .before in let p = at-loop-test .loop-test .taken in omega arith,
+      (
+        search needs,
+        let at-flatten-unchecked = c .before .before .before in
+            let at-loop-test = at-flatten-unchecked .before .before .before in
+            let at-loop = at-loop-test .before in
+            let at-start = at-loop .before .before .before .before .before in
+            flattening-turn (bare (at-start .args .terms .now) (at-start .args .c .terms) (at-start .args .cells .now) (at-start .args .c .cells)) (at-start .args .l .now)
+            (at-start .args .out .now) (at-loop .loop .inv .1 .1) (at-loop-test .loop-test .taken) _ _ (at-flatten-unchecked .flatten-unchecked .ensures) (c .if1 .left),
+      ),
+    ))
     (λ c. search needs)
-    (λ c. flattening-end (bare (c .before .before .before .before .before .before .args .terms .now) (c .before .before .before .before .before .before .args .c .terms) (c .before .before .before .before .before .before .args .cells .now) (c .before .before .before .before .before .before .args .c .cells)) (c .before .before .before .before .before .before .args .l .now) (c .before .before .before .before .before .before .args .out .now) (c .before .loop .inv .1 .1) (c .loop-test .left)))
+    (λ c.
+    let at-start = c .before .before .before .before .before .before in
+    flattening-end (bare (at-start .args .terms .now) (at-start .args .c .terms) (at-start .args .cells .now) (at-start .args .c .cells)) (at-start .args .l .now)
+    (at-start .args .out .now) (c .before .loop .inv .1 .1) (c .loop-test .left)))

@@ -26,8 +26,22 @@ has-concat-spec =
     (λ c. search needs)
     (λ c. search needs)
     (λ c κs. search needs)
-    (λ c. concat-stop (termed (c .before .before .before .before .before .before .before .args .terms .now) (c .before .before .before .before .before .before .before .args .c)) (c .before .before .before .before .before .before .before .args .l .now) _ (c .before .before .before .before .loop .inv .1) (c .before .before .before .loop-test .taken) _ (c .before .kind-of .ensures) (c .if1 .taken))
+    (λ c.
+    let at-loop-test = c .before .before .before in
+    let at-loop = at-loop-test .before in
+    let at-start = at-loop .before .before .before in
+    concat-stop (termed (at-start .args .terms .now) (at-start .args .c)) (at-start .args .l .now) _ (at-loop .loop .inv .1) (at-loop-test .loop-test .taken) _
+    (c .before .kind-of .ensures) (c .if1 .taken))
     (λ c. search needs)
-    (λ c. (let p = c .before .before .before .loop-test .taken in omega arith))
-    (λ c. (let p = c .before .before .before .loop-test .taken in omega arith, concat-turn (termed (c .before .before .before .before .before .before .before .args .terms .now) (c .before .before .before .before .before .before .before .args .c)) (c .before .before .before .before .before .before .before .args .l .now) _ (c .before .before .before .before .loop .inv .1) (c .before .before .before .loop-test .taken) _ (c .before .kind-of .ensures) (c .if1 .left)))
-    (λ c. concat-end (termed (c .before .before .before .before .args .terms .now) (c .before .before .before .before .args .c)) (c .before .before .before .before .args .l .now) _ (c .before .loop .inv .1) (c .loop-test .left)))
+    (λ c. let at-loop-test = c .before .before .before in (let p = at-loop-test .loop-test .taken in omega arith))
+    (λ c.
+    let at-loop-test = c .before .before .before in
+    let at-loop = at-loop-test .before in
+    let at-start = at-loop .before .before .before in (
+      let p = at-loop-test .loop-test .taken in omega arith,
+      concat-turn (termed (at-start .args .terms .now) (at-start .args .c)) (at-start .args .l .now) _ (at-loop .loop .inv .1) (at-loop-test .loop-test .taken) _
+          (c .before .kind-of .ensures) (c .if1 .left),
+    ))
+    (λ c.
+    let at-start = c .before .before .before .before in
+    concat-end (termed (at-start .args .terms .now) (at-start .args .c)) (at-start .args .l .now) _ (c .before .loop .inv .1) (c .loop-test .left)))

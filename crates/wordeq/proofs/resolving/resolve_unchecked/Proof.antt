@@ -8,7 +8,9 @@ pub resolve-unchecked-spec : {M : Type 1} → statement M
 resolve-unchecked-spec =
     tie.close
     (tie.spec
-    (λ c κs. (c .before .before .before .before .before .before .before .before .before .before .before .before .before .before .pre .0, (c .before .before .before .before .before .before .before .before .before .before .before .before .before .before .pre .1 .0, (guard-passed _ (c .before .before .before .before .before .before .before .before .before .before .before .before .before .before .fits .guard) (c .before .before .before .before .before .before .before .before .before .before .before .before .before .before .pre .1 .1 .0), c .before .before .before .before .before .before .before .before .before .before .before .before .before .before .pre .1 .1 .1))))
+    (λ c κs.
+    let at-start = c .before .before .before .before .before .before .before .before .before .before .before .before .before .before in
+    (at-start .pre .0, (at-start .pre .1 .0, (guard-passed _ (at-start .fits .guard) (at-start .pre .1 .1 .0), at-start .pre .1 .1 .1))))
     (λ c κs. search needs)
     (λ c. search needs)
     (λ c. search needs)
@@ -16,4 +18,8 @@ resolve-unchecked-spec =
     (λ c. search needs)
     (λ c. search needs)
     (λ c. search needs)
-    (λ c. resolve-closed _ _ (c .before .before .before .before .before .before .before .before .before .before .before .before .before .before .before .before .before .before .before .before .before .before .before .before .before .before .before .before .args .lhs .now) (c .before .before .before .before .before .before .before .before .before .before .before .before .before .before .before .before .before .before .before .before .before .before .before .before .before .before .before .before .args .rhs .now) (c .before .before .before .before .before .before .before .before .before .before .before .before .before .before .before .before .before .before .before .before .before .before .before .before .before .before .before .before .args .guard) (c .before .before .before .before .before .before .before .before .before .before .before .before .before .before .before .before .before .before .before .before .before .before .before .before .before .before .before .before .fits .guard) _ (c .before .before .before .before .before .before .before .before .before .before .before .before .before .run .result) (c .before .before .before .before .before .before .before .before .before .before .before .before .before .run .ensures) _ (c .close .ensures)))
+    (λ c.
+    let at-run = c .before .before .before .before .before .before .before .before .before .before .before .before .before in
+    let at-start = at-run .before .before .before .before .before .before .before .before .before .before .before .before .before .before .before in
+    resolve-closed _ _ (at-start .args .lhs .now) (at-start .args .rhs .now) (at-start .args .guard) (at-start .fits .guard) _ (at-run .run .result) (at-run .run .ensures) _
+    (c .close .ensures)))

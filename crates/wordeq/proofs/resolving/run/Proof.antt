@@ -8,19 +8,35 @@ run-spec =
     tie.close
     (tie.spec
     (λ c κs. search needs)
-    (λ c κs. (c .before .before .before .before .before .before .before .before .before .before .before .before .before .before .before .before .before .pre .0, (c .before .before .before .before .before .before .before .before .before .before .before .before .before .before .before .before .before .pre .1 .0, (guard-passed _ (c .before .before .before .before .before .before .before .before .before .before .before .before .before .before .before .before .before .fits .guard) (c .before .before .before .before .before .before .before .before .before .before .before .before .before .before .before .before .before .pre .1 .1 .0), c .before .before .before .before .before .before .before .before .before .before .before .before .before .before .before .before .before .pre .1 .1 .1))))
+    (λ c κs.
+    let at-start = c .before .before .before .before .before .before .before .before .before .before .before .before .before .before .before .before .before in
+    (at-start .pre .0, (at-start .pre .1 .0, (guard-passed _ (at-start .fits .guard) (at-start .pre .1 .1 .0), at-start .pre .1 .1 .1))))
     (λ c. search needs)
     (λ c. search needs)
     (λ c. search needs)
     (λ c. search needs)
     (λ c. search needs)
     (λ c. search needs)
-    (λ c. ran-flat _ _ (c .before .before .before .before .before .before .before .before .before .before .before .before .before .before .before .before .before .before .before .before .before .before .before .before .before .before .before .before .before .before .args .lhs .now) (c .before .before .before .before .before .before .before .before .before .before .before .before .before .before .before .before .before .before .before .before .before .before .before .before .before .before .before .before .before .before .args .rhs .now) (c .before .before .before .before .before .before .before .before .before .before .before .before .before .before .before .before .before .before .before .before .before .before .before .before .before .before .before .before .before .before .args .guard) _ (c .before .before .before .before .before .before .before .before .before .before .before .before .before .before .before .before .before .before .before .before .either-concat .ensures) (c .before .before .before .before .before .before .before .before .before .before .before .before .before .before .before .before .before .before .before .if1 .taken) (c .before .before .before .before .before .before .before .before .before .before .before .before .before .before .before .before .before .before .before .before .before .before .before .before .before .before .before .before .before .before .fits .guard) (c .before .before .before .before .before .before .before .before .before .before .before .before .flat-steps .ensures))
-    (λ c κs. (c .before .before .before .before .before .before .before .before .before .before .before .before .before .before .before .before .before .pre .0, (c .before .before .before .before .before .before .before .before .before .before .before .before .before .before .before .before .before .pre .1 .0, (guard-passed _ (c .before .before .before .before .before .before .before .before .before .before .before .before .before .before .before .before .before .fits .guard) (c .before .before .before .before .before .before .before .before .before .before .before .before .before .before .before .before .before .pre .1 .1 .0), c .before .before .before .before .before .before .before .before .before .before .before .before .before .before .before .before .before .pre .1 .1 .1))))
+    (λ c.
+    let at-flat-steps = c .before .before .before .before .before .before .before .before .before .before .before .before in
+    let at-if1 = at-flat-steps .before .before .before .before .before .before .before in
+    let at-either-concat = at-if1 .before in
+    let at-start = at-either-concat .before .before .before .before .before .before .before .before .before .before in
+    ran-flat _ _ (at-start .args .lhs .now) (at-start .args .rhs .now) (at-start .args .guard) _ (at-either-concat .either-concat .ensures) (at-if1 .if1 .taken)
+    (at-start .fits .guard) (at-flat-steps .flat-steps .ensures))
+    (λ c κs.
+    let at-start = c .before .before .before .before .before .before .before .before .before .before .before .before .before .before .before .before .before in
+    (at-start .pre .0, (at-start .pre .1 .0, (guard-passed _ (at-start .fits .guard) (at-start .pre .1 .1 .0), at-start .pre .1 .1 .1))))
     (λ c. search needs)
     (λ c. search needs)
     (λ c. search needs)
     (λ c. search needs)
     (λ c. search needs)
     (λ c. search needs)
-    (λ c. ran-plain _ _ (c .before .before .before .before .before .before .before .before .before .before .before .before .before .before .before .before .before .before .before .before .before .before .before .before .before .before .before .before .before .before .args .lhs .now) (c .before .before .before .before .before .before .before .before .before .before .before .before .before .before .before .before .before .before .before .before .before .before .before .before .before .before .before .before .before .before .args .rhs .now) (c .before .before .before .before .before .before .before .before .before .before .before .before .before .before .before .before .before .before .before .before .before .before .before .before .before .before .before .before .before .before .args .guard) _ (c .before .before .before .before .before .before .before .before .before .before .before .before .before .before .before .before .before .before .before .before .either-concat .ensures) (c .before .before .before .before .before .before .before .before .before .before .before .before .before .before .before .before .before .before .before .if1 .left) (c .before .before .before .before .before .before .before .before .before .before .before .before .before .before .before .before .before .before .before .before .before .before .before .before .before .before .before .before .before .before .fits .guard) (c .before .before .before .before .before .before .before .before .before .before .before .before .steps-unchecked .ensures)))
+    (λ c.
+    let at-steps-unchecked = c .before .before .before .before .before .before .before .before .before .before .before .before in
+    let at-if1 = at-steps-unchecked .before .before .before .before .before .before .before in
+    let at-either-concat = at-if1 .before in
+    let at-start = at-either-concat .before .before .before .before .before .before .before .before .before .before in
+    ran-plain _ _ (at-start .args .lhs .now) (at-start .args .rhs .now) (at-start .args .guard) _ (at-either-concat .either-concat .ensures) (at-if1 .if1 .left)
+    (at-start .fits .guard) (at-steps-unchecked .steps-unchecked .ensures)))

@@ -16,8 +16,14 @@ constant-side-spec =
     (λ c. search needs)
     (λ c. search needs)
     (λ c. search needs)
-    (λ c. constant-right _ _ _ _ (c .before .before .before .before .is-fixed .ensures) (c .before .before .before .if1 .left) _ (c .before .before .is-fixed2 .ensures) (c .before .if2 .taken))
+    (λ c.
+    let at-if1 = c .before .before .before in
+    let at-is-fixed = at-if1 .before in
+    constant-right _ _ _ _ (at-is-fixed .is-fixed .ensures) (at-if1 .if1 .left) _ (c .before .before .is-fixed2 .ensures) (c .before .if2 .taken))
     (λ c. search needs)
     (λ c. search needs)
     (λ c. search needs)
-    (λ c. constant-none _ _ _ _ (c .before .before .before .before .is-fixed .ensures) (c .before .before .before .if1 .left) _ (c .before .before .is-fixed2 .ensures) (c .before .if2 .left)))
+    (λ c.
+    let at-if1 = c .before .before .before in
+    let at-is-fixed = at-if1 .before in
+    constant-none _ _ _ _ (at-is-fixed .is-fixed .ensures) (at-if1 .if1 .left) _ (c .before .before .is-fixed2 .ensures) (c .before .if2 .left)))

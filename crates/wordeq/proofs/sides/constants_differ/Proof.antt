@@ -11,7 +11,10 @@ constants-differ-spec =
     tie.close
     (tie.spec
     (λ c κs. search needs)
-    (λ c. differ-not (c .before .before .before .before .args .terms .now) (c .before .before .before .before .args .chars .now) (c .before .before .before .before .args .c) (c .before .before .before .before .args .a) (c .before .before .before .before .args .b) _ (c .before .both-constant .ensures) (c .if1 .taken))
+    (λ c.
+    let at-start = c .before .before .before .before in
+    differ-not (at-start .args .terms .now) (at-start .args .chars .now) (at-start .args .c) (at-start .args .a) (at-start .args .b) _ (c .before .both-constant .ensures)
+    (c .if1 .taken))
     (λ c κs. search needs)
     (λ c κs. search needs)
     (λ c κs. search needs)
@@ -20,5 +23,32 @@ constants-differ-spec =
     (λ c κs. search needs)
     (λ c κs. search needs)
     (λ c κs. search needs)
-    (λ c κs. let y = passed _ _ (c .before .before .before .before .before .before .before .before .before .both-constant .ensures) (c .before .before .before .before .before .before .before .before .if1 .left) in let u = one-room (c .before .before .before .before .before .before .before .before .before .before .before .before .args .terms .now) (c .before .before .before .before .before .before .before .before .before .before .before .before .args .chars .now) (c .before .before .before .before .before .before .before .before .before .before .before .before .args .c) (c .before .before .before .before .before .before .before .before .before .before .before .before .args .a) (c .before .before .before .before .before .before .before .before .before .before .before .before .args .b) (c .before .before .before .before .before .before .before .before .before .before .before .before .pre) y in let v = other-room (c .before .before .before .before .before .before .before .before .before .before .before .before .args .terms .now) (c .before .before .before .before .before .before .before .before .before .before .before .before .args .chars .now) (c .before .before .before .before .before .before .before .before .before .before .before .before .args .c) (c .before .before .before .before .before .before .before .before .before .before .before .before .args .a) (c .before .before .before .before .before .before .before .before .before .before .before .before .args .b) (c .before .before .before .before .before .before .before .before .before .before .before .before .pre) y in (omega (arith, u, c .before .before .before .before .before .before .before .first .ensures, c .before .before .before .before .before .before .wide .ensures, c .before .before .before .before .before .second .ensures, c .before .before .before .before .wide2 .ensures), omega (arith, v, c .before .before .before .first2 .ensures, c .before .before .wide3 .ensures, c .before .second2 .ensures, c .wide4 .ensures)))
-    (λ c. differ-is (c .before .before .before .before .before .before .before .before .before .before .before .before .before .args .terms .now) (c .before .before .before .before .before .before .before .before .before .before .before .before .before .args .chars .now) (c .before .before .before .before .before .before .before .before .before .before .before .before .before .args .c) (c .before .before .before .before .before .before .before .before .before .before .before .before .before .args .a) (c .before .before .before .before .before .before .before .before .before .before .before .before .before .args .b) (c .before .before .before .before .before .before .before .before .before .before .before .before .before .pre) (passed _ _ (c .before .before .before .before .before .before .before .before .before .before .both-constant .ensures) (c .before .before .before .before .before .before .before .before .before .if1 .left)) _ _ _ _ _ (c .before .before .before .before .before .before .before .wide .ensures ∙ c .before .before .before .before .before .before .before .before .first .ensures) (c .before .before .before .before .before .wide2 .ensures ∙ c .before .before .before .before .before .before .second .ensures) (c .before .before .before .wide3 .ensures ∙ c .before .before .before .before .first2 .ensures) (c .before .wide4 .ensures ∙ c .before .before .second2 .ensures) (c .spans-differ .ensures)))
+    (λ c κs.
+    let at-first2 = c .before .before .before in
+    let at-wide2 = at-first2 .before in
+    let at-second = at-wide2 .before in
+    let at-wide = at-second .before in
+    let at-first = at-wide .before in
+    let at-if1 = at-first .before in
+    let at-both-constant = at-if1 .before in
+    let at-start = at-both-constant .before .before .before in
+    let y = passed _ _ (at-both-constant .both-constant .ensures) (at-if1 .if1 .left) in
+    let u = one-room (at-start .args .terms .now) (at-start .args .chars .now) (at-start .args .c) (at-start .args .a) (at-start .args .b) (at-start .pre) y in
+    let v = other-room (at-start .args .terms .now) (at-start .args .chars .now) (at-start .args .c) (at-start .args .a) (at-start .args .b) (at-start .pre) y in (
+      omega (arith, u, at-first .first .ensures, at-wide .wide .ensures, at-second .second .ensures, at-wide2 .wide2 .ensures),
+      omega (arith, v, at-first2 .first2 .ensures, c .before .before .wide3 .ensures, c .before .second2 .ensures, c .wide4 .ensures),
+    ))
+    (λ c.
+    let at-wide3 = c .before .before .before in
+    let at-first2 = at-wide3 .before in
+    let at-wide2 = at-first2 .before in
+    let at-second = at-wide2 .before in
+    let at-wide = at-second .before in
+    let at-first = at-wide .before in
+    let at-if1 = at-first .before in
+    let at-both-constant = at-if1 .before in
+    let at-start = at-both-constant .before .before .before in
+    differ-is (at-start .args .terms .now) (at-start .args .chars .now) (at-start .args .c) (at-start .args .a) (at-start .args .b) (at-start .pre)
+    (passed _ _ (at-both-constant .both-constant .ensures) (at-if1 .if1 .left)) _ _ _ _ _ (at-wide .wide .ensures ∙ at-first .first .ensures)
+    (at-wide2 .wide2 .ensures ∙ at-second .second .ensures) (at-wide3 .wide3 .ensures ∙ at-first2 .first2 .ensures)
+    (c .before .wide4 .ensures ∙ c .before .before .second2 .ensures) (c .spans-differ .ensures)))

@@ -11,8 +11,14 @@ fill-source-spec =
     (λ c. search needs)
     (λ c. search needs)
     (λ c. search needs)
-    (λ c. source-variable (c .before .before .before .before .before .before .args .terms .now) (c .before .before .before .before .before .before .args .c) (c .before .before .before .before .before .before .args .a) _ (c .before .before .kind-of .ensures) (c .before .if1 .taken) (c .before .before .before .before .before .before .args .side .now) (c .before .before .before .before .before .before .args .word .now))
+    (λ c.
+    let at-start = c .before .before .before .before .before .before in
+    source-variable (at-start .args .terms .now) (at-start .args .c) (at-start .args .a) _ (c .before .before .kind-of .ensures) (c .before .if1 .taken)
+    (at-start .args .side .now) (at-start .args .word .now))
     (λ c. search needs)
     (λ c. search needs)
     (λ c. search needs)
-    (λ c. source-constant (c .before .before .before .before .before .before .args .terms .now) (c .before .before .before .before .before .before .args .c) (c .before .before .before .before .before .before .args .a) _ (c .before .before .kind-of .ensures) (c .before .if1 .left) (c .before .before .before .before .before .before .args .side .now) (c .before .before .before .before .before .before .args .word .now)))
+    (λ c.
+    let at-start = c .before .before .before .before .before .before in
+    source-constant (at-start .args .terms .now) (at-start .args .c) (at-start .args .a) _ (c .before .before .kind-of .ensures) (c .before .if1 .left)
+    (at-start .args .side .now) (at-start .args .word .now)))

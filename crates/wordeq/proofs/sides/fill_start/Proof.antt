@@ -4,4 +4,4 @@ use Rattle.wordeq.proofs.sides.fill_start.Statement.{statement}
 use Rattle.wordeq.proofs.sides.fill_start.Tie as tie
 
 pub fill-start-spec : {M : Type 1} → statement M
-fill-start-spec = tie.close (tie.spec (λ c κs. search needs) (λ c. start-variable (c .before .before .before .args .terms .now) (c .before .before .before .args .c) (c .before .before .before .args .a) _ (c .before .kind-of .ensures) (c .if1 .taken) (c .before .before .before .args .i) (c .before .before .before .args .v)) (λ c. start-constant (c .before .before .before .args .terms .now) (c .before .before .before .args .c) (c .before .before .before .args .a) _ (c .before .kind-of .ensures) (c .if1 .left) (c .before .before .before .args .i) (c .before .before .before .args .v)))
+fill-start-spec = tie.close (tie.spec (λ c κs. search needs) (λ c. let at-start = c .before .before .before in start-variable (at-start .args .terms .now) (at-start .args .c) (at-start .args .a) _ (c .before .kind-of .ensures) (c .if1 .taken) (at-start .args .i) (at-start .args .v)) (λ c. let at-start = c .before .before .before in start-constant (at-start .args .terms .now) (at-start .args .c) (at-start .args .a) _ (c .before .kind-of .ensures) (c .if1 .left) (at-start .args .i) (at-start .args .v)))

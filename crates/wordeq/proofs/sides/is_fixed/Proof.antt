@@ -25,8 +25,14 @@ is-fixed-spec =
     (λ c. search needs)
     (λ c. search needs)
     (λ c κs. search needs)
-    (λ c. fixed-stop _ _ _ _ (c .before .before .before .before .loop .inv .1) (c .before .before .before .loop-test .taken) (c .before .kind-of .ensures) (c .if1 .taken))
+    (λ c.
+    let at-loop-test = c .before .before .before in
+    let at-loop = at-loop-test .before in
+    fixed-stop _ _ _ _ (at-loop .loop .inv .1) (at-loop-test .loop-test .taken) (c .before .kind-of .ensures) (c .if1 .taken))
     (λ c. search needs)
     (λ c. search needs)
-    (λ c. (omega arith, fixed-turn _ _ _ _ (c .before .before .before .before .loop .inv .1) (c .before .before .before .loop-test .taken) (c .before .kind-of .ensures) (c .if1 .left)))
+    (λ c.
+    let at-loop-test = c .before .before .before in
+    let at-loop = at-loop-test .before in
+    (omega arith, fixed-turn _ _ _ _ (at-loop .loop .inv .1) (at-loop-test .loop-test .taken) (c .before .kind-of .ensures) (c .if1 .left)))
     (λ c. fixed-done _ _ _ (c .before .loop .inv .1) (c .loop-test .left)))

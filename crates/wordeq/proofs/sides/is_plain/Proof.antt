@@ -9,10 +9,20 @@ is-plain-spec =
     tie.close
     (tie.spec
     (λ c κs. search needs)
-    (λ c. plain-kind _ _ _ _ _ (c .before .before .before .before .pre) (c .before .kind-of .ensures) (c .if1 .taken))
+    (λ c. let at-start = c .before .before .before .before in plain-kind _ _ _ _ _ (at-start .pre) (c .before .kind-of .ensures) (c .if1 .taken))
     (λ c κs. search needs)
-    (λ c. plain-short _ _ _ _ _ (c .before .before .before .before .before .before .pre) (c .before .before .before .kind-of .ensures) (c .before .before .if1 .left) _ (c .before .second .ensures) (c .if2 .taken))
+    (λ c.
+    let at-kind-of = c .before .before .before in
+    let at-start = at-kind-of .before .before .before in
+    plain-short _ _ _ _ _ (at-start .pre) (at-kind-of .kind-of .ensures) (c .before .before .if1 .left) _ (c .before .second .ensures) (c .if2 .taken))
     (λ c κs. search needs)
     (λ c. search needs)
     (λ c κs. search needs)
-    (λ c. plain-is _ _ _ _ _ (c .before .before .before .before .before .before .before .before .before .pre) (c .before .before .before .before .before .before .kind-of .ensures) (c .before .before .before .before .before .if1 .left) _ _ _ _ (c .before .before .before .before .second .ensures) (c .before .before .before .if2 .left) (c .before .before .first .ensures) (c .text-is .ensures) refl))
+    (λ c.
+    let at-if2 = c .before .before .before in
+    let at-second = at-if2 .before in
+    let at-if1 = at-second .before in
+    let at-kind-of = at-if1 .before in
+    let at-start = at-kind-of .before .before .before in
+    plain-is _ _ _ _ _ (at-start .pre) (at-kind-of .kind-of .ensures) (at-if1 .if1 .left) _ _ _ _ (at-second .second .ensures) (at-if2 .if2 .left)
+    (c .before .before .first .ensures) (c .text-is .ensures) refl))

@@ -30,20 +30,51 @@ is-tiled-spec =
     (λ c. walked-none _ _ _ _ _ _ _)
     (λ c. search needs)
     (λ c. search needs)
-    (λ c κs. c .before .before .before .before .before .before .before .pre .known .texts)
+    (λ c κs. let at-start = c .before .before .before .before .before .before .before in at-start .pre .known .texts)
     (λ c κs. search needs)
     (λ c κs. search needs)
-    (λ c. filling-start _ _ _ _ _ _ _ _ _ _ _ _ _ (c .before .before .before .before .before .atoms .inv) (c .before .before .before .before .before .before .before .before .before .before .pre) (c .before .before .before .before .atoms-test .taken) refl (c .before .before .fill-count .ensures) (c .before .fill-start .ensures) (c .fill-source .ensures))
-    (λ c κs. c .before .before .before .before .before .before .before .before .before .before .before .before .pre .known .texts)
-    (λ c κs. c .before .before .before .before .before .before .before .before .before .before .before .before .before .pre .known .texts)
-    (λ c κs. (c .before .before .before .before .before .before .before .before .before .before .before .before .before .before .pre .known, c .before .settle .ensures .at, c .settle2 .ensures .at))
-    (λ c κs. word-limit _ _ _ _ _ _ _ _ (c .before .before .before .before .before .before .before .before .before .before .before .before .before .before .before .before .pre .known) (c .before .same-letter .ensures) (c .if1 .left) (c .before .before .before .settle .ensures .at) (c .before .before .settle2 .ensures .at))
-    (λ c κs. source-limit _ _ _ _ _ _ _ _ (c .before .before .before .before .before .before .before .before .before .before .before .before .before .before .before .before .before .pre .known) (c .before .before .same-letter .ensures) (c .before .if1 .left) (c .before .before .before .before .settle .ensures .at) (c .before .before .before .settle2 .ensures .at))
+    (λ c.
+    let at-atoms-test = c .before .before .before .before in
+    let at-atoms = at-atoms-test .before in
+    let at-start = at-atoms .before .before .before .before .before in
+    filling-start _ _ _ _ _ _ _ _ _ _ _ _ _ (at-atoms .atoms .inv) (at-start .pre) (at-atoms-test .atoms-test .taken) refl (c .before .before .fill-count .ensures)
+    (c .before .fill-start .ensures) (c .fill-source .ensures))
+    (λ c κs.
+    let at-start = c .before .before .before .before .before .before .before .before .before .before .before .before in
+    at-start .pre .known .texts)
+    (λ c κs.
+    let at-start = c .before .before .before .before .before .before .before .before .before .before .before .before .before in
+    at-start .pre .known .texts)
+    (λ c κs.
+    let at-start = c .before .before .before .before .before .before .before .before .before .before .before .before .before .before in
+    (at-start .pre .known, c .before .settle .ensures .at, c .settle2 .ensures .at))
+    (λ c κs.
+    let at-settle = c .before .before .before in
+    let at-start = at-settle .before .before .before .before .before .before .before .before .before .before .before .before .before in
+    word-limit _ _ _ _ _ _ _ _ (at-start .pre .known) (c .before .same-letter .ensures) (c .if1 .left) (at-settle .settle .ensures .at)
+    (c .before .before .settle2 .ensures .at))
+    (λ c κs.
+    let at-settle2 = c .before .before .before in
+    let at-settle = at-settle2 .before in
+    let at-start = at-settle .before .before .before .before .before .before .before .before .before .before .before .before .before in
+    source-limit _ _ _ _ _ _ _ _ (at-start .pre .known) (c .before .before .same-letter .ensures) (c .before .if1 .left) (at-settle .settle .ensures .at)
+    (at-settle2 .settle2 .ensures .at))
     (λ c. search needs)
     (λ c. search needs)
-    (λ c. filling-one _ _ _ _ _ _ _ _ _ _ _ _ _ (c .before .before .before .before .before .before .before .loop .inv) (c .before .before .before .before .before .before .loop-test .taken) _ _ (c .before .before .before .before .before .settle .ensures) (c .before .before .before .before .settle2 .ensures) _ (c .before .before .before .same-letter .ensures) (c .before .before .if1 .left) _ _ (c .before .onward .ensures) (c .onward2 .ensures))
+    (λ c.
+    let at-same-letter = c .before .before .before in
+    let at-settle2 = at-same-letter .before in
+    let at-settle = at-settle2 .before in
+    let at-loop-test = at-settle .before in
+    let at-loop = at-loop-test .before in
+    filling-one _ _ _ _ _ _ _ _ _ _ _ _ _ (at-loop .loop .inv) (at-loop-test .loop-test .taken) _ _ (at-settle .settle .ensures) (at-settle2 .settle2 .ensures) _
+    (at-same-letter .same-letter .ensures) (c .before .before .if1 .left) _ _ (c .before .onward .ensures) (c .onward2 .ensures))
     (λ c. search needs)
     (λ c. search needs)
     (λ c. filling-end _ _ _ _ _ _ _ _ _ _ _ _ _ (c .before .loop .inv) (c .loop-test .left))
-    (λ c κs. c .before .before .before .before .before .before .pre .known .texts)
-    (λ c. ⊎-elim (λ u. tiled-end _ _ _ _ _ _ _ _ _ _ (c .ended .ensures) _ (u .1) (c .before .before .atoms .inv) (u .0 .left)) (λ u. tiled-break (c .before .before .before .before .before .before .before .args .terms .now) (c .before .before .before .before .before .before .before .args .chars .now) (c .before .before .before .before .before .before .before .args .c) (c .before .before .before .before .before .before .before .args .word .now) (c .before .before .before .before .before .before .before .args .side .now) (c .before .before .before .before .before .before .before .args .v) (c .before .before .before .before .before .before .before .args .m) _ _ _ (c .ended .ensures) (filling-differs _ _ _ _ _ _ _ _ _ _ _ _ _ (u .5 .inv) (u .6 .taken) _ _ (u .7 .ensures) (u .8 .ensures) _ (u .9 .ensures) (u .10 .taken)) (u .0 .taken)) (c .before .atoms-test .came)))
+    (λ c κs. let at-start = c .before .before .before .before .before .before in at-start .pre .known .texts)
+    (λ c.
+    let at-start = c .before .before .before .before .before .before .before in
+    ⊎-elim (λ u. tiled-end _ _ _ _ _ _ _ _ _ _ (c .ended .ensures) _ (u .1) (c .before .before .atoms .inv) (u .0 .left))
+    (λ u. tiled-break (at-start .args .terms .now) (at-start .args .chars .now) (at-start .args .c) (at-start .args .word .now) (at-start .args .side .now) (at-start .args .v) (at-start .args .m) _ _ _ (c .ended .ensures) (filling-differs _ _ _ _ _ _ _ _ _ _ _ _ _ (u .5 .inv) (u .6 .taken) _ _ (u .7 .ensures) (u .8 .ensures) _ (u .9 .ensures) (u .10 .taken)) (u .0 .taken))
+    (c .before .atoms-test .came)))

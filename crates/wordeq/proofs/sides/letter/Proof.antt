@@ -13,6 +13,11 @@ letter-spec =
     (λ c. search needs)
     (λ c κs. search needs)
     (λ c κs. search needs)
-    (λ c. let z = place-limit _ _ _ _ _ (c .before .before .before .before .before .before .before .pre .0) (c .before .before .before .before .before .before .before .pre .1) (c .before .before .before .before .before .before .before .pre .2) in omega arith)
+    (λ c.
+    let at-start = c .before .before .before .before .before .before .before in
+    let z = place-limit _ _ _ _ _ (at-start .pre .0) (at-start .pre .1) (at-start .pre .2) in omega arith)
     (λ c κs. search needs)
-    (λ c. letter-is _ _ _ _ _ _ _ _ (c .before .before .before .before .before .before .before .before .pre .0) (c .before .before .before .before .before .before .before .before .pre .1) (c .before .before .before .before .before .before .before .before .pre .2) (c .before .before .before .first .ensures) (c .before .before .wide .ensures) (c .word .ensures)))
+    (λ c.
+    let at-first = c .before .before .before in
+    let at-start = at-first .before .before .before .before .before in
+    letter-is _ _ _ _ _ _ _ _ (at-start .pre .0) (at-start .pre .1) (at-start .pre .2) (at-first .first .ensures) (c .before .before .wide .ensures) (c .word .ensures)))

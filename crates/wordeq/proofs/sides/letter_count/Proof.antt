@@ -5,4 +5,13 @@ use Rattle.wordeq.proofs.sides.letter_count.Tie as tie
 
 pub letter-count-spec : {M : Type 1} → statement M
 letter-count-spec =
-    tie.close (tie.spec (λ c κs. search needs) (λ c. count-none _ _ _ _ (c .before .before .before .pre) (c .before .kind-of .ensures) (c .if1 .taken)) (λ c κs. search needs) (λ c κs. search needs) (λ c. count-some _ _ _ _ _ _ (c .before .before .before .before .before .pre) (c .before .before .before .kind-of .ensures) (c .before .before .if1 .left) (c .before .second .ensures) (c .wide .ensures)))
+    tie.close
+    (tie.spec
+    (λ c κs. search needs)
+    (λ c. let at-start = c .before .before .before in count-none _ _ _ _ (at-start .pre) (c .before .kind-of .ensures) (c .if1 .taken))
+    (λ c κs. search needs)
+    (λ c κs. search needs)
+    (λ c.
+    let at-kind-of = c .before .before .before in
+    let at-start = at-kind-of .before .before in
+    count-some _ _ _ _ _ _ (at-start .pre) (at-kind-of .kind-of .ensures) (c .before .before .if1 .left) (c .before .second .ensures) (c .wide .ensures)))

@@ -23,8 +23,15 @@ letters-length-spec =
     (λ c. search needs)
     (λ c. search needs)
     (λ c κs. search needs)
-    (λ c. let z = counted-one _ _ _ _ _ _ (c .before .before .before .before .before .before .pre .0) (c .before .before .before .loop .inv) (c .before .before .loop-test .taken) (c .letter-count .ensures) in let y = z .small in let x = z .within in let v = c .before .before .before .before .before .before .pre .1 in omega arith)
+    (λ c.
+    let at-loop = c .before .before .before in
+    let at-start = at-loop .before .before .before in
+    let z = counted-one _ _ _ _ _ _ (at-start .pre .0) (at-loop .loop .inv) (c .before .before .loop-test .taken) (c .letter-count .ensures) in
+    let y = z .small in let x = z .within in let v = at-start .pre .1 in omega arith)
     (λ c. search needs)
     (λ c. search needs)
-    (λ c. counted-one _ _ _ _ _ _ (c .before .before .before .before .before .before .pre .0) (c .before .before .before .loop .inv) (c .before .before .loop-test .taken) (c .letter-count .ensures))
+    (λ c.
+    let at-loop = c .before .before .before in
+    let at-start = at-loop .before .before .before in
+    counted-one _ _ _ _ _ _ (at-start .pre .0) (at-loop .loop .inv) (c .before .before .loop-test .taken) (c .letter-count .ensures))
     (λ c. counted-all _ _ _ _ (c .before .loop .inv) (c .loop-test .left)))

@@ -7,4 +7,20 @@ use Rattle.wordeq.proofs.sides.same_letter.Tie as tie
 
 pub same-letter-spec : {M : Type 1} → statement M
 same-letter-spec =
-    tie.close (tie.spec (λ c. heads-left (spelled (c .before .before .before .before .before .before .args .terms .now) (c .before .before .before .before .before .before .args .chars .now) (c .before .before .before .before .before .before .args .c)) (c .before .before .before .before .before .before .args .l .now) (rest (spelled (c .before .before .before .before .before .before .args .terms .now) (c .before .before .before .before .before .before .args .chars .now) (c .before .before .before .before .before .before .args .c)) (c .before .before .before .before .before .before .args .r .now) (c .before .before .before .before .before .before .args .x .atom) (c .before .before .before .before .before .before .args .x .place)) (c .before .before .before .before .before .before .args .k .atom) (c .before .before .before .before .before .before .args .k .place) (c .if1 .taken)) (λ c. heads-right (spelled (c .before .before .before .before .before .before .before .before .args .terms .now) (c .before .before .before .before .before .before .before .before .args .chars .now) (c .before .before .before .before .before .before .before .before .args .c)) (c .before .before .before .before .before .before .before .before .args .r .now) (rest (spelled (c .before .before .before .before .before .before .before .before .args .terms .now) (c .before .before .before .before .before .before .before .before .args .chars .now) (c .before .before .before .before .before .before .before .before .args .c)) (c .before .before .before .before .before .before .before .before .args .l .now) (c .before .before .before .before .before .before .before .before .args .k .atom) (c .before .before .before .before .before .before .before .before .args .k .place)) (c .before .before .before .before .before .before .before .before .args .x .atom) (c .before .before .before .before .before .before .before .before .args .x .place) (c .if2 .taken)) (λ c κs. search needs) (λ c κs. search needs) (λ c. heads-both _ _ _ _ _ _ _ (c .before .letter .ensures) (c .letter2 .ensures) refl))
+    tie.close
+    (tie.spec
+    (λ c.
+    let at-start = c .before .before .before .before .before .before in
+    heads-left (spelled (at-start .args .terms .now) (at-start .args .chars .now) (at-start .args .c)) (at-start .args .l .now)
+    (rest (spelled (at-start .args .terms .now) (at-start .args .chars .now) (at-start .args .c)) (at-start .args .r .now) (at-start .args .x .atom)
+    (at-start .args .x .place))
+    (at-start .args .k .atom) (at-start .args .k .place) (c .if1 .taken))
+    (λ c.
+    let at-start = c .before .before .before .before .before .before .before .before in
+    heads-right (spelled (at-start .args .terms .now) (at-start .args .chars .now) (at-start .args .c)) (at-start .args .r .now)
+    (rest (spelled (at-start .args .terms .now) (at-start .args .chars .now) (at-start .args .c)) (at-start .args .l .now) (at-start .args .k .atom)
+    (at-start .args .k .place))
+    (at-start .args .x .atom) (at-start .args .x .place) (c .if2 .taken))
+    (λ c κs. search needs)
+    (λ c κs. search needs)
+    (λ c. heads-both _ _ _ _ _ _ _ (c .before .letter .ensures) (c .letter2 .ensures) refl))

@@ -21,8 +21,14 @@ settle-spec =
     (λ c. search needs)
     (λ c. search needs)
     (λ c κs. search needs)
-    (λ c. onward-here _ _ _ _ _ _ (c .before .before .before .before .loop .inv) _ (c .before .letter-count .ensures) (c .if1 .taken))
+    (λ c.
+    let at-loop = c .before .before .before .before in
+    onward-here _ _ _ _ _ _ (at-loop .loop .inv) _ (c .before .letter-count .ensures) (c .if1 .taken))
     (λ c. search needs)
     (λ c. search needs)
-    (λ c. onward-atom _ _ _ (c .before .before .before .before .before .before .before .args .k) _ _ (c .before .before .before .before .loop .inv) _ (c .before .letter-count .ensures) (c .before .before .before .before .before .before .before .pre) (c .before .before .before .loop-test .taken) (c .if1 .left))
+    (λ c.
+    let at-loop-test = c .before .before .before in
+    let at-loop = at-loop-test .before in
+    let at-start = at-loop .before .before .before in
+    onward-atom _ _ _ (at-start .args .k) _ _ (at-loop .loop .inv) _ (c .before .letter-count .ensures) (at-start .pre) (at-loop-test .loop-test .taken) (c .if1 .left))
     (λ c. onward-end _ _ _ _ _ _ (c .before .loop .inv) (c .loop-test .left)))

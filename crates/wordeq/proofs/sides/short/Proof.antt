@@ -12,4 +12,6 @@ short-spec =
     (λ c. short-not _ _ _ _ (c .before .is-fixed .ensures) (c .if1 .taken))
     (λ c κs. search needs)
     (λ c κs. search needs)
-    (λ c. short-is _ _ _ _ (c .before .before .before .is-fixed .ensures) (c .before .before .if1 .left) _ _ (c .before .letters-length .ensures) (c .letters-length2 .ensures) _ refl))
+    (λ c.
+    let at-is-fixed = c .before .before .before in
+    short-is _ _ _ _ (at-is-fixed .is-fixed .ensures) (c .before .before .if1 .left) _ _ (c .before .letters-length .ensures) (c .letters-length2 .ensures) _ refl))

@@ -7,4 +7,22 @@ use Rattle.wordeq.proofs.sides.unequal.Tie as tie
 pub unequal-spec : {M : Type 1} → statement M
 unequal-spec =
     tie.close
-    (tie.spec (λ c κs. search needs) (λ c. unequal-left (c .before .before .before .before .before .before .args .terms .now) (c .before .before .before .before .before .before .args .chars .now) (c .before .before .before .before .before .before .args .c) (c .before .before .before .before .before .before .args .l .now) (c .before .before .before .before .before .before .args .r .now) _ (c .before .is-fixed .ensures) (c .if1 .taken)) (λ c κs. search needs) (λ c. unequal-right (c .before .before .before .before .before .before .before .before .args .terms .now) (c .before .before .before .before .before .before .before .before .args .chars .now) (c .before .before .before .before .before .before .before .before .args .c) (c .before .before .before .before .before .before .before .before .args .l .now) (c .before .before .before .before .before .before .before .before .args .r .now) _ (c .before .before .before .is-fixed .ensures) (c .before .before .if1 .left) _ (c .before .is-fixed2 .ensures) (c .if2 .taken)) (λ c κs. record { known = c .before .before .before .before .before .before .before .before .pre; fits = omega arith }) (λ c. unequal-is (c .before .before .before .before .before .before .before .before .before .args .terms .now) (c .before .before .before .before .before .before .before .before .before .args .chars .now) (c .before .before .before .before .before .before .before .before .before .args .c) (c .before .before .before .before .before .before .before .before .before .args .l .now) (c .before .before .before .before .before .before .before .before .before .args .r .now) _ (c .before .before .before .before .is-fixed .ensures) (c .before .before .before .if1 .left) _ (c .before .before .is-fixed2 .ensures) (c .before .if2 .left) _ _ (c .is-tiled .ensures)))
+    (tie.spec
+    (λ c κs. search needs)
+    (λ c.
+    let at-start = c .before .before .before .before .before .before in
+    unequal-left (at-start .args .terms .now) (at-start .args .chars .now) (at-start .args .c) (at-start .args .l .now) (at-start .args .r .now) _
+    (c .before .is-fixed .ensures) (c .if1 .taken))
+    (λ c κs. search needs)
+    (λ c.
+    let at-is-fixed = c .before .before .before in
+    let at-start = at-is-fixed .before .before .before .before .before in
+    unequal-right (at-start .args .terms .now) (at-start .args .chars .now) (at-start .args .c) (at-start .args .l .now) (at-start .args .r .now) _
+    (at-is-fixed .is-fixed .ensures) (c .before .before .if1 .left) _ (c .before .is-fixed2 .ensures) (c .if2 .taken))
+    (λ c κs. let at-start = c .before .before .before .before .before .before .before .before in record { known = at-start .pre; fits = omega arith })
+    (λ c.
+    let at-if1 = c .before .before .before in
+    let at-is-fixed = at-if1 .before in
+    let at-start = at-is-fixed .before .before .before .before .before in
+    unequal-is (at-start .args .terms .now) (at-start .args .chars .now) (at-start .args .c) (at-start .args .l .now) (at-start .args .r .now) _
+    (at-is-fixed .is-fixed .ensures) (at-if1 .if1 .left) _ (c .before .before .is-fixed2 .ensures) (c .before .if2 .left) _ _ (c .is-tiled .ensures)))

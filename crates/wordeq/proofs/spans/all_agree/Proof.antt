@@ -25,9 +25,20 @@ all-agree-spec =
     (λ c. (omega arith, refl))
     (λ c. search needs)
     (λ c. search needs)
-    (λ c κs. (c .before .before .before .before .before .before .pre .0, pair-at (readIn (c .before .before .before .before .before .before .args .terms .now) (c .before .before .before .before .before .before .args .chars .now) (c .before .before .before .before .before .before .args .c)) (c .before .before .before .before .before .before .args .l .now) (c .before .before .before .before .before .before .pre .1 .0) (c .before .before .before .before .before .before .args .v) (c .before .before .before .before .before .before .pre .1 .1) _ (c .before .loop-test .taken)))
-    (λ c. all-stop _ _ _ (c .before .before .before .before .loop .inv .1) (c .before .before .before .loop-test .taken) _ (c .before .atom-agrees .ensures) (c .if1 .taken))
+    (λ c κs.
+    let at-start = c .before .before .before .before .before .before in (
+      at-start .pre .0,
+      pair-at (readIn (at-start .args .terms .now) (at-start .args .chars .now) (at-start .args .c)) (at-start .args .l .now) (at-start .pre .1 .0) (at-start .args .v)
+          (at-start .pre .1 .1) _ (c .before .loop-test .taken),
+    ))
+    (λ c.
+    let at-loop-test = c .before .before .before in
+    let at-loop = at-loop-test .before in
+    all-stop _ _ _ (at-loop .loop .inv .1) (at-loop-test .loop-test .taken) _ (c .before .atom-agrees .ensures) (c .if1 .taken))
     (λ c. search needs)
     (λ c. search needs)
-    (λ c. (omega arith, all-turn _ _ _ (c .before .before .before .before .loop .inv .1) (c .before .before .before .loop-test .taken) _ (c .before .atom-agrees .ensures) (c .if1 .left)))
+    (λ c.
+    let at-loop-test = c .before .before .before in
+    let at-loop = at-loop-test .before in
+    (omega arith, all-turn _ _ _ (at-loop .loop .inv .1) (at-loop-test .loop-test .taken) _ (c .before .atom-agrees .ensures) (c .if1 .left)))
     (λ c. all-done _ _ _ (c .before .loop .inv .1) (c .loop-test .left)))

@@ -22,12 +22,20 @@ first-variable-spec =
     (tie.spec
     Inv-loop
     μ-loop
-    (λ c. (omega arith, first-start (termed (c .before .before .args .terms .now) (c .before .before .args .c)) (c .before .before .args .side .now)))
+    (λ c.
+    let at-start = c .before .before in
+    (omega arith, first-start (termed (at-start .args .terms .now) (at-start .args .c)) (at-start .args .side .now)))
     (λ c. search needs)
     (λ c. search needs)
     (λ c κs. search needs)
-    (λ c. first-here _ _ _ (c .before .before .before .before .loop .inv .1) _ (c .before .before .before .loop-test .taken) (c .before .kind-of .ensures) (c .if1 .taken))
+    (λ c.
+    let at-loop-test = c .before .before .before in
+    let at-loop = at-loop-test .before in
+    first-here _ _ _ (at-loop .loop .inv .1) _ (at-loop-test .loop-test .taken) (c .before .kind-of .ensures) (c .if1 .taken))
     (λ c. search needs)
     (λ c. search needs)
-    (λ c. (omega arith, first-turn _ _ _ (c .before .before .before .before .loop .inv .1) _ (c .before .before .before .loop-test .taken) (c .before .kind-of .ensures) (c .if1 .left)))
+    (λ c.
+    let at-loop-test = c .before .before .before in
+    let at-loop = at-loop-test .before in
+    (omega arith, first-turn _ _ _ (at-loop .loop .inv .1) _ (at-loop-test .loop-test .taken) (c .before .kind-of .ensures) (c .if1 .left)))
     (λ c. first-none _ _ _ (c .before .loop .inv .1) (c .before .loop .inv .0) (c .loop-test .left)))

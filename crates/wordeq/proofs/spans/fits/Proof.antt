@@ -9,13 +9,35 @@ fits-spec =
     (tie.spec
     (λ c κs. search needs)
     (λ c κs. search needs)
-    (λ c. fits-over (c .before .before .before .before .before .before .before .args .terms .now) (c .before .before .before .before .before .before .before .args .chars .now) (c .before .before .before .before .before .before .before .args .c) (c .before .before .before .before .before .before .before .args .word .now) (c .before .before .before .before .before .before .before .args .side .now) (c .before .before .before .before .before .before .before .args .k) _ _ (c .before .before .before .before .before .before .before .pre .0) (c .before .before .letters-length .ensures) (c .before .letters-length2 .ensures) (c .if1 .taken))
+    (λ c.
+    let at-start = c .before .before .before .before .before .before .before in
+    fits-over (at-start .args .terms .now) (at-start .args .chars .now) (at-start .args .c) (at-start .args .word .now) (at-start .args .side .now) (at-start .args .k) _ _
+    (at-start .pre .0) (c .before .before .letters-length .ensures) (c .before .letters-length2 .ensures) (c .if1 .taken))
     (λ c. search needs)
-    (λ c. fits-uneven (c .before .before .before .before .before .before .before .before .args .terms .now) (c .before .before .before .before .before .before .before .before .args .chars .now) (c .before .before .before .before .before .before .before .before .args .c) (c .before .before .before .before .before .before .before .before .args .word .now) (c .before .before .before .before .before .before .before .before .args .side .now) (c .before .before .before .before .before .before .before .before .args .k) _ _ (c .before .before .before .before .before .before .before .before .pre .0) (c .before .before .before .letters-length .ensures) (c .before .before .letters-length2 .ensures) (c .before .if1 .left) (c .if2 .taken))
+    (λ c.
+    let at-letters-length = c .before .before .before in
+    let at-start = at-letters-length .before .before .before .before .before in
+    fits-uneven (at-start .args .terms .now) (at-start .args .chars .now) (at-start .args .c) (at-start .args .word .now) (at-start .args .side .now) (at-start .args .k) _ _
+    (at-start .pre .0) (at-letters-length .letters-length .ensures) (c .before .before .letters-length2 .ensures) (c .before .if1 .left) (c .if2 .taken))
     (λ c. search needs)
     (λ c. search needs)
     (λ c. search needs)
     (λ c. search needs)
     (λ c κs. search needs)
-    (λ c κs. span-there (c .before .before .before .before .before .before .before .before .before .before .args .terms .now) (c .before .before .before .before .before .before .before .before .before .before .args .chars .now) (c .before .before .before .before .before .before .before .before .before .before .args .c) (c .before .before .before .before .before .before .before .before .before .before .args .word .now) (c .before .before .before .before .before .before .before .before .before .before .args .side .now) (c .before .before .before .before .before .before .before .before .before .before .args .k) _ _ (c .before .before .before .before .before .before .before .before .before .before .pre .0) (c .before .before .before .before .before .letters-length .ensures) (c .before .before .before .before .letters-length2 .ensures) (c .before .before .before .if1 .left) (c .before .before .before .before .before .before .before .before .before .before .args .i) (c .before .before .before .before .before .before .before .before .before .before .pre .3) _ (c .letters-length3 .ensures))
-    (λ c. fits-tiled (c .before .before .before .before .before .before .before .before .before .before .before .args .terms .now) (c .before .before .before .before .before .before .before .before .before .before .before .args .chars .now) (c .before .before .before .before .before .before .before .before .before .before .before .args .c) (c .before .before .before .before .before .before .before .before .before .before .before .args .word .now) (c .before .before .before .before .before .before .before .before .before .before .before .args .side .now) (c .before .before .before .before .before .before .before .before .before .before .before .args .k) _ _ (c .before .before .before .before .before .before .before .before .before .before .before .pre .0) (c .before .before .before .before .before .before .letters-length .ensures) (c .before .before .before .before .before .letters-length2 .ensures) (c .before .before .before .before .if1 .left) (c .before .before .before .before .before .before .before .before .before .before .before .args .i) (c .before .before .before .before .before .before .before .before .before .before .before .pre .3) _ (c .before .letters-length3 .ensures) (c .before .before .before .if2 .left) _ (c .is-tiled .ensures)))
+    (λ c κs.
+    let at-if1 = c .before .before .before in
+    let at-letters-length2 = at-if1 .before in
+    let at-letters-length = at-letters-length2 .before in
+    let at-start = at-letters-length .before .before .before .before .before in
+    span-there (at-start .args .terms .now) (at-start .args .chars .now) (at-start .args .c) (at-start .args .word .now) (at-start .args .side .now) (at-start .args .k) _ _
+    (at-start .pre .0) (at-letters-length .letters-length .ensures) (at-letters-length2 .letters-length2 .ensures) (at-if1 .if1 .left) (at-start .args .i) (at-start .pre .3) _
+    (c .letters-length3 .ensures))
+    (λ c.
+    let at-if2 = c .before .before .before in
+    let at-if1 = at-if2 .before in
+    let at-letters-length2 = at-if1 .before in
+    let at-letters-length = at-letters-length2 .before in
+    let at-start = at-letters-length .before .before .before .before .before in
+    fits-tiled (at-start .args .terms .now) (at-start .args .chars .now) (at-start .args .c) (at-start .args .word .now) (at-start .args .side .now) (at-start .args .k) _ _
+    (at-start .pre .0) (at-letters-length .letters-length .ensures) (at-letters-length2 .letters-length2 .ensures) (at-if1 .if1 .left) (at-start .args .i) (at-start .pre .3) _
+    (c .before .letters-length3 .ensures) (at-if2 .if2 .left) _ (c .is-tiled .ensures)))

@@ -17,9 +17,36 @@ is-unfit-spec =
     (λ c. search needs)
     (λ c. search needs)
     (λ c. search needs)
-    (λ c κs. (c .before .before .before .before .before .before .pre .0, (after-strings (readIn (c .before .before .before .before .before .before .args .terms .now) (c .before .before .before .before .before .before .args .chars .now) (c .before .before .before .before .before .before .args .c)) (c .before .before .before .before .before .before .args .side .now) (c .before .before .before .before .before .before .args .i) (c .before .before .before .before .before .before .pre .1 .1), list-string (readIn (c .before .before .before .before .before .before .args .terms .now) (c .before .before .before .before .before .before .args .chars .now) (c .before .before .before .before .before .before .args .c)) (c .before .before .before .before .before .before .args .side .now) (c .before .before .before .before .before .before .pre .1 .1) (c .before .before .before .before .before .before .args .i) (c .before .before .before .before .before .before .pre .1 .3))))
-    (λ c. unfit-apart (c .before .before .before .before .before .before .before .before .args .terms .now) (c .before .before .before .before .before .before .before .before .args .chars .now) (c .before .before .before .before .before .before .before .before .args .c) (c .before .before .before .before .before .before .before .before .args .word .now) (c .before .before .before .before .before .before .before .before .args .side .now) (c .before .before .before .before .before .before .before .before .args .i) _ (c .before .all-agree .ensures) (c .if1 .taken))
+    (λ c κs.
+    let at-start = c .before .before .before .before .before .before in (
+      at-start .pre .0,
+      (
+        after-strings (readIn (at-start .args .terms .now) (at-start .args .chars .now) (at-start .args .c)) (at-start .args .side .now) (at-start .args .i)
+            (at-start .pre .1 .1),
+        list-string (readIn (at-start .args .terms .now) (at-start .args .chars .now) (at-start .args .c)) (at-start .args .side .now) (at-start .pre .1 .1) (at-start .args .i)
+            (at-start .pre .1 .3),
+      ),
+    ))
+    (λ c.
+    let at-start = c .before .before .before .before .before .before .before .before in
+    unfit-apart (at-start .args .terms .now) (at-start .args .chars .now) (at-start .args .c) (at-start .args .word .now) (at-start .args .side .now) (at-start .args .i) _
+    (c .before .all-agree .ensures) (c .if1 .taken))
     (λ c κs. search needs)
-    (λ c. (let z = after-short (termed (c .before .before .before .before .before .before .before .before .before .args .terms .now) (c .before .before .before .before .before .before .before .before .before .args .c)) (c .before .before .before .before .before .before .before .before .before .args .side .now) (c .before .before .before .before .before .before .before .before .before .args .i) _ (c .before .before .before .before .before .before .before .before .before .pre .1 .3) (c .variables-length .ensures) in let y = list-short (readIn (c .before .before .before .before .before .before .before .before .before .args .terms .now) (c .before .before .before .before .before .before .before .before .before .args .chars .now) (c .before .before .before .before .before .before .before .before .before .args .c)) (c .before .before .before .before .before .before .before .before .before .args .side .now) (c .before .before .before .before .before .before .before .before .before .pre .1 .1) in omega arith))
-    (λ c κs. (readable-spelled (c .before .before .before .before .before .before .before .before .before .args .terms .now) (c .before .before .before .before .before .before .before .before .before .args .chars .now) (c .before .before .before .before .before .before .before .before .before .args .c) (c .before .before .before .before .before .before .before .before .before .pre .0), c .before .before .before .before .before .before .before .before .before .pre .1 .0, list-short (readIn (c .before .before .before .before .before .before .before .before .before .args .terms .now) (c .before .before .before .before .before .before .before .before .before .args .chars .now) (c .before .before .before .before .before .before .before .before .before .args .c)) (c .before .before .before .before .before .before .before .before .before .args .side .now) (c .before .before .before .before .before .before .before .before .before .pre .1 .1), c .before .before .before .before .before .before .before .before .before .pre .1 .2, omega arith))
-    (λ c. unfit-is (c .before .before .before .before .before .before .before .before .before .before .args .terms .now) (c .before .before .before .before .before .before .before .before .before .before .args .chars .now) (c .before .before .before .before .before .before .before .before .before .before .args .c) (c .before .before .before .before .before .before .before .before .before .before .args .word .now) (c .before .before .before .before .before .before .before .before .before .before .args .side .now) (c .before .before .before .before .before .before .before .before .before .before .args .i) _ (c .before .before .before .all-agree .ensures) (c .before .before .if1 .left) _ (c .before .variables-length .ensures) _ (c .fits2 .ensures)))
+    (λ c.
+    let at-start = c .before .before .before .before .before .before .before .before .before in
+    (let z = after-short (termed (at-start .args .terms .now) (at-start .args .c)) (at-start .args .side .now) (at-start .args .i) _ (at-start .pre .1 .3)
+    (c .variables-length .ensures) in
+    let y = list-short (readIn (at-start .args .terms .now) (at-start .args .chars .now) (at-start .args .c)) (at-start .args .side .now) (at-start .pre .1 .1) in omega arith))
+    (λ c κs.
+    let at-start = c .before .before .before .before .before .before .before .before .before in (
+      readable-spelled (at-start .args .terms .now) (at-start .args .chars .now) (at-start .args .c) (at-start .pre .0),
+      at-start .pre .1 .0,
+      list-short (readIn (at-start .args .terms .now) (at-start .args .chars .now) (at-start .args .c)) (at-start .args .side .now) (at-start .pre .1 .1),
+      at-start .pre .1 .2,
+      omega arith,
+    ))
+    (λ c.
+    let at-all-agree = c .before .before .before in
+    let at-start = at-all-agree .before .before .before .before .before .before .before in
+    unfit-is (at-start .args .terms .now) (at-start .args .chars .now) (at-start .args .c) (at-start .args .word .now) (at-start .args .side .now) (at-start .args .i) _
+    (at-all-agree .all-agree .ensures) (c .before .before .if1 .left) _ (c .before .variables-length .ensures) _ (c .fits2 .ensures)))

@@ -9,9 +9,29 @@ tile-sides-spec =
     tie.close
     (tie.spec
     (λ c κs. search needs)
-    (λ c. tile-none (c .before .before .before .before .before .before .before .before .before .args .terms .now) (c .before .before .before .before .before .before .before .before .before .args .cells .now) (c .before .before .before .before .before .before .before .before .before .args .chars .now) (c .before .before .before .before .before .before .before .before .before .args .reasons .now) (c .before .before .before .before .before .before .before .before .before .args .keys .now) (c .before .before .before .before .before .before .before .before .before .args .c) (c .before .before .before .before .before .before .before .before .before .args .word .now) (c .before .before .before .before .before .before .before .before .before .args .side .now) _ (c .before .first-variable .ensures) (c .if1 .taken))
-    (λ c κs. (record { cells = c .before .before .before .before .before .before .before .before .before .args .cells .now; reasons = c .before .before .before .before .before .before .before .before .before .args .reasons .now; keys = c .before .before .before .before .before .before .before .before .before .args .keys .now; ready = c .before .before .before .before .before .before .before .before .before .pre .0 }, (list-short (storeOf (lent (c .before .before .before .before .before .before .before .before .before .args .terms .now) (c .before .before .before .before .before .before .before .before .before .args .cells .now) (c .before .before .before .before .before .before .before .before .before .args .chars .now) (c .before .before .before .before .before .before .before .before .before .args .reasons .now) (c .before .before .before .before .before .before .before .before .before .args .keys .now)) (c .before .before .before .before .before .before .before .before .before .args .c)) (c .before .before .before .before .before .before .before .before .before .args .word .now) (c .before .before .before .before .before .before .before .before .before .pre .1 .left), c .before .before .before .before .before .before .before .before .before .pre .1 .right, c .before .first-variable .ensures, c .if1 .left)))
-    (λ c. tile-fits (c .before .before .before .before .before .before .before .before .before .before .before .args .terms .now) (c .before .before .before .before .before .before .before .before .before .before .before .args .cells .now) (c .before .before .before .before .before .before .before .before .before .before .before .args .chars .now) (c .before .before .before .before .before .before .before .before .before .before .before .args .reasons .now) (c .before .before .before .before .before .before .before .before .before .before .before .args .keys .now) (c .before .before .before .before .before .before .before .before .before .before .before .args .c) (c .before .before .before .before .before .before .before .before .before .before .before .args .word .now) (c .before .before .before .before .before .before .before .before .before .before .before .args .side .now) _ (c .before .before .before .first-variable .ensures) (c .before .before .if1 .left) _ (c .before .is-unfit .ensures) (c .if2 .taken))
+    (λ c.
+    let at-start = c .before .before .before .before .before .before .before .before .before in
+    tile-none (at-start .args .terms .now) (at-start .args .cells .now) (at-start .args .chars .now) (at-start .args .reasons .now) (at-start .args .keys .now)
+    (at-start .args .c) (at-start .args .word .now) (at-start .args .side .now) _ (c .before .first-variable .ensures) (c .if1 .taken))
+    (λ c κs.
+    let at-start = c .before .before .before .before .before .before .before .before .before in (
+      record { cells = at-start .args .cells .now; reasons = at-start .args .reasons .now; keys = at-start .args .keys .now; ready = at-start .pre .0 },
+      (
+        list-short
+            (storeOf (lent (at-start .args .terms .now) (at-start .args .cells .now) (at-start .args .chars .now) (at-start .args .reasons .now) (at-start .args .keys .now))
+            (at-start .args .c))
+            (at-start .args .word .now) (at-start .pre .1 .left),
+        at-start .pre .1 .right,
+        c .before .first-variable .ensures,
+        c .if1 .left,
+      ),
+    ))
+    (λ c.
+    let at-first-variable = c .before .before .before in
+    let at-start = at-first-variable .before .before .before .before .before .before .before .before in
+    tile-fits (at-start .args .terms .now) (at-start .args .cells .now) (at-start .args .chars .now) (at-start .args .reasons .now) (at-start .args .keys .now)
+    (at-start .args .c) (at-start .args .word .now) (at-start .args .side .now) _ (at-first-variable .first-variable .ensures) (c .before .before .if1 .left) _
+    (c .before .is-unfit .ensures) (c .if2 .taken))
     (λ c. search needs)
     (λ c. search needs)
     (λ c. search needs)
@@ -19,10 +39,43 @@ tile-sides-spec =
     (λ c. search needs)
     (λ c. search needs)
     (λ c. search needs)
-    (λ c κs. (c .before .before .before .before .before .before .before .before .before .before .before .before .before .before .pre .0, (tile-pairs (c .before .before .before .before .before .before .before .before .before .before .before .before .before .before .args .terms .now) (c .before .before .before .before .before .before .before .before .before .before .before .before .before .before .args .cells .now) (c .before .before .before .before .before .before .before .before .before .before .before .before .before .before .args .chars .now) (c .before .before .before .before .before .before .before .before .before .before .before .before .before .before .args .reasons .now) (c .before .before .before .before .before .before .before .before .before .before .before .before .before .before .args .keys .now) (c .before .before .before .before .before .before .before .before .before .before .before .before .before .before .args .c) (c .before .before .before .before .before .before .before .before .before .before .before .before .before .before .args .word .now) (c .before .before .before .before .before .before .before .before .before .before .before .before .before .before .args .side .now) _ (c .before .before .before .before .before .before .first-variable .ensures) (c .before .before .before .before .before .if1 .left) _ (c .before .before .before .before .is-unfit .ensures) (c .before .before .before .if2 .left) (c .before .before .before .before .before .before .before .before .before .before .before .before .before .before .pre .1 .right), tile-classes (c .before .before .before .before .before .before .before .before .before .before .before .before .before .before .args .terms .now) (c .before .before .before .before .before .before .before .before .before .before .before .before .before .before .args .cells .now) (c .before .before .before .before .before .before .before .before .before .before .before .before .before .before .args .chars .now) (c .before .before .before .before .before .before .before .before .before .before .before .before .before .before .args .reasons .now) (c .before .before .before .before .before .before .before .before .before .before .before .before .before .before .args .keys .now) (c .before .before .before .before .before .before .before .before .before .before .before .before .before .before .args .c) (c .before .before .before .before .before .before .before .before .before .before .before .before .before .before .args .word .now) (c .before .before .before .before .before .before .before .before .before .before .before .before .before .before .args .side .now) _ (c .before .before .before .before .before .before .first-variable .ensures) (c .before .before .before .before .before .if1 .left) _ (c .before .before .before .before .is-unfit .ensures) (c .before .before .before .if2 .left))))
+    (λ c κs.
+    let at-if2 = c .before .before .before in
+    let at-is-unfit = at-if2 .before in
+    let at-if1 = at-is-unfit .before in
+    let at-first-variable = at-if1 .before in
+    let at-start = at-first-variable .before .before .before .before .before .before .before .before in (
+      at-start .pre .0,
+      (
+        tile-pairs (at-start .args .terms .now) (at-start .args .cells .now) (at-start .args .chars .now) (at-start .args .reasons .now) (at-start .args .keys .now)
+            (at-start .args .c) (at-start .args .word .now) (at-start .args .side .now) _ (at-first-variable .first-variable .ensures) (at-if1 .if1 .left) _
+            (at-is-unfit .is-unfit .ensures) (at-if2 .if2 .left) (at-start .pre .1 .right),
+        tile-classes (at-start .args .terms .now) (at-start .args .cells .now) (at-start .args .chars .now) (at-start .args .reasons .now) (at-start .args .keys .now)
+            (at-start .args .c) (at-start .args .word .now) (at-start .args .side .now) _ (at-first-variable .first-variable .ensures) (at-if1 .if1 .left) _
+            (at-is-unfit .is-unfit .ensures) (at-if2 .if2 .left),
+      ),
+    ))
     (λ c. search needs)
     (λ c. search needs)
     (λ c. search needs)
-    (λ c. tile-conflict (c .before .before .before .before .before .before .before .before .before .before .before .before .before .before .before .before .before .before .before .before .args .terms .now) (c .before .before .before .before .before .before .before .before .before .before .before .before .before .before .before .before .before .before .before .before .args .cells .now) (c .before .before .before .before .before .before .before .before .before .before .before .before .before .before .before .before .before .before .before .before .args .chars .now) (c .before .before .before .before .before .before .before .before .before .before .before .before .before .before .before .before .before .before .before .before .args .reasons .now) (c .before .before .before .before .before .before .before .before .before .before .before .before .before .before .before .before .before .before .before .before .args .keys .now) (c .before .before .before .before .before .before .before .before .before .before .before .before .before .before .before .before .before .before .before .before .args .c) (c .before .before .before .before .before .before .before .before .before .before .before .before .before .before .before .before .before .before .before .before .args .word .now) (c .before .before .before .before .before .before .before .before .before .before .before .before .before .before .before .before .before .before .before .before .args .side .now) _ (c .before .before .before .before .before .before .before .before .before .before .before .before .first-variable .ensures) (c .before .before .before .before .before .before .before .before .before .before .before .if1 .left) _ (c .before .before .before .before .before .before .before .before .before .before .is-unfit .ensures) (c .before .before .before .before .before .before .before .before .before .if2 .left) _ _ (c .before .before .before .before .before .explain-all-unchecked .ensures) _ (c .before .d .given .1))
+    (λ c.
+    let at-explain-all-unchecked = c .before .before .before .before .before in
+    let at-if2 = at-explain-all-unchecked .before .before .before .before in
+    let at-is-unfit = at-if2 .before in
+    let at-if1 = at-is-unfit .before in
+    let at-first-variable = at-if1 .before in
+    let at-start = at-first-variable .before .before .before .before .before .before .before .before in
+    tile-conflict (at-start .args .terms .now) (at-start .args .cells .now) (at-start .args .chars .now) (at-start .args .reasons .now) (at-start .args .keys .now)
+    (at-start .args .c) (at-start .args .word .now) (at-start .args .side .now) _ (at-first-variable .first-variable .ensures) (at-if1 .if1 .left) _
+    (at-is-unfit .is-unfit .ensures) (at-if2 .if2 .left) _ _ (at-explain-all-unchecked .explain-all-unchecked .ensures) _ (c .before .d .given .1))
     (λ c. search needs)
-    (λ c. tile-refused (c .before .before .before .before .before .before .before .before .before .before .before .before .before .before .before .before .before .before .before .before .args .terms .now) (c .before .before .before .before .before .before .before .before .before .before .before .before .before .before .before .before .before .before .before .before .args .cells .now) (c .before .before .before .before .before .before .before .before .before .before .before .before .before .before .before .before .before .before .before .before .args .chars .now) (c .before .before .before .before .before .before .before .before .before .before .before .before .before .before .before .before .before .before .before .before .args .reasons .now) (c .before .before .before .before .before .before .before .before .before .before .before .before .before .before .before .before .before .before .before .before .args .keys .now) (c .before .before .before .before .before .before .before .before .before .before .before .before .before .before .before .before .before .before .before .before .args .c) (c .before .before .before .before .before .before .before .before .before .before .before .before .before .before .before .before .before .before .before .before .args .word .now) (c .before .before .before .before .before .before .before .before .before .before .before .before .before .before .before .before .before .before .before .before .args .side .now) _ (c .before .before .before .before .before .before .before .before .before .before .before .before .first-variable .ensures) (c .before .before .before .before .before .before .before .before .before .before .before .if1 .left) _ (c .before .before .before .before .before .before .before .before .before .before .is-unfit .ensures) (c .before .before .before .before .before .before .before .before .before .if2 .left) _ _ (c .before .before .before .before .before .explain-all-unchecked .ensures) _ (c .before .k .given .1)))
+    (λ c.
+    let at-explain-all-unchecked = c .before .before .before .before .before in
+    let at-if2 = at-explain-all-unchecked .before .before .before .before in
+    let at-is-unfit = at-if2 .before in
+    let at-if1 = at-is-unfit .before in
+    let at-first-variable = at-if1 .before in
+    let at-start = at-first-variable .before .before .before .before .before .before .before .before in
+    tile-refused (at-start .args .terms .now) (at-start .args .cells .now) (at-start .args .chars .now) (at-start .args .reasons .now) (at-start .args .keys .now)
+    (at-start .args .c) (at-start .args .word .now) (at-start .args .side .now) _ (at-first-variable .first-variable .ensures) (at-if1 .if1 .left) _
+    (at-is-unfit .is-unfit .ensures) (at-if2 .if2 .left) _ _ (at-explain-all-unchecked .explain-all-unchecked .ensures) _ (c .before .k .given .1)))

@@ -7,4 +7,21 @@ use Rattle.wordeq.proofs.spans.tile_unchecked.Tie as tie
 pub tile-unchecked-spec : {M : Type 1} → statement M
 tile-unchecked-spec =
     tie.close
-    (tie.spec (λ c κs. search needs) (λ c κs. search needs) (λ c κs. (c .before .before .before .before .before .before .before .before .before .before .pre .0, sides-lists (lent (c .before .before .before .before .before .before .before .before .before .before .args .terms .now) (c .before .before .before .before .before .before .before .before .before .before .args .cells .now) (c .before .before .before .before .before .before .before .before .before .before .args .chars .now) (c .before .before .before .before .before .before .before .before .before .before .args .reasons .now) (c .before .before .before .before .before .before .before .before .before .before .args .keys .now)) (c .before .before .before .before .before .before .before .before .before .before .args .c) (c .before .before .before .before .before .before .before .before .before .before .args .lhs .now) (c .before .before .before .before .before .before .before .before .before .before .args .rhs .now) _ _ (c .before .before .constant-side .ensures) (c .before .other-side .ensures) (c .before .before .before .before .before .before .before .before .before .before .pre .1))) (λ c. search needs) (λ c. sides-tried (lent (c .before .before .before .before .before .before .before .before .before .before .before .before .before .args .terms .now) (c .before .before .before .before .before .before .before .before .before .before .before .before .before .args .cells .now) (c .before .before .before .before .before .before .before .before .before .before .before .before .before .args .chars .now) (c .before .before .before .before .before .before .before .before .before .before .before .before .before .args .reasons .now) (c .before .before .before .before .before .before .before .before .before .before .before .before .before .args .keys .now)) (c .before .before .before .before .before .before .before .before .before .before .before .before .before .args .c) (c .before .before .before .before .before .before .before .before .before .before .before .before .before .args .lhs .now) (c .before .before .before .before .before .before .before .before .before .before .before .before .before .args .rhs .now) _ _ (c .before .before .before .before .before .constant-side .ensures) (c .before .before .before .before .other-side .ensures) _ _ (c .before .before .tile-sides .ensures)))
+    (tie.spec
+    (λ c κs. search needs)
+    (λ c κs. search needs)
+    (λ c κs.
+    let at-start = c .before .before .before .before .before .before .before .before .before .before in (
+      at-start .pre .0,
+      sides-lists (lent (at-start .args .terms .now) (at-start .args .cells .now) (at-start .args .chars .now) (at-start .args .reasons .now) (at-start .args .keys .now))
+          (at-start .args .c) (at-start .args .lhs .now) (at-start .args .rhs .now) _ _ (c .before .before .constant-side .ensures) (c .before .other-side .ensures)
+          (at-start .pre .1),
+    ))
+    (λ c. search needs)
+    (λ c.
+    let at-other-side = c .before .before .before .before in
+    let at-constant-side = at-other-side .before in
+    let at-start = at-constant-side .before .before .before .before .before .before .before .before in
+    sides-tried (lent (at-start .args .terms .now) (at-start .args .cells .now) (at-start .args .chars .now) (at-start .args .reasons .now) (at-start .args .keys .now))
+    (at-start .args .c) (at-start .args .lhs .now) (at-start .args .rhs .now) _ _ (at-constant-side .constant-side .ensures) (at-other-side .other-side .ensures) _ _
+    (c .before .before .tile-sides .ensures)))

@@ -23,8 +23,14 @@ variables-length-spec =
     (λ c. search needs)
     (λ c. search needs)
     (λ c κs. search needs)
-    (λ c. let z = tallied-one _ _ _ _ _ (c .before .before .before .loop .inv) (c .before .before .loop-test .taken) (c .variable-count .ensures) in let y = z .small in let x = z .within in omega (arith, c .before .before .before .before .before .before .good))
+    (λ c.
+    let at-loop = c .before .before .before in
+    let at-start = at-loop .before .before .before in
+    let z = tallied-one _ _ _ _ _ (at-loop .loop .inv) (c .before .before .loop-test .taken) (c .variable-count .ensures) in
+    let y = z .small in let x = z .within in omega (arith, at-start .good))
     (λ c. search needs)
     (λ c. search needs)
-    (λ c. tallied-one _ _ _ _ _ (c .before .before .before .loop .inv) (c .before .before .loop-test .taken) (c .variable-count .ensures))
+    (λ c.
+    let at-loop = c .before .before .before in
+    tallied-one _ _ _ _ _ (at-loop .loop .inv) (c .before .before .loop-test .taken) (c .variable-count .ensures))
     (λ c. tallied-all _ _ _ _ (c .before .loop .inv) (c .loop-test .left)))

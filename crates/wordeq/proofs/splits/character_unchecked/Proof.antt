@@ -11,13 +11,26 @@ character-unchecked-spec =
     (λ c. search needs)
     (λ c κs. search needs)
     (λ c. search needs)
-    (λ c κs. (character-ready _ (c .before .before .before .before .before .before .before .before .before .before .before .before .before .before .before .before .before .before .before .before .pre .0) (c .before .before .before .before .before .before .before .before .before .before .before .before .before .before .before .before .before .before .before .before .pre .1) (c .before .before .before .before .before .before .before .before .before .before .make-constant-unchecked .ensures) (c .before .before .before .before .head .given .1) (c .before .before .before .before .before .before .before .before .before .before .make-constant-unchecked .kept .0) refl, character-string _ (c .before .before .before .before .before .before .before .before .before .before .before .before .before .before .before .before .before .before .before .before .pre .0) (c .before .before .before .before .before .before .before .before .before .before .before .before .before .before .before .before .before .before .before .before .pre .1) (c .before .before .before .before .before .before .before .before .before .before .make-constant-unchecked .ensures) (c .before .before .before .before .head .given .1)))
+    (λ c κs.
+    let at-head = c .before .before .before .before in
+    let at-make-constant-unchecked = at-head .before .before .before .before .before .before in
+    let at-start = at-make-constant-unchecked .before .before .before .before .before .before .before .before .before .before in (
+      character-ready _ (at-start .pre .0) (at-start .pre .1) (at-make-constant-unchecked .make-constant-unchecked .ensures) (at-head .head .given .1)
+          (at-make-constant-unchecked .make-constant-unchecked .kept .0) refl,
+      character-string _ (at-start .pre .0) (at-start .pre .1) (at-make-constant-unchecked .make-constant-unchecked .ensures) (at-head .head .given .1),
+    ))
     (λ c. search needs)
     (λ c. search needs)
     (λ c. search needs)
     (λ c. search needs)
-    (λ c. character-done _ _ (c .before .before .before .before .before .before .before .before .before .before .before .before .before .before .before .before .before .make-constant-unchecked .ensures) (c .before .before .before .before .before .before .before .before .before .before .before .head .given .1) (c .before .before .before .before .before .before .prefix-unchecked .ensures))
+    (λ c.
+    let at-prefix-unchecked = c .before .before .before .before .before .before in
+    let at-head = at-prefix-unchecked .before .before .before .before .before in
+    let at-make-constant-unchecked = at-head .before .before .before .before .before .before in
+    character-done _ _ (at-make-constant-unchecked .make-constant-unchecked .ensures) (at-head .head .given .1) (at-prefix-unchecked .prefix-unchecked .ensures))
     (λ c. search needs)
     (λ c. search needs)
     (λ c. search needs)
-    (λ c. character-stop _ _ (c .before .before .before .before .before .before .before .make-constant-unchecked .ensures) (c .before .head2 .given .1)))
+    (λ c.
+    let at-make-constant-unchecked = c .before .before .before .before .before .before .before in
+    character-stop _ _ (at-make-constant-unchecked .make-constant-unchecked .ensures) (c .before .head2 .given .1)))

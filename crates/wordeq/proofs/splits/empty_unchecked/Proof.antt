@@ -11,11 +11,21 @@ empty-unchecked-spec =
     (λ c. search needs)
     (λ c κs. search needs)
     (λ c. search needs)
-    (λ c κs. empty-ready (c .before .before .before .before .before .before .before .before .before .before .before .before .before .before .before .before .before .before .pre) (c .before .before .before .before .before .before .before .before .before .make-constant-unchecked .kept .0) refl (c .before .before .before .before .before .before .before .before .before .make-constant-unchecked .ensures) (c .before .before .before .empty .given .1))
+    (λ c κs.
+    let at-empty = c .before .before .before in
+    let at-make-constant-unchecked = at-empty .before .before .before .before .before .before in
+    let at-start = at-make-constant-unchecked .before .before .before .before .before .before .before .before .before in
+    empty-ready (at-start .pre) (at-make-constant-unchecked .make-constant-unchecked .kept .0) refl (at-make-constant-unchecked .make-constant-unchecked .ensures)
+    (at-empty .empty .given .1))
     (λ c. search needs)
     (λ c. search needs)
     (λ c. search needs)
-    (λ c. empty-done _ (c .before .before .before .before .before .before .before .before .before .before .before .before .make-constant-unchecked .ensures) (c .before .before .before .before .before .before .empty .given .1) (c .before .before .make-equation-unchecked .ensures))
+    (λ c.
+    let at-empty = c .before .before .before .before .before .before in
+    let at-make-constant-unchecked = at-empty .before .before .before .before .before .before in
+    empty-done _ (at-make-constant-unchecked .make-constant-unchecked .ensures) (at-empty .empty .given .1) (c .before .before .make-equation-unchecked .ensures))
     (λ c. search needs)
     (λ c. search needs)
-    (λ c. empty-stop _ (c .before .before .before .before .before .before .before .make-constant-unchecked .ensures) (c .before .empty2 .given .1)))
+    (λ c.
+    let at-make-constant-unchecked = c .before .before .before .before .before .before .before in
+    empty-stop _ (at-make-constant-unchecked .make-constant-unchecked .ensures) (c .before .empty2 .given .1)))

@@ -11,7 +11,17 @@ fresh-str-unchecked-spec =
     (λ c. search needs)
     (λ c. search needs)
     (λ c. named-stop _ (c .before .before .next-name-unchecked .ensures) (c .if1 .taken))
-    (λ c κs. (named-ready _ (c .before .before .before .before .before .before .next-name-unchecked .ensures) (c .before .before .before .before .before .before .before .before .before .before .before .before .before .before .pre) (c .before .before .before .before .if1 .left), (c .before .before .before .before .before .before .next-name-unchecked .ensures .fits, named-new _ (c .before .before .before .before .before .before .next-name-unchecked .ensures) (c .before .before .before .before .if1 .left))))
+    (λ c κs.
+    let at-if1 = c .before .before .before .before in
+    let at-next-name-unchecked = at-if1 .before .before in
+    let at-start = at-next-name-unchecked .before .before .before .before .before .before .before .before in (
+      named-ready _ (at-next-name-unchecked .next-name-unchecked .ensures) (at-start .pre) (at-if1 .if1 .left),
+      (at-next-name-unchecked .next-name-unchecked .ensures .fits, named-new _ (at-next-name-unchecked .next-name-unchecked .ensures) (at-if1 .if1 .left)),
+    ))
     (λ c. search needs)
     (λ c. search needs)
-    (λ c. named-then _ (c .before .before .before .before .before .before .before .before .before .before .before .next-name-unchecked .ensures) (c .before .before .before .before .before .before .before .before .before .if1 .left) (c .before .before .before .before .make-named .ensures)))
+    (λ c.
+    let at-make-named = c .before .before .before .before in
+    let at-if1 = at-make-named .before .before .before .before .before in
+    let at-next-name-unchecked = at-if1 .before .before in
+    named-then _ (at-next-name-unchecked .next-name-unchecked .ensures) (at-if1 .if1 .left) (at-make-named .make-named .ensures)))

@@ -10,14 +10,38 @@ lengths-unchecked-spec =
     (tie.spec
     (λ c κs. search needs)
     (λ c. search needs)
-    (λ c κs. lengths-ready _ (c .before .before .before .before .before .before .before .before .before .before .before .before .before .args .b) (c .before .before .before .before .before .before .before .before .before .before .before .before .before .pre .0) (c .before .before .before .before .before .before .before .before .before .before .before .before .before .pre .1 .0) (c .before .before .before .before .before .before .make-length-unchecked .kept .0) refl (c .before .before .before .before .before .before .make-length-unchecked .ensures) (c .before .before .left .given .1))
+    (λ c κs.
+    let at-make-length-unchecked = c .before .before .before .before .before .before in
+    let at-start = at-make-length-unchecked .before .before .before .before .before .before .before in
+    lengths-ready _ (at-start .args .b) (at-start .pre .0) (at-start .pre .1 .0) (at-make-length-unchecked .make-length-unchecked .kept .0) refl
+    (at-make-length-unchecked .make-length-unchecked .ensures) (c .before .before .left .given .1))
     (λ c. search needs)
-    (λ c κs. lengths-ready-2 _ _ (c .before .before .before .before .before .before .before .before .before .before .before .before .before .before .before .before .before .before .before .before .pre .0) (c .before .before .before .before .before .before .before .before .before .before .before .before .before .before .before .before .before .before .before .before .pre .1 .0) (c .before .before .before .before .before .before .before .before .before .before .before .before .before .make-length-unchecked .kept .0) refl (c .before .before .before .before .before .before .before .before .before .before .before .before .before .make-length-unchecked .ensures) (c .before .before .before .before .before .before .before .before .before .left .given .1) (c .before .before .before .before .before .before .before .before .before .before .before .before .before .before .before .before .before .before .before .before .pre .1 .1) (c .before .before .before .before .before .before .make-length-unchecked2 .kept .0) refl (c .before .before .before .before .before .before .make-length-unchecked2 .ensures) (c .before .before .right .given .1))
+    (λ c κs.
+    let at-make-length-unchecked2 = c .before .before .before .before .before .before in
+    let at-left = at-make-length-unchecked2 .before .before .before in
+    let at-make-length-unchecked = at-left .before .before .before .before in
+    let at-start = at-make-length-unchecked .before .before .before .before .before .before .before in
+    lengths-ready-2 _ _ (at-start .pre .0) (at-start .pre .1 .0) (at-make-length-unchecked .make-length-unchecked .kept .0) refl
+    (at-make-length-unchecked .make-length-unchecked .ensures) (at-left .left .given .1) (at-start .pre .1 .1) (at-make-length-unchecked2 .make-length-unchecked2 .kept .0) refl
+    (at-make-length-unchecked2 .make-length-unchecked2 .ensures) (c .before .before .right .given .1))
     (λ c. search needs)
     (λ c. search needs)
     (λ c. search needs)
-    (λ c. lengths-done _ _ (c .before .before .before .before .before .before .before .before .before .before .before .before .before .before .before .before .make-length-unchecked .ensures) (c .before .before .before .before .before .before .before .before .before .before .before .before .left .given .1) (c .before .before .before .before .before .before .before .before .before .make-length-unchecked2 .ensures) (c .before .before .before .before .before .right .given .1) (c .before .before .make-equation-unchecked .ensures))
+    (λ c.
+    let at-right = c .before .before .before .before .before in
+    let at-make-length-unchecked2 = at-right .before .before .before .before in
+    let at-left = at-make-length-unchecked2 .before .before .before in
+    let at-make-length-unchecked = at-left .before .before .before .before in
+    lengths-done _ _ (at-make-length-unchecked .make-length-unchecked .ensures) (at-left .left .given .1) (at-make-length-unchecked2 .make-length-unchecked2 .ensures)
+    (at-right .right .given .1) (c .before .before .make-equation-unchecked .ensures))
     (λ c. search needs)
-    (λ c. lengths-stop-2 _ _ (c .before .before .before .before .before .before .before .before .before .before .before .before .make-length-unchecked .ensures) (c .before .before .before .before .before .before .before .before .left .given .1) (c .before .before .before .before .before .make-length-unchecked2 .ensures) (c .before .right2 .given .1))
+    (λ c.
+    let at-make-length-unchecked2 = c .before .before .before .before .before in
+    let at-left = at-make-length-unchecked2 .before .before .before in
+    let at-make-length-unchecked = at-left .before .before .before .before in
+    lengths-stop-2 _ _ (at-make-length-unchecked .make-length-unchecked .ensures) (at-left .left .given .1) (at-make-length-unchecked2 .make-length-unchecked2 .ensures)
+    (c .before .right2 .given .1))
     (λ c. search needs)
-    (λ c. lengths-stop _ _ (c .before .before .before .before .before .make-length-unchecked .ensures) (c .before .left2 .given .1)))
+    (λ c.
+    let at-make-length-unchecked = c .before .before .before .before .before in
+    lengths-stop _ _ (at-make-length-unchecked .make-length-unchecked .ensures) (c .before .left2 .given .1)))

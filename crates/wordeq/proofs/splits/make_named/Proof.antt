@@ -9,7 +9,10 @@ pub make-named-spec : {M : Type 1} → statement M
 make-named-spec =
     tie.close
     (tie.spec
-    (λ c. sym (length-take-le (c .before .before .before .before .before .before .before .before .before .args .len) (c .before .before .before .before .before .before .before .before .before .args .name .now) (let n = c .before .before .before .all .given .0 in let h = c .before .before .before .before .before .before .before .before .before .pre .1 .0 in omega arith)))
+    (λ c.
+    let at-all = c .before .before .before in
+    let at-start = at-all .before .before .before .before .before .before in
+    sym (length-take-le (at-start .args .len) (at-start .args .name .now) (let n = at-all .all .given .0 in let h = at-start .pre .1 .0 in omega arith)))
     (λ c κs. search needs)
     (λ c. search needs)
     (λ c. search needs)

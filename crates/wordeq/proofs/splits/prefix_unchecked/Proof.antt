@@ -15,20 +15,52 @@ prefix-unchecked-spec =
     (λ c κs. search needs)
     (λ c. search needs)
     slice-aggregate-make-concatenation-unchecked
-    (λ c κs. prefix-ready (c .before .before .before .before .before .before .before .before .before .before .before .before .before .before .before .before .before .before .before .before .pre .0) (c .before .before .before .before .before .before .before .before .before .before .before .fresh-str-unchecked .kept .0) refl (c .before .before .before .before .before .before .before .before .before .before .before .fresh-str-unchecked .ensures) (c .before .before .before .before .before .fresh .given .1))
+    (λ c κs.
+    let at-fresh = c .before .before .before .before .before in
+    let at-fresh-str-unchecked = at-fresh .before .before .before .before .before .before in
+    let at-start = at-fresh-str-unchecked .before .before .before .before .before .before .before .before .before in
+    prefix-ready (at-start .pre .0) (at-fresh-str-unchecked .fresh-str-unchecked .kept .0) refl (at-fresh-str-unchecked .fresh-str-unchecked .ensures)
+    (at-fresh .fresh .given .1))
     (λ c. search needs)
-    (λ c κs. prefix-ready-2 (c .before .before .before .before .before .before .before .before .before .before .before .before .before .before .before .before .before .before .before .before .before .before .before .before .before .before .before .before .before .before .before .pre .0) (c .before .before .before .before .before .before .before .before .before .before .before .before .before .before .before .before .before .before .before .before .before .before .fresh-str-unchecked .kept .0) refl (c .before .before .before .before .before .before .before .before .before .before .before .before .before .before .before .before .before .before .before .before .before .before .fresh-str-unchecked .ensures) (c .before .before .before .before .before .before .before .before .before .before .before .before .before .before .before .before .fresh .given .1) _ (c .before .before .before .before .before .before .before .before .before .before .before .before .before .before .before .before .before .before .before .before .before .before .before .before .before .before .before .before .before .before .before .pre .1) (c .before .before .before .before .before .before .before .before .before .before .make-concatenation-unchecked .kept .0) (c .before .before .before .before .before .before .before .before .before .before .make-concatenation-unchecked .kept .1 .0) (c .before .before .before .before .before .before .before .before .before .before .make-concatenation-unchecked .ensures) (c .before .before .before .before .whole .given .1))
+    (λ c κs.
+    let at-whole = c .before .before .before .before in
+    let at-make-concatenation-unchecked = at-whole .before .before .before .before .before .before in
+    let at-fresh = at-make-concatenation-unchecked .before .before .before .before .before .before in
+    let at-fresh-str-unchecked = at-fresh .before .before .before .before .before .before in
+    let at-start = at-fresh-str-unchecked .before .before .before .before .before .before .before .before .before in
+    prefix-ready-2 (at-start .pre .0) (at-fresh-str-unchecked .fresh-str-unchecked .kept .0) refl (at-fresh-str-unchecked .fresh-str-unchecked .ensures)
+    (at-fresh .fresh .given .1) _ (at-start .pre .1) (at-make-concatenation-unchecked .make-concatenation-unchecked .kept .0)
+    (at-make-concatenation-unchecked .make-concatenation-unchecked .kept .1 .0) (at-make-concatenation-unchecked .make-concatenation-unchecked .ensures)
+    (at-whole .whole .given .1))
     (λ c. search needs)
     (λ c. search needs)
-    (λ c. c .before .before .make-equation-unchecked .kept .0 ∙ c .before .before .before .before .before .before .before .before .before .before .before .before .before .make-concatenation-unchecked .kept .0 ∙ c .before .before .before .before .before .before .before .before .before .before .before .before .before .before .before .before .before .before .before .before .before .before .before .before .before .fresh-str-unchecked .kept .0)
+    (λ c.
+    let at-make-concatenation-unchecked = c .before .before .before .before .before .before .before .before .before .before .before .before .before in
+    let at-fresh-str-unchecked = at-make-concatenation-unchecked .before .before .before .before .before .before .before .before .before .before .before .before in
+    c .before .before .make-equation-unchecked .kept .0
+    ∙ at-make-concatenation-unchecked .make-concatenation-unchecked .kept .0
+    ∙ at-fresh-str-unchecked .fresh-str-unchecked .kept .0)
     (λ c. search needs)
     (λ c. search needs)
-    (λ c. prefix-done _ _ (c .before .before .before .before .before .before .before .before .before .before .before .before .before .before .before .before .before .before .before .before .before .before .before .before .before .fresh-str-unchecked .ensures) (c .before .before .before .before .before .before .before .before .before .before .before .before .before .before .before .before .before .before .before .fresh .given .1) (c .before .before .before .before .before .before .before .before .before .before .before .before .before .make-concatenation-unchecked .ensures) (c .before .before .before .before .before .before .before .whole .given .1) (c .before .before .make-equation-unchecked .ensures))
+    (λ c.
+    let at-whole = c .before .before .before .before .before .before .before in
+    let at-make-concatenation-unchecked = at-whole .before .before .before .before .before .before in
+    let at-fresh = at-make-concatenation-unchecked .before .before .before .before .before .before in
+    let at-fresh-str-unchecked = at-fresh .before .before .before .before .before .before in
+    prefix-done _ _ (at-fresh-str-unchecked .fresh-str-unchecked .ensures) (at-fresh .fresh .given .1) (at-make-concatenation-unchecked .make-concatenation-unchecked .ensures)
+    (at-whole .whole .given .1) (c .before .before .make-equation-unchecked .ensures))
     (λ c. search needs)
     (λ c. search needs)
     (λ c. search needs)
-    (λ c. prefix-stop-2 _ _ (c .before .before .before .before .before .before .before .before .before .before .before .before .before .before .before .before .before .before .before .fresh-str-unchecked .ensures) (c .before .before .before .before .before .before .before .before .before .before .before .before .before .fresh .given .1) (c .before .before .before .before .before .before .before .make-concatenation-unchecked .ensures) (c .before .whole2 .given .1))
+    (λ c.
+    let at-make-concatenation-unchecked = c .before .before .before .before .before .before .before in
+    let at-fresh = at-make-concatenation-unchecked .before .before .before .before .before .before in
+    let at-fresh-str-unchecked = at-fresh .before .before .before .before .before .before in
+    prefix-stop-2 _ _ (at-fresh-str-unchecked .fresh-str-unchecked .ensures) (at-fresh .fresh .given .1)
+    (at-make-concatenation-unchecked .make-concatenation-unchecked .ensures) (c .before .whole2 .given .1))
     (λ c. search needs)
     (λ c. search needs)
     (λ c. search needs)
-    (λ c. prefix-stop _ _ (c .before .before .before .before .before .before .before .fresh-str-unchecked .ensures) (c .before .fresh2 .given .1)))
+    (λ c.
+    let at-fresh-str-unchecked = c .before .before .before .before .before .before .before in
+    prefix-stop _ _ (at-fresh-str-unchecked .fresh-str-unchecked .ensures) (c .before .fresh2 .given .1)))

@@ -11,23 +11,49 @@ put-prefixes-spec =
     (tie.spec
     (λ c κs. search needs)
     (λ c. search needs)
-    (λ c κs. (prefixes-ready _ _ (c .before .before .before .before .before .before .before .before .before .before .before .before .before .before .before .before .before .before .before .before .before .before .pre .0) (c .before .before .before .before .before .before .before .before .before .before .before .before .before .before .before .before .before .before .before .before .before .before .pre .1 .0) (c .before .before .before .before .before .before .before .before .before .before .before .before .before .before .before .before .before .before .before .before .before .before .pre .1 .1 .0) (c .before .before .before .before .before .before .before .before .before .before .before .before .prefix-unchecked .ensures) (c .before .before .before .before .first .given .1) (c .before .before .before .before .before .before .before .before .before .before .before .before .prefix-unchecked .kept .0) (c .before .before .before .before .before .before .before .before .before .before .before .before .prefix-unchecked .kept .1 .0), prefixes-string _ _ (c .before .before .before .before .before .before .before .before .before .before .before .before .before .before .before .before .before .before .before .before .before .before .pre .0) (c .before .before .before .before .before .before .before .before .before .before .before .before .before .before .before .before .before .before .before .before .before .before .pre .1 .0) (c .before .before .before .before .before .before .before .before .before .before .before .before .before .before .before .before .before .before .before .before .before .before .pre .1 .1 .0) (c .before .before .before .before .before .before .before .before .before .before .before .before .prefix-unchecked .ensures) (c .before .before .before .before .first .given .1)))
+    (λ c κs.
+    let at-first = c .before .before .before .before in
+    let at-prefix-unchecked = at-first .before .before .before .before .before .before .before .before in
+    let at-start = at-prefix-unchecked .before .before .before .before .before .before .before .before .before .before in (
+      prefixes-ready _ _ (at-start .pre .0) (at-start .pre .1 .0) (at-start .pre .1 .1 .0) (at-prefix-unchecked .prefix-unchecked .ensures) (at-first .first .given .1)
+          (at-prefix-unchecked .prefix-unchecked .kept .0) (at-prefix-unchecked .prefix-unchecked .kept .1 .0),
+      prefixes-string _ _ (at-start .pre .0) (at-start .pre .1 .0) (at-start .pre .1 .1 .0) (at-prefix-unchecked .prefix-unchecked .ensures) (at-first .first .given .1),
+    ))
     (λ c. search needs)
-    (λ c. let h = c .before .before .before .before .before .before .before .before .before .before .before .before .before .before .before .before .before .before .before .before .before .before .before .before .before .before .before .before .before .before .before .before .pre .1 .1 .1 in omega arith)
-    (λ c. let h = c .before .before .before .before .before .before .before .before .before .before .before .before .before .before .before .before .before .before .before .before .before .before .before .before .before .before .before .before .before .before .before .before .pre .1 .1 .1 in simp length-set (omega arith))
-    (λ c. let h = c .before .before .before .before .before .before .before .before .before .before .before .before .before .before .before .before .before .before .before .before .before .before .before .before .before .before .before .before .before .before .before .before .pre .1 .1 .1 in simp length-set (omega arith))
+    (λ c.
+    let at-start = c .before .before .before .before .before .before .before .before .before .before .before .before .before .before .before .before .before .before .before .before .before .before .before .before .before .before .before .before .before .before .before .before in
+    let h = at-start .pre .1 .1 .1 in omega arith)
+    (λ c.
+    let at-start = c .before .before .before .before .before .before .before .before .before .before .before .before .before .before .before .before .before .before .before .before .before .before .before .before .before .before .before .before .before .before .before .before in
+    let h = at-start .pre .1 .1 .1 in simp length-set (omega arith))
+    (λ c.
+    let at-start = c .before .before .before .before .before .before .before .before .before .before .before .before .before .before .before .before .before .before .before .before .before .before .before .before .before .before .before .before .before .before .before .before in
+    let h = at-start .pre .1 .1 .1 in simp length-set (omega arith))
     (λ c. search needs)
     (λ c. search needs)
     (λ c. search needs)
     (λ c. search needs)
     (λ c. search needs)
     (λ c. search needs)
-    (λ c. prefixes-done _ _ _ (c .before .before .before .before .before .before .before .before .before .before .before .before .before .before .before .before .before .before .before .before .before .before .prefix-unchecked .ensures) (c .before .before .before .before .before .before .before .before .before .before .before .before .before .before .first .given .1) (c .before .before .before .before .before .before .before .before .before .prefix-unchecked2 .ensures) (c .before .before .before .before .before .before .before .before .before .before .before .before .before .before .before .before .before .before .before .before .before .before .before .before .before .before .before .before .before .before .before .before .args .list .now) (c .before .before .before .before .before .before .before .before .before .before .before .before .before .before .before .before .before .before .before .before .before .before .before .before .before .before .before .before .before .before .before .before .pre .1 .1 .1) (c .before .second .given .1))
+    (λ c.
+    let at-prefix-unchecked2 = c .before .before .before .before .before .before .before .before .before in
+    let at-first = at-prefix-unchecked2 .before .before .before .before .before in
+    let at-prefix-unchecked = at-first .before .before .before .before .before .before .before .before in
+    let at-start = at-prefix-unchecked .before .before .before .before .before .before .before .before .before .before in
+    prefixes-done _ _ _ (at-prefix-unchecked .prefix-unchecked .ensures) (at-first .first .given .1) (at-prefix-unchecked2 .prefix-unchecked2 .ensures)
+    (at-start .args .list .now) (at-start .pre .1 .1 .1) (c .before .second .given .1))
     (λ c. search needs)
     (λ c. search needs)
     (λ c. search needs)
-    (λ c. prefixes-stop-2 _ _ _ (c .before .before .before .before .before .before .before .before .before .before .before .before .before .before .before .before .before .before .before .before .before .before .prefix-unchecked .ensures) (c .before .before .before .before .before .before .before .before .before .before .before .before .before .before .first .given .1) (c .before .before .before .before .before .before .before .before .before .prefix-unchecked2 .ensures) (c .before .second2 .given .1))
+    (λ c.
+    let at-prefix-unchecked2 = c .before .before .before .before .before .before .before .before .before in
+    let at-first = at-prefix-unchecked2 .before .before .before .before .before in
+    let at-prefix-unchecked = at-first .before .before .before .before .before .before .before .before in
+    prefixes-stop-2 _ _ _ (at-prefix-unchecked .prefix-unchecked .ensures) (at-first .first .given .1) (at-prefix-unchecked2 .prefix-unchecked2 .ensures)
+    (c .before .second2 .given .1))
     (λ c. search needs)
     (λ c. search needs)
     (λ c. search needs)
-    (λ c. prefixes-stop _ _ _ (c .before .before .before .before .before .before .before .before .before .prefix-unchecked .ensures) (c .before .first2 .given .1)))
+    (λ c.
+    let at-prefix-unchecked = c .before .before .before .before .before .before .before .before .before in
+    prefixes-stop _ _ _ (at-prefix-unchecked .prefix-unchecked .ensures) (c .before .first2 .given .1)))

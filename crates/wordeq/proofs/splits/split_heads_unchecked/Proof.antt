@@ -10,14 +10,34 @@ split-heads-unchecked-spec =
     (tie.spec
     (λ c κs. search needs)
     (λ c. search needs)
-    (λ c κs. (heads-ready _ _ (c .before .before .before .before .before .before .before .before .before .before .before .before .before .before .before .before .before .before .before .pre .0) (c .before .before .before .before .before .before .before .before .before .before .before .before .before .before .before .before .before .before .before .pre .1 .0) (c .before .before .before .before .before .before .before .before .before .before .before .before .before .before .before .before .before .before .before .pre .1 .1 .0) (c .before .before .before .before .before .before .before .before .before .lengths-unchecked .ensures) (c .before .before .before .before .before .lengths .given .1) (c .before .before .before .before .before .before .before .before .before .lengths-unchecked .kept .0) refl, (heads-string _ _ (c .before .before .before .before .before .before .before .before .before .before .before .before .before .before .before .before .before .before .before .pre .0) (c .before .before .before .before .before .before .before .before .before .before .before .before .before .before .before .before .before .before .before .pre .1 .0) (c .before .before .before .before .before .before .before .before .before .before .before .before .before .before .before .before .before .before .before .pre .1 .1 .0) (c .before .before .before .before .before .before .before .before .before .lengths-unchecked .ensures) (c .before .before .before .before .before .lengths .given .1), (heads-string-2 _ _ (c .before .before .before .before .before .before .before .before .before .before .before .before .before .before .before .before .before .before .before .pre .0) (c .before .before .before .before .before .before .before .before .before .before .before .before .before .before .before .before .before .before .before .pre .1 .0) (c .before .before .before .before .before .before .before .before .before .before .before .before .before .before .before .before .before .before .before .pre .1 .1 .0) (c .before .before .before .before .before .before .before .before .before .lengths-unchecked .ensures) (c .before .before .before .before .before .lengths .given .1), c .before .before .before .before .before .before .before .before .before .before .before .before .before .before .before .before .before .before .before .pre .1 .1 .1))))
+    (λ c κs.
+    let at-lengths = c .before .before .before .before .before in
+    let at-lengths-unchecked = at-lengths .before .before .before .before in
+    let at-start = at-lengths-unchecked .before .before .before .before .before .before .before .before .before .before in (
+      heads-ready _ _ (at-start .pre .0) (at-start .pre .1 .0) (at-start .pre .1 .1 .0) (at-lengths-unchecked .lengths-unchecked .ensures) (at-lengths .lengths .given .1)
+          (at-lengths-unchecked .lengths-unchecked .kept .0) refl,
+      (
+        heads-string _ _ (at-start .pre .0) (at-start .pre .1 .0) (at-start .pre .1 .1 .0) (at-lengths-unchecked .lengths-unchecked .ensures) (at-lengths .lengths .given .1),
+        (
+          heads-string-2 _ _ (at-start .pre .0) (at-start .pre .1 .0) (at-start .pre .1 .1 .0) (at-lengths-unchecked .lengths-unchecked .ensures)
+              (at-lengths .lengths .given .1),
+          at-start .pre .1 .1 .1,
+        ),
+      ),
+    ))
     (λ c. search needs)
     (λ c. search needs)
     (λ c. search needs)
     (λ c. search needs)
     (λ c. search needs)
-    (λ c. heads-done _ _ (c .before .before .before .before .before .before .before .before .before .before .before .before .before .before .before .before .before .before .lengths-unchecked .ensures) (c .before .before .before .before .before .before .before .before .before .before .before .before .before .before .lengths .given .1) (c .before .before .before .before .before .before .before .before .put-prefixes .ensures))
+    (λ c.
+    let at-put-prefixes = c .before .before .before .before .before .before .before .before in
+    let at-lengths = at-put-prefixes .before .before .before .before .before .before in
+    let at-lengths-unchecked = at-lengths .before .before .before .before in
+    heads-done _ _ (at-lengths-unchecked .lengths-unchecked .ensures) (at-lengths .lengths .given .1) (at-put-prefixes .put-prefixes .ensures))
     (λ c. search needs)
     (λ c. search needs)
     (λ c. search needs)
-    (λ c. heads-stop _ _ (c .before .before .before .before .before .lengths-unchecked .ensures) (c .before .lengths2 .given .1)))
+    (λ c.
+    let at-lengths-unchecked = c .before .before .before .before .before in
+    heads-stop _ _ (at-lengths-unchecked .lengths-unchecked .ensures) (c .before .lengths2 .given .1)))

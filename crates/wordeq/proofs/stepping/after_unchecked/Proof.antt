@@ -18,8 +18,16 @@ after-unchecked-spec =
     (λ c. search needs)
     (λ c. search needs)
     (λ c. search needs)
-    (λ c. after-early (c .before .before .before .before .before .before .before .before .before .before .before .before .before .before .before .before .before .args .lhs .now) (c .before .before .before .before .before .before .before .before .before .before .before .before .before .before .before .before .before .args .rhs .now) (c .before .before .before .before .before .before .before .before .before .before .before .before .before .before .before .before .before .args .guard) (c .before .before .before .before .before .before .before .before .before .before .before .before .before .before .before .before .before .args .added) (c .before .before .before .conflicts-unchecked .ensures) (last-of (c .before .before .before .conflicts-unchecked .result) (c .match .keys2)) (c .before .before .before .before .before .before .before .before .before .before .before .before .before .before .before .before .before .args .list .now))
-    (λ c κs. let x = passed-on (conflicts-goes (c .before .before .before .before .before .before .before .before .before .before .before .before .before .before .before .before .before .before .before .before .before .before .before .before .args .lhs .now) (c .before .before .before .before .before .before .before .before .before .before .before .before .before .before .before .before .before .before .before .before .before .before .before .before .args .rhs .now)) (c .before .before .before .before .before .before .before .before .before .before .conflicts-unchecked .ensures) (c .before .before .before .before .before .before .early .given .1) refl refl (lined (c .before .before .before .before .before .before .before .before .before .before .before .before .before .before .before .before .before .before .before .before .before .before .before .before .pre .0) (c .before .before .before .before .before .before .before .before .before .before .before .before .before .before .before .before .before .before .before .before .before .before .before .before .pre .1 .0)) in
+    (λ c.
+    let at-conflicts-unchecked = c .before .before .before in
+    let at-start = at-conflicts-unchecked .before .before .before .before .before .before .before .before .before .before .before .before .before .before in
+    after-early (at-start .args .lhs .now) (at-start .args .rhs .now) (at-start .args .guard) (at-start .args .added) (at-conflicts-unchecked .conflicts-unchecked .ensures)
+    (last-of (at-conflicts-unchecked .conflicts-unchecked .result) (c .match .keys2)) (at-start .args .list .now))
+    (λ c κs.
+    let at-early = c .before .before .before .before .before .before in
+    let at-conflicts-unchecked = at-early .before .before .before .before in
+    let at-start = at-conflicts-unchecked .before .before .before .before .before .before .before .before .before .before .before .before .before .before in
+    let x = passed-on (conflicts-goes (at-start .args .lhs .now) (at-start .args .rhs .now)) (at-conflicts-unchecked .conflicts-unchecked .ensures) (at-early .early .given .1) refl refl (lined (at-start .pre .0) (at-start .pre .1 .0)) in
     (x .ready, x .lists))
     (λ c. search needs)
     (λ c. search needs)
@@ -27,28 +35,81 @@ after-unchecked-spec =
     (λ c. search needs)
     (λ c. search needs)
     (λ c. search needs)
-    (λ c. after-known (c .before .before .before .before .before .before .before .before .before .before .before .before .before .before .before .before .before .before .before .before .before .before .before .before .before .before .before .before .before .before .args .lhs .now) (c .before .before .before .before .before .before .before .before .before .before .before .before .before .before .before .before .before .before .before .before .before .before .before .before .before .before .before .before .before .before .args .rhs .now) (c .before .before .before .before .before .before .before .before .before .before .before .before .before .before .before .before .before .before .before .before .before .before .before .before .before .before .before .before .before .before .args .guard) (c .before .before .before .before .before .before .before .before .before .before .before .before .before .before .before .before .before .before .before .before .before .before .before .before .before .before .before .before .before .before .args .added) (c .before .before .before .before .before .before .before .before .before .before .before .before .before .before .before .before .conflicts-unchecked .ensures) (c .before .before .before .before .before .before .before .before .before .before .before .before .early .given .1) (c .before .before .before .before .before .propagate-unchecked .ensures)
-    (last-of (c .before .before .before .before .before .propagate-unchecked .result) (c .match2 .keys2)) (c .before .before .before .before .before .before .before .before .before .before .before .before .before .before .before .before .before .before .before .before .before .before .before .before .before .before .before .before .before .before .args .list .now))
-    (λ c κs. let x = passed-on (conflicts-goes (c .before .before .before .before .before .before .before .before .before .before .before .before .before .before .before .before .before .before .before .before .before .before .before .before .before .before .before .before .before .before .before .before .before .before .before .before .before .args .lhs .now) (c .before .before .before .before .before .before .before .before .before .before .before .before .before .before .before .before .before .before .before .before .before .before .before .before .before .before .before .before .before .before .before .before .before .before .before .before .before .args .rhs .now)) (c .before .before .before .before .before .before .before .before .before .before .before .before .before .before .before .before .before .before .before .before .before .before .before .conflicts-unchecked .ensures) (c .before .before .before .before .before .before .before .before .before .before .before .before .before .before .before .before .before .before .before .early .given .1) refl refl (lined (c .before .before .before .before .before .before .before .before .before .before .before .before .before .before .before .before .before .before .before .before .before .before .before .before .before .before .before .before .before .before .before .before .before .before .before .before .before .pre .0) (c .before .before .before .before .before .before .before .before .before .before .before .before .before .before .before .before .before .before .before .before .before .before .before .before .before .before .before .before .before .before .before .before .before .before .before .before .before .pre .1 .0)) in
-    let y = passed-on (propagates-goes (c .before .before .before .before .before .before .before .before .before .before .before .before .before .before .before .before .before .before .before .before .before .before .before .before .before .before .before .before .before .before .before .before .before .before .before .before .before .args .lhs .now) (c .before .before .before .before .before .before .before .before .before .before .before .before .before .before .before .before .before .before .before .before .before .before .before .before .before .before .before .before .before .before .before .before .before .before .before .before .before .args .rhs .now)) (c .before .before .before .before .before .before .before .before .before .before .before .before .propagate-unchecked .ensures) (c .before .before .before .before .before .before .known .given .1) (c .before .before .before .before .before .before .before .before .before .before .before .before .propagate-unchecked .kept .0) refl x in
+    (λ c.
+    let at-propagate-unchecked = c .before .before .before .before .before in
+    let at-early = at-propagate-unchecked .before .before .before .before .before .before .before in
+    let at-conflicts-unchecked = at-early .before .before .before .before in
+    let at-start = at-conflicts-unchecked .before .before .before .before .before .before .before .before .before .before .before .before .before .before in
+    after-known (at-start .args .lhs .now) (at-start .args .rhs .now) (at-start .args .guard) (at-start .args .added) (at-conflicts-unchecked .conflicts-unchecked .ensures) (at-early .early .given .1) (at-propagate-unchecked .propagate-unchecked .ensures)
+    (last-of (at-propagate-unchecked .propagate-unchecked .result) (c .match2 .keys2)) (at-start .args .list .now))
+    (λ c κs.
+    let at-known = c .before .before .before .before .before .before in
+    let at-propagate-unchecked = at-known .before .before .before .before .before .before in
+    let at-early = at-propagate-unchecked .before .before .before .before .before .before .before in
+    let at-conflicts-unchecked = at-early .before .before .before .before in
+    let at-start = at-conflicts-unchecked .before .before .before .before .before .before .before .before .before .before .before .before .before .before in
+    let x = passed-on (conflicts-goes (at-start .args .lhs .now) (at-start .args .rhs .now)) (at-conflicts-unchecked .conflicts-unchecked .ensures) (at-early .early .given .1) refl refl (lined (at-start .pre .0) (at-start .pre .1 .0)) in
+    let y = passed-on (propagates-goes (at-start .args .lhs .now) (at-start .args .rhs .now)) (at-propagate-unchecked .propagate-unchecked .ensures) (at-known .known .given .1) (at-propagate-unchecked .propagate-unchecked .kept .0) refl x in
     (y .ready, y .lists))
     (λ c. search needs)
     (λ c. search needs)
     (λ c. search needs)
     (λ c. search needs)
-    (λ c. c .before .before .before .tile-unchecked .kept .1 .1 .1 .0 ∙ c .before .before .before .before .before .before .before .before .before .before .before .before .before .before .before .before .before .before .before .before .before .before .before .before .before .before .before .conflicts-unchecked .kept .1 .1 .1 .0)
+    (λ c.
+    let at-tile-unchecked = c .before .before .before in
+    let at-conflicts-unchecked = at-tile-unchecked .before .before .before .before .before .before .before .before .before .before .before .before .before .before .before .before .before .before .before .before .before .before .before .before in
+    at-tile-unchecked .tile-unchecked .kept .1 .1 .1 .0 ∙ at-conflicts-unchecked .conflicts-unchecked .kept .1 .1 .1 .0)
     (λ c. search needs)
-    (λ c. after-tiled (c .before .before .before .before .before .before .before .before .before .before .before .before .before .before .before .before .before .before .before .before .before .before .before .before .before .before .before .before .before .before .before .before .before .before .before .before .before .before .before .before .before .args .lhs .now) (c .before .before .before .before .before .before .before .before .before .before .before .before .before .before .before .before .before .before .before .before .before .before .before .before .before .before .before .before .before .before .before .before .before .before .before .before .before .before .before .before .before .args .rhs .now) (c .before .before .before .before .before .before .before .before .before .before .before .before .before .before .before .before .before .before .before .before .before .before .before .before .before .before .before .before .before .before .before .before .before .before .before .before .before .before .before .before .before .args .guard) (c .before .before .before .before .before .before .before .before .before .before .before .before .before .before .before .before .before .before .before .before .before .before .before .before .before .before .before .before .before .before .before .before .before .before .before .before .before .before .before .before .before .args .added) (c .before .before .before .before .before .before .before .before .before .before .before .before .before .before .before .before .before .before .before .before .before .before .before .before .before .before .before .conflicts-unchecked .ensures) (c .before .before .before .before .before .before .before .before .before .before .before .before .before .before .before .before .before .before .before .before .before .before .before .early .given .1) (c .before .before .before .before .before .before .before .before .before .before .before .before .before .before .before .before .propagate-unchecked .ensures) (c .before .before .before .before .before .before .before .before .before .before .known .given .1)
-    (c .before .before .before .tile-unchecked .ensures) (last-of (c .before .before .before .tile-unchecked .result) (c .match3 .keys2)) (c .before .before .before .before .before .before .before .before .before .before .before .before .before .before .before .before .before .before .before .before .before .before .before .before .before .before .before .before .before .before .before .before .before .before .before .before .before .before .before .before .before .args .list .now))
-    (λ c κs. let x = passed-on (conflicts-goes (c .before .before .before .before .before .before .before .before .before .before .before .before .before .before .before .before .before .before .before .before .before .before .before .before .before .before .before .before .before .before .before .before .before .before .before .before .before .before .before .before .before .before .before .before .before .before .before .before .before .args .lhs .now) (c .before .before .before .before .before .before .before .before .before .before .before .before .before .before .before .before .before .before .before .before .before .before .before .before .before .before .before .before .before .before .before .before .before .before .before .before .before .before .before .before .before .before .before .before .before .before .before .before .before .args .rhs .now)) (c .before .before .before .before .before .before .before .before .before .before .before .before .before .before .before .before .before .before .before .before .before .before .before .before .before .before .before .before .before .before .before .before .before .before .before .conflicts-unchecked .ensures) (c .before .before .before .before .before .before .before .before .before .before .before .before .before .before .before .before .before .before .before .before .before .before .before .before .before .before .before .before .before .before .before .early .given .1) refl refl (lined (c .before .before .before .before .before .before .before .before .before .before .before .before .before .before .before .before .before .before .before .before .before .before .before .before .before .before .before .before .before .before .before .before .before .before .before .before .before .before .before .before .before .before .before .before .before .before .before .before .before .pre .0) (c .before .before .before .before .before .before .before .before .before .before .before .before .before .before .before .before .before .before .before .before .before .before .before .before .before .before .before .before .before .before .before .before .before .before .before .before .before .before .before .before .before .before .before .before .before .before .before .before .before .pre .1 .0)) in
-    let y = passed-on (propagates-goes (c .before .before .before .before .before .before .before .before .before .before .before .before .before .before .before .before .before .before .before .before .before .before .before .before .before .before .before .before .before .before .before .before .before .before .before .before .before .before .before .before .before .before .before .before .before .before .before .before .before .args .lhs .now) (c .before .before .before .before .before .before .before .before .before .before .before .before .before .before .before .before .before .before .before .before .before .before .before .before .before .before .before .before .before .before .before .before .before .before .before .before .before .before .before .before .before .before .before .before .before .before .before .before .before .args .rhs .now)) (c .before .before .before .before .before .before .before .before .before .before .before .before .before .before .before .before .before .before .before .before .before .before .before .before .propagate-unchecked .ensures) (c .before .before .before .before .before .before .before .before .before .before .before .before .before .before .before .before .before .before .known .given .1) (c .before .before .before .before .before .before .before .before .before .before .before .before .before .before .before .before .before .before .before .before .before .before .before .before .propagate-unchecked .kept .0) refl x in
-    let z = passed-on (tiles-goes (c .before .before .before .before .before .before .before .before .before .before .before .before .before .before .before .before .before .before .before .before .before .before .before .before .before .before .before .before .before .before .before .before .before .before .before .before .before .before .before .before .before .before .before .before .before .before .before .before .before .args .lhs .now) (c .before .before .before .before .before .before .before .before .before .before .before .before .before .before .before .before .before .before .before .before .before .before .before .before .before .before .before .before .before .before .before .before .before .before .before .before .before .before .before .before .before .before .before .before .before .before .before .before .before .args .rhs .now)) (c .before .before .before .before .before .before .before .before .before .before .before .tile-unchecked .ensures) (c .before .before .before .before .before .before .before .tiled .given .1) refl refl y in
-    (z .ready, (z .lists, (c .before .before .before .before .before .before .before .before .before .before .before .before .before .before .before .before .before .before .before .before .before .before .before .before .before .before .before .before .before .before .before .before .before .before .before .before .before .before .before .before .before .before .before .before .before .before .before .before .before .pre .1 .1 .0, (ap isGuard (toZ-ofZ (c .before .before .before .before .before .before .before .before .before .before .before .before .before .before .before .before .before .before .before .before .before .before .before .before .before .before .before .before .before .before .before .before .before .before .before .before .before .before .before .before .before .before .before .before .before .before .before .before .before .fits .guard)) ∙ c .before .before .before .before .before .before .before .before .before .before .before .before .before .before .before .before .before .before .before .before .before .before .before .before .before .before .before .before .before .before .before .before .before .before .before .before .before .before .before .before .before .before .before .before .before .before .before .before .before .pre .1 .1 .1 .0, c .before .before .before .before .before .before .before .before .before .before .before .before .before .before .before .before .before .before .before .before .before .before .before .before .before .before .before .before .before .before .before .before .before .before .before .before .before .before .before .before .before .before .before .before .before .before .before .before .before .pre .1 .1 .1 .1)))))
-    (λ c. c .before .before .before .before .before .before .before .before .before .before .split-unchecked .kept .0 ∙ c .before .before .before .before .before .before .before .before .before .before .before .before .before .before .before .before .before .before .before .before .before .before .before .before .before .before .before .before .before .before .before .before .before .before .before .propagate-unchecked .kept .0)
-    (λ c. c .before .before .before .before .before .before .before .before .before .before .split-unchecked .kept .1 .0)
-    (λ c. c .before .before .before .before .before .before .before .before .before .before .split-unchecked .kept .1 .1 .0 ∙ c .before .before .before .before .before .before .before .before .before .before .before .before .before .before .before .before .before .before .before .before .before .before .before .before .before .before .before .before .before .before .before .before .before .before .before .propagate-unchecked .kept .1 .1 .0)
-    (λ c. c .before .before .before .before .before .before .before .before .before .before .before .before .before .before .before .before .before .before .before .before .before .before .tile-unchecked .kept .1 .1 .1 .0 ∙ c .before .before .before .before .before .before .before .before .before .before .before .before .before .before .before .before .before .before .before .before .before .before .before .before .before .before .before .before .before .before .before .before .before .before .before .before .before .before .before .before .before .before .before .before .before .before .conflicts-unchecked .kept .1 .1 .1 .0)
-    (λ c. c .before .before .before .before .before .before .before .before .before .before .split-unchecked .kept .1 .1 .1 .1 .0)
-    (λ c. c .before .before .before .before .before .before .before .before .before .before .split-unchecked .kept .1 .1 .1 .1 .1 .1 .1 .1 .1 .1 .0)
-    (λ c. after-split (c .before .before .before .before .before .before .before .before .before .before .before .before .before .before .before .before .before .before .before .before .before .before .before .before .before .before .before .before .before .before .before .before .before .before .before .before .before .before .before .before .before .before .before .before .before .before .before .before .before .before .before .before .before .before .before .before .before .before .before .before .args .lhs .now) (c .before .before .before .before .before .before .before .before .before .before .before .before .before .before .before .before .before .before .before .before .before .before .before .before .before .before .before .before .before .before .before .before .before .before .before .before .before .before .before .before .before .before .before .before .before .before .before .before .before .before .before .before .before .before .before .before .before .before .before .before .args .rhs .now) (c .before .before .before .before .before .before .before .before .before .before .before .before .before .before .before .before .before .before .before .before .before .before .before .before .before .before .before .before .before .before .before .before .before .before .before .before .before .before .before .before .before .before .before .before .before .before .before .before .before .before .before .before .before .before .before .before .before .before .before .before .args .guard) (c .before .before .before .before .before .before .before .before .before .before .before .before .before .before .before .before .before .before .before .before .before .before .before .before .before .before .before .before .before .before .before .before .before .before .before .before .before .before .before .before .before .before .before .before .before .before .before .before .before .before .before .before .before .before .before .before .before .before .before .before .args .added) (c .before .before .before .before .before .before .before .before .before .before .before .before .before .before .before .before .before .before .before .before .before .before .before .before .before .before .before .before .before .before .before .before .before .before .before .before .before .before .before .before .before .before .before .before .before .before .conflicts-unchecked .ensures) (c .before .before .before .before .before .before .before .before .before .before .before .before .before .before .before .before .before .before .before .before .before .before .before .before .before .before .before .before .before .before .before .before .before .before .before .before .before .before .before .before .before .before .early .given .1) (c .before .before .before .before .before .before .before .before .before .before .before .before .before .before .before .before .before .before .before .before .before .before .before .before .before .before .before .before .before .before .before .before .before .before .before .propagate-unchecked .ensures) (c .before .before .before .before .before .before .before .before .before .before .before .before .before .before .before .before .before .before .before .before .before .before .before .before .before .before .before .before .before .known .given .1)
-    (c .before .before .before .before .before .before .before .before .before .before .before .before .before .before .before .before .before .before .before .before .before .before .tile-unchecked .ensures) (toZ-ofZ (c .before .before .before .before .before .before .before .before .before .before .before .before .before .before .before .before .before .before .before .before .before .before .before .before .before .before .before .before .before .before .before .before .before .before .before .before .before .before .before .before .before .before .before .before .before .before .before .before .before .before .before .before .before .before .before .before .before .before .before .before .fits .guard)) (c .before .before .before .before .before .before .before .before .before .before .before .before .before .before .before .before .before .before .tiled .given .1) (c .before .before .before .before .before .before .before .before .before .before .split-unchecked .ensures)))
+    (λ c.
+    let at-tile-unchecked = c .before .before .before in
+    let at-known = at-tile-unchecked .before .before .before .before .before .before .before in
+    let at-propagate-unchecked = at-known .before .before .before .before .before .before in
+    let at-early = at-propagate-unchecked .before .before .before .before .before .before .before in
+    let at-conflicts-unchecked = at-early .before .before .before .before in
+    let at-start = at-conflicts-unchecked .before .before .before .before .before .before .before .before .before .before .before .before .before .before in
+    after-tiled (at-start .args .lhs .now) (at-start .args .rhs .now) (at-start .args .guard) (at-start .args .added) (at-conflicts-unchecked .conflicts-unchecked .ensures) (at-early .early .given .1) (at-propagate-unchecked .propagate-unchecked .ensures) (at-known .known .given .1)
+    (at-tile-unchecked .tile-unchecked .ensures) (last-of (at-tile-unchecked .tile-unchecked .result) (c .match3 .keys2)) (at-start .args .list .now))
+    (λ c κs.
+    let at-tiled = c .before .before .before .before .before .before .before in
+    let at-tile-unchecked = at-tiled .before .before .before .before in
+    let at-known = at-tile-unchecked .before .before .before .before .before .before .before in
+    let at-propagate-unchecked = at-known .before .before .before .before .before .before in
+    let at-early = at-propagate-unchecked .before .before .before .before .before .before .before in
+    let at-conflicts-unchecked = at-early .before .before .before .before in
+    let at-start = at-conflicts-unchecked .before .before .before .before .before .before .before .before .before .before .before .before .before .before in
+    let x = passed-on (conflicts-goes (at-start .args .lhs .now) (at-start .args .rhs .now)) (at-conflicts-unchecked .conflicts-unchecked .ensures) (at-early .early .given .1) refl refl (lined (at-start .pre .0) (at-start .pre .1 .0)) in
+    let y = passed-on (propagates-goes (at-start .args .lhs .now) (at-start .args .rhs .now)) (at-propagate-unchecked .propagate-unchecked .ensures) (at-known .known .given .1) (at-propagate-unchecked .propagate-unchecked .kept .0) refl x in
+    let z = passed-on (tiles-goes (at-start .args .lhs .now) (at-start .args .rhs .now)) (at-tile-unchecked .tile-unchecked .ensures) (at-tiled .tiled .given .1) refl refl y in
+    (z .ready, (z .lists, (at-start .pre .1 .1 .0, (ap isGuard (toZ-ofZ (at-start .fits .guard)) ∙ at-start .pre .1 .1 .1 .0, at-start .pre .1 .1 .1 .1)))))
+    (λ c.
+    let at-split-unchecked = c .before .before .before .before .before .before .before .before .before .before in
+    let at-propagate-unchecked = at-split-unchecked .before .before .before .before .before .before .before .before .before .before .before .before .before .before .before .before .before .before .before .before .before .before .before .before .before in
+    at-split-unchecked .split-unchecked .kept .0 ∙ at-propagate-unchecked .propagate-unchecked .kept .0)
+    (λ c.
+    let at-split-unchecked = c .before .before .before .before .before .before .before .before .before .before in
+    at-split-unchecked .split-unchecked .kept .1 .0)
+    (λ c.
+    let at-split-unchecked = c .before .before .before .before .before .before .before .before .before .before in
+    let at-propagate-unchecked = at-split-unchecked .before .before .before .before .before .before .before .before .before .before .before .before .before .before .before .before .before .before .before .before .before .before .before .before .before in
+    at-split-unchecked .split-unchecked .kept .1 .1 .0 ∙ at-propagate-unchecked .propagate-unchecked .kept .1 .1 .0)
+    (λ c.
+    let at-tile-unchecked = c .before .before .before .before .before .before .before .before .before .before .before .before .before .before .before .before .before .before .before .before .before .before in
+    let at-conflicts-unchecked = at-tile-unchecked .before .before .before .before .before .before .before .before .before .before .before .before .before .before .before .before .before .before .before .before .before .before .before .before in
+    at-tile-unchecked .tile-unchecked .kept .1 .1 .1 .0 ∙ at-conflicts-unchecked .conflicts-unchecked .kept .1 .1 .1 .0)
+    (λ c.
+    let at-split-unchecked = c .before .before .before .before .before .before .before .before .before .before in
+    at-split-unchecked .split-unchecked .kept .1 .1 .1 .1 .0)
+    (λ c.
+    let at-split-unchecked = c .before .before .before .before .before .before .before .before .before .before in
+    at-split-unchecked .split-unchecked .kept .1 .1 .1 .1 .1 .1 .1 .1 .1 .1 .0)
+    (λ c.
+    let at-split-unchecked = c .before .before .before .before .before .before .before .before .before .before in
+    let at-tiled = at-split-unchecked .before .before .before .before .before .before .before .before in
+    let at-tile-unchecked = at-tiled .before .before .before .before in
+    let at-known = at-tile-unchecked .before .before .before .before .before .before .before in
+    let at-propagate-unchecked = at-known .before .before .before .before .before .before in
+    let at-early = at-propagate-unchecked .before .before .before .before .before .before .before in
+    let at-conflicts-unchecked = at-early .before .before .before .before in
+    let at-start = at-conflicts-unchecked .before .before .before .before .before .before .before .before .before .before .before .before .before .before in
+    after-split (at-start .args .lhs .now) (at-start .args .rhs .now) (at-start .args .guard) (at-start .args .added) (at-conflicts-unchecked .conflicts-unchecked .ensures) (at-early .early .given .1) (at-propagate-unchecked .propagate-unchecked .ensures) (at-known .known .given .1)
+    (at-tile-unchecked .tile-unchecked .ensures) (toZ-ofZ (at-start .fits .guard)) (at-tiled .tiled .given .1) (at-split-unchecked .split-unchecked .ensures)))

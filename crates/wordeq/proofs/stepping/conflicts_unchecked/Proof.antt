@@ -13,9 +13,28 @@ conflicts-unchecked-spec =
     (λ c κs. search needs)
     (λ c. search needs)
     (λ c. search needs)
-    (λ c. else-last (constants (c .before .before .before .before .before .before .before .before .before .before .before .before .args .lhs .now) (c .before .before .before .before .before .before .before .before .before .before .before .before .args .rhs .now)) (last-of (c .before .before .before .occurs-unchecked .result) (c .match .keys2)) (c .before .before .before .occurs-unchecked .ensures))
-    (λ c κs. lined-spelled (passed-on (occurs-goes (c .before .before .before .before .before .before .before .before .before .before .before .before .before .before .args .lhs .now) (c .before .before .before .before .before .before .before .before .before .before .before .before .before .before .args .rhs .now)) (c .before .before .before .before .before .occurs-unchecked .ensures) (c .before .o .given .1) refl refl (lined (c .before .before .before .before .before .before .before .before .before .before .before .before .before .before .pre .0) (c .before .before .before .before .before .before .before .before .before .before .before .before .before .before .pre .1))))
+    (λ c.
+    let at-occurs-unchecked = c .before .before .before in
+    let at-start = at-occurs-unchecked .before .before .before .before .before .before .before .before .before in
+    else-last (constants (at-start .args .lhs .now) (at-start .args .rhs .now)) (last-of (at-occurs-unchecked .occurs-unchecked .result) (c .match .keys2))
+    (at-occurs-unchecked .occurs-unchecked .ensures))
+    (λ c κs.
+    let at-occurs-unchecked = c .before .before .before .before .before in
+    let at-start = at-occurs-unchecked .before .before .before .before .before .before .before .before .before in
+    lined-spelled
+    (passed-on (occurs-goes (at-start .args .lhs .now) (at-start .args .rhs .now)) (at-occurs-unchecked .occurs-unchecked .ensures) (c .before .o .given .1) refl refl
+    (lined (at-start .pre .0) (at-start .pre .1))))
     (λ c. search needs)
-    (λ c. conflicts-found (c .before .before .before .before .before .before .before .before .before .before .before .before .before .before .before .before .args .lhs .now) (c .before .before .before .before .before .before .before .before .before .before .before .before .before .before .before .before .args .rhs .now) (c .before .before .before .before .before .before .before .occurs-unchecked .ensures) (c .before .before .before .o .given .1) (c .before .constants .result) (c .before .constants .ensures) (c .if1 .taken))
+    (λ c.
+    let at-o = c .before .before .before in
+    let at-occurs-unchecked = at-o .before .before .before .before in
+    let at-start = at-occurs-unchecked .before .before .before .before .before .before .before .before .before in
+    conflicts-found (at-start .args .lhs .now) (at-start .args .rhs .now) (at-occurs-unchecked .occurs-unchecked .ensures) (at-o .o .given .1) (c .before .constants .result)
+    (c .before .constants .ensures) (c .if1 .taken))
     (λ c. search needs)
-    (λ c. conflicts-none (c .before .before .before .before .before .before .before .before .before .before .before .before .before .before .before .before .args .lhs .now) (c .before .before .before .before .before .before .before .before .before .before .before .before .before .before .before .before .args .rhs .now) (c .before .before .before .before .before .before .before .occurs-unchecked .ensures) (c .before .before .before .o .given .1) (c .before .constants .result) (c .before .constants .ensures) (c .if1 .left)))
+    (λ c.
+    let at-o = c .before .before .before in
+    let at-occurs-unchecked = at-o .before .before .before .before in
+    let at-start = at-occurs-unchecked .before .before .before .before .before .before .before .before .before in
+    conflicts-none (at-start .args .lhs .now) (at-start .args .rhs .now) (at-occurs-unchecked .occurs-unchecked .ensures) (at-o .o .given .1) (c .before .constants .result)
+    (c .before .constants .ensures) (c .if1 .left)))

@@ -11,38 +11,100 @@ pub steps-unchecked-spec : {M : Type 1} → statement M
 steps-unchecked-spec =
     tie.close
     (tie.spec
-    (λ c κs. let x = lined-strings (lined (c .before .before .before .before .before .before .before .before .before .before .before .before .before .pre .0) (c .before .before .before .before .before .before .before .before .before .before .before .before .before .pre .1 .0)) in (c .before .before .before .before .before .before .before .before .before .before .before .before .before .pre .0, (x .0, x .1)))
+    (λ c κs.
+    let at-start = c .before .before .before .before .before .before .before .before .before .before .before .before .before in
+    let x = lined-strings (lined (at-start .pre .0) (at-start .pre .1 .0)) in (at-start .pre .0, (x .0, x .1)))
     (λ c. search needs)
-    (λ c. record { fits = parts-fit (c .before .before .before .before .before .before .before .before .before .before .before .before .before .before .before .before .before .before .before .args .guard) (c .before .before .before .before .before .before .before .before .before .before .before .before .before .before .before .before .before .before .before .args .lhs .now) (c .before .before .before .before .before .before .before .before .before .before .before .before .before .before .before .before .before .before .before .args .rhs .now) (c .before .before .before .before .before .strip-unchecked .ensures) (c .before .parts .given .1) (lined (c .before .before .before .before .before .before .before .before .before .before .before .before .before .before .before .before .before .before .before .pre .0) (c .before .before .before .before .before .before .before .before .before .before .before .before .before .before .before .before .before .before .before .pre .1 .0)) })
-    (λ c. parts-inside (c .before .before .before .before .before .before .before .before .before .before .before .before .before .before .before .before .before .before .before .args .guard) (c .before .before .before .before .before .before .before .before .before .before .before .before .before .before .before .before .before .before .before .args .lhs .now) (c .before .before .before .before .before .before .before .before .before .before .before .before .before .before .before .before .before .before .before .args .rhs .now) (c .before .before .before .before .before .strip-unchecked .ensures) (c .before .parts .given .1) .0)
-    (λ c. parts-inside (c .before .before .before .before .before .before .before .before .before .before .before .before .before .before .before .before .before .before .before .args .guard) (c .before .before .before .before .before .before .before .before .before .before .before .before .before .before .before .before .before .before .before .args .lhs .now) (c .before .before .before .before .before .before .before .before .before .before .before .before .before .before .before .before .before .before .before .args .rhs .now) (c .before .before .before .before .before .strip-unchecked .ensures) (c .before .parts .given .1) .0)
-    (λ c. parts-inside (c .before .before .before .before .before .before .before .before .before .before .before .before .before .before .before .before .before .before .before .args .guard) (c .before .before .before .before .before .before .before .before .before .before .before .before .before .before .before .before .before .before .before .args .lhs .now) (c .before .before .before .before .before .before .before .before .before .before .before .before .before .before .before .before .before .before .before .args .rhs .now) (c .before .before .before .before .before .strip-unchecked .ensures) (c .before .parts .given .1) .1)
-    (λ c. record { fits = parts-fit (c .before .before .before .before .before .before .before .before .before .before .before .before .before .before .before .before .before .before .before .before .args .guard) (c .before .before .before .before .before .before .before .before .before .before .before .before .before .before .before .before .before .before .before .before .args .lhs .now) (c .before .before .before .before .before .before .before .before .before .before .before .before .before .before .before .before .before .before .before .before .args .rhs .now) (c .before .before .before .before .before .before .strip-unchecked .ensures) (c .before .before .parts .given .1) (lined (c .before .before .before .before .before .before .before .before .before .before .before .before .before .before .before .before .before .before .before .before .pre .0) (c .before .before .before .before .before .before .before .before .before .before .before .before .before .before .before .before .before .before .before .before .pre .1 .0)) })
-    (λ c. parts-inside (c .before .before .before .before .before .before .before .before .before .before .before .before .before .before .before .before .before .before .before .before .args .guard) (c .before .before .before .before .before .before .before .before .before .before .before .before .before .before .before .before .before .before .before .before .args .lhs .now) (c .before .before .before .before .before .before .before .before .before .before .before .before .before .before .before .before .before .before .before .before .args .rhs .now) (c .before .before .before .before .before .before .strip-unchecked .ensures) (c .before .before .parts .given .1) .2)
-    (λ c. parts-inside (c .before .before .before .before .before .before .before .before .before .before .before .before .before .before .before .before .before .before .before .before .args .guard) (c .before .before .before .before .before .before .before .before .before .before .before .before .before .before .before .before .before .before .before .before .args .lhs .now) (c .before .before .before .before .before .before .before .before .before .before .before .before .before .before .before .before .before .before .before .before .args .rhs .now) (c .before .before .before .before .before .before .strip-unchecked .ensures) (c .before .before .parts .given .1) .2)
-    (λ c. parts-inside (c .before .before .before .before .before .before .before .before .before .before .before .before .before .before .before .before .before .before .before .before .args .guard) (c .before .before .before .before .before .before .before .before .before .before .before .before .before .before .before .before .before .before .before .before .args .lhs .now) (c .before .before .before .before .before .before .before .before .before .before .before .before .before .before .before .before .before .before .before .before .args .rhs .now) (c .before .before .before .before .before .before .strip-unchecked .ensures) (c .before .before .parts .given .1) .3)
+    (λ c.
+    let at-strip-unchecked = c .before .before .before .before .before in
+    let at-start = at-strip-unchecked .before .before .before .before .before .before .before .before .before .before .before .before .before .before in
+    record { fits = parts-fit (at-start .args .guard) (at-start .args .lhs .now) (at-start .args .rhs .now) (at-strip-unchecked .strip-unchecked .ensures) (c .before .parts .given .1) (lined (at-start .pre .0) (at-start .pre .1 .0)) })
+    (λ c.
+    let at-strip-unchecked = c .before .before .before .before .before in
+    let at-start = at-strip-unchecked .before .before .before .before .before .before .before .before .before .before .before .before .before .before in
+    parts-inside (at-start .args .guard) (at-start .args .lhs .now) (at-start .args .rhs .now) (at-strip-unchecked .strip-unchecked .ensures) (c .before .parts .given .1) .0)
+    (λ c.
+    let at-strip-unchecked = c .before .before .before .before .before in
+    let at-start = at-strip-unchecked .before .before .before .before .before .before .before .before .before .before .before .before .before .before in
+    parts-inside (at-start .args .guard) (at-start .args .lhs .now) (at-start .args .rhs .now) (at-strip-unchecked .strip-unchecked .ensures) (c .before .parts .given .1) .0)
+    (λ c.
+    let at-strip-unchecked = c .before .before .before .before .before in
+    let at-start = at-strip-unchecked .before .before .before .before .before .before .before .before .before .before .before .before .before .before in
+    parts-inside (at-start .args .guard) (at-start .args .lhs .now) (at-start .args .rhs .now) (at-strip-unchecked .strip-unchecked .ensures) (c .before .parts .given .1) .1)
+    (λ c.
+    let at-strip-unchecked = c .before .before .before .before .before .before in
+    let at-start = at-strip-unchecked .before .before .before .before .before .before .before .before .before .before .before .before .before .before in
+    record { fits = parts-fit (at-start .args .guard) (at-start .args .lhs .now) (at-start .args .rhs .now) (at-strip-unchecked .strip-unchecked .ensures) (c .before .before .parts .given .1) (lined (at-start .pre .0) (at-start .pre .1 .0)) })
+    (λ c.
+    let at-strip-unchecked = c .before .before .before .before .before .before in
+    let at-start = at-strip-unchecked .before .before .before .before .before .before .before .before .before .before .before .before .before .before in
+    parts-inside (at-start .args .guard) (at-start .args .lhs .now) (at-start .args .rhs .now) (at-strip-unchecked .strip-unchecked .ensures)
+    (c .before .before .parts .given .1) .2)
+    (λ c.
+    let at-strip-unchecked = c .before .before .before .before .before .before in
+    let at-start = at-strip-unchecked .before .before .before .before .before .before .before .before .before .before .before .before .before .before in
+    parts-inside (at-start .args .guard) (at-start .args .lhs .now) (at-start .args .rhs .now) (at-strip-unchecked .strip-unchecked .ensures)
+    (c .before .before .parts .given .1) .2)
+    (λ c.
+    let at-strip-unchecked = c .before .before .before .before .before .before in
+    let at-start = at-strip-unchecked .before .before .before .before .before .before .before .before .before .before .before .before .before .before in
+    parts-inside (at-start .args .guard) (at-start .args .lhs .now) (at-start .args .rhs .now) (at-strip-unchecked .strip-unchecked .ensures)
+    (c .before .before .parts .given .1) .3)
     (λ c κs. search needs)
     (λ c. search needs)
     (λ c. search needs)
     (λ c. search needs)
     (λ c. search needs)
     (λ c. search needs)
-    (λ c. steps-bare (c .before .before .before .before .before .before .before .before .before .before .before .before .before .before .before .before .before .before .before .before .before .before .before .args .guard) (c .before .before .before .before .before .before .before .before .before .before .before .before .before .before .before .before .before .before .before .before .before .before .before .args .lhs .now) (c .before .before .before .before .before .before .before .before .before .before .before .before .before .before .before .before .before .before .before .before .before .before .before .args .rhs .now) (c .before .before .before .before .before .before .before .before .before .strip-unchecked .ensures) (c .before .before .before .before .before .parts .given .1) (c .before .is-bare .result) (c .before .is-bare .ensures) (c .if1 .taken) (c .before .before .before .before .before .before .before .before .before .before .before .before .before .before .before .before .before .before .before .before .before .before .before .args .list .now))
-    (λ c κs. let x = lined (c .before .before .before .before .before .before .before .before .before .before .before .before .before .before .before .before .before .before .before .before .before .before .before .before .before .before .before .before .before .before .before .pre .0) (c .before .before .before .before .before .before .before .before .before .before .before .before .before .before .before .before .before .before .before .before .before .before .before .before .before .before .before .before .before .before .before .pre .1 .0) in
-    let y = parts-lined (c .before .before .before .before .before .before .before .before .before .before .before .before .before .before .before .before .before .before .before .before .before .before .before .before .before .before .before .before .before .before .before .args .guard) (c .before .before .before .before .before .before .before .before .before .before .before .before .before .before .before .before .before .before .before .before .before .before .before .before .before .before .before .before .before .before .before .args .lhs .now) (c .before .before .before .before .before .before .before .before .before .before .before .before .before .before .before .before .before .before .before .before .before .before .before .before .before .before .before .before .before .before .before .args .rhs .now) (c .before .before .before .before .before .before .before .before .before .before .before .before .before .before .before .before .before .strip-unchecked .ensures) (c .before .before .before .before .before .before .before .before .before .before .before .before .before .parts .given .1) x refl refl in
-    (y .ready, (y .lists, (parts-apart (c .before .before .before .before .before .before .before .before .before .before .before .before .before .before .before .before .before .before .before .before .before .before .before .before .before .before .before .before .before .before .before .args .guard) (c .before .before .before .before .before .before .before .before .before .before .before .before .before .before .before .before .before .before .before .before .before .before .before .before .before .before .before .before .before .before .before .args .lhs .now) (c .before .before .before .before .before .before .before .before .before .before .before .before .before .before .before .before .before .before .before .before .before .before .before .before .before .before .before .before .before .before .before .args .rhs .now) (c .before .before .before .before .before .before .before .before .before .before .before .before .before .before .before .before .before .strip-unchecked .ensures) (c .before .before .before .before .before .before .before .before .before .before .before .before .before .parts .given .1) x, (ap isGuard (toZ-ofZ (c .before .before .before .before .before .before .before .before .before .before .before .before .before .before .before .before .before .before .before .before .before .before .before .before .before .before .before .before .before .before .before .fits .guard)) ∙ c .before .before .before .before .before .before .before .before .before .before .before .before .before .before .before .before .before .before .before .before .before .before .before .before .before .before .before .before .before .before .before .pre .1 .1 .0, c .before .before .before .before .before .before .before .before .before .before .before .before .before .before .before .before .before .before .before .before .before .before .before .before .before .before .before .before .before .before .before .pre .1 .1 .1)))))
+    (λ c.
+    let at-parts = c .before .before .before .before .before in
+    let at-strip-unchecked = at-parts .before .before .before .before in
+    let at-start = at-strip-unchecked .before .before .before .before .before .before .before .before .before .before .before .before .before .before in
+    steps-bare (at-start .args .guard) (at-start .args .lhs .now) (at-start .args .rhs .now) (at-strip-unchecked .strip-unchecked .ensures) (at-parts .parts .given .1)
+    (c .before .is-bare .result) (c .before .is-bare .ensures) (c .if1 .taken) (at-start .args .list .now))
+    (λ c κs.
+    let at-parts = c .before .before .before .before .before .before .before .before .before .before .before .before .before in
+    let at-strip-unchecked = at-parts .before .before .before .before in
+    let at-start = at-strip-unchecked .before .before .before .before .before .before .before .before .before .before .before .before .before .before in
+    let x = lined (at-start .pre .0) (at-start .pre .1 .0) in
+    let y = parts-lined (at-start .args .guard) (at-start .args .lhs .now) (at-start .args .rhs .now) (at-strip-unchecked .strip-unchecked .ensures) (at-parts .parts .given .1) x refl refl in
+    (y .ready, (y .lists, (parts-apart (at-start .args .guard) (at-start .args .lhs .now) (at-start .args .rhs .now) (at-strip-unchecked .strip-unchecked .ensures) (at-parts .parts .given .1) x, (ap isGuard (toZ-ofZ (at-start .fits .guard)) ∙ at-start .pre .1 .1 .0, at-start .pre .1 .1 .1)))))
     (λ c. search needs)
-    (λ c. c .before .before .before .before .before .before .before .before .before .before .before .before .after-unchecked .kept .0)
-    (λ c. c .before .before .before .before .before .before .before .before .before .before .before .before .after-unchecked .kept .1 .0)
-    (λ c. c .before .before .before .before .before .before .before .before .before .before .before .before .after-unchecked .kept .1 .1 .0)
-    (λ c. c .before .before .before .before .before .before .before .before .before .before .before .before .after-unchecked .kept .1 .1 .1 .0 ∙ c .before .before .before .before .before .before .before .before .before .before .before .before .before .before .before .before .before .before .before .before .before .before .before .before .before .before .before .before .before .before .strip-unchecked .kept .1 .1 .1 .0)
-    (λ c. c .before .before .before .before .before .before .before .before .before .before .before .before .after-unchecked .kept .1 .1 .1 .1 .0)
-    (λ c. c .before .before .before .before .before .before .before .before .before .before .before .before .after-unchecked .kept .1 .1 .1 .1 .1 .1 .1 .1 .1 .1 .0)
-    (λ c. steps-after (c .before .before .before .before .before .before .before .before .before .before .before .before .before .before .before .before .before .before .before .before .before .before .before .before .before .before .before .before .before .before .before .before .before .before .before .before .before .before .before .before .before .before .before .before .args .guard) (c .before .before .before .before .before .before .before .before .before .before .before .before .before .before .before .before .before .before .before .before .before .before .before .before .before .before .before .before .before .before .before .before .before .before .before .before .before .before .before .before .before .before .before .before .args .lhs .now) (c .before .before .before .before .before .before .before .before .before .before .before .before .before .before .before .before .before .before .before .before .before .before .before .before .before .before .before .before .before .before .before .before .before .before .before .before .before .before .before .before .before .before .before .before .args .rhs .now) (c .before .before .before .before .before .before .before .before .before .before .before .before .before .before .before .before .before .before .before .before .before .before .before .before .before .before .before .before .before .before .strip-unchecked .ensures) (c .before .before .before .before .before .before .before .before .before .before .before .before .before .before .before .before .before .before .before .before .before .before .before .before .before .before .parts .given .1) (lined (c .before .before .before .before .before .before .before .before .before .before .before .before .before .before .before .before .before .before .before .before .before .before .before .before .before .before .before .before .before .before .before .before .before .before .before .before .before .before .before .before .before .before .before .before .pre .0) (c .before .before .before .before .before .before .before .before .before .before .before .before .before .before .before .before .before .before .before .before .before .before .before .before .before .before .before .before .before .before .before .before .before .before .before .before .before .before .before .before .before .before .before .before .pre .1 .0)) (c .before .before .before .before .before .before .before .before .before .before .before .before .before .before .before .before .before .before .before .before .before .before .is-bare .result) (c .before .before .before .before .before .before .before .before .before .before .before .before .before .before .before .before .before .before .before .before .before .before .is-bare .ensures) (c .before .before .before .before .before .before .before .before .before .before .before .before .before .before .before .before .before .before .before .before .before .if1 .left)
-    _ refl (toZ-ofZ (c .before .before .before .before .before .before .before .before .before .before .before .before .before .before .before .before .before .before .before .before .before .before .before .before .before .before .before .before .before .before .before .before .before .before .before .before .before .before .before .before .before .before .before .before .fits .guard)) (c .before .before .before .before .before .before .before .before .before .before .before .before .after-unchecked .result) (c .before .before .before .before .before .before .before .before .before .before .before .before .after-unchecked .last .1 .1 .1 .1 .1 .1 .1 .1 .1 .1 .0) (c .before .before .before .before .before .before .before .before .before .before .before .before .after-unchecked .ensures))
+    (λ c.
+    let at-after-unchecked = c .before .before .before .before .before .before .before .before .before .before .before .before in
+    at-after-unchecked .after-unchecked .kept .0)
+    (λ c.
+    let at-after-unchecked = c .before .before .before .before .before .before .before .before .before .before .before .before in
+    at-after-unchecked .after-unchecked .kept .1 .0)
+    (λ c.
+    let at-after-unchecked = c .before .before .before .before .before .before .before .before .before .before .before .before in
+    at-after-unchecked .after-unchecked .kept .1 .1 .0)
+    (λ c.
+    let at-after-unchecked = c .before .before .before .before .before .before .before .before .before .before .before .before in
+    let at-strip-unchecked = at-after-unchecked .before .before .before .before .before .before .before .before .before .before .before .before .before .before .before .before .before .before in
+    at-after-unchecked .after-unchecked .kept .1 .1 .1 .0 ∙ at-strip-unchecked .strip-unchecked .kept .1 .1 .1 .0)
+    (λ c.
+    let at-after-unchecked = c .before .before .before .before .before .before .before .before .before .before .before .before in
+    at-after-unchecked .after-unchecked .kept .1 .1 .1 .1 .0)
+    (λ c.
+    let at-after-unchecked = c .before .before .before .before .before .before .before .before .before .before .before .before in
+    at-after-unchecked .after-unchecked .kept .1 .1 .1 .1 .1 .1 .1 .1 .1 .1 .0)
+    (λ c.
+    let at-after-unchecked = c .before .before .before .before .before .before .before .before .before .before .before .before in
+    let at-if1 = at-after-unchecked .before .before .before .before .before .before .before .before .before in
+    let at-is-bare = at-if1 .before in
+    let at-parts = at-is-bare .before .before .before .before in
+    let at-strip-unchecked = at-parts .before .before .before .before in
+    let at-start = at-strip-unchecked .before .before .before .before .before .before .before .before .before .before .before .before .before .before in
+    steps-after (at-start .args .guard) (at-start .args .lhs .now) (at-start .args .rhs .now) (at-strip-unchecked .strip-unchecked .ensures) (at-parts .parts .given .1) (lined (at-start .pre .0) (at-start .pre .1 .0)) (at-is-bare .is-bare .result) (at-is-bare .is-bare .ensures) (at-if1 .if1 .left)
+    _ refl (toZ-ofZ (at-start .fits .guard)) (at-after-unchecked .after-unchecked .result) (at-after-unchecked .after-unchecked .last .1 .1 .1 .1 .1 .1 .1 .1 .1 .1 .0) (at-after-unchecked .after-unchecked .ensures))
     (λ c. search needs)
     (λ c. search needs)
     (λ c. search needs)
     (λ c. search needs)
     (λ c. search needs)
-    (λ c. steps-refused (c .before .before .before .before .before .before .before .before .before .before .before .before .before .before .before .before .before .before .before .args .guard) (c .before .before .before .before .before .before .before .before .before .before .before .before .before .before .before .before .before .before .before .args .lhs .now) (c .before .before .before .before .before .before .before .before .before .before .before .before .before .before .before .before .before .before .before .args .rhs .now) (c .before .before .before .before .before .strip-unchecked .ensures) _ (c .before .parts2 .given .1) (c .before .before .before .before .before .before .before .before .before .before .before .before .before .before .before .before .before .before .before .args .list .now)))
+    (λ c.
+    let at-strip-unchecked = c .before .before .before .before .before in
+    let at-start = at-strip-unchecked .before .before .before .before .before .before .before .before .before .before .before .before .before .before in
+    steps-refused (at-start .args .guard) (at-start .args .lhs .now) (at-start .args .rhs .now) (at-strip-unchecked .strip-unchecked .ensures) _ (c .before .parts2 .given .1)
+    (at-start .args .list .now)))

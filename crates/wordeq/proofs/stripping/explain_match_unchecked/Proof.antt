@@ -10,6 +10,16 @@ explain-match-unchecked-spec =
     (λ c. match-number _ _ _ _ _ _ _ _ (c .if1 .taken))
     (λ c κs. search needs)
     (λ c. match-constants _ _ _ _ _ _ _ _ (c .before .before .if1 .left) _ (c .before .both-constant .ensures) (c .if2 .taken))
-    (λ c κs. (c .before .before .before .before .before .before .before .before .before .pre .0, match-arguments (c .before .before .before .before .before .before .before .before .before .args .terms .now) (c .before .before .before .before .before .before .before .before .before .args .cells .now) (c .before .before .before .before .before .before .before .before .before .args .chars .now) (c .before .before .before .before .before .before .before .before .before .args .reasons .now) (c .before .before .before .before .before .before .before .before .before .args .keys .now) (c .before .before .before .before .before .before .before .before .before .args .c) _ _ (c .before .before .before .if1 .left) _ (c .before .before .both-constant .ensures) (c .before .if2 .left) (c .before .before .before .before .before .before .before .before .before .pre .1 .0) (c .before .before .before .before .before .before .before .before .before .pre .1 .1)))
+    (λ c κs.
+    let at-if1 = c .before .before .before in
+    let at-start = at-if1 .before .before .before .before .before .before in (
+      at-start .pre .0,
+      match-arguments (at-start .args .terms .now) (at-start .args .cells .now) (at-start .args .chars .now) (at-start .args .reasons .now) (at-start .args .keys .now)
+          (at-start .args .c) _ _ (at-if1 .if1 .left) _ (c .before .before .both-constant .ensures) (c .before .if2 .left) (at-start .pre .1 .0) (at-start .pre .1 .1),
+    ))
     (λ c. search needs)
-    (λ c. match-explained _ _ _ _ _ _ _ _ (c .before .before .before .before .before .before .if1 .left) _ (c .before .before .before .before .before .both-constant .ensures) (c .before .before .before .before .if2 .left) (c .before .before .explain-unchecked .ensures)))
+    (λ c.
+    let at-if2 = c .before .before .before .before in
+    let at-both-constant = at-if2 .before in
+    let at-if1 = at-both-constant .before in
+    match-explained _ _ _ _ _ _ _ _ (at-if1 .if1 .left) _ (at-both-constant .both-constant .ensures) (at-if2 .if2 .left) (c .before .before .explain-unchecked .ensures)))

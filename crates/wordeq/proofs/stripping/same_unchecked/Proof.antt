@@ -10,7 +10,11 @@ same-unchecked-spec =
     (tie.spec
     (λ c. same-number _ _ _ (c .if1 .taken))
     (λ c κs. search needs)
-    (λ c κs. (c .before .before .before .before .before .pre .0, sym (c .before .both-constant .ensures) ∙ c .if2 .taken))
-    (λ c. same-constants _ _ _ (c .before .before .before .if1 .left) _ (c .before .before .both-constant .ensures) (c .before .if2 .taken) _ (c .same-text .ensures))
+    (λ c κs. let at-start = c .before .before .before .before .before in (at-start .pre .0, sym (c .before .both-constant .ensures) ∙ c .if2 .taken))
+    (λ c.
+    let at-if1 = c .before .before .before in
+    same-constants _ _ _ (at-if1 .if1 .left) _ (c .before .before .both-constant .ensures) (c .before .if2 .taken) _ (c .same-text .ensures))
     (λ c κs. search needs)
-    (λ c. same-classes _ _ _ (c .before .before .before .if1 .left) _ (c .before .before .both-constant .ensures) (c .before .if2 .left) _ (c .same-class .ensures)))
+    (λ c.
+    let at-if1 = c .before .before .before in
+    same-classes _ _ _ (at-if1 .if1 .left) _ (c .before .before .both-constant .ensures) (c .before .if2 .left) _ (c .same-class .ensures)))

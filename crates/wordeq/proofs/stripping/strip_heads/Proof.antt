@@ -21,21 +21,85 @@ strip-heads-spec =
     Inv-loop
     μ-loop
     (λ c κs. search needs)
-    (λ c. (omega arith, (refl, matching-none _ _ _ _ (λ k. drop k (c .before .before .before .before .before .before .before .before .args .lhs .now)) (λ k. drop k (c .before .before .before .before .before .before .before .before .args .rhs .now)) (c .before .before .before .before .before .before .before .before .pre .0))))
+    (λ c.
+    let at-start = c .before .before .before .before .before .before .before .before in
+    (omega arith, (refl, matching-none _ _ _ _ (λ k. drop k (at-start .args .lhs .now)) (λ k. drop k (at-start .args .rhs .now)) (at-start .pre .0))))
     (λ c. search needs)
-    (λ c. (below-left _ _ _ _ (c .before .before .before .shorter .ensures) (c .before .loop-test .taken)))
+    (λ c. let at-shorter = c .before .before .before in (below-left _ _ _ _ (at-shorter .shorter .ensures) (c .before .loop-test .taken)))
     (λ c. search needs)
-    (λ c. (below-right _ _ _ _ (c .before .before .before .before .shorter .ensures) (c .before .before .loop-test .taken)))
-    (λ c κs. (going-readable _ _ _ _ (c .before .before .before .loop .inv .1 .1 .going), (pair-of _ _ _ _ (c .before .before .before .loop .inv .1 .1 .going) _ _ (c .before .before .before .before .before .before .before .before .before .before .before .before .pre .1 .0) (c .before .before .before .before .before .before .before .before .before .before .before .before .pre .1 .1) _ _ (below-left _ _ _ _ (c .before .before .before .before .shorter .ensures) (c .before .before .loop-test .taken)) (below-right _ _ _ _ (c .before .before .before .before .shorter .ensures) (c .before .before .loop-test .taken)))))
+    (λ c.
+    let at-shorter = c .before .before .before .before in
+    (below-right _ _ _ _ (at-shorter .shorter .ensures) (c .before .before .loop-test .taken)))
+    (λ c κs.
+    let at-loop-test = c .before .before in
+    let at-loop = at-loop-test .before in
+    let at-shorter = at-loop .before in
+    let at-start = at-shorter .before .before .before .before .before .before .before .before in (
+      going-readable _ _ _ _ (at-loop .loop .inv .1 .1 .going),
+      (pair-of _ _ _ _ (at-loop .loop .inv .1 .1 .going) _ _ (at-start .pre .1 .0) (at-start .pre .1 .1) _ _
+          (below-left _ _ _ _ (at-shorter .shorter .ensures) (at-loop-test .loop-test .taken)) (below-right _ _ _ _ (at-shorter .shorter .ensures) (at-loop-test .loop-test .taken))),
+    ))
     (λ c. search needs)
-    (λ c. (let p = (below-left _ _ _ _ (c .before .before .before .before .before .before .shorter .ensures) (c .before .before .before .before .loop-test .taken)) in let q = (below-right _ _ _ _ (c .before .before .before .before .before .before .shorter .ensures) (c .before .before .before .before .loop-test .taken)) in heads-left _ _ _ _ _ _ (omega arith) (omega arith) (heads-stop _ _ _ _ (λ k. drop k (c .before .before .before .before .before .before .before .before .before .before .before .before .before .before .args .lhs .now)) (λ k. drop k (c .before .before .before .before .before .before .before .before .before .before .before .before .before .before .args .rhs .now)) (c .before .before .before .before .before .loop .inv .1 .1) _ _ (drop-head _ _ (below-left _ _ _ _ (c .before .before .before .before .before .before .shorter .ensures) (c .before .before .before .before .loop-test .taken))) (drop-head _ _ (below-right _ _ _ _ (c .before .before .before .before .before .before .shorter .ensures) (c .before .before .before .before .loop-test .taken))) _ (c .before .same-unchecked .ensures) (c .if1 .taken))))
-    (λ c κs. (c .before .before .before .before .before .before .loop .inv .1 .1 .going .ready, ((pair-of _ _ _ _ (c .before .before .before .before .before .before .loop .inv .1 .1 .going) _ _ (c .before .before .before .before .before .before .before .before .before .before .before .before .before .before .before .pre .1 .0) (c .before .before .before .before .before .before .before .before .before .before .before .before .before .before .before .pre .1 .1) _ _ (below-left _ _ _ _ (c .before .before .before .before .before .before .before .shorter .ensures) (c .before .before .before .before .before .loop-test .taken)) (below-right _ _ _ _ (c .before .before .before .before .before .before .before .shorter .ensures) (c .before .before .before .before .before .loop-test .taken))), sym (c .before .before .same-unchecked .ensures) ∙ not-false _ (c .before .if1 .left))))
+    (λ c.
+    let at-loop-test = c .before .before .before .before in
+    let at-loop = at-loop-test .before in
+    let at-shorter = at-loop .before in
+    let at-start = at-shorter .before .before .before .before .before .before .before .before in
+    (let p = (below-left _ _ _ _ (at-shorter .shorter .ensures) (at-loop-test .loop-test .taken)) in
+    let q = (below-right _ _ _ _ (at-shorter .shorter .ensures) (at-loop-test .loop-test .taken)) in
+    heads-left _ _ _ _ _ _ (omega arith) (omega arith)
+    (heads-stop _ _ _ _ (λ k. drop k (at-start .args .lhs .now)) (λ k. drop k (at-start .args .rhs .now)) (at-loop .loop .inv .1 .1) _ _
+    (drop-head _ _ (below-left _ _ _ _ (at-shorter .shorter .ensures) (at-loop-test .loop-test .taken)))
+    (drop-head _ _ (below-right _ _ _ _ (at-shorter .shorter .ensures) (at-loop-test .loop-test .taken))) _ (c .before .same-unchecked .ensures) (c .if1 .taken))))
+    (λ c κs.
+    let at-loop-test = c .before .before .before .before .before in
+    let at-loop = at-loop-test .before in
+    let at-shorter = at-loop .before in
+    let at-start = at-shorter .before .before .before .before .before .before .before .before in (
+      at-loop .loop .inv .1 .1 .going .ready,
+      (
+        (pair-of _ _ _ _ (at-loop .loop .inv .1 .1 .going) _ _ (at-start .pre .1 .0) (at-start .pre .1 .1) _ _
+            (below-left _ _ _ _ (at-shorter .shorter .ensures) (at-loop-test .loop-test .taken))
+            (below-right _ _ _ _ (at-shorter .shorter .ensures) (at-loop-test .loop-test .taken))),
+        sym (c .before .before .same-unchecked .ensures) ∙ not-false _ (c .before .if1 .left),
+      ),
+    ))
     (λ c. search needs)
     (λ c. search needs)
     (λ c. search needs)
-    (λ c. record { strips = record { is = heads-refused _ _ _ _ (λ k. drop k (c .before .before .before .before .before .before .before .before .before .before .before .before .before .before .before .before .before .before .before .before .before .args .lhs .now)) (λ k. drop k (c .before .before .before .before .before .before .before .before .before .before .before .before .before .before .before .before .before .before .before .before .before .args .rhs .now)) (c .before .before .before .before .before .before .before .before .before .before .before .before .loop .inv .1 .1) _ _ (drop-head _ _ (below-left _ _ _ _ (c .before .before .before .before .before .before .before .before .before .before .before .before .before .shorter .ensures) (c .before .before .before .before .before .before .before .before .before .before .before .loop-test .taken))) (drop-head _ _ (below-right _ _ _ _ (c .before .before .before .before .before .before .before .before .before .before .before .before .before .shorter .ensures) (c .before .before .before .before .before .before .before .before .before .before .before .loop-test .taken))) _ (c .before .before .before .before .before .before .before .before .same-unchecked .ensures) (c .before .before .before .before .before .before .before .if1 .left) _ (c .before .before .before .before .before .explain-match-unchecked .ensures) _ (c .before .k .given .1); inside = tt }; whole = tt })
+    (λ c.
+    let at-explain-match-unchecked = c .before .before .before .before .before in
+    let at-if1 = at-explain-match-unchecked .before .before in
+    let at-same-unchecked = at-if1 .before in
+    let at-loop-test = at-same-unchecked .before .before .before in
+    let at-loop = at-loop-test .before in
+    let at-shorter = at-loop .before in
+    let at-start = at-shorter .before .before .before .before .before .before .before .before in
+    record { strips = record { is = heads-refused _ _ _ _ (λ k. drop k (at-start .args .lhs .now)) (λ k. drop k (at-start .args .rhs .now)) (at-loop .loop .inv .1 .1) _ _ (drop-head _ _ (below-left _ _ _ _ (at-shorter .shorter .ensures) (at-loop-test .loop-test .taken))) (drop-head _ _ (below-right _ _ _ _ (at-shorter .shorter .ensures) (at-loop-test .loop-test .taken))) _ (at-same-unchecked .same-unchecked .ensures) (at-if1 .if1 .left) _ (at-explain-match-unchecked .explain-match-unchecked .ensures) _ (c .before .k .given .1); inside = tt }; whole = tt })
     (λ c. search needs)
-    (λ c. (let p = c .before .before .before .before .before .before .before .before .before .before .before .loop-test .taken in omega arith))
-    (λ c. (let p = c .before .before .before .before .before .before .before .before .before .before .before .loop-test .taken in omega arith, (search needs, heads-turn _ _ _ _ (λ k. drop k (c .before .before .before .before .before .before .before .before .before .before .before .before .before .before .before .before .before .before .before .before .before .args .lhs .now)) (λ k. drop k (c .before .before .before .before .before .before .before .before .before .before .before .before .before .before .before .before .before .before .before .before .before .args .rhs .now)) (c .before .before .before .before .before .before .before .before .before .before .before .before .loop .inv .1 .1) _ _ (drop-head _ _ (below-left _ _ _ _ (c .before .before .before .before .before .before .before .before .before .before .before .before .before .shorter .ensures) (c .before .before .before .before .before .before .before .before .before .before .before .loop-test .taken))) (drop-head _ _ (below-right _ _ _ _ (c .before .before .before .before .before .before .before .before .before .before .before .before .before .shorter .ensures) (c .before .before .before .before .before .before .before .before .before .before .before .loop-test .taken))) _ (c .before .before .before .before .before .before .before .before .same-unchecked .ensures) (c .before .before .before .before .before .before .before .if1 .left) _ (c .before .before .before .before .before .explain-match-unchecked .ensures) _ (c .before .e .given .1) (pair-of _ _ _ _ (c .before .before .before .before .before .before .before .before .before .before .before .before .loop .inv .1 .1 .going) _ _ (c .before .before .before .before .before .before .before .before .before .before .before .before .before .before .before .before .before .before .before .before .before .pre .1 .0) (c .before .before .before .before .before .before .before .before .before .before .before .before .before .before .before .before .before .before .before .before .before .pre .1 .1) _ _ (below-left _ _ _ _ (c .before .before .before .before .before .before .before .before .before .before .before .before .before .shorter .ensures) (c .before .before .before .before .before .before .before .before .before .before .before .loop-test .taken)) (below-right _ _ _ _ (c .before .before .before .before .before .before .before .before .before .before .before .before .before .shorter .ensures) (c .before .before .before .before .before .before .before .before .before .before .before .loop-test .taken))))))
+    (λ c.
+    let at-loop-test = c .before .before .before .before .before .before .before .before .before .before .before in
+    (let p = at-loop-test .loop-test .taken in omega arith))
+    (λ c. (
+      let at-loop-test = c .before .before .before .before .before .before .before .before .before .before .before in
+          let p = at-loop-test .loop-test .taken in omega arith,
+      (
+        search needs,
+        let at-explain-match-unchecked = c .before .before .before .before .before in
+            let at-if1 = at-explain-match-unchecked .before .before in
+            let at-same-unchecked = at-if1 .before in
+            let at-loop-test = at-same-unchecked .before .before .before in
+            let at-loop = at-loop-test .before in
+            let at-shorter = at-loop .before in
+            let at-start = at-shorter .before .before .before .before .before .before .before .before in
+            heads-turn _ _ _ _ (λ k. drop k (at-start .args .lhs .now)) (λ k. drop k (at-start .args .rhs .now)) (at-loop .loop .inv .1 .1) _ _
+            (drop-head _ _ (below-left _ _ _ _ (at-shorter .shorter .ensures) (at-loop-test .loop-test .taken)))
+            (drop-head _ _ (below-right _ _ _ _ (at-shorter .shorter .ensures) (at-loop-test .loop-test .taken))) _ (at-same-unchecked .same-unchecked .ensures) (at-if1 .if1 .left)
+            _ (at-explain-match-unchecked .explain-match-unchecked .ensures) _ (c .before .e .given .1)
+            (pair-of _ _ _ _ (at-loop .loop .inv .1 .1 .going) _ _ (at-start .pre .1 .0) (at-start .pre .1 .1) _ _
+            (below-left _ _ _ _ (at-shorter .shorter .ensures) (at-loop-test .loop-test .taken))
+            (below-right _ _ _ _ (at-shorter .shorter .ensures) (at-loop-test .loop-test .taken))),
+      ),
+    ))
     (λ c. search needs)
     (λ c. heads-all _ _ _ _ _ _ _ (c .before .before .shorter .ensures) (c .before .loop .inv .0) (c .loop-test .left) (c .before .loop .inv .1 .1)))

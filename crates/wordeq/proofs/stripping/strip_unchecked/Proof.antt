@@ -9,9 +9,34 @@ strip-unchecked-spec =
     (tie.spec
     (λ c κs. search needs)
     (λ c. search needs)
-    (λ c κs. (let g = (strip-going (c .before .before .before .before .before .before .before .before .before .before .before .before .before .before .before .args .terms .now) (c .before .before .before .before .before .before .before .before .before .before .before .before .before .before .before .args .cells .now) (c .before .before .before .before .before .before .before .before .before .before .before .before .before .before .before .args .chars .now) (c .before .before .before .before .before .before .before .before .before .before .before .before .before .before .before .args .keys .now) (c .before .before .before .before .before .before .before .before .before .before .before .before .before .before .before .args .lhs .now) (c .before .before .before .before .before .before .before .before .before .before .before .before .before .before .before .args .rhs .now) _ (c .before .before .before .before .before .before .strip-heads .ensures) _ _ _ _ (c .before .before .d .given .1) (c .before .before .before .before .before .before .before .before .before .before .before .before .before .before .before .pre .0) (c .before .before .before .before .before .before .before .before .before .before .before .before .before .before .before .pre .1 .0) (c .before .before .before .before .before .before .before .before .before .before .before .before .before .before .before .pre .1 .1)) in (g .ready, (going-strings (c .before .before .before .before .before .before .before .before .before .before .before .before .before .before .before .args .terms .now) (c .before .before .before .before .before .before .before .before .before .before .before .before .before .before .before .args .cells .now) (c .before .before .before .before .before .before .before .before .before .before .before .before .before .before .before .args .chars .now) (c .before .before .before .before .before .before .before .before .before .before .before .before .before .before .before .args .keys .now) g _ (c .before .before .before .before .before .before .before .before .before .before .before .before .before .before .before .pre .1 .0), (going-strings (c .before .before .before .before .before .before .before .before .before .before .before .before .before .before .before .args .terms .now) (c .before .before .before .before .before .before .before .before .before .before .before .before .before .before .before .args .cells .now) (c .before .before .before .before .before .before .before .before .before .before .before .before .before .before .before .args .chars .now) (c .before .before .before .before .before .before .before .before .before .before .before .before .before .before .before .args .keys .now) g _ (c .before .before .before .before .before .before .before .before .before .before .before .before .before .before .before .pre .1 .1), strip-from (c .before .before .before .before .before .before .before .before .before .before .before .before .before .before .before .args .terms .now) (c .before .before .before .before .before .before .before .before .before .before .before .before .before .before .before .args .cells .now) (c .before .before .before .before .before .before .before .before .before .before .before .before .before .before .before .args .chars .now) (c .before .before .before .before .before .before .before .before .before .before .before .before .before .before .before .args .keys .now) (c .before .before .before .before .before .before .before .before .before .before .before .before .before .before .before .args .lhs .now) (c .before .before .before .before .before .before .before .before .before .before .before .before .before .before .before .args .rhs .now) _ (c .before .before .before .before .before .before .strip-heads .ensures) _ _ _ _ (c .before .before .d .given .1))))))
+    (λ c κs.
+    let at-d = c .before .before in
+    let at-strip-heads = at-d .before .before .before .before in
+    let at-start = at-strip-heads .before .before .before .before .before .before .before .before .before in
+    (let g = (strip-going (at-start .args .terms .now) (at-start .args .cells .now) (at-start .args .chars .now) (at-start .args .keys .now) (at-start .args .lhs .now)
+    (at-start .args .rhs .now) _ (at-strip-heads .strip-heads .ensures) _ _ _ _ (at-d .d .given .1) (at-start .pre .0) (at-start .pre .1 .0) (at-start .pre .1 .1)) in (
+      g .ready,
+      (
+        going-strings (at-start .args .terms .now) (at-start .args .cells .now) (at-start .args .chars .now) (at-start .args .keys .now) g _ (at-start .pre .1 .0),
+        (
+          going-strings (at-start .args .terms .now) (at-start .args .cells .now) (at-start .args .chars .now) (at-start .args .keys .now) g _ (at-start .pre .1 .1),
+          strip-from (at-start .args .terms .now) (at-start .args .cells .now) (at-start .args .chars .now) (at-start .args .keys .now) (at-start .args .lhs .now)
+              (at-start .args .rhs .now) _ (at-strip-heads .strip-heads .ensures) _ _ _ _ (at-d .d .given .1),
+        ),
+      ),
+    )))
     (λ c. search needs)
     (λ c. search needs)
-    (λ c. strip-both (c .before .before .before .before .before .before .before .before .before .before .before .before .before .before .before .before .before .before .args .terms .now) (c .before .before .before .before .before .before .before .before .before .before .before .before .before .before .before .before .before .before .args .cells .now) (c .before .before .before .before .before .before .before .before .before .before .before .before .before .before .before .before .before .before .args .chars .now) (c .before .before .before .before .before .before .before .before .before .before .before .before .before .before .before .before .before .before .args .keys .now) (c .before .before .before .before .before .before .before .before .before .before .before .before .before .before .before .before .before .before .args .lhs .now) (c .before .before .before .before .before .before .before .before .before .before .before .before .before .before .before .before .before .before .args .rhs .now) _ (c .before .before .before .before .before .before .before .before .before .strip-heads .ensures) _ _ _ _ (c .before .before .before .before .before .d .given .1) (c .before .before .before .before .before .before .before .before .before .before .before .before .before .before .before .before .before .before .pre .0) (c .before .before .before .before .before .before .before .before .before .before .before .before .before .before .before .before .before .before .pre .1 .0) (c .before .before .before .before .before .before .before .before .before .before .before .before .before .before .before .before .before .before .pre .1 .1) _ _ (c .before .before .strip-tails .ensures))
+    (λ c.
+    let at-d = c .before .before .before .before .before in
+    let at-strip-heads = at-d .before .before .before .before in
+    let at-start = at-strip-heads .before .before .before .before .before .before .before .before .before in
+    strip-both (at-start .args .terms .now) (at-start .args .cells .now) (at-start .args .chars .now) (at-start .args .keys .now) (at-start .args .lhs .now)
+    (at-start .args .rhs .now) _ (at-strip-heads .strip-heads .ensures) _ _ _ _ (at-d .d .given .1) (at-start .pre .0) (at-start .pre .1 .0) (at-start .pre .1 .1) _ _
+    (c .before .before .strip-tails .ensures))
     (λ c. search needs)
-    (λ c. strip-refused (c .before .before .before .before .before .before .before .before .before .before .before .before .before .before .args .terms .now) (c .before .before .before .before .before .before .before .before .before .before .before .before .before .before .args .cells .now) (c .before .before .before .before .before .before .before .before .before .before .before .before .before .before .args .chars .now) (c .before .before .before .before .before .before .before .before .before .before .before .before .before .before .args .keys .now) (c .before .before .before .before .before .before .before .before .before .before .before .before .before .before .args .lhs .now) (c .before .before .before .before .before .before .before .before .before .before .before .before .before .before .args .rhs .now) _ (c .before .before .before .before .before .strip-heads .ensures) _ (c .before .k .given .1)))
+    (λ c.
+    let at-strip-heads = c .before .before .before .before .before in
+    let at-start = at-strip-heads .before .before .before .before .before .before .before .before .before in
+    strip-refused (at-start .args .terms .now) (at-start .args .cells .now) (at-start .args .chars .now) (at-start .args .keys .now) (at-start .args .lhs .now)
+    (at-start .args .rhs .now) _ (at-strip-heads .strip-heads .ensures) _ (c .before .k .given .1)))
