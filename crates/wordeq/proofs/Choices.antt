@@ -11,7 +11,7 @@ use borrow.Author.Tests.{eqb-true, leb-true, le-leb}
 use Rattle.records.specs.declared.State.{State}
 use Rattle.records.specs.Lists.{all}
 use Rattle.records.specs.Store.{Store, ok, andThen, isVariable, isString}
-use Rattle.records.specs.View.{Lent, storeOf}
+use Rattle.records.specs.View.{Lent, storeOf, readIn, termed}
 use Rattle.records.specs.Rules.{listLimit, isList}
 use Rattle.records.specs.Make.{makeConstant}
 use Rattle.records.proofs.Lists.{both-left, both-right, both-true}
@@ -19,7 +19,6 @@ use Rattle.wordeq.specs.declared.StepResult.{StepResult}
 use Rattle.wordeq.specs.declared.StepResult.the-variants as step
 use Rattle.wordeq.specs.Wordeq.{propagate, Tried, answer, fixed, letters, isPlain, alias, empties, assigns, _orElse_}
 use Rattle.wordeq.specs.Results.{Tries}
-use Rattle.wordeq.specs.Sides.{termed, spelled}
 use Rattle.wordeq.specs.Propagates.{aliased, emptied, assigned}
 use Rattle.wordeq.proofs.Orelse.{else-after, else-answer, else-made, else-none}
 use Rattle.wordeq.proofs.Propagated.{emptied-parts}
@@ -137,11 +136,11 @@ module _ (m : Lent) (c : State) (l r : List ℕ) where
   abbrev whole : Tried
   whole = fourth orElse assigns r l
 
-  alias-same : aliased (spelled (m .terms) (m .chars) c) l r ≡ aliased now l r
+  alias-same : aliased (readIn (m .terms) (m .chars) c) l r ≡ aliased now l r
   unfolding isPlain
   alias-same = refl
 
-  module _ (x : Bool) (i : x ≡ aliased (spelled (m .terms) (m .chars) c) l r) where
+  module _ (x : Bool) (i : x ≡ aliased (readIn (m .terms) (m .chars) c) l r) where
     pub choice-alias : x ≡ true → Tries whole m m c (step.Propagate c (getD l 0 0) (getD r 0 0) false)
     choice-alias t =
         let e = i ∙ alias-same in

@@ -13,10 +13,10 @@ use borrow.Author.Tests.{eq-eqb, ne-eqb, lt-ltb, le-ltb, ltb-true, ltb-false}
 use Rattle.records.specs.declared.State.{State}
 use Rattle.records.specs.Lists.{if_then_else_, any, keep}
 use Rattle.records.specs.Store.{Store, Term, kind, isConstant, text, root, sameClass}
-use Rattle.records.specs.View.{Lent, storeOf}
+use Rattle.records.specs.View.{Lent, storeOf, readIn, termed}
 use Rattle.records.proofs.Lists.{both-left, decide}
 use Rattle.wordeq.specs.Wordeq.{lettersOf, isFull, occurrence}
-use Rattle.wordeq.specs.Sides.{termed, spelled, Texts}
+use Rattle.wordeq.specs.Sides.{Texts}
 use Rattle.wordeq.specs.Occurring.{atPlace, ownCount}
 use Rattle.wordeq.proofs.SidesLetters.{term-there, text-length}
 use Rattle.wordeq.proofs.SidesWalk.{count-same}
@@ -179,14 +179,14 @@ any-same p q e [] = refl
 any-same p q e (a ∷ l) = rw (e a, any-same p q e l)
 
 module _ (m : Lent) (c : State) (x : Texts (m .terms) c) where
-  full-spelled : (a : ℕ) → isFull (spelled (m .terms) (m .chars) c) a ≡ isFull (storeOf m c) a
+  full-readIn : (a : ℕ) → isFull (readIn (m .terms) (m .chars) c) a ≡ isFull (storeOf m c) a
   unfolding isFull
-  full-spelled a = refl
+  full-readIn a = refl
 
   full-whole : (a : ℕ) → isFull (termed (m .terms) c) a ≡ isFull (storeOf m c) a
   full-whole a =
-      full-letters (termed (m .terms) c) a ∙ ap (ltb 0) (sym (count-same (m .terms) (m .chars) c a x)) ∙ sym (full-letters (spelled (m .terms) (m .chars) c) a)
-      ∙ full-spelled a
+      full-letters (termed (m .terms) c) a ∙ ap (ltb 0) (sym (count-same (m .terms) (m .chars) c a x)) ∙ sym (full-letters (readIn (m .terms) (m .chars) c) a)
+      ∙ full-readIn a
 
   pub occurrence-whole : (y : ℕ) (u l : List ℕ) → occurrence (termed (m .terms) c) y u l ≡ occurrence (storeOf m c) y u l
   unfolding occurrence

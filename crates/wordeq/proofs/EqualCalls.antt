@@ -10,7 +10,7 @@ use borrow.Author.Tests.{not-true, not-false, eqb-true}
 use Rattle.records.specs.declared.State.{State}
 use Rattle.records.specs.Lists.{all}
 use Rattle.records.specs.Store.{Store, Out, ok, stop, isString}
-use Rattle.records.specs.View.{Lent, storeOf}
+use Rattle.records.specs.View.{Lent, storeOf, readIn}
 use Rattle.records.specs.Rules.{audit, listLimit, isList}
 use Rattle.records.specs.Audited.{Ready}
 use Rattle.records.specs.Calls.{Working, Public, call}
@@ -19,7 +19,7 @@ use Rattle.records.proofs.Passed.{ready-of}
 use Rattle.records.proofs.Public.{call-unready, call-unfit, call-works, audit-low}
 use Rattle.records.proofs.Works.{stop-not}
 use Rattle.wordeq.specs.Wordeq.{same, nfEqual, nfExplain, nfArguments}
-use Rattle.wordeq.specs.Stripping.{readIn, Readable}
+use Rattle.wordeq.specs.Stripping.{Readable}
 use Rattle.wordeq.specs.Calls.{equalArguments, equalLists, PublicEqualExplain}
 use Rattle.wordeq.proofs.Equal.{explain-equal-sound, explain-equal-stops}
 

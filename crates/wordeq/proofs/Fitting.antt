@@ -13,10 +13,10 @@ use borrow.Author.Tests.{eq-eqb, ne-eqb}
 use Rattle.records.specs.declared.State.{State}
 use Rattle.records.specs.Lists.{if_then_else_, all, keep, joined, sameWord}
 use Rattle.records.specs.Store.{Store, kind, isConstant, isString, text}
-use Rattle.records.specs.View.{lent, storeOf}
+use Rattle.records.specs.View.{lent, storeOf, readIn, termed}
 use Rattle.records.proofs.Lists.{both-left, both-right, both-true, left-false, and-next, or-stop, or-next, failed, passed, clash, decide, all-append, all-every, every-at, joined-append}
 use Rattle.wordeq.specs.Wordeq.{same, fixed, lettersOf, letters, filled, lead, forced, firstSpan, fits, variables}
-use Rattle.wordeq.specs.Sides.{termed, spelled, Spelled, rest, Tiling}
+use Rattle.wordeq.specs.Sides.{Spelled, rest, Tiling}
 use Rattle.wordeq.specs.Stripping.{Pair}
 use Rattle.wordeq.specs.Spans.{FirstVariable, agrees}
 use Rattle.wordeq.proofs.SidesReady.{length-whole}
@@ -202,7 +202,7 @@ no-rest y z x e f = omega arith
 
 module _ (w h : List ℕ) (c : State) (word side : List ℕ) (k l n : ℕ) (x : Spelled w h c) (p : l ≡ length (letters (termed w c) word)) (q : n ≡ length (letters (termed w c) side)) where
   abbrev s : Store
-  s = spelled w h c
+  s = readIn w h c
 
   long : l ≡ length (letters s word)
   long = p ∙ length-whole (lent w [] h [] []) c (x .texts) word
@@ -235,21 +235,21 @@ module _ (w h : List ℕ) (c : State) (word side : List ℕ) (k l n : ℕ) (x : 
     even f = let a = long in let b = wide in more _ _ _ (omega arith) (sym product ∙ no-rest _ _ _ (div-add-mod' (l - n) k) f ∙ apart)
 
     module _ (i : ℕ) (first : FirstVariable (termed w c) side i) (place : ℕ) (g : place ≡ length (letters (termed w c) (take (i - 0) (drop 0 side)))) where
-      spelled-first : FirstVariable s side i
+      readIn-first : FirstVariable s side i
       unfolding fixed
-      spelled-first = record { within = first .within; before = first .before; at = first .at }
+      readIn-first = record { within = first .within; before = first .before; at = first .at }
 
       place-is : place ≡ length (lead s side)
       place-is =
           let e : i - 0 ≡ i = omega arith in
           g ∙ ap (λ (y : ℕ). length (letters (termed w c) (take y side))) e
-          ∙ length-whole (lent w [] h [] []) c (x .texts) (take i side) ∙ ap length (sym (lead-is s side i spelled-first))
+          ∙ length-whole (lent w [] h [] []) c (x .texts) (take i side) ∙ ap length (sym (lead-is s side i readIn-first))
 
       pub span-there : Tiling w h c word (record { atom = 0; place = place }) ((l - n) / k)
       span-there =
           let a = long in let b = wide in
           let e = place-is in
-          let f = lead-short s side i spelled-first in
+          let f = lead-short s side i readIn-first in
           let o = div-le-self (l - n) k in
           let y = length-drop place (letters s word) in
           record { known = x; fits = omega arith }
@@ -263,19 +263,19 @@ module _ (w h : List ℕ) (c : State) (word side : List ℕ) (k l n : ℕ) (x : 
 
 -- the fit reads terms and characters alone
 module _ (t e h rs ks : List ℕ) (c : State) where
-  lead-whole : (r : List ℕ) → lead (spelled t h c) r ≡ lead (storeOf (lent t e h rs ks) c) r
+  lead-whole : (r : List ℕ) → lead (readIn t h c) r ≡ lead (storeOf (lent t e h rs ks) c) r
   unfolding lead
   lead-whole [] = refl
-  lead-whole (a ∷ r) = go (isConstant (spelled t h c) a) (lead-whole r)
+  lead-whole (a ∷ r) = go (isConstant (readIn t h c) a) (lead-whole r)
     where
-      go : (b : Bool) → lead (spelled t h c) r ≡ lead (storeOf (lent t e h rs ks) c) r
-          → _≡_ {A = List ℕ} (elim b as (λ x. List ℕ) [ true ↦ text (spelled t h c) a ++ lead (spelled t h c) r | false ↦ [] ]) (elim b as (λ x. List ℕ) [ true ↦ text (spelled t h c) a ++ lead (storeOf (lent t e h rs ks) c) r | false ↦ [] ])
-      go true g = ap (λ (x : List ℕ). text (spelled t h c) a ++ x) g
+      go : (b : Bool) → lead (readIn t h c) r ≡ lead (storeOf (lent t e h rs ks) c) r
+          → _≡_ {A = List ℕ} (elim b as (λ x. List ℕ) [ true ↦ text (readIn t h c) a ++ lead (readIn t h c) r | false ↦ [] ]) (elim b as (λ x. List ℕ) [ true ↦ text (readIn t h c) a ++ lead (storeOf (lent t e h rs ks) c) r | false ↦ [] ])
+      go true g = ap (λ (x : List ℕ). text (readIn t h c) a ++ x) g
       go false g = refl
 
-  pub fits-whole : (word side : List ℕ) (k : ℕ) → fits (spelled t h c) (letters (spelled t h c) word) side k ≡ fits (storeOf (lent t e h rs ks) c) (letters (storeOf (lent t e h rs ks) c) word) side k
+  pub fits-whole : (word side : List ℕ) (k : ℕ) → fits (readIn t h c) (letters (readIn t h c) word) side k ≡ fits (storeOf (lent t e h rs ks) c) (letters (storeOf (lent t e h rs ks) c) word) side k
   unfolding fits firstSpan filled letters lettersOf
   fits-whole word side k =
-      let s = spelled t h c in
+      let s = readIn t h c in
       let w = letters s word in
       ap (λ (x : List ℕ). eqb (k * forced s w side k + length (letters s side)) (length w) && sameWord (filled s (take (forced s w side k) (drop (length x) w)) side) w) (lead-whole side)

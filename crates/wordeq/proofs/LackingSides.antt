@@ -11,10 +11,10 @@ use borrow.Author.Tests.{eq-eqb, not-false}
 use Rattle.records.specs.declared.State.{State}
 use Rattle.records.specs.Lists.{any, isIn}
 use Rattle.records.specs.Store.{Store, Term, kind}
-use Rattle.records.specs.View.{lent, charLimit, span}
+use Rattle.records.specs.View.{lent, charLimit, span, readIn, termed}
 use Rattle.records.proofs.Lists.{any-append, any-turn, any-stop, any-done, any-zero, or-left, or-none, right-false, and-stop, and-next, failed, passed, clash}
 use Rattle.wordeq.specs.Wordeq.{fixed, lettersOf, letters, absent}
-use Rattle.wordeq.specs.Sides.{termed, spelled, Texts}
+use Rattle.wordeq.specs.Sides.{Texts}
 use Rattle.wordeq.specs.Lacking.{seen, marked, Marked, Lacking}
 use Rattle.wordeq.proofs.SidesLetters.{term-there, letters-other, letters-at, letters-end}
 use Rattle.wordeq.proofs.SidesTexts.{text-words}
@@ -33,7 +33,7 @@ is-in-append x l m = any-append (eqb x) l m
 -- A CONSTANT'S CHARACTERS IN THE LENT WORDS
 
 module _ (w : List ℕ) (c : State) (a k : ℕ) (x : Texts w c) (e : k ≡ kind (termed w c) a) (o : k ≡ 1) where
-  letters-words : (h : List ℕ) → lettersOf (spelled w h c) a ≡ span h (getD w (8 * a + 1) 0) (getD w (8 * a + 2) 0)
+  letters-words : (h : List ℕ) → lettersOf (readIn w h c) a ≡ span h (getD w (8 * a + 1) 0) (getD w (8 * a + 2) 0)
   unfolding lettersOf
   letters-words h = rw (eq-eqb (kind (termed w c) a) 1 (sym e ∙ o)) (text-words w h c a 0 (sym e ∙ o) (x .constants a (sym e ∙ o)))
 
@@ -48,10 +48,10 @@ module _ (w : List ℕ) (c : State) (a k : ℕ) (x : Texts w c) (e : k ≡ kind 
     pub text-limit : p + n ≤ charLimit
     text-limit = let q = text-fits in let r = x .limited in omega arith
 
-    letters-here : (h : List ℕ) → lettersOf (spelled w h c) a ≡ span h p n
+    letters-here : (h : List ℕ) → lettersOf (readIn w h c) a ≡ span h p n
     letters-here h = letters-words h ∙ (let y : p ≡ getD w (8 * a + 1) 0 = j ∙ i in let z : n ≡ getD w (8 * a + 2) 0 = v ∙ u in rw (y, z))
 
-    pub mark-atom-is : (t t′ : List ℕ) → length t ≡ charLimit → t′ ≡ marked t p n → Marked (c .chars) (λ h. lettersOf (spelled w h c) a) t t′
+    pub mark-atom-is : (t t′ : List ℕ) → length t ≡ charLimit → t′ ≡ marked t p n → Marked (c .chars) (λ h. lettersOf (readIn w h c) a) t t′
     mark-atom-is t t′ s d = record {
       size = ap length d ∙ marked-length t p n;
       marks = λ h y.
@@ -60,18 +60,18 @@ module _ (w : List ℕ) (c : State) (a k : ℕ) (x : Texts w c) (e : k ≡ kind 
           ∙ ap (λ (z : List ℕ). seen h t (c .chars) y || isIn y z) (sym (letters-here h));
     }
 
-    pub lack-atom-is : (h t t′ : List ℕ) (b : Bool) → Lacking h (c .chars) (span h p n) t t′ b → Lacking h (c .chars) (lettersOf (spelled w h c) a) t t′ b
+    pub lack-atom-is : (h t t′ : List ℕ) (b : Bool) → Lacking h (c .chars) (span h p n) t t′ b → Lacking h (c .chars) (lettersOf (readIn w h c) a) t t′ b
     lack-atom-is h t t′ b q = record { says = q .says ∙ ap (any (λ y. not (seen h t (c .chars) y))) (sym (letters-here h)); size = q .size; kept = q .kept }
 
 module _ (w : List ℕ) (c : State) (a k : ℕ) (x : Texts w c) (e : k ≡ kind (termed w c) a) (o : k ≡ 1 → ⊥) (t : List ℕ) where
-  pub mark-atom-none : Marked (c .chars) (λ h. lettersOf (spelled w h c) a) t t
+  pub mark-atom-none : Marked (c .chars) (λ h. lettersOf (readIn w h c) a) t t
   unfolding isIn any
   mark-atom-none = record {
     size = refl;
     marks = λ h y. sym (ap (λ (z : List ℕ). seen h t (c .chars) y || isIn y z) (letters-other w h c x a (λ z. o (e ∙ z))) ∙ or-none (seen h t (c .chars) y));
   }
 
-  pub lack-atom-none : (h : List ℕ) → Lacking h (c .chars) (lettersOf (spelled w h c) a) t t false
+  pub lack-atom-none : (h : List ℕ) → Lacking h (c .chars) (lettersOf (readIn w h c) a) t t false
   unfolding any
   lack-atom-none h = record { says = sym (ap (any (λ y. not (seen h t (c .chars) y))) (letters-other w h c x a (λ z. o (e ∙ z)))); size = refl; kept = λ z y. refl }
 
@@ -80,17 +80,17 @@ module _ (w : List ℕ) (c : State) (a k : ℕ) (x : Texts w c) (e : k ≡ kind 
 -- with the characters from atom i on, those of all atoms are marked
 pub record Marking (w : List ℕ) (c : State) (l t₀ t : List ℕ) (i : ℕ) : Type 0 where
   pub size : length t ≡ length t₀
-  pub rest : (h : List ℕ) (x : ℕ) → (seen h t (c .chars) x || isIn x (letters (spelled w h c) (drop i l))) ≡ (seen h t₀ (c .chars) x || isIn x (letters (spelled w h c) l))
+  pub rest : (h : List ℕ) (x : ℕ) → (seen h t (c .chars) x || isIn x (letters (readIn w h c) (drop i l))) ≡ (seen h t₀ (c .chars) x || isIn x (letters (readIn w h c) l))
 
 pub marking-none : (w : List ℕ) (c : State) (l t : List ℕ) → Marking w c l t t 0
 marking-none w c l t = record { size = refl; rest = λ h x. refl }
 
 module _ (w : List ℕ) (c : State) (l t₀ t : List ℕ) (i : ℕ) (m : Marking w c l t₀ t i) where
-  pub marking-one : (t′ : List ℕ) → i < length l → Marked (c .chars) (λ h. lettersOf (spelled w h c) (getD l i 0)) t t′ → Marking w c l t₀ t′ (i + 1)
+  pub marking-one : (t′ : List ℕ) → i < length l → Marked (c .chars) (λ h. lettersOf (readIn w h c) (getD l i 0)) t t′ → Marking w c l t₀ t′ (i + 1)
   marking-one t′ q d = record {
     size = d .size ∙ m .size;
     rest = λ h x.
-        let s = spelled w h c in
+        let s = readIn w h c in
         let n = c .chars in
         rw add-one (
         ap (λ (b : Bool). b || isIn x (letters s (drop (suc i) l))) (d .marks h x)
@@ -99,12 +99,12 @@ module _ (w : List ℕ) (c : State) (l t₀ t : List ℕ) (i : ℕ) (m : Marking
         ∙ m .rest h x);
   }
 
-  pub marking-done : length l ≤ i → Marked (c .chars) (λ h. letters (spelled w h c) l) t₀ t
+  pub marking-done : length l ≤ i → Marked (c .chars) (λ h. letters (readIn w h c) l) t₀ t
   unfolding isIn any
   marking-done q = record {
     size = m .size;
     marks = λ h x.
-        sym (ap (λ (z : List ℕ). seen h t (c .chars) x || isIn x z) (letters-end (spelled w h c) l i q) ∙ or-none (seen h t (c .chars) x))
+        sym (ap (λ (z : List ℕ). seen h t (c .chars) x || isIn x z) (letters-end (readIn w h c) l i q) ∙ or-none (seen h t (c .chars) x))
         ∙ m .rest h x;
   }
 
@@ -181,20 +181,20 @@ any-bare p [] e = refl
 any-bare p (x ∷ l) e = absurd (omega arith)
 
 -- nothing is absent where there is no character
-pub absent-bare : (w h : List ℕ) (c : State) (l r : List ℕ) → Texts w c → (n : ℕ) → n ≡ length (letters (termed w c) r) → n ≡ 0 → false ≡ absent (spelled w h c) l r
+pub absent-bare : (w h : List ℕ) (c : State) (l r : List ℕ) → Texts w c → (n : ℕ) → n ≡ length (letters (termed w c) r) → n ≡ 0 → false ≡ absent (readIn w h c) l r
 unfolding absent
 absent-bare w h c l r x n e z =
-    let s = spelled w h c in sym (right-false (fixed s l) _ (any-bare (λ y. not (isIn y (letters s l))) (letters s r) (sym (length-whole (lent w [] h [] []) c x r) ∙ sym e ∙ z)))
+    let s = readIn w h c in sym (right-false (fixed s l) _ (any-bare (λ y. not (isIn y (letters s l))) (letters s r) (sym (length-whole (lent w [] h [] []) c x r) ∙ sym e ∙ z)))
 
 module _ (w h : List ℕ) (c : State) (l r : List ℕ) (x : Bool) (e : x ≡ fixed (termed w c) l) where
-  pub absent-not : not x ≡ true → false ≡ absent (spelled w h c) l r
+  pub absent-not : not x ≡ true → false ≡ absent (readIn w h c) l r
   unfolding absent fixed
   absent-not n = and-stop _ _ (failed _ x e n)
 
-  pub absent-is : not x ≡ false → c .chars ≤ charLimit → (t t′ : List ℕ) (b : Bool) → Marked (c .chars) (λ h. letters (spelled w h c) l) (replicate charLimit 0) t
-      → Lacking h (c .chars) (letters (spelled w h c) r) t t′ b → b ≡ absent (spelled w h c) l r
+  pub absent-is : not x ≡ false → c .chars ≤ charLimit → (t t′ : List ℕ) (b : Bool) → Marked (c .chars) (λ h. letters (readIn w h c) l) (replicate charLimit 0) t
+      → Lacking h (c .chars) (letters (readIn w h c) r) t t′ b → b ≡ absent (readIn w h c) l r
   unfolding absent fixed
   absent-is n q t t′ b m k =
       and-next _ _ b (passed _ x e n)
-      (k .says ∙ any-same (λ y. not (seen h t (c .chars) y)) (λ y. not (isIn y (letters (spelled w h c) l))) (letters (spelled w h c) r)
-      (λ y. ap not (m .marks h y ∙ ap (λ (z : Bool). z || isIn y (letters (spelled w h c) l)) (seen-none h charLimit (c .chars) y q))))
+      (k .says ∙ any-same (λ y. not (seen h t (c .chars) y)) (λ y. not (isIn y (letters (readIn w h c) l))) (letters (readIn w h c) r)
+      (λ y. ap not (m .marks h y ∙ ap (λ (z : Bool). z || isIn y (letters (readIn w h c) l)) (seen-none h charLimit (c .chars) y q))))

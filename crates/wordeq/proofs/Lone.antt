@@ -13,7 +13,7 @@ use Rattle.records.specs.declared.State.{State}
 use Rattle.records.specs.declared.Added.the-variants as adding
 use Rattle.records.specs.Lists.{if_then_else_, all}
 use Rattle.records.specs.Store.{Store, ok, andThen, termIn, within, classUp, isConstant, isString}
-use Rattle.records.specs.View.{Lent, lent, storeOf, termsView}
+use Rattle.records.specs.View.{Lent, lent, storeOf, termsView, termed}
 use Rattle.records.specs.Audited.{Audited, Ready, Closed}
 use Rattle.records.specs.Calls.{Working, added}
 use Rattle.records.specs.Rules.{listLimit}
@@ -25,9 +25,9 @@ use Rattle.wordeq.specs.declared.StepResult.{StepResult}
 use Rattle.wordeq.specs.declared.StepResult.the-variants as step
 use Rattle.wordeq.specs.Wordeq.{conflict, pass, answer, settled, _orElse_, occurrence, occursAt, occurs}
 use Rattle.wordeq.specs.Results.{BothLists, tried, Tries}
-use Rattle.wordeq.specs.Sides.{termed, Texts}
+use Rattle.wordeq.specs.Sides.{Texts}
 use Rattle.wordeq.specs.Occurring.{atPlace}
-use Rattle.wordeq.proofs.SidesReady.{ready-spelled, ready-classes, string-within}
+use Rattle.wordeq.proofs.SidesReady.{ready-readIn, ready-classes, string-within}
 use Rattle.normalize.proofs.Carried.{Higher, agree-below}
 use Rattle.wordeq.proofs.Sequence.{grows-give}
 use Rattle.wordeq.proofs.Elsewhere.{place-in, place-past, occurrence-whole, occurrence-class}
@@ -76,7 +76,7 @@ module _ (t e h r ks : List ℕ) (c : State) (l o : List ℕ) where
 
   module _ (d : Ready m c) (b : BothLists s l o) where
     pub texts-known : Texts t c × (length o ≤ listLimit)
-    texts-known = (ready-spelled m c d .texts, leb-true (length o) listLimit (both-left _ _ (b .right)))
+    texts-known = (ready-readIn m c d .texts, leb-true (length o) listLimit (both-left _ _ (b .right)))
 
     pub classes-known : Closed (classUp (termsView t (c .terms))) (c .terms)
     classes-known = ready-classes m c d
@@ -96,7 +96,7 @@ module _ (t e h r ks : List ℕ) (c : State) (l o : List ℕ) where
     module _ (n : length l ≡ 1) (k : ℕ) (i : k ≡ termIn (termsView t (c .terms)) (getD l 0 0) .kind) (j : k ≡ 1 → ⊥) (p : ℕ)
         (f : occurrence (termed t c) (getD l 0 0) [] o ≡ atPlace o p) where
       found : occurrence s (getD l 0 0) [] o ≡ atPlace o p
-      found = sym (occurrence-whole m c (ready-spelled m c d .texts) (getD l 0 0) [] o) ∙ f
+      found = sym (occurrence-whole m c (ready-readIn m c d .texts) (getD l 0 0) [] o) ∙ f
 
       on : (y : Option ℕ) → atPlace o p ≡ y → occurs l o s ≡ occursAt (getD l 0 0) y s
       on y g = only n k i ∙ occurs-other (getD l 0 0) o s (ne-eqb (termIn (termsView t (c .terms)) (getD l 0 0) .kind) 1 (λ z. j (i ∙ z))) y (found ∙ g)

@@ -10,13 +10,13 @@ use Rattle.records.specs.declared.State.{State}
 use Rattle.records.specs.declared.Added.the-variants as adding
 use Rattle.records.specs.Lists.{all, sameWord}
 use Rattle.records.specs.Store.{Store, Out, ok, stop, andThen, isConstant, isString, text, sameClass}
-use Rattle.records.specs.View.{Lent, lent, storeOf}
+use Rattle.records.specs.View.{Lent, lent, storeOf, readIn}
 use Rattle.records.specs.Audited.{Ready}
 use Rattle.records.specs.Calls.{Working, added}
 use Rattle.records.proofs.Lists.{both-true}
 use Rattle.engine.specs.Explain.{explain, explainArguments}
 use Rattle.wordeq.specs.Wordeq.{explainPair, nfExplain}
-use Rattle.wordeq.specs.Stripping.{readIn, Readable, Pair}
+use Rattle.wordeq.specs.Stripping.{Readable, Pair}
 use Rattle.wordeq.proofs.Strips.{Going, going-none, going-then, kept-down, pair-of, drop-head}
 use Rattle.wordeq.proofs.Equal.{pair-ends}
 use Rattle.records.specs.declared.Added.{Added as Answered}

@@ -15,7 +15,7 @@ use Rattle.records.specs.declared.Made.{Made}
 use Rattle.records.specs.declared.Made.the-variants.{Term, Refused}
 use Rattle.records.specs.Lists.{all, firstOf, Every}
 use Rattle.records.specs.Store.{Store, andThen, within, kind, isVariable, isString}
-use Rattle.records.specs.View.{Lent, storeOf}
+use Rattle.records.specs.View.{Lent, storeOf, readIn, termed}
 use Rattle.records.specs.Make.{makeConstant}
 use Rattle.records.specs.Audited.{Ready}
 use Rattle.records.specs.Calls.{Working, made}
@@ -26,8 +26,7 @@ use Rattle.wordeq.specs.declared.StepResult.{StepResult}
 use Rattle.wordeq.specs.declared.StepResult.the-variants as step
 use Rattle.wordeq.specs.Wordeq.{same, fixed, letters, isPlain, empties, emptiesAt, assigns}
 use Rattle.wordeq.specs.Results.{tried, Tries}
-use Rattle.wordeq.specs.Sides.{termed}
-use Rattle.wordeq.specs.Stripping.{readIn, Readable, Pair}
+use Rattle.wordeq.specs.Stripping.{Readable, Pair}
 use Rattle.wordeq.specs.Propagates.{aliased, emptied, assigned, linked}
 use Rattle.wordeq.proofs.Strips.{drop-head}
 use Rattle.wordeq.proofs.Sequence.{made-is, made-stops}

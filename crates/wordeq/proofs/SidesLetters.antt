@@ -12,12 +12,12 @@ use borrow.Author.Tests.{eq-eqb, ne-eqb}
 use Rattle.records.specs.declared.State.{State}
 use Rattle.records.specs.Lists.{if_then_else_, all, joined}
 use Rattle.records.specs.Store.{Store, Term, textIn, kind, term, isConstant, text}
-use Rattle.records.specs.View.{charLimit, termAt}
+use Rattle.records.specs.View.{charLimit, termAt, readIn, termed}
 use Rattle.records.proofs.Lists.{and-stop, and-next, left-false, table-length, failed, passed, within-low, within-high}
 use Rattle.records.proofs.Grown.{kind-term}
 use Rattle.records.proofs.Views.{term-is}
 use Rattle.wordeq.specs.Wordeq.{fixed, lettersOf, letters, short}
-use Rattle.wordeq.specs.Sides.{termed, spelled, Texts, constantSide, otherSide}
+use Rattle.wordeq.specs.Sides.{Texts, constantSide, otherSide}
 
 -- ALL CONSTANTS
 
@@ -78,16 +78,16 @@ term-there l c t k e =
 
 module _ (l h : List ℕ) (c : State) where
   -- a text within the count has its whole length
-  pub text-length : (t : ℕ) → term (termed l c) t .first + term (termed l c) t .second ≤ c .chars → length (text (spelled l h c) t) ≡ term (termed l c) t .second
+  pub text-length : (t : ℕ) → term (termed l c) t .first + term (termed l c) t .second ≤ c .chars → length (text (readIn l h c) t) ≡ term (termed l c) t .second
   unfolding textIn
   text-length t q = let e = table-length (λ i. getD h i 0) (c .chars) in simp (length-take, length-drop) (omega arith)
 
   module _ (x : Texts l c) (a : ℕ) where
-    pub letters-constant : kind (termed l c) a ≡ 1 → length (lettersOf (spelled l h c) a) ≡ getD l (8 * a + 2) 0
+    pub letters-constant : kind (termed l c) a ≡ 1 → length (lettersOf (readIn l h c) a) ≡ getD l (8 * a + 2) 0
     unfolding lettersOf
     letters-constant e = rw (eq-eqb (kind (termed l c) a) 1 e) (text-length a (x .constants a e) ∙ ap (λ (t : Term). t .second) (term-there l c a 0 e))
 
-    pub letters-other : (kind (termed l c) a ≡ 1 → ⊥) → lettersOf (spelled l h c) a ≡ []
+    pub letters-other : (kind (termed l c) a ≡ 1 → ⊥) → lettersOf (readIn l h c) a ≡ []
     unfolding lettersOf
     letters-other e = rw (ne-eqb (kind (termed l c) a) 1 e)
 
@@ -98,11 +98,11 @@ pub count-some : (l : List ℕ) (c : State) (a k v r : ℕ) → Texts l c → k 
 count-some l c a k v r x e n f g = g ∙ f ∙ sym (letters-constant l [] c x a (sym e ∙ n))
 
 -- the letters of an atom are no more than are counted
-pub count-limit : (l h : List ℕ) (c : State) (a : ℕ) → length (lettersOf (spelled l h c) a) ≤ c .chars
+pub count-limit : (l h : List ℕ) (c : State) (a : ℕ) → length (lettersOf (readIn l h c) a) ≤ c .chars
 unfolding lettersOf textIn
-count-limit l h c a = go (isConstant (spelled l h c) a)
+count-limit l h c a = go (isConstant (readIn l h c) a)
   where
-    go : (b : Bool) → length (if b then text (spelled l h c) a else []) ≤ c .chars
+    go : (b : Bool) → length (if b then text (readIn l h c) a else []) ≤ c .chars
     go true = let e = table-length (λ i. getD h i 0) (c .chars) in simp (length-take, length-drop) (omega arith)
     go false = omega arith
 

@@ -10,12 +10,12 @@ use lib.Dec.{ltb}
 use Rattle.records.specs.declared.State.{State}
 use Rattle.records.specs.Lists.{joined}
 use Rattle.records.specs.Store.{isString, within, classUp}
-use Rattle.records.specs.View.{Lent, storeOf, termAt, termsView}
+use Rattle.records.specs.View.{Lent, storeOf, termAt, termsView, readIn, termed}
 use Rattle.records.specs.Audited.{Ready, Closed}
 use Rattle.records.proofs.Lists.{table-length}
 use Rattle.records.proofs.Grown.{string-term}
 use Rattle.wordeq.specs.Wordeq.{fixed, lettersOf, letters, short}
-use Rattle.wordeq.specs.Sides.{termed, spelled, Texts, Spelled, constantSide, otherSide}
+use Rattle.wordeq.specs.Sides.{Texts, Spelled, constantSide, otherSide}
 use Rattle.wordeq.proofs.SidesWalk.{count-same}
 
 module _ (m : Lent) (c : State) where
@@ -23,8 +23,8 @@ module _ (m : Lent) (c : State) where
     chars-size : length ((storeOf m c) .chars) ≡ c .chars
     chars-size = table-length (λ i. getD (m .chars) i 0) (c .chars)
 
-    pub ready-spelled : Spelled (m .terms) (m .chars) c
-    ready-spelled = record {
+    pub ready-readIn : Spelled (m .terms) (m .chars) c
+    ready-readIn = record {
       texts = record {
         limited = x .sized .charLimited;
         constants = λ t e. let f = x .audited .recorded .constants t e in rw chars-size at f;
@@ -54,20 +54,20 @@ module _ (m : Lent) (c : State) where
   unfolding otherSide fixed
   other-side-whole l r = refl
 
-  pub letters-whole : (l : List ℕ) → letters (spelled (m .terms) (m .chars) c) l ≡ letters (storeOf m c) l
+  pub letters-whole : (l : List ℕ) → letters (readIn (m .terms) (m .chars) c) l ≡ letters (storeOf m c) l
   unfolding letters lettersOf
   letters-whole l = refl
 
   -- how many letters there are does not depend on the characters
   module _ (x : Texts (m .terms) c) where
-    count-all : (l : List ℕ) → length (letters (termed (m .terms) c) l) ≡ length (letters (spelled (m .terms) (m .chars) c) l)
+    count-all : (l : List ℕ) → length (letters (termed (m .terms) c) l) ≡ length (letters (readIn (m .terms) (m .chars) c) l)
     unfolding letters joined
     count-all [] = refl
     count-all (a ∷ l) =
         length-append (lettersOf (termed (m .terms) c) a) (joined (lettersOf (termed (m .terms) c)) l)
         ∙ (let e = count-same (m .terms) (m .chars) c a x in
         let f = count-all l in
-        let g = length-append (lettersOf (spelled (m .terms) (m .chars) c) a) (joined (lettersOf (spelled (m .terms) (m .chars) c)) l) in omega arith)
+        let g = length-append (lettersOf (readIn (m .terms) (m .chars) c) a) (joined (lettersOf (readIn (m .terms) (m .chars) c)) l) in omega arith)
 
     pub length-whole : (l : List ℕ) → length (letters (termed (m .terms) c) l) ≡ length (letters (storeOf m c) l)
     length-whole l = count-all l ∙ ap length (letters-whole l)

@@ -12,12 +12,12 @@ use borrow.Author.Tests.{eqb-true, eq-eqb, ne-eqb}
 use Rattle.records.specs.declared.State.{State}
 use Rattle.records.specs.Lists.{table, sameWord}
 use Rattle.records.specs.Store.{Term, kind, term, isConstant, text}
-use Rattle.records.specs.View.{span}
+use Rattle.records.specs.View.{span, readIn, termed}
 use Rattle.records.specs.Make.{strk}
 use Rattle.records.proofs.Lists.{and-stop, and-next, both-left, both-right, both-true, failed, table-at, table-length, table-add, word-differs}
 use Rattle.records.proofs.Views.{text-span}
 use Rattle.wordeq.specs.Wordeq.{isPlain, differ}
-use Rattle.wordeq.specs.Sides.{termed, spelled, Spelled}
+use Rattle.wordeq.specs.Sides.{Spelled}
 use Rattle.wordeq.proofs.SidesLetters.{term-there}
 
 -- A CHARACTER THAT DIFFERS
@@ -75,7 +75,7 @@ module _ (h : List ℕ) (p n q m : ℕ) where
 
 -- a text in the lent words
 pub text-words : (w h : List ℕ) (c : State) (a k : ℕ) → kind (termed w c) a ≡ suc k → term (termed w c) a .first + term (termed w c) a .second ≤ c .chars
-    → text (spelled w h c) a ≡ span h (getD w (8 * a + 1) 0) (getD w (8 * a + 2) 0)
+    → text (readIn w h c) a ≡ span h (getD w (8 * a + 1) 0) (getD w (8 * a + 2) 0)
 text-words w h c a k e q =
     text-span h (c .chars) (term (termed w c) a) q
     ∙ ap (λ (t : Term). span h (t .first) (t .second)) (term-there w c a k e)
@@ -95,10 +95,10 @@ module _ (w h : List ℕ) (c : State) (a b : ℕ) (x : Spelled w h c) (y : (isCo
   other-kind : kind (termed w c) b ≡ 1
   other-kind = eqb-true _ 1 (both-right (isConstant (termed w c) a) _ y)
 
-  one-text : text (spelled w h c) a ≡ span h (getD w (8 * a + 1) 0) (getD w (8 * a + 2) 0)
+  one-text : text (readIn w h c) a ≡ span h (getD w (8 * a + 1) 0) (getD w (8 * a + 2) 0)
   one-text = text-words w h c a 0 one-kind (x .texts .constants a one-kind)
 
-  other-text : text (spelled w h c) b ≡ span h (getD w (8 * b + 1) 0) (getD w (8 * b + 2) 0)
+  other-text : text (readIn w h c) b ≡ span h (getD w (8 * b + 1) 0) (getD w (8 * b + 2) 0)
   other-text = text-words w h c b 0 other-kind (x .texts .constants b other-kind)
 
   pub one-room : getD w (8 * a + 1) 0 + getD w (8 * a + 2) 0 ≤ length h
@@ -108,36 +108,36 @@ module _ (w h : List ℕ) (c : State) (a b : ℕ) (x : Spelled w h c) (y : (isCo
   other-room = text-room w h c b 0 x other-kind (x .texts .constants b other-kind)
 
   pub differ-is : (p n q m : ℕ) (r : Bool) → p ≡ getD w (8 * a + 1) 0 → n ≡ getD w (8 * a + 2) 0 → q ≡ getD w (8 * b + 1) 0 → m ≡ getD w (8 * b + 2) 0
-      → r ≡ differ (span h p n) (span h q m) → r ≡ (isConstant (spelled w h c) a && isConstant (spelled w h c) b && differ (text (spelled w h c) a) (text (spelled w h c) b))
+      → r ≡ differ (span h p n) (span h q m) → r ≡ (isConstant (readIn w h c) a && isConstant (readIn w h c) b && differ (text (readIn w h c) a) (text (readIn w h c) b))
   differ-is p n q m r e f g i d = and-next _ _ r y (d ∙ (rw (e, f, g, i, one-text, other-text)))
 
 pub differ-not : (w h : List ℕ) (c : State) (a b : ℕ) (x : Bool) → x ≡ (isConstant (termed w c) a && isConstant (termed w c) b) → not x ≡ true
-    → false ≡ (isConstant (spelled w h c) a && isConstant (spelled w h c) b && differ (text (spelled w h c) a) (text (spelled w h c) b))
+    → false ≡ (isConstant (readIn w h c) a && isConstant (readIn w h c) b && differ (text (readIn w h c) a) (text (readIn w h c) b))
 differ-not w h c a b x e n = and-stop _ _ (failed _ x e n)
 
 -- PLAIN VARIABLES
 
 module _ (w h : List ℕ) (c : State) (v k : ℕ) (x : Spelled w h c) (e : k ≡ kind (termed w c) v) where
-  pub plain-kind : (k ≡ 2 → ⊥) → false ≡ isPlain (spelled w h c) v
+  pub plain-kind : (k ≡ 2 → ⊥) → false ≡ isPlain (readIn w h c) v
   unfolding isPlain
   plain-kind n = and-stop _ _ (ne-eqb _ 2 (λ z. n (e ∙ z)))
 
   module _ (o : k ≡ 2) where
-    name-text : text (spelled w h c) v ≡ span h (getD w (8 * v + 1) 0) (getD w (8 * v + 2) 0)
+    name-text : text (readIn w h c) v ≡ span h (getD w (8 * v + 1) 0) (getD w (8 * v + 2) 0)
     name-text = text-words w h c v 1 (sym e ∙ o) (x .texts .variables v (sym e ∙ o))
 
-    name-long : length (text (spelled w h c) v) ≡ getD w (8 * v + 2) 0
+    name-long : length (text (readIn w h c) v) ≡ getD w (8 * v + 2) 0
     name-long = ap length name-text ∙ table-length (λ i. getD h (getD w (8 * v + 1) 0 + i) 0) (getD w (8 * v + 2) 0)
 
-    pub plain-short : (n : ℕ) → n ≡ getD w (8 * v + 2) 0 → n < 5 → true ≡ isPlain (spelled w h c) v
+    pub plain-short : (n : ℕ) → n ≡ getD w (8 * v + 2) 0 → n < 5 → true ≡ isPlain (readIn w h c) v
     unfolding isPlain
     plain-short n f l =
         sym (both-true _ _ (eq-eqb _ 2 (sym e ∙ o)) (ap not (word-differs _ _ (λ z.
         let i = ap length z in
         let j = name-long in
-        let g : length (take 5 (text (spelled w h c) v)) < 5 = simp length-take (omega arith) in omega arith))))
+        let g : length (take 5 (text (readIn w h c) v)) < 5 = simp length-take (omega arith) in omega arith))))
 
-    pub plain-is : (n p : ℕ) (b r : Bool) → n ≡ getD w (8 * v + 2) 0 → 5 ≤ n → p ≡ getD w (8 * v + 1) 0 → b ≡ sameWord (span h p 5) strk → r ≡ not b → r ≡ isPlain (spelled w h c) v
+    pub plain-is : (n p : ℕ) (b r : Bool) → n ≡ getD w (8 * v + 2) 0 → 5 ≤ n → p ≡ getD w (8 * v + 1) 0 → b ≡ sameWord (span h p 5) strk → r ≡ not b → r ≡ isPlain (readIn w h c) v
     unfolding isPlain
     plain-is n p b r f l g d i =
         and-next _ _ r (eq-eqb _ 2 (sym e ∙ o)) (i ∙ ap not (d ∙ ap (λ (z : List ℕ). sameWord z strk) (rw g (sym (ap (take 5) name-text ∙ begins)))))

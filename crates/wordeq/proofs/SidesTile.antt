@@ -12,11 +12,11 @@ use borrow.Author.Tests.{eqb-true, eq-eqb, ne-eqb, not-true, not-false, leb-true
 use Rattle.records.specs.declared.State.{State}
 use Rattle.records.specs.Lists.{if_then_else_, joined, sameWord}
 use Rattle.records.specs.Store.{Store, kind, isConstant, text}
-use Rattle.records.specs.View.{charLimit}
+use Rattle.records.specs.View.{charLimit, readIn, termed}
 use Rattle.records.proofs.Lists.{decide, left-false, clash}
 use Rattle.wordeq.specs.declared.sides.Cursor.{Cursor}
 use Rattle.wordeq.specs.Wordeq.{lettersOf, letters, filled}
-use Rattle.wordeq.specs.Sides.{termed, spelled, Texts, Spelled, rest, next, There, Settled, headsAgree, fillCount, fillStart, fillSource, Tiling, Ended}
+use Rattle.wordeq.specs.Sides.{Texts, Spelled, rest, next, There, Settled, headsAgree, fillCount, fillStart, fillSource, Tiling, Ended}
 use Rattle.wordeq.proofs.SidesLetters.{letters-at, count-some, whole-part}
 use Rattle.wordeq.proofs.SidesWalk.{count-same, place-limit, rest-end, heads-left, heads-right}
 
@@ -113,14 +113,14 @@ letters-text s a z = rw z
 
 module _ (w h : List ℕ) (c : State) (word side : List ℕ) (v : Cursor) (m : ℕ) where
   abbrev pub first : List ℕ
-  first = take m (rest (spelled w h c) word (v .atom) (v .place))
+  first = take m (rest (readIn w h c) word (v .atom) (v .place))
 
   abbrev pub whole : Bool
-  whole = sameWord (filled (spelled w h c) first side) (letters (spelled w h c) word)
+  whole = sameWord (filled (readIn w h c) first side) (letters (readIn w h c) word)
 
   -- the side from atom i on against the word from k on
   pub record Walked (k : Cursor) (i : ℕ) : Type 0 where
-    pub left : sameWord (filled (spelled w h c) first (drop i side)) (rest (spelled w h c) word (k .atom) (k .place)) ≡ whole
+    pub left : sameWord (filled (readIn w h c) first (drop i side)) (rest (readIn w h c) word (k .atom) (k .place)) ≡ whole
 
   pub walked-none : Walked (record { atom = 0; place = 0 }) 0
   walked-none = record { left = refl }
@@ -128,27 +128,27 @@ module _ (w h : List ℕ) (c : State) (word side : List ℕ) (v : Cursor) (m : �
   -- what is left of the filling of atom i: n - j characters of the source from x on
   pub record Filling (i n : ℕ) (source : List ℕ) (k x : Cursor) (j : ℕ) : Type 0 where
     pub within : j ≤ n
-    pub has : n - j ≤ length (rest (spelled w h c) source (x .atom) (x .place))
-    pub left : sameWord (take (n - j) (rest (spelled w h c) source (x .atom) (x .place)) ++ filled (spelled w h c) first (drop (suc i) side)) (rest (spelled w h c) word (k .atom) (k .place)) ≡ whole
+    pub has : n - j ≤ length (rest (readIn w h c) source (x .atom) (x .place))
+    pub left : sameWord (take (n - j) (rest (readIn w h c) source (x .atom) (x .place)) ++ filled (readIn w h c) first (drop (suc i) side)) (rest (readIn w h c) word (k .atom) (k .place)) ≡ whole
 
   module _ (i n : ℕ) (source : List ℕ) (k x : Cursor) (j : ℕ) (f : Filling i n source k x j) where
     pub filling-end : n ≤ j → Walked k (i + 1)
     filling-end l = record { left = rw add-one (let e : n - j ≡ 0 = omega arith in rw e at (f .left)) }
 
     module _ (l : j < n) (k′ x′ : Cursor) (p : Settled w c word k k′) (q : Settled w c source x x′) (b : Bool)
-        (e : b ≡ headsAgree (rest (spelled w h c) word (k′ .atom) (k′ .place)) (rest (spelled w h c) source (x′ .atom) (x′ .place))) where
+        (e : b ≡ headsAgree (rest (readIn w h c) word (k′ .atom) (k′ .place)) (rest (readIn w h c) source (x′ .atom) (x′ .place))) where
       pub filling-differs : not b ≡ true → false ≡ whole
       filling-differs d =
-          sym (heads-differ (n - j) _ _ (filled (spelled w h c) first (drop (suc i) side)) b (omega arith) (f .has) (rw (p .same h, q .same h) at e) d) ∙ f .left
+          sym (heads-differ (n - j) _ _ (filled (readIn w h c) first (drop (suc i) side)) b (omega arith) (f .has) (rw (p .same h, q .same h) at e) d) ∙ f .left
 
       one-more : not b ≡ false → Filling i n source (next k′) (next x′) (j + 1)
       one-more d =
-          let g = heads-same (n - j) _ _ (filled (spelled w h c) first (drop (suc i) side)) b (omega arith) (f .has) (rw (p .same h, q .same h) at e) d in
+          let g = heads-same (n - j) _ _ (filled (readIn w h c) first (drop (suc i) side)) b (omega arith) (f .has) (rw (p .same h, q .same h) at e) d in
           let y : n - (j + 1) ≡ n - j - 1 = omega arith in
-          let r = drop-next (x′ .place) (letters (spelled w h c) (drop (x′ .atom) source)) ∙ ap (drop 1) (q .same h) in
-          let t = drop-next (k′ .place) (letters (spelled w h c) (drop (k′ .atom) word)) ∙ ap (drop 1) (p .same h) in
+          let r = drop-next (x′ .place) (letters (readIn w h c) (drop (x′ .atom) source)) ∙ ap (drop 1) (q .same h) in
+          let t = drop-next (k′ .place) (letters (readIn w h c) (drop (k′ .atom) word)) ∙ ap (drop 1) (p .same h) in
           let o = f .has in
-          let z = ap length r ∙ length-drop 1 (rest (spelled w h c) source (x .atom) (x .place)) in
+          let z = ap length r ∙ length-drop 1 (rest (readIn w h c) source (x .atom) (x .place)) in
           record {
             within = omega arith;
             has = omega arith;
@@ -164,7 +164,7 @@ module _ (w h : List ℕ) (c : State) (word side : List ℕ) (v : Cursor) (m : �
       decide (isConstant (termed w c) a) (λ z. constant z) (λ z. variable z)
     where
       s : Store
-      s = spelled w h c
+      s = readIn w h c
 
       fill : ℕ → List ℕ
       fill b = if isConstant s b then text s b else first
@@ -207,12 +207,12 @@ pub ended-after : (w : List ℕ) (c : State) (word side : List ℕ) (i : ℕ) (k
 ended-after w c word side i k x b t l p e =
     record { before = λ z. absurd (omega arith); after = λ h z. rw (sym (p .same h)) (decide (leb (length word) (x .atom)) (λ y. over h y) (λ y. more h y)) }
   where
-    over : (h : List ℕ) → leb (length word) (x .atom) ≡ true → b ≡ sameWord [] (rest (spelled w h c) word (x .atom) (x .place))
-    over h y = e ∙ y ∙ sym (ap (sameWord []) (rest-end (spelled w h c) word (x .atom) (x .place) (leb-true (length word) (x .atom) y)) ∙ none-left)
+    over : (h : List ℕ) → leb (length word) (x .atom) ≡ true → b ≡ sameWord [] (rest (readIn w h c) word (x .atom) (x .place))
+    over h y = e ∙ y ∙ sym (ap (sameWord []) (rest-end (readIn w h c) word (x .atom) (x .place) (leb-true (length word) (x .atom) y)) ∙ none-left)
 
-    more : (h : List ℕ) → leb (length word) (x .atom) ≡ false → b ≡ sameWord [] (rest (spelled w h c) word (x .atom) (x .place))
+    more : (h : List ℕ) → leb (length word) (x .atom) ≡ false → b ≡ sameWord [] (rest (readIn w h c) word (x .atom) (x .place))
     more h y =
-        let s = spelled w h c in
+        let s = readIn w h c in
         let o : x .atom < length word = leb-false (length word) (x .atom) y in
         let q = p .at .there o in
         let r = count-same w h c (getD word (x .atom) 0) t in
@@ -221,20 +221,20 @@ ended-after w c word side i k x b t l p e =
         e ∙ y ∙ sym (some-left (rest s word (x .atom) (x .place)) (omega arith))
 
 module _ (w h : List ℕ) (c : State) (word source : List ℕ) (k x : Cursor) (b : Bool) (t : Spelled w h c)
-    (e : b ≡ headsAgree (rest (spelled w h c) word (k .atom) (k .place)) (rest (spelled w h c) source (x .atom) (x .place))) (d : not b ≡ false) where
+    (e : b ≡ headsAgree (rest (readIn w h c) word (k .atom) (k .place)) (rest (readIn w h c) source (x .atom) (x .place))) (d : not b ≡ false) where
   pub word-limit : There w c word k → There w c source x → k .place ≤ charLimit
   word-limit p q = decide (leb (length word) (k .atom))
-      (λ y. clash (not-false b d) (e ∙ sym (heads-left (spelled w h c) word _ (k .atom) (k .place) (leb-true (length word) (k .atom) y))))
+      (λ y. clash (not-false b d) (e ∙ sym (heads-left (readIn w h c) word _ (k .atom) (k .place) (leb-true (length word) (k .atom) y))))
       (λ y. let z = place-limit w h c word k t p (leb-false (length word) (k .atom) y) in omega arith)
 
   pub source-limit : There w c word k → There w c source x → x .place ≤ charLimit
   source-limit q p = decide (leb (length source) (x .atom))
-      (λ y. clash (not-false b d) (e ∙ sym (heads-right (spelled w h c) source _ (x .atom) (x .place) (leb-true (length source) (x .atom) y))))
+      (λ y. clash (not-false b d) (e ∙ sym (heads-right (readIn w h c) source _ (x .atom) (x .place) (leb-true (length source) (x .atom) y))))
       (λ y. let z = place-limit w h c source x t p (leb-false (length source) (x .atom) y) in omega arith)
 
 module _ (w h : List ℕ) (c : State) (word side : List ℕ) (v : Cursor) (m : ℕ) (k : Cursor) (i : ℕ) (b : Bool) (g : Ended w c word side i k b) where
   at-end : Walked w h c word side v m k i → length side ≤ i → b ≡ whole w h c word side v m
-  at-end a l = g .after h l ∙ sym (ap (λ (z : List ℕ). sameWord z (rest (spelled w h c) word (k .atom) (k .place))) (filled-end (spelled w h c) (first w h c word side v m) side i l)) ∙ a .left
+  at-end a l = g .after h l ∙ sym (ap (λ (z : List ℕ). sameWord z (rest (readIn w h c) word (k .atom) (k .place))) (filled-end (readIn w h c) (first w h c word side v m) side i l)) ∙ a .left
 
   pub tiled-end : (k₀ : Cursor) → k ≡ k₀ → Walked w h c word side v m k₀ i → length side ≤ i → b ≡ whole w h c word side v m
   tiled-end k₀ e a l = at-end (rw (sym e) at a) l

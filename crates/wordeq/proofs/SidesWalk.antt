@@ -11,16 +11,16 @@ use lib.Dec.{eqb}
 use borrow.Author.Tests.{eqb-true, eq-eqb}
 use Rattle.records.specs.declared.State.{State}
 use Rattle.records.specs.Store.{Store, Term, kind, term, isConstant}
-use Rattle.records.specs.View.{charLimit, span, termAt}
+use Rattle.records.specs.View.{charLimit, span, termAt, readIn, termed}
 use Rattle.records.proofs.Lists.{decide, table-at, clash}
 use Rattle.records.proofs.Views.{text-span}
 use Rattle.wordeq.specs.declared.sides.Cursor.{Cursor}
 use Rattle.wordeq.specs.Wordeq.{lettersOf, letters}
-use Rattle.wordeq.specs.Sides.{termed, spelled, Texts, Spelled, rest, There, Settled, headsAgree}
+use Rattle.wordeq.specs.Sides.{Texts, Spelled, rest, There, Settled, headsAgree}
 use Rattle.wordeq.proofs.SidesLetters.{term-there, count-limit, letters-constant, letters-other, letters-at, letters-end}
 
 -- how many letters an atom has does not depend on what they are
-pub count-same : (w h : List ℕ) (c : State) (a : ℕ) → Texts w c → length (lettersOf (spelled w h c) a) ≡ length (lettersOf (termed w c) a)
+pub count-same : (w h : List ℕ) (c : State) (a : ℕ) → Texts w c → length (lettersOf (readIn w h c) a) ≡ length (lettersOf (termed w c) a)
 count-same w h c a x =
     decide (isConstant (termed w c) a)
     (λ e. letters-constant w h c x a (eqb-true _ 1 e) ∙ sym (letters-constant w [] c x a (eqb-true _ 1 e)))
@@ -33,7 +33,7 @@ count-same w h c a x =
 
 -- from character j of atom i on the same is left as from j₀ of i₀ on
 pub record Onward (w : List ℕ) (c : State) (l : List ℕ) (i₀ j₀ i j : ℕ) : Type 0 where
-  pub same : (h : List ℕ) → rest (spelled w h c) l i j ≡ rest (spelled w h c) l i₀ j₀
+  pub same : (h : List ℕ) → rest (readIn w h c) l i j ≡ rest (readIn w h c) l i₀ j₀
 
 pub onward-none : (w : List ℕ) (c : State) (l : List ℕ) (i j : ℕ) → Onward w c l i j i j
 onward-none w c l i j = record { same = λ h. refl }
@@ -49,9 +49,9 @@ module _ (w : List ℕ) (c : State) (l : List ℕ) (k : Cursor) (i j : ℕ) (a :
     pub onward-atom : Texts w c → i < length l → n ≤ j → Onward w c l (k .atom) (k .place) (i + 1) (j - n)
     onward-atom x q m = record { same = λ h. rw add-one (sym (skip h) ∙ a .same h) }
       where
-        skip : (h : List ℕ) → rest (spelled w h c) l i j ≡ rest (spelled w h c) l (suc i) (j - n)
+        skip : (h : List ℕ) → rest (readIn w h c) l i j ≡ rest (readIn w h c) l (suc i) (j - n)
         skip h =
-            let s = spelled w h c in
+            let s = readIn w h c in
             let d = count-same w h c (getD l i 0) x in
             let y : j ≡ length (lettersOf s (getD l i 0)) + (j - n) = omega arith in
             ap (drop j) (letters-at s l i q)
@@ -61,7 +61,7 @@ module _ (w : List ℕ) (c : State) (l : List ℕ) (k : Cursor) (i j : ℕ) (a :
 -- READ
 
 letters-span : (w h : List ℕ) (c : State) (a : ℕ) → Texts w c → kind (termed w c) a ≡ 1
-    → lettersOf (spelled w h c) a ≡ span h (term (termed w c) a .first) (term (termed w c) a .second)
+    → lettersOf (readIn w h c) a ≡ span h (term (termed w c) a .first) (term (termed w c) a .second)
 unfolding lettersOf
 letters-span w h c a x o = rw (eq-eqb (kind (termed w c) a) 1 o) (text-span h (c .chars) (term (termed w c) a) (x .constants a o))
 
@@ -73,12 +73,12 @@ place-limit w h c l k x t q =
 
 pub letter-is : (w h : List ℕ) (c : State) (l : List ℕ) (k : Cursor) (f p r : ℕ) → Spelled w h c → There w c l k → k .atom < length l
     → f ≡ getD w (8 * getD l (k .atom) 0 + 1) 0 → p ≡ f → r ≡ getD h (p + k .place) 0
-    → rest (spelled w h c) l (k .atom) (k .place) ≡ r ∷ rest (spelled w h c) l (k .atom) (k .place + 1)
+    → rest (readIn w h c) l (k .atom) (k .place) ≡ r ∷ rest (readIn w h c) l (k .atom) (k .place + 1)
 letter-is w h c l k f p r x t q e g d =
     decide (isConstant s a) (λ z. constant (eqb-true _ 1 z)) (λ z. absurd (other z))
   where
     s : Store
-    s = spelled w h c
+    s = readIn w h c
 
     a : ℕ
     a = getD l (k .atom) 0

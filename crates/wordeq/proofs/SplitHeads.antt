@@ -20,7 +20,7 @@ use Rattle.records.specs.declared.Added.{Added}
 use Rattle.records.specs.declared.Added.the-variants as adding
 use Rattle.records.specs.Lists.{if_then_else_, all, any}
 use Rattle.records.specs.Store.{Store, Out, ok, stop, andThen, _>>=_, _>>_, refuse, put, kind, isConstant, isString, text}
-use Rattle.records.specs.View.{Lent, storeOf, pairsView}
+use Rattle.records.specs.View.{Lent, storeOf, pairsView, readIn, termed}
 use Rattle.records.specs.Rules.{isChar, isList, listLimit}
 use Rattle.records.specs.Make.{withKeys, ordered, samePair, addKey, isKey}
 use Rattle.records.specs.Audited.{Ready}
@@ -33,13 +33,13 @@ use Rattle.normalize.specs.declared.Form.{Form}
 use Rattle.normalize.specs.declared.Form.the-variants as form
 use Rattle.wordeq.specs.Wordeq.{Answer, saturated, conflict, split, Tried, _orElse_, isFull, differ, clashes, splitHeads, splitBy, splits, isGuard}
 use Rattle.wordeq.specs.Results.{BothLists}
-use Rattle.wordeq.specs.Sides.{termed, spelled, Texts, Spelled}
+use Rattle.wordeq.specs.Sides.{Texts, Spelled}
 use Rattle.wordeq.specs.Splits.{listed, characterAtoms, headAtoms}
 use Rattle.wordeq.specs.Heads.{HeadsApart, HeadPair, atomsBy, atomsOf, splitNew}
 use Rattle.wordeq.proofs.Sequence.{grows-key, working-then, working-stop}
 use Rattle.wordeq.proofs.Strip.{Apart}
 use Rattle.wordeq.proofs.SidesTexts.{text-words}
-use Rattle.wordeq.proofs.SidesReady.{ready-spelled}
+use Rattle.wordeq.proofs.SidesReady.{ready-readIn}
 use Rattle.wordeq.proofs.Splitting.{splitting, characters-split, heads-split-is, split-done, split-stop}
 
 -- THE GUARD
@@ -76,14 +76,14 @@ module _ (g : ℤ) (h : isGuard g ≡ true) (f : SFits w32 g) where
 
 -- A CONSTANT WITH A CHARACTER
 
-pub spelled-of : {m : Lent} {c : State} → Ready m c → Spelled (m .terms) (m .chars) c
-spelled-of {m} {c} ready = ready-spelled m c ready
+pub readIn-of : {m : Lent} {c : State} → Ready m c → Spelled (m .terms) (m .chars) c
+readIn-of {m} {c} ready = ready-readIn m c ready
 
 pub texts-of : {m : Lent} {c : State} → Ready m c → Texts (m .terms) c
-texts-of ready = spelled-of ready .texts
+texts-of ready = readIn-of ready .texts
 
 module _ (w h : List ℕ) (c : State) (a : ℕ) (x : Texts w c) where
-  text-size : kind (termed w c) a ≡ 1 → length (text (spelled w h c) a) ≡ getD w (8 * a + 2) 0
+  text-size : kind (termed w c) a ≡ 1 → length (text (readIn w h c) a) ≡ getD w (8 * a + 2) 0
   text-size o = ap length (text-words w h c a 0 o (x .constants a o)) ∙ table-length (λ i. getD h (getD w (8 * a + 1) 0 + i) 0) (getD w (8 * a + 2) 0)
 
 pub full-none : (w : List ℕ) (c : State) (a k : ℕ) → k ≡ kind (termed w c) a → (k ≡ 1 → ⊥) → false ≡ isFull (termed w c) a
@@ -106,9 +106,9 @@ pub full-at : {m : Lent} {c : State} (a : ℕ) {r x : Bool} → Ready m c → r 
 full-at {m} {c} a ready e f = sym (full-whole m c a (texts-of ready)) ∙ sym e ∙ f
 
 pub letter-first : (w h : List ℕ) (c : State) (a f p r : ℕ) → Spelled w h c → isFull (termed w c) a ≡ true → f ≡ getD w (8 * a + 1) 0 → p ≡ f → r ≡ getD h p 0
-    → text (spelled w h c) a ≡ r ∷ drop 1 (text (spelled w h c) a)
+    → text (readIn w h c) a ≡ r ∷ drop 1 (text (readIn w h c) a)
 unfolding isFull
-letter-first w h c a f p r x y e g d = drop-cons (text (spelled w h c) a) 0 0 long ∙ ap (λ (z : ℕ). z ∷ drop 1 (text (spelled w h c) a)) head
+letter-first w h c a f p r x y e g d = drop-cons (text (readIn w h c) a) 0 0 long ∙ ap (λ (z : ℕ). z ∷ drop 1 (text (readIn w h c) a)) head
   where
     here : kind (termed w c) a ≡ 1
     here = eqb-true _ 1 (both-left _ _ y)
@@ -118,13 +118,13 @@ letter-first w h c a f p r x y e g d = drop-cons (text (spelled w h c) a) 0 0 lo
         let i = ltb-true 0 (length (text (termed w c) a)) (both-right (isConstant (termed w c) a) _ y) in
         let j = text-size w [] c a (x .texts) here in omega arith
 
-    long : 0 < length (text (spelled w h c) a)
+    long : 0 < length (text (readIn w h c) a)
     long = let i = size in let j = text-size w h c a (x .texts) here in omega arith
 
     place : getD w (8 * a + 1) 0 + 0 ≡ p
     place = omega arith
 
-    head : getD (text (spelled w h c) a) 0 0 ≡ r
+    head : getD (text (readIn w h c) a) 0 0 ≡ r
     head =
         ap (λ (z : List ℕ). getD z 0 0) (text-words w h c a 0 here (x .texts .constants a here))
         ∙ table-at (λ i. getD h (getD w (8 * a + 1) 0 + i) 0) (getD w (8 * a + 2) 0) 0 0 size

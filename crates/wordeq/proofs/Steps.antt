@@ -12,7 +12,7 @@ use borrow.Author.Tests.{ne-eqb, leb-true, le-leb}
 use Rattle.records.specs.declared.State.{State}
 use Rattle.records.specs.Lists.{if_then_else_, all}
 use Rattle.records.specs.Store.{Store, Out, ok, andThen, isString}
-use Rattle.records.specs.View.{Lent, storeOf, pairAt}
+use Rattle.records.specs.View.{Lent, storeOf, pairAt, readIn}
 use Rattle.records.specs.Rules.{isList, listLimit}
 use Rattle.records.specs.Calls.{Working}
 use Rattle.records.proofs.Lists.{both-left, both-right, both-true, every-all, table-length}
@@ -24,9 +24,9 @@ use Rattle.wordeq.specs.declared.Stripped.{Stripped}
 use Rattle.wordeq.specs.declared.Stripped.the-variants.{Parts, Refused}
 use Rattle.wordeq.specs.Wordeq.{Answer, done, Tried, answer, _orElse_, clashes, splits, after, isBare, orDone, strip, steps}
 use Rattle.wordeq.specs.Results.{resolved, tried, Tries}
-use Rattle.wordeq.specs.Sides.{spelled, Spelled}
+use Rattle.wordeq.specs.Sides.{Spelled}
 use Rattle.wordeq.specs.Heads.{HeadsApart}
-use Rattle.wordeq.specs.Stripping.{readIn, part, stripped, Inside, Strips}
+use Rattle.wordeq.specs.Stripping.{part, stripped, Inside, Strips}
 use Rattle.wordeq.proofs.LackingTries.{constants-need, constants-conflict, constants-pass}
 use Rattle.wordeq.proofs.Strip.{strip-ends}
 use Rattle.wordeq.proofs.Strip as strip
@@ -38,10 +38,10 @@ use Rattle.wordeq.specs.Lacking.{conflicts as lacks}
 -- STEPS 2 AND 3
 
 -- what step 3 reads
-pub lined-spelled : {l r : List ℕ} {m : Lent} {c : State} → Lined l r m c → Spelled (m .terms) (m .chars) c × (length l ≤ listLimit) × (length r ≤ listLimit)
-lined-spelled {l} {r} {m} {c} x = constants-need m c l r (x .ready) (x .lists)
+pub lined-readIn : {l r : List ℕ} {m : Lent} {c : State} → Lined l r m c → Spelled (m .terms) (m .chars) c × (length l ≤ listLimit) × (length r ≤ listLimit)
+lined-readIn {l} {r} {m} {c} x = constants-need m c l r (x .ready) (x .lists)
 
-module _ (l r : List ℕ) {m m₁ : Lent} {c d : State} {o : StepResult} (w : Tries (occursBoth l r) m m₁ c o) (e : o ≡ step.Done d) (b : Bool) (h : b ≡ lacks (spelled (m₁ .terms) (m₁ .chars) d) l r) where
+module _ (l r : List ℕ) {m m₁ : Lent} {c d : State} {o : StepResult} (w : Tries (occursBoth l r) m m₁ c o) (e : o ≡ step.Done d) (b : Bool) (h : b ≡ lacks (readIn (m₁ .terms) (m₁ .chars) d) l r) where
   pub conflicts-found : b ≡ true → Tries (conflicts l r) m m₁ c (step.Conflict d)
   conflicts-found z = else-tries (occurs-goes l r) (done-is e w) (constants-conflict m₁ d l r b h z)
 

@@ -13,7 +13,7 @@ use Rattle.records.specs.declared.State.{State}
 use Rattle.records.specs.declared.Added.the-variants as adding
 use Rattle.records.specs.Lists.{all}
 use Rattle.records.specs.Store.{Store, Room, Term, Out, ok, stop, andThen, within, termIn, isConstant, isString}
-use Rattle.records.specs.View.{Lent, lent, storeOf, pairAt, roomOf, termsView, cellsView, charsView, pairsView}
+use Rattle.records.specs.View.{Lent, lent, storeOf, pairAt, roomOf, termsView, cellsView, charsView, pairsView, readIn}
 use Rattle.records.specs.Audited.{Ready}
 use Rattle.records.specs.Calls.{Working, added}
 use Rattle.records.proofs.Lists.{both-true, decide, all-every, every-at, table-same, table-length}
@@ -24,7 +24,7 @@ use Rattle.engine.proofs.Added.{Added, added-none, added-then}
 use Rattle.wordeq.specs.declared.Stripped.{Stripped}
 use Rattle.wordeq.specs.declared.Stripped.the-variants.{Parts, Refused}
 use Rattle.wordeq.specs.Wordeq.{same, explainMatch, stripHeads, strip}
-use Rattle.wordeq.specs.Stripping.{readIn, Readable, Pair, part, stripped, Inside, Strips, Whole, StripsHeads, stripTails}
+use Rattle.wordeq.specs.Stripping.{Readable, Pair, part, stripped, Inside, Strips, Whole, StripsHeads, stripTails}
 use Rattle.wordeq.proofs.Cited.{Cited}
 use Rattle.wordeq.proofs.Strip.{plainly, same-class, match-ends, heads-ends}
 use Rattle.records.specs.declared.Added.{Added as Answered}

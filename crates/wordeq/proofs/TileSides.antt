@@ -13,7 +13,7 @@ use Rattle.records.specs.declared.State.{State}
 use Rattle.records.specs.declared.Added.the-variants as adding
 use Rattle.records.specs.Lists.{if_then_else_, all, keep, Every}
 use Rattle.records.specs.Store.{Store, Out, ok, stop, andThen, _>>_, isString}
-use Rattle.records.specs.View.{Lent, lent, storeOf, termsView}
+use Rattle.records.specs.View.{Lent, lent, storeOf, termsView, readIn, termed}
 use Rattle.records.specs.Rules.{isList, listLimit}
 use Rattle.records.specs.Calls.{Working, added}
 use Rattle.records.proofs.Lists.{both-left, both-right, and-stop, and-next, failed, passed, decide, all-drop, all-every, every-at, every-map}
@@ -21,12 +21,12 @@ use Rattle.wordeq.specs.declared.StepResult.{StepResult}
 use Rattle.wordeq.specs.declared.StepResult.the-variants as step
 use Rattle.wordeq.specs.Wordeq.{conflict, Tried, answer, pass, settled, _orElse_, same, fixed, letters, fits, variables, explainAll, tileBy, tile}
 use Rattle.wordeq.specs.Results.{BothLists, Tries}
-use Rattle.wordeq.specs.Sides.{termed, Spelled, constantSide, otherSide}
-use Rattle.wordeq.specs.Stripping.{readIn, Readable, Pair, part}
+use Rattle.wordeq.specs.Sides.{Spelled, constantSide, otherSide}
+use Rattle.wordeq.specs.Stripping.{Readable, Pair, part}
 use Rattle.wordeq.specs.Explaining.{OneClass}
 use Rattle.wordeq.specs.Spans.{FirstVariable, agrees, unfit}
 use Rattle.wordeq.proofs.Strips.{part-whole}
-use Rattle.wordeq.proofs.SidesReady.{ready-spelled, constant-side-whole, other-side-whole}
+use Rattle.wordeq.proofs.SidesReady.{ready-readIn, constant-side-whole, other-side-whole}
 use Rattle.wordeq.proofs.Later.{same-classes}
 use Rattle.wordeq.proofs.Fitting.{fixed-variables, variables-from, variables-none, variables-short, agree-variables, fits-whole}
 use Rattle.records.specs.declared.Added.{Added as Answered}
@@ -59,8 +59,8 @@ after-short s l i n b e =
 
 -- WHETHER NO WORD FITS
 
-pub readable-spelled : (t h : List ℕ) (c : State) → Readable t h c → Spelled t h c
-readable-spelled t h c r = ready-spelled (lent t (r .cells) h (r .reasons) (r .keys)) c (r .ready)
+pub readable-readIn : (t h : List ℕ) (c : State) → Readable t h c → Spelled t h c
+readable-readIn t h c r = ready-readIn (lent t (r .cells) h (r .reasons) (r .keys)) c (r .ready)
 
 module _ (t h : List ℕ) (c : State) (word side : List ℕ) (i : ℕ) where
   abbrev s : Store

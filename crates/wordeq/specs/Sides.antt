@@ -8,16 +8,9 @@ use lib.Dec.{eqb}
 use Rattle.records.specs.declared.State.{State}
 use Rattle.records.specs.Lists.{if_then_else_, sameWord}
 use Rattle.records.specs.Store.{Store, kind, term, isConstant}
-use Rattle.records.specs.View.{lent, storeOf, charLimit}
+use Rattle.records.specs.View.{charLimit, readIn, termed}
 use Rattle.wordeq.specs.declared.sides.Cursor.{Cursor}
 use Rattle.wordeq.specs.Wordeq.{fixed, lettersOf, letters}
-
--- the store of terms alone, and of terms and characters
-abbrev pub termed : List ℕ → State → Store
-termed l c = storeOf (lent l [] [] [] []) c
-
-abbrev pub spelled : List ℕ → List ℕ → State → Store
-spelled l h c = storeOf (lent l [] h [] []) c
 
 -- each text is within the characters counted
 pub record Texts (l : List ℕ) (c : State) : Type 0 where
@@ -49,7 +42,7 @@ pub record There (w : List ℕ) (c : State) (l : List ℕ) (k : Cursor) : Type 0
 
 -- r is there and leaves what k leaves
 pub record Settled (w : List ℕ) (c : State) (l : List ℕ) (k r : Cursor) : Type 0 where
-  pub same : (h : List ℕ) → rest (spelled w h c) l (r .atom) (r .place) ≡ rest (spelled w h c) l (k .atom) (k .place)
+  pub same : (h : List ℕ) → rest (readIn w h c) l (r .atom) (r .place) ≡ rest (readIn w h c) l (k .atom) (k .place)
   pub at : There w c l r
 
 -- two words begin with one character
@@ -75,9 +68,9 @@ fillSource s a side word = if isConstant s a then side else word
 -- the word has m characters from v on
 pub record Tiling (w h : List ℕ) (c : State) (word : List ℕ) (v : Cursor) (m : ℕ) : Type 0 where
   pub known : Spelled w h c
-  pub fits : m ≤ length (rest (spelled w h c) word (v .atom) (v .place))
+  pub fits : m ≤ length (rest (readIn w h c) word (v .atom) (v .place))
 
 -- b: nothing of the side is left from atom i on, nor of the word from k on
 pub record Ended (w : List ℕ) (c : State) (word side : List ℕ) (i : ℕ) (k : Cursor) (b : Bool) : Type 0 where
   pub before : i < length side → b ≡ false
-  pub after : (h : List ℕ) → length side ≤ i → b ≡ sameWord [] (rest (spelled w h c) word (k .atom) (k .place))
+  pub after : (h : List ℕ) → length side ≤ i → b ≡ sameWord [] (rest (readIn w h c) word (k .atom) (k .place))

@@ -13,10 +13,6 @@ use Rattle.wordeq.specs.declared.Stripped.{Stripped}
 use Rattle.wordeq.specs.declared.Stripped.the-variants.{Parts, Refused}
 use Rattle.wordeq.specs.Wordeq.{stripHeads}
 
--- the store, where terms and characters alone are lent
-abbrev pub readIn : List ℕ → List ℕ → State → Store
-readIn t h c = storeOf (lent t [] h [] []) c
-
 -- the terms and the characters of a store that passes the audit
 pub record Readable (t h : List ℕ) (c : State) : Type 0 where
   pub cells : List ℕ

@@ -6,13 +6,13 @@ ghost use Prim.Native.Nat.{_≤_};
 ghost use lib.ListN.{length, drop};
 ghost use lib.IntN.{negℤ};
 ghost use Rattle.records.specs.Store.{text};
-ghost use Rattle.records.specs.View.{storeOf, lends, across};
+ghost use Rattle.records.specs.View.{storeOf, lends, across, readIn, termed};
 ghost use Rattle.records.specs.Rules.{listLimit};
 ghost use Rattle.records.specs.Audited.{Ready};
 ghost use Rattle.records.specs.Calls.{Does, _into_};
 ghost use Rattle.wordeq.specs.Wordeq.{_orElse_, isFull, clashes, splits, isGuard};
 ghost use Rattle.wordeq.specs.Results.{BothLists, tried};
-ghost use Rattle.wordeq.specs.Sides.{termed, spelled, Texts, Spelled};
+ghost use Rattle.wordeq.specs.Sides.{Texts, Spelled};
 ghost use Rattle.wordeq.specs.Splits.{listed};
 ghost use Rattle.wordeq.specs.Heads.{HeadsApart, HeadPair, atomsOf, splitNew};
 use crate::StepResult;
@@ -49,7 +49,7 @@ fn is_full(terms: &[u32], c: State, a: u32) -> bool
 fn first_letter(terms: &[u32], chars: &[u32], c: State, a: u32) -> u32
     requires { ⌜ Spelled (now terms) (now chars) c × (isFull (termed (now terms) c) a ≡ true) ⌝ }
     ensures { λ r. do
-      let s = spelled (now (terms .entry)) (now (chars .entry)) c
+      let s = readIn (now (terms .entry)) (now (chars .entry)) c
       ⌜ text s a ≡ r ∷ drop 1 (text s a) ⌝ }
 {
     let p = fields::wide(fields::first(terms, a));

@@ -4,10 +4,10 @@ ghost use mathlib.Core.Path.{_≡_};
 ghost use mathlib.Core.List.{[]};
 ghost use Prim.Native.Nat.{_+_, _<_, _≤_};
 ghost use lib.ListN.{length, getD};
-ghost use Rattle.records.specs.View.{charLimit, span};
+ghost use Rattle.records.specs.View.{charLimit, span, readIn};
 ghost use Rattle.records.specs.Rules.{listLimit};
 ghost use Rattle.wordeq.specs.Wordeq.{lettersOf, letters, absent};
-ghost use Rattle.wordeq.specs.Sides.{spelled, Texts, Spelled};
+ghost use Rattle.wordeq.specs.Sides.{Texts, Spelled};
 ghost use Rattle.wordeq.specs.Lacking.{hasMark, seen, marked, Marked, Lacking, conflicts};
 use crate::sides;
 use records::State;
@@ -65,7 +65,7 @@ fn mark_text(table: &mut [u8; 16384], p: usize, n: usize)
 
 fn mark_atom(terms: &[u32], c: State, a: u32, table: &mut [u8; 16384])
     requires { ⌜ Texts (now terms) c × (length (now table) ≡ charLimit) ⌝ }
-    ensures { λ r. ⌜ Marked (c .chars) (λ h. lettersOf (spelled (now (terms .entry)) h c) a) (now (table .entry)) (now (table .exit)) ⌝ }
+    ensures { λ r. ⌜ Marked (c .chars) (λ h. lettersOf (readIn (now (terms .entry)) h c) a) (now (table .entry)) (now (table .exit)) ⌝ }
 {
     if rules::kind_of(terms, c.terms, a) != 1 {
         return;
@@ -77,7 +77,7 @@ fn mark_atom(terms: &[u32], c: State, a: u32, table: &mut [u8; 16384])
 
 fn mark_side(terms: &[u32], c: State, l: &[u32], table: &mut [u8; 16384])
     requires { ⌜ Texts (now terms) c × (length (now table) ≡ charLimit) ⌝ }
-    ensures { λ r. ⌜ Marked (c .chars) (λ h. letters (spelled (now (terms .entry)) h c) (now (l .entry))) (now (table .entry)) (now (table .exit)) ⌝ }
+    ensures { λ r. ⌜ Marked (c .chars) (λ h. letters (readIn (now (terms .entry)) h c) (now (l .entry))) (now (table .entry)) (now (table .exit)) ⌝ }
 {
     let mut i: usize = 0;
     while i < l.len() {
@@ -107,7 +107,7 @@ fn lacks_text(chars: &[u32], table: &mut [u8; 16384], n: usize, p: usize, k: usi
 fn lacks_atom(terms: &[u32], chars: &[u32], c: State, a: u32, table: &mut [u8; 16384]) -> bool
     requires { ⌜ Spelled (now terms) (now chars) c × (length (now table) ≡ charLimit) ⌝ }
     ensures { λ b. do
-      let s = spelled (now (terms .entry)) (now (chars .entry)) c
+      let s = readIn (now (terms .entry)) (now (chars .entry)) c
       ⌜ Lacking (now (chars .entry)) (c .chars) (lettersOf s a) (now (table .entry)) (now (table .exit)) b ⌝ }
 {
     if rules::kind_of(terms, c.terms, a) != 1 {
@@ -121,7 +121,7 @@ fn lacks_atom(terms: &[u32], chars: &[u32], c: State, a: u32, table: &mut [u8; 1
 fn lacks_side(terms: &[u32], chars: &[u32], c: State, l: &[u32], table: &mut [u8; 16384]) -> bool
     requires { ⌜ Spelled (now terms) (now chars) c × (length (now table) ≡ charLimit) ⌝ }
     ensures { λ b. do
-      let s = spelled (now (terms .entry)) (now (chars .entry)) c
+      let s = readIn (now (terms .entry)) (now (chars .entry)) c
       ⌜ Lacking (now (chars .entry)) (c .chars) (letters s (now (l .entry))) (now (table .entry)) (now (table .exit)) b ⌝ }
 {
     let mut i: usize = 0;
@@ -137,7 +137,7 @@ fn lacks_side(terms: &[u32], chars: &[u32], c: State, l: &[u32], table: &mut [u8
 // A constant character of r that is absent from the constant side l.
 pub(crate) fn absent(terms: &[u32], chars: &[u32], c: State, l: &[u32], r: &[u32]) -> bool
     requires { ⌜ Spelled (now terms) (now chars) c × (length (now r) ≤ listLimit) ⌝ }
-    ensures { λ b. ⌜ b ≡ absent (spelled (now (terms .entry)) (now (chars .entry)) c) (now (l .entry)) (now (r .entry)) ⌝ }
+    ensures { λ b. ⌜ b ≡ absent (readIn (now (terms .entry)) (now (chars .entry)) c) (now (l .entry)) (now (r .entry)) ⌝ }
 {
     if !sides::is_fixed(terms, c, l) {
         return false;
@@ -160,7 +160,7 @@ pub(crate) fn constants<'a>(
     r: &'a [u32],
 ) -> bool
     requires { ⌜ Spelled (now terms) (now chars) c × (length (now l) ≤ listLimit) × (length (now r) ≤ listLimit) ⌝ }
-    ensures { λ b. ⌜ b ≡ conflicts (spelled (now (terms .entry)) (now (chars .entry)) c) (now (l .entry)) (now (r .entry)) ⌝ }
+    ensures { λ b. ⌜ b ≡ conflicts (readIn (now (terms .entry)) (now (chars .entry)) c) (now (l .entry)) (now (r .entry)) ⌝ }
 {
     if sides::unequal(terms, chars, c, l, r) {
         return true;

@@ -6,15 +6,15 @@ ghost use Prim.Native.Nat.{_≤_};
 ghost use lib.ListN.{length};
 ghost use Rattle.records.specs.Lists.{all, firstOf, Every};
 ghost use Rattle.records.specs.Store.{isVariable};
-ghost use Rattle.records.specs.View.{storeOf, lends, across, Between};
+ghost use Rattle.records.specs.View.{storeOf, lends, across, Between, readIn, termed};
 ghost use Rattle.records.specs.Rules.{listLimit};
 ghost use Rattle.records.specs.Make.{makeConstant};
 ghost use Rattle.records.specs.Audited.{Ready};
 ghost use Rattle.records.specs.Calls.{made, Does};
 ghost use Rattle.wordeq.specs.Wordeq.{same, fixed, letters, alias, empties, assigns, _orElse_};
 ghost use Rattle.wordeq.specs.Results.{BothLists, Tries};
-ghost use Rattle.wordeq.specs.Sides.{termed, spelled, Spelled};
-ghost use Rattle.wordeq.specs.Stripping.{readIn, Readable, Pair};
+ghost use Rattle.wordeq.specs.Sides.{Spelled};
+ghost use Rattle.wordeq.specs.Stripping.{Readable, Pair};
 ghost use Rattle.wordeq.specs.Propagates.{aliased, emptied, assigned, linked};
 use crate::StepResult;
 use crate::sides;
@@ -45,7 +45,7 @@ pub fn side_word_unchecked(
 // Two lone variables, neither name beginning with `!strk`.
 fn is_alias(terms: &[u32], chars: &[u32], c: State, l: &[u32], r: &[u32]) -> bool
     requires { ⌜ Spelled (now terms) (now chars) c ⌝ }
-    ensures { λ b. ⌜ b ≡ aliased (spelled (now (terms .entry)) (now (chars .entry)) c) (now (l .entry)) (now (r .entry)) ⌝ }
+    ensures { λ b. ⌜ b ≡ aliased (readIn (now (terms .entry)) (now (chars .entry)) c) (now (l .entry)) (now (r .entry)) ⌝ }
 {
     if l.len() != 1 {
         return false;

@@ -6,10 +6,10 @@ ghost use Prim.Native.Nat.{_+_, _<_, _≤_};
 ghost use lib.ListN.{length, take};
 ghost use Rattle.records.specs.Lists.{sameWord};
 ghost use Rattle.records.specs.Store.{isConstant, text};
-ghost use Rattle.records.specs.View.{charLimit, span};
+ghost use Rattle.records.specs.View.{charLimit, span, readIn, termed};
 ghost use Rattle.records.specs.Rules.{listLimit};
 ghost use Rattle.wordeq.specs.Wordeq.{fixed, lettersOf, letters, unequal, short, isPlain, filled, differ};
-ghost use Rattle.wordeq.specs.Sides.{termed, spelled, Texts, Spelled, constantSide, otherSide, rest, next, There, Settled, headsAgree, fillCount, fillStart, fillSource, Ended, Tiling};
+ghost use Rattle.wordeq.specs.Sides.{Texts, Spelled, constantSide, otherSide, rest, next, There, Settled, headsAgree, fillCount, fillStart, fillSource, Ended, Tiling};
 use crate::stripping;
 use records::State;
 use records::fields;
@@ -121,7 +121,7 @@ fn settle(terms: &[u32], c: State, l: &[u32], k: Cursor) -> Cursor
 fn letter(terms: &[u32], chars: &[u32], c: State, l: &[u32], k: Cursor) -> u32
     requires { ⌜ Spelled (now terms) (now chars) c × There (now terms) c (now l) k × (k .atom < length (now l)) ⌝ }
     ensures { λ r. do
-      let s = spelled (now (terms .entry)) (now (chars .entry)) c
+      let s = readIn (now (terms .entry)) (now (chars .entry)) c
       ⌜ rest s (now (l .entry)) (k .atom) (k .place) ≡ r ∷ rest s (now (l .entry)) (k .atom) (k .place + 1) ⌝ }
 {
     let i = k.atom;
@@ -141,7 +141,7 @@ fn same_letter(
 ) -> bool
     requires { ⌜ Spelled (now terms) (now chars) c × There (now terms) c (now l) k × There (now terms) c (now r) x ⌝ }
     ensures { λ b. do
-      let s = spelled (now (terms .entry)) (now (chars .entry)) c
+      let s = readIn (now (terms .entry)) (now (chars .entry)) c
       ⌜ b ≡ headsAgree (rest s (now (l .entry)) (k .atom) (k .place)) (rest s (now (r .entry)) (x .atom) (x .place)) ⌝ }
 {
     if l.len() <= k.atom {
@@ -178,7 +178,7 @@ fn spans_differ(chars: &[u32], p: usize, n: usize, q: usize, m: usize) -> bool
 pub(crate) fn constants_differ(terms: &[u32], chars: &[u32], c: State, a: u32, b: u32) -> bool
     requires { ⌜ Spelled (now terms) (now chars) c ⌝ }
     ensures { λ r. do
-      let s = spelled (now (terms .entry)) (now (chars .entry)) c
+      let s = readIn (now (terms .entry)) (now (chars .entry)) c
       ⌜ r ≡ (isConstant s a && isConstant s b && differ (text s a) (text s b)) ⌝ }
 {
     if !stripping::both_constant(terms, c.terms, a, b) {
@@ -194,7 +194,7 @@ pub(crate) fn constants_differ(terms: &[u32], chars: &[u32], c: State, a: u32, b
 // A variable whose name does not begin with `!strk`.
 pub(crate) fn is_plain(terms: &[u32], chars: &[u32], c: State, v: u32) -> bool
     requires { ⌜ Spelled (now terms) (now chars) c ⌝ }
-    ensures { λ r. ⌜ r ≡ isPlain (spelled (now (terms .entry)) (now (chars .entry)) c) v ⌝ }
+    ensures { λ r. ⌜ r ≡ isPlain (readIn (now (terms .entry)) (now (chars .entry)) c) v ⌝ }
 {
     if rules::kind_of(terms, c.terms, v) != 2 {
         return false;
@@ -273,7 +273,7 @@ pub(crate) fn is_tiled<'a>(
 ) -> bool
     requires { ⌜ Tiling (now terms) (now chars) c (now word) v m ⌝ }
     ensures { λ b. do
-      let s = spelled (now (terms .entry)) (now (chars .entry)) c
+      let s = readIn (now (terms .entry)) (now (chars .entry)) c
       ⌜ b ≡ sameWord (filled s (take m (rest s (now (word .entry)) (v .atom) (v .place))) (now (side .entry))) (letters s (now (word .entry))) ⌝ }
 {
     let mut k = Cursor { atom: 0, place: 0 };
@@ -308,7 +308,7 @@ pub(crate) fn unequal<'a>(
     r: &'a [u32],
 ) -> bool
     requires { ⌜ Spelled (now terms) (now chars) c ⌝ }
-    ensures { λ b. ⌜ b ≡ unequal (spelled (now (terms .entry)) (now (chars .entry)) c) (now (l .entry)) (now (r .entry)) ⌝ }
+    ensures { λ b. ⌜ b ≡ unequal (readIn (now (terms .entry)) (now (chars .entry)) c) (now (l .entry)) (now (r .entry)) ⌝ }
 {
     if !is_fixed(terms, c, l) {
         return false;

@@ -5,13 +5,13 @@ ghost use Prim.Native.Nat.{suc, _+_, _<_, _≤_};
 ghost use lib.ListN.{length, drop, getD};
 ghost use Rattle.records.specs.Lists.{if_then_else_, all};
 ghost use Rattle.records.specs.Store.{isConstant, isString};
-ghost use Rattle.records.specs.View.{storeOf, lends, across, Between};
+ghost use Rattle.records.specs.View.{storeOf, lends, across, Between, readIn, termed};
 ghost use Rattle.records.specs.Audited.{Ready};
 ghost use Rattle.records.specs.Rules.{isList, listLimit};
 ghost use Rattle.wordeq.specs.Wordeq.{_orElse_, letters, fits, variables, tileBy, tile};
 ghost use Rattle.wordeq.specs.Results.{BothLists, Tries};
-ghost use Rattle.wordeq.specs.Sides.{termed, spelled, Spelled};
-ghost use Rattle.wordeq.specs.Stripping.{readIn, Readable, Pair};
+ghost use Rattle.wordeq.specs.Sides.{Spelled};
+ghost use Rattle.wordeq.specs.Stripping.{Readable, Pair};
 ghost use Rattle.wordeq.specs.Spans.{FirstVariable, agrees, unfit};
 use crate::StepResult;
 use crate::explaining;
@@ -49,7 +49,7 @@ fn fits<'a>(
 ) -> bool
     requires { ⌜ Spelled (now terms) (now chars) c × (length (now word) ≤ listLimit) × (length (now side) ≤ listLimit) × FirstVariable (termed (now terms) c) (now side) i × (0 < k) ⌝ }
     ensures { λ b. do
-      let s = spelled (now (terms .entry)) (now (chars .entry)) c
+      let s = readIn (now (terms .entry)) (now (chars .entry)) c
       ⌜ b ≡ fits s (letters s (now (word .entry))) (now (side .entry)) k ⌝ }
 {
     let l = sides::letters_length(terms, c, word);

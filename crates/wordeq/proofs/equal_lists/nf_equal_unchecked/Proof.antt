@@ -1,5 +1,5 @@
+use Rattle.records.specs.View.{readIn}
 use Rattle.wordeq.proofs.Listed.{strings-pair, unequal-lengths, equal-stop, equal-turn, equal-end}
-use Rattle.wordeq.specs.Stripping.{readIn}
 use Rattle.wordeq.specs.Wordeq.{nfEqual}
 use lib.ListN.{length, drop}
 use Prim.Native.Nat.{_-_, _≤_}

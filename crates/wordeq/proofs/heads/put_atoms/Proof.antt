@@ -1,5 +1,5 @@
 use mathlib.Core.Path.{sym, _∙_}
-use Rattle.wordeq.proofs.SplitHeads.{spelled-of, texts-of, full-at, first-char, atoms-right, atoms-left, atoms-heads}
+use Rattle.wordeq.proofs.SplitHeads.{readIn-of, texts-of, full-at, first-char, atoms-right, atoms-left, atoms-heads}
 use native.Mathlib.Omega.{arith}
 use borrow.Author.Needs.{needs}
 use Rattle.wordeq.proofs.heads.put_atoms.Statement.{statement}
@@ -12,7 +12,7 @@ first-letter-requires : tie.Need-first-letter-requires
 first-letter-requires c κs =
     let at-is-full = c .before .before .before in
     let at-start = at-is-full .before .before .before .before .before .before .before .before in
-    (spelled-of (at-start .pre .0), sym (at-is-full .is-full .ensures) ∙ c .before .before .if1 .taken)
+    (readIn-of (at-start .pre .0), sym (at-is-full .is-full .ensures) ∙ c .before .before .if1 .taken)
 
 split-character-unchecked-requires : tie.Need-split-character-unchecked-requires
 split-character-unchecked-requires c κs =
@@ -51,7 +51,7 @@ first-letter-requires-2 : tie.Need-first-letter-requires-2
 first-letter-requires-2 c κs =
     let at-is-full2 = c .before .before .before in
     let at-start = at-is-full2 .before .before .before .before .before .before .before .before .before .before .before in
-    (spelled-of (at-start .pre .0), sym (at-is-full2 .is-full2 .ensures) ∙ c .before .before .if2 .taken)
+    (readIn-of (at-start .pre .0), sym (at-is-full2 .is-full2 .ensures) ∙ c .before .before .if2 .taken)
 
 split-character-unchecked-requires-2 : tie.Need-split-character-unchecked-requires-2
 split-character-unchecked-requires-2 c κs =

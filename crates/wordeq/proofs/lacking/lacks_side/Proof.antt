@@ -1,5 +1,5 @@
+use Rattle.records.specs.View.{readIn}
 use Rattle.wordeq.proofs.LackingSides.{Found, found-none, found-stop, found-one, found-done}
-use Rattle.wordeq.specs.Sides.{spelled}
 use lib.ListN.{length}
 use mathlib.Core.Path.{_∙_}
 use Prim.Native.Nat.{_-_}
@@ -8,7 +8,7 @@ use Rattle.wordeq.proofs.lacking.lacks_side.Statement.{statement}
 use Rattle.wordeq.proofs.lacking.lacks_side.Tie as tie
 
 abbrev Inv-loop : tie.InvT-loop
-Inv-loop terms chars c l table₀ i₀ table i = Found (spelled terms chars c) chars (c .chars) l table₀ table i
+Inv-loop terms chars c l table₀ i₀ table i = Found (readIn terms chars c) chars (c .chars) l table₀ table i
 
 abbrev μ-loop : tie.MeasureT-loop
 μ-loop terms chars c l table₀ i₀ table i = length l - i

@@ -1,6 +1,6 @@
 use Prim.Native.Nat.{_-_}
 use lib.ListN.{length}
-use Rattle.wordeq.specs.Sides.{termed}
+use Rattle.records.specs.View.{termed}
 use Rattle.records.proofs.Lists.{all-every, every-at}
 use Rattle.wordeq.proofs.Elsewhere.{Seeking, seeking-none, seeking-hit, seeking-turn, seeking-end}
 use borrow.Author.Needs.{needs}

@@ -1,5 +1,5 @@
+use Rattle.records.specs.View.{termed}
 use Rattle.wordeq.proofs.Propagated.{variables-stop, variables-turn, variables-done}
-use Rattle.wordeq.specs.Sides.{termed}
 use Rattle.records.specs.Store.{isVariable}
 use Rattle.records.specs.Lists.{all}
 use lib.ListN.{length, drop}

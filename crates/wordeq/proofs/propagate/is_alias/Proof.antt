@@ -1,5 +1,5 @@
+use Rattle.records.specs.View.{readIn}
 use Rattle.wordeq.proofs.Propagated.{aliased-left, aliased-right, aliased-first, aliased-last}
-use Rattle.wordeq.specs.Sides.{spelled}
 use borrow.Author.Needs.{needs}
 use Rattle.wordeq.proofs.propagate.is_alias.Statement.{statement}
 use Rattle.wordeq.proofs.propagate.is_alias.Tie as tie
@@ -10,10 +10,10 @@ is-alias-spec =
     (tie.spec
     (λ c.
     let at-start = c .before .before .before .before .before in
-    aliased-left (spelled (at-start .args .terms .now) (at-start .args .chars .now) (at-start .args .c)) (at-start .args .l .now) (at-start .args .r .now) (c .if1 .taken))
+    aliased-left (readIn (at-start .args .terms .now) (at-start .args .chars .now) (at-start .args .c)) (at-start .args .l .now) (at-start .args .r .now) (c .if1 .taken))
     (λ c.
     let at-start = c .before .before .before .before .before .before in
-    aliased-right (spelled (at-start .args .terms .now) (at-start .args .chars .now) (at-start .args .c)) (at-start .args .l .now) (at-start .args .r .now)
+    aliased-right (readIn (at-start .args .terms .now) (at-start .args .chars .now) (at-start .args .c)) (at-start .args .l .now) (at-start .args .r .now)
     (c .before .if1 .left) (c .if2 .taken))
     (λ c. search needs)
     (λ c κs. search needs)
@@ -21,7 +21,7 @@ is-alias-spec =
     let at-if2 = c .before .before .before in
     let at-if1 = at-if2 .before in
     let at-start = at-if1 .before .before .before .before .before in
-    aliased-first (spelled (at-start .args .terms .now) (at-start .args .chars .now) (at-start .args .c)) (at-start .args .l .now) (at-start .args .r .now) (at-if1 .if1 .left)
+    aliased-first (readIn (at-start .args .terms .now) (at-start .args .chars .now) (at-start .args .c)) (at-start .args .l .now) (at-start .args .r .now) (at-if1 .if1 .left)
     (at-if2 .if2 .left) _ (c .before .is-plain .ensures) (c .if3 .taken))
     (λ c. search needs)
     (λ c κs. search needs)
@@ -30,5 +30,5 @@ is-alias-spec =
     let at-if2 = at-is-plain .before .before in
     let at-if1 = at-if2 .before in
     let at-start = at-if1 .before .before .before .before .before in
-    aliased-last (spelled (at-start .args .terms .now) (at-start .args .chars .now) (at-start .args .c)) (at-start .args .l .now) (at-start .args .r .now) (at-if1 .if1 .left)
+    aliased-last (readIn (at-start .args .terms .now) (at-start .args .chars .now) (at-start .args .c)) (at-start .args .l .now) (at-start .args .r .now) (at-if1 .if1 .left)
     (at-if2 .if2 .left) _ (at-is-plain .is-plain .ensures) (c .before .before .if3 .left) _ (c .is-plain2 .ensures)))

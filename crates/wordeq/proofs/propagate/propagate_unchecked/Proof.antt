@@ -1,7 +1,6 @@
 use Rattle.wordeq.proofs.Choices.{aliased-lengths, emptied-bare, assigned-length, assigned-both, list-limited, choice-alias, choice-left, choice-right, choice-first, choice-last, choice-none}
-use Rattle.wordeq.proofs.SidesReady.{ready-spelled}
-use Rattle.wordeq.specs.Sides.{termed, spelled}
-use Rattle.records.specs.View.{lent, storeOf}
+use Rattle.wordeq.proofs.SidesReady.{ready-readIn}
+use Rattle.records.specs.View.{lent, storeOf, readIn, termed}
 use native.Mathlib.Omega.{arith}
 use borrow.Author.Needs.{needs}
 use Rattle.wordeq.proofs.propagate.propagate_unchecked.Statement.{statement}
@@ -13,17 +12,17 @@ propagate-unchecked-spec =
     (tie.spec
     (λ c κs.
     let at-start = c .before .before .before .before .before .before .before .before .before in
-    ready-spelled (lent (at-start .args .terms .now) (at-start .args .cells .now) (at-start .args .chars .now) (at-start .args .reasons .now) (at-start .args .keys .now))
+    ready-readIn (lent (at-start .args .terms .now) (at-start .args .cells .now) (at-start .args .chars .now) (at-start .args .reasons .now) (at-start .args .keys .now))
     (at-start .args .c) (at-start .pre .0))
     (λ c.
     let at-start = c .before .before .before .before .before .before .before .before .before .before .before .before in
-    (let n = aliased-lengths (spelled (at-start .args .terms .now) (at-start .args .chars .now) (at-start .args .c)) (at-start .args .lhs .now) (at-start .args .rhs .now) _
+    (let n = aliased-lengths (readIn (at-start .args .terms .now) (at-start .args .chars .now) (at-start .args .c)) (at-start .args .lhs .now) (at-start .args .rhs .now) _
     (c .before .if1 .taken) (c .before .before .is-alias .ensures) .0 in
     omega arith))
     (λ c.
     let at-is-alias = c .before .before .before in
     let at-start = at-is-alias .before .before .before .before .before .before .before .before .before .before in
-    (let n = aliased-lengths (spelled (at-start .args .terms .now) (at-start .args .chars .now) (at-start .args .c)) (at-start .args .lhs .now) (at-start .args .rhs .now) _
+    (let n = aliased-lengths (readIn (at-start .args .terms .now) (at-start .args .chars .now) (at-start .args .c)) (at-start .args .lhs .now) (at-start .args .rhs .now) _
     (c .before .before .if1 .taken) (at-is-alias .is-alias .ensures) .1 in
     omega arith))
     (λ c. search needs)

@@ -1,4 +1,4 @@
-use Rattle.wordeq.specs.Sides.{termed}
+use Rattle.records.specs.View.{termed}
 use Rattle.wordeq.proofs.Flattening.{either-left, either-right}
 use borrow.Author.Needs.{needs}
 use Rattle.wordeq.proofs.resolving.either_concat.Statement.{statement}

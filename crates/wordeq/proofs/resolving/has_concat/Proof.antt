@@ -1,9 +1,9 @@
 use lib.ListN.{length, drop}
 use mathlib.Core.Path.{_≡_, refl}
 use Prim.Native.Nat.{_-_, _≤_}
+use Rattle.records.specs.View.{termed}
 use Rattle.records.specs.Lists.{any}
 use Rattle.records.specs.Store.{isConcat}
-use Rattle.wordeq.specs.Sides.{termed}
 use Rattle.wordeq.proofs.Flattening.{concat-stop, concat-turn, concat-end}
 use native.Mathlib.Omega.{arith}
 use borrow.Author.Needs.{needs}

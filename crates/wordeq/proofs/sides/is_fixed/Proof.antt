@@ -1,7 +1,7 @@
 use Prim.Native.Nat.{_-_, _≤_}
 use mathlib.Core.Path.{_≡_, refl}
 use lib.ListN.{length, drop}
-use Rattle.wordeq.specs.Sides.{termed}
+use Rattle.records.specs.View.{termed}
 use Rattle.wordeq.specs.Wordeq.{fixed}
 use Rattle.wordeq.proofs.SidesLetters.{fixed-stop, fixed-turn, fixed-done}
 use native.Mathlib.Omega.{arith}

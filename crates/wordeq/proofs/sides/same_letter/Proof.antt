@@ -1,4 +1,5 @@
-use Rattle.wordeq.specs.Sides.{spelled, rest}
+use Rattle.records.specs.View.{readIn}
+use Rattle.wordeq.specs.Sides.{rest}
 use mathlib.Core.Path.{refl}
 use Rattle.wordeq.proofs.SidesWalk.{heads-left, heads-right, heads-both}
 use borrow.Author.Needs.{needs}
@@ -11,14 +12,14 @@ same-letter-spec =
     (tie.spec
     (λ c.
     let at-start = c .before .before .before .before .before .before in
-    heads-left (spelled (at-start .args .terms .now) (at-start .args .chars .now) (at-start .args .c)) (at-start .args .l .now)
-    (rest (spelled (at-start .args .terms .now) (at-start .args .chars .now) (at-start .args .c)) (at-start .args .r .now) (at-start .args .x .atom)
+    heads-left (readIn (at-start .args .terms .now) (at-start .args .chars .now) (at-start .args .c)) (at-start .args .l .now)
+    (rest (readIn (at-start .args .terms .now) (at-start .args .chars .now) (at-start .args .c)) (at-start .args .r .now) (at-start .args .x .atom)
     (at-start .args .x .place))
     (at-start .args .k .atom) (at-start .args .k .place) (c .if1 .taken))
     (λ c.
     let at-start = c .before .before .before .before .before .before .before .before in
-    heads-right (spelled (at-start .args .terms .now) (at-start .args .chars .now) (at-start .args .c)) (at-start .args .r .now)
-    (rest (spelled (at-start .args .terms .now) (at-start .args .chars .now) (at-start .args .c)) (at-start .args .l .now) (at-start .args .k .atom)
+    heads-right (readIn (at-start .args .terms .now) (at-start .args .chars .now) (at-start .args .c)) (at-start .args .r .now)
+    (rest (readIn (at-start .args .terms .now) (at-start .args .chars .now) (at-start .args .c)) (at-start .args .l .now) (at-start .args .k .atom)
     (at-start .args .k .place))
     (at-start .args .x .atom) (at-start .args .x .place) (c .if2 .taken))
     (λ c κs. search needs)

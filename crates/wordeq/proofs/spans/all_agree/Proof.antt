@@ -1,9 +1,9 @@
+use Rattle.records.specs.View.{readIn}
 use Rattle.wordeq.proofs.Fitting.{pair-at, all-stop, all-turn, all-done}
 use Prim.Native.Nat.{_-_, _≤_}
 use mathlib.Core.Path.{_≡_, refl}
 use lib.ListN.{length, drop}
 use Rattle.records.specs.Lists.{all}
-use Rattle.wordeq.specs.Stripping.{readIn}
 use Rattle.wordeq.specs.Spans.{agrees}
 use native.Mathlib.Omega.{arith}
 use borrow.Author.Needs.{needs}

@@ -1,9 +1,9 @@
+use Rattle.records.specs.View.{termed}
 use Rattle.wordeq.proofs.Fitting.{first-start, first-here, first-turn, first-none}
 use Prim.Native.Nat.{_-_, _≤_}
 use mathlib.Core.Path.{_≡_}
 use mathlib.Core.Bool.{true}
 use lib.ListN.{length, take}
-use Rattle.wordeq.specs.Sides.{termed}
 use Rattle.wordeq.specs.Wordeq.{fixed}
 use native.Mathlib.Omega.{arith}
 use borrow.Author.Needs.{needs}

@@ -1,6 +1,5 @@
-use Rattle.wordeq.proofs.TileSides.{list-short, list-string, after-strings, after-short, readable-spelled, unfit-apart, unfit-is}
-use Rattle.wordeq.specs.Sides.{termed}
-use Rattle.wordeq.specs.Stripping.{readIn}
+use Rattle.records.specs.View.{readIn, termed}
+use Rattle.wordeq.proofs.TileSides.{list-short, list-string, after-strings, after-short, readable-readIn, unfit-apart, unfit-is}
 use native.Mathlib.Omega.{arith}
 use borrow.Author.Needs.{needs}
 use Rattle.wordeq.proofs.spans.is_unfit.Statement.{statement}
@@ -39,7 +38,7 @@ is-unfit-spec =
     let y = list-short (readIn (at-start .args .terms .now) (at-start .args .chars .now) (at-start .args .c)) (at-start .args .side .now) (at-start .pre .1 .1) in omega arith))
     (λ c κs.
     let at-start = c .before .before .before .before .before .before .before .before .before in (
-      readable-spelled (at-start .args .terms .now) (at-start .args .chars .now) (at-start .args .c) (at-start .pre .0),
+      readable-readIn (at-start .args .terms .now) (at-start .args .chars .now) (at-start .args .c) (at-start .pre .0),
       at-start .pre .1 .0,
       list-short (readIn (at-start .args .terms .now) (at-start .args .chars .now) (at-start .args .c)) (at-start .args .side .now) (at-start .pre .1 .1),
       at-start .pre .1 .2,

@@ -1,6 +1,6 @@
 use Prim.Native.Nat.{_-_}
 use lib.ListN.{length}
-use Rattle.wordeq.specs.Sides.{termed}
+use Rattle.records.specs.View.{termed}
 use Rattle.wordeq.proofs.Fitting.{Tallied, tallied-none, tallied-one, tallied-all}
 use native.Mathlib.Omega.{arith}
 use borrow.Author.Needs.{needs}

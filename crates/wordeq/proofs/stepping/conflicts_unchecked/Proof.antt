@@ -1,5 +1,5 @@
 use mathlib.Core.Path.{refl}
-use Rattle.wordeq.proofs.Steps.{lined-spelled, conflicts-found, conflicts-none}
+use Rattle.wordeq.proofs.Steps.{lined-readIn, conflicts-found, conflicts-none}
 use Rattle.wordeq.proofs.Trying.{lined, passed-on, occurs-goes, last-of, else-last}
 use Rattle.wordeq.specs.Wordeq.{constants}
 use borrow.Author.Needs.{needs}
@@ -21,7 +21,7 @@ conflicts-unchecked-spec =
     (λ c κs.
     let at-occurs-unchecked = c .before .before .before .before .before in
     let at-start = at-occurs-unchecked .before .before .before .before .before .before .before .before .before in
-    lined-spelled
+    lined-readIn
     (passed-on (occurs-goes (at-start .args .lhs .now) (at-start .args .rhs .now)) (at-occurs-unchecked .occurs-unchecked .ensures) (c .before .o .given .1) refl refl
     (lined (at-start .pre .0) (at-start .pre .1))))
     (λ c. search needs)
