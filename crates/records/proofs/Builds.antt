@@ -44,7 +44,7 @@ module _ (t e h r ks : List ℕ) (c : State) (k a b : ℕ) (fits : Bool) (room :
       → addTerm k a b (storeOf (lent t e h r ks) c) ≡ ok (storeOf (lent t′ e h r ks) (oneTerm c)) (c .terms + 1)
   unfolding addTerm
   term-added t′ p n f =
-      rw (table-length (λ i. termAt t (suc i)) (c .terms), ← room, f, n, add-one (c .terms), p .grown)
+      rw (table-length (λ i. termAt t (suc i)) (c .terms), ← room, f, n, add-one (c .terms), p .grown, p .zero)
 
   pub term-refused : fits ≡ false → addTerm k a b (storeOf (lent t e h r ks) c) ≡ stop 8
   unfolding addTerm
@@ -119,7 +119,7 @@ module _ (t e h r ks : List ℕ) (c : State) (k a b : ℕ) (u : ℕ) (look : u �
           says =
               lowest-new (sidesOf k a b) (addTerm k a b) (storeOf (lent t e h r ks) c) u looked z
               ∙ rw q (term-added t e h r ks c k a b fits room t′ p n f);
-          kept = rw (p .kept, n);
+          kept = rw (p .kept, n, p .zero);
         }
 
 -- another test that agrees on every term finds the same
@@ -262,11 +262,11 @@ module _ (t e h r ks : List ℕ) (c : State) (w : List ℕ) (f : Bool) (cells-he
         → TermPut t t′ (c .terms) 3 (c .cells + 1) 0 → length t′ ≡ length t → d ≡ moreCells c (length w) → d′ ≡ oneTerm d
         → Working (appendParts w) (lent t e h r ks) (lent t′ e′ h r ks) c (made (Term (c .terms + 1) d′) (lent t′ e′ h r ks))
     unfolding addChain
-    append-made t′ e′ d d′ p a la b lb x y = record { says = chained ∙ termed; kept = rw (a .kept, b .kept, la, lb) }
+    append-made t′ e′ d d′ p a la b lb x y = record { says = chained ∙ termed; kept = rw (a .kept, b .kept, la, lb, a .zero, b .zero) }
       where
         chained : appendParts w (storeOf (lent t e h r ks) c) ≡ addTerm 3 (c .cells + 1) 0 (storeOf (lent t e′ h r ks) (moreCells c (length w)))
         chained =
-            rw (table-length (λ i. cellAt e (suc i)) (c .cells), ← cells-here, not-false f q, add-one (c .cells), a .grown, la)
+            rw (table-length (λ i. cellAt e (suc i)) (c .cells), ← cells-here, not-false f q, add-one (c .cells), a .grown, la, a .zero)
 
         termed : addTerm 3 (c .cells + 1) 0 (storeOf (lent t e′ h r ks) (moreCells c (length w))) ≡ ok (storeOf (lent t′ e′ h r ks) d′) (c .terms + 1)
         termed = rw (y, x) (term-added t e′ h r ks (moreCells c (length w)) 3 (c .cells + 1) 0 g term-here t′ b lb (not-false g p))

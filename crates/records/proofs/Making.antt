@@ -175,8 +175,8 @@ module _ {t e h r ks : List ℕ} {c : State} (k : ℕ) (w : List ℕ) (n : ℕ) 
         record {
           says =
               append-new k w _ (rw (table-length, ← long) (sym fits ∙ not-false f q)) (rw table-length (sym one ∙ not-false g u))
-              ∙ rw (y, x, add-one, v .grown, long, p .grown, lp, lv, table-length, table-length);
-          kept = let a = v .kept in let b = p .kept in cc;
+              ∙ rw (y, x, add-one, v .grown, long, p .grown, v .zero, lp, lv, table-length, table-length);
+          kept = let a = v .kept in let b = p .kept in let z = v .zero in cc;
         }
 
 -- THE TEXT SOUGHT in the words: t₀ is what the search found

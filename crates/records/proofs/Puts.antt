@@ -8,7 +8,7 @@ use native.Mathlib.Omega.{arith}
 use lib.ListN.{length, getD, set, take, drop, drop-of-length-le, List·getD-append}
 use lib.Dec.{ltb}
 use lib.Seq.{sets, sets-eq, getD-append-add, getD-take, length-take-le, drop-cons}
-use Rattle.records.specs.View.{reasonRoom, termAt, cellAt, pairAt, termsView, cellsView, pairsView}
+use Rattle.records.specs.View.{reasonRoom, termAt, cellAt, pairAt, termsView, cellsView, pairsView, zeroTerm, zeroCell}
 use Rattle.records.specs.Make.{own, chainFrom}
 use Rattle.records.specs.Puts.{TermPut, CellPut, ChainPut, PairPut, Pushed}
 use Rattle.records.proofs.Lists.{table-same, table-suc}
@@ -30,34 +30,50 @@ module _ (l : List ℕ) (i : ℕ) (vs : List ℕ) (fits : i + length vs ≤ leng
 
 -- VIEWS THAT AGREE
 
--- the words below a record decide the records before it
-pub terms-agree : (l l′ : List ℕ) (n : ℕ) → ((j : ℕ) → j < 8 * (n + 1) → getD l′ j 0 ≡ getD l j 0) → termsView l′ n ≡ termsView l n
-terms-agree l l′ n h = table-same (λ i. termAt l′ (suc i)) (λ i. termAt l (suc i)) n (λ i b.
-    let a0 = h (8 * suc i + 0) (omega arith) in
-    let a1 = h (8 * suc i + 1) (omega arith) in
-    let a2 = h (8 * suc i + 2) (omega arith) in
-    let a3 = h (8 * suc i + 3) (omega arith) in
-    let a4 = h (8 * suc i + 4) (omega arith) in
-    let a5 = h (8 * suc i + 5) (omega arith) in
-    let a6 = h (8 * suc i + 6) (omega arith) in
-    let a7 = h (8 * suc i + 7) (omega arith) in cc)
+-- the words below a record decide the records before it, record 0 too
+module _ (l l′ : List ℕ) (n : ℕ) (h : (j : ℕ) → j < 8 * (n + 1) → getD l′ j 0 ≡ getD l j 0) where
+  term-agrees : (t : ℕ) → t ≤ n → termAt l′ t ≡ termAt l t
+  term-agrees t b =
+      let a0 = h (8 * t + 0) (omega arith) in
+      let a1 = h (8 * t + 1) (omega arith) in
+      let a2 = h (8 * t + 2) (omega arith) in
+      let a3 = h (8 * t + 3) (omega arith) in
+      let a4 = h (8 * t + 4) (omega arith) in
+      let a5 = h (8 * t + 5) (omega arith) in
+      let a6 = h (8 * t + 6) (omega arith) in
+      let a7 = h (8 * t + 7) (omega arith) in cc
+
+  pub terms-agree : termsView l′ n ≡ termsView l n
+  terms-agree = table-same (λ i. termAt l′ (suc i)) (λ i. termAt l (suc i)) n (λ i b. term-agrees (suc i) (omega arith))
+
+  pub zero-term-agrees : zeroTerm l′ ≡ zeroTerm l
+  unfolding zeroTerm
+  zero-term-agrees = term-agrees 0 (omega arith)
 
 pub pairs-agree : (l l′ : List ℕ) (n : ℕ) → ((j : ℕ) → j < 2 * n → getD l′ j 0 ≡ getD l j 0) → pairsView l′ n ≡ pairsView l n
 pairs-agree l l′ n h = table-same (pairAt l′) (pairAt l) n (λ i b.
     let a0 = h (2 * i + 0) (omega arith) in
     let a1 = h (2 * i + 1) (omega arith) in cc)
 
-pub cells-agree : (l l′ : List ℕ) (n : ℕ) → ((j : ℕ) → j < 3 * (n + 1) → getD l′ j 0 ≡ getD l j 0) → cellsView l′ n ≡ cellsView l n
-cells-agree l l′ n h = table-same (λ i. cellAt l′ (suc i)) (λ i. cellAt l (suc i)) n (λ i b.
-    let a0 = h (3 * suc i + 0) (omega arith) in
-    let a1 = h (3 * suc i + 1) (omega arith) in
-    let a2 = h (3 * suc i + 2) (omega arith) in cc)
+module _ (l l′ : List ℕ) (n : ℕ) (h : (j : ℕ) → j < 3 * (n + 1) → getD l′ j 0 ≡ getD l j 0) where
+  cell-agrees : (c : ℕ) → c ≤ n → cellAt l′ c ≡ cellAt l c
+  cell-agrees c b =
+      let a0 = h (3 * c + 0) (omega arith) in
+      let a1 = h (3 * c + 1) (omega arith) in
+      let a2 = h (3 * c + 2) (omega arith) in cc
+
+  pub cells-agree : cellsView l′ n ≡ cellsView l n
+  cells-agree = table-same (λ i. cellAt l′ (suc i)) (λ i. cellAt l (suc i)) n (λ i b. cell-agrees (suc i) (omega arith))
+
+  pub zero-cell-agrees : zeroCell l′ ≡ zeroCell l
+  unfolding zeroCell
+  zero-cell-agrees = cell-agrees 0 (omega arith)
 
 -- ONE TERM
 
 module _ (l : List ℕ) (n k a b : ℕ) (room : 8 * (n + 2) ≤ length l) where
   term-put-sets : TermPut l (sets l (8 * (n + 1)) (k ∷ a ∷ b ∷ (n + 1) ∷ (n + 1) ∷ 0 ∷ 0 ∷ 0 ∷ [])) n k a b
-  term-put-sets = record { grown = table-suc _ n ∙ (let p = kept-is in let q = last-is in cc); kept = kept-is }
+  term-put-sets = record { grown = table-suc _ n ∙ (let p = kept-is in let q = last-is in cc); kept = kept-is; zero = zero-term-agrees l l′ n (sets-below l (8 * (n + 1)) vs fits) }
     where
       vs : List ℕ
       vs = k ∷ a ∷ b ∷ (n + 1) ∷ (n + 1) ∷ 0 ∷ 0 ∷ 0 ∷ []
@@ -131,7 +147,7 @@ module _ (l l′ : List ℕ) (n k v : ℕ) (r : Bool) (e : r ≡ ltb n (reasonRo
 
 module _ (l : List ℕ) (n v x : ℕ) where
   pub cell-put : 3 * (n + 2) ≤ length l → CellPut l (set (set (set l (3 * (n + 1)) v) (3 * (n + 1) + 1) 0) (3 * (n + 1) + 2) x) n v x
-  cell-put room = record { grown = table-suc _ n ∙ (let p = kept-is n (omega arith) in let q = last-is in cc); kept = kept-is }
+  cell-put room = record { grown = table-suc _ n ∙ (let p = kept-is n (omega arith) in let q = last-is in cc); kept = kept-is; zero = zero-is }
     where
       vs : List ℕ
       vs = v ∷ 0 ∷ x ∷ []
@@ -149,6 +165,9 @@ module _ (l : List ℕ) (n v x : ℕ) where
 
       kept-is : (i : ℕ) → i ≤ n → cellsView l′ i ≡ cellsView l i
       kept-is i h = rw same (cells-agree l (sets l (3 * (n + 1)) vs) i (λ j k. sets-below l (3 * (n + 1)) vs fits j (omega arith)))
+
+      zero-is : zeroCell l′ ≡ zeroCell l
+      zero-is = rw same (zero-cell-agrees l (sets l (3 * (n + 1)) vs) n (sets-below l (3 * (n + 1)) vs fits))
 
       at : (j w : ℕ) → j < 3 → getD vs j 0 ≡ w → getD l′ (3 * suc n + j) 0 ≡ w
       at j w h e = ap (λ (i : ℕ). getD l′ (3 * i + j) 0) (sym (add-one n)) ∙ rw same (sets-at l (3 * (n + 1)) vs fits j h ∙ e)
@@ -170,14 +189,15 @@ module _ (w : List ℕ) (c i : ℕ) where
 pub record Chained (l l′ : List ℕ) (n : ℕ) (w : List ℕ) (i : ℕ) : Type 0 where
   pub long : length l′ ≡ length l
   pub kept : cellsView l′ n ≡ cellsView l n
+  pub zero : zeroCell l′ ≡ zeroCell l
   pub rest : cellsView l′ (n + i) ++ chainFrom (suc (n + i)) (drop i w) ≡ cellsView l n ++ chainFrom (suc n) w
 
 pub chained-none : (l : List ℕ) (n : ℕ) (w : List ℕ) → Chained l l n w 0
-chained-none l n w = record { long = refl; kept = refl; rest = rw (native.Mathlib.Nat.add-zero n) }
+chained-none l n w = record { long = refl; kept = refl; zero = refl; rest = rw (native.Mathlib.Nat.add-zero n) }
 
 module _ (l l′ : List ℕ) (n : ℕ) (w : List ℕ) (i : ℕ) (h : Chained l l′ n w i) (l″ : List ℕ) (v x : ℕ) (p : CellPut l′ l″ (n + i) v x) (e : v ≡ getD w i 0) where
   pub chained-one : i + 1 < length w → x ≡ n + i + 2 → length l″ ≡ length l′ → Chained l l″ n w (i + 1)
-  chained-one b f g = record { long = g ∙ h .long; kept = p .kept n (omega arith) ∙ h .kept; rest = rest-is ∙ h .rest }
+  chained-one b f g = record { long = g ∙ h .long; kept = p .kept n (omega arith) ∙ h .kept; zero = p .zero ∙ h .zero; rest = rest-is ∙ h .rest }
     where
       rest-is : cellsView l″ (n + (i + 1)) ++ chainFrom (suc (n + (i + 1))) (drop (i + 1) w) ≡ cellsView l′ (n + i) ++ chainFrom (suc (n + i)) (drop i w)
       rest-is =
@@ -187,7 +207,7 @@ module _ (l l′ : List ℕ) (n : ℕ) (w : List ℕ) (i : ℕ) (h : Chained l l
           rw (a, s, p .grown, from-next w (suc (n + i)) i (omega arith), append-assoc, e, f, y)
 
   pub chained-last : suc i ≡ length w → x ≡ 0 → ChainPut l l″ n w
-  chained-last b f = record { grown = grown-is ∙ h .rest; kept = p .kept n (omega arith) ∙ h .kept }
+  chained-last b f = record { grown = grown-is ∙ h .rest; kept = p .kept n (omega arith) ∙ h .kept; zero = p .zero ∙ h .zero }
     where
       grown-is : cellsView l″ (n + length w) ≡ cellsView l′ (n + i) ++ chainFrom (suc (n + i)) (drop i w)
       grown-is =
@@ -205,5 +225,5 @@ chained-end l l′ n w i last l″ h a b e p = let q : i ≡ last = omega arith 
 
 pub chain-empty : (l : List ℕ) (n : ℕ) (w : List ℕ) → length w ≡ 0 → ChainPut l l n w
 unfolding chainFrom
-chain-empty l n [] e = record { grown = rw (native.Mathlib.Nat.add-zero n) (sym (append-nil (cellsView l n))); kept = refl }
+chain-empty l n [] e = record { grown = rw (native.Mathlib.Nat.add-zero n) (sym (append-nil (cellsView l n))); kept = refl; zero = refl }
 chain-empty l n (x ∷ w) e = absurd (omega arith)

@@ -10,7 +10,8 @@ use lib.Seq.{ext-getD, getD-take, getD-drop}
 use Rattle.records.specs.declared.State.{State}
 use Rattle.records.specs.Lists.{table}
 use Rattle.records.specs.Store.{Term, Cell, noTerm, noCell, termIn, cellIn, textIn, within, Store}
-use Rattle.records.specs.View.{termAt, cellAt, termsView, cellsView, charsView, pairsView, span, Lent, storeOf, pairAt}
+use Rattle.records.specs.View.{termAt, cellAt, termsView, cellsView, charsView, pairsView, span, Lent, storeOf, pairAt, zeroTerm, zeroCell}
+use Rattle.records.specs.Calls.{KeepsStore}
 use Rattle.records.proofs.Lists.{table-at, table-past, table-length, within-low, within-high}
 
 -- a counted term is read from its words, and no other number names one
@@ -142,17 +143,17 @@ pairWord-is l i zero h = refl
 pairWord-is l i (suc zero) h = refl
 pairWord-is l i (suc (suc k)) h = absurd (omega arith)
 
--- a table from record 1 on
-from-one : {A : Type 0} (f g : ℕ → A) (n : ℕ) → table (λ i. f (suc i)) n ≡ table (λ i. g (suc i)) n → (t : ℕ) → 1 ≤ t → t < n + 1 → f t ≡ g t
-from-one f g n e zero a b = absurd (omega arith)
-from-one f g n e (suc t) a b = table-is (λ i. f (suc i)) (λ i. g (suc i)) n t e (omega arith)
+-- record 0, and a table from record 1 on
+from-zero : {A : Type 0} (f g : ℕ → A) (n : ℕ) → f 0 ≡ g 0 → table (λ i. f (suc i)) n ≡ table (λ i. g (suc i)) n → (t : ℕ) → t < n + 1 → f t ≡ g t
+from-zero f g n z e zero b = z
+from-zero f g n z e (suc t) b = table-is (λ i. f (suc i)) (λ i. g (suc i)) n t e (omega arith)
 
 module _ (l l′ : List ℕ) (n : ℕ) where
-  pub terms-words : termsView l n ≡ termsView l′ n → (i : ℕ) → 8 ≤ i → i < 8 * (n + 1) → getD l i 0 ≡ getD l′ i 0
-  terms-words e i a b = words-same 8 termAt termWord termWord-is l l′ 1 (n + 1) (omega arith) (from-one (termAt l) (termAt l′) n e) i a b
+  pub terms-words : termAt l 0 ≡ termAt l′ 0 → termsView l n ≡ termsView l′ n → (i : ℕ) → i < 8 * (n + 1) → getD l i 0 ≡ getD l′ i 0
+  terms-words z e i b = words-same 8 termAt termWord termWord-is l l′ 0 (n + 1) (omega arith) (λ t a. from-zero (termAt l) (termAt l′) n z e t) i (omega arith) b
 
-  pub cells-words : cellsView l n ≡ cellsView l′ n → (i : ℕ) → 3 ≤ i → i < 3 * (n + 1) → getD l i 0 ≡ getD l′ i 0
-  cells-words e i a b = words-same 3 cellAt cellWord cellWord-is l l′ 1 (n + 1) (omega arith) (from-one (cellAt l) (cellAt l′) n e) i a b
+  pub cells-words : cellAt l 0 ≡ cellAt l′ 0 → cellsView l n ≡ cellsView l′ n → (i : ℕ) → i < 3 * (n + 1) → getD l i 0 ≡ getD l′ i 0
+  cells-words z e i b = words-same 3 cellAt cellWord cellWord-is l l′ 0 (n + 1) (omega arith) (λ t a. from-zero (cellAt l) (cellAt l′) n z e t) i (omega arith) b
 
   pub chars-words : charsView l n ≡ charsView l′ n → (i : ℕ) → i < n → getD l i 0 ≡ getD l′ i 0
   chars-words e i h = table-is (λ j. getD l j 0) (λ j. getD l′ j 0) n i e h
@@ -160,18 +161,27 @@ module _ (l l′ : List ℕ) (n : ℕ) where
   pub pairs-words : pairsView l n ≡ pairsView l′ n → (i : ℕ) → i < 2 * n → getD l i 0 ≡ getD l′ i 0
   pairs-words e i h = words-same 2 pairAt pairWord pairWord-is l l′ 0 n (omega arith) (λ t a b. table-is (pairAt l) (pairAt l′) n t e b) i (omega arith) h
 
--- slices that keep what is counted keep each word of it
+-- slices that keep what is counted keep record 0 of terms and of cells
+pub record SameZero (m m′ : Lent) : Type 0 where
+  pub terms : termAt (m′ .terms) 0 ≡ termAt (m .terms) 0
+  pub cells : cellAt (m′ .cells) 0 ≡ cellAt (m .cells) 0
+
+pub zero-kept : (m m′ : Lent) (c : State) → KeepsStore m m′ c → SameZero m m′
+unfolding zeroTerm zeroCell
+zero-kept m m′ c e = record { terms = ap (λ (s : Store). s .room .zeroTerm) e; cells = ap (λ (s : Store). s .room .zeroCell) e }
+
+-- and each word of what is counted and of record 0
 pub record SameWords (m m′ : Lent) (c : State) : Type 0 where
-  pub terms : (i : ℕ) → 8 ≤ i → i < 8 * (c .terms + 1) → getD (m′ .terms) i 0 ≡ getD (m .terms) i 0
-  pub cells : (i : ℕ) → 3 ≤ i → i < 3 * (c .cells + 1) → getD (m′ .cells) i 0 ≡ getD (m .cells) i 0
+  pub terms : (i : ℕ) → i < 8 * (c .terms + 1) → getD (m′ .terms) i 0 ≡ getD (m .terms) i 0
+  pub cells : (i : ℕ) → i < 3 * (c .cells + 1) → getD (m′ .cells) i 0 ≡ getD (m .cells) i 0
   pub chars : (i : ℕ) → i < c .chars → getD (m′ .chars) i 0 ≡ getD (m .chars) i 0
   pub reasons : (i : ℕ) → i < 2 * c .reasons → getD (m′ .reasons) i 0 ≡ getD (m .reasons) i 0
   pub keys : (i : ℕ) → i < 2 * c .keys → getD (m′ .keys) i 0 ≡ getD (m .keys) i 0
 
-pub view-faithful : (m m′ : Lent) (c : State) → storeOf m′ c ≡ storeOf m c → SameWords m m′ c
+pub view-faithful : (m m′ : Lent) (c : State) → KeepsStore m m′ c → SameWords m m′ c
 view-faithful m m′ c e = record {
-  terms = terms-words (m′ .terms) (m .terms) (c .terms) (ap (λ (s : Store). s .terms) e);
-  cells = cells-words (m′ .cells) (m .cells) (c .cells) (ap (λ (s : Store). s .cells) e);
+  terms = terms-words (m′ .terms) (m .terms) (c .terms) (zero-kept m m′ c e .terms) (ap (λ (s : Store). s .terms) e);
+  cells = cells-words (m′ .cells) (m .cells) (c .cells) (zero-kept m m′ c e .cells) (ap (λ (s : Store). s .cells) e);
   chars = chars-words (m′ .chars) (m .chars) (c .chars) (ap (λ (s : Store). s .chars) e);
   reasons = pairs-words (m′ .reasons) (m .reasons) (c .reasons) (ap (λ (s : Store). s .reasons) e);
   keys = pairs-words (m′ .keys) (m .keys) (c .keys) (ap (λ (s : Store). s .keys) e);

@@ -5,7 +5,7 @@ use mathlib.Core.List.{List, [], _∷_, _++_}
 use Prim.Native.Nat.{ℕ, suc, _+_, _≤_}
 use lib.ListN.{length, take}
 use lib.Dec.{ltb}
-use Rattle.records.specs.View.{termsView, cellsView, charsView, pairsView, reasonRoom, termAt}
+use Rattle.records.specs.View.{termsView, cellsView, charsView, pairsView, reasonRoom, termAt, zeroTerm, zeroCell}
 use Rattle.records.specs.Lists.{Every}
 use Rattle.records.specs.Make.{own, chainFrom}
 
@@ -13,6 +13,7 @@ use Rattle.records.specs.Make.{own, chainFrom}
 pub record TermPut (l l′ : List ℕ) (n kind first second : ℕ) : Type 0 where
   pub grown : termsView l′ (suc n) ≡ termsView l n ++ (own (suc n) kind first second ∷ [])
   pub kept : termsView l′ n ≡ termsView l n
+  pub zero : zeroTerm l′ ≡ zeroTerm l
 
 -- the characters from place n on are now w
 pub record CharsPut (l l′ : List ℕ) (n : ℕ) (w : List ℕ) : Type 0 where
@@ -23,11 +24,13 @@ pub record CharsPut (l l′ : List ℕ) (n : ℕ) (w : List ℕ) : Type 0 where
 pub record CellPut (l l′ : List ℕ) (n value next : ℕ) : Type 0 where
   pub grown : cellsView l′ (suc n) ≡ cellsView l n ++ (record { value = value; other = 0; next = next } ∷ [])
   pub kept : (i : ℕ) → i ≤ n → cellsView l′ i ≡ cellsView l i
+  pub zero : zeroCell l′ ≡ zeroCell l
 
 -- the cells from record n + 1 on are now a chain of these values
 pub record ChainPut (l l′ : List ℕ) (n : ℕ) (w : List ℕ) : Type 0 where
   pub grown : cellsView l′ (n + length w) ≡ cellsView l n ++ chainFrom (suc n) w
   pub kept : cellsView l′ n ≡ cellsView l n
+  pub zero : zeroCell l′ ≡ zeroCell l
 
 -- pair n of reasons or of keys is now this one
 pub record PairPut (l l′ : List ℕ) (n a b : ℕ) : Type 0 where

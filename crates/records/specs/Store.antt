@@ -24,13 +24,16 @@ pub record Cell : Type 0 where
   pub other : ℕ
   pub next : ℕ
 
--- how many records each slice and its limit hold, record 0 of terms and of cells left out
+-- what a slice has beside its counted records: how many records it and its limit hold, record 0 of terms and of cells left out; and
+-- record 0 of the two, which 'is never read': no definition names it, and a store that keeps its room keeps it
 pub record Room : Type 0 where
   pub terms : ℕ
   pub cells : ℕ
   pub chars : ℕ
   pub reasons : ℕ
   pub keys : ℕ
+  pub zeroTerm : Term
+  pub zeroCell : Cell
 
 -- the records up to the counts, terms and cells from record 1 on; the name counter; the room
 pub record Store : Type 0 where

@@ -72,6 +72,13 @@ cellAt l c = record { value = getD l (3 * c + 0) 0; other = getD l (3 * c + 1) 0
 abbrev pub pairAt : List ℕ → ℕ → ℕ × ℕ
 pairAt l i = (getD l (2 * i + 0) 0, getD l (2 * i + 1) 0)
 
+-- record 0 of terms and of cells: part of the room, so that a call which keeps the room keeps it
+unfoldable pub zeroTerm : List ℕ → Term
+zeroTerm l = termAt l 0
+
+unfoldable pub zeroCell : List ℕ → Cell
+zeroCell l = cellAt l 0
+
 -- the records of a slice up to a count
 abbrev pub termsView : List ℕ → ℕ → List Term
 termsView l n = table (λ i. termAt l (suc i)) n
@@ -121,6 +128,8 @@ roomOf m = record {
   chars = charRoom (m .chars);
   reasons = reasonRoom (m .reasons);
   keys = keyRoom (m .keys);
+  zeroTerm = zeroTerm (m .terms);
+  zeroCell = zeroCell (m .cells);
 }
 
 abbrev pub storeOf : Lent → State → Store
