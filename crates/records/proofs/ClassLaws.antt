@@ -1,7 +1,7 @@
 -- The audit of classes: tests of one term at a time say what the rules of two terms say.
 use mathlib.Core.Path.{_≡_, refl, sym, ap, _∙_}
 use mathlib.Core.Bool.{Bool, true, false, not, _&&_, _||_}
-use mathlib.Core.List.{List, []}
+use mathlib.Core.List.{List}
 use mathlib.Core.Logic.{_⊎_, ⊎-elim}
 use Prim.Native.Nat.{ℕ, zero, suc, _+_, _*_, _≤_, _<_}
 use native.Mathlib.Omega.{arith}
@@ -13,7 +13,7 @@ use Rattle.records.specs.Lists.{if_then_else_}
 use Rattle.records.specs.Store.{Store, term, count, isTerm, isString, within, climb, classUp, forestUp, root, top, sameClass, sameTree}
 use Rattle.records.specs.Rules.{eachTerm, parentsRule, endsRule, alikeRule, aloneRule, isNumber, edgeLabel, labelRule, classesRule}
 use Rattle.records.specs.Leaves.{alikeAt, aloneAt, classTest}
-use Rattle.records.specs.View.{Lent, lent, storeOf, termsView}
+use Rattle.records.specs.View.{Lent, storeOf, termsView, termed}
 use Rattle.records.specs.Audited.{Closed, Rooted}
 use Rattle.records.proofs.Lists.{both-left, both-right, both-true, right-false, right-falsum, or-stop, or-next, either, or-left, or-right, decide, clash, same-test, and-stop, and-next, failed, passed}
 use Rattle.records.proofs.Climbs.{climb-up, climb-stays, climb-within, rule-at, rule-all, parents-roots, parents-tops, view-count, view-term, view-class, view-forest}
@@ -192,60 +192,57 @@ classes-not s h = rw h
 -- EACH WAY THROUGH THE CODE
 
 -- the store as a test that reads the terms alone sees it
-abbrev pub seen : List ℕ → State → Store
-seen l c = storeOf (lent l [] [] [] []) c
-
-pub seen-term : (l : List ℕ) (c : State) (t : ℕ) → isTerm (seen l c) t ≡ within (c .terms) t
+pub seen-term : (l : List ℕ) (c : State) (t : ℕ) → isTerm (termed l c) t ≡ within (c .terms) t
 seen-term l c t = ap (λ n. within n t) (view-count l (c .terms))
 
 module _ (l : List ℕ) (c : State) (t : ℕ) (w : within (c .terms) t ≡ true) where
   -- a parent that was read names a term where the number read does
-  class-term : (p : ℕ) → p ≡ getD l (8 * t + 3) 0 → isTerm (seen l c) (term (seen l c) t .classParent) ≡ within (c .terms) p
-  class-term p e = ap (isTerm (seen l c)) (sym (view-class l (c .terms) t p w e)) ∙ seen-term l c p
+  class-term : (p : ℕ) → p ≡ getD l (8 * t + 3) 0 → isTerm (termed l c) (term (termed l c) t .classParent) ≡ within (c .terms) p
+  class-term p e = ap (isTerm (termed l c)) (sym (view-class l (c .terms) t p w e)) ∙ seen-term l c p
 
-  forest-term : (p : ℕ) → p ≡ getD l (8 * t + 4) 0 → isTerm (seen l c) (term (seen l c) t .forestParent) ≡ within (c .terms) p
-  forest-term p e = ap (isTerm (seen l c)) (sym (view-forest l (c .terms) t p w e)) ∙ seen-term l c p
+  forest-term : (p : ℕ) → p ≡ getD l (8 * t + 4) 0 → isTerm (termed l c) (term (termed l c) t .forestParent) ≡ within (c .terms) p
+  forest-term p e = ap (isTerm (termed l c)) (sym (view-forest l (c .terms) t p w e)) ∙ seen-term l c p
 
-  pub parents-stop : (p : ℕ) (b : Bool) → p ≡ getD l (8 * t + 3) 0 → b ≡ within (c .terms) p → not b ≡ true → false ≡ parentsRule (seen l c) t
+  pub parents-stop : (p : ℕ) (b : Bool) → p ≡ getD l (8 * t + 3) 0 → b ≡ within (c .terms) p → not b ≡ true → false ≡ parentsRule (termed l c) t
   unfolding parentsRule
   parents-stop p b e f h = and-stop _ _ (class-term p e ∙ failed _ b f h)
 
-  pub parents-last : (p q : ℕ) (b r : Bool) → p ≡ getD l (8 * t + 3) 0 → b ≡ within (c .terms) p → not b ≡ false → q ≡ getD l (8 * t + 4) 0 → r ≡ within (c .terms) q → r ≡ parentsRule (seen l c) t
+  pub parents-last : (p q : ℕ) (b r : Bool) → p ≡ getD l (8 * t + 3) 0 → b ≡ within (c .terms) p → not b ≡ false → q ≡ getD l (8 * t + 4) 0 → r ≡ within (c .terms) q → r ≡ parentsRule (termed l c) t
   unfolding parentsRule
   parents-last p q b r e f h d g = and-next _ _ r (class-term p e ∙ passed _ b f h) (g ∙ sym (forest-term q d))
 
-  pub label-edge : (p k v : ℕ) (r : Bool) → p ≡ getD l (8 * t + 4) 0 → k ≡ getD l (8 * t + 5) 0 → v ≡ getD l (8 * t + 6) 0 → (p ≡ t → ⊥) → r ≡ edgeLabel k v → r ≡ labelRule (seen l c) t
+  pub label-edge : (p k v : ℕ) (r : Bool) → p ≡ getD l (8 * t + 4) 0 → k ≡ getD l (8 * t + 5) 0 → v ≡ getD l (8 * t + 6) 0 → (p ≡ t → ⊥) → r ≡ edgeLabel k v → r ≡ labelRule (termed l c) t
   unfolding labelRule
   label-edge p k v r ep ek ev d e = rw (view-term l (c .terms) t w, ne-eqb (getD l (8 * t + 4) 0) t (λ z. d (ep ∙ z)), ← ek, ← ev) e
 
   module _ (p k v : ℕ) (ep : p ≡ getD l (8 * t + 4) 0) (ek : k ≡ getD l (8 * t + 5) 0) (ev : v ≡ getD l (8 * t + 6) 0) (d : p ≡ t) where
-    pub root-kind : (k ≡ 0 → ⊥) → false ≡ labelRule (seen l c) t
+    pub root-kind : (k ≡ 0 → ⊥) → false ≡ labelRule (termed l c) t
     unfolding labelRule
     root-kind z = rw (view-term l (c .terms) t w, eq-eqb (getD l (8 * t + 4) 0) t (sym ep ∙ d), ne-eqb (getD l (8 * t + 5) 0) 0 (λ y. z (ek ∙ y)))
 
-    pub root-value : k ≡ 0 → (v ≡ 0 → ⊥) → false ≡ labelRule (seen l c) t
+    pub root-value : k ≡ 0 → (v ≡ 0 → ⊥) → false ≡ labelRule (termed l c) t
     unfolding labelRule
     root-value y z = rw (view-term l (c .terms) t w, eq-eqb (getD l (8 * t + 4) 0) t (sym ep ∙ d), eq-eqb (getD l (8 * t + 5) 0) 0 (sym ek ∙ y), ne-eqb (getD l (8 * t + 6) 0) 0 (λ x. z (ev ∙ x)))
 
-    pub root-stamp : (m : ℕ) → k ≡ 0 → v ≡ 0 → m ≡ getD l (8 * t + 7) 0 → eqb m 0 ≡ labelRule (seen l c) t
+    pub root-stamp : (m : ℕ) → k ≡ 0 → v ≡ 0 → m ≡ getD l (8 * t + 7) 0 → eqb m 0 ≡ labelRule (termed l c) t
     unfolding labelRule
     root-stamp m y z em = rw (view-term l (c .terms) t w, eq-eqb (getD l (8 * t + 4) 0) t (sym ep ∙ d), eq-eqb (getD l (8 * t + 5) 0) 0 (sym ek ∙ y), eq-eqb (getD l (8 * t + 6) 0) 0 (sym ev ∙ z), ← em)
 
   module _ (p : ℕ) (e : p ≡ getD l (8 * t + 3) 0) where
-    pub alone-root : p ≡ t → true ≡ aloneAt (seen l c) t
+    pub alone-root : p ≡ t → true ≡ aloneAt (termed l c) t
     unfolding aloneAt
     alone-root d = or-stop _ _ (eq-eqb _ _ (sym (view-class l (c .terms) t p w e) ∙ d))
 
-    not-root : (p ≡ t → ⊥) → eqb (term (seen l c) t .classParent) t ≡ false
+    not-root : (p ≡ t → ⊥) → eqb (term (termed l c) t .classParent) t ≡ false
     not-root d = ne-eqb _ _ (λ z. d (view-class l (c .terms) t p w e ∙ z))
 
-    pub alone-child : (b : Bool) → (p ≡ t → ⊥) → b ≡ isString (seen l c) t → not b ≡ true → false ≡ aloneAt (seen l c) t
+    pub alone-child : (b : Bool) → (p ≡ t → ⊥) → b ≡ isString (termed l c) t → not b ≡ true → false ≡ aloneAt (termed l c) t
     unfolding aloneAt
     alone-child b d f h = or-next _ _ _ (not-root d) (and-stop _ _ (failed _ b f h))
 
-    pub alone-parent : (b r : Bool) → (p ≡ t → ⊥) → b ≡ isString (seen l c) t → not b ≡ false → r ≡ isString (seen l c) p → r ≡ aloneAt (seen l c) t
+    pub alone-parent : (b r : Bool) → (p ≡ t → ⊥) → b ≡ isString (termed l c) t → not b ≡ false → r ≡ isString (termed l c) p → r ≡ aloneAt (termed l c) t
     unfolding aloneAt
-    alone-parent b r d f h g = or-next _ _ _ (not-root d) (and-next _ _ r (passed _ b f h) (g ∙ ap (isString (seen l c)) (view-class l (c .terms) t p w e)))
+    alone-parent b r d f h g = or-next _ _ _ (not-root d) (and-next _ _ r (passed _ b f h) (g ∙ ap (isString (termed l c)) (view-class l (c .terms) t p w e)))
 
 -- the label of an edge
 module _ (k v : ℕ) where
@@ -273,35 +270,35 @@ module _ (k v : ℕ) where
   label-high h x y = rw (ne-eqb k 1 (λ e. omega arith), ne-eqb k 2 (λ e. omega arith), ne-eqb k 3 x, ne-eqb k 4 y)
 
 -- roots at hand
-module _ (l : List ℕ) (c : State) (t r q : ℕ) (h : Rooted (seen l c) (c .terms) t r q) where
+module _ (l : List ℕ) (c : State) (t r q : ℕ) (h : Rooted (termed l c) (c .terms) t r q) where
   pub root-here : within (c .terms) r ≡ true
   root-here = rw (h .root-is) (climb-within (classUp (termsView l (c .terms))) (c .terms) (length (termsView l (c .terms))) t (h .roots) (h .here))
 
   pub top-here : within (c .terms) q ≡ true
   top-here = rw (h .top-is) (climb-within (forestUp (termsView l (c .terms))) (c .terms) (length (termsView l (c .terms))) t (h .tops) (h .here))
 
-  pub ends-stop : (p : ℕ) → p ≡ getD l (8 * r + 3) 0 → (p ≡ r → ⊥) → false ≡ endsRule (seen l c) t
+  pub ends-stop : (p : ℕ) → p ≡ getD l (8 * r + 3) 0 → (p ≡ r → ⊥) → false ≡ endsRule (termed l c) t
   unfolding endsRule
   ends-stop p e d = rw (← h .root-is) (and-stop _ _ (ne-eqb _ _ (λ z. d (view-class l (c .terms) r p root-here e ∙ z))))
 
-  pub ends-last : (p u : ℕ) → p ≡ getD l (8 * r + 3) 0 → p ≡ r → u ≡ getD l (8 * q + 4) 0 → eqb u q ≡ endsRule (seen l c) t
+  pub ends-last : (p u : ℕ) → p ≡ getD l (8 * r + 3) 0 → p ≡ r → u ≡ getD l (8 * q + 4) 0 → eqb u q ≡ endsRule (termed l c) t
   unfolding endsRule
   ends-last p u e d f = rw (← h .root-is, ← h .top-is)
       (and-next _ _ _ (eq-eqb _ _ (sym (view-class l (c .terms) r p root-here e) ∙ d)) (ap (λ x. eqb x q) (view-forest l (c .terms) q u top-here f)))
 
-  pub alike-is : (p u : ℕ) → p ≡ root (seen l c) q → u ≡ top (seen l c) r → (eqb p r && eqb u q) ≡ alikeAt (seen l c) t
+  pub alike-is : (p u : ℕ) → p ≡ root (termed l c) q → u ≡ top (termed l c) r → (eqb p r && eqb u q) ≡ alikeAt (termed l c) t
   unfolding alikeAt
   alike-is p u e f = rw (← h .root-is, ← h .top-is, ← e, ← f)
 
 -- what the parents' rule gives the climbs
-module _ (l : List ℕ) (c : State) (h : eachTerm (seen l c) (parentsRule (seen l c)) ≡ true) where
+module _ (l : List ℕ) (c : State) (h : eachTerm (termed l c) (parentsRule (termed l c)) ≡ true) where
   pub seen-roots : Closed (classUp (termsView l (c .terms))) (c .terms)
-  seen-roots = rw (view-count l (c .terms)) at (parents-roots (seen l c) h)
+  seen-roots = rw (view-count l (c .terms)) at (parents-roots (termed l c) h)
 
   pub seen-tops : Closed (forestUp (termsView l (c .terms))) (c .terms)
-  seen-tops = rw (view-count l (c .terms)) at (parents-tops (seen l c) h)
+  seen-tops = rw (view-count l (c .terms)) at (parents-tops (termed l c) h)
 
-  pub seen-rooted : (t r q : ℕ) → within (c .terms) t ≡ true → r ≡ root (seen l c) t → q ≡ top (seen l c) t → Rooted (seen l c) (c .terms) t r q
+  pub seen-rooted : (t r q : ℕ) → within (c .terms) t ≡ true → r ≡ root (termed l c) t → q ≡ top (termed l c) t → Rooted (termed l c) (c .terms) t r q
   seen-rooted t r q w e f = record { here = w; roots = seen-roots; tops = seen-tops; root-is = e; top-is = f }
 
 -- one term's tests, and the rule
@@ -323,6 +320,6 @@ module _ (s : Store) (t : ℕ) where
   test-alone x y z r ex hx ey hy ez hz e = rw (passed _ x ex hx, passed _ y ey hy, passed _ z ez hz) e
 
 -- the rule reads the terms alone
-pub classes-seen : (m : Lent) (c : State) → classesRule (seen (m .terms) c) ≡ classesRule (storeOf m c)
+pub classes-seen : (m : Lent) (c : State) → classesRule (termed (m .terms) c) ≡ classesRule (storeOf m c)
 unfolding classesRule parentsRule endsRule alikeRule labelRule aloneRule
 classes-seen m c = refl

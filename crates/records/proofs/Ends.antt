@@ -10,7 +10,7 @@ use lib.Dec.{eqb}
 use borrow.Author.Tests.{eqb-true, eqb-false}
 use Rattle.records.specs.declared.State.{State}
 use Rattle.records.specs.Store.{Store, within, climb, classUp, forestUp, root, top}
-use Rattle.records.specs.View.{termLimit}
+use Rattle.records.specs.View.{termLimit, termed}
 use Rattle.records.specs.Rules.{endsRule, labelRule}
 use Rattle.records.specs.Leaves.{alikeAt, aloneAt, classTest}
 use Rattle.records.specs.Audited.{Closed, Rooted}
@@ -18,7 +18,7 @@ use Rattle.records.specs.Ends.{End, Ends, Kept, Tested}
 use Rattle.records.proofs.Lists.{decide, within-high}
 use Rattle.records.proofs.Climbs.{climb-add, Climbing, view-count}
 use Rattle.records.proofs.Repeats.{climb-one, climb-enough}
-use Rattle.records.proofs.ClassLaws.{root-ends, top-ends, root-alike, top-alike, Four, four-of, seen, root-here, top-here}
+use Rattle.records.proofs.ClassLaws.{root-ends, top-ends, root-alike, top-alike, Four, four-of, root-here, top-here}
 
 -- a number of a term is a place of a table
 pub term-place : (n t : ℕ) → n ≤ termLimit → within n t ≡ true → t < 513
@@ -52,9 +52,9 @@ pub kept-none : (s : Store) (n : ℕ) → n ≤ termLimit → Kept s n (replicat
 kept-none s n h = record { classes = ends-none _ _ h; trees = ends-none _ _ h }
 
 -- where t's test has passed, its two roots are their own parents, and each is the end of the other's table too
-module _ (l : List ℕ) (c : State) (t r q : ℕ) (h : Rooted (seen l c) (c .terms) t r q) (e : classTest (seen l c) t ≡ true) where
+module _ (l : List ℕ) (c : State) (t r q : ℕ) (h : Rooted (termed l c) (c .terms) t r q) (e : classTest (termed l c) t ≡ true) where
   abbrev s : Store
-  s = seen l c
+  s = termed l c
 
   passes : Four (endsRule s t) (alikeAt s t) (labelRule s t) (aloneAt s t)
   unfolding classTest

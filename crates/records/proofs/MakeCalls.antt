@@ -1,6 +1,6 @@
 -- The public calls that make constants and variables.
 use mathlib.Core.Path.{_≡_, refl, sym, ap, _∙_}
-use mathlib.Core.Bool.{Bool, true, false, not, _&&_}
+use mathlib.Core.Bool.{Bool, true, false, not}
 use mathlib.Core.List.{List}
 use Prim.Native.Nat.{ℕ}
 use native.Mathlib.Omega.{arith}
@@ -13,7 +13,7 @@ use Rattle.records.specs.Lists.{all}
 use Rattle.records.specs.Store.{Out, stop}
 use Rattle.records.specs.View.{Lent, storeOf, charsView}
 use Rattle.records.specs.Rules.{isChar, audit}
-use Rattle.records.specs.Make.{makeConstant, makeVariable}
+use Rattle.records.specs.Make.{makeConstant, makeVariable, constantArguments, variableArguments}
 use Rattle.records.specs.Calls.{call, Public, Working}
 use Rattle.records.proofs.Lists.{table-at, table-length, left-false, and-next}
 use Rattle.records.proofs.Kept.{constant-stops, variable-stops}
@@ -33,39 +33,39 @@ module _ (w : List ℕ) (b : Bool) (test : b ≡ all isChar (charsView w (length
   right d = sym (ap (all isChar) (whole-word w)) ∙ sym test ∙ not-false b d
 
 module _ (w : List ℕ) (m : Lent) (c : State) (k : ℕ) (verdict : k ≡ audit m c) where
-  pub constant-unready : (k ≡ 0 → ⊥) → Public (call (λ s. all isChar w) (makeConstant w) m c) m m c (stop k)
-  constant-unready = call-unready (λ s. all isChar w) (makeConstant w) m c k verdict
+  pub constant-unready : (k ≡ 0 → ⊥) → Public (call (constantArguments w) (makeConstant w) m c) m m c (stop k)
+  constant-unready = call-unready (constantArguments w) (makeConstant w) m c k verdict
 
-  pub variable-unready : (k ≡ 0 → ⊥) → Public (call (λ s. leb 1 (length w) && all isChar w) (makeVariable w) m c) m m c (stop k)
-  variable-unready = call-unready (λ s. leb 1 (length w) && all isChar w) (makeVariable w) m c k verdict
+  pub variable-unready : (k ≡ 0 → ⊥) → Public (call (variableArguments w) (makeVariable w) m c) m m c (stop k)
+  variable-unready = call-unready (variableArguments w) (makeVariable w) m c k verdict
 
   module _ (zero-is : k ≡ 0) where
-    pub variable-empty : length w ≡ 0 → Public (call (λ s. leb 1 (length w) && all isChar w) (makeVariable w) m c) m m c (stop 5)
+    pub variable-empty : length w ≡ 0 → Public (call (variableArguments w) (makeVariable w) m c) m m c (stop 5)
     variable-empty e =
-        call-unfit (λ s. leb 1 (length w) && all isChar w) (makeVariable w) m c k verdict zero-is _ refl (left-false _ _ (lt-leb 1 (length w) (omega arith)))
+        call-unfit (variableArguments w) (makeVariable w) m c k verdict zero-is _ refl (left-false _ _ (lt-leb 1 (length w) (omega arith)))
 
     module _ (b : Bool) (test : b ≡ all isChar (charsView w (length w))) where
-      pub constant-unfit : not b ≡ true → Public (call (λ s. all isChar w) (makeConstant w) m c) m m c (stop 5)
-      constant-unfit d = call-unfit (λ s. all isChar w) (makeConstant w) m c k verdict zero-is _ refl (wrong w b test d)
+      pub constant-unfit : not b ≡ true → Public (call (constantArguments w) (makeConstant w) m c) m m c (stop 5)
+      constant-unfit d = call-unfit (constantArguments w) (makeConstant w) m c k verdict zero-is _ refl (wrong w b test d)
 
       pub constant-called : not b ≡ false → {m′ : Lent} {r : Out ℕ} → Working (makeConstant w) m m′ c r
-          → Public (call (λ s. all isChar w) (makeConstant w) m c) m m′ c r
+          → Public (call (constantArguments w) (makeConstant w) m c) m m′ c r
       constant-called d v =
-          call-works (λ s. all isChar w) (makeConstant w) m c k verdict zero-is _ refl (right w b test d)
+          call-works (constantArguments w) (makeConstant w) m c k verdict zero-is _ refl (right w b test d)
           (λ j e. let q = constant-stops w (storeOf m c) j e in omega arith) v
 
       module _ (long : length w ≡ 0 → ⊥) where
         filled : leb 1 (length w) ≡ true
         filled = le-leb 1 (length w) (omega arith)
 
-        pub variable-unfit : not b ≡ true → Public (call (λ s. leb 1 (length w) && all isChar w) (makeVariable w) m c) m m c (stop 5)
+        pub variable-unfit : not b ≡ true → Public (call (variableArguments w) (makeVariable w) m c) m m c (stop 5)
         variable-unfit d =
-            call-unfit (λ s. leb 1 (length w) && all isChar w) (makeVariable w) m c k verdict zero-is _ refl
+            call-unfit (variableArguments w) (makeVariable w) m c k verdict zero-is _ refl
             (sym (and-next (leb 1 (length w)) (all isChar w) false filled (sym (wrong w b test d))))
 
         pub variable-called : not b ≡ false → {m′ : Lent} {r : Out ℕ} → Working (makeVariable w) m m′ c r
-            → Public (call (λ s. leb 1 (length w) && all isChar w) (makeVariable w) m c) m m′ c r
+            → Public (call (variableArguments w) (makeVariable w) m c) m m′ c r
         variable-called d v =
-            call-works (λ s. leb 1 (length w) && all isChar w) (makeVariable w) m c k verdict zero-is _ refl
+            call-works (variableArguments w) (makeVariable w) m c k verdict zero-is _ refl
             (sym (and-next (leb 1 (length w)) (all isChar w) true filled (sym (right w b test d))))
             (λ j e. let q = variable-stops w (storeOf m c) j e in omega arith) v

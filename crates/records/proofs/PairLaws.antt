@@ -1,7 +1,7 @@
 -- The audit of congruence edges: each way through the tests of pairs and of their paths (src/classes.rt).
 use mathlib.Core.Path.{_≡_, refl, sym, ap, _∙_}
 use mathlib.Core.Bool.{Bool, true, false, not, _&&_, _||_}
-use mathlib.Core.List.{List, [], _∷_}
+use mathlib.Core.List.{List, _∷_}
 use mathlib.Core.Logic.{_⊎_, ⊎-elim}
 use Prim.Native.Nat.{ℕ, suc, _+_, _-_, _*_, _≤_, _<_}
 use native.Mathlib.Omega.{arith}
@@ -10,8 +10,8 @@ use lib.Dec.{eqb}
 use borrow.Author.Tests.{eq-eqb, ne-eqb, not-false}
 use Rattle.records.specs.declared.State.{State}
 use Rattle.records.specs.Lists.{all, upTo, sameWord, firsts, seconds, Every, and}
-use Rattle.records.specs.Store.{Store, Cell, cellIn, term, kind, within, chainBy, chainIn, chain, aboveIn, nearestIn, pathIn, sameTree}
-use Rattle.records.specs.View.{Lent, lent, storeOf, termLimit, termsView, cellAt, cellsView}
+use Rattle.records.specs.Store.{Cell, cellIn, term, kind, within, chainBy, chainIn, chain, aboveIn, nearestIn, pathIn, sameTree}
+use Rattle.records.specs.View.{Lent, storeOf, termLimit, termsView, cellAt, cellsView, termed, chained}
 use Rattle.records.specs.Rules.{stampBelow, fallsRule, pairsOf, congruenceRule, edgeRule, congruencesRule}
 use Rattle.records.specs.Leaves.{pairWords, pairMeets}
 use Rattle.records.specs.Audited.{Classed, Recorded, Part, Pathed, TermPair, Congruable}
@@ -19,15 +19,15 @@ use Rattle.records.proofs.Lists.{both-left, both-right, both-true, eith
 use Rattle.records.proofs.Views.{kind-at, first-at, value-at, other-at, next-at}
 use Rattle.records.proofs.Climbs.{view-count, view-term, view-forest, ready-tops, within-term, term-within}
 use Rattle.records.proofs.Paths.{nearest-tree, path-sides}
-use Rattle.records.proofs.ClassLaws.{seen, four-of}
+use Rattle.records.proofs.ClassLaws.{four-of}
 use Rattle.records.proofs.Chains.{none-by, one-by}
 use Rattle.records.proofs.Grown.{string-term}
 
 -- THE PATH OF A PAIR
 
-module _ (l : List ℕ) (c : State) (m a b x : ℕ) (h : Pathed (seen l c) (c .terms)) (wa : within (c .terms) a ≡ true) (wb : within (c .terms) b ≡ true)
+module _ (l : List ℕ) (c : State) (m a b x : ℕ) (h : Pathed (termed l c) (c .terms)) (wa : within (c .terms) a ≡ true) (wb : within (c .terms) b ≡ true)
     (e : x ≡ nearestIn (termsView l (c .terms)) a b) where
-  tree : sameTree (seen l c) a b ≡ not (eqb x 0)
+  tree : sameTree (termed l c) a b ≡ not (eqb x 0)
   tree =
       let n = view-count l (c .terms) in
       nearest-tree (termsView l (c .terms)) (rw n (h .tops)) (λ t w. h .ends t (rw n at w)) a b (rw n wa) (rw n wb) ∙ ap (λ y. not (eqb y 0)) (sym e)
@@ -36,16 +36,16 @@ module _ (l : List ℕ) (c : State) (m a b x : ℕ) (h : Pathed (seen l c) (c .t
       ≡ (all (stampBelow (termsView l (c .terms)) m) (upTo x (aboveIn (termsView l (c .terms)) a)) && all (stampBelow (termsView l (c .terms)) m) (upTo x (aboveIn (termsView l (c .terms)) b)))
   sides = rw e (path-sides (stampBelow (termsView l (c .terms)) m) (termsView l (c .terms)) a b)
 
-  pub falls-none : x ≡ 0 → false ≡ fallsRule (seen l c) m (a, b)
+  pub falls-none : x ≡ 0 → false ≡ fallsRule (termed l c) m (a, b)
   unfolding fallsRule
   falls-none z = and-stop _ _ (tree ∙ ap not (eq-eqb x 0 z))
 
-  pub falls-stop : (r : Bool) → r ≡ all (stampBelow (termsView l (c .terms)) m) (upTo x (aboveIn (termsView l (c .terms)) a)) → not r ≡ true → false ≡ fallsRule (seen l c) m (a, b)
+  pub falls-stop : (r : Bool) → r ≡ all (stampBelow (termsView l (c .terms)) m) (upTo x (aboveIn (termsView l (c .terms)) a)) → not r ≡ true → false ≡ fallsRule (termed l c) m (a, b)
   unfolding fallsRule
-  falls-stop r f g = sym (right-false (sameTree (seen l c) a b) _ (sides ∙ left-false _ _ (failed _ r f g)))
+  falls-stop r f g = sym (right-false (sameTree (termed l c) a b) _ (sides ∙ left-false _ _ (failed _ r f g)))
 
   pub falls-last : (p r : Bool) → (x ≡ 0 → ⊥) → p ≡ all (stampBelow (termsView l (c .terms)) m) (upTo x (aboveIn (termsView l (c .terms)) a)) → not p ≡ false
-      → r ≡ all (stampBelow (termsView l (c .terms)) m) (upTo x (aboveIn (termsView l (c .terms)) b)) → r ≡ fallsRule (seen l c) m (a, b)
+      → r ≡ all (stampBelow (termsView l (c .terms)) m) (upTo x (aboveIn (termsView l (c .terms)) b)) → r ≡ fallsRule (termed l c) m (a, b)
   unfolding fallsRule
   falls-last p r z f g k = and-next _ _ r (tree ∙ ap not (ne-eqb x 0 z)) (and-next _ _ r (passed _ p f g) k ∙ sym sides)
 
@@ -225,10 +225,7 @@ module _ (P : ℕ × ℕ → Type 0) (q : ℕ × ℕ → Bool) (l : List ℕ) (n
 -- A CONGRUENCE EDGE
 
 -- the store as a test that reads terms and cells sees it
-abbrev pub both : List ℕ → List ℕ → State → Store
-both l e c = storeOf (lent l e [] [] []) c
-
-pub pathed-seen : (l e : List ℕ) (c : State) → Pathed (both l e c) (c .terms) → Pathed (seen l c) (c .terms)
+pub pathed-seen : (l e : List ℕ) (c : State) → Pathed (chained l e c) (c .terms) → Pathed (termed l c) (c .terms)
 pathed-seen l e c h = record { limited = h .limited; tops = h .tops; ends = h .ends }
 
 -- pairs of the values of two chains of terms are pairs of terms
@@ -239,84 +236,84 @@ words-terms n l p q hp hq e =
     let b = word-is (seconds l) (firsts q) (both-right (sameWord (firsts l) (firsts p)) _ e) in
     every-map (λ r h. record { one = h .0; other = h .1 }) (every-both (firsts-every l (rw a hp)) (seconds-every l (rw b hq)))
 
-module _ (l e : List ℕ) (c : State) (t u : ℕ) (h : Congruable (both l e c) (c .terms)) (w : within (c .terms) t ≡ true) (eu : u ≡ getD l (8 * t + 4) 0) where
-  parent-is : u ≡ term (both l e c) t .forestParent
+module _ (l e : List ℕ) (c : State) (t u : ℕ) (h : Congruable (chained l e c) (c .terms)) (w : within (c .terms) t ≡ true) (eu : u ≡ getD l (8 * t + 4) 0) where
+  parent-is : u ≡ term (chained l e c) t .forestParent
   parent-is = view-forest l (c .terms) t u w eu
 
   pub parent-here : within (c .terms) u ≡ true
   parent-here = rw parent-is (h .pathed .tops .stays t w)
 
   module _ (j : ℕ) (ej : j ≡ getD l (8 * t + 0) 0) where
-    child-kind : j ≡ kind (both l e c) t
+    child-kind : j ≡ kind (chained l e c) t
     child-kind = kind-at l (c .terms) t j w ej
 
-    pub congruent-child : (j ≡ 3 → ⊥) → false ≡ congruenceRule (both l e c) t
+    pub congruent-child : (j ≡ 3 → ⊥) → false ≡ congruenceRule (chained l e c) t
     unfolding congruenceRule
-    congruent-child d = rw (ne-eqb (kind (both l e c) t) 3 (λ z. d (child-kind ∙ z)))
+    congruent-child d = rw (ne-eqb (kind (chained l e c) t) 3 (λ z. d (child-kind ∙ z)))
 
     module _ (k : ℕ) (ek : k ≡ getD l (8 * u + 0) 0) where
-      parent-kind : k ≡ kind (both l e c) (term (both l e c) t .forestParent)
+      parent-kind : k ≡ kind (chained l e c) (term (chained l e c) t .forestParent)
       parent-kind = rw (← parent-is) (kind-at l (c .terms) u k parent-here ek)
 
-      pub congruent-parent : (k ≡ 3 → ⊥) → false ≡ congruenceRule (both l e c) t
+      pub congruent-parent : (k ≡ 3 → ⊥) → false ≡ congruenceRule (chained l e c) t
       unfolding congruenceRule
       congruent-parent d =
-          let z : eqb (kind (both l e c) (term (both l e c) t .forestParent)) 3 ≡ false = ne-eqb _ 3 (λ z. d (parent-kind ∙ z)) in
-          rw (right-false (eqb (kind (both l e c) t) 3) (eqb (kind (both l e c) (term (both l e c) t .forestParent)) 3) z)
+          let z : eqb (kind (chained l e c) (term (chained l e c) t .forestParent)) 3 ≡ false = ne-eqb _ 3 (λ z. d (parent-kind ∙ z)) in
+          rw (right-false (eqb (kind (chained l e c) t) 3) (eqb (kind (chained l e c) (term (chained l e c) t .forestParent)) 3) z)
 
       module _ (p a b : ℕ) (r : Bool) (ep : p ≡ getD l (8 * t + 6) 0) (ea : a ≡ getD l (8 * t + 1) 0) (eb : b ≡ getD l (8 * u + 1) 0)
-          (er : r ≡ (pairWords (chain (both l e c) p) (chain (both l e c) a) (chain (both l e c) b) || pairWords (chain (both l e c) p) (chain (both l e c) b) (chain (both l e c) a))) where
-        pairs-is : p ≡ term (both l e c) t .labelValue
+          (er : r ≡ (pairWords (chain (chained l e c) p) (chain (chained l e c) a) (chain (chained l e c) b) || pairWords (chain (chained l e c) p) (chain (chained l e c) b) (chain (chained l e c) a))) where
+        pairs-is : p ≡ term (chained l e c) t .labelValue
         pairs-is = rw (view-term l (c .terms) t w) ep
 
-        first-is : a ≡ term (both l e c) t .first
+        first-is : a ≡ term (chained l e c) t .first
         first-is = first-at l (c .terms) t a w ea
 
-        second-is : b ≡ term (both l e c) (term (both l e c) t .forestParent) .first
+        second-is : b ≡ term (chained l e c) (term (chained l e c) t .forestParent) .first
         second-is = rw (← parent-is) (first-at l (c .terms) u b parent-here eb)
 
-        pairs-test : r ≡ (pairsOf (both l e c) (chain (both l e c) (term (both l e c) t .labelValue)) t (term (both l e c) t .forestParent)
-            || pairsOf (both l e c) (chain (both l e c) (term (both l e c) t .labelValue)) (term (both l e c) t .forestParent) t)
+        pairs-test : r ≡ (pairsOf (chained l e c) (chain (chained l e c) (term (chained l e c) t .labelValue)) t (term (chained l e c) t .forestParent)
+            || pairsOf (chained l e c) (chain (chained l e c) (term (chained l e c) t .labelValue)) (term (chained l e c) t .forestParent) t)
         unfolding pairsOf pairWords
         pairs-test = rw (← pairs-is, ← first-is, ← second-is) er
 
-        pub congruent-pairs : not r ≡ true → false ≡ congruenceRule (both l e c) t
+        pub congruent-pairs : not r ≡ true → false ≡ congruenceRule (chained l e c) t
         unfolding congruenceRule
-        congruent-pairs d = sym (left-false _ (all (fallsRule (both l e c) (term (both l e c) t .stamp)) (chain (both l e c) (term (both l e c) t .labelValue)))
-            (right-false (eqb (kind (both l e c) t) 3 && eqb (kind (both l e c) (term (both l e c) t .forestParent)) 3) _ (failed _ r pairs-test d)))
+        congruent-pairs d = sym (left-false _ (all (fallsRule (chained l e c) (term (chained l e c) t .stamp)) (chain (chained l e c) (term (chained l e c) t .labelValue)))
+            (right-false (eqb (kind (chained l e c) t) 3 && eqb (kind (chained l e c) (term (chained l e c) t .forestParent)) 3) _ (failed _ r pairs-test d)))
 
         module _ (j3 : j ≡ 3) (k3 : k ≡ 3) (d : not r ≡ false) where
-          pub congruent-terms : Every (TermPair (c .terms)) (chain (both l e c) p)
+          pub congruent-terms : Every (TermPair (c .terms)) (chain (chained l e c) p)
           congruent-terms =
-              let x : Every (λ x. within (c .terms) x ≡ true) (firsts (chain (both l e c) a)) = rw first-is (h .parted t (sym child-kind ∙ j3)) in
-              let y : Every (λ x. within (c .terms) x ≡ true) (firsts (chain (both l e c) b)) = rw second-is (h .parted (term (both l e c) t .forestParent) (sym parent-kind ∙ k3)) in
-              ⊎-elim (words-terms (c .terms) (chain (both l e c) p) _ _ x y) (words-terms (c .terms) (chain (both l e c) p) _ _ y x) (either _ _ (sym er ∙ not-false r d))
+              let x : Every (λ x. within (c .terms) x ≡ true) (firsts (chain (chained l e c) a)) = rw first-is (h .parted t (sym child-kind ∙ j3)) in
+              let y : Every (λ x. within (c .terms) x ≡ true) (firsts (chain (chained l e c) b)) = rw second-is (h .parted (term (chained l e c) t .forestParent) (sym parent-kind ∙ k3)) in
+              ⊎-elim (words-terms (c .terms) (chain (chained l e c) p) _ _ x y) (words-terms (c .terms) (chain (chained l e c) p) _ _ y x) (either _ _ (sym er ∙ not-false r d))
 
-          pub congruent-last : (m : ℕ) (f : Bool) → m ≡ getD l (8 * t + 7) 0 → f ≡ all (fallsRule (seen l c) m) (chain (both l e c) p) → f ≡ congruenceRule (both l e c) t
+          pub congruent-last : (m : ℕ) (f : Bool) → m ≡ getD l (8 * t + 7) 0 → f ≡ all (fallsRule (termed l c) m) (chain (chained l e c) p) → f ≡ congruenceRule (chained l e c) t
           unfolding congruenceRule fallsRule
           congruent-last m f em ef =
-              let s : m ≡ term (both l e c) t .stamp = rw (view-term l (c .terms) t w) em in
-              rw (eq-eqb (kind (both l e c) t) 3 (sym child-kind ∙ j3), eq-eqb (kind (both l e c) (term (both l e c) t .forestParent)) 3 (sym parent-kind ∙ k3), passed _ r pairs-test d, ← s, ← pairs-is) ef
+              let s : m ≡ term (chained l e c) t .stamp = rw (view-term l (c .terms) t w) em in
+              rw (eq-eqb (kind (chained l e c) t) 3 (sym child-kind ∙ j3), eq-eqb (kind (chained l e c) (term (chained l e c) t .forestParent)) 3 (sym parent-kind ∙ k3), passed _ r pairs-test d, ← s, ← pairs-is) ef
 
 module _ (l e : List ℕ) (c : State) (t : ℕ) (w : within (c .terms) t ≡ true) where
-  pub edge-root : (u : ℕ) → u ≡ getD l (8 * t + 4) 0 → u ≡ t → true ≡ edgeRule (both l e c) t
-  edge-root u eu d = or-stop _ _ (ap not (left-false (not (eqb (term (both l e c) t .forestParent) t)) _ (ap not (eq-eqb _ _ (sym (view-forest l (c .terms) t u w eu) ∙ d)))))
+  pub edge-root : (u : ℕ) → u ≡ getD l (8 * t + 4) 0 → u ≡ t → true ≡ edgeRule (chained l e c) t
+  edge-root u eu d = or-stop _ _ (ap not (left-false (not (eqb (term (chained l e c) t .forestParent) t)) _ (ap not (eq-eqb _ _ (sym (view-forest l (c .terms) t u w eu) ∙ d)))))
 
   module _ (k : ℕ) (ek : k ≡ getD l (8 * t + 5) 0) where
-    label-is : k ≡ term (both l e c) t .labelKind
+    label-is : k ≡ term (chained l e c) t .labelKind
     label-is = rw (view-term l (c .terms) t w) ek
 
-    pub edge-other : (k ≡ 3 → ⊥) → true ≡ edgeRule (both l e c) t
-    edge-other d = or-stop _ _ (ap not (right-false (not (eqb (term (both l e c) t .forestParent) t)) _ (ne-eqb _ _ (λ z. d (label-is ∙ z)))))
+    pub edge-other : (k ≡ 3 → ⊥) → true ≡ edgeRule (chained l e c) t
+    edge-other d = or-stop _ _ (ap not (right-false (not (eqb (term (chained l e c) t .forestParent) t)) _ (ne-eqb _ _ (λ z. d (label-is ∙ z)))))
 
-    pub edge-congruence : (u : ℕ) (r : Bool) → u ≡ getD l (8 * t + 4) 0 → (u ≡ t → ⊥) → k ≡ 3 → r ≡ congruenceRule (both l e c) t → r ≡ edgeRule (both l e c) t
+    pub edge-congruence : (u : ℕ) (r : Bool) → u ≡ getD l (8 * t + 4) 0 → (u ≡ t → ⊥) → k ≡ 3 → r ≡ congruenceRule (chained l e c) t → r ≡ edgeRule (chained l e c) t
     edge-congruence u r eu d z f =
-        let a : not (eqb (term (both l e c) t .forestParent) t) ≡ true = ap not (ne-eqb _ _ (λ y. d (view-forest l (c .terms) t u w eu ∙ y))) in
-        let b : eqb (term (both l e c) t .labelKind) 3 ≡ true = eq-eqb _ _ (sym label-is ∙ z) in
+        let a : not (eqb (term (chained l e c) t .forestParent) t) ≡ true = ap not (ne-eqb _ _ (λ y. d (view-forest l (c .terms) t u w eu ∙ y))) in
+        let b : eqb (term (chained l e c) t .labelKind) 3 ≡ true = eq-eqb _ _ (sym label-is ∙ z) in
         or-next _ _ _ (ap not (both-true _ _ a b)) f
 
 -- the rule reads terms and cells alone
-pub congruences-both : (m : Lent) (c : State) → congruencesRule (both (m .terms) (m .cells) c) ≡ congruencesRule (storeOf m c)
+pub congruences-both : (m : Lent) (c : State) → congruencesRule (chained (m .terms) (m .cells) c) ≡ congruencesRule (storeOf m c)
 unfolding congruencesRule congruenceRule pairsOf fallsRule
 congruences-both m c = refl
 
@@ -324,7 +321,7 @@ part-terms : (m : Lent) (c : State) (t : ℕ) (q : List (ℕ × ℕ)) → Every 
 part-terms m c t q = every-firsts (λ p h. term-within m c (p .0) (string-term (storeOf m c) (p .0) (h .string)))
 
 -- what the audit of congruence edges may rely on, from refusals 1 to 3
-pub congruable : (m : Lent) (c : State) → c .terms ≤ termLimit → Recorded (storeOf m c) → Classed (storeOf m c) → Congruable (both (m .terms) (m .cells) c) (c .terms)
+pub congruable : (m : Lent) (c : State) → c .terms ≤ termLimit → Recorded (storeOf m c) → Classed (storeOf m c) → Congruable (chained (m .terms) (m .cells) c) (c .terms)
 congruable m c h r a = record {
   pathed = record { limited = h; tops = ready-tops m c a; ends = λ t w. a .forestEnds t (within-term m c t w) };
   parted = λ t k. part-terms m c t _ (r .partsGood t k);

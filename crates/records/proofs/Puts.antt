@@ -1,25 +1,29 @@
--- The views after records were written above the count.
+-- The views after records were written above the count, or a term's record changed.
 use mathlib.Core.Path.{_≡_, refl, sym, ap, _∙_}
 use mathlib.Core.Bool.{Bool, true, false, false≢true}
 use mathlib.Core.List.{List, [], _∷_, _++_, append-assoc, append-nil}
-use Prim.Native.Nat.{ℕ, suc, _+_, _*_, _/_, _≤_, _<_}
+use Prim.Native.Nat.{ℕ, suc, _+_, _-_, _*_, _/_, _≤_, _<_}
+use native.Mathlib.Decide.{ℕ-discrete}
 use native.Mathlib.Numerals.{add-one}
 use native.Mathlib.Omega.{arith}
-use lib.ListN.{length, getD, set, take, drop, drop-of-length-le, List·getD-append}
+use lib.ListN.{length, getD, set, take, drop, drop-of-length-le, length-set, List·getD-append}
 use lib.Dec.{ltb}
-use lib.Seq.{sets, sets-eq, getD-append-add, getD-take, length-take-le, drop-cons}
-use Rattle.records.specs.View.{reasonRoom, termAt, cellAt, pairAt, termsView, cellsView, pairsView, zeroTerm, zeroCell}
+use lib.Seq.{sets, sets-eq, getD-append-add, length-take-le, drop-cons, length-sets, getD-set-same, getD-set-other, ext-getD}
+use Rattle.records.specs.View.{reasonRoom, termAt, cellAt, pairAt, termsView, cellsView, pairsView, zeroTerm, zeroCell, termWords}
+use Rattle.records.specs.Store.{Term, noTerm, within}
 use Rattle.records.specs.Make.{own, chainFrom}
-use Rattle.records.specs.Puts.{TermPut, CellPut, ChainPut, PairPut, Pushed}
-use Rattle.records.proofs.Lists.{table-same, table-suc}
+use Rattle.records.specs.Puts.{TermPut, withClass, withEdge, TermSet, CellPut, ChainPut, PairPut, Pushed}
+use Rattle.records.proofs.Lists.{table-same, table-suc, table-length, table-at, within-low, within-high}
 
 -- A RUN OF STORES
 
+pub sets-away : (vs l : List ℕ) (i j : ℕ) → (i ≤ j → j < i + length vs → ⊥) → getD (sets l i vs) j 0 ≡ getD l j 0
+sets-away [] l i j z = refl
+sets-away (a ∷ vs) l i j z = sets-away vs (set l i a) (suc i) j (λ p q. z (omega arith) (omega arith)) ∙ getD-set-other l i j a 0 (λ e. z (omega arith) (omega arith))
+
 module _ (l : List ℕ) (i : ℕ) (vs : List ℕ) (fits : i + length vs ≤ length l) where
   pub sets-below : (j : ℕ) → j < i → getD (sets l i vs) j 0 ≡ getD l j 0
-  sets-below j h =
-      let n : length (take i l) ≡ i = length-take-le i l (omega arith) in
-      rw (sets-eq vs l i fits, append-assoc) (List·getD-append (take i l) (vs ++ drop (i + length vs) l) 0 j (omega arith) ∙ getD-take i l j 0 h)
+  sets-below j h = sets-away vs l i j (λ a b. omega arith)
 
   pub sets-at : (k : ℕ) → k < length vs → getD (sets l i vs) (i + k) 0 ≡ getD vs k 0
   sets-at k h =
@@ -111,6 +115,97 @@ module _ (l : List ℕ) (n k a b : ℕ) (room : 8 * (n + 2) ≤ length l) where
       let e6 : 8 * (n + 1) + 6 ≡ suc (suc (suc (suc (suc (suc (8 * (n + 1))))))) = omega arith in
       let e7 : 8 * (n + 1) + 7 ≡ suc (suc (suc (suc (suc (suc (suc (8 * (n + 1)))))))) = omega arith in
       rw (e1, e2, e3, e4, e5, e6, e7) term-put-sets
+
+-- A TERM'S RECORD CHANGED
+
+-- what is known of each record is known of each view
+module _ (l l′ : List ℕ) (t : ℕ) (x : Term) (long : length l′ ≡ length l) (here : termAt l′ t ≡ x) (away : (u : ℕ) → (u ≡ t → ⊥) → termAt l′ u ≡ termAt l u) where
+  view-set : (n : ℕ) → within n t ≡ true → termsView l′ n ≡ set (termsView l n) (t - 1) x
+  view-set n h =
+      let low = within-low n t h in
+      let high = within-high n t h in
+      let k : length (termsView l n) ≡ n = table-length (λ i. termAt l (suc i)) n in
+      let k′ : length (termsView l′ n) ≡ n = table-length (λ i. termAt l′ (suc i)) n in
+      ext-getD noTerm (termsView l′ n) (set (termsView l n) (t - 1) x) (k′ ∙ sym (length-set (termsView l n) (t - 1) x ∙ k)) (λ i b.
+      let c : i < n = omega arith in
+      table-at (λ j. termAt l′ (suc j)) n i noTerm c ∙ each i c low high k (ℕ-discrete (suc i) t))
+    where
+      each : (i : ℕ) → i < n → 0 < t → t ≤ n → length (termsView l n) ≡ n → Dec (suc i ≡ t) → termAt l′ (suc i) ≡ getD (set (termsView l n) (t - 1) x) i noTerm
+      each i c low high k (yes e) =
+          let f : i ≡ t - 1 = omega arith in
+          ap (termAt l′) e ∙ here ∙ sym (ap (λ (j : ℕ). getD (set (termsView l n) (t - 1) x) j noTerm) f ∙ getD-set-same (termsView l n) (t - 1) x noTerm (omega arith))
+      each i c low high k (no z) =
+          away (suc i) z ∙ sym (getD-set-other (termsView l n) (t - 1) i x noTerm (λ e. z (omega arith)) ∙ table-at (λ j. termAt l (suc j)) n i noTerm c)
+
+  term-set : TermSet l l′ t x
+  term-set = record { long = long; here = here; away = away; terms = view-set }
+
+-- words written within record t, from its word k on
+module _ (l : List ℕ) (t k : ℕ) (vs : List ℕ) (fits : k + length vs ≤ 8) where
+  record-away : (u : ℕ) → (u ≡ t → ⊥) → termAt (sets l (8 * t + k) vs) u ≡ termAt l u
+  record-away u z =
+      let q : (j : ℕ) → j < 8 → getD (sets l (8 * t + k) vs) (8 * u + j) 0 ≡ getD l (8 * u + j) 0 = λ j h. sets-away vs l (8 * t + k) (8 * u + j) (λ a b. z (omega arith)) in
+      let a0 = q 0 (omega arith) in
+      let a1 = q 1 (omega arith) in
+      let a2 = q 2 (omega arith) in
+      let a3 = q 3 (omega arith) in
+      let a4 = q 4 (omega arith) in
+      let a5 = q 5 (omega arith) in
+      let a6 = q 6 (omega arith) in
+      let a7 = q 7 (omega arith) in cc
+
+  words-set : (x : Term) → termAt (sets l (8 * t + k) vs) t ≡ x → TermSet l (sets l (8 * t + k) vs) t x
+  words-set x e = term-set l (sets l (8 * t + k) vs) t x (length-sets l (8 * t + k) vs) e record-away
+
+module _ (l : List ℕ) (t p : ℕ) (room : termWords t ≤ length l) where
+  pub class-set : TermSet l (set l (8 * t + 3) p) t (withClass (termAt l t) p)
+  class-set = words-set l t 3 (p ∷ []) (omega arith) (withClass (termAt l t) p) here-is
+    where
+      away : (j : ℕ) → (j ≡ 3 → ⊥) → getD (set l (8 * t + 3) p) (8 * t + j) 0 ≡ getD l (8 * t + j) 0
+      away j z = getD-set-other l (8 * t + 3) (8 * t + j) p 0 (λ e. z (omega arith))
+
+      here-is : termAt (set l (8 * t + 3) p) t ≡ withClass (termAt l t) p
+      here-is =
+          let a0 = away 0 (λ e. omega arith) in
+          let a1 = away 1 (λ e. omega arith) in
+          let a2 = away 2 (λ e. omega arith) in
+          let a3 = getD-set-same l (8 * t + 3) p 0 (omega arith) in
+          let a4 = away 4 (λ e. omega arith) in
+          let a5 = away 5 (λ e. omega arith) in
+          let a6 = away 6 (λ e. omega arith) in
+          let a7 = away 7 (λ e. omega arith) in cc
+
+edge-words : (l l′ : List ℕ) (t p k v s : ℕ) → ((j : ℕ) → j < 4 → getD l′ (8 * t + j) 0 ≡ getD l (8 * t + j) 0)
+    → getD l′ (8 * t + 4) 0 ≡ p → getD l′ (8 * t + 5) 0 ≡ k → getD l′ (8 * t + 6) 0 ≡ v → getD l′ (8 * t + 7) 0 ≡ s → termAt l′ t ≡ withEdge (termAt l t) p k v s
+edge-words l l′ t p k v s h a4 a5 a6 a7 =
+    let a0 = h 0 (omega arith) in
+    let a1 = h 1 (omega arith) in
+    let a2 = h 2 (omega arith) in
+    let a3 = h 3 (omega arith) in cc
+
+module _ (l : List ℕ) (t p k v s : ℕ) (room : termWords t ≤ length l) where
+  edge-set-sets : TermSet l (sets l (8 * t + 4) (p ∷ k ∷ v ∷ s ∷ [])) t (withEdge (termAt l t) p k v s)
+  edge-set-sets = words-set l t 4 vs (omega arith) (withEdge (termAt l t) p k v s) here-is
+    where
+      vs : List ℕ
+      vs = p ∷ k ∷ v ∷ s ∷ []
+
+      away : (j : ℕ) → j < 4 → getD (sets l (8 * t + 4) vs) (8 * t + j) 0 ≡ getD l (8 * t + j) 0
+      away j h = sets-away vs l (8 * t + 4) (8 * t + j) (λ a b. omega arith)
+
+      at : (j w i : ℕ) → j < 4 → i ≡ 8 * t + 4 + j → getD vs j 0 ≡ w → getD (sets l (8 * t + 4) vs) i 0 ≡ w
+      at j w i h q e = ap (λ (i : ℕ). getD (sets l (8 * t + 4) vs) i 0) q ∙ sets-at l (8 * t + 4) vs (omega arith) j h ∙ e
+
+      here-is : termAt (sets l (8 * t + 4) vs) t ≡ withEdge (termAt l t) p k v s
+      here-is = edge-words l (sets l (8 * t + 4) vs) t p k v s away (at 0 p (8 * t + 4) (omega arith) (omega arith) refl) (at 1 k (8 * t + 5) (omega arith) (omega arith) refl)
+          (at 2 v (8 * t + 6) (omega arith) (omega arith) refl) (at 3 s (8 * t + 7) (omega arith) (omega arith) refl)
+
+  pub edge-set : TermSet l (set (set (set (set l (8 * t + 4) p) (8 * t + 5) k) (8 * t + 6) v) (8 * t + 7) s) t (withEdge (termAt l t) p k v s)
+  edge-set =
+      let e5 : 8 * t + 5 ≡ suc (8 * t + 4) = omega arith in
+      let e6 : 8 * t + 6 ≡ suc (suc (8 * t + 4)) = omega arith in
+      let e7 : 8 * t + 7 ≡ suc (suc (suc (8 * t + 4))) = omega arith in
+      rw (e5, e6, e7) edge-set-sets
 
 -- ONE PAIR
 

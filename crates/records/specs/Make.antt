@@ -5,9 +5,9 @@ use mathlib.Core.Option.{Option, none, some}
 use Prim.Native.Nat.{ℕ, zero, suc, _+_, _-_, _/_, _%_, min, max}
 use lib.ListN.{length}
 use lib.Dec.{eqb, ltb, leb}
-use Rattle.records.specs.Lists.{if_then_else_, any, sameWord, firstBelow}
-use Rattle.records.specs.Store.{Term, Cell, Store, ok, stop, Work, _>>=_, _>>_, give, refuse, store, put, term, count, isConstant, isConcat, isLength, isEquation, text, parts}
-use Rattle.records.specs.Rules.{named}
+use Rattle.records.specs.Lists.{if_then_else_, all, any, sameWord, firstBelow}
+use Rattle.records.specs.Store.{Term, Cell, Store, ok, stop, Work, _>>=_, _>>_, give, refuse, store, put, term, count, isString, isConstant, isConcat, isLength, isEquation, text, parts}
+use Rattle.records.specs.Rules.{isChar, named, isList, isEquatable}
 
 abbrev pub withReasons : Store → List (ℕ × ℕ) → Store
 withReasons s rs = record { terms = s .terms; cells = s .cells; chars = s .chars; reasons = rs; keys = s .keys; names = s .names; room = s .room }
@@ -136,6 +136,24 @@ makeLength a = lowest (lengthOf a) (addTerm 4 a 0)
 
 unfoldable pub makeEquation : ℕ → ℕ → Work ℕ
 makeEquation a b = lowest (equationOf a b) (addTerm 5 a b)
+
+-- REFUSAL 5 of the making calls: 'term absent or of the wrong kind; a list above 1,024; .. in a making call fewer than two parts, an
+-- empty name or a character outside the rule'
+
+abbrev pub constantArguments : List ℕ → Store → Bool
+constantArguments w s = all isChar w
+
+abbrev pub variableArguments : List ℕ → Store → Bool
+variableArguments w s = leb 1 (length w) && all isChar w
+
+abbrev pub concatArguments : List ℕ → Store → Bool
+concatArguments l s = leb 2 (length l) && isList s l
+
+abbrev pub lengthArguments : ℕ → Store → Bool
+lengthArguments t s = isString s t
+
+abbrev pub equationArguments : ℕ → ℕ → Store → Bool
+equationArguments a b s = isEquatable s a b
 
 -- NAMES: 'z names are `!strk` with the counter in decimal'
 

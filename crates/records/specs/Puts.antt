@@ -1,11 +1,12 @@
--- What writing a record above the count does to the records that are seen.
+-- What writing a record, above the count or within it, does to the records that are seen.
 use mathlib.Core.Path.{_≡_}
 use mathlib.Core.Bool.{Bool, true}
 use mathlib.Core.List.{List, [], _∷_, _++_}
-use Prim.Native.Nat.{ℕ, suc, _+_, _≤_}
-use lib.ListN.{length, take}
+use Prim.Native.Nat.{ℕ, suc, _+_, _-_, _≤_}
+use lib.ListN.{length, take, set}
 use lib.Dec.{ltb}
 use Rattle.records.specs.View.{termsView, cellsView, charsView, pairsView, reasonRoom, termAt, zeroTerm, zeroCell}
+use Rattle.records.specs.Store.{Term, within}
 use Rattle.records.specs.Lists.{Every}
 use Rattle.records.specs.Make.{own, chainFrom}
 
@@ -14,6 +15,39 @@ pub record TermPut (l l′ : List ℕ) (n kind first second : ℕ) : Type 0 wher
   pub grown : termsView l′ (suc n) ≡ termsView l n ++ (own (suc n) kind first second ∷ [])
   pub kept : termsView l′ n ≡ termsView l n
   pub zero : zeroTerm l′ ≡ zeroTerm l
+
+-- a term with another class parent
+abbrev pub withClass : Term → ℕ → Term
+withClass x p = record {
+  kind = x .kind;
+  first = x .first;
+  second = x .second;
+  classParent = p;
+  forestParent = x .forestParent;
+  labelKind = x .labelKind;
+  labelValue = x .labelValue;
+  stamp = x .stamp;
+}
+
+-- a term with another edge to its parent in the forest: the parent, the label's kind and value, the stamp
+abbrev pub withEdge : Term → ℕ → ℕ → ℕ → ℕ → Term
+withEdge x p k v s = record {
+  kind = x .kind;
+  first = x .first;
+  second = x .second;
+  classParent = x .classParent;
+  forestParent = p;
+  labelKind = k;
+  labelValue = v;
+  stamp = s;
+}
+
+-- record t of terms is x, and every other record stays: record 0 and those above a count too
+pub record TermSet (l l′ : List ℕ) (t : ℕ) (x : Term) : Type 0 where
+  pub long : length l′ ≡ length l
+  pub here : termAt l′ t ≡ x
+  pub away : (u : ℕ) → (u ≡ t → ⊥) → termAt l′ u ≡ termAt l u
+  pub terms : (n : ℕ) → within n t ≡ true → termsView l′ n ≡ set (termsView l n) (t - 1) x
 
 -- the characters from place n on are now w
 pub record CharsPut (l l′ : List ℕ) (n : ℕ) (w : List ℕ) : Type 0 where

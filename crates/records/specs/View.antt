@@ -105,6 +105,13 @@ unfoldable pub lengths : List ℕ → List ℕ → ℕ
 lengths l [] = 0
 lengths l (t ∷ ts) = termAt l t .second + lengths l ts
 
+-- how many words n records and record 0 take
+abbrev pub termWords : ℕ → ℕ
+termWords n = 8 * (n + 1)
+
+abbrev pub cellWords : ℕ → ℕ
+cellWords n = 3 * (n + 1)
+
 -- how many records fit a slice and its limit
 abbrev pub termRoom : List ℕ → ℕ
 termRoom l = min termLimit (length l / 8 - 1)
@@ -143,12 +150,18 @@ storeOf m c = record {
   room = roomOf m;
 }
 
--- a store of which the terms alone are lent, or the terms and the characters
+-- a store of which the terms alone are lent; the terms and the characters; the terms and the cells; all three
 abbrev pub termed : List ℕ → State → Store
 termed l c = storeOf (lent l [] [] [] []) c
 
 abbrev pub readIn : List ℕ → List ℕ → State → Store
 readIn l h c = storeOf (lent l [] h [] []) c
+
+abbrev pub chained : List ℕ → List ℕ → State → Store
+chained l e c = storeOf (lent l e [] [] []) c
+
+abbrev pub recordsIn : List ℕ → List ℕ → List ℕ → State → Store
+recordsIn l e h c = storeOf (lent l e h [] []) c
 
 -- refusal 1, 'a count above its limit, or a slice too short for it', does not hold; record 0 takes room too
 unfoldable pub sizes : Lent → State → Bool

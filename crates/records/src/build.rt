@@ -1,15 +1,12 @@
 // Making concatenations, lengths and equations: the lowest-numbered equal record, else one appended.
 ghost use mathlib.Core.Path.{_≡_};
-ghost use mathlib.Core.Bool.{_&&_};
 ghost use mathlib.Core.Logic.{_⊎_};
 ghost use Prim.Native.Nat.{suc, _-_, _≤_, min};
-ghost use lib.Dec.{leb};
 ghost use lib.ListN.{length, getD};
 ghost use Rattle.records.specs.Lists.{sameWord, firsts, firstBelow};
-ghost use Rattle.records.specs.Store.{chainIn, isString};
+ghost use Rattle.records.specs.Store.{chainIn};
 ghost use Rattle.records.specs.View.{termLimit, cellsView, lends, across};
-ghost use Rattle.records.specs.Rules.{isList, isEquatable};
-ghost use Rattle.records.specs.Make.{makeConcat, makeLength, makeEquation};
+ghost use Rattle.records.specs.Make.{makeConcat, makeLength, makeEquation, concatArguments, lengthArguments, equationArguments};
 ghost use Rattle.records.specs.Leaves.{numberOf, Passed, appendParts, hasParts, hasSides, makeSides};
 ghost use Rattle.records.specs.Audited.{Ready, Sized, Ascends};
 ghost use Rattle.records.specs.Calls.{made, Does, Answers};
@@ -246,7 +243,7 @@ pub fn make_concatenation(
     c: State,
     l: &[u32],
 ) -> Made
-    ensures { λ r. ⌜ Answers (λ s. leb 2 (length (now (l .entry))) && isList s (now (l .entry))) (makeConcat (now (l .entry))) (across terms cells chars reasons keys) c (made r) ⌝ }
+    ensures { λ r. ⌜ Answers (concatArguments (now (l .entry))) (makeConcat (now (l .entry))) (across terms cells chars reasons keys) c (made r) ⌝ }
 {
     let k = crate::audit(terms, cells, chars, reasons, keys, c);
     if k != 0 {
@@ -270,7 +267,7 @@ pub fn make_length(
     c: State,
     t: u32,
 ) -> Made
-    ensures { λ r. ⌜ Answers (λ s. isString s t) (makeLength t) (across terms cells chars reasons keys) c (made r) ⌝ }
+    ensures { λ r. ⌜ Answers (lengthArguments t) (makeLength t) (across terms cells chars reasons keys) c (made r) ⌝ }
 {
     let k = crate::audit(terms, cells, chars, reasons, keys, c);
     if k != 0 {
@@ -292,7 +289,7 @@ pub fn make_equation(
     a: u32,
     b: u32,
 ) -> Made
-    ensures { λ r. ⌜ Answers (λ s. isEquatable s a b) (makeEquation a b) (across terms cells chars reasons keys) c (made r) ⌝ }
+    ensures { λ r. ⌜ Answers (equationArguments a b) (makeEquation a b) (across terms cells chars reasons keys) c (made r) ⌝ }
 {
     let k = crate::audit(terms, cells, chars, reasons, keys, c);
     if k != 0 {

@@ -1,13 +1,12 @@
 // Class roots and forest paths, and the audit of classes and congruence edges (refusals 3 and 4).
 ghost use mathlib.Core.Path.{_≡_};
 ghost use mathlib.Core.Bool.{true, not, _&&_, _||_};
-ghost use mathlib.Core.List.{[]};
 ghost use Prim.Native.Nat.{_≤_};
 ghost use lib.Dec.{eqb};
 ghost use Rattle.records.specs.Lists.{all, firstOf, upTo, Every};
 ghost use Rattle.records.specs.Leaves.{marked, isMarked};
 ghost use Rattle.records.specs.Store.{within, chainIn, classUp, forestUp, rootIn, topIn, root, top, aboveIn, orNone, nearestIn};
-ghost use Rattle.records.specs.View.{lent, storeOf, termLimit, termsView, cellsView, termed};
+ghost use Rattle.records.specs.View.{termLimit, termsView, cellsView, termed, chained};
 ghost use Rattle.records.specs.Rules.{eachTerm, parentsRule, endsRule, edgeLabel, labelRule, classesRule, stampBelow, fallsRule, congruenceRule, edgeRule, congruencesRule};
 ghost use Rattle.records.specs.Leaves.{aloneAt, classTest, pairWords, pairMeets};
 ghost use Rattle.records.specs.Audited.{Closed, Rooted, Pathed, TermPair, Congruable};
@@ -403,8 +402,8 @@ fn pairs_either_ok(cells: &[u32], n: usize, p: u32, a: u32, b: u32) -> bool
 }
 
 fn congruence_ok(terms: &[u32], cells: &[u32], c: State, t: u32) -> bool
-    requires { ⌜ Congruable (storeOf (lent (now terms) (now cells) [] [] []) c) (c .terms) × (within (c .terms) t ≡ true) ⌝ }
-    ensures { λ r. ⌜ r ≡ congruenceRule (storeOf (lent (now (terms .entry)) (now (cells .entry)) [] [] []) c) t ⌝ }
+    requires { ⌜ Congruable (chained (now terms) (now cells) c) (c .terms) × (within (c .terms) t ≡ true) ⌝ }
+    ensures { λ r. ⌜ r ≡ congruenceRule (chained (now (terms .entry)) (now (cells .entry)) c) t ⌝ }
 {
     let u = fields::forest_parent(terms, t);
     let j = fields::kind(terms, t);
@@ -426,10 +425,8 @@ fn congruence_ok(terms: &[u32], cells: &[u32], c: State, t: u32) -> bool
 }
 
 fn edge_ok(terms: &[u32], cells: &[u32], c: State, t: u32) -> bool
-    requires { ⌜ Congruable (storeOf (lent (now terms) (now cells) [] [] []) c) (c .terms) × (within (c .terms) t ≡ true) ⌝ }
-    ensures { λ r. do
-      let s = storeOf (lent (now (terms .entry)) (now (cells .entry)) [] [] []) c
-      ⌜ r ≡ edgeRule s t ⌝ }
+    requires { ⌜ Congruable (chained (now terms) (now cells) c) (c .terms) × (within (c .terms) t ≡ true) ⌝ }
+    ensures { λ r. ⌜ r ≡ edgeRule (chained (now (terms .entry)) (now (cells .entry)) c) t ⌝ }
 {
     let u = fields::forest_parent(terms, t);
     if u == t {
@@ -444,8 +441,8 @@ fn edge_ok(terms: &[u32], cells: &[u32], c: State, t: u32) -> bool
 
 // Refusal 4 is not due, where refusals 1 to 3 are not.
 pub(crate) fn congruences_ok(terms: &[u32], cells: &[u32], c: State) -> bool
-    requires { ⌜ Congruable (storeOf (lent (now terms) (now cells) [] [] []) c) (c .terms) ⌝ }
-    ensures { λ r. ⌜ r ≡ congruencesRule (storeOf (lent (now (terms .entry)) (now (cells .entry)) [] [] []) c) ⌝ }
+    requires { ⌜ Congruable (chained (now terms) (now cells) c) (c .terms) ⌝ }
+    ensures { λ r. ⌜ r ≡ congruencesRule (chained (now (terms .entry)) (now (cells .entry)) c) ⌝ }
 {
     let mut i: u32 = 0;
     while (i as usize) < c.terms {

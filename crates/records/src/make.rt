@@ -1,5 +1,5 @@
 // Making terms: the lowest-numbered equal record, else one appended.
-ghost use mathlib.Core.Bool.{true, _&&_};
+ghost use mathlib.Core.Bool.{true};
 ghost use mathlib.Core.Option.{none};
 ghost use mathlib.Core.Path.{_≡_};
 ghost use Prim.Native.Nat.{suc, _+_, _≤_};
@@ -8,8 +8,8 @@ ghost use lib.ListN.{length};
 ghost use Rattle.records.specs.Lists.{all, joined, firstBelow};
 ghost use Rattle.records.specs.Store.{within, isConstant, text};
 ghost use Rattle.records.specs.View.{termLimit, charLimit, charRoom, storeOf, textAt, lengths, lends, across};
-ghost use Rattle.records.specs.Rules.{isChar, listLimit, named};
-ghost use Rattle.records.specs.Make.{lookup, makeConstant, makeVariable};
+ghost use Rattle.records.specs.Rules.{listLimit, named};
+ghost use Rattle.records.specs.Make.{lookup, makeConstant, makeVariable, constantArguments, variableArguments};
 ghost use Rattle.records.specs.Leaves.{numberOf, hasText, appendText, makeText};
 ghost use Rattle.records.specs.Puts.{TextsWithin};
 ghost use Rattle.records.specs.Audited.{Ready, Sized};
@@ -186,7 +186,9 @@ fn find_joined(terms: &[u32], chars: &[u32], n: usize, list: &[u32], total: usiz
     requires { ⌜ length (now list) ≤ listLimit ⌝ }
     requires { ⌜ TextsWithin (now terms) (length (now chars)) (now list) ⌝ }
     requires { ⌜ total ≡ lengths (now terms) (now list) ⌝ }
-    ensures { λ r. ⌜ r ≡ numberOf (firstBelow (λ i. hasText (now (terms .entry)) (now (chars .entry)) 1 (joined (textAt (now (terms .entry)) (now (chars .entry))) (now (list .entry))) (suc i)) n) ⌝ }
+    ensures { λ r. do
+      let w = joined (textAt (now (terms .entry)) (now (chars .entry))) (now (list .entry))
+      ⌜ r ≡ numberOf (firstBelow (λ i. hasText (now (terms .entry)) (now (chars .entry)) 1 w (suc i)) n) ⌝ }
 {
     let mut t: u32 = 0;
     while (t as usize) < n {
@@ -241,7 +243,7 @@ pub fn make_constant(
     c: State,
     w: &[u32],
 ) -> Made
-    ensures { λ r. ⌜ Answers (λ s. all isChar (now (w .entry))) (makeConstant (now (w .entry))) (across terms cells chars reasons keys) c (made r) ⌝ }
+    ensures { λ r. ⌜ Answers (constantArguments (now (w .entry))) (makeConstant (now (w .entry))) (across terms cells chars reasons keys) c (made r) ⌝ }
 {
     let k = crate::audit(terms, cells, chars, reasons, keys, c);
     if k != 0 {
@@ -263,7 +265,7 @@ pub fn make_variable(
     c: State,
     w: &[u32],
 ) -> Made
-    ensures { λ r. ⌜ Answers (λ s. leb 1 (length (now (w .entry))) && all isChar (now (w .entry))) (makeVariable (now (w .entry))) (across terms cells chars reasons keys) c (made r) ⌝ }
+    ensures { λ r. ⌜ Answers (variableArguments (now (w .entry))) (makeVariable (now (w .entry))) (across terms cells chars reasons keys) c (made r) ⌝ }
 {
     let k = crate::audit(terms, cells, chars, reasons, keys, c);
     if k != 0 {

@@ -1,12 +1,12 @@
-// Writing records above the counts: terms, cells, reasons and keys.
+// Writing records above the counts: terms, cells, reasons and keys; and what joins classes, in a term's record.
 ghost use mathlib.Core.Path.{_≡_};
 ghost use Prim.Native.Nat.{_+_, _*_, _/_, _<_, _≤_, min, max};
 ghost use lib.Dec.{ltb, leb};
 ghost use lib.ListN.{length};
 ghost use Rattle.records.specs.Lists.{any};
-ghost use Rattle.records.specs.View.{termLimit, cellLimit, termRoom, cellRoom, pairAt, pairsView, across};
+ghost use Rattle.records.specs.View.{termLimit, cellLimit, termAt, termWords, termRoom, cellRoom, pairAt, pairsView, across};
 ghost use Rattle.records.specs.Make.{addReason, addKey, ordered, samePair};
-ghost use Rattle.records.specs.Puts.{TermPut, CellPut, ChainPut, PairPut, Pushed};
+ghost use Rattle.records.specs.Puts.{TermPut, withClass, withEdge, TermSet, CellPut, ChainPut, PairPut, Pushed};
 ghost use Rattle.records.specs.Calls.{added, Does};
 
 // One term more fits.
@@ -34,6 +34,26 @@ pub(crate) fn put_term_unchecked(terms: &mut [u32], n: usize, kind: u32, first: 
     terms[at + 5] = 0;
     terms[at + 6] = 0;
     terms[at + 7] = 0;
+}
+
+// A term's parent in its class.
+pub fn put_class_parent_unchecked(terms: &mut [u32], t: u32, parent: u32)
+    requires { ⌜ termWords t ≤ length (now terms) ⌝ }
+    ensures { λ _. ⌜ TermSet (now (terms .entry)) (now (terms .exit)) t (withClass (termAt (now (terms .entry)) t) parent) ⌝ }
+{
+    terms[8 * (t as usize) + 3] = parent;
+}
+
+// A term's edge to its parent in the forest, with its label and stamp.
+pub fn put_edge_unchecked(terms: &mut [u32], t: u32, parent: u32, kind: u32, value: u32, stamp: u32)
+    requires { ⌜ termWords t ≤ length (now terms) ⌝ }
+    ensures { λ _. ⌜ TermSet (now (terms .entry)) (now (terms .exit)) t (withEdge (termAt (now (terms .entry)) t) parent kind value stamp) ⌝ }
+{
+    let at = 8 * (t as usize);
+    terms[at + 4] = parent;
+    terms[at + 5] = kind;
+    terms[at + 6] = value;
+    terms[at + 7] = stamp;
 }
 
 // k cells more fit.

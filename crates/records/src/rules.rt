@@ -7,7 +7,7 @@ ghost use lib.ListN.{length};
 ghost use lib.Dec.{leb};
 ghost use Rattle.records.specs.Lists.{all};
 ghost use Rattle.records.specs.Store.{termIn, within, cell, chain};
-ghost use Rattle.records.specs.View.{lent, storeOf, termsView, charsView, pairsView, termLimit, cellLimit, charLimit, reasonLimit, keyLimit, sizes, lends, across, termed, readIn};
+ghost use Rattle.records.specs.View.{storeOf, termsView, charsView, pairsView, termLimit, cellLimit, charLimit, reasonLimit, keyLimit, sizes, lends, across, termed, readIn, chained, recordsIn};
 ghost use Rattle.records.specs.Rules.{isChar, isNumber, reasonRule, keyRule, cellRule, textRule, partRule, concatRule, lengthRule, isEquatable, equationRule, termRule, recordsRule, eachTerm, eachCell, isList};
 ghost use Rattle.records.specs.Marks.{Tables, Passing};
 ghost use Rattle.records.specs.Audited.{Sized};
@@ -159,7 +159,7 @@ fn key_ok(terms: &[u32], c: State, a: u32, b: u32) -> bool
 
 fn cell_ok(cells: &[u32], c: State, i: u32) -> bool
     requires { ⌜ within (c .cells) i ≡ true ⌝ }
-    ensures { λ r. ⌜ r ≡ cellRule (storeOf (lent [] (now (cells .entry)) [] [] []) c) i ⌝ }
+    ensures { λ r. ⌜ r ≡ cellRule (chained [] (now (cells .entry)) c) i ⌝ }
 {
     let next = fields::next(cells, i);
     if next == 0 {
@@ -183,7 +183,7 @@ pub(crate) fn text_ok(terms: &[u32], c: State, t: u32) -> bool
 fn part_ok(terms: &[u32], cells: &[u32], c: State, t: u32, i: u32) -> bool
     requires { ⌜ within (c .cells) i ≡ true ⌝ }
     ensures { λ r. do
-      let s = storeOf (lent (now (terms .entry)) (now (cells .entry)) [] [] []) c
+      let s = chained (now (terms .entry)) (now (cells .entry)) c
       ⌜ r ≡ partRule s t (cell s i .value, cell s i .other) ⌝ }
 {
     let o = fields::other(cells, i);
@@ -259,7 +259,7 @@ fn equation_ok(terms: &[u32], c: State, t: u32) -> bool
 // The chain from cell f as the parts of term t. A chain has at most as many cells as there are, so the walk ends.
 fn parts_ok(terms: &[u32], cells: &[u32], c: State, t: u32, f: u32) -> bool
     ensures { λ r. do
-      let s = storeOf (lent (now (terms .entry)) (now (cells .entry)) [] [] []) c
+      let s = chained (now (terms .entry)) (now (cells .entry)) c
       ⌜ r ≡ (leb 2 (length (chain s f)) && all (partRule s t) (chain s f)) ⌝ }
 {
     let mut at = f;
@@ -279,7 +279,7 @@ fn parts_ok(terms: &[u32], cells: &[u32], c: State, t: u32, f: u32) -> bool
 
 fn concat_ok(terms: &[u32], cells: &[u32], c: State, t: u32) -> bool
     requires { ⌜ within (c .terms) t ≡ true ⌝ }
-    ensures { λ r. ⌜ r ≡ concatRule (storeOf (lent (now (terms .entry)) (now (cells .entry)) [] [] []) c) t ⌝ }
+    ensures { λ r. ⌜ r ≡ concatRule (chained (now (terms .entry)) (now (cells .entry)) c) t ⌝ }
 {
     let o = fields::second(terms, t);
     if o != 0 {
@@ -301,7 +301,9 @@ fn term_ok(
     t: u32,
 ) -> bool
     requires { ⌜ (within (c .terms) t ≡ true) × (c .chars ≤ length (now chars)) × Tables (readIn (now terms) (now chars) c) (now marks) (now links) (now heads) t ⌝ }
-    ensures { λ r. ⌜ Passing (readIn (now (terms .entry)) (now (chars .entry)) c) (termRule (storeOf (lent (now (terms .entry)) (now (cells .entry)) (now (chars .entry)) [] []) c) t) (now (marks .exit)) (now (links .exit)) (now (heads .exit)) t r ⌝ }
+    ensures { λ r. do
+      let s = recordsIn (now (terms .entry)) (now (cells .entry)) (now (chars .entry)) c
+      ⌜ Passing (readIn (now (terms .entry)) (now (chars .entry)) c) (termRule s t) (now (marks .exit)) (now (links .exit)) (now (heads .exit)) t r ⌝ }
 {
     let k = fields::kind(terms, t);
     match k {
@@ -319,7 +321,7 @@ fn term_ok(
 fn cells_ok(cells: &[u32], c: State) -> bool
     requires { ⌜ c .cells ≤ cellLimit ⌝ }
     ensures { λ r. do
-      let s = storeOf (lent [] (now (cells .entry)) [] [] []) c
+      let s = chained [] (now (cells .entry)) c
       ⌜ r ≡ eachCell s (cellRule s) ⌝ }
 {
     let mut i: usize = 0;
@@ -392,7 +394,7 @@ fn terms_pass(
 ) -> bool
     requires { ⌜ (c .terms ≤ termLimit) × (c .chars ≤ length (now chars)) × (c .terms < length (now marks)) × (c .terms < length (now links)) ⌝ }
     ensures { λ r. do
-      let s = storeOf (lent (now (terms .entry)) (now (cells .entry)) (now (chars .entry)) [] []) c
+      let s = recordsIn (now (terms .entry)) (now (cells .entry)) (now (chars .entry)) c
       ⌜ r ≡ eachTerm s (termRule s) ⌝ }
 {
     let mut heads: [u32; 64] = [0; 64];
@@ -411,7 +413,7 @@ fn terms_pass(
 fn terms_ok(terms: &[u32], cells: &[u32], chars: &[u32], c: State) -> bool
     requires { ⌜ (c .terms ≤ termLimit) × (c .chars ≤ length (now chars)) ⌝ }
     ensures { λ r. do
-      let s = storeOf (lent (now (terms .entry)) (now (cells .entry)) (now (chars .entry)) [] []) c
+      let s = recordsIn (now (terms .entry)) (now (cells .entry)) (now (chars .entry)) c
       ⌜ r ≡ eachTerm s (termRule s) ⌝ }
 {
     if c.terms < 32 {

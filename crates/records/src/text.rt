@@ -87,7 +87,9 @@ fn spans_agree(chars: &[u32], at: usize, from: usize, n: usize) -> bool
 // Whether the characters from place p on are the joined texts of a list of terms.
 pub(crate) fn joined_is_unchecked(terms: &[u32], chars: &[u32], p: u32, list: &[u32]) -> bool
     requires { ⌜ length (now list) ≤ listLimit ⌝ ∗ ⌜ TextsWithin (now terms) (length (now chars)) (now list) ⌝ }
-    ensures { λ r. ⌜ r ≡ sameWord (span (now (chars .entry)) p (lengths (now (terms .entry)) (now (list .entry)))) (joined (textAt (now (terms .entry)) (now (chars .entry))) (now (list .entry))) ⌝ }
+    ensures { λ r. do
+      let w = joined (textAt (now (terms .entry)) (now (chars .entry))) (now (list .entry))
+      ⌜ r ≡ sameWord (span (now (chars .entry)) p (lengths (now (terms .entry)) (now (list .entry)))) w ⌝ }
 {
     let mut at = p as usize;
     let mut i: usize = 0;

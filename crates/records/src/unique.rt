@@ -1,7 +1,6 @@
 // Names are unique (a part of refusal 2). A variable that passes is put into three tables: `marks` has a mark of its name, by number.
 // Variables whose marks leave one remainder form a chain: `heads` has the highest of each, by remainder, and `links` the next lower, by
 // number; 0 ends a chain. So a name is looked for in one chain only.
-ghost use mathlib.Core.List.{[]};
 ghost use mathlib.Core.Path.{_≡_};
 ghost use mathlib.Core.Bool.{true, _&&_};
 ghost use Prim.Native.Nat.{_+_, _<_, _≤_};
@@ -39,7 +38,9 @@ fn name_mark(terms: &[u32], chars: &[u32], c: State, t: u32) -> u32
 
 // Whether variable u has t's name; m is the mark of t.
 fn is_named(terms: &[u32], chars: &[u32], c: State, marks: &[u32], m: u32, t: u32, u: u32) -> bool
-    requires { ⌜ (c .chars ≤ length (now chars)) × (u < length (now marks)) × Marked (readIn (now terms) (now chars) c) m t × Marked (readIn (now terms) (now chars) c) (getD (now marks) u 0) u ⌝ }
+    requires { do
+      let s = readIn (now terms) (now chars) c
+      ⌜ (c .chars ≤ length (now chars)) × (u < length (now marks)) × Marked s m t × Marked s (getD (now marks) u 0) u ⌝ }
     ensures { λ r. do
       let s = readIn (now (terms .entry)) (now (chars .entry)) c
       ⌜ r ≡ named (text s t) s u ⌝ }
@@ -90,7 +91,9 @@ pub(crate) fn variable_ok(
     heads: &mut [u32; 64],
     t: u32,
 ) -> bool
-    requires { ⌜ (c .chars ≤ length (now chars)) × (isVariable (readIn (now terms) (now chars) c) t ≡ true) × Tables (readIn (now terms) (now chars) c) (now marks) (now links) (now heads) t ⌝ }
+    requires { do
+      let s = readIn (now terms) (now chars) c
+      ⌜ (c .chars ≤ length (now chars)) × (isVariable s t ≡ true) × Tables s (now marks) (now links) (now heads) t ⌝ }
     ensures { λ r. do
       let s = readIn (now (terms .entry)) (now (chars .entry)) c
       ⌜ Passing s (textRule s t && nameRule s t) (now (marks .exit)) (now (links .exit)) (now (heads .exit)) t r ⌝ }

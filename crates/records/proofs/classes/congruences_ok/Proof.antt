@@ -1,7 +1,6 @@
-use Rattle.records.proofs.PairLaws.{both}
 use Rattle.records.proofs.Lists.{below-zero, within-is, each-stop, each-turn, each-done}
 use Rattle.records.specs.Rules.{edgeRule, congruencesRule}
-use Rattle.records.specs.View.{termAt}
+use Rattle.records.specs.View.{termAt, chained}
 use Rattle.records.specs.Lists.{allBelow}
 use Prim.Native.Nat.{suc, _-_, _≤_}
 use mathlib.Core.Path.{_≡_}
@@ -12,7 +11,7 @@ use Rattle.records.proofs.classes.congruences_ok.Statement.{statement}
 use Rattle.records.proofs.classes.congruences_ok.Tie as tie
 
 abbrev Inv-loop : tie.InvT-loop
-Inv-loop terms cells c i₀ i = (i ≤ c .terms) × (allBelow (λ j. edgeRule (both terms cells c) (suc j)) i ≡ true)
+Inv-loop terms cells c i₀ i = (i ≤ c .terms) × (allBelow (λ j. edgeRule (chained terms cells c) (suc j)) i ≡ true)
 
 abbrev μ-loop : tie.MeasureT-loop
 μ-loop terms cells c i₀ i = c .terms - i
@@ -35,7 +34,7 @@ returns c =
     let at-loop = c .before .before .before .before in
     let at-start = at-loop .before .before .before in
     let s = at-start .args in
-    each-stop (edgeRule (both (s .terms .now) (s .cells .now) (s .c))) (λ j. termAt (s .terms .now) (suc j)) (s .c .terms) (at-loop .loop .i) _ (c .before .edge-ok .ensures) (c .if2 .taken) (c .before .before .if1 .taken)
+    each-stop (edgeRule (chained (s .terms .now) (s .cells .now) (s .c))) (λ j. termAt (s .terms .now) (suc j)) (s .c .terms) (at-loop .loop .i) _ (c .before .edge-ok .ensures) (c .if2 .taken) (c .before .before .if1 .taken)
 
 add-i : tie.Need-add-i Inv-loop μ-loop
 add-i c = let at-start = c .before .before .before .before .before .before .before in omega (arith, at-start .pre .pathed .limited)
@@ -48,7 +47,7 @@ loop-again c =
     let at-loop = c .before .before .before .before in
     let at-start = at-loop .before .before .before in
     let s = at-start .args in
-    (omega arith, each-turn (edgeRule (both (s .terms .now) (s .cells .now) (s .c))) (at-loop .loop .i) _ (c .before .edge-ok .ensures) (c .if2 .left) (at-loop .loop .inv .1))
+    (omega arith, each-turn (edgeRule (chained (s .terms .now) (s .cells .now) (s .c))) (at-loop .loop .i) _ (c .before .edge-ok .ensures) (c .if2 .left) (at-loop .loop .inv .1))
 
 returns-2 : tie.Need-returns-2 Inv-loop μ-loop
 unfolding congruencesRule
@@ -56,7 +55,7 @@ returns-2 c =
     let at-loop = c .before .before in
     let at-start = at-loop .before .before .before in
     let s = at-start .args in
-    each-done (edgeRule (both (s .terms .now) (s .cells .now) (s .c))) (λ j. termAt (s .terms .now) (suc j)) (s .c .terms) (at-loop .loop .i) (at-loop .loop .inv .0) (c .if1 .left) (at-loop .loop .inv .1)
+    each-done (edgeRule (chained (s .terms .now) (s .cells .now) (s .c))) (λ j. termAt (s .terms .now) (suc j)) (s .c .terms) (at-loop .loop .i) (at-loop .loop .inv .0) (c .if1 .left) (at-loop .loop .inv .1)
 
 pub congruences-ok-spec : {M : Type 1} → statement M
 congruences-ok-spec =

@@ -1,5 +1,5 @@
+use Rattle.records.specs.View.{termed}
 use Rattle.records.proofs.PairLaws.{Chaining, chaining-begin, chaining-end, chaining-head, chaining-stop, chaining-turn, chaining-done}
-use Rattle.records.proofs.ClassLaws.{seen}
 use Rattle.records.specs.Audited.{TermPair}
 use Rattle.records.specs.Rules.{fallsRule}
 use Prim.Native.Nat.{_-_}
@@ -8,7 +8,7 @@ use Rattle.records.proofs.classes.falls_hold.Statement.{statement}
 use Rattle.records.proofs.classes.falls_hold.Tie as tie
 
 abbrev Inv-loop : tie.InvT-loop
-Inv-loop terms cells c m p x₀ i₀ x i = Chaining (TermPair (c .terms)) (fallsRule (seen terms c) m) cells (c .cells) p x i
+Inv-loop terms cells c m p x₀ i₀ x i = Chaining (TermPair (c .terms)) (fallsRule (termed terms c) m) cells (c .cells) p x i
 
 abbrev μ-loop : tie.MeasureT-loop
 μ-loop terms cells c m p x₀ i₀ x i = c .cells - i

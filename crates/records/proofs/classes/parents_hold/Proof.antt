@@ -1,6 +1,5 @@
 use Rattle.records.proofs.Lists.{each-stop, each-turn, each-done}
-use Rattle.records.specs.View.{termAt}
-use Rattle.records.proofs.ClassLaws.{seen}
+use Rattle.records.specs.View.{termAt, termed}
 use Rattle.records.proofs.Lists.{below-zero, within-is}
 use Rattle.records.specs.Rules.{parentsRule}
 use Rattle.records.specs.Lists.{allBelow}
@@ -13,7 +12,7 @@ use Rattle.records.proofs.classes.parents_hold.Statement.{statement}
 use Rattle.records.proofs.classes.parents_hold.Tie as tie
 
 abbrev Inv-loop : tie.InvT-loop
-Inv-loop terms c i₀ i = (i ≤ c .terms) × (allBelow (λ j. parentsRule (seen terms c) (suc j)) i ≡ true)
+Inv-loop terms c i₀ i = (i ≤ c .terms) × (allBelow (λ j. parentsRule (termed terms c) (suc j)) i ≡ true)
 
 abbrev μ-loop : tie.MeasureT-loop
 μ-loop terms c i₀ i = c .terms - i
@@ -35,7 +34,7 @@ returns c =
     let at-loop = c .before .before .before .before in
     let at-start = at-loop .before .before in
     let a = at-start .args in
-    each-stop (parentsRule (seen (a .terms .now) (a .c))) (λ j. termAt (a .terms .now) (suc j)) (a .c .terms) (at-loop .loop .i) _ (c .before .parents-ok .ensures) (c .if2 .taken) (c .before .before .if1 .taken)
+    each-stop (parentsRule (termed (a .terms .now) (a .c))) (λ j. termAt (a .terms .now) (suc j)) (a .c .terms) (at-loop .loop .i) _ (c .before .parents-ok .ensures) (c .if2 .taken) (c .before .before .if1 .taken)
 
 add-i : tie.Need-add-i Inv-loop μ-loop
 add-i c = let at-start = c .before .before .before .before .before .before in omega (arith, at-start .pre)
@@ -48,14 +47,14 @@ loop-again c =
     let at-loop = c .before .before .before .before in
     let at-start = at-loop .before .before in
     let a = at-start .args in
-    (omega arith, each-turn (parentsRule (seen (a .terms .now) (a .c))) (at-loop .loop .i) _ (c .before .parents-ok .ensures) (c .if2 .left) (at-loop .loop .inv .1))
+    (omega arith, each-turn (parentsRule (termed (a .terms .now) (a .c))) (at-loop .loop .i) _ (c .before .parents-ok .ensures) (c .if2 .left) (at-loop .loop .inv .1))
 
 returns-2 : tie.Need-returns-2 Inv-loop μ-loop
 returns-2 c =
     let at-loop = c .before .before in
     let at-start = at-loop .before .before in
     let a = at-start .args in
-    each-done (parentsRule (seen (a .terms .now) (a .c))) (λ j. termAt (a .terms .now) (suc j)) (a .c .terms) (at-loop .loop .i) (at-loop .loop .inv .0) (c .if1 .left) (at-loop .loop .inv .1)
+    each-done (parentsRule (termed (a .terms .now) (a .c))) (λ j. termAt (a .terms .now) (suc j)) (a .c .terms) (at-loop .loop .i) (at-loop .loop .inv .0) (c .if1 .left) (at-loop .loop .inv .1)
 
 pub parents-hold-spec : {M : Type 1} → statement M
 parents-hold-spec =

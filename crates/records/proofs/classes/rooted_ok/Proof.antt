@@ -1,4 +1,5 @@
-use Rattle.records.proofs.ClassLaws.{seen, alike-is, test-ends, test-alike, test-label, test-alone}
+use Rattle.records.specs.View.{termed}
+use Rattle.records.proofs.ClassLaws.{alike-is, test-ends, test-alike, test-label, test-alone}
 use mathlib.Core.Path.{_∙_}
 use borrow.Author.Needs.{needs}
 use Rattle.records.proofs.classes.rooted_ok.Statement.{statement}
@@ -10,7 +11,7 @@ ends-ok-requires c κs = c .before .pre .0
 returns : tie.Need-returns
 returns c =
     let at-start = c .before .before .before in
-    test-ends (seen (at-start .args .terms .now) (at-start .args .c)) _ _ (c .before .ends-ok .ensures) (c .if1 .taken)
+    test-ends (termed (at-start .args .terms .now) (at-start .args .c)) _ _ (c .before .ends-ok .ensures) (c .if1 .taken)
 
 alike-ok-requires : tie.Need-alike-ok-requires
 alike-ok-requires c κs = search needs
@@ -20,7 +21,7 @@ returns-2 c =
     let at-start = c .before .before .before .before .before in
     let a = at-start .args in
     let e = alike-is (a .terms .now) (a .c) (a .t) (a .r) (a .q) (at-start .pre .0) _ _ (at-start .pre .1 .0) (at-start .pre .1 .1) in
-    test-alike (seen (a .terms .now) (a .c)) _ _ (c .before .alike-ok .ensures ∙ e) (c .if2 .taken)
+    test-alike (termed (a .terms .now) (a .c)) _ _ (c .before .alike-ok .ensures ∙ e) (c .if2 .taken)
 
 label-ok-requires : tie.Need-label-ok-requires
 label-ok-requires c κs = let at-start = c .before .before .before .before .before in at-start .pre .0 .here
@@ -28,7 +29,7 @@ label-ok-requires c κs = let at-start = c .before .before .before .before .befo
 returns-3 : tie.Need-returns-3
 returns-3 c =
     let at-start = c .before .before .before .before .before .before .before in
-    test-label (seen (at-start .args .terms .now) (at-start .args .c)) _ _ (c .before .label-ok .ensures) (c .if3 .taken)
+    test-label (termed (at-start .args .terms .now) (at-start .args .c)) _ _ (c .before .label-ok .ensures) (c .if3 .taken)
 
 alone-ok-requires : tie.Need-alone-ok-requires
 alone-ok-requires c κs = let at-start = c .before .before .before .before .before .before .before in at-start .pre .0 .here
@@ -42,7 +43,7 @@ returns-4 c =
     let at-start = at-ends-ok .before .before in
     let a = at-start .args in
     let e = alike-is (a .terms .now) (a .c) (a .t) (a .r) (a .q) (at-start .pre .0) _ _ (at-start .pre .1 .0) (at-start .pre .1 .1) in
-    test-alone (seen (a .terms .now) (a .c)) _ _ _ _ _ (at-ends-ok .ends-ok .ensures) (at-if1 .if1 .left) (at-alike-ok .alike-ok .ensures ∙ e) (at-if2 .if2 .left) (c .before .before .label-ok .ensures) (c .before .if3 .left) (c .alone-ok .ensures)
+    test-alone (termed (a .terms .now) (a .c)) _ _ _ _ _ (at-ends-ok .ends-ok .ensures) (at-if1 .if1 .left) (at-alike-ok .alike-ok .ensures ∙ e) (at-if2 .if2 .left) (c .before .before .label-ok .ensures) (c .before .if3 .left) (c .alone-ok .ensures)
 
 pub rooted-ok-spec : {M : Type 1} → statement M
 rooted-ok-spec =

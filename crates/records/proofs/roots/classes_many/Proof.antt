@@ -5,8 +5,7 @@ use Rattle.records.specs.Lists.{allBelow}
 use Rattle.records.specs.Leaves.{classTest}
 use Rattle.records.specs.Ends.{Kept}
 use Rattle.records.proofs.Ends.{kept-none}
-use Rattle.records.proofs.ClassLaws.{seen}
-use Rattle.records.specs.View.{termAt}
+use Rattle.records.specs.View.{termAt, termed}
 use Rattle.records.proofs.Lists.{each-stop, each-turn, each-done, below-zero, within-is}
 use native.Mathlib.Omega.{arith}
 use borrow.Author.Needs.{needs}
@@ -14,7 +13,7 @@ use Rattle.records.proofs.roots.classes_many.Statement.{statement}
 use Rattle.records.proofs.roots.classes_many.Tie as tie
 
 abbrev Inv-loop : tie.InvT-loop
-Inv-loop terms c roots₀ tops₀ i₀ roots tops i = (i ≤ c .terms) × (allBelow (λ j. classTest (seen terms c) (suc j)) i ≡ true) × Kept (seen terms c) (c .terms) roots tops
+Inv-loop terms c roots₀ tops₀ i₀ roots tops i = (i ≤ c .terms) × (allBelow (λ j. classTest (termed terms c) (suc j)) i ≡ true) × Kept (termed terms c) (c .terms) roots tops
 
 abbrev μ-loop : tie.MeasureT-loop
 μ-loop terms c roots₀ tops₀ i₀ roots tops i = c .terms - i
@@ -40,7 +39,7 @@ returns c =
     let at-loop = at-if1 .before .before in
     let at-start = at-loop .before .before in
     let a = at-start .args in
-    each-stop (classTest (seen (a .terms .now) (a .c))) (λ j. termAt (a .terms .now) (suc j)) (a .c .terms) (at-loop .loop .i) _ (c .before .class-kept-ok .ensures .is) (c .if2 .taken) (at-if1 .if1 .taken)
+    each-stop (classTest (termed (a .terms .now) (a .c))) (λ j. termAt (a .terms .now) (suc j)) (a .c .terms) (at-loop .loop .i) _ (c .before .class-kept-ok .ensures .is) (c .if2 .taken) (at-if1 .if1 .taken)
 
 add-i : tie.Need-add-i Inv-loop μ-loop
 add-i c = let at-start = c .before .before .before .before .before .before .before .before in omega (arith, at-start .pre .0)
@@ -53,14 +52,14 @@ loop-again c =
     let at-loop = c .before .before .before .before .before .before in
     let at-start = at-loop .before .before in
     let a = at-start .args in
-    (omega arith, each-turn (classTest (seen (a .terms .now) (a .c))) (at-loop .loop .i) _ (c .before .class-kept-ok .ensures .is) (c .if2 .left) (at-loop .loop .inv .1), c .before .class-kept-ok .ensures .kept)
+    (omega arith, each-turn (classTest (termed (a .terms .now) (a .c))) (at-loop .loop .i) _ (c .before .class-kept-ok .ensures .is) (c .if2 .left) (at-loop .loop .inv .1), c .before .class-kept-ok .ensures .kept)
 
 returns-2 : tie.Need-returns-2 Inv-loop μ-loop
 returns-2 c =
     let at-loop = c .before .before in
     let at-start = at-loop .before .before in
     let a = at-start .args in
-    each-done (classTest (seen (a .terms .now) (a .c))) (λ j. termAt (a .terms .now) (suc j)) (a .c .terms) (at-loop .loop .i) (at-loop .loop .inv .0) (c .if1 .left) (at-loop .loop .inv .1)
+    each-done (classTest (termed (a .terms .now) (a .c))) (λ j. termAt (a .terms .now) (suc j)) (a .c .terms) (at-loop .loop .i) (at-loop .loop .inv .0) (c .if1 .left) (at-loop .loop .inv .1)
 
 pub classes-many-spec : {M : Type 1} → statement M
 classes-many-spec =

@@ -1,0 +1,8 @@
+use Rattle.records.proofs.Puts.{class-set}
+use borrow.Author.Needs.{needs}
+use Rattle.records.proofs.put.put_class_parent_unchecked.Statement.{statement}
+use Rattle.records.proofs.put.put_class_parent_unchecked.Tie as tie
+
+pub put-class-parent-unchecked-spec : {M : Type 1} → statement M
+put-class-parent-unchecked-spec =
+    tie.close (tie.spec (λ c. search needs) (λ c. search needs) (λ c. search needs) (λ c. search needs) (λ c. search needs) (λ c. class-set (c .args .terms .now) (c .args .t) (c .args .parent) (c .pre)))
