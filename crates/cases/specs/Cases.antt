@@ -1,17 +1,18 @@
 -- Document 01, 'Label cases (starred: proved)', as one table, and one fact: the definition that the contracts cite gives each answer.
 use mathlib.Core.Bool.{Bool, true, false, _&&_}
 use mathlib.Core.List.{List, [], _∷_}
-use Prim.Native.Nat.{ℕ, _-_}
+use Prim.Native.Nat.{ℕ}
 use Prim.Native.Char.{code}
 use Prim.Native.String.{String}
 use Prim.Native.String
-use lib.ListN.{length, set}
+use lib.ListN.{length}
 use lib.IntN.{ℤ, pos, negsuc}
 use lib.Dec.{eqb, T}
 use Rattle.records.specs.Lists.{all, any, firstOf, keep, joined, table, sameWord, isIn, firsts, seconds, upTo, allBelow, firstBelow}
 use Rattle.records.specs.Store.{Store, noTerm, noCell, Out, ok, stop, Work, _>>=_, _>>_, give, store, put, term, termIn, cellIn, within, textIn, chainBy, climb, aboveBy, nearestIn, pathIn}
 use Rattle.records.specs.Rules.{isChar, isNumber, reasonRule, keyRule, cellRule, textRule, named, nameRule, partRule, concatRule, lengthRule, isEquatable, equationRule, termRule, recordsRule, parentsRule, endsRule, alikeRule, aloneRule, edgeLabel, labelRule, classesRule, pairsOf, fallsRule, congruenceRule, congruencesRule, auditStore}
 use Rattle.records.specs.Make.{withTerms, withReasons, addReason, samePair, isKey, addKey, addText, chainFrom, addChain, addTerm, lookup, lowest, constantOf, concatOf, lengthOf, equationOf, makeConstant, makeVariable, makeConcat, makeLength, makeEquation, decimalBy, nameOf, isTaken, takeNameBy, takeName}
+use Rattle.classes.specs.Merge.{mergeIn}
 use Rattle.engine.specs.Explain.{wasSeen, each, edge, highest, walk, walked, explain}
 use Rattle.normalize.specs.Normalize.{atomsBy, flatten}
 use Rattle.wordeq.specs.Wordeq.{Answer, done, saturated, conflict, propagate, split, same, fixed, lettersOf, letters, explainMatch, stripHeads, strip, isFull, occurrence, occurs, unequal, short, absent, constants, isPlain, alias, empties, assigns, filled, lead, firstSpan, fits, explainAll, tileBy, tile, differ, clashes, freshVariable, splitCharacter, splitHeads, splits, after, steps, resolve}
@@ -41,8 +42,7 @@ pub data Line : Type 0 where
   by : ℕ → ℕ → ℕ → ℕ → Line
 
 unfoldable pub merged : ℕ → ℕ → ℕ → ℕ → Store → Store
-merged c p n m s = withTerms s (set (s .terms) (c - 1) (let t = term s c in
-    record { kind = t .kind; first = t .first; second = t .second; classParent = p; forestParent = p; labelKind = 1; labelValue = n; stamp = m }))
+merged c p n m s = withTerms s (mergeIn (s .terms) c p n m)
 
 unfoldable pub line : Line → Work ℕ
 line (con x) = makeConstant (codes x)

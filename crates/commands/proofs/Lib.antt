@@ -4,7 +4,3 @@ pub mod Numbering
 pub mod Guards
 pub mod Parsing
 pub mod Printing
-pub mod Rerooted
-pub mod Trees
-pub mod JoinedKept
-pub mod Joining

@@ -5,4 +5,3 @@ pub mod CommandCases
 pub mod Readings
 pub mod Answers
 pub mod AnswerCases
-pub mod Merge

@@ -1,5 +1,4 @@
-// The lines of the program `labelstep`: a line to a command, an answer to its printed line, and the joining of two classes.
-pub mod merge;
+// The lines of the program `labelstep`: a line to a command, and an answer to its printed line.
 pub mod numbers;
 pub mod parse;
 pub mod print;

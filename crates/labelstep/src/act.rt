@@ -8,8 +8,8 @@ use crate::session::with_counts;
 use crate::session::with_known;
 use crate::session::with_stamp;
 use crate::session::without_reasons;
+use classes::merge;
 use commands::Parsed;
-use commands::merge::merge;
 use records::Made;
 use records::build::make_concatenation;
 use records::build::make_equation;
@@ -101,7 +101,7 @@ fn sides(
 }
 
 // `M child parent n`.
-fn join(
+fn merge_classes(
     child: u32,
     parent: u32,
     n: u32,
@@ -184,7 +184,7 @@ pub(crate) fn act(
         Parsed::Variable(n) => variable(n, list, terms, cells, chars, reasons, keys, s),
         Parsed::Concatenation(n) => parts(n, list, terms, cells, chars, reasons, keys, s),
         Parsed::Equation(t, u) => sides(t, u, terms, cells, chars, reasons, keys, s),
-        Parsed::Merge(t, u, n) => join(t, u, n, terms, cells, chars, reasons, keys, s),
+        Parsed::Merge(t, u, n) => merge_classes(t, u, n, terms, cells, chars, reasons, keys, s),
         Parsed::Known(n) => set_known(list, n, known, terms, s),
         Parsed::Resolve(e, g) => resolve(e, g, list, known, terms, cells, chars, reasons, keys, s),
         Parsed::Bad => {

@@ -18,8 +18,8 @@ unfoldable pub isRootIn : List Term → ℕ → Bool
 isRootIn ts t = eqb (termIn ts t .classParent) t && eqb (termIn ts t .forestParent) t
 
 -- 'string terms, child a root, parent in another class'; an asserted reason's number
-unfoldable pub canJoin : ℕ → ℕ → ℕ → Store → Bool
-canJoin child parent n s = isString s child && isString s parent && isNumber n && isRootIn (s .terms) child && not (sameClass s child parent)
+unfoldable pub canMerge : ℕ → ℕ → ℕ → Store → Bool
+canMerge child parent n s = isString s child && isString s parent && isNumber n && isRootIn (s .terms) child && not (sameClass s child parent)
 
 -- 'both parents set': the child's record, under the parent
 abbrev pub under : Term → ℕ → ℕ → ℕ → Term
@@ -34,24 +34,24 @@ under t parent n stamp = record {
   stamp = stamp;
 }
 
-abbrev pub joinIn : List Term → ℕ → ℕ → ℕ → ℕ → List Term
-joinIn ts child parent n stamp = set ts (child - 1) (under (termIn ts child) parent n stamp)
+abbrev pub mergeIn : List Term → ℕ → ℕ → ℕ → ℕ → List Term
+mergeIn ts child parent n stamp = set ts (child - 1) (under (termIn ts child) parent n stamp)
 
-unfoldable pub joinClasses : ℕ → ℕ → ℕ → ℕ → Work (Unit {0})
-joinClasses child parent n stamp s = ok (withTerms s (joinIn (s .terms) child parent n stamp)) tt
+unfoldable pub mergeClasses : ℕ → ℕ → ℕ → ℕ → Work (Unit {0})
+mergeClasses child parent n stamp s = ok (withTerms s (mergeIn (s .terms) child parent n stamp)) tt
 
 -- the words of terms, before and after
-pub record Joined (l l′ : List ℕ) (child parent n stamp : ℕ) : Type 0 where
+pub record PutUnder (l l′ : List ℕ) (child parent n stamp : ℕ) : Type 0 where
   pub long : length l′ ≡ length l
-  pub terms : (k : ℕ) → within k child ≡ true → termsView l′ k ≡ joinIn (termsView l k) child parent n stamp
+  pub terms : (k : ℕ) → within k child ≡ true → termsView l′ k ≡ mergeIn (termsView l k) child parent n stamp
 
--- the answer of joining: 0, or the refusal's number
-abbrev pub joined : ℕ → Lent → State → Out (Unit {0})
-joined zero m c = ok (storeOf m c) tt
-joined (suc k) m c = stop (suc k)
+-- the answer of merging: 0, or the refusal's number
+abbrev pub merged : ℕ → Lent → State → Out (Unit {0})
+merged zero m c = ok (storeOf m c) tt
+merged (suc k) m c = stop (suc k)
 
--- joining is the call's outcome, a refusal changes nothing, and what is joined passes the audit again
-pub record Merged (m m′ : Lent) (c : State) (child parent n stamp r : ℕ) : Type 0 where
-  pub says : joined r m′ c ≡ call (canJoin child parent n) (joinClasses child parent n stamp) m c
+-- merging is the call's outcome, a refusal changes nothing, and what is merged passes the audit again
+pub record PublicMerge (m m′ : Lent) (c : State) (child parent n stamp r : ℕ) : Type 0 where
+  pub says : merged r m′ c ≡ call (canMerge child parent n) (mergeClasses child parent n stamp) m c
   pub idle : (r ≡ 0 → ⊥) → m′ ≡ m
   pub kept : r ≡ 0 → audit m′ c ≡ 0

@@ -1,7 +1,7 @@
--- Joining two classes keeps a store audited.
+-- What is merged passes the audit: a root put under a term of another class keeps a store audited.
 use mathlib.Core.Path.{_≡_, refl, sym, ap, subst, _∙_}
 use mathlib.Core.Bool.{true, false, not, _&&_}
-use mathlib.Core.List.{List, [], _∷_}
+use mathlib.Core.List.{List, _∷_}
 use mathlib.Core.Logic.{_⊎_, inl, inr, ⊎-elim}
 use Prim.Native.Nat.{ℕ, zero, suc, _-_, _≤_, _<_}
 use native.Mathlib.Decide.{ℕ-discrete}
@@ -10,7 +10,7 @@ use lib.ListN.{length, set, getD, length-set}
 use lib.Seq.{getD-set-same, getD-set-other}
 use lib.Dec.{eqb}
 use borrow.Author.Tests.{eqb-true, eqb-false, not-true, eq-eqb, ne-eqb}
-use Rattle.records.specs.Lists.{firsts, seconds, Every, none-left, and}
+use Rattle.records.specs.Lists.{firsts, Every}
 use Rattle.records.specs.Store.{Term, Store, termIn, noTerm, term, count, kind, within, isTerm, isString, textIn, text, chain, parts, climb, classUp, forestUp, root, top, sameClass, isEdge}
 use Rattle.records.specs.Rules.{isNumber, keyRule, isEquatable}
 use Rattle.records.specs.Make.{withTerms}
@@ -18,10 +18,10 @@ use Rattle.records.specs.Audited.{Part, Label, asserted, interface, congruence,
 use Rattle.records.proofs.Lists.{clash, both-left, both-right, within-low, within-high, every-map, every-both, all-every, every-all}
 use Rattle.records.proofs.Climbs.{classed-roots, classed-tops, root-self, top-self}
 use Rattle.records.proofs.Grown.{string-term}
-use Rattle.records.proofs.Readings.{parts-strings}
-use Rattle.commands.specs.Merge.{isRootIn, canJoin, under, joinIn}
-use Rattle.commands.proofs.Rerooted.{Moved, other-walk, moved-ends, moved-root}
-use Rattle.commands.proofs.Trees.{path-moved, path-not}
+use Rattle.records.proofs.Readings.{pairs-terms}
+use Rattle.classes.specs.Merge.{isRootIn, canMerge, under, mergeIn}
+use Rattle.classes.proofs.MovedClimbs.{Moved, other-walk, moved-ends, moved-root}
+use Rattle.classes.proofs.MovedPaths.{path-moved, path-not}
 
 -- RECORDS
 
@@ -39,28 +39,18 @@ module _ (ts : List Term) (t : ℕ) (x : Term) (w : within (length ts) t ≡ tru
   set-away zero d = refl
   set-away (suc j) d = let l = within-low (length ts) t w in getD-set-other ts (t - 1) j x noTerm (λ e. d (omega arith))
 
-from-firsts : {P : ℕ → Type 0} (l : List (ℕ × ℕ)) → Every P (firsts l) → Every (λ p. P (p .0)) l
-unfolding firsts
-from-firsts [] k = none-left
-from-firsts (p ∷ l) (and h k) = and h (from-firsts l k)
-
-from-seconds : {P : ℕ → Type 0} (l : List (ℕ × ℕ)) → Every P (seconds l) → Every (λ p. P (p .1)) l
-unfolding seconds
-from-seconds [] k = none-left
-from-seconds (p ∷ l) (and h k) = and h (from-seconds l k)
-
--- what the test of joining says
-record Joinable (s : Store) (child parent n : ℕ) : Type 0 where
-  child-string : isString s child ≡ true
+-- what the test of merging says
+pub record Mergeable (s : Store) (child parent n : ℕ) : Type 0 where
+  pub child-string : isString s child ≡ true
   parent-string : isString s parent ≡ true
   number : isNumber n ≡ true
   class-self : term s child .classParent ≡ child
   forest-self : term s child .forestParent ≡ child
   apart : root s child ≡ root s parent → ⊥
 
-joinable : (s : Store) (child parent n : ℕ) → canJoin child parent n s ≡ true → Joinable s child parent n
-unfolding canJoin isRootIn
-joinable s child parent n can =
+pub mergeable : (s : Store) (child parent n : ℕ) → canMerge child parent n s ≡ true → Mergeable s child parent n
+unfolding canMerge isRootIn
+mergeable s child parent n can =
     let e₄ = both-left (isString s child && isString s parent && isNumber n && (eqb (term s child .classParent) child && eqb (term s child .forestParent) child)) (not (sameClass s child parent)) can in
     let e₃ = both-left (isString s child && isString s parent && isNumber n) _ e₄ in
     let e₂ = both-left (isString s child && isString s parent) _ e₃ in
@@ -74,9 +64,9 @@ joinable s child parent n can =
       apart = eqb-false _ _ (not-true _ (both-right (isString s child && isString s parent && isNumber n && (eqb (term s child .classParent) child && eqb (term s child .forestParent) child)) _ can));
     }
 
-module _ (s : Store) (audited : Audited s) (child parent n stamp : ℕ) (j : Joinable s child parent n) where
+module _ (s : Store) (audited : Audited s) (child parent n stamp : ℕ) (j : Mergeable s child parent n) where
   abbrev s′ : Store
-  s′ = withTerms s (joinIn (s .terms) child parent n stamp)
+  s′ = withTerms s (mergeIn (s .terms) child parent n stamp)
 
   long : count s′ ≡ count s
   long = length-set (s .terms) (child - 1) _
@@ -137,8 +127,8 @@ module _ (s : Store) (audited : Audited s) (child parent n stamp : ℕ) (j : Joi
   was : (t : ℕ) {k : ℕ} → kind s′ t ≡ k → kind s t ≡ k
   was t e = sym (kind-same t) ∙ e
 
-  joined-recorded : Recorded s′
-  joined-recorded =
+  merged-recorded : Recorded s′
+  merged-recorded =
       let r = audited .recorded in
       record {
         kinds = λ t w. ap (within 5) (kind-same t) ∙ r .kinds t (was-term t w);
@@ -213,14 +203,14 @@ module _ (s : Store) (audited : Audited s) (child parent n stamp : ℕ) (j : Joi
   top-counted t = ap (λ (k : ℕ). climb (forestUp (s′ .terms)) k t) long
 
   module _ (t : ℕ) (w : isTerm s t ≡ true) where
-    root-joined : root s t ≡ child → root s′ t ≡ root s parent
-    root-joined e = root-counted t ∙ moved-root class-moved t w e
+    root-merged : root s t ≡ child → root s′ t ≡ root s parent
+    root-merged e = root-counted t ∙ moved-root class-moved t w e
 
     root-other : (root s t ≡ child → ⊥) → root s′ t ≡ root s t
     root-other o = root-counted t ∙ other-walk class-moved (count s) t w o
 
-    top-joined : top s t ≡ child → top s′ t ≡ top s parent
-    top-joined e = top-counted t ∙ moved-root forest-moved t w e
+    top-merged : top s t ≡ child → top s′ t ≡ top s parent
+    top-merged e = top-counted t ∙ moved-root forest-moved t w e
 
     top-other : (top s t ≡ child → ⊥) → top s′ t ≡ top s t
     top-other o = top-counted t ∙ other-walk forest-moved (count s) t w o
@@ -242,11 +232,11 @@ module _ (s : Store) (audited : Audited s) (child parent n stamp : ℕ) (j : Joi
     like = go (ℕ-discrete (root s t) child)
       where
         go : Dec (root s t ≡ child) → Like
-        go (yes e) = record { at = parent; is-term = parent-term; root-is = root-joined e; top-is = top-joined (to-top e) }
+        go (yes e) = record { at = parent; is-term = parent-term; root-is = root-merged e; top-is = top-merged (to-top e) }
         go (no o) = record { at = t; is-term = w; root-is = root-other o; top-is = top-other (λ e. o (to-root e)) }
 
-  joined-alike : (t u : ℕ) → isTerm s t ≡ true → isTerm s u ≡ true → eqb (root s′ t) (root s′ u) ≡ eqb (top s′ t) (top s′ u)
-  joined-alike t u w v =
+  merged-alike : (t u : ℕ) → isTerm s t ≡ true → isTerm s u ≡ true → eqb (root s′ t) (root s′ u) ≡ eqb (top s′ t) (top s′ u)
+  merged-alike t u w v =
       let x = like t w in
       let y = like u v in
       ap (λ (k : ℕ). eqb k (root s′ u)) (x .root-is) ∙ ap (eqb (root s (x .at))) (y .root-is) ∙ q .alike (x .at) (y .at) (x .is-term) (y .is-term)
@@ -256,13 +246,13 @@ module _ (s : Store) (audited : Audited s) (child parent n stamp : ℕ) (j : Joi
   not-string : (t u : ℕ) → isTerm s t ≡ true → isTerm s u ≡ true → isString s t ≡ false → isString s u ≡ true → root s t ≡ root s u → ⊥
   not-string t u w v f g e = let z = q .alone t u w v f e in clash g (ap (isString s) (sym z) ∙ f)
 
-  joined-alone : (t u : ℕ) → isTerm s t ≡ true → isTerm s u ≡ true → isString s t ≡ false → root s′ t ≡ root s′ u → t ≡ u
-  joined-alone t u w v f e =
+  merged-alone : (t u : ℕ) → isTerm s t ≡ true → isTerm s u ≡ true → isString s t ≡ false → root s′ t ≡ root s′ u → t ≡ u
+  merged-alone t u w v f e =
       let o : root s t ≡ child → ⊥ = λ h. not-string t child w child-term f (j .child-string) (h ∙ sym root-child) in
       go (sym (root-other t w o) ∙ e) (ℕ-discrete (root s u) child)
     where
       go : root s t ≡ root s′ u → Dec (root s u ≡ child) → t ≡ u
-      go g (yes h) = absurd (not-string t parent w parent-term f (j .parent-string) (g ∙ root-joined u v h))
+      go g (yes h) = absurd (not-string t parent w parent-term f (j .parent-string) (g ∙ root-merged u v h))
       go g (no h) = q .alone t u w v f (g ∙ root-other u v h)
 
   other-edge : (t : ℕ) → (t ≡ child → ⊥) → isEdge s′ t ≡ isEdge s t
@@ -277,15 +267,15 @@ module _ (s : Store) (audited : Audited s) (child parent n stamp : ℕ) (j : Joi
   label-same t d (congruence p) = congruence (ap (λ (x : Term). x .labelKind) (away t d) ∙ p)
   label-same t d (definitional p k) = definitional (ap (λ (x : Term). x .labelKind) (away t d) ∙ p) (ap (λ (x : Term). x .labelValue) (away t d) ∙ k)
 
-  joined-label : (t : ℕ) → isTerm s t ≡ true → isEdge s′ t ≡ true → Label s′ t
-  joined-label t w e = go (ℕ-discrete t child)
+  merged-label : (t : ℕ) → isTerm s t ≡ true → isEdge s′ t ≡ true → Label s′ t
+  merged-label t w e = go (ℕ-discrete t child)
     where
       go : Dec (t ≡ child) → Label s′ t
       go (yes z) = subst (Label s′) (sym z) (asserted (ap (λ (x : Term). x .labelKind) at-child) (ap (λ (x : Term). isNumber (x .labelValue)) at-child ∙ j .number))
       go (no d) = label-same t d (q .labels t w (sym (other-edge t d) ∙ e))
 
-  joined-root : (t : ℕ) → isTerm s t ≡ true → isEdge s′ t ≡ false → Unlabelled s′ t
-  joined-root t w e = go (ℕ-discrete t child)
+  merged-root : (t : ℕ) → isTerm s t ≡ true → isEdge s′ t ≡ false → Unlabelled s′ t
+  merged-root t w e = go (ℕ-discrete t child)
     where
       go : Dec (t ≡ child) → Unlabelled s′ t
       go (yes z) = clash child-edge (ap (isEdge s′) (sym z) ∙ e)
@@ -297,29 +287,22 @@ module _ (s : Store) (audited : Audited s) (child parent n stamp : ℕ) (j : Joi
             stamp-is = ap (λ (x : Term). x .stamp) (away t d) ∙ u .stamp-is;
           }
 
-  joined-classed : Classed s′
-  joined-classed = record {
+  merged-classed : Classed s′
+  merged-classed = record {
     classParents = λ t w. term-same (term s′ t .classParent) ∙ step (λ x. x .classParent) refl (q .classParents) t (was-term t w);
     forestParents = λ t w. term-same (term s′ t .forestParent) ∙ step (λ x. x .forestParent) refl (q .forestParents) t (was-term t w);
     classEnds = λ t w. subst (λ (r : ℕ). term s′ r .classParent ≡ r) (sym (root-counted t)) (moved-ends class-moved t (was-term t w));
     forestEnds = λ t w. subst (λ (r : ℕ). term s′ r .forestParent ≡ r) (sym (top-counted t)) (moved-ends forest-moved t (was-term t w));
-    alike = λ t u w v. joined-alike t u (was-term t w) (was-term u v);
-    alone = λ t u w v f e. joined-alone t u (was-term t w) (was-term u v) (sym (string-same t) ∙ f) e;
-    labels = λ t w e. joined-label t (was-term t w) e;
-    roots = λ t w e. joined-root t (was-term t w) e;
+    alike = λ t u w v. merged-alike t u (was-term t w) (was-term u v);
+    alone = λ t u w v f e. merged-alone t u (was-term t w) (was-term u v) (sym (string-same t) ∙ f) e;
+    labels = λ t w e. merged-label t (was-term t w) e;
+    roots = λ t w e. merged-root t (was-term t w) e;
   }
 
   -- CONGRUENCES
 
   pairs-same : (l : List (ℕ × ℕ)) (t u : ℕ) → Pairs s l t u → Pairs s′ l t u
   pairs-same l t u p = record { one = p .one ∙ sym (parts-same t); other = p .other ∙ sym (parts-same u) }
-
-  -- both values of each pair are terms
-  pair-terms : (l : List (ℕ × ℕ)) (t u : ℕ) → kind s t ≡ 3 → kind s u ≡ 3 → Pairs s l t u → Every (λ p. (isTerm s (p .0) ≡ true) × (isTerm s (p .1) ≡ true)) l
-  pair-terms l t u e f p =
-      every-both
-      (every-map (λ x h. string-term s (x .0) h) (from-firsts l (subst (λ (m : List ℕ). Every (λ x. isString s x ≡ true) m) (sym (p .one)) (parts-strings s (audited .recorded) t e))))
-      (every-map (λ x h. string-term s (x .1) h) (from-seconds l (subst (λ (m : List ℕ). Every (λ x. isString s x ≡ true) m) (sym (p .other)) (parts-strings s (audited .recorded) u f))))
 
   falls-same : (m : ℕ) (p : ℕ × ℕ) → (isTerm s (p .0) ≡ true) × (isTerm s (p .1) ≡ true) → Falls s m p → Falls s′ m p
   falls-same m p w f = record {
@@ -330,7 +313,7 @@ module _ (s : Store) (audited : Audited s) (child parent n stamp : ℕ) (j : Joi
   }
     where
       go : Dec (top s (p .0) ≡ child) → top s′ (p .0) ≡ top s′ (p .1)
-      go (yes e) = top-joined (p .0) (w .0) e ∙ sym (top-joined (p .1) (w .1) (sym (f .tree) ∙ e))
+      go (yes e) = top-merged (p .0) (w .0) e ∙ sym (top-merged (p .1) (w .1) (sym (f .tree) ∙ e))
       go (no o) = top-other (p .0) (w .0) o ∙ f .tree ∙ sym (top-other (p .1) (w .1) (λ e. o (f .tree ∙ e)))
 
   congruent-same : (t : ℕ) → (t ≡ child → ⊥) → Congruent s t → Congruent s′ t
@@ -340,7 +323,7 @@ module _ (s : Store) (audited : Audited s) (child parent n stamp : ℕ) (j : Joi
     pairs = subst (λ (x : Term). Pairs s′ (chain s (x .labelValue)) t (x .forestParent) ⊎ Pairs s′ (chain s (x .labelValue)) (x .forestParent) t) (sym (away t d))
         (⊎-elim (λ p. inl (pairs-same l t u p)) (λ p. inr (pairs-same l u t p)) (c .pairs));
     falls = subst (λ (x : Term). Every (Falls s′ (x .stamp)) (chain s (x .labelValue))) (sym (away t d))
-        (every-map (λ p h. falls-same (term s t .stamp) p (h .1) (h .0)) (every-both (c .falls) terms));
+        (every-map (λ p h. falls-same (term s t .stamp) p (h .1) (h .0)) (every-both (c .falls) (pairs-terms s (audited .recorded) t c)));
   }
     where
       u : ℕ
@@ -349,23 +332,20 @@ module _ (s : Store) (audited : Audited s) (child parent n stamp : ℕ) (j : Joi
       l : List (ℕ × ℕ)
       l = chain s (term s t .labelValue)
 
-      terms : Every (λ p. (isTerm s (p .0) ≡ true) × (isTerm s (p .1) ≡ true)) l
-      terms = ⊎-elim (pair-terms l t u (c .child) (c .parent)) (pair-terms l u t (c .parent) (c .child)) (c .pairs)
-
-  joined-congruences : Congruences s′
-  joined-congruences t e k = go (ℕ-discrete t child)
+  merged-congruences : Congruences s′
+  merged-congruences t e k = go (ℕ-discrete t child)
     where
       go : Dec (t ≡ child) → Congruent s′ t
       go (yes z) = let h : term s′ child .labelKind ≡ 1 = ap (λ (x : Term). x .labelKind) at-child in let i = ap (λ (x : ℕ). term s′ x .labelKind) (sym z) ∙ k in absurd (omega arith)
       go (no d) = congruent-same t d (audited .congruences t (sym (other-edge t d) ∙ e) (sym (ap (λ (x : Term). x .labelKind) (away t d)) ∙ k))
 
-  joined-roomy : Roomy s′
-  joined-roomy =
+  merged-roomy : Roomy s′
+  merged-roomy =
       let r = audited .roomy in
       record { terms = subst (λ (k : ℕ). k ≤ s .room .terms) (sym long) (r .terms); cells = r .cells; chars = r .chars; reasons = r .reasons; keys = r .keys }
 
-  joined-audited : Audited s′
-  joined-audited = record { roomy = joined-roomy; recorded = joined-recorded; classed = joined-classed; congruences = joined-congruences }
+  merged-audited : Audited s′
+  merged-audited = record { roomy = merged-roomy; recorded = merged-recorded; classed = merged-classed; congruences = merged-congruences }
 
-pub join-kept : (s : Store) (child parent n stamp : ℕ) → Audited s → canJoin child parent n s ≡ true → Audited (withTerms s (joinIn (s .terms) child parent n stamp))
-join-kept s child parent n stamp a can = joined-audited s a child parent n stamp (joinable s child parent n can)
+pub merge-kept : (s : Store) (child parent n stamp : ℕ) → Audited s → canMerge child parent n s ≡ true → Audited (withTerms s (mergeIn (s .terms) child parent n stamp))
+merge-kept s child parent n stamp a can = merged-audited s a child parent n stamp (mergeable s child parent n can)

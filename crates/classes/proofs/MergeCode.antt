@@ -1,4 +1,4 @@
--- Joining two classes: the tests, the words written, and the three ways of the call.
+-- The code of merging meets its definition: the tests, the words written, and the three ways of the call.
 use mathlib.Core.Path.{_≡_, refl, sym, ap, subst, _∙_}
 use mathlib.Core.Bool.{Bool, true, false, not}
 use mathlib.Core.List.{List}
@@ -10,40 +10,33 @@ use lib.Seq.{ext-getD, getD-set-same, getD-set-other}
 use lib.Dec.{eqb}
 use borrow.Author.Tests.{eq-eqb, ne-eqb, not-true, not-false}
 use Rattle.records.specs.declared.State.{State}
-use Rattle.records.specs.Store.{Term, ok, stop, termIn, noTerm, within, isString, sameClass, rootIn, classUp}
+use Rattle.records.specs.Store.{Term, ok, stop, termIn, noTerm, within, isString, sameClass, rootIn, classUp, forestUp}
 use Rattle.records.specs.View.{Lent, lent, storeOf, termAt, termsView}
 use Rattle.records.specs.Rules.{audit, isNumber}
 use Rattle.records.specs.Make.{withTerms}
 use Rattle.records.specs.Audited.{Ready, Closed, Audited}
 use Rattle.records.specs.Calls.{call}
-use Rattle.records.proofs.Lists.{failed, passed, and-stop, and-next, five-1, five-2, five-3, five-4, five-last, both-left, table-length, table-at, within-low, within-high}
+use Rattle.records.proofs.Lists.{failed, passed, and-stop, and-next, five-1, five-2, five-3, five-4, five-last, table-length, table-at, within-low, within-high}
 use Rattle.records.proofs.Views.{term-is}
 use Rattle.records.proofs.Passed.{ready-of, ready-after, audit-of}
 use Rattle.records.proofs.Public.{call-unready, call-unfit}
 use Rattle.records.proofs.Grown.{string-term}
-use Rattle.records.proofs.Climbs.{term-within, ready-roots}
-use Rattle.commands.specs.Merge.{isRootIn, canJoin, under, joinIn, joinClasses, Joined, joined, Merged}
-use Rattle.commands.proofs.JoinedKept.{join-kept}
+use Rattle.records.proofs.Climbs.{view-class, view-forest, term-within, ready-roots}
+use Rattle.classes.specs.Merge.{isRootIn, canMerge, under, mergeIn, mergeClasses, PutUnder, merged, PublicMerge}
+use Rattle.classes.proofs.MergeKept.{mergeable, merge-kept}
 
 -- A ROOT
 
-module _ (l : List ℕ) (n t x : ℕ) (h : within n t ≡ true) where
-  here : termIn (termsView l n) t ≡ termAt l t
-  here = term-is l n t (within-low n t h) (within-high n t h)
-
-  class-is : x ≡ getD l (8 * t + 3) 0 → termIn (termsView l n) t .classParent ≡ x
-  class-is e = ap (λ (r : Term). r .classParent) here ∙ sym e
-
-  pub root-not : x ≡ getD l (8 * t + 3) 0 → (x ≡ t → ⊥) → false ≡ isRootIn (termsView l n) t
+module _ (l : List ℕ) (n t x : ℕ) (h : within n t ≡ true) (e : x ≡ termAt l t .classParent) where
+  pub root-not : (x ≡ t → ⊥) → false ≡ isRootIn (termsView l n) t
   unfolding isRootIn
-  root-not e z = and-stop (eqb (termIn (termsView l n) t .classParent) t) (eqb (termIn (termsView l n) t .forestParent) t)
-      (ne-eqb _ t (λ q. z (sym (class-is e) ∙ q)))
+  root-not z = and-stop (eqb (classUp (termsView l n) t) t) (eqb (forestUp (termsView l n) t) t) (ne-eqb _ t (λ q. z (view-class l n t x h e ∙ q)))
 
-  pub root-by : (y : ℕ) → x ≡ getD l (8 * t + 3) 0 → x ≡ t → y ≡ getD l (8 * t + 4) 0 → eqb y t ≡ isRootIn (termsView l n) t
+  pub root-by : (y : ℕ) → x ≡ t → y ≡ termAt l t .forestParent → eqb y t ≡ isRootIn (termsView l n) t
   unfolding isRootIn
-  root-by y e q f = and-next (eqb (termIn (termsView l n) t .classParent) t) (eqb (termIn (termsView l n) t .forestParent) t) (eqb y t)
-      (eq-eqb _ t (class-is e ∙ q))
-      (ap (λ (z : ℕ). eqb z t) (f ∙ sym (ap (λ (r : Term). r .forestParent) here)))
+  root-by y q f = and-next (eqb (classUp (termsView l n) t) t) (eqb (forestUp (termsView l n) t) t) (eqb y t)
+      (eq-eqb _ t (sym (view-class l n t x h e) ∙ q))
+      (ap (λ (z : ℕ). eqb z t) (view-forest l n t y h f))
 
 -- THE TESTS
 
@@ -63,37 +56,37 @@ module _ (m : Lent) (c : State) (child parent n : ℕ) where
   abbrev fifth : Bool
   fifth = not (sameClass (storeOf m c) child parent)
 
-  pub join-1 : (b : Bool) → b ≡ first → not b ≡ true → false ≡ canJoin child parent n (storeOf m c)
-  unfolding canJoin
-  join-1 b e h = five-1 first second third fourth fifth (failed first b e h)
+  pub cannot-1 : (b : Bool) → b ≡ first → not b ≡ true → false ≡ canMerge child parent n (storeOf m c)
+  unfolding canMerge
+  cannot-1 b e h = five-1 first second third fourth fifth (failed first b e h)
 
-  pub join-2 : (b : Bool) → b ≡ second → not b ≡ true → false ≡ canJoin child parent n (storeOf m c)
-  unfolding canJoin
-  join-2 b e h = five-2 first second third fourth fifth (failed second b e h)
+  pub cannot-2 : (b : Bool) → b ≡ second → not b ≡ true → false ≡ canMerge child parent n (storeOf m c)
+  unfolding canMerge
+  cannot-2 b e h = five-2 first second third fourth fifth (failed second b e h)
 
-  pub join-3 : (b : Bool) → b ≡ third → not b ≡ true → false ≡ canJoin child parent n (storeOf m c)
-  unfolding canJoin
-  join-3 b e h = five-3 first second third fourth fifth (failed third b e h)
+  pub cannot-3 : (b : Bool) → b ≡ third → not b ≡ true → false ≡ canMerge child parent n (storeOf m c)
+  unfolding canMerge
+  cannot-3 b e h = five-3 first second third fourth fifth (failed third b e h)
 
-  pub join-4 : (b : Bool) → b ≡ fourth → not b ≡ true → false ≡ canJoin child parent n (storeOf m c)
-  unfolding canJoin
-  join-4 b e h = five-4 first second third fourth fifth (failed fourth b e h)
+  pub cannot-4 : (b : Bool) → b ≡ fourth → not b ≡ true → false ≡ canMerge child parent n (storeOf m c)
+  unfolding canMerge
+  cannot-4 b e h = five-4 first second third fourth fifth (failed fourth b e h)
 
-  pub join-last : (b₁ b₂ b₃ b₄ : Bool) → b₁ ≡ first → not b₁ ≡ false → b₂ ≡ second → not b₂ ≡ false → b₃ ≡ third → not b₃ ≡ false → b₄ ≡ fourth → not b₄ ≡ false
+  pub can-last : (b₁ b₂ b₃ b₄ : Bool) → b₁ ≡ first → not b₁ ≡ false → b₂ ≡ second → not b₂ ≡ false → b₃ ≡ third → not b₃ ≡ false → b₄ ≡ fourth → not b₄ ≡ false
       → (x y : ℕ) → x ≡ rootIn (termsView (m .terms) (c .terms)) child → y ≡ rootIn (termsView (m .terms) (c .terms)) parent
-      → not (eqb x y) ≡ canJoin child parent n (storeOf m c)
-  unfolding canJoin
-  join-last b₁ b₂ b₃ b₄ e₁ h₁ e₂ h₂ e₃ h₃ e₄ h₄ x y p q =
+      → not (eqb x y) ≡ canMerge child parent n (storeOf m c)
+  unfolding canMerge
+  can-last b₁ b₂ b₃ b₄ e₁ h₁ e₂ h₂ e₃ h₃ e₄ h₄ x y p q =
       five-last first second third fourth fifth (not (eqb x y)) (passed first b₁ e₁ h₁) (passed second b₂ e₂ h₂) (passed third b₃ e₃ h₃) (passed fourth b₄ e₄ h₄)
       (rw (p, q))
 
-  -- a string term is a term, and class parents are terms
-  pub string-within : (t : ℕ) (b : Bool) → b ≡ isString (storeOf m c) t → not b ≡ false → within (c .terms) t ≡ true
-  string-within t b e h = term-within m c t (string-term (storeOf m c) t (passed (isString (storeOf m c) t) b e h))
+-- a string term is a term, and class parents are terms
+module _ (m : Lent) (c : State) (t : ℕ) (b : Bool) (e : b ≡ isString (storeOf m c) t) (h : not b ≡ false) where
+  pub string-within : within (c .terms) t ≡ true
+  string-within = term-within m c t (string-term (storeOf m c) t (passed (isString (storeOf m c) t) b e h))
 
-  pub can-climb : Ready m c → (t : ℕ) (b : Bool) → b ≡ isString (storeOf m c) t → not b ≡ false
-      → (within (c .terms) t ≡ true) × Closed (classUp (termsView (m .terms) (c .terms))) (c .terms)
-  can-climb d t b e h = (string-within t b e h, ready-roots m c (d .audited .classed))
+  pub can-climb : Ready m c → (within (c .terms) t ≡ true) × Closed (classUp (termsView (m .terms) (c .terms))) (c .terms)
+  can-climb d = (string-within, ready-roots m c (d .audited .classed))
 
 -- THE WORDS
 
@@ -161,78 +154,73 @@ module _ (l : List ℕ) (t p v s : ℕ) (room : 8 * t + 8 ≤ length l) where
       let a6 = away (8 * u + 6) (q 6 (omega arith)) in
       let a7 = away (8 * u + 7) (q 7 (omega arith)) in cc
 
-  view-is : (k : ℕ) → within k t ≡ true → termsView written k ≡ joinIn (termsView l k) t p v s
+  view-is : (k : ℕ) → within k t ≡ true → termsView written k ≡ mergeIn (termsView l k) t p v s
   view-is k h =
       let low = within-low k t h in
       let high = within-high k t h in
       let long : length (termsView l k) ≡ k = table-length (λ i. termAt l (suc i)) k in
       let long′ : length (termsView written k) ≡ k = table-length (λ i. termAt written (suc i)) k in
-      ext-getD noTerm (termsView written k) (joinIn (termsView l k) t p v s) (long′ ∙ sym (length-set (termsView l k) (t - 1) _ ∙ long)) (λ i b.
+      ext-getD noTerm (termsView written k) (mergeIn (termsView l k) t p v s) (long′ ∙ sym (length-set (termsView l k) (t - 1) _ ∙ long)) (λ i b.
       let c : i < k = omega arith in
       table-at (λ j. termAt written (suc j)) k i noTerm c ∙ each i c low high long (ℕ-discrete (suc i) t))
     where
-      each : (i : ℕ) → i < k → 0 < t → t ≤ k → length (termsView l k) ≡ k → Dec (suc i ≡ t) → termAt written (suc i) ≡ getD (joinIn (termsView l k) t p v s) i noTerm
+      each : (i : ℕ) → i < k → 0 < t → t ≤ k → length (termsView l k) ≡ k → Dec (suc i ≡ t) → termAt written (suc i) ≡ getD (mergeIn (termsView l k) t p v s) i noTerm
       each i c low high long (yes e) =
           let f : i ≡ t - 1 = omega arith in
           ap (λ (u : ℕ). termAt written u) e ∙ record-here ∙ ap (λ (r : Term). under r p v s) (sym (term-is l k t low high))
-          ∙ sym (ap (λ (j : ℕ). getD (joinIn (termsView l k) t p v s) j noTerm) f ∙ getD-set-same (termsView l k) (t - 1) _ noTerm (omega arith))
+          ∙ sym (ap (λ (j : ℕ). getD (mergeIn (termsView l k) t p v s) j noTerm) f ∙ getD-set-same (termsView l k) (t - 1) _ noTerm (omega arith))
       each i c low high long (no z) =
           record-away (suc i) z ∙ sym (getD-set-other (termsView l k) (t - 1) i _ noTerm (λ e. z (omega arith)) ∙ table-at (λ j. termAt l (suc j)) k i noTerm c)
 
-  pub put-under : Joined l written t p v s
+  pub put-under : PutUnder l written t p v s
   put-under = record { long = simp length-set refl; terms = view-is }
 
 -- THE CALL
 
+child-within : (m : Lent) (c : State) (child parent n : ℕ) → canMerge child parent n (storeOf m c) ≡ true → within (c .terms) child ≡ true
+child-within m c child parent n g = term-within m c child (string-term (storeOf m c) child (mergeable (storeOf m c) child parent n g .child-string))
+
 module _ (m : Lent) (c : State) (child parent n stamp k : ℕ) (v : k ≡ audit m c) where
-  pub merge-unready : (k ≡ 0 → ⊥) → Merged m m c child parent n stamp k
-  merge-unready z = record { says = go k z ∙ call-unready (canJoin child parent n) (joinClasses child parent n stamp) m c k v z .says; idle = λ e. refl; kept = λ e. absurd (z e) }
+  pub merge-unready : (k ≡ 0 → ⊥) → PublicMerge m m c child parent n stamp k
+  merge-unready z = record { says = go k z ∙ call-unready (canMerge child parent n) (mergeClasses child parent n stamp) m c k v z .says; idle = λ e. refl; kept = λ e. absurd (z e) }
     where
-      go : (j : ℕ) → (j ≡ 0 → ⊥) → joined j m c ≡ stop j
+      go : (j : ℕ) → (j ≡ 0 → ⊥) → merged j m c ≡ stop j
       go zero q = absurd (q refl)
       go (suc j) q = refl
 
-  module _ (z : k ≡ 0) (b : Bool) (e : b ≡ canJoin child parent n (storeOf m c)) where
-    pub merge-unfit : not b ≡ true → Merged m m c child parent n stamp 5
-    merge-unfit h = record { says = call-unfit (canJoin child parent n) (joinClasses child parent n stamp) m c k v z b e (not-true b h) .says; idle = λ q. refl; kept = λ q. absurd (omega arith) }
+  module _ (z : k ≡ 0) (b : Bool) (e : b ≡ canMerge child parent n (storeOf m c)) where
+    pub merge-unfit : not b ≡ true → PublicMerge m m c child parent n stamp 5
+    merge-unfit h = record { says = call-unfit (canMerge child parent n) (mergeClasses child parent n stamp) m c k v z b e (not-true b h) .says; idle = λ q. refl; kept = λ q. absurd (omega arith) }
 
     -- the child's record is within the slice
     pub merge-room : not b ≡ false → 8 * child + 8 ≤ length (m .terms)
-    unfolding canJoin
     merge-room h =
-        let d = ready-of m c (sym v ∙ z) in
-        let g : canJoin child parent n (storeOf m c) ≡ true = sym e ∙ not-false b h in
-        let s = isString (storeOf m c) child in
-        let i : s ≡ true = both-left s (isString (storeOf m c) parent) (both-left _ (isNumber n) (both-left _ (isRootIn (termsView (m .terms) (c .terms)) child) (both-left _ (not (sameClass (storeOf m c) child parent)) g))) in
-        let w = within-high (c .terms) child (term-within m c child (string-term (storeOf m c) child i)) in
-        let r = d .sized .termRoom in
+        let w = within-high (c .terms) child (child-within m c child parent n (sym e ∙ not-false b h)) in
+        let r = ready-of m c (sym v ∙ z) .sized .termRoom in
         omega arith
 
 module _ (t e h r ks t′ : List ℕ) (c : State) (child parent n stamp k : ℕ) (v : k ≡ audit (lent t e h r ks) c) (z : k ≡ 0)
-    (b : Bool) (f : b ≡ canJoin child parent n (storeOf (lent t e h r ks) c)) (y : not b ≡ false) where
-  pub merge-is : Joined t t′ child parent n stamp → Merged (lent t e h r ks) (lent t′ e h r ks) c child parent n stamp 0
-  unfolding call joinClasses canJoin
+    (b : Bool) (f : b ≡ canMerge child parent n (storeOf (lent t e h r ks) c)) (y : not b ≡ false) where
+  pub merge-is : PutUnder t t′ child parent n stamp → PublicMerge (lent t e h r ks) (lent t′ e h r ks) c child parent n stamp 0
+  unfolding call mergeClasses
   merge-is j =
       let m = lent t e h r ks in
       let a : audit m c ≡ 0 = sym v ∙ z in
-      let g : canJoin child parent n (storeOf m c) ≡ true = sym f ∙ not-false b y in
-      let s = isString (storeOf m c) child in
-      let i : s ≡ true = both-left s (isString (storeOf m c) parent) (both-left _ (isNumber n) (both-left _ (isRootIn (termsView t (c .terms)) child) (both-left _ (not (sameClass (storeOf m c) child parent)) g))) in
-      let w = term-within m c child (string-term (storeOf m c) child i) in
-      let p = j .terms (c .terms) w in
+      let g : canMerge child parent n (storeOf m c) ≡ true = sym f ∙ not-false b y in
+      let p = j .terms (c .terms) (child-within m c child parent n g) in
       let q = j .long in
       let d = ready-of m c a in
-      let k = joined-store p q in
+      let k = merged-store p q in
       record {
         says = stored p q ∙ sym (rw (a, g));
         idle = λ o. absurd (o refl);
-        kept = λ o. audit-of (lent t′ e h r ks) c (ready-after d q refl (subst Audited (sym k) (join-kept (storeOf m c) child parent n stamp (d .audited) g)));
+        kept = λ o. audit-of (lent t′ e h r ks) c (ready-after d q refl (subst Audited (sym k) (merge-kept (storeOf m c) child parent n stamp (d .audited) g)));
       }
     where
-      joined-store : termsView t′ (c .terms) ≡ joinIn (termsView t (c .terms)) child parent n stamp → length t′ ≡ length t
-          → storeOf (lent t′ e h r ks) c ≡ withTerms (storeOf (lent t e h r ks) c) (joinIn (termsView t (c .terms)) child parent n stamp)
-      joined-store p q = cc
+      merged-store : termsView t′ (c .terms) ≡ mergeIn (termsView t (c .terms)) child parent n stamp → length t′ ≡ length t
+          → storeOf (lent t′ e h r ks) c ≡ withTerms (storeOf (lent t e h r ks) c) (mergeIn (termsView t (c .terms)) child parent n stamp)
+      merged-store p q = cc
 
-      stored : termsView t′ (c .terms) ≡ joinIn (termsView t (c .terms)) child parent n stamp → length t′ ≡ length t
-          → ok (storeOf (lent t′ e h r ks) c) tt ≡ joinClasses child parent n stamp (storeOf (lent t e h r ks) c)
+      stored : termsView t′ (c .terms) ≡ mergeIn (termsView t (c .terms)) child parent n stamp → length t′ ≡ length t
+          → ok (storeOf (lent t′ e h r ks) c) tt ≡ mergeClasses child parent n stamp (storeOf (lent t e h r ks) c)
       stored p q = cc

@@ -1,6 +1,6 @@
 -- The forest path of two terms of one tree once a root has been put under a term of another tree: it is as it was.
 use mathlib.Core.Path.{_≡_, refl, sym, ap, subst, _∙_}
-use mathlib.Core.Bool.{Bool, true, false, _||_, false≢true}
+use mathlib.Core.Bool.{Bool, true, false, not, _||_, false≢true}
 use mathlib.Core.List.{List, [], _∷_, _++_}
 use mathlib.Core.Logic.{⊎-elim}
 use mathlib.Core.Option.{Option, none, some}
@@ -14,8 +14,8 @@ use Rattle.records.specs.Lists.{any, firstOf, isIn, upTo, Every, none-left, and
 use Rattle.records.specs.Store.{Term, within, forestUp, topIn, aboveBy, aboveIn, orNone, nearestIn, pathIn}
 use Rattle.records.proofs.Lists.{clash, either, or-left, or-right, any-append, right-falsum, every-map, every-append}
 use Rattle.records.proofs.Climbs.{climb-stays, above-step}
-use Rattle.records.proofs.Paths.{first-same, first-has, first-any, in-any, top-above, above-top}
-use Rattle.commands.proofs.Rerooted.{Moved, other-not, one-up, other-up}
+use Rattle.records.proofs.Paths.{first-same, first-has, above-top, nearest-tree}
+use Rattle.classes.proofs.MovedClimbs.{Moved, other-not, one-up, other-up}
 
 -- LISTS
 
@@ -163,7 +163,8 @@ module _ (ts ts′ : List Term) (child parent : ℕ) (same : length ts′ ≡ le
 
   module _ (a b : ℕ) (wa : within (length ts) a ≡ true) (wb : within (length ts) b ≡ true) (tree : topIn ts a ≡ topIn ts b) where
     shared : firstOf (λ x. isIn x (aboveIn ts b)) (aboveIn ts a) ≡ none → ⊥
-    shared e = clash (in-any (λ x. isIn x (aboveIn ts b)) (aboveIn ts a) (topIn ts a) (top-above ts (length ts) a) (rw tree (top-above ts (length ts) b))) (first-any _ _ e)
+    unfolding nearestIn
+    shared e = clash (eq-eqb _ _ tree) (nearest-tree ts (m .closed) (m .ends) a b wa wb ∙ ap (λ (o : Option ℕ). not (eqb (orNone o) 0)) e)
 
     record Meets : Type 0 where
       at : ℕ

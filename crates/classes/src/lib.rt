@@ -1,4 +1,5 @@
-// `M child parent n`: two classes joined under an asserted reason.
+// The classes of a store changed: `merge` puts a class under a term of another, for an asserted reason, as `labelstep` does for its command
+// `M child parent n`.
 ghost use mathlib.Core.Path.{_≡_};
 ghost use mathlib.Core.Bool.{true};
 ghost use Prim.Native.Nat.{_+_, _*_, _≤_};
@@ -6,7 +7,7 @@ ghost use lib.ListN.{length};
 ghost use Rattle.records.specs.Store.{within};
 ghost use Rattle.records.specs.View.{storeOf, termsView, lends, across, Between};
 ghost use Rattle.records.specs.Audited.{Ready};
-ghost use Rattle.commands.specs.Merge.{isRootIn, canJoin, Joined, Merged};
+ghost use Rattle.classes.specs.Merge.{isRootIn, canMerge, PutUnder, PublicMerge};
 use records::State;
 use records::classes::root_unchecked;
 use records::fields::class_parent;
@@ -25,8 +26,8 @@ fn is_root(terms: &[u32], n: usize, t: u32) -> bool
     forest_parent(terms, t) == t
 }
 
-// Whether two classes can be joined so.
-fn can_join_unchecked(
+// Whether two classes can be merged so.
+fn can_merge_unchecked(
     terms: &[u32],
     cells: &[u32],
     chars: &[u32],
@@ -38,7 +39,7 @@ fn can_join_unchecked(
     n: u32,
 ) -> bool
     requires { ⌜ Ready (lends terms cells chars reasons keys) c ⌝ }
-    ensures { λ r. ⌜ r ≡ canJoin child parent n (storeOf (across terms cells chars reasons keys .entry) c) ⌝ }
+    ensures { λ r. ⌜ r ≡ canMerge child parent n (storeOf (across terms cells chars reasons keys .entry) c) ⌝ }
 {
     if !is_string(terms, c.terms, child) {
         return false;
@@ -60,7 +61,7 @@ fn can_join_unchecked(
 // The child's record, under the parent.
 fn put_under_unchecked(terms: &mut [u32], child: u32, parent: u32, n: u32, stamp: u32)
     requires { ⌜ 8 * child + 8 ≤ length (now terms) ⌝ }
-    ensures { λ _. ⌜ Joined (now (terms .entry)) (now (terms .exit)) child parent n stamp ⌝ }
+    ensures { λ _. ⌜ PutUnder (now (terms .entry)) (now (terms .exit)) child parent n stamp ⌝ }
 {
     let at = 8 * (child as usize);
     terms[at + 3] = parent;
@@ -70,7 +71,7 @@ fn put_under_unchecked(terms: &mut [u32], child: u32, parent: u32, n: u32, stamp
     terms[at + 7] = stamp;
 }
 
-// Joins the child's class to the parent's: 0, or the refusal. The caller's stamps count up.
+// Puts the child's class under the parent: 0, or the refusal. The caller's stamps count up.
 pub fn merge(
     terms: &mut [u32],
     cells: &[u32],
@@ -83,13 +84,13 @@ pub fn merge(
     n: u32,
     stamp: u32,
 ) -> u32
-    ensures { λ r. ⌜ Between Merged (across terms cells chars reasons keys) c child parent n stamp r ⌝ }
+    ensures { λ r. ⌜ Between PublicMerge (across terms cells chars reasons keys) c child parent n stamp r ⌝ }
 {
     let k = records::audit(terms, cells, chars, reasons, keys, c);
     if k != 0 {
         return k;
     }
-    if !can_join_unchecked(terms, cells, chars, reasons, keys, c, child, parent, n) {
+    if !can_merge_unchecked(terms, cells, chars, reasons, keys, c, child, parent, n) {
         return 5;
     }
     put_under_unchecked(terms, child, parent, n, stamp);

@@ -1,52 +1,50 @@
-use Rattle.commands.proofs.Joining.{join-1, join-2, join-3, join-4, join-last, string-within, can-climb}
+use Rattle.classes.proofs.MergeCode.{cannot-1, cannot-2, cannot-3, cannot-4, can-last, string-within, can-climb}
 use Rattle.records.specs.View.{lent}
 use borrow.Author.Needs.{needs}
-use Rattle.commands.proofs.merge.can_join_unchecked.Statement.{statement}
-use Rattle.commands.proofs.merge.can_join_unchecked.Tie as tie
+use Rattle.classes.proofs.can_merge_unchecked.Statement.{statement}
+use Rattle.classes.proofs.can_merge_unchecked.Tie as tie
 
-pub can-join-unchecked-spec : {M : Type 1} → statement M
-can-join-unchecked-spec =
+pub can-merge-unchecked-spec : {M : Type 1} → statement M
+can-merge-unchecked-spec =
     tie.close
     (tie.spec
     (λ c κs. search needs)
     (λ c.
     let at-start = c .before .before .before .before .before .before .before in
-    join-1 (lent (at-start .args .terms .now) (at-start .args .cells .now) (at-start .args .chars .now) (at-start .args .reasons .now) (at-start .args .keys .now))
+    cannot-1 (lent (at-start .args .terms .now) (at-start .args .cells .now) (at-start .args .chars .now) (at-start .args .reasons .now) (at-start .args .keys .now))
     (at-start .args .c) (at-start .args .child) (at-start .args .parent) (at-start .args .n) _ (c .before .is-string .ensures) (c .if1 .taken))
     (λ c κs. search needs)
     (λ c.
     let at-start = c .before .before .before .before .before .before .before .before .before in
-    join-2 (lent (at-start .args .terms .now) (at-start .args .cells .now) (at-start .args .chars .now) (at-start .args .reasons .now) (at-start .args .keys .now))
+    cannot-2 (lent (at-start .args .terms .now) (at-start .args .cells .now) (at-start .args .chars .now) (at-start .args .reasons .now) (at-start .args .keys .now))
     (at-start .args .c) (at-start .args .child) (at-start .args .parent) (at-start .args .n) _ (c .before .is-string2 .ensures) (c .if2 .taken))
     (λ c κs. search needs)
     (λ c.
     let at-start = c .before .before .before .before .before .before .before .before .before .before .before in
-    join-3 (lent (at-start .args .terms .now) (at-start .args .cells .now) (at-start .args .chars .now) (at-start .args .reasons .now) (at-start .args .keys .now))
+    cannot-3 (lent (at-start .args .terms .now) (at-start .args .cells .now) (at-start .args .chars .now) (at-start .args .reasons .now) (at-start .args .keys .now))
     (at-start .args .c) (at-start .args .child) (at-start .args .parent) (at-start .args .n) _ (c .before .is-number .ensures) (c .if3 .taken))
     (λ c κs.
     let at-if1 = c .before .before .before .before in
     let at-is-string = at-if1 .before in
     let at-start = at-is-string .before .before .before .before .before .before in
     string-within (lent (at-start .args .terms .now) (at-start .args .cells .now) (at-start .args .chars .now) (at-start .args .reasons .now) (at-start .args .keys .now))
-    (at-start .args .c) (at-start .args .child) (at-start .args .parent) (at-start .args .n) (at-start .args .child) _ (at-is-string .is-string .ensures) (at-if1 .if1 .left))
+    (at-start .args .c) (at-start .args .child) _ (at-is-string .is-string .ensures) (at-if1 .if1 .left))
     (λ c.
     let at-start = c .before .before .before .before .before .before .before .before .before .before .before .before .before in
-    join-4 (lent (at-start .args .terms .now) (at-start .args .cells .now) (at-start .args .chars .now) (at-start .args .reasons .now) (at-start .args .keys .now))
+    cannot-4 (lent (at-start .args .terms .now) (at-start .args .cells .now) (at-start .args .chars .now) (at-start .args .reasons .now) (at-start .args .keys .now))
     (at-start .args .c) (at-start .args .child) (at-start .args .parent) (at-start .args .n) _ (c .before .is-root .ensures) (c .if4 .taken))
     (λ c κs.
     let at-if1 = c .before .before .before .before .before .before in
     let at-is-string = at-if1 .before in
     let at-start = at-is-string .before .before .before .before .before .before in
     can-climb (lent (at-start .args .terms .now) (at-start .args .cells .now) (at-start .args .chars .now) (at-start .args .reasons .now) (at-start .args .keys .now))
-    (at-start .args .c) (at-start .args .child) (at-start .args .parent) (at-start .args .n) (at-start .pre) (at-start .args .child) _ (at-is-string .is-string .ensures)
-    (at-if1 .if1 .left))
+    (at-start .args .c) (at-start .args .child) _ (at-is-string .is-string .ensures) (at-if1 .if1 .left) (at-start .pre))
     (λ c κs.
     let at-if2 = c .before .before .before .before .before in
     let at-is-string2 = at-if2 .before in
     let at-start = at-is-string2 .before .before .before .before .before .before .before .before in
     can-climb (lent (at-start .args .terms .now) (at-start .args .cells .now) (at-start .args .chars .now) (at-start .args .reasons .now) (at-start .args .keys .now))
-    (at-start .args .c) (at-start .args .child) (at-start .args .parent) (at-start .args .n) (at-start .pre) (at-start .args .parent) _ (at-is-string2 .is-string2 .ensures)
-    (at-if2 .if2 .left))
+    (at-start .args .c) (at-start .args .parent) _ (at-is-string2 .is-string2 .ensures) (at-if2 .if2 .left) (at-start .pre))
     (λ c.
     let at-is-root = c .before .before .before in
     let at-if3 = at-is-root .before in
@@ -56,7 +54,7 @@ can-join-unchecked-spec =
     let at-if1 = at-is-string2 .before in
     let at-is-string = at-if1 .before in
     let at-start = at-is-string .before .before .before .before .before .before in
-    join-last (lent (at-start .args .terms .now) (at-start .args .cells .now) (at-start .args .chars .now) (at-start .args .reasons .now) (at-start .args .keys .now))
+    can-last (lent (at-start .args .terms .now) (at-start .args .cells .now) (at-start .args .chars .now) (at-start .args .reasons .now) (at-start .args .keys .now))
     (at-start .args .c) (at-start .args .child) (at-start .args .parent) (at-start .args .n) _ _ _ _ (at-is-string .is-string .ensures) (at-if1 .if1 .left)
     (at-is-string2 .is-string2 .ensures) (at-if2 .if2 .left) (at-is-number .is-number .ensures) (at-if3 .if3 .left) (at-is-root .is-root .ensures)
     (c .before .before .if4 .left) _ _ (c .before .root-unchecked .ensures) (c .root-unchecked2 .ensures)))

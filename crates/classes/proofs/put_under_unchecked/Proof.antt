@@ -1,9 +1,9 @@
-use Rattle.commands.proofs.Joining.{put-under}
+use Rattle.classes.proofs.MergeCode.{put-under}
 use lib.ListN.{length-set}
 use native.Mathlib.Omega.{arith}
 use borrow.Author.Needs.{needs}
-use Rattle.commands.proofs.merge.put_under_unchecked.Statement.{statement}
-use Rattle.commands.proofs.merge.put_under_unchecked.Tie as tie
+use Rattle.classes.proofs.put_under_unchecked.Statement.{statement}
+use Rattle.classes.proofs.put_under_unchecked.Tie as tie
 
 pub put-under-unchecked-spec : {M : Type 1} → statement M
 put-under-unchecked-spec =

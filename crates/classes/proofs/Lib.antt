@@ -1,0 +1,4 @@
+pub mod MovedClimbs
+pub mod MovedPaths
+pub mod MergeKept
+pub mod MergeCode
