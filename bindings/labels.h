@@ -3,6 +3,10 @@
  * A slice is a pointer and a length in words. The store comes first: the state's six words (counts of terms, cells, characters, reasons
  * and keys, and the name counter), then the five slices. The result is 0 or the refusal's number; the state is written on success alone.
  * `answer` has eight words. A state under six or an answer under eight words is refusal 1.
+ *
+ * What the caller owes, and no call can test: each pointer is valid for its length and not null, for reading and, without `const`, for
+ * writing, and aligned for `uint32_t`; the slices of a call are pairwise apart (two that the call only reads may be one); and until the call
+ * returns nothing else writes them, or reads those that it may write. Where slices overlap a call can answer 0 and leave a broken store.
  */
 #ifndef LABELS_H
 #define LABELS_H
