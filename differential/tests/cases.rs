@@ -1,4 +1,5 @@
-//! Document 01's label cases and its example of the program, by the unchanged Rust with the departures and by document 01 written anew.
+//! Document 01's label cases and its example of the program: the port's answers held to the unchanged Rust's with the departures on top, and
+//! these to document 01 written anew. Without the feature `port` the port is left out.
 
 use differential::{
     call::*,
@@ -15,6 +16,8 @@ fn run(s: &Lent, call: Call) -> Outcome {
     let r = Request::new(call);
     let outcome = oracle::run(s, &r, Mode::Departing).outcome;
     assert_eq!(difference(s, &r, &outcome, &model::run(s, &r)), None);
+    #[cfg(feature = "port")]
+    assert_eq!(difference(s, &r, &outcome, &differential::port::run(s, &r).expect("the library has the call")), None);
     outcome
 }
 
@@ -61,14 +64,22 @@ fn unexpanded() {
     assert_eq!((&o.answer[..2], o.exit.state[3]), (&[0, 0][..], 2));
 }
 
+// 256 and 257 atoms after the first form, after a round, and just after an atom's expansion
 #[test]
 fn deep_atoms() {
     for (n, some) in [(256, 1), (257, 0)] {
         let mut d = Draft::default();
-        let x = d.variable("x");
-        let t = d.concat(&vec![x; n]);
-        let o = run(&lay_out(&d), Call::DeepNormalForm { known: vec![], t });
-        assert_eq!(o.answer[0], some);
+        let (x, y) = (d.variable("x"), d.variable("y"));
+        let first = d.concat(&vec![x; n]);
+        let most = d.concat(&vec![x; n - 1]);
+        let (ends, begins) = (d.concat(&[y, x]), d.concat(&[x, y]));
+        assert_eq!(run(&lay_out(&d), Call::DeepNormalForm { known: vec![], t: first }).answer[0], some);
+        // y's representative is the concatenation of all but one
+        d.merge(y, most, Label::Asserted(1));
+        for t in [ends, begins] {
+            let o = run(&lay_out(&d), Call::DeepNormalForm { known: vec![most], t });
+            assert_eq!((o.answer[0], o.answer[1]), (some, some * n as u32));
+        }
     }
 }
 
