@@ -14,6 +14,8 @@ use crate::building::put_term;
 use crate::building::put_tower;
 use crate::building::put_variables;
 use crate::building::put_words;
+use records::CELL_WIDTH;
+use records::TERM_WIDTH;
 use records::fields::word;
 use std::num::wrapping_add_u32;
 use std::num::wrapping_add_usize;
@@ -267,8 +269,8 @@ fn change(l: u8, n: &[u32], terms: &mut [u32], cells: &mut [u32]) {
         }
         70 => edge(terms, n),
         67 => put_class(terms, a, b),
-        84 => put(terms, 8 * (a as usize) + at, word(n, 3)),
-        68 => put(cells, 3 * (a as usize) + at, word(n, 3)),
+        84 => put(terms, TERM_WIDTH * (a as usize) + at, word(n, 3)),
+        68 => put(cells, CELL_WIDTH * (a as usize) + at, word(n, 3)),
         _ => {}
     }
 }

@@ -1,4 +1,6 @@
 // Words of a store.
+use records::CELL_WIDTH;
+use records::TERM_WIDTH;
 use records::fields::word;
 use std::num::wrapping_add_u32;
 use std::num::wrapping_add_usize;
@@ -20,7 +22,7 @@ pub fn narrow(x: usize) -> u32 {
 
 // Alone in its class.
 pub fn put_term(terms: &mut [u32], t: u32, kind: u32, first: u32, second: u32) {
-    let at = 8 * (t as usize);
+    let at = TERM_WIDTH * (t as usize);
     put(terms, at, kind);
     put(terms, at + 1, first);
     put(terms, at + 2, second);
@@ -32,11 +34,11 @@ pub fn put_term(terms: &mut [u32], t: u32, kind: u32, first: u32, second: u32) {
 }
 
 pub fn put_class(terms: &mut [u32], t: u32, p: u32) {
-    put(terms, 8 * (t as usize) + 3, p);
+    put(terms, TERM_WIDTH * (t as usize) + 3, p);
 }
 
 pub fn put_edge(terms: &mut [u32], t: u32, p: u32, kind: u32, value: u32, stamp: u32) {
-    let at = 8 * (t as usize);
+    let at = TERM_WIDTH * (t as usize);
     put(terms, at + 4, p);
     put(terms, at + 5, kind);
     put(terms, at + 6, value);
@@ -44,7 +46,7 @@ pub fn put_edge(terms: &mut [u32], t: u32, p: u32, kind: u32, value: u32, stamp:
 }
 
 fn put_cell(cells: &mut [u32], e: u32, value: u32, other: u32, next: u32) {
-    let at = 3 * (e as usize);
+    let at = CELL_WIDTH * (e as usize);
     put(cells, at, value);
     put(cells, at + 1, other);
     put(cells, at + 2, next);

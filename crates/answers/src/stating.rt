@@ -7,7 +7,6 @@ use crate::saying::say_reasons;
 use crate::saying::say_text;
 use records::State;
 use records::fields;
-use records::fields::word;
 
 pub fn say_count(x: usize) {
     io::write_all(1, b" ");
@@ -16,9 +15,8 @@ pub fn say_count(x: usize) {
 
 // A concatenation made has two parts.
 fn say_concatenation(cells: &[u32], e: u32) {
-    let at = 3 * (e as usize);
-    say(b" ", word(cells, at));
-    say(b"+", word(cells, 3 * (word(cells, at + 2) as usize)));
+    say(b" ", fields::value(cells, e));
+    say(b"+", fields::value(cells, fields::next(cells, e)));
 }
 
 fn say_term(terms: &[u32], cells: &[u32], chars: &[u32], t: u32) {

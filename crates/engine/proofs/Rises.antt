@@ -6,7 +6,7 @@ use mathlib.Core.Logic.{_⊎_, ⊎-elim}
 use Prim.Native.Nat.{ℕ, suc, _+_, _*_, _≤_, _<_, min, max}
 use native.Mathlib.Omega.{arith}
 use native.Mathlib.Decide.{ℕ-discrete}
-use lib.ListN.{length, getD}
+use lib.ListN.{length}
 use lib.Dec.{eqb}
 use borrow.Author.Tests.{eqb-true, eq-eqb, ne-eqb}
 use Rattle.records.specs.Lists.{any, upTo, Every}
@@ -188,7 +188,7 @@ module _ (terms cells tab tab₁ reasons reasons₁ : List ℕ) (n k a b m x : �
         → Shows (e .store) n tab₂ reasons₂ r (edge walked x seen (withReasons (e .store) (pairsView reasons₁ c₁)))
     rising-shows e q seen v = w .shows (standing-on reasons₁ (g .along .long) e) (rising-on late g d e q .edge-is) seen v
 
-    pub rising-turn : r .code ≡ 0 → (y : ℕ) → y ≡ getD terms (8 * x + 4) 0 → Rising terms cells tab tab₂ reasons reasons₂ n k a b m y late c (r .count)
+    pub rising-turn : r .code ≡ 0 → (y : ℕ) → y ≡ termAt terms x .forestParent → Rising terms cells tab tab₂ reasons reasons₂ n k a b m y late c (r .count)
     rising-turn i y j = record {
       along = rising-along;
       here = λ e q. rw (parent e q) at (e .audited .classed .forestParents x (g .here e q));
@@ -252,7 +252,7 @@ far-switch ts m b x true i j = clash refl j
 far-switch ts m b x false i j = rw (up-here ts x m i) (omega arith)
 
 pub far-turn : (terms cells tab₀ tab tab₁ reasons reasons₁ : List ℕ) (n k a b m x : ℕ) (late : Bool) (c c₁ : ℕ) → Walkable terms cells tab₀ reasons n k (λ s. Together s (a, b))
-    → Rising terms cells tab tab₁ reasons reasons₁ n k a b m x late c c₁ → (x ≡ m → ⊥) → (y : ℕ) → y ≡ getD terms (8 * x + 4) 0
+    → Rising terms cells tab tab₁ reasons reasons₁ n k a b m x late c c₁ → (x ≡ m → ⊥) → (y : ℕ) → y ≡ termAt terms x .forestParent
     → far (termsView terms n) m b late y < far (termsView terms n) m b late x
 far-turn terms cells tab₀ tab tab₁ reasons reasons₁ n k a b m x late c c₁ w g d y j =
     let e = w .standing in

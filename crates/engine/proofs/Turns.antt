@@ -3,10 +3,10 @@ use mathlib.Core.Path.{_≡_, refl, sym, ap, _∙_}
 use mathlib.Core.Bool.{Bool, true, false}
 use mathlib.Core.List.{List, [], _∷_, _++_}
 use mathlib.Core.Logic.{_⊎_, inl, inr, ⊎-elim}
-use Prim.Native.Nat.{ℕ, suc, _+_, _*_, _/_, _^_, _≤_, _<_, min}
+use Prim.Native.Nat.{ℕ, suc, _+_, _/_, _^_, _≤_, _<_, min}
 use native.Mathlib.Numerals.{add-one}
 use native.Mathlib.Omega.{arith}
-use lib.ListN.{length, getD}
+use lib.ListN.{length}
 use lib.Dec.{ltb}
 use borrow.Author.Tests.{ltb-true}
 use Rattle.records.specs.Lists.{firsts, Every, and}
@@ -81,8 +81,8 @@ pushed-fits l l′ n kind value b p t = let h = ltb-true n (reasonRoom l) (sym (
 
 -- the label's words, as they were read
 pub record Labelled (terms : List ℕ) (node kind value : ℕ) : Type 0 where
-  pub kind-is : kind ≡ getD terms (8 * node + 5) 0
-  pub value-is : value ≡ getD terms (8 * node + 6) 0
+  pub kind-is : kind ≡ termAt terms node .labelKind
+  pub value-is : value ≡ termAt terms node .labelValue
 
 module _ {terms cells reasons : List ℕ} {n k node kind value : ℕ} (e : Standing terms cells reasons n k) (q : Edge (e .store) node) (l : Labelled terms node kind value) where
   label-kind : term (e .store) node .labelKind ≡ kind
@@ -266,9 +266,9 @@ edge-shows c e q l j u seen v = rw (label-kind e q l, j, label-value e q l, ← 
 
 -- the pair of a cell, as it was read
 pub record Pair (cells : List ℕ) (at x y next : ℕ) : Type 0 where
-  pub one : x ≡ getD cells (3 * at + 0) 0
-  pub other : y ≡ getD cells (3 * at + 1) 0
-  pub next-is : next ≡ getD cells (3 * at + 2) 0
+  pub one : x ≡ cellAt cells at .value
+  pub other : y ≡ cellAt cells at .other
+  pub next-is : next ≡ cellAt cells at .next
 
 module _ {terms cells reasons : List ℕ} {n k at x y z : ℕ} (e : Standing terms cells reasons n k) (w : within (length (e .store .cells)) at ≡ true) (p : Pair cells at x y z) where
   pair-chain : chain (e .store) at ≡ (x, y) ∷ chain (e .store) z
@@ -345,18 +345,18 @@ wide-on i w = record { few = w .few; long = (let l = w .long in omega arith) }
 
 module _ (terms cells tab tab₁ reasons reasons₁ : List ℕ) (n k node first at x y c c₁ : ℕ) (u : Walkable terms cells tab reasons n k (λ s. Edge s node))
     (g : Pairing terms cells tab tab₁ reasons reasons₁ n k node first at c c₁) (d : at ≡ 0 → ⊥) where
-  pub pairing-walkable : x ≡ getD cells (3 * at + 0) 0 → y ≡ getD cells (3 * at + 1) 0 → Walkable terms cells tab₁ reasons₁ n k (λ s. Together s (x, y))
+  pub pairing-walkable : x ≡ cellAt cells at .value → y ≡ cellAt cells at .other → Walkable terms cells tab₁ reasons₁ n k (λ s. Together s (x, y))
   pairing-walkable i j = record {
     standing = standing-on reasons₁ (g .along .long) (u .standing);
     fit = pairing-fit terms cells tab tab₁ reasons reasons₁ n k node first at x y _ c c₁ g d (record { one = i; other = j; next-is = refl }) (u .standing) (u .fit) .together;
     wide = wide-on (g .along .tables) (u .wide);
   }
 
-  pub pairing-low : x ≡ getD cells (3 * at + 0) 0 → y ≡ getD cells (3 * at + 1) 0 → highest (termsView terms n) (pathIn (termsView terms n) x y) ≤ termIn (termsView terms n) node .stamp
+  pub pairing-low : x ≡ cellAt cells at .value → y ≡ cellAt cells at .other → highest (termsView terms n) (pathIn (termsView terms n) x y) ≤ termIn (termsView terms n) node .stamp
   pairing-low i j =
       rw (u .standing .terms-are) at (fit-height (pairing-fit terms cells tab tab₁ reasons reasons₁ n k node first at x y _ c c₁ g d (record { one = i; other = j; next-is = refl }) (u .standing) (u .fit)))
 
-  pub pairing-less : (z : ℕ) → z ≡ getD cells (3 * at + 2) 0 → length (chainIn (cellsView cells k) z) < length (chainIn (cellsView cells k) at)
+  pub pairing-less : (z : ℕ) → z ≡ cellAt cells at .next → length (chainIn (cellsView cells k) z) < length (chainIn (cellsView cells k) at)
   pairing-less z i =
       let p = pair-chain (u .standing) (at-here _ at (g .at-is (u .standing) (u .fit)) d) (record { one = refl; other = refl; next-is = i }) in
       let q = ap length (rw (u .standing .cells-are) at p) in omega arith

@@ -3,7 +3,7 @@ use mathlib.Core.Path.{_≡_, refl, sym, ap, subst, _∙_}
 use mathlib.Core.Bool.{Bool, true, false, not, _&&_}
 use mathlib.Core.List.{List, []}
 use mathlib.Core.Option.{none, some}
-use Prim.Native.Nat.{ℕ, _+_, _*_, _≤_, _<_}
+use Prim.Native.Nat.{ℕ, _≤_, _<_}
 use native.Mathlib.Omega.{arith}
 use lib.ListN.{length, take, getD, length-take}
 use lib.Seq.{ext-getD, getD-take}
@@ -179,27 +179,27 @@ module _ (known : List ℕ) (e : ℕ) (g : ℤ) (m : Lent) (c : State) (ready : 
   equation-at : term s e ≡ termAt (m .terms) e
   equation-at = view-term (m .terms) (c .terms) e (term-within m c e (kind-term s e 4 (eqb-true (kind s e) 5 is-equation)))
 
-  pub left-is : (a : ℕ) → a ≡ getD (m .terms) (8 * e + 1) 0 → a ≡ term s e .first
+  pub left-is : (a : ℕ) → a ≡ termAt (m .terms) e .first → a ≡ term s e .first
   left-is a i = i ∙ ap (λ (x : Term). x .first) (sym equation-at)
 
-  pub right-is : (b : ℕ) → b ≡ getD (m .terms) (8 * e + 2) 0 → b ≡ term s e .second
+  pub right-is : (b : ℕ) → b ≡ termAt (m .terms) e .second → b ≡ term s e .second
   right-is b i = i ∙ ap (λ (x : Term). x .second) (sym equation-at)
 
   left-string : isString s (term s e .first) ≡ true
   left-string = both-right (isList s known && isEquation s e) _ (both-left (isList s known && isEquation s e && isString s (term s e .first)) _ good)
 
-  pub left-fits : (a : ℕ) → a ≡ getD (m .terms) (8 * e + 1) 0 → formArguments known a s ≡ true
+  pub left-fits : (a : ℕ) → a ≡ termAt (m .terms) e .first → formArguments known a s ≡ true
   left-fits a i = both-true (isList s known) _ (both-left (isList s known) _ lists) (ap (isString s) (left-is a i) ∙ left-string)
 
-  pub right-string : (b : ℕ) → b ≡ getD (m .terms) (8 * e + 2) 0 → isString s b ≡ true
+  pub right-string : (b : ℕ) → b ≡ termAt (m .terms) e .second → isString s b ≡ true
   right-string b i = ap (isString s) (right-is b i) ∙ second-string s (ready .audited) e is-equation left-string
 
-  step-from : (a b : ℕ) → a ≡ getD (m .terms) (8 * e + 1) 0 → b ≡ getD (m .terms) (8 * e + 2) 0
+  step-from : (a b : ℕ) → a ≡ termAt (m .terms) e .first → b ≡ termAt (m .terms) e .second
       → step known e g s ≡ formThen known a (pairsView (m .reasons) (c .reasons)) (λ l. rightForm known b g l (pairsView (m .reasons) (c .reasons))) s
   unfolding step rightForm resolveForms
   step-from a b i j = rw (left-is a i) (rw (right-is b j) refl)
 
-  module _ {m₁ : Lent} (list : List ℕ) (x : DeepForm) (a b : ℕ) (i : a ≡ getD (m .terms) (8 * e + 1) 0) (j : b ≡ getD (m .terms) (8 * e + 2) 0) (w : Working (deepForm known a) m m₁ c (deepened x m₁ list)) where
+  module _ {m₁ : Lent} (list : List ℕ) (x : DeepForm) (a b : ℕ) (i : a ≡ termAt (m .terms) e .first) (j : b ≡ termAt (m .terms) e .second) (w : Working (deepForm known a) m m₁ c (deepened x m₁ list)) where
     from : {m₂ : Lent} {o : Out Stepped} → Working (formThen known a (pairsView (m .reasons) (c .reasons)) (λ l. rightForm known b g l (pairsView (m .reasons) (c .reasons)))) m m₂ c o → Working (step known e g) m m₂ c o
     from v = record { says = step-from a b i j ∙ v .says; kept = v .kept }
 
@@ -267,7 +267,7 @@ module _ (l : List ℕ) (c : State) (known : List ℕ) (e : ℕ) (g : ℤ) (b : 
     pub steps-no-equation : (k ≡ 5 → ⊥) → false ≡ stepArguments known e g here
     steps-no-equation d = sym (left-false _ _ (left-false _ _ (right-false (isList here known) _ (ne-eqb (kind here e) 5 (λ q. d (j ∙ q))))))
 
-    module _ (d : k ≡ 5) (a : ℕ) (p : a ≡ getD l (8 * e + 1) 0) (x : Bool) (q : x ≡ isString here a) where
+    module _ (d : k ≡ 5) (a : ℕ) (p : a ≡ termAt l e .first) (x : Bool) (q : x ≡ isString here a) where
       equation : isEquation here e ≡ true
       equation = eq-eqb (kind here e) 5 (sym j ∙ d)
 

@@ -3,9 +3,9 @@ use mathlib.Core.Path.{_≡_, refl, sym, ap, subst, _∙_}
 use mathlib.Core.Bool.{Bool, true, false, _||_}
 use mathlib.Core.List.{List, [], _∷_}
 use mathlib.Core.Logic.{⊎-elim}
-use Prim.Native.Nat.{ℕ, suc, _+_, _*_, _<_, _≤_}
+use Prim.Native.Nat.{ℕ, suc, _<_, _≤_}
 use native.Mathlib.Omega.{arith}
-use lib.ListN.{length, getD}
+use lib.ListN.{length}
 use lib.Dec.{eqb, ltb}
 use types.Run.{OneOf}
 use denote.Enum.Declared.{tagOf}
@@ -60,14 +60,14 @@ link-end l n c e = rw (eq-eqb c 0 e)
 pub link-past : (l : List ℕ) (n c w : ℕ) → (c ≡ 0 → ⊥) → w ≡ c → n < w → link.Absent ≡ linkIn (cellsView l n) c
 link-past l n c w z e h = sym (of-past (cellsView l n) c z (rw (table-length (λ i. cellAt l (suc i)) n) (omega arith)))
 
-module _ (l : List ℕ) (n c w x : ℕ) (z : c ≡ 0 → ⊥) (e : w ≡ c) (h : w ≤ n) (p : x ≡ getD l (3 * c + 2) 0) where
+module _ (l : List ℕ) (n c w x : ℕ) (z : c ≡ 0 → ⊥) (e : w ≡ c) (h : w ≤ n) (p : x ≡ cellAt l c .next) where
   here : linkIn (cellsView l n) c ≡ linkOf c (cellAt l c)
   here = of-within (cellsView l n) c (omega arith) (rw (table-length (λ i. cellAt l (suc i)) n) (omega arith)) ∙ ap (linkOf c) (cell-is l n c (omega arith) (omega arith))
 
-  pub link-last : (a b : ℕ) → x ≡ 0 → a ≡ getD l (3 * c + 0) 0 → b ≡ getD l (3 * c + 1) 0 → link.Cell a b 0 ≡ linkIn (cellsView l n) c
+  pub link-last : (a b : ℕ) → x ≡ 0 → a ≡ cellAt l c .value → b ≡ cellAt l c .other → link.Cell a b 0 ≡ linkIn (cellsView l n) c
   link-last a b o u v = (λ i. link.Cell (u i) (v i) ((sym o ∙ p) i)) ∙ sym (here ∙ of-zero c (cellAt l c) (sym p ∙ o))
 
-  pub link-later : (a b : ℕ) → c < x → a ≡ getD l (3 * c + 0) 0 → b ≡ getD l (3 * c + 1) 0 → link.Cell a b x ≡ linkIn (cellsView l n) c
+  pub link-later : (a b : ℕ) → c < x → a ≡ cellAt l c .value → b ≡ cellAt l c .other → link.Cell a b x ≡ linkIn (cellsView l n) c
   link-later a b o u v = (λ i. link.Cell (u i) (v i) (p i)) ∙ sym (here ∙ of-later c (cellAt l c) (subst (λ (y : ℕ). c < y) p o))
 
   pub link-back : (x ≡ 0 → ⊥) → x ≤ c → link.Back ≡ linkIn (cellsView l n) c
@@ -157,9 +157,9 @@ step-none cs c up e = decide (within (length cs) c) (λ w. clash (ap isCell (ins
 -- the same by the words of the slice, as the readers of records give them
 pub record Words (l : List ℕ) (n c v o x : ℕ) : Type 0 where
   pub counted : true ≡ within n c
-  pub value : v ≡ getD l (3 * c + 0) 0
-  pub other : o ≡ getD l (3 * c + 1) 0
-  pub next : x ≡ getD l (3 * c + 2) 0
+  pub value : v ≡ cellAt l c .value
+  pub other : o ≡ cellAt l c .other
+  pub next : x ≡ cellAt l c .next
 
 module _ (l : List ℕ) (n c : ℕ) where
   count-is : length (cellsView l n) ≡ n

@@ -2,10 +2,10 @@
 use mathlib.Core.Path.{_≡_, refl, sym, ap, subst, _∙_}
 use mathlib.Core.Bool.{Bool, true, false}
 use mathlib.Core.List.{List, [], _∷_, _++_, append-nil, append-assoc}
-use Prim.Native.Nat.{ℕ, suc, _+_, _*_, _≤_, _<_}
+use Prim.Native.Nat.{ℕ, suc, _+_, _≤_, _<_}
 use native.Mathlib.Numerals.{add-one}
 use native.Mathlib.Omega.{arith}
-use lib.ListN.{length, take, set, getD, length-append, length-take}
+use lib.ListN.{length, take, set, length-append, length-take}
 use lib.Seq.{take-suc-set}
 use borrow.Author.Tests.{eq-eqb, ne-eqb}
 use Rattle.records.specs.Lists.{joined, firsts, Every, and}
@@ -51,7 +51,7 @@ module _ (l : List ℕ) (n : ℕ) (e : List ℕ) (m : ℕ) where
   within-cells at b h = rw cells-are h
 
   module _ (nested : Nested s) where
-    pub begin : (out : List ℕ) (count t at k : ℕ) → k ≡ kind s t → k ≡ 3 → at ≡ getD l (8 * t + 1) 0 → count ≤ listLimit → Left out out count t at count
+    pub begin : (out : List ℕ) (count t at k : ℕ) → k ≡ kind s t → k ≡ 3 → at ≡ termAt l t .first → count ≤ listLimit → Left out out count t at count
     begin out count t at k i d f h =
         let q : isConcat s t ≡ true = eq-eqb (kind s t) 3 (sym i ∙ d) in
         let p : firsts (chain s at) ≡ parts s t = ap (λ (x : ℕ). firsts (chain s x)) (first-at l n t at (counted t (kind-term s t 2 (sym i ∙ d))) f) in
@@ -76,7 +76,7 @@ module _ (l : List ℕ) (n : ℕ) (e : List ℕ) (m : ℕ) where
             passes = λ h. let f = p .from in absurd (omega arith);
           }
 
-      module _ (x : ℕ) (b : Bool) (i : b ≡ within m at) (j : b ≡ true) (v : x ≡ getD e (3 * at + 0) 0) where
+      module _ (x : ℕ) (b : Bool) (i : b ≡ within m at) (j : b ≡ true) (v : x ≡ cellAt e at .value) where
         abbrev rest : List ℕ
         rest = firsts (chain s (cellIn (s .cells) at .next))
 
@@ -107,7 +107,7 @@ module _ (l : List ℕ) (n : ℕ) (e : List ℕ) (m : ℕ) where
             let o = a .passes z in
             record { fits = λ o′. absurd (omega arith); passes = λ o′. omega arith }
 
-        module _ (y : ℕ) (w : y ≡ getD e (3 * at + 2) 0) where
+        module _ (y : ℕ) (w : y ≡ cellAt e at .next) where
           next-is : y ≡ cellIn (s .cells) at .next
           next-is = next-at e m at y (sym i ∙ j) w
 

@@ -2,7 +2,7 @@
 use mathlib.Core.Path.{_≡_, refl, sym, ap, _∙_}
 use mathlib.Core.Bool.{Bool, true, false, _&&_}
 use mathlib.Core.List.{List, [], _∷_, _++_, append-nil, reverse, reverse-append}
-use Prim.Native.Nat.{ℕ, zero, suc, _+_, _-_, _*_, _≤_, _<_}
+use Prim.Native.Nat.{ℕ, zero, suc, _+_, _-_, _≤_, _<_}
 use native.Mathlib.Numerals.{add-one}
 use native.Mathlib.Omega.{arith}
 use lib.ListN.{length, getD, set}
@@ -52,7 +52,7 @@ pub empty-other : (ts : List TermOf) (t k : ℕ) → k ≡ termIn ts t .kind →
 unfolding isEmptyIn
 empty-other ts t k e d = sym (left-false _ _ (ne-eqb (termIn ts t .kind) 1 (λ q. d (e ∙ q))))
 
-pub empty-constant : (l : List ℕ) (n t k x : ℕ) → k ≡ termIn (termsView l n) t .kind → k ≡ 1 → x ≡ getD l (8 * t + 2) 0 → eqb x 0 ≡ isEmptyIn (termsView l n) t
+pub empty-constant : (l : List ℕ) (n t k x : ℕ) → k ≡ termIn (termsView l n) t .kind → k ≡ 1 → x ≡ termAt l t .second → eqb x 0 ≡ isEmptyIn (termsView l n) t
 unfolding isEmptyIn
 empty-constant l n t k x e d f = rw (eq-eqb (termIn (termsView l n) t .kind) 1 (sym e ∙ d), ← second-at l n t x here f)
   where

@@ -3,7 +3,7 @@ use mathlib.Core.Path.{_≡_, refl, sym, ap, subst, _∙_}
 use mathlib.Core.Bool.{Bool, true, false, not, _&&_}
 use mathlib.Core.List.{List, [], _∷_}
 use mathlib.Core.Logic.{_⊎_, inl, inr}
-use Prim.Native.Nat.{ℕ, suc, _+_, _*_, _-_, _<_, _≤_, min, max}
+use Prim.Native.Nat.{ℕ, suc, _+_, _-_, _<_, _≤_, min, max}
 use native.Mathlib.Numerals.{add-one}
 use native.Mathlib.Omega.{arith}
 use lib.ListN.{length, getD, drop, drop-of-length-le}
@@ -14,7 +14,7 @@ use Rattle.records.specs.Lists.{sameWord, firsts, firstBelow, Every}
 use Rattle.records.specs.declared.State.{State}
 use Rattle.records.specs.declared.Made.the-variants.{Term, Refused}
 use Rattle.records.specs.Store.{Term as Record, Cell, Store, Out, ok, stop, Work, term, kind, count, within, chainIn}
-use Rattle.records.specs.View.{Lent, lent, storeOf, termLimit, cellLimit, termRoom, cellRoom, termAt, cellAt, cellsView, oneTerm, moreCells}
+use Rattle.records.specs.View.{Lent, lent, storeOf, termWords, cellWords, termLimit, cellLimit, termRoom, cellRoom, termAt, cellAt, cellsView, oneTerm, moreCells}
 use Rattle.records.specs.Make.{lookup, lowest, addChain, addTerm, concatOf, makeConcat, lengthOf, equationOf, makeLength, makeEquation}
 use Rattle.records.specs.Leaves.{numberOf, Passed, appendParts, hasParts, sidesOf, hasSides, makeSides}
 use Rattle.records.specs.Puts.{TermPut, ChainPut}
@@ -33,7 +33,7 @@ module _ (t : List ℕ) (n : ℕ) (g : Bool) (term-here : g ≡ ltb n (termRoom 
   pub one-limit : n < termLimit
   one-limit = term-limit t n (sym term-here ∙ not-false g p)
 
-  pub one-words : 8 * (n + 2) ≤ length t
+  pub one-words : termWords (n + 1) ≤ length t
   one-words = term-room t n (sym term-here ∙ not-false g p)
 
   pub one-later : (c d : State) (k : ℕ) → d ≡ moreCells c k → c .terms ≡ n → d .terms < termLimit
@@ -52,17 +52,17 @@ module _ (t e h r ks : List ℕ) (c : State) (k a b : ℕ) (fits : Bool) (room :
 
 -- LENGTHS AND EQUATIONS
 
-module _ (l : List ℕ) (k a b t x : ℕ) (ex : x ≡ getD l (8 * t + 0) 0) where
+module _ (l : List ℕ) (k a b t x : ℕ) (ex : x ≡ termAt l t .kind) where
   pub sides-kind : (x ≡ k → ⊥) → false ≡ hasSides l k a b t
   unfolding hasSides
   sides-kind d = sym (left-false _ (eqb (termAt l t .second) b) (left-false _ (eqb (termAt l t .first) a) (ne-eqb (termAt l t .kind) k (λ e. d (ex ∙ e)))))
 
-  module _ (y : ℕ) (ey : y ≡ getD l (8 * t + 1) 0) where
+  module _ (y : ℕ) (ey : y ≡ termAt l t .first) where
     pub sides-first : (y ≡ a → ⊥) → false ≡ hasSides l k a b t
     unfolding hasSides
     sides-first d = sym (left-false _ (eqb (termAt l t .second) b) (right-false (eqb (termAt l t .kind) k) _ (ne-eqb (termAt l t .first) a (λ e. d (ey ∙ e)))))
 
-    pub sides-second : (z : ℕ) → x ≡ k → y ≡ a → z ≡ getD l (8 * t + 2) 0 → eqb z b ≡ hasSides l k a b t
+    pub sides-second : (z : ℕ) → x ≡ k → y ≡ a → z ≡ termAt l t .second → eqb z b ≡ hasSides l k a b t
     unfolding hasSides
     sides-second z e f g =
         let p : eqb (termAt l t .kind) k ≡ true = eq-eqb _ _ (sym ex ∙ e) in
@@ -164,7 +164,7 @@ module _ (e : List ℕ) (n : ℕ) (w : List ℕ) (c at i : ℕ) (up : Ascends (c
   none-here : b ≡ false → chainIn (cellsView e n) at ≡ []
   none-here f = chain-none (cellsView e n) at (rw size (sym in-it ∙ f))
 
-  one-here : b ≡ true → chainIn (cellsView e n) at ≡ (getD e (3 * at + 0) 0, getD e (3 * at + 1) 0) ∷ chainIn (cellsView e n) (getD e (3 * at + 2) 0)
+  one-here : b ≡ true → chainIn (cellsView e n) at ≡ (cellAt e at .value, cellAt e at .other) ∷ chainIn (cellsView e n) (cellAt e at .next)
   one-here f =
       let q = sym in-it ∙ f in
       let s = cell-is e n at (within-low n at q) (within-high n at q) in
@@ -176,14 +176,14 @@ module _ (e : List ℕ) (n : ℕ) (w : List ℕ) (c at i : ℕ) (up : Ascends (c
       let z : sameWord (firsts (chainIn (cellsView e n) at)) (drop i w) ≡ false = rw (none-here (not-true b f), drop-cons w i 0 l) in
       sym z ∙ h .rest
 
-  pub walk-differs : (v : ℕ) → i < length w → not b ≡ false → v ≡ getD e (3 * at + 0) 0 → (v ≡ getD w i 0 → ⊥) → false ≡ sameWord (firsts (chainIn (cellsView e n) c)) w
+  pub walk-differs : (v : ℕ) → i < length w → not b ≡ false → v ≡ cellAt e at .value → (v ≡ getD w i 0 → ⊥) → false ≡ sameWord (firsts (chainIn (cellsView e n) c)) w
   unfolding firsts sameWord
   walk-differs v l f q d =
       let z : sameWord (firsts (chainIn (cellsView e n) at)) (drop i w) ≡ false
       = rw (one-here (not-false b f), drop-cons w i 0 l) (left-false _ _ (ne-eqb _ _ (λ p. d (q ∙ p)))) in
       sym z ∙ h .rest
 
-  pub walk-on : (v x : ℕ) → i < length w → not b ≡ false → v ≡ getD e (3 * at + 0) 0 → v ≡ getD w i 0 → x ≡ getD e (3 * at + 2) 0 → Walked e n w c x (i + 1)
+  pub walk-on : (v x : ℕ) → i < length w → not b ≡ false → v ≡ cellAt e at .value → v ≡ getD w i 0 → x ≡ cellAt e at .next → Walked e n w c x (i + 1)
   unfolding firsts sameWord
   walk-on v x l f q p y =
       let z : sameWord (firsts (chainIn (cellsView e n) at)) (drop i w) ≡ sameWord (firsts (chainIn (cellsView e n) x)) (drop (i + 1) w)
@@ -203,12 +203,12 @@ pub last-none : (w : List ℕ) (n : ℕ) → length w ≡ 0 → 0 ≡ min n (get
 last-none [] n e = omega arith
 last-none (x ∷ w) n e = absurd (omega arith)
 
-module _ (l : List ℕ) (cs : List Cell) (w : List ℕ) (t x : ℕ) (ex : x ≡ getD l (8 * t + 0) 0) where
+module _ (l : List ℕ) (cs : List Cell) (w : List ℕ) (t x : ℕ) (ex : x ≡ termAt l t .kind) where
   pub parts-kind : (x ≡ 3 → ⊥) → false ≡ hasParts l cs w t
   unfolding hasParts
   parts-kind d = sym (left-false _ _ (ne-eqb _ _ (λ e. d (ex ∙ e))))
 
-  pub parts-are : (y : ℕ) (b : Bool) → x ≡ 3 → y ≡ getD l (8 * t + 1) 0 → b ≡ sameWord (firsts (chainIn cs y)) w → b ≡ hasParts l cs w t
+  pub parts-are : (y : ℕ) (b : Bool) → x ≡ 3 → y ≡ termAt l t .first → b ≡ sameWord (firsts (chainIn cs y)) w → b ≡ hasParts l cs w t
   unfolding hasParts
   parts-are y b e f q =
       let p : eqb (termAt l t .kind) 3 ≡ true = eq-eqb _ _ (sym ex ∙ e) in
@@ -246,7 +246,7 @@ module _ (t e h r ks : List ℕ) (c : State) (w : List ℕ) (f : Bool) (cells-he
   pub append-limit : Sized (lent t e h r ks) c → not f ≡ false → c .cells + length w ≤ cellLimit
   append-limit z q = cells-limit e (c .cells) (length w) (z .cellRoom) (sym cells-here ∙ not-false f q)
 
-  pub append-words : Sized (lent t e h r ks) c → not f ≡ false → 3 * (c .cells + length w + 1) ≤ length e
+  pub append-words : Sized (lent t e h r ks) c → not f ≡ false → cellWords (c .cells + length w) ≤ length e
   append-words z q = cells-room e (c .cells) (length w) (z .cellRoom) (sym cells-here ∙ not-false f q)
 
   module _ (q : not f ≡ false) (g : Bool) (term-here : g ≡ ltb (c .terms) (termRoom t)) where

@@ -3,9 +3,9 @@ use mathlib.Core.Path.{_≡_, refl, sym, ap, _∙_}
 use mathlib.Core.Bool.{Bool, true, false, not, _&&_, _||_}
 use mathlib.Core.List.{List}
 use mathlib.Core.Logic.{_⊎_, ⊎-elim}
-use Prim.Native.Nat.{ℕ, zero, suc, _+_, _*_, _≤_, _<_}
+use Prim.Native.Nat.{ℕ, zero, suc, _≤_, _<_}
 use native.Mathlib.Omega.{arith}
-use lib.ListN.{length, getD}
+use lib.ListN.{length}
 use lib.Dec.{eqb}
 use borrow.Author.Tests.{eqb-true, eqb-false, eq-eqb, ne-eqb}
 use Rattle.records.specs.declared.State.{State}
@@ -13,7 +13,7 @@ use Rattle.records.specs.Lists.{if_then_else_}
 use Rattle.records.specs.Store.{Store, term, count, isTerm, isString, within, climb, classUp, forestUp, root, top, sameClass, sameTree}
 use Rattle.records.specs.Rules.{eachTerm, parentsRule, endsRule, alikeRule, aloneRule, isNumber, edgeLabel, labelRule, classesRule}
 use Rattle.records.specs.Leaves.{alikeAt, aloneAt, classTest}
-use Rattle.records.specs.View.{Lent, storeOf, termsView, termed}
+use Rattle.records.specs.View.{Lent, storeOf, termsView, termed, termAt}
 use Rattle.records.specs.Audited.{Closed, Rooted}
 use Rattle.records.proofs.Lists.{both-left, both-right, both-true, right-false, right-falsum, or-stop, or-next, either, or-left, or-right, decide, clash, same-test, and-stop, and-next, failed, passed}
 use Rattle.records.proofs.Climbs.{climb-up, climb-stays, climb-within, rule-at, rule-all, parents-roots, parents-tops, view-count, view-term, view-class, view-forest}
@@ -197,38 +197,38 @@ seen-term l c t = ap (λ n. within n t) (view-count l (c .terms))
 
 module _ (l : List ℕ) (c : State) (t : ℕ) (w : within (c .terms) t ≡ true) where
   -- a parent that was read names a term where the number read does
-  class-term : (p : ℕ) → p ≡ getD l (8 * t + 3) 0 → isTerm (termed l c) (term (termed l c) t .classParent) ≡ within (c .terms) p
+  class-term : (p : ℕ) → p ≡ termAt l t .classParent → isTerm (termed l c) (term (termed l c) t .classParent) ≡ within (c .terms) p
   class-term p e = ap (isTerm (termed l c)) (sym (view-class l (c .terms) t p w e)) ∙ seen-term l c p
 
-  forest-term : (p : ℕ) → p ≡ getD l (8 * t + 4) 0 → isTerm (termed l c) (term (termed l c) t .forestParent) ≡ within (c .terms) p
+  forest-term : (p : ℕ) → p ≡ termAt l t .forestParent → isTerm (termed l c) (term (termed l c) t .forestParent) ≡ within (c .terms) p
   forest-term p e = ap (isTerm (termed l c)) (sym (view-forest l (c .terms) t p w e)) ∙ seen-term l c p
 
-  pub parents-stop : (p : ℕ) (b : Bool) → p ≡ getD l (8 * t + 3) 0 → b ≡ within (c .terms) p → not b ≡ true → false ≡ parentsRule (termed l c) t
+  pub parents-stop : (p : ℕ) (b : Bool) → p ≡ termAt l t .classParent → b ≡ within (c .terms) p → not b ≡ true → false ≡ parentsRule (termed l c) t
   unfolding parentsRule
   parents-stop p b e f h = and-stop _ _ (class-term p e ∙ failed _ b f h)
 
-  pub parents-last : (p q : ℕ) (b r : Bool) → p ≡ getD l (8 * t + 3) 0 → b ≡ within (c .terms) p → not b ≡ false → q ≡ getD l (8 * t + 4) 0 → r ≡ within (c .terms) q → r ≡ parentsRule (termed l c) t
+  pub parents-last : (p q : ℕ) (b r : Bool) → p ≡ termAt l t .classParent → b ≡ within (c .terms) p → not b ≡ false → q ≡ termAt l t .forestParent → r ≡ within (c .terms) q → r ≡ parentsRule (termed l c) t
   unfolding parentsRule
   parents-last p q b r e f h d g = and-next _ _ r (class-term p e ∙ passed _ b f h) (g ∙ sym (forest-term q d))
 
-  pub label-edge : (p k v : ℕ) (r : Bool) → p ≡ getD l (8 * t + 4) 0 → k ≡ getD l (8 * t + 5) 0 → v ≡ getD l (8 * t + 6) 0 → (p ≡ t → ⊥) → r ≡ edgeLabel k v → r ≡ labelRule (termed l c) t
+  pub label-edge : (p k v : ℕ) (r : Bool) → p ≡ termAt l t .forestParent → k ≡ termAt l t .labelKind → v ≡ termAt l t .labelValue → (p ≡ t → ⊥) → r ≡ edgeLabel k v → r ≡ labelRule (termed l c) t
   unfolding labelRule
-  label-edge p k v r ep ek ev d e = rw (view-term l (c .terms) t w, ne-eqb (getD l (8 * t + 4) 0) t (λ z. d (ep ∙ z)), ← ek, ← ev) e
+  label-edge p k v r ep ek ev d e = rw (view-term l (c .terms) t w, ne-eqb (termAt l t .forestParent) t (λ z. d (ep ∙ z)), ← ek, ← ev) e
 
-  module _ (p k v : ℕ) (ep : p ≡ getD l (8 * t + 4) 0) (ek : k ≡ getD l (8 * t + 5) 0) (ev : v ≡ getD l (8 * t + 6) 0) (d : p ≡ t) where
+  module _ (p k v : ℕ) (ep : p ≡ termAt l t .forestParent) (ek : k ≡ termAt l t .labelKind) (ev : v ≡ termAt l t .labelValue) (d : p ≡ t) where
     pub root-kind : (k ≡ 0 → ⊥) → false ≡ labelRule (termed l c) t
     unfolding labelRule
-    root-kind z = rw (view-term l (c .terms) t w, eq-eqb (getD l (8 * t + 4) 0) t (sym ep ∙ d), ne-eqb (getD l (8 * t + 5) 0) 0 (λ y. z (ek ∙ y)))
+    root-kind z = rw (view-term l (c .terms) t w, eq-eqb (termAt l t .forestParent) t (sym ep ∙ d), ne-eqb (termAt l t .labelKind) 0 (λ y. z (ek ∙ y)))
 
     pub root-value : k ≡ 0 → (v ≡ 0 → ⊥) → false ≡ labelRule (termed l c) t
     unfolding labelRule
-    root-value y z = rw (view-term l (c .terms) t w, eq-eqb (getD l (8 * t + 4) 0) t (sym ep ∙ d), eq-eqb (getD l (8 * t + 5) 0) 0 (sym ek ∙ y), ne-eqb (getD l (8 * t + 6) 0) 0 (λ x. z (ev ∙ x)))
+    root-value y z = rw (view-term l (c .terms) t w, eq-eqb (termAt l t .forestParent) t (sym ep ∙ d), eq-eqb (termAt l t .labelKind) 0 (sym ek ∙ y), ne-eqb (termAt l t .labelValue) 0 (λ x. z (ev ∙ x)))
 
-    pub root-stamp : (m : ℕ) → k ≡ 0 → v ≡ 0 → m ≡ getD l (8 * t + 7) 0 → eqb m 0 ≡ labelRule (termed l c) t
+    pub root-stamp : (m : ℕ) → k ≡ 0 → v ≡ 0 → m ≡ termAt l t .stamp → eqb m 0 ≡ labelRule (termed l c) t
     unfolding labelRule
-    root-stamp m y z em = rw (view-term l (c .terms) t w, eq-eqb (getD l (8 * t + 4) 0) t (sym ep ∙ d), eq-eqb (getD l (8 * t + 5) 0) 0 (sym ek ∙ y), eq-eqb (getD l (8 * t + 6) 0) 0 (sym ev ∙ z), ← em)
+    root-stamp m y z em = rw (view-term l (c .terms) t w, eq-eqb (termAt l t .forestParent) t (sym ep ∙ d), eq-eqb (termAt l t .labelKind) 0 (sym ek ∙ y), eq-eqb (termAt l t .labelValue) 0 (sym ev ∙ z), ← em)
 
-  module _ (p : ℕ) (e : p ≡ getD l (8 * t + 3) 0) where
+  module _ (p : ℕ) (e : p ≡ termAt l t .classParent) where
     pub alone-root : p ≡ t → true ≡ aloneAt (termed l c) t
     unfolding aloneAt
     alone-root d = or-stop _ _ (eq-eqb _ _ (sym (view-class l (c .terms) t p w e) ∙ d))
@@ -277,11 +277,11 @@ module _ (l : List ℕ) (c : State) (t r q : ℕ) (h : Rooted (termed l c) (c .t
   pub top-here : within (c .terms) q ≡ true
   top-here = rw (h .top-is) (climb-within (forestUp (termsView l (c .terms))) (c .terms) (length (termsView l (c .terms))) t (h .tops) (h .here))
 
-  pub ends-stop : (p : ℕ) → p ≡ getD l (8 * r + 3) 0 → (p ≡ r → ⊥) → false ≡ endsRule (termed l c) t
+  pub ends-stop : (p : ℕ) → p ≡ termAt l r .classParent → (p ≡ r → ⊥) → false ≡ endsRule (termed l c) t
   unfolding endsRule
   ends-stop p e d = rw (← h .root-is) (and-stop _ _ (ne-eqb _ _ (λ z. d (view-class l (c .terms) r p root-here e ∙ z))))
 
-  pub ends-last : (p u : ℕ) → p ≡ getD l (8 * r + 3) 0 → p ≡ r → u ≡ getD l (8 * q + 4) 0 → eqb u q ≡ endsRule (termed l c) t
+  pub ends-last : (p u : ℕ) → p ≡ termAt l r .classParent → p ≡ r → u ≡ termAt l q .forestParent → eqb u q ≡ endsRule (termed l c) t
   unfolding endsRule
   ends-last p u e d f = rw (← h .root-is, ← h .top-is)
       (and-next _ _ _ (eq-eqb _ _ (sym (view-class l (c .terms) r p root-here e) ∙ d)) (ap (λ x. eqb x q) (view-forest l (c .terms) q u top-here f)))

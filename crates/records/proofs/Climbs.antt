@@ -2,11 +2,11 @@
 use mathlib.Core.Path.{_≡_, refl, sym, ap, _∙_}
 use mathlib.Core.Bool.{Bool, true, false}
 use mathlib.Core.List.{List, [], _∷_}
-use Prim.Native.Nat.{ℕ, zero, suc, _+_, _-_, _*_, _≤_, _<_}
+use Prim.Native.Nat.{ℕ, zero, suc, _+_, _-_, _≤_, _<_}
 use native.Mathlib.Nat.{zero-add}
 use native.Mathlib.Numerals.{add-one}
 use native.Mathlib.Omega.{arith}
-use lib.ListN.{length, getD}
+use lib.ListN.{length}
 use lib.Dec.{eqb}
 use borrow.Author.Tests.{eq-eqb, ne-eqb}
 use Rattle.records.specs.declared.State.{State}
@@ -153,10 +153,10 @@ module _ (l : List ℕ) (n : ℕ) where
   pub view-count : length (termsView l n) ≡ n
   view-count = table-length (λ i. termAt l (suc i)) n
 
-  pub view-class : (t y : ℕ) → within n t ≡ true → y ≡ getD l (8 * t + 3) 0 → y ≡ classUp (termsView l n) t
+  pub view-class : (t y : ℕ) → within n t ≡ true → y ≡ termAt l t .classParent → y ≡ classUp (termsView l n) t
   view-class t y w e = e ∙ ap (λ (x : Term). x .classParent) (sym (view-term t w))
 
-  pub view-forest : (t y : ℕ) → within n t ≡ true → y ≡ getD l (8 * t + 4) 0 → y ≡ forestUp (termsView l n) t
+  pub view-forest : (t y : ℕ) → within n t ≡ true → y ≡ termAt l t .forestParent → y ≡ forestUp (termsView l n) t
   view-forest t y w e = e ∙ ap (λ (x : Term). x .forestParent) (sym (view-term t w))
 
   pub root-counted : (t x : ℕ) → x ≡ climb (classUp (termsView l n)) n t → x ≡ rootIn (termsView l n) t

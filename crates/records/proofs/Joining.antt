@@ -2,9 +2,9 @@
 use mathlib.Core.Path.{_≡_, sym, ap, _∙_}
 use mathlib.Core.Bool.{Bool, true, false, not}
 use mathlib.Core.List.{List}
-use Prim.Native.Nat.{ℕ, suc, _+_, _*_, _≤_}
+use Prim.Native.Nat.{ℕ, suc, _+_, _≤_}
 use native.Mathlib.Omega.{arith}
-use lib.ListN.{length, getD}
+use lib.ListN.{length}
 use lib.Dec.{leb}
 use borrow.Author.Tests.{eqb-true}
 use Rattle.records.specs.declared.State.{State}
@@ -24,11 +24,11 @@ use Rattle.records.proofs.Making.{other-length, same-kind, constant-mad
 
 -- WHETHER A TERM HAS THE JOINED TEXT
 
-module _ (l h ts : List ℕ) (t x : ℕ) (ex : x ≡ getD l (8 * t + 0) 0) (y total : ℕ) (ey : y ≡ getD l (8 * t + 2) 0) (sum : total ≡ lengths l ts) where
+module _ (l h ts : List ℕ) (t x : ℕ) (ex : x ≡ termAt l t .kind) (y total : ℕ) (ey : y ≡ termAt l t .second) (sum : total ≡ lengths l ts) where
   pub joined-other : (y ≡ total → ⊥) → false ≡ hasText l h 1 (joined (textAt l h) ts) t
   joined-other d = other-length l h 1 (joined (textAt l h) ts) t x ex y ey (λ e. d (e ∙ lengths-joined l h ts ∙ sym sum))
 
-  pub joined-equal : (z : ℕ) (b : Bool) → x ≡ 1 → y ≡ total → z ≡ getD l (8 * t + 1) 0 → b ≡ sameWord (span h z (lengths l ts)) (joined (textAt l h) ts)
+  pub joined-equal : (z : ℕ) (b : Bool) → x ≡ 1 → y ≡ total → z ≡ termAt l t .first → b ≡ sameWord (span h z (lengths l ts)) (joined (textAt l h) ts)
       → b ≡ hasText l h 1 (joined (textAt l h) ts) t
   joined-equal z b k e ez r =
       let n = lengths-joined l h ts in

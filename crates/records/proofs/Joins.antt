@@ -57,7 +57,7 @@ pub record Summed (l ts : List ℕ) (total i : ℕ) : Type 0 where
 pub summed-none : (l ts : List ℕ) → Summed l ts 0 0
 summed-none l ts = record { within = omega arith; small = omega arith; rest = omega arith }
 
-pub summed-one : (l ts : List ℕ) (total i n : ℕ) → Summed l ts total i → i < length ts → n ≡ getD l (8 * getD ts i 0 + 2) 0 → n ≤ 4294967295
+pub summed-one : (l ts : List ℕ) (total i n : ℕ) → Summed l ts total i → i < length ts → n ≡ termAt l (getD ts i 0) .second → n ≤ 4294967295
     → Summed l ts (total + n) (i + 1)
 summed-one l ts total i n a h e b =
     let f = lengths-at l ts i h in
@@ -96,7 +96,7 @@ span-add h p n m =
 abbrev pub leftFrom : List ℕ → List ℕ → List ℕ → ℕ → ℕ → Bool
 leftFrom l h ts p i = sameWord (span h p (lengths l (drop i ts))) (joined (textAt l h) (drop i ts))
 
-pub left-at : (l h ts : List ℕ) (p i a n : ℕ) → i < length ts → a ≡ getD l (8 * getD ts i 0 + 1) 0 → n ≡ getD l (8 * getD ts i 0 + 2) 0
+pub left-at : (l h ts : List ℕ) (p i a n : ℕ) → i < length ts → a ≡ termAt l (getD ts i 0) .first → n ≡ termAt l (getD ts i 0) .second
     → leftFrom l h ts p i ≡ (sameWord (span h p n) (span h a n) && leftFrom l h ts (p + n) (suc i))
 unfolding joined
 left-at l h ts p i a n b ea en =
@@ -119,7 +119,7 @@ module _ (l h ts : List ℕ) (p q i : ℕ) (m : Matched l h ts p q i) where
   unfolding lengths joined sameWord table
   matched-all b = let z : drop i ts ≡ [] = drop-all i ts b in rw z at (m .rest)
 
-  module _ (b : i < length ts) (a n : ℕ) (ea : a ≡ getD l (8 * getD ts i 0 + 1) 0) (en : n ≡ getD l (8 * getD ts i 0 + 2) 0) (r : Bool) (same : r ≡ sameWord (span h q n) (span h a n)) where
+  module _ (b : i < length ts) (a n : ℕ) (ea : a ≡ termAt l (getD ts i 0) .first) (en : n ≡ termAt l (getD ts i 0) .second) (r : Bool) (same : r ≡ sameWord (span h q n) (span h a n)) where
     pub matched-stop : not r ≡ true → false ≡ leftFrom l h ts p 0
     matched-stop d = sym (left-false _ _ (sym same ∙ not-true r d)) ∙ sym (left-at l h ts q i a n b ea en) ∙ m .rest
 
@@ -131,7 +131,7 @@ module _ (l h ts : List ℕ) (p q i : ℕ) (m : Matched l h ts p q i) where
         record { within = omega arith; small = omega arith; rest = rw add-one ((sym (rw e at f)) ∙ m .rest) }
 
 -- the text of the term at i is within
-pub within-at : (l ts : List ℕ) (k i a n : ℕ) → TextsWithin l k ts → i < length ts → a ≡ getD l (8 * getD ts i 0 + 1) 0 → n ≡ getD l (8 * getD ts i 0 + 2) 0 → a + n ≤ k
+pub within-at : (l ts : List ℕ) (k i a n : ℕ) → TextsWithin l k ts → i < length ts → a ≡ termAt l (getD ts i 0) .first → n ≡ termAt l (getD ts i 0) .second → a + n ≤ k
 within-at l ts k i a n e b ea en = rw (ea, en) (every-at {P = λ t. termAt l t .first + termAt l t .second ≤ k} ts i 0 e b)
 
 -- COPIED text by text
@@ -157,7 +157,7 @@ module _ (l h ts : List ℕ) (to : ℕ) (h′ : List ℕ) (at i : ℕ) (j : Join
   joined-all b = rw (take-all i ts b) at (j .put)
 
   module _ (texts : TextsWithin l to ts) (room : to + lengths l ts ≤ length h) (b : i < length ts) (a n : ℕ)
-      (ea : a ≡ getD l (8 * getD ts i 0 + 1) 0) (en : n ≡ getD l (8 * getD ts i 0 + 2) 0) where
+      (ea : a ≡ termAt l (getD ts i 0) .first) (en : n ≡ termAt l (getD ts i 0) .second) where
     pub joined-below : a + n ≤ at
     joined-below = let p = j .place in let q = within-at l ts to i a n texts b ea en in omega arith
 

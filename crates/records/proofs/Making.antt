@@ -3,7 +3,7 @@ use mathlib.Core.Path.{_≡_, refl, sym, ap, _∙_}
 use mathlib.Core.Bool.{Bool, true, false, not, _&&_}
 use mathlib.Core.List.{List, [], _∷_, _++_}
 use mathlib.Core.Option.{Option, none, some}
-use Prim.Native.Nat.{ℕ, zero, suc, _+_, _*_, _-_, _<_, _≤_, min}
+use Prim.Native.Nat.{ℕ, zero, suc, _+_, _-_, _<_, _≤_, min}
 use native.Mathlib.Numerals.{add-one}
 use native.Mathlib.Nat.{le-antisymm}
 use native.Mathlib.Omega.{arith}
@@ -14,7 +14,7 @@ use Rattle.records.specs.Lists.{sameWord, firstBelow}
 use Rattle.records.specs.declared.State.{State}
 use Rattle.records.specs.Store.{Term as Record, Store, Out, ok, stop, Work, count, within, term, kind, termIn, textIn}
 use Rattle.records.specs.declared.Made.the-variants.{Term, Refused}
-use Rattle.records.specs.View.{lent, termLimit, charLimit, charRoom, termRoom, oneTerm, moreChars, Lent, storeOf, termAt, termsView, charsView, span}
+use Rattle.records.specs.View.{lent, termWords, termLimit, charLimit, charRoom, termRoom, oneTerm, moreChars, Lent, storeOf, termAt, termsView, charsView, span}
 use Rattle.records.specs.Audited.{Ready, Sized}
 use Rattle.records.specs.Calls.{Working, made}
 use Rattle.records.specs.Puts.{CharsPut, TermPut}
@@ -27,19 +27,19 @@ use Rattle.records.proofs.Lists.{same-test, decide, within-low, within-
 
 -- WHETHER A TERM HAS A TEXT
 
-module _ (l h : List ℕ) (k : ℕ) (w : List ℕ) (t x : ℕ) (ex : x ≡ getD l (8 * t + 0) 0) where
+module _ (l h : List ℕ) (k : ℕ) (w : List ℕ) (t x : ℕ) (ex : x ≡ termAt l t .kind) where
   pub other-kind : (x ≡ k → ⊥) → false ≡ hasText l h k w t
   unfolding hasText
   other-kind d = sym (left-false _ _ (ne-eqb _ _ (λ e. d (ex ∙ e))))
 
-  module _ (y : ℕ) (ey : y ≡ getD l (8 * t + 2) 0) where
+  module _ (y : ℕ) (ey : y ≡ termAt l t .second) where
     pub other-length : (y ≡ length w → ⊥) → false ≡ hasText l h k w t
     unfolding hasText
     other-length d =
         sym (right-false (eqb (termAt l t .kind) k) _ (word-differs _ w (λ e.
         d (ey ∙ sym (table-length (λ i. getD h (termAt l t .first + i) 0) (termAt l t .second)) ∙ ap length e))))
 
-    pub same-kind : (z : ℕ) (b : Bool) → x ≡ k → y ≡ length w → z ≡ getD l (8 * t + 1) 0 → b ≡ sameWord (span h z (length w)) w → b ≡ hasText l h k w t
+    pub same-kind : (z : ℕ) (b : Bool) → x ≡ k → y ≡ length w → z ≡ termAt l t .first → b ≡ sameWord (span h z (length w)) w → b ≡ hasText l h k w t
     unfolding hasText
     same-kind z b e q ez r =
         let a : eqb (termAt l t .kind) k ≡ true = eq-eqb _ _ (sym ex ∙ e) in
@@ -205,7 +205,7 @@ module _ {t e h r ks : List ℕ} {c : State} (sized : Sized (lent t e h r ks) c)
   pub one-limit : f ≡ ltb (c .terms) (termRoom t) → c .terms < termLimit
   one-limit e = term-limit t (c .terms) (sym e ∙ not-false f q)
 
-  pub one-room : f ≡ ltb (c .terms) (termRoom t) → 8 * (c .terms + 2) ≤ length t
+  pub one-room : f ≡ ltb (c .terms) (termRoom t) → termWords (c .terms + 1) ≤ length t
   one-room e = term-room t (c .terms) (sym e ∙ not-false f q)
 
   pub next-limit : {d : State} (n : ℕ) → d ≡ moreChars c n → f ≡ ltb (c .terms) (termRoom t) → d .terms < termLimit

@@ -1,4 +1,4 @@
--- Names are unique (src/unique.rt): marks of texts, chains of variables by their marks, and a walk down one chain.
+-- Names are unique (src/unique.rt): hashes of texts, chains of variables by their hashes, and a walk down one chain.
 use mathlib.Core.Path.{_≡_, refl, sym, ap, _∙_}
 use mathlib.Core.Bool.{Bool, true, false, not, _&&_}
 use mathlib.Core.List.{List, _∷_, _++_, []}
@@ -17,28 +17,28 @@ use Rattle.records.specs.Store.{Term, Store, term, within, isVariable, t
 use Rattle.records.specs.View.{lent, storeOf, termAt, charsView, span}
 use Rattle.records.specs.Leaves.{hasText}
 use Rattle.records.specs.Rules.{textRule, named, nameRule}
-use Rattle.records.specs.Marks.{mixed, markFrom, mark, Marked, inChain, highest, Tables, Passing}
+use Rattle.records.specs.Hashes.{mixed, hashFrom, hash, Hashed, inChain, highest, Tables, Passing}
 use Rattle.records.proofs.Lists.{both-left, both-right, both-true, left-false, right-false, right-true, and-stop, and-next, clash, decide, within-low, within-high, below-false, below-suc, below-zero, last-hit, last-pass, last-one, last-low, last-passes, last-all, table-length, word-is}
 use Rattle.records.proofs.Views.{term-is, part-span, text-span, first-at, second-at}
 use Rattle.records.proofs.Grown.{kind-term, present}
 
--- MARKS
+-- HASHES
 
-pub mark-append : (h x : ℕ) (w : List ℕ) → markFrom h (w ++ (x ∷ [])) ≡ mixed (markFrom h w) x
-unfolding markFrom
-mark-append h x [] = refl
-mark-append h x (y ∷ w) = mark-append (mixed h y) x w
+pub hash-append : (h x : ℕ) (w : List ℕ) → hashFrom h (w ++ (x ∷ [])) ≡ mixed (hashFrom h w) x
+unfolding hashFrom
+hash-append h x [] = refl
+hash-append h x (y ∷ w) = hash-append (mixed h y) x w
 
-pub mark-none : (l : List ℕ) (p : ℕ) → 1 ≡ markFrom 1 (span l p 0)
-unfolding markFrom table
-mark-none l p = refl
+pub hash-none : (l : List ℕ) (p : ℕ) → 1 ≡ hashFrom 1 (span l p 0)
+unfolding hashFrom table
+hash-none l p = refl
 
-pub mark-turn : (l : List ℕ) (p i h x : ℕ) → h ≡ markFrom 1 (span l p i) → x ≡ getD l (p + i) 0 → (69069 * h + h / 65536 + x) % 4294967291 ≡ markFrom 1 (span l p (i + 1))
+pub hash-turn : (l : List ℕ) (p i h x : ℕ) → h ≡ hashFrom 1 (span l p i) → x ≡ getD l (p + i) 0 → (69069 * h + h / 65536 + x) % 4294967291 ≡ hashFrom 1 (span l p (i + 1))
 unfolding mixed table
-mark-turn l p i h x e q = rw (add-one i, mark-append 1 (getD l (p + i) 0) (span l p i), ← q, ← e)
+hash-turn l p i h x e q = rw (add-one i, hash-append 1 (getD l (p + i) 0) (span l p i), ← q, ← e)
 
-pub mark-done : (l : List ℕ) (p n i h : ℕ) → h ≡ markFrom 1 (span l p i) → i ≤ n → n ≤ i → h ≡ markFrom 1 (span l p n)
-mark-done l p n i h e a b = let q : i ≡ n = omega arith in rw q at e
+pub hash-done : (l : List ℕ) (p n i h : ℕ) → h ≡ hashFrom 1 (span l p i) → i ≤ n → n ≤ i → h ≡ hashFrom 1 (span l p n)
+hash-done l p n i h e a b = let q : i ≡ n = omega arith in rw q at e
 
 -- whether a text is within the count is read from the terms and the count alone
 pub text-anywhere : (l e h e′ h′ : List ℕ) (c : State) (t : ℕ) → textRule (storeOf (lent l e h [] []) c) t ≡ textRule (storeOf (lent l e′ h′ [] []) c) t
@@ -74,7 +74,7 @@ module _ (l h : List ℕ) (c : State) where
   variable-within t e = rw (table-length (λ i. termAt l (suc i)) (c .terms)) at (kind-term here t 1 (eqb-true _ 2 e))
 
   -- the words of a text within the count
-  module _ (t : ℕ) (v : isVariable here t ≡ true) (f : textRule here t ≡ true) (p n : ℕ) (ep : p ≡ getD l (8 * t + 1) 0) (en : n ≡ getD l (8 * t + 2) 0) where
+  module _ (t : ℕ) (v : isVariable here t ≡ true) (f : textRule here t ≡ true) (p n : ℕ) (ep : p ≡ termAt l t .first) (en : n ≡ termAt l t .second) where
     pub name-ends : c .chars ≤ length h → p + n ≤ length h
     name-ends r =
         let i = first-at l (c .terms) t p (variable-within t v) ep in
@@ -87,20 +87,20 @@ module _ (l h : List ℕ) (c : State) where
     pub name-part : c .chars ≤ length h → take ((p + n) - p) (drop p h) ≡ text here t
     name-part r = let e : (p + n) - p ≡ n = omega arith in rw (e, part-span h p n (name-ends r)) name-span
 
-    pub mark-is : (r : ℕ) → r ≡ markFrom 1 (span h p n) → r ≡ mark here t
-    mark-is r q = q ∙ ap (markFrom 1) name-span
+    pub hash-is : (r : ℕ) → r ≡ hashFrom 1 (span h p n) → r ≡ hash here t
+    hash-is r q = q ∙ ap (hashFrom 1) name-span
 
   -- ONE NAME
 
-  -- variables of one name have one mark
-  named-mark : (t u : ℕ) → named (text here t) here u ≡ true → mark here u ≡ mark here t
+  -- variables of one name have one hash
+  named-hash : (t u : ℕ) → named (text here t) here u ≡ true → hash here u ≡ hash here t
   unfolding named
-  named-mark t u e = ap (markFrom 1) (word-is _ _ (both-right (isVariable here u) _ e))
+  named-hash t u e = ap (hashFrom 1) (word-is _ _ (both-right (isVariable here u) _ e))
 
-  module _ (m t : ℕ) (a : Marked here m t) where
-    module _ (x u : ℕ) (k : Marked here x u) where
+  module _ (m t : ℕ) (a : Hashed here m t) where
+    module _ (x u : ℕ) (k : Hashed here x u) where
       pub named-other : (x ≡ m → ⊥) → false ≡ named (text here t) here u
-      named-other z = decide (named (text here t) here u) (λ e. absurd (z (k .marked ∙ named-mark t u e ∙ sym (a .marked)))) (λ e. sym e)
+      named-other z = decide (named (text here t) here u) (λ e. absurd (z (k .hashed ∙ named-hash t u e ∙ sym (a .hashed)))) (λ e. sym e)
 
       pub named-test : (w : List ℕ) (b : Bool) → b ≡ hasText l h 2 w u → w ≡ text here t → b ≡ named (text here t) here u
       unfolding named hasText
@@ -122,7 +122,7 @@ module _ (l h : List ℕ) (c : State) where
     unfolding inChain named
     other-chain u z =
         decide (named (text here t) here u)
-        (λ e. clash (both-true (isVariable here u) _ (both-left (isVariable here u) _ e) (eq-eqb _ _ (ap (λ (x : ℕ). x % 64) (named-mark t u e ∙ sym (a .marked))))) z) (ap not)
+        (λ e. clash (both-true (isVariable here u) _ (both-left (isVariable here u) _ e) (eq-eqb _ _ (ap (λ (x : ℕ). x % 64) (named-hash t u e ∙ sym (a .hashed))))) z) (ap not)
 
     -- from b on no term has the name, and the walk goes on at the highest of the chain below b
     walk-from : (x b : ℕ) → x ≡ highest here (m % 64) b → 0 < b → b ≤ t → others here t b ≡ others here t t → Walk here m t x
@@ -132,7 +132,7 @@ module _ (l h : List ℕ) (c : State) where
       chained = last-passes (inChain here (m % 64)) b;
     })
 
-    module _ (marks links heads : List ℕ) (b : Tables here marks links heads t) where
+    module _ (hashes links heads : List ℕ) (b : Tables here hashes links heads t) where
       pub walk-start : Walk here m t (getD heads (m % 64) 0)
       walk-start = walk-from _ t (b .headed (m % 64) (omega arith)) (within-low _ t (variable-within t (a .variable))) (omega arith) refl
 
@@ -141,8 +141,8 @@ module _ (l h : List ℕ) (c : State) where
         unfolding inChain
         walk-variable = both-left (isVariable here u) _ (k .chained z)
 
-        pub walk-marked : Marked here (getD marks u 0) u
-        walk-marked = b .marked u (k .lower) walk-variable
+        pub walk-hashed : Hashed here (getD hashes u 0) u
+        walk-hashed = b .hashed u (k .lower) walk-variable
 
         walk-link : getD links u 0 ≡ highest here (m % 64) u
         unfolding inChain
@@ -155,7 +155,7 @@ module _ (l h : List ℕ) (c : State) where
         unfolding allBelow
         walk-turn x e f = walk-from _ u walk-link (omega arith) (omega (arith, k .lower)) (sym (right-true (others here t u) _ (ap not (sym e ∙ f))) ∙ k .rest)
 
-    pub name-empty : (n : ℕ) → n ≡ getD l (8 * t + 2) 0 → n ≡ 0 → false ≡ nameRule here t
+    pub name-empty : (n : ℕ) → n ≡ termAt l t .second → n ≡ 0 → false ≡ nameRule here t
     unfolding nameRule
     name-empty n e z =
         let j = second-at l (c .terms) t n (variable-within t (a .variable)) e in
@@ -166,7 +166,7 @@ module _ (l h : List ℕ) (c : State) where
       unfolding nameRule
       name-taken x e z = sym (right-false (ltb 0 (term here t .second)) _ (below-false (λ v. not (named (text here t) here v)) t u (k .lower) (ap not (sym e ∙ z))))
 
-      pub name-free : (n : ℕ) → n ≡ getD l (8 * t + 2) 0 → (n ≡ 0 → ⊥) → u ≡ 0 → true ≡ nameRule here t
+      pub name-free : (n : ℕ) → n ≡ termAt l t .second → (n ≡ 0 → ⊥) → u ≡ 0 → true ≡ nameRule here t
       unfolding nameRule
       name-free n e z q =
           let j = second-at l (c .terms) t n (variable-within t (a .variable)) e in
@@ -175,27 +175,27 @@ module _ (l h : List ℕ) (c : State) where
 
   -- THE TABLES
 
-  pub tables-start : (marks links : List ℕ) → c .terms < length marks → c .terms < length links → Tables here marks links (replicate 64 0) 1
+  pub tables-start : (hashes links : List ℕ) → c .terms < length hashes → c .terms < length links → Tables here hashes links (replicate 64 0) 1
   unfolding termIn
-  tables-start marks links i j = record {
-    marksRoom = rw (table-length (λ k. termAt l (suc k)) (c .terms)) i;
+  tables-start hashes links i j = record {
+    hashesRoom = rw (table-length (λ k. termAt l (suc k)) (c .terms)) i;
     linksRoom = rw (table-length (λ k. termAt l (suc k)) (c .terms)) j;
     headsRoom = length-replicate {A = ℕ} 64 0;
-    marked = λ u q v. let z : u ≡ 0 = omega arith in clash v (rw z);
+    hashed = λ u q v. let z : u ≡ 0 = omega arith in clash v (rw z);
     linked = λ u q v. let z : u ≡ 0 = omega arith in clash v (rw z);
     headed = λ r q. getD-replicate 64 r 0 0 q ∙ sym (last-one _);
   }
 
-  module _ (marks links heads : List ℕ) (t : ℕ) where
-    module _ (b : Tables here marks links heads t) where
+  module _ (hashes links heads : List ℕ) (t : ℕ) where
+    module _ (b : Tables here hashes links heads t) where
       -- a term that is no variable
-      pub tables-skip : isVariable here t ≡ false → Tables here marks links heads (t + 1)
+      pub tables-skip : isVariable here t ≡ false → Tables here hashes links heads (t + 1)
       unfolding inChain
       tables-skip v = record {
-        marksRoom = b .marksRoom;
+        hashesRoom = b .hashesRoom;
         linksRoom = b .linksRoom;
         headsRoom = b .headsRoom;
-        marked = λ u q w. b .marked u (other u q w) w;
+        hashed = λ u q w. b .hashed u (other u q w) w;
         linked = λ u q w. b .linked u (other u q w) w;
         headed = λ r q. b .headed r q ∙ sym (rw add-one (last-pass (inChain here r) t (left-false _ _ v)));
       }
@@ -203,40 +203,40 @@ module _ (l h : List ℕ) (c : State) where
           other : (u : ℕ) → u < t + 1 → isVariable here u ≡ true → u < t
           other u q w = ⊎-elim (λ j. clash w (rw j v)) (λ j. j) (up-to u t q)
 
-      pub tables-room : isVariable here t ≡ true → (t < length marks) × (t < length links)
-      tables-room v = let i = present here t 1 (eqb-true _ 2 v) in (omega (arith, b .marksRoom), omega (arith, b .linksRoom))
+      pub tables-room : isVariable here t ≡ true → (t < length hashes) × (t < length links)
+      tables-room v = let i = present here t 1 (eqb-true _ 2 v) in (omega (arith, b .hashesRoom), omega (arith, b .linksRoom))
 
       -- a variable, at the head of its chain
-      module _ (m : ℕ) (a : Marked here m t) where
+      module _ (m : ℕ) (a : Hashed here m t) where
         head-is : (r : ℕ) → r < 64 → getD (set heads (m % 64) t) r 0 ≡ highest here r (suc t)
         unfolding inChain
         head-is r q =
-            decide (eqb (mark here t % 64) r)
+            decide (eqb (hash here t % 64) r)
             (λ e.
-            let i : m % 64 ≡ r = ap (λ (x : ℕ). x % 64) (a .marked) ∙ eqb-true _ _ e in
+            let i : m % 64 ≡ r = ap (λ (x : ℕ). x % 64) (a .hashed) ∙ eqb-true _ _ e in
             rw i (getD-set-same heads r t 0 (let j = b .headsRoom in omega arith) ∙ sym (last-hit (inChain here r) t (both-true _ _ (a .variable) e))))
             (λ e.
-            let i : r ≡ m % 64 → ⊥ = λ z. clash (eq-eqb _ _ (sym (ap (λ (x : ℕ). x % 64) (a .marked)) ∙ sym z)) e in
+            let i : r ≡ m % 64 → ⊥ = λ z. clash (eq-eqb _ _ (sym (ap (λ (x : ℕ). x % 64) (a .hashed)) ∙ sym z)) e in
             getD-set-other heads (m % 64) r t 0 i ∙ b .headed r q ∙ sym (last-pass (inChain here r) t (right-false (isVariable here t) _ e)))
 
-        pub tables-keep : Tables here (set marks t m) (set links t (getD heads (m % 64) 0)) (set heads (m % 64) t) (t + 1)
+        pub tables-keep : Tables here (set hashes t m) (set links t (getD heads (m % 64) 0)) (set heads (m % 64) t) (t + 1)
         tables-keep = record {
-          marksRoom = simp length-set (b .marksRoom);
+          hashesRoom = simp length-set (b .hashesRoom);
           linksRoom = simp length-set (b .linksRoom);
           headsRoom = simp length-set (b .headsRoom);
-          marked = λ u q w.
-              ⊎-elim (λ j. rw j (rw (getD-set-same marks t m 0 (tables-room (a .variable) .0)) a))
-              (λ j. rw (getD-set-other marks t u m 0 (λ k. omega arith)) (b .marked u j w)) (up-to u t q);
+          hashed = λ u q w.
+              ⊎-elim (λ j. rw j (rw (getD-set-same hashes t m 0 (tables-room (a .variable) .0)) a))
+              (λ j. rw (getD-set-other hashes t u m 0 (λ k. omega arith)) (b .hashed u j w)) (up-to u t q);
           linked = λ u q w.
-              ⊎-elim (λ j. rw j (getD-set-same links t _ 0 (tables-room (a .variable) .1) ∙ b .headed (m % 64) (omega arith) ∙ ap (λ (x : ℕ). highest here (x % 64) t) (a .marked)))
+              ⊎-elim (λ j. rw j (getD-set-same links t _ 0 (tables-room (a .variable) .1) ∙ b .headed (m % 64) (omega arith) ∙ ap (λ (x : ℕ). highest here (x % 64) t) (a .hashed)))
               (λ j. getD-set-other links t u _ 0 (λ k. omega arith) ∙ b .linked u j w) (up-to u t q);
           headed = λ r q. rw add-one (head-is r q);
         }
 
     -- what a term that fails, and one that is no variable, leave of them
     module _ (rule : Bool) where
-      pub passing-not : false ≡ rule → Passing here rule marks links heads t false
+      pub passing-not : false ≡ rule → Passing here rule hashes links heads t false
       passing-not e = record { passes = e; tables = λ z. clash z refl }
 
-      pub passing-other : (k : ℕ) (r : Bool) → Tables here marks links heads t → k ≡ term here t .kind → (k ≡ 2 → ⊥) → r ≡ rule → Passing here rule marks links heads t r
+      pub passing-other : (k : ℕ) (r : Bool) → Tables here hashes links heads t → k ≡ term here t .kind → (k ≡ 2 → ⊥) → r ≡ rule → Passing here rule hashes links heads t r
       passing-other k r b e z q = record { passes = q; tables = λ y. tables-skip b (ne-eqb _ 2 (λ i. z (e ∙ i))) }

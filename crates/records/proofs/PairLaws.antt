@@ -3,15 +3,15 @@ use mathlib.Core.Path.{_≡_, refl, sym, ap, _∙_}
 use mathlib.Core.Bool.{Bool, true, false, not, _&&_, _||_}
 use mathlib.Core.List.{List, _∷_}
 use mathlib.Core.Logic.{_⊎_, ⊎-elim}
-use Prim.Native.Nat.{ℕ, suc, _+_, _-_, _*_, _≤_, _<_}
+use Prim.Native.Nat.{ℕ, suc, _+_, _-_, _≤_, _<_}
 use native.Mathlib.Omega.{arith}
-use lib.ListN.{length, getD}
+use lib.ListN.{length}
 use lib.Dec.{eqb}
 use borrow.Author.Tests.{eq-eqb, ne-eqb, not-false}
 use Rattle.records.specs.declared.State.{State}
 use Rattle.records.specs.Lists.{all, upTo, sameWord, firsts, seconds, Every, and}
 use Rattle.records.specs.Store.{Cell, cellIn, term, kind, within, chainBy, chainIn, chain, aboveIn, nearestIn, pathIn, sameTree}
-use Rattle.records.specs.View.{Lent, storeOf, termLimit, termsView, cellAt, cellsView, termed, chained}
+use Rattle.records.specs.View.{Lent, storeOf, termLimit, termsView, cellAt, cellsView, termed, chained, termAt}
 use Rattle.records.specs.Rules.{stampBelow, fallsRule, pairsOf, congruenceRule, edgeRule, congruencesRule}
 use Rattle.records.specs.Leaves.{pairWords, pairMeets}
 use Rattle.records.specs.Audited.{Classed, Recorded, Part, Pathed, TermPair, Congruable}
@@ -117,7 +117,7 @@ module _ (l : List ℕ) (n : ℕ) where
         let g : within (length (cellsView l n)) z ≡ false = cell-within z ∙ failed _ b e h in
         rw (right-false (within (length (cellsView l n)) y) (within (length (cellsView l n)) z) g)
 
-    module _ (v a : ℕ) (w : within n x ≡ true) (wy : within n y ≡ true) (ev : v ≡ getD l (3 * x + 0) 0) (ea : a ≡ getD l (3 * y + 0) 0) where
+    module _ (v a : ℕ) (w : within n x ≡ true) (wy : within n y ≡ true) (ev : v ≡ cellAt l x .value) (ea : a ≡ cellAt l y .value) where
       value-test : eqb v a ≡ eqb (cellIn (cellsView l n) x .value) (cellIn (cellsView l n) y .value)
       value-test = rw (← value-at l n x v w ev, ← value-at l n y a wy ea)
 
@@ -127,7 +127,7 @@ module _ (l : List ℕ) (n : ℕ) where
           let g : eqb (cellIn (cellsView l n) x .value) (cellIn (cellsView l n) y .value) ≡ false = sym value-test ∙ ne-eqb v a d in
           rw (right-false (within (length (cellsView l n)) y && within (length (cellsView l n)) z) (eqb (cellIn (cellsView l n) x .value) (cellIn (cellsView l n) y .value)) g)
 
-      pub meets-last : (o b : ℕ) → within n z ≡ true → v ≡ a → o ≡ getD l (3 * x + 1) 0 → b ≡ getD l (3 * z + 0) 0 → eqb o b ≡ pairMeets (cellsView l n) x y z
+      pub meets-last : (o b : ℕ) → within n z ≡ true → v ≡ a → o ≡ cellAt l x .other → b ≡ cellAt l z .value → eqb o b ≡ pairMeets (cellsView l n) x y z
       unfolding pairMeets
       meets-last o b wz d eo eb =
           rw (cell-within y, cell-within z, wy, wz, sym value-test ∙ eq-eqb v a d, ← other-at l n x o w eo, ← value-at l n z b wz eb)
@@ -158,7 +158,7 @@ module _ (l : List ℕ) (n p a b x y z i : ℕ) (k : Linking l n p a b x y z i) 
     pub linking-stop : not r ≡ true → false ≡ pairWords (chainIn (cellsView l n) p) (chainIn (cellsView l n) a) (chainIn (cellsView l n) b)
     linking-stop d = sym (linked-stop (cellsView l n) x y z (n - (i + 1)) (cell-within l n x ∙ passed _ c e f) (failed _ r g d)) ∙ at-left h ∙ whole
 
-    pub linking-turn : (u v w : ℕ) → not r ≡ false → u ≡ getD l (3 * x + 2) 0 → v ≡ getD l (3 * y + 2) 0 → w ≡ getD l (3 * z + 2) 0 → Linking l n p a b u v w (i + 1)
+    pub linking-turn : (u v w : ℕ) → not r ≡ false → u ≡ cellAt l x .next → v ≡ cellAt l y .next → w ≡ cellAt l z .next → Linking l n p a b u v w (i + 1)
     unfolding pairMeets
     linking-turn u v w d eu ev ew =
         let t = passed _ r g d in
@@ -194,7 +194,7 @@ module _ (P : ℕ × ℕ → Type 0) (q : ℕ × ℕ → Bool) (l : List ℕ) (n
     unfolding all
     chaining-end b e h = rw (none-by (cellsView l n) (n - i) x (cell-within l n x ∙ failed _ b e h)) at (k .left)
 
-    module _ (v o : ℕ) (b : Bool) (h : i < n) (e : b ≡ within n x) (f : not b ≡ false) (ev : v ≡ getD l (3 * x + 0) 0) (eo : o ≡ getD l (3 * x + 1) 0) where
+    module _ (v o : ℕ) (b : Bool) (h : i < n) (e : b ≡ within n x) (f : not b ≡ false) (ev : v ≡ cellAt l x .value) (eo : o ≡ cellAt l x .other) where
       here : chainBy (n - i) (cellsView l n) x ≡ (v, o) ∷ chainBy (n - (i + 1)) (cellsView l n) (cellIn (cellsView l n) x .next)
       here =
           let w = passed _ b e f in
@@ -211,7 +211,7 @@ module _ (P : ℕ × ℕ → Type 0) (q : ℕ × ℕ → Bool) (l : List ℕ) (n
       unfolding all
       chaining-stop r g d = and-stop _ (all q (chainBy (n - (i + 1)) (cellsView l n) (cellIn (cellsView l n) x .next))) (failed _ r g d) ∙ (rw here at (k .left))
 
-      pub chaining-turn : (r : Bool) (u : ℕ) → r ≡ q (v, o) → not r ≡ false → u ≡ getD l (3 * x + 2) 0 → Chaining P q l n p u (i + 1)
+      pub chaining-turn : (r : Bool) (u : ℕ) → r ≡ q (v, o) → not r ≡ false → u ≡ cellAt l x .next → Chaining P q l n p u (i + 1)
       unfolding all
       chaining-turn r u g d eu =
           let w = passed _ b e f in
@@ -236,14 +236,14 @@ words-terms n l p q hp hq e =
     let b = word-is (seconds l) (firsts q) (both-right (sameWord (firsts l) (firsts p)) _ e) in
     every-map (λ r h. record { one = h .0; other = h .1 }) (every-both (firsts-every l (rw a hp)) (seconds-every l (rw b hq)))
 
-module _ (l e : List ℕ) (c : State) (t u : ℕ) (h : Congruable (chained l e c) (c .terms)) (w : within (c .terms) t ≡ true) (eu : u ≡ getD l (8 * t + 4) 0) where
+module _ (l e : List ℕ) (c : State) (t u : ℕ) (h : Congruable (chained l e c) (c .terms)) (w : within (c .terms) t ≡ true) (eu : u ≡ termAt l t .forestParent) where
   parent-is : u ≡ term (chained l e c) t .forestParent
   parent-is = view-forest l (c .terms) t u w eu
 
   pub parent-here : within (c .terms) u ≡ true
   parent-here = rw parent-is (h .pathed .tops .stays t w)
 
-  module _ (j : ℕ) (ej : j ≡ getD l (8 * t + 0) 0) where
+  module _ (j : ℕ) (ej : j ≡ termAt l t .kind) where
     child-kind : j ≡ kind (chained l e c) t
     child-kind = kind-at l (c .terms) t j w ej
 
@@ -251,7 +251,7 @@ module _ (l e : List ℕ) (c : State) (t u : ℕ) (h : Congruable (chained l e c
     unfolding congruenceRule
     congruent-child d = rw (ne-eqb (kind (chained l e c) t) 3 (λ z. d (child-kind ∙ z)))
 
-    module _ (k : ℕ) (ek : k ≡ getD l (8 * u + 0) 0) where
+    module _ (k : ℕ) (ek : k ≡ termAt l u .kind) where
       parent-kind : k ≡ kind (chained l e c) (term (chained l e c) t .forestParent)
       parent-kind = rw (← parent-is) (kind-at l (c .terms) u k parent-here ek)
 
@@ -261,7 +261,7 @@ module _ (l e : List ℕ) (c : State) (t u : ℕ) (h : Congruable (chained l e c
           let z : eqb (kind (chained l e c) (term (chained l e c) t .forestParent)) 3 ≡ false = ne-eqb _ 3 (λ z. d (parent-kind ∙ z)) in
           rw (right-false (eqb (kind (chained l e c) t) 3) (eqb (kind (chained l e c) (term (chained l e c) t .forestParent)) 3) z)
 
-      module _ (p a b : ℕ) (r : Bool) (ep : p ≡ getD l (8 * t + 6) 0) (ea : a ≡ getD l (8 * t + 1) 0) (eb : b ≡ getD l (8 * u + 1) 0)
+      module _ (p a b : ℕ) (r : Bool) (ep : p ≡ termAt l t .labelValue) (ea : a ≡ termAt l t .first) (eb : b ≡ termAt l u .first)
           (er : r ≡ (pairWords (chain (chained l e c) p) (chain (chained l e c) a) (chain (chained l e c) b) || pairWords (chain (chained l e c) p) (chain (chained l e c) b) (chain (chained l e c) a))) where
         pairs-is : p ≡ term (chained l e c) t .labelValue
         pairs-is = rw (view-term l (c .terms) t w) ep
@@ -289,24 +289,24 @@ module _ (l e : List ℕ) (c : State) (t u : ℕ) (h : Congruable (chained l e c
               let y : Every (λ x. within (c .terms) x ≡ true) (firsts (chain (chained l e c) b)) = rw second-is (h .parted (term (chained l e c) t .forestParent) (sym parent-kind ∙ k3)) in
               ⊎-elim (words-terms (c .terms) (chain (chained l e c) p) _ _ x y) (words-terms (c .terms) (chain (chained l e c) p) _ _ y x) (either _ _ (sym er ∙ not-false r d))
 
-          pub congruent-last : (m : ℕ) (f : Bool) → m ≡ getD l (8 * t + 7) 0 → f ≡ all (fallsRule (termed l c) m) (chain (chained l e c) p) → f ≡ congruenceRule (chained l e c) t
+          pub congruent-last : (m : ℕ) (f : Bool) → m ≡ termAt l t .stamp → f ≡ all (fallsRule (termed l c) m) (chain (chained l e c) p) → f ≡ congruenceRule (chained l e c) t
           unfolding congruenceRule fallsRule
           congruent-last m f em ef =
               let s : m ≡ term (chained l e c) t .stamp = rw (view-term l (c .terms) t w) em in
               rw (eq-eqb (kind (chained l e c) t) 3 (sym child-kind ∙ j3), eq-eqb (kind (chained l e c) (term (chained l e c) t .forestParent)) 3 (sym parent-kind ∙ k3), passed _ r pairs-test d, ← s, ← pairs-is) ef
 
 module _ (l e : List ℕ) (c : State) (t : ℕ) (w : within (c .terms) t ≡ true) where
-  pub edge-root : (u : ℕ) → u ≡ getD l (8 * t + 4) 0 → u ≡ t → true ≡ edgeRule (chained l e c) t
+  pub edge-root : (u : ℕ) → u ≡ termAt l t .forestParent → u ≡ t → true ≡ edgeRule (chained l e c) t
   edge-root u eu d = or-stop _ _ (ap not (left-false (not (eqb (term (chained l e c) t .forestParent) t)) _ (ap not (eq-eqb _ _ (sym (view-forest l (c .terms) t u w eu) ∙ d)))))
 
-  module _ (k : ℕ) (ek : k ≡ getD l (8 * t + 5) 0) where
+  module _ (k : ℕ) (ek : k ≡ termAt l t .labelKind) where
     label-is : k ≡ term (chained l e c) t .labelKind
     label-is = rw (view-term l (c .terms) t w) ek
 
     pub edge-other : (k ≡ 3 → ⊥) → true ≡ edgeRule (chained l e c) t
     edge-other d = or-stop _ _ (ap not (right-false (not (eqb (term (chained l e c) t .forestParent) t)) _ (ne-eqb _ _ (λ z. d (label-is ∙ z)))))
 
-    pub edge-congruence : (u : ℕ) (r : Bool) → u ≡ getD l (8 * t + 4) 0 → (u ≡ t → ⊥) → k ≡ 3 → r ≡ congruenceRule (chained l e c) t → r ≡ edgeRule (chained l e c) t
+    pub edge-congruence : (u : ℕ) (r : Bool) → u ≡ termAt l t .forestParent → (u ≡ t → ⊥) → k ≡ 3 → r ≡ congruenceRule (chained l e c) t → r ≡ edgeRule (chained l e c) t
     edge-congruence u r eu d z f =
         let a : not (eqb (term (chained l e c) t .forestParent) t) ≡ true = ap not (ne-eqb _ _ (λ y. d (view-forest l (c .terms) t u w eu ∙ y))) in
         let b : eqb (term (chained l e c) t .labelKind) 3 ≡ true = eq-eqb _ _ (sym label-is ∙ z) in

@@ -1,19 +1,19 @@
--- Walking what stands above a term in the lent words: marks, the nearest shared ancestor, and the stamps of a path.
+-- Walking what stands above a term in the lent words: flags, the nearest shared ancestor, and the stamps of a path.
 use mathlib.Core.Path.{_≡_, refl, sym, ap, _∙_}
 use mathlib.Core.Bool.{Bool, true, false, not, _&&_, _||_, false≢true}
 use mathlib.Core.List.{List, [], _∷_}
 use mathlib.Core.Logic.{_⊎_, ⊎-elim}
 use mathlib.Core.Option.{Option, none, some}
-use Prim.Native.Nat.{ℕ, zero, suc, _+_, _-_, _*_, _≤_, _<_}
+use Prim.Native.Nat.{ℕ, zero, suc, _+_, _-_, _≤_, _<_}
 use native.Mathlib.Omega.{arith}
 use lib.ListN.{length, getD, set, length-set}
 use lib.Seq.{getD-set-same, getD-set-other}
 use lib.Dec.{eqb}
 use borrow.Author.Tests.{eqb-true, eqb-false, eq-eqb, ne-eqb, lt-ltb, le-ltb}
 use Rattle.records.specs.Lists.{all, any, firstOf, isIn, upTo, Every, none-left, and}
-use Rattle.records.specs.Leaves.{marked, isMarked}
+use Rattle.records.specs.Leaves.{flagged, isFlagged}
 use Rattle.records.specs.Store.{Term, within, climb, forestUp, topIn, aboveBy, aboveIn, orNone, nearestIn, pathIn}
-use Rattle.records.specs.View.{termsView}
+use Rattle.records.specs.View.{termsView, termAt}
 use Rattle.records.specs.Rules.{stampBelow}
 use Rattle.records.specs.Audited.{Closed}
 use Rattle.records.proofs.Lists.{or-right, right-falsum, every-map, every-both, all-append, either, or-left, decide, clash, within-low, within-high}
@@ -45,13 +45,13 @@ module _ {A : Type 0} {l : List ℕ} {n : ℕ} {f : List ℕ → A} {whole : A} 
   rising-stop v h e = sym (e _) ∙ (rw (rising-at h) at (p .left))
 
   -- x is its tree's root
-  pub rising-root : (y : ℕ) → i ≤ n → y ≡ getD l (8 * x + 4) 0 → y ≡ x → f (x ∷ []) ≡ whole
+  pub rising-root : (y : ℕ) → i ≤ n → y ≡ termAt l x .forestParent → y ≡ x → f (x ∷ []) ≡ whole
   unfolding aboveBy
   rising-root y h e d =
       let u : forestUp (termsView l n) x ≡ x = sym (view-forest l n x y (p .here) e) ∙ d in
       rw (eq-eqb (forestUp (termsView l n) x) x u) at (rw (rising-at h) at (p .left))
 
-  pub rising-turn : (g : List ℕ → A) (y : ℕ) → Closed (forestUp (termsView l n)) n → i ≤ n → y ≡ getD l (8 * x + 4) 0 → (y ≡ x → ⊥) → ((r : List ℕ) → f (x ∷ r) ≡ g r) → Rising l n g whole y (i + 1)
+  pub rising-turn : (g : List ℕ → A) (y : ℕ) → Closed (forestUp (termsView l n)) n → i ≤ n → y ≡ termAt l x .forestParent → (y ≡ x → ⊥) → ((r : List ℕ) → f (x ∷ r) ≡ g r) → Rising l n g whole y (i + 1)
   rising-turn g y k h e d s =
       let v : y ≡ forestUp (termsView l n) x = view-forest l n x y (p .here) e in
       let q = above-step (termsView l n) (suc n - (i + 1)) x (λ z. d (v ∙ z)) in
@@ -65,31 +65,31 @@ module _ {A : Type 0} {l : List ℕ} {n : ℕ} {f : List ℕ → A} {whole : A} 
   unfolding aboveBy
   rising-done h = let e : suc n - i ≡ 0 = omega arith in rw e at (p .left)
 
--- MARKS
+-- FLAGS
 
 module _ (s : List ℕ) (x : ℕ) (r : List ℕ) where
-  pub seek-here : getD s x 0 ≡ 1 → orNone (firstOf (isMarked s) (x ∷ r)) ≡ x
-  unfolding firstOf isMarked
+  pub seek-here : getD s x 0 ≡ 1 → orNone (firstOf (isFlagged s) (x ∷ r)) ≡ x
+  unfolding firstOf isFlagged
   seek-here e = rw (eq-eqb (getD s x 0) 1 e, orNone)
 
-  pub seek-past : (getD s x 0 ≡ 1 → ⊥) → orNone (firstOf (isMarked s) (x ∷ r)) ≡ orNone (firstOf (isMarked s) r)
-  unfolding firstOf isMarked
+  pub seek-past : (getD s x 0 ≡ 1 → ⊥) → orNone (firstOf (isFlagged s) (x ∷ r)) ≡ orNone (firstOf (isFlagged s) r)
+  unfolding firstOf isFlagged
   seek-past d = rw (ne-eqb (getD s x 0) 1 d, orNone)
 
-pub seek-none : (s : List ℕ) → orNone (firstOf (isMarked s) []) ≡ 0
+pub seek-none : (s : List ℕ) → orNone (firstOf (isFlagged s) []) ≡ 0
 unfolding firstOf
 seek-none s = refl
 
-unmarked : (s : List ℕ) (x : ℕ) → getD s x 0 ≡ 0 → isMarked s x ≡ false
-unfolding isMarked
-unmarked s x e = ne-eqb (getD s x 0) 1 (λ z. omega arith)
+unflagged : (s : List ℕ) (x : ℕ) → getD s x 0 ≡ 0 → isFlagged s x ≡ false
+unfolding isFlagged
+unflagged s x e = ne-eqb (getD s x 0) 1 (λ z. omega arith)
 
--- a number is marked where it is one of those marked
-pub marked-is : (l s : List ℕ) (x : ℕ) → x < length s → isMarked (marked l s) x ≡ isIn x l || isMarked s x
-unfolding marked isMarked isIn any
-marked-is [] s x h = refl
-marked-is (y ∷ l) s x h =
-    let q = marked-is l (set s y 1) x (simp length-set (omega arith)) in
+-- a number is flagged where it is one of those flagged
+pub flagged-is : (l s : List ℕ) (x : ℕ) → x < length s → isFlagged (flagged l s) x ≡ isIn x l || isFlagged s x
+unfolding flagged isFlagged isIn any
+flagged-is [] s x h = refl
+flagged-is (y ∷ l) s x h =
+    let q = flagged-is l (set s y 1) x (simp length-set (omega arith)) in
     q ∙ decide (eqb x y)
     (λ e.
     let d : x ≡ y = eqb-true x y e in
@@ -112,18 +112,18 @@ above-within ts n (suc k) x h w = and w (go (eqb (forestUp ts x) x) (above-withi
     go true e = none-left
     go false e = e
 
--- the first marked term of a's is the nearest shared ancestor
+-- the first flagged term of a's is the nearest shared ancestor
 pub nearest-is : (ts : List Term) (n a b : ℕ) (s z : List ℕ) (r : ℕ) → Closed (forestUp ts) n → within n a ≡ true → n < length z → ((i : ℕ) → i < length z → getD z i 0 ≡ 0)
-    → s ≡ marked (aboveIn ts b) z → r ≡ orNone (firstOf (isMarked s) (aboveIn ts a)) → r ≡ nearestIn ts a b
+    → s ≡ flagged (aboveIn ts b) z → r ≡ orNone (firstOf (isFlagged s) (aboveIn ts a)) → r ≡ nearestIn ts a b
 unfolding nearestIn
 nearest-is ts n a b s z r k w h f e d =
-    d ∙ ap orNone (first-same (isMarked s) (λ x. isIn x (aboveIn ts b)) (aboveIn ts a) (every-map (λ x v. agree x (within-high n x v)) (above-within ts n (suc (length ts)) a k w)))
+    d ∙ ap orNone (first-same (isFlagged s) (λ x. isIn x (aboveIn ts b)) (aboveIn ts a) (every-map (λ x v. agree x (within-high n x v)) (above-within ts n (suc (length ts)) a k w)))
   where
-    agree : (x : ℕ) → x ≤ n → isMarked s x ≡ isIn x (aboveIn ts b)
+    agree : (x : ℕ) → x ≤ n → isFlagged s x ≡ isIn x (aboveIn ts b)
     agree x v =
         let l : x < length z = omega arith in
-        let m = marked-is (aboveIn ts b) z x l in
-        let u = unmarked z x (f x l) in
+        let m = flagged-is (aboveIn ts b) z x l in
+        let u = unflagged z x (f x l) in
         let o = right-falsum (isIn x (aboveIn ts b)) false refl in cc
 
 -- THE STAMPS OF A PATH
@@ -145,12 +145,12 @@ pub upto-none : (q : ℕ → Bool) (y : ℕ) → all q (upTo y []) ≡ true
 unfolding upTo all
 upto-none q y = refl
 
-module _ (l : List ℕ) (n z m v : ℕ) (w : within n z ≡ true) (e : v ≡ getD l (8 * z + 7) 0) where
+module _ (l : List ℕ) (n z m v : ℕ) (w : within n z ≡ true) (e : v ≡ termAt l z .stamp) where
   pub stamp-high : m ≤ v → stampBelow (termsView l n) m z ≡ false
-  stamp-high h = rw (view-term l n z w) (le-ltb (getD l (8 * z + 7) 0) m (omega arith))
+  stamp-high h = rw (view-term l n z w) (le-ltb (termAt l z .stamp) m (omega arith))
 
   pub stamp-low : v < m → stampBelow (termsView l n) m z ≡ true
-  stamp-low h = rw (view-term l n z w) (lt-ltb (getD l (8 * z + 7) 0) m (omega arith))
+  stamp-low h = rw (view-term l n z w) (lt-ltb (termAt l z .stamp) m (omega arith))
 
 -- a path's stamps are those of its two sides
 pub path-sides : (q : ℕ → Bool) (ts : List Term) (a b : ℕ) → all q (pathIn ts a b) ≡ (all q (upTo (nearestIn ts a b) (aboveIn ts a)) && all q (upTo (nearestIn ts a b) (aboveIn ts b)))

@@ -11,6 +11,7 @@ use lib.Dec.{ltb}
 use lib.Seq.{sets, sets-eq, getD-append-add, length-take-le, drop-cons, length-sets, getD-set-same, getD-set-other, ext-getD}
 use Rattle.records.specs.View.{reasonRoom, termAt, cellAt, pairAt, termsView, cellsView, pairsView, zeroTerm, zeroCell, termWords}
 use Rattle.records.specs.Store.{Term, noTerm, within}
+use Rattle.records.specs.View.{cellWords}
 use Rattle.records.specs.Make.{own, chainFrom}
 use Rattle.records.specs.Puts.{TermPut, withClass, withEdge, TermSet, CellPut, ChainPut, PairPut, Pushed}
 use Rattle.records.proofs.Lists.{table-same, table-suc, table-length, table-at, within-low, within-high}
@@ -35,7 +36,7 @@ module _ (l : List ℕ) (i : ℕ) (vs : List ℕ) (fits : i + length vs ≤ leng
 -- VIEWS THAT AGREE
 
 -- the words below a record decide the records before it, record 0 too
-module _ (l l′ : List ℕ) (n : ℕ) (h : (j : ℕ) → j < 8 * (n + 1) → getD l′ j 0 ≡ getD l j 0) where
+module _ (l l′ : List ℕ) (n : ℕ) (h : (j : ℕ) → j < termWords n → getD l′ j 0 ≡ getD l j 0) where
   term-agrees : (t : ℕ) → t ≤ n → termAt l′ t ≡ termAt l t
   term-agrees t b =
       let a0 = h (8 * t + 0) (omega arith) in
@@ -59,7 +60,7 @@ pairs-agree l l′ n h = table-same (pairAt l′) (pairAt l) n (λ i b.
     let a0 = h (2 * i + 0) (omega arith) in
     let a1 = h (2 * i + 1) (omega arith) in cc)
 
-module _ (l l′ : List ℕ) (n : ℕ) (h : (j : ℕ) → j < 3 * (n + 1) → getD l′ j 0 ≡ getD l j 0) where
+module _ (l l′ : List ℕ) (n : ℕ) (h : (j : ℕ) → j < cellWords n → getD l′ j 0 ≡ getD l j 0) where
   cell-agrees : (c : ℕ) → c ≤ n → cellAt l′ c ≡ cellAt l c
   cell-agrees c b =
       let a0 = h (3 * c + 0) (omega arith) in
@@ -75,7 +76,7 @@ module _ (l l′ : List ℕ) (n : ℕ) (h : (j : ℕ) → j < 3 * (n + 1) → ge
 
 -- ONE TERM
 
-module _ (l : List ℕ) (n k a b : ℕ) (room : 8 * (n + 2) ≤ length l) where
+module _ (l : List ℕ) (n k a b : ℕ) (room : termWords (n + 1) ≤ length l) where
   term-put-sets : TermPut l (sets l (8 * (n + 1)) (k ∷ a ∷ b ∷ (n + 1) ∷ (n + 1) ∷ 0 ∷ 0 ∷ 0 ∷ [])) n k a b
   term-put-sets = record { grown = table-suc _ n ∙ (let p = kept-is in let q = last-is in cc); kept = kept-is; zero = zero-term-agrees l l′ n (sets-below l (8 * (n + 1)) vs fits) }
     where
@@ -241,7 +242,7 @@ module _ (l l′ : List ℕ) (n k v : ℕ) (r : Bool) (e : r ≡ ltb n (reasonRo
 -- ONE CELL, AND A CHAIN OF THEM
 
 module _ (l : List ℕ) (n v x : ℕ) where
-  pub cell-put : 3 * (n + 2) ≤ length l → CellPut l (set (set (set l (3 * (n + 1)) v) (3 * (n + 1) + 1) 0) (3 * (n + 1) + 2) x) n v x
+  pub cell-put : cellWords (n + 1) ≤ length l → CellPut l (set (set (set l (3 * (n + 1)) v) (3 * (n + 1) + 1) 0) (3 * (n + 1) + 2) x) n v x
   cell-put room = record { grown = table-suc _ n ∙ (let p = kept-is n (omega arith) in let q = last-is in cc); kept = kept-is; zero = zero-is }
     where
       vs : List ℕ

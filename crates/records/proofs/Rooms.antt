@@ -7,7 +7,7 @@ use native.Mathlib.Omega.{arith}
 use lib.ListN.{length}
 use lib.Dec.{ltb, leb}
 use borrow.Author.Tests.{ltb-true, leb-true, lt-ltb, le-ltb, le-leb, lt-leb}
-use Rattle.records.specs.View.{termLimit, cellLimit, charLimit, termRoom, cellRoom, charRoom}
+use Rattle.records.specs.View.{termLimit, cellLimit, charLimit, termWords, cellWords, termRoom, cellRoom, charRoom}
 use Rattle.records.proofs.Lists.{same-test}
 
 -- one term more
@@ -18,7 +18,7 @@ module _ (l : List ℕ) (n : ℕ) where
   pub term-limit : ltb n (termRoom l) ≡ true → n < termLimit
   term-limit e = let k : n < termRoom l = ltb-true n (termRoom l) e in omega arith
 
-  pub term-room : ltb n (termRoom l) ≡ true → 8 * (n + 2) ≤ length l
+  pub term-room : ltb n (termRoom l) ≡ true → termWords (n + 1) ≤ length l
   term-room e = let k : n < termRoom l = ltb-true n (termRoom l) e in omega arith
 
   pub term-over : termLimit ≤ n → ltb n (termRoom l) ≡ false
@@ -26,33 +26,33 @@ module _ (l : List ℕ) (n : ℕ) where
 
   -- the code's test, once the limit is known to leave room
   pub term-test : n < termLimit → leb (8 * (n + 2)) (length l) ≡ ltb n (termRoom l)
-  term-test h = same-test _ _ (λ e. term-fits h (leb-true (8 * (n + 2)) (length l) e)) (λ e. le-leb (8 * (n + 2)) (length l) (term-room e))
+  term-test h = same-test _ _ (λ e. term-fits h (leb-true (8 * (n + 2)) (length l) e)) (λ e. le-leb (8 * (n + 2)) (length l) (let q = term-room e in omega arith))
 
   -- what a test that passed says
   pub fits-limit : (r : Bool) → r ≡ ltb n (termRoom l) → r ≡ true → n < termLimit
   fits-limit r e h = term-limit (sym e ∙ h)
 
-  pub fits-words : (r : Bool) → r ≡ ltb n (termRoom l) → r ≡ true → 8 * (n + 2) ≤ length l
+  pub fits-words : (r : Bool) → r ≡ ltb n (termRoom l) → r ≡ true → termWords (n + 1) ≤ length l
   fits-words r e h = term-room (sym e ∙ h)
 
 -- k cells more, where the n that are counted fit
-module _ (l : List ℕ) (n k : ℕ) (room : 3 * (n + 1) ≤ length l) where
-  pub cells-fit : n + k ≤ cellLimit → 3 * (n + k + 1) ≤ length l → leb (n + k) (cellRoom l) ≡ true
+module _ (l : List ℕ) (n k : ℕ) (room : cellWords n ≤ length l) where
+  pub cells-fit : n + k ≤ cellLimit → cellWords (n + k) ≤ length l → leb (n + k) (cellRoom l) ≡ true
   cells-fit a b = le-leb (n + k) (cellRoom l) (omega arith)
 
   pub cells-limit : leb (n + k) (cellRoom l) ≡ true → n + k ≤ cellLimit
   cells-limit e = let q : n + k ≤ cellRoom l = leb-true (n + k) (cellRoom l) e in omega arith
 
-  pub cells-room : leb (n + k) (cellRoom l) ≡ true → 3 * (n + k + 1) ≤ length l
+  pub cells-room : leb (n + k) (cellRoom l) ≡ true → cellWords (n + k) ≤ length l
   cells-room e = let q : n + k ≤ cellRoom l = leb-true (n + k) (cellRoom l) e in omega arith
 
   pub cells-over : cellLimit < n + k → leb (n + k) (cellRoom l) ≡ false
   cells-over h = lt-leb (n + k) (cellRoom l) (omega arith)
 
-  pub cells-test : k ≤ cellLimit - n → n ≤ cellLimit → leb (3 * (n + k + 1)) (length l) ≡ leb (n + k) (cellRoom l)
+  pub cells-test : k ≤ cellLimit - n → n ≤ cellLimit → leb (cellWords (n + k)) (length l) ≡ leb (n + k) (cellRoom l)
   cells-test h g =
-      same-test _ _ (λ e. cells-fit (omega arith) (leb-true (3 * (n + k + 1)) (length l) e))
-      (λ e. le-leb (3 * (n + k + 1)) (length l) (cells-room e))
+      same-test _ _ (λ e. cells-fit (omega arith) (leb-true (cellWords (n + k)) (length l) e))
+      (λ e. le-leb (cellWords (n + k)) (length l) (cells-room e))
 
   pub cells-none : cellLimit - n < k → leb (n + k) (cellRoom l) ≡ false
   cells-none h = cells-over (omega arith)

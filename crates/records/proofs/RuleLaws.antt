@@ -9,7 +9,7 @@ use lib.Dec.{eqb, ltb, leb}
 use borrow.Author.Tests.{lt-ltb, le-ltb, le-leb, lt-leb, eq-eqb, ne-eqb, eqb-false, leb-true}
 use Rattle.records.specs.Lists.{all}
 use Rattle.records.specs.Store.{Store, termIn, within, term, cell, chain, chainBy, isString}
-use Rattle.records.specs.View.{Lent, lent, storeOf, cellAt, pairAt, termsView, sizes, termLimit, cellLimit, charLimit, reasonLimit, keyLimit}
+use Rattle.records.specs.View.{Lent, lent, storeOf, cellAt, pairAt, termsView, termWords, cellWords, sizes, termLimit, cellLimit, charLimit, reasonLimit, keyLimit, termAt}
 use Rattle.records.specs.declared.State.{State}
 use Rattle.records.specs.Audited.{Sized}
 use Rattle.records.specs.Rules.{isChar, isNumber, reasonRule, keyRule, cellRule, textRule, partRule, concatRule, lengthRule, isEquatable, equationRule}
@@ -34,7 +34,7 @@ kind-none l n t e = rw (e, term-none l n)
 pub kind-past : (l : List ℕ) (n t w : ℕ) → w ≡ t → n < w → 0 ≡ termIn (termsView l n) t .kind
 kind-past l n t w e h = rw (term-past l n t (omega arith))
 
-pub kind-is : (l : List ℕ) (n t w k : ℕ) → (t ≡ 0 → ⊥) → w ≡ t → w ≤ n → k ≡ getD l (8 * t + 0) 0 → k ≡ termIn (termsView l n) t .kind
+pub kind-is : (l : List ℕ) (n t w k : ℕ) → (t ≡ 0 → ⊥) → w ≡ t → w ≤ n → k ≡ termAt l t .kind → k ≡ termIn (termsView l n) t .kind
 kind-is l n t w k z e h q = let p : 0 < t = omega arith in rw (term-is l n t p (omega arith)) q
 
 pub string-none : (k j : ℕ) → k ≡ j → k ≡ 0 → false ≡ within 3 j
@@ -162,10 +162,10 @@ module _ (s : Store) where
 
 module _ (m : Lent) (c : State) where
   abbrev termsFit : Bool
-  termsFit = leb (c .terms) termLimit && leb (8 * (c .terms + 1)) (length (m .terms))
+  termsFit = leb (c .terms) termLimit && leb (termWords (c .terms)) (length (m .terms))
 
   abbrev cellsFit : Bool
-  cellsFit = leb (c .cells) cellLimit && leb (3 * (c .cells + 1)) (length (m .cells))
+  cellsFit = leb (c .cells) cellLimit && leb (cellWords (c .cells)) (length (m .cells))
 
   abbrev charsFit : Bool
   charsFit = leb (c .chars) charLimit && leb (c .chars) (length (m .chars))
@@ -317,7 +317,7 @@ module _ (l e : List ℕ) (st : State) (t f : ℕ) where
         pub walk-stop : not y ≡ true → false ≡ whole walked t f
         walk-stop z = sym (rest-stop walked t (st .cells - (i + 1)) i c here (failed _ y ey z)) ∙ (rw more at (a .left))
 
-        pub walk-turn : not y ≡ false → (d : ℕ) → d ≡ getD e (3 * c + 2) 0 → Walked d (i + 1)
+        pub walk-turn : not y ≡ false → (d : ℕ) → d ≡ cellAt e c .next → Walked d (i + 1)
         walk-turn z d q =
             let n = next-at e (st .cells) c d (passed _ x ex h) q in
             record {

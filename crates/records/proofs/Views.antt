@@ -39,25 +39,25 @@ module _ (l : List ℕ) (n t x : ℕ) (h : within n t ≡ true) where
   term-at : termIn (termsView l n) t ≡ termAt l t
   term-at = term-is l n t (within-low n t h) (within-high n t h)
 
-  pub kind-at : x ≡ getD l (8 * t + 0) 0 → x ≡ termIn (termsView l n) t .kind
+  pub kind-at : x ≡ termAt l t .kind → x ≡ termIn (termsView l n) t .kind
   kind-at e = rw term-at e
 
-  pub first-at : x ≡ getD l (8 * t + 1) 0 → x ≡ termIn (termsView l n) t .first
+  pub first-at : x ≡ termAt l t .first → x ≡ termIn (termsView l n) t .first
   first-at e = rw term-at e
 
-  pub second-at : x ≡ getD l (8 * t + 2) 0 → x ≡ termIn (termsView l n) t .second
+  pub second-at : x ≡ termAt l t .second → x ≡ termIn (termsView l n) t .second
   second-at e = rw term-at e
 
   cell-at : cellIn (cellsView l n) t ≡ cellAt l t
   cell-at = cell-is l n t (within-low n t h) (within-high n t h)
 
-  pub value-at : x ≡ getD l (3 * t + 0) 0 → x ≡ cellIn (cellsView l n) t .value
+  pub value-at : x ≡ cellAt l t .value → x ≡ cellIn (cellsView l n) t .value
   value-at e = rw cell-at e
 
-  pub other-at : x ≡ getD l (3 * t + 1) 0 → x ≡ cellIn (cellsView l n) t .other
+  pub other-at : x ≡ cellAt l t .other → x ≡ cellIn (cellsView l n) t .other
   other-at e = rw cell-at e
 
-  pub next-at : x ≡ getD l (3 * t + 2) 0 → x ≡ cellIn (cellsView l n) t .next
+  pub next-at : x ≡ cellAt l t .next → x ≡ cellIn (cellsView l n) t .next
   next-at e = rw cell-at e
 
 -- a part of a slice is a span

@@ -1,13 +1,13 @@
 -- The audit's answer on one good store and on that store with a rule broken, by computing.
 use mathlib.Core.Bool.{Bool}
 use mathlib.Core.List.{List, [], _∷_, _++_}
-use Prim.Native.Nat.{ℕ, _+_, _*_}
+use Prim.Native.Nat.{ℕ}
 use lib.ListN.{set}
 use lib.Dec.{eqb, T}
 use Rattle.records.specs.declared.State.{State}
 use Rattle.records.specs.Lists.{all, any, firstOf, table, sameWord, isIn, firsts, seconds, upTo, allBelow}
 use Rattle.records.specs.Store.{termIn, cellIn, within, textIn, chainBy, climb, aboveBy, nearestIn, pathIn}
-use Rattle.records.specs.View.{Lent, lent, sizes}
+use Rattle.records.specs.View.{Lent, lent, termPlace, cellPlace, sizes}
 use Rattle.records.specs.Rules.{isChar, isNumber, reasonRule, keyRule, cellRule, textRule, named, nameRule, partRule, concatRule, lengthRule, isEquatable, equationRule, termRule, recordsRule, parentsRule, endsRule, alikeRule, aloneRule, edgeLabel, labelRule, classesRule, pairsOf, fallsRule, congruenceRule, congruencesRule, auditStore, audit}
 
 -- variables x and y, merged by a7; x ++ y and y ++ x, joined by congruence; the length of x; x = y
@@ -48,8 +48,8 @@ pub data Damage : Type 0 where
 
 unfoldable pub damage : List Damage → Lent → Lent
 damage [] m = m
-damage (inTerm t k v ∷ l) m = damage l (lent (set (m .terms) (8 * t + k) v) (m .cells) (m .chars) (m .reasons) (m .keys))
-damage (inCell c k v ∷ l) m = damage l (lent (m .terms) (set (m .cells) (3 * c + k) v) (m .chars) (m .reasons) (m .keys))
+damage (inTerm t k v ∷ l) m = damage l (lent (set (m .terms) (termPlace t k) v) (m .cells) (m .chars) (m .reasons) (m .keys))
+damage (inCell c k v ∷ l) m = damage l (lent (m .terms) (set (m .cells) (cellPlace c k) v) (m .chars) (m .reasons) (m .keys))
 damage (inChars i v ∷ l) m = damage l (lent (m .terms) (m .cells) (set (m .chars) i v) (m .reasons) (m .keys))
 damage (inReasons i v ∷ l) m = damage l (lent (m .terms) (m .cells) (m .chars) (set (m .reasons) i v) (m .keys))
 damage (inKeys i v ∷ l) m = damage l (lent (m .terms) (m .cells) (m .chars) (m .reasons) (set (m .keys) i v))

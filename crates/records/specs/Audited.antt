@@ -8,7 +8,7 @@ use lib.ListN.{length}
 use Rattle.records.specs.declared.State.{State}
 use Rattle.records.specs.Lists.{all, firsts, seconds, Every}
 use Rattle.records.specs.Store.{Store, Cell, term, cellIn, count, kind, isTerm, isString, within, text, chain, parts, root, top, sameClass, sameTree, path, isEdge}
-use Rattle.records.specs.View.{Lent, storeOf, termLimit, cellLimit, charLimit, reasonLimit, keyLimit}
+use Rattle.records.specs.View.{Lent, storeOf, termWords, cellWords, termLimit, cellLimit, charLimit, reasonLimit, keyLimit}
 use Rattle.records.specs.Rules.{isChar, isNumber, reasonRule, keyRule, isEquatable}
 
 -- a cell of the concatenation t
@@ -136,9 +136,9 @@ pub record Audited (s : Store) : Type 0 where
 -- what refusal 1 asks of the lent slices
 pub record Sized (m : Lent) (c : State) : Type 0 where
   pub termLimited : c .terms ≤ termLimit
-  pub termRoom : 8 * (c .terms + 1) ≤ length (m .terms)
+  pub termRoom : termWords (c .terms) ≤ length (m .terms)
   pub cellLimited : c .cells ≤ cellLimit
-  pub cellRoom : 3 * (c .cells + 1) ≤ length (m .cells)
+  pub cellRoom : cellWords (c .cells) ≤ length (m .cells)
   pub charLimited : c .chars ≤ charLimit
   pub charRoom : c .chars ≤ length (m .chars)
   pub reasonLimited : c .reasons ≤ reasonLimit

@@ -12,15 +12,15 @@ use Rattle.records.specs.View.{termAt, textAt}
 use Rattle.records.specs.Rules.{endsRule, labelRule}
 use Rattle.records.specs.Make.{withNames, addText, addChain, addTerm, lowest, nameOf, nameLimit, takeName}
 
--- TABLES OF MARKS
+-- TABLES OF FLAGS
 
 -- a table with 1 at each number of l
-unfoldable pub marked : List ℕ → List ℕ → List ℕ
-marked [] s = s
-marked (x ∷ l) s = marked l (set s x 1)
+unfoldable pub flagged : List ℕ → List ℕ → List ℕ
+flagged [] s = s
+flagged (x ∷ l) s = flagged l (set s x 1)
 
-unfoldable pub isMarked : List ℕ → ℕ → Bool
-isMarked s x = eqb (getD s x 0) 1
+unfoldable pub isFlagged : List ℕ → ℕ → Bool
+isFlagged s x = eqb (getD s x 0) 1
 
 -- CLASSES AND CONGRUENCE EDGES
 

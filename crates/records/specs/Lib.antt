@@ -4,7 +4,7 @@ pub mod Lists
 pub mod Store
 pub mod View
 pub mod Rules
-pub mod Marks
+pub mod Hashes
 pub mod Make
 pub mod Puts
 pub mod Meaning

@@ -53,21 +53,28 @@ reasonLimit = 4096
 abbrev pub keyLimit : ℕ
 keyLimit = 4096
 
+-- the place of word k of a record: 'Terms, eight words', 'Cells, three words'
+abbrev pub termPlace : ℕ → ℕ → ℕ
+termPlace t k = 8 * t + k
+
+abbrev pub cellPlace : ℕ → ℕ → ℕ
+cellPlace c k = 3 * c + k
+
 -- a record's words: 'Record 0 of terms and of cells is never read'; 'characters, reasons and keys start at place 0'
 abbrev pub termAt : List ℕ → ℕ → Term
 termAt l t = record {
-  kind = getD l (8 * t + 0) 0;
-  first = getD l (8 * t + 1) 0;
-  second = getD l (8 * t + 2) 0;
-  classParent = getD l (8 * t + 3) 0;
-  forestParent = getD l (8 * t + 4) 0;
-  labelKind = getD l (8 * t + 5) 0;
-  labelValue = getD l (8 * t + 6) 0;
-  stamp = getD l (8 * t + 7) 0;
+  kind = getD l (termPlace t 0) 0;
+  first = getD l (termPlace t 1) 0;
+  second = getD l (termPlace t 2) 0;
+  classParent = getD l (termPlace t 3) 0;
+  forestParent = getD l (termPlace t 4) 0;
+  labelKind = getD l (termPlace t 5) 0;
+  labelValue = getD l (termPlace t 6) 0;
+  stamp = getD l (termPlace t 7) 0;
 }
 
 abbrev pub cellAt : List ℕ → ℕ → Cell
-cellAt l c = record { value = getD l (3 * c + 0) 0; other = getD l (3 * c + 1) 0; next = getD l (3 * c + 2) 0 }
+cellAt l c = record { value = getD l (cellPlace c 0) 0; other = getD l (cellPlace c 1) 0; next = getD l (cellPlace c 2) 0 }
 
 abbrev pub pairAt : List ℕ → ℕ → ℕ × ℕ
 pairAt l i = (getD l (2 * i + 0) 0, getD l (2 * i + 1) 0)
@@ -166,8 +173,8 @@ recordsIn l e h c = storeOf (lent l e h [] []) c
 -- refusal 1, 'a count above its limit, or a slice too short for it', does not hold; record 0 takes room too
 unfoldable pub sizes : Lent → State → Bool
 sizes m c =
-    (leb (c .terms) termLimit && leb (8 * (c .terms + 1)) (length (m .terms)))
-    && (leb (c .cells) cellLimit && leb (3 * (c .cells + 1)) (length (m .cells)))
+    (leb (c .terms) termLimit && leb (termWords (c .terms)) (length (m .terms)))
+    && (leb (c .cells) cellLimit && leb (cellWords (c .cells)) (length (m .cells)))
     && (leb (c .chars) charLimit && leb (c .chars) (length (m .chars)))
     && (leb (c .reasons) reasonLimit && leb (2 * c .reasons) (length (m .reasons)))
     && (leb (c .keys) keyLimit && leb (2 * c .keys) (length (m .keys)))

@@ -4,7 +4,7 @@ ghost use mathlib.Core.Bool.{true, not, _&&_, _||_};
 ghost use Prim.Native.Nat.{_≤_};
 ghost use lib.Dec.{eqb};
 ghost use Rattle.records.specs.Lists.{all, firstOf, upTo, Every};
-ghost use Rattle.records.specs.Leaves.{marked, isMarked};
+ghost use Rattle.records.specs.Leaves.{flagged, isFlagged};
 ghost use Rattle.records.specs.Store.{within, chainIn, classUp, forestUp, rootIn, topIn, root, top, aboveIn, orNone, nearestIn};
 ghost use Rattle.records.specs.View.{termLimit, termsView, cellsView, termed, chained};
 ghost use Rattle.records.specs.Rules.{eachTerm, parentsRule, endsRule, edgeLabel, labelRule, classesRule, stampBelow, fallsRule, congruenceRule, edgeRule, congruencesRule};
@@ -51,10 +51,10 @@ pub fn top_unchecked(terms: &[u32], n: usize, t: u32) -> u32
     x
 }
 
-// Marks b and what stands above it.
-fn mark_above(terms: &[u32], n: usize, b: u32, seen: &mut [u8; 513])
+// Flags b and what stands above it.
+fn flag_above(terms: &[u32], n: usize, b: u32, seen: &mut [u8; 513])
     requires { ⌜ (n ≤ termLimit) × (within n b ≡ true) × Closed (forestUp (termsView (now terms) n)) n ⌝ }
-    ensures { λ r. ⌜ now (seen .exit) ≡ marked (aboveIn (termsView (now (terms .entry)) n) b) (now (seen .entry)) ⌝ }
+    ensures { λ r. ⌜ now (seen .exit) ≡ flagged (aboveIn (termsView (now (terms .entry)) n) b) (now (seen .entry)) ⌝ }
 {
     let mut x = b;
     let mut i: usize = 0;
@@ -69,10 +69,10 @@ fn mark_above(terms: &[u32], n: usize, b: u32, seen: &mut [u8; 513])
     }
 }
 
-// The first of a and what stands above it that is marked, or 0.
-fn first_marked(terms: &[u32], n: usize, a: u32, seen: &[u8; 513]) -> u32
+// The first of a and what stands above it that is flagged, or 0.
+fn first_flagged(terms: &[u32], n: usize, a: u32, seen: &[u8; 513]) -> u32
     requires { ⌜ (n ≤ termLimit) × (within n a ≡ true) × Closed (forestUp (termsView (now terms) n)) n ⌝ }
-    ensures { λ r. ⌜ r ≡ orNone (firstOf (isMarked (now (seen .entry))) (aboveIn (termsView (now (terms .entry)) n) a)) ⌝ }
+    ensures { λ r. ⌜ r ≡ orNone (firstOf (isFlagged (now (seen .entry))) (aboveIn (termsView (now (terms .entry)) n) a)) ⌝ }
 {
     let mut x = a;
     let mut i: usize = 0;
@@ -96,8 +96,8 @@ pub fn nearest_unchecked(terms: &[u32], n: usize, a: u32, b: u32) -> u32
     ensures { λ r. ⌜ r ≡ nearestIn (termsView (now (terms .entry)) n) a b ⌝ }
 {
     let mut seen: [u8; 513] = [0; 513];
-    mark_above(terms, n, b, &mut seen);
-    first_marked(terms, n, a, &seen)
+    flag_above(terms, n, b, &mut seen);
+    first_flagged(terms, n, a, &seen)
 }
 
 // THE AUDIT OF CLASSES

@@ -1,7 +1,9 @@
 // Reading the records. Each reader is total: a word past the end of its slice reads as 0.
 ghost use mathlib.Core.Path.{_≡_};
-ghost use Prim.Native.Nat.{_+_, _*_};
 ghost use lib.ListN.{getD};
+ghost use Rattle.records.specs.View.{termAt, cellAt};
+use crate::CELL_WIDTH;
+use crate::TERM_WIDTH;
 
 pub fn wide(x: u32) -> usize
     ensures { λ r. ⌜ r ≡ x ⌝ }
@@ -20,67 +22,67 @@ pub fn word(s: &[u32], i: usize) -> u32
 }
 
 pub fn kind(terms: &[u32], t: u32) -> u32
-    ensures { λ r. ⌜ r ≡ getD (now (terms .entry)) (8 * t + 0) 0 ⌝ }
+    ensures { λ r. ⌜ r ≡ termAt (now (terms .entry)) t .kind ⌝ }
 {
-    word(terms, 8 * (t as usize) + 0)
+    word(terms, TERM_WIDTH * (t as usize) + 0)
 }
 
 pub fn first(terms: &[u32], t: u32) -> u32
-    ensures { λ r. ⌜ r ≡ getD (now (terms .entry)) (8 * t + 1) 0 ⌝ }
+    ensures { λ r. ⌜ r ≡ termAt (now (terms .entry)) t .first ⌝ }
 {
-    word(terms, 8 * (t as usize) + 1)
+    word(terms, TERM_WIDTH * (t as usize) + 1)
 }
 
 pub fn second(terms: &[u32], t: u32) -> u32
-    ensures { λ r. ⌜ r ≡ getD (now (terms .entry)) (8 * t + 2) 0 ⌝ }
+    ensures { λ r. ⌜ r ≡ termAt (now (terms .entry)) t .second ⌝ }
 {
-    word(terms, 8 * (t as usize) + 2)
+    word(terms, TERM_WIDTH * (t as usize) + 2)
 }
 
 pub fn class_parent(terms: &[u32], t: u32) -> u32
-    ensures { λ r. ⌜ r ≡ getD (now (terms .entry)) (8 * t + 3) 0 ⌝ }
+    ensures { λ r. ⌜ r ≡ termAt (now (terms .entry)) t .classParent ⌝ }
 {
-    word(terms, 8 * (t as usize) + 3)
+    word(terms, TERM_WIDTH * (t as usize) + 3)
 }
 
 pub fn forest_parent(terms: &[u32], t: u32) -> u32
-    ensures { λ r. ⌜ r ≡ getD (now (terms .entry)) (8 * t + 4) 0 ⌝ }
+    ensures { λ r. ⌜ r ≡ termAt (now (terms .entry)) t .forestParent ⌝ }
 {
-    word(terms, 8 * (t as usize) + 4)
+    word(terms, TERM_WIDTH * (t as usize) + 4)
 }
 
 pub fn label_kind(terms: &[u32], t: u32) -> u32
-    ensures { λ r. ⌜ r ≡ getD (now (terms .entry)) (8 * t + 5) 0 ⌝ }
+    ensures { λ r. ⌜ r ≡ termAt (now (terms .entry)) t .labelKind ⌝ }
 {
-    word(terms, 8 * (t as usize) + 5)
+    word(terms, TERM_WIDTH * (t as usize) + 5)
 }
 
 pub fn label_value(terms: &[u32], t: u32) -> u32
-    ensures { λ r. ⌜ r ≡ getD (now (terms .entry)) (8 * t + 6) 0 ⌝ }
+    ensures { λ r. ⌜ r ≡ termAt (now (terms .entry)) t .labelValue ⌝ }
 {
-    word(terms, 8 * (t as usize) + 6)
+    word(terms, TERM_WIDTH * (t as usize) + 6)
 }
 
 pub fn stamp(terms: &[u32], t: u32) -> u32
-    ensures { λ r. ⌜ r ≡ getD (now (terms .entry)) (8 * t + 7) 0 ⌝ }
+    ensures { λ r. ⌜ r ≡ termAt (now (terms .entry)) t .stamp ⌝ }
 {
-    word(terms, 8 * (t as usize) + 7)
+    word(terms, TERM_WIDTH * (t as usize) + 7)
 }
 
 pub fn value(cells: &[u32], c: u32) -> u32
-    ensures { λ r. ⌜ r ≡ getD (now (cells .entry)) (3 * c + 0) 0 ⌝ }
+    ensures { λ r. ⌜ r ≡ cellAt (now (cells .entry)) c .value ⌝ }
 {
-    word(cells, 3 * (c as usize) + 0)
+    word(cells, CELL_WIDTH * (c as usize) + 0)
 }
 
 pub fn other(cells: &[u32], c: u32) -> u32
-    ensures { λ r. ⌜ r ≡ getD (now (cells .entry)) (3 * c + 1) 0 ⌝ }
+    ensures { λ r. ⌜ r ≡ cellAt (now (cells .entry)) c .other ⌝ }
 {
-    word(cells, 3 * (c as usize) + 1)
+    word(cells, CELL_WIDTH * (c as usize) + 1)
 }
 
 pub fn next(cells: &[u32], c: u32) -> u32
-    ensures { λ r. ⌜ r ≡ getD (now (cells .entry)) (3 * c + 2) 0 ⌝ }
+    ensures { λ r. ⌜ r ≡ cellAt (now (cells .entry)) c .next ⌝ }
 {
-    word(cells, 3 * (c as usize) + 2)
+    word(cells, CELL_WIDTH * (c as usize) + 2)
 }

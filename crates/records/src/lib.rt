@@ -15,6 +15,11 @@ pub mod rules;
 pub mod text;
 mod unique;
 
+// The words of a term and of a cell.
+pub const TERM_WIDTH: usize = 8;
+
+pub const CELL_WIDTH: usize = 3;
+
 pub const TERM_LIMIT: usize = 512;
 
 pub const CELL_LIMIT: usize = 2048;

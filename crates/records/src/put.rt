@@ -4,27 +4,29 @@ ghost use Prim.Native.Nat.{_+_, _*_, _/_, _<_, _≤_, min, max};
 ghost use lib.Dec.{ltb, leb};
 ghost use lib.ListN.{length};
 ghost use Rattle.records.specs.Lists.{any};
-ghost use Rattle.records.specs.View.{termLimit, cellLimit, termAt, termWords, termRoom, cellRoom, pairAt, pairsView, across};
+ghost use Rattle.records.specs.View.{termLimit, cellLimit, termAt, termWords, cellWords, termRoom, cellRoom, pairAt, pairsView, across};
 ghost use Rattle.records.specs.Make.{addReason, addKey, ordered, samePair};
 ghost use Rattle.records.specs.Puts.{TermPut, withClass, withEdge, TermSet, CellPut, ChainPut, PairPut, Pushed};
 ghost use Rattle.records.specs.Calls.{added, Does};
+use crate::CELL_WIDTH;
+use crate::TERM_WIDTH;
 
 // One term more fits.
 pub(crate) fn term_fits(terms: &[u32], n: usize) -> bool
     ensures { λ r. ⌜ r ≡ ltb n (termRoom (now (terms .entry))) ⌝ }
 {
     if n < crate::TERM_LIMIT {
-        return 8 * (n + 2) <= terms.len();
+        return TERM_WIDTH * (n + 2) <= terms.len();
     }
     false
 }
 
 // Record n + 1, which is its own class: the words above the count are free, so all eight are written.
 pub(crate) fn put_term_unchecked(terms: &mut [u32], n: usize, kind: u32, first: u32, second: u32)
-    requires { ⌜ n < termLimit ⌝ ∗ ⌜ 8 * (n + 2) ≤ length (now terms) ⌝ }
+    requires { ⌜ n < termLimit ⌝ ∗ ⌜ termWords (n + 1) ≤ length (now terms) ⌝ }
     ensures { λ _. ⌜ TermPut (now (terms .entry)) (now (terms .exit)) n kind first second ⌝ }
 {
-    let at = 8 * (n + 1);
+    let at = TERM_WIDTH * (n + 1);
     let own = (n + 1) as u32;
     terms[at] = kind;
     terms[at + 1] = first;
@@ -41,7 +43,7 @@ pub fn put_class_parent_unchecked(terms: &mut [u32], t: u32, parent: u32)
     requires { ⌜ termWords t ≤ length (now terms) ⌝ }
     ensures { λ _. ⌜ TermSet (now (terms .entry)) (now (terms .exit)) t (withClass (termAt (now (terms .entry)) t) parent) ⌝ }
 {
-    terms[8 * (t as usize) + 3] = parent;
+    terms[TERM_WIDTH * (t as usize) + 3] = parent;
 }
 
 // A term's edge to its parent in the forest, with its label and stamp.
@@ -49,7 +51,7 @@ pub fn put_edge_unchecked(terms: &mut [u32], t: u32, parent: u32, kind: u32, val
     requires { ⌜ termWords t ≤ length (now terms) ⌝ }
     ensures { λ _. ⌜ TermSet (now (terms .entry)) (now (terms .exit)) t (withEdge (termAt (now (terms .entry)) t) parent kind value stamp) ⌝ }
 {
-    let at = 8 * (t as usize);
+    let at = TERM_WIDTH * (t as usize);
     terms[at + 4] = parent;
     terms[at + 5] = kind;
     terms[at + 6] = value;
@@ -58,20 +60,20 @@ pub fn put_edge_unchecked(terms: &mut [u32], t: u32, parent: u32, kind: u32, val
 
 // k cells more fit.
 pub(crate) fn cells_fit(cells: &[u32], n: usize, k: usize) -> bool
-    requires { ⌜ n ≤ cellLimit ⌝ ∗ ⌜ 3 * (n + 1) ≤ length (now cells) ⌝ }
+    requires { ⌜ n ≤ cellLimit ⌝ ∗ ⌜ cellWords n ≤ length (now cells) ⌝ }
     ensures { λ r. ⌜ r ≡ leb (n + k) (cellRoom (now (cells .entry))) ⌝ }
 {
     if k <= crate::CELL_LIMIT - n {
-        return 3 * (n + k + 1) <= cells.len();
+        return CELL_WIDTH * (n + k + 1) <= cells.len();
     }
     false
 }
 
 fn put_cell(cells: &mut [u32], n: usize, value: u32, next: u32)
-    requires { ⌜ n < cellLimit ⌝ ∗ ⌜ 3 * (n + 2) ≤ length (now cells) ⌝ }
+    requires { ⌜ n < cellLimit ⌝ ∗ ⌜ cellWords (n + 1) ≤ length (now cells) ⌝ }
     ensures { λ _. ⌜ CellPut (now (cells .entry)) (now (cells .exit)) n value next ⌝ }
 {
-    let at = 3 * (n + 1);
+    let at = CELL_WIDTH * (n + 1);
     cells[at] = value;
     cells[at + 1] = 0;
     cells[at + 2] = next;
@@ -79,7 +81,7 @@ fn put_cell(cells: &mut [u32], n: usize, value: u32, next: u32)
 
 // A chain of the values of l, from record n + 1 on: each cell names the one after it, and the last names none.
 pub(crate) fn put_chain_unchecked(cells: &mut [u32], n: usize, l: &[u32])
-    requires { ⌜ n + length (now l) ≤ cellLimit ⌝ ∗ ⌜ 3 * (n + length (now l) + 1) ≤ length (now cells) ⌝ }
+    requires { ⌜ n + length (now l) ≤ cellLimit ⌝ ∗ ⌜ cellWords (n + length (now l)) ≤ length (now cells) ⌝ }
     ensures { λ _. ⌜ ChainPut (now (cells .entry)) (now (cells .exit)) n (now (l .entry)) ⌝ }
 {
     if l.len() == 0 {

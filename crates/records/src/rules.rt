@@ -7,15 +7,19 @@ ghost use lib.ListN.{length};
 ghost use lib.Dec.{leb};
 ghost use Rattle.records.specs.Lists.{all};
 ghost use Rattle.records.specs.Store.{termIn, within, cell, chain};
-ghost use Rattle.records.specs.View.{storeOf, termsView, charsView, pairsView, termLimit, cellLimit, charLimit, reasonLimit, keyLimit, sizes, lends, across, termed, readIn, chained, recordsIn};
-ghost use Rattle.records.specs.Rules.{isChar, isNumber, reasonRule, keyRule, cellRule, textRule, partRule, concatRule, lengthRule, isEquatable, equationRule, termRule, recordsRule, eachTerm, eachCell, isList};
-ghost use Rattle.records.specs.Marks.{Tables, Passing};
+ghost use Rattle.records.specs.View.{storeOf, termsView, charsView, pairsView, lends, across, termed, readIn, chained, recordsIn};
+ghost use Rattle.records.specs.View.{termWords, cellWords, termLimit, cellLimit, charLimit, reasonLimit, keyLimit, sizes};
+ghost use Rattle.records.specs.Rules.{isChar, isNumber, isEquatable, recordsRule, eachTerm, eachCell, isList};
+ghost use Rattle.records.specs.Rules.{reasonRule, keyRule, cellRule, textRule, partRule, concatRule, lengthRule, equationRule, termRule};
+ghost use Rattle.records.specs.Hashes.{Tables, Passing};
 ghost use Rattle.records.specs.Audited.{Sized};
 use crate::CELL_LIMIT;
+use crate::CELL_WIDTH;
 use crate::CHAR_LIMIT;
 use crate::REASON_LIMIT;
 use crate::State;
 use crate::TERM_LIMIT;
+use crate::TERM_WIDTH;
 use crate::fields;
 use crate::unique::variable_ok;
 
@@ -73,21 +77,21 @@ pub fn is_within(n: usize, t: u32) -> bool
 // SIZES
 
 fn terms_fit(terms: &[u32], n: usize) -> bool
-    ensures { λ r. ⌜ r ≡ (leb n termLimit && leb (8 * (n + 1)) (length (now (terms .entry)))) ⌝ }
+    ensures { λ r. ⌜ r ≡ (leb n termLimit && leb (termWords n) (length (now (terms .entry)))) ⌝ }
 {
     if TERM_LIMIT < n {
         return false;
     }
-    8 * (n + 1) <= terms.len()
+    TERM_WIDTH * (n + 1) <= terms.len()
 }
 
 fn cells_fit(cells: &[u32], n: usize) -> bool
-    ensures { λ r. ⌜ r ≡ (leb n cellLimit && leb (3 * (n + 1)) (length (now (cells .entry)))) ⌝ }
+    ensures { λ r. ⌜ r ≡ (leb n cellLimit && leb (cellWords n) (length (now (cells .entry)))) ⌝ }
 {
     if CELL_LIMIT < n {
         return false;
     }
-    3 * (n + 1) <= cells.len()
+    CELL_WIDTH * (n + 1) <= cells.len()
 }
 
 fn chars_fit(chars: &[u32], n: usize) -> bool
@@ -295,20 +299,20 @@ fn term_ok(
     cells: &[u32],
     chars: &[u32],
     c: State,
-    marks: &mut [u32],
+    hashes: &mut [u32],
     links: &mut [u32],
     heads: &mut [u32; 64],
     t: u32,
 ) -> bool
-    requires { ⌜ (within (c .terms) t ≡ true) × (c .chars ≤ length (now chars)) × Tables (readIn (now terms) (now chars) c) (now marks) (now links) (now heads) t ⌝ }
+    requires { ⌜ (within (c .terms) t ≡ true) × (c .chars ≤ length (now chars)) × Tables (readIn (now terms) (now chars) c) (now hashes) (now links) (now heads) t ⌝ }
     ensures { λ r. do
       let s = recordsIn (now (terms .entry)) (now (cells .entry)) (now (chars .entry)) c
-      ⌜ Passing (readIn (now (terms .entry)) (now (chars .entry)) c) (termRule s t) (now (marks .exit)) (now (links .exit)) (now (heads .exit)) t r ⌝ }
+      ⌜ Passing (readIn (now (terms .entry)) (now (chars .entry)) c) (termRule s t) (now (hashes .exit)) (now (links .exit)) (now (heads .exit)) t r ⌝ }
 {
     let k = fields::kind(terms, t);
     match k {
         1 => text_ok(terms, c, t),
-        2 => variable_ok(terms, chars, c, marks, links, heads, t),
+        2 => variable_ok(terms, chars, c, hashes, links, heads, t),
         3 => concat_ok(terms, cells, c, t),
         4 => length_ok(terms, c, t),
         5 => equation_ok(terms, c, t),
@@ -389,10 +393,10 @@ fn terms_pass(
     cells: &[u32],
     chars: &[u32],
     c: State,
-    marks: &mut [u32],
+    hashes: &mut [u32],
     links: &mut [u32],
 ) -> bool
-    requires { ⌜ (c .terms ≤ termLimit) × (c .chars ≤ length (now chars)) × (c .terms < length (now marks)) × (c .terms < length (now links)) ⌝ }
+    requires { ⌜ (c .terms ≤ termLimit) × (c .chars ≤ length (now chars)) × (c .terms < length (now hashes)) × (c .terms < length (now links)) ⌝ }
     ensures { λ r. do
       let s = recordsIn (now (terms .entry)) (now (cells .entry)) (now (chars .entry)) c
       ⌜ r ≡ eachTerm s (termRule s) ⌝ }
@@ -401,7 +405,7 @@ fn terms_pass(
     let mut i: usize = 0;
     while i < c.terms {
         let t = (i + 1) as u32;
-        if !term_ok(terms, cells, chars, c, marks, links, &mut heads, t) {
+        if !term_ok(terms, cells, chars, c, hashes, links, &mut heads, t) {
             return false;
         }
         i += 1;
@@ -417,13 +421,13 @@ fn terms_ok(terms: &[u32], cells: &[u32], chars: &[u32], c: State) -> bool
       ⌜ r ≡ eachTerm s (termRule s) ⌝ }
 {
     if c.terms < 32 {
-        let mut marks: [u32; 32] = [0; 32];
+        let mut hashes: [u32; 32] = [0; 32];
         let mut links: [u32; 32] = [0; 32];
-        return terms_pass(terms, cells, chars, c, &mut marks, &mut links);
+        return terms_pass(terms, cells, chars, c, &mut hashes, &mut links);
     }
-    let mut marks: [u32; 513] = [0; 513];
+    let mut hashes: [u32; 513] = [0; 513];
     let mut links: [u32; 513] = [0; 513];
-    terms_pass(terms, cells, chars, c, &mut marks, &mut links)
+    terms_pass(terms, cells, chars, c, &mut hashes, &mut links)
 }
 
 pub(crate) fn records_ok(

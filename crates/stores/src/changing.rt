@@ -1,4 +1,6 @@
 // The commands that change words.
+use records::CELL_WIDTH;
+use records::TERM_WIDTH;
 use records::fields::word;
 use std::num::wrapping_add_u32;
 use std::num::wrapping_add_usize;
@@ -130,8 +132,8 @@ pub(crate) fn change(
             put_two(reasons, 1, 5);
             put_two(keys, 1, 2);
         }
-        84 => put(terms, 8 * a + b, word(n, 3)),
-        69 => put(cells, 3 * a + b, word(n, 3)),
+        84 => put(terms, TERM_WIDTH * a + b, word(n, 3)),
+        69 => put(cells, CELL_WIDTH * a + b, word(n, 3)),
         72 => put(chars, a, word(n, 2)),
         82 => put(reasons, a, word(n, 2)),
         75 => put(keys, a, word(n, 2)),

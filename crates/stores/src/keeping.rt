@@ -1,6 +1,8 @@
 // Whether a call left the words as they were that it has to leave so.
 use crate::changing::copy;
+use records::CELL_WIDTH;
 use records::State;
+use records::TERM_WIDTH;
 use records::fields::word;
 use std::num::wrapping_add_usize;
 
@@ -31,14 +33,14 @@ fn term_words(n: usize) -> usize {
     if 512 < n {
         return 4104;
     }
-    8 * (n + 1)
+    TERM_WIDTH * (n + 1)
 }
 
 fn cell_words(n: usize) -> usize {
     if 2048 < n {
         return 6147;
     }
-    3 * (n + 1)
+    CELL_WIDTH * (n + 1)
 }
 
 // The words that have to be as they were: all of them after refusals 1 to 5, else those of the records counted.

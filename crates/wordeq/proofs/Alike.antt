@@ -2,7 +2,7 @@
 use mathlib.Core.Path.{_≡_, sym, ap, _∙_}
 use mathlib.Core.Bool.{Bool, true, false, _&&_}
 use mathlib.Core.List.{List, []}
-use Prim.Native.Nat.{ℕ, suc, _+_, _-_, _*_, _≤_}
+use Prim.Native.Nat.{ℕ, suc, _+_, _-_, _≤_}
 use native.Mathlib.Omega.{arith}
 use lib.ListN.{length, take, drop, getD}
 use lib.Dec.{eqb}
@@ -47,7 +47,7 @@ module _ {t h : List ℕ} {c : State} (able : Readable t h c) where
   text-length : (a : ℕ) → kind s a ≡ 1 → length (text s a) ≡ term s a .second
   text-length a e = ap length (text-is a e) ∙ table-length (λ i. getD h (term s a .first + i) 0) (term s a .second)
 
-  module _ (a b : ℕ) (constants : isConstant s a && isConstant s b ≡ true) (x y : ℕ) (one : x ≡ getD t (8 * a + 2) 0) (other : y ≡ getD t (8 * b + 2) 0) where
+  module _ (a b : ℕ) (constants : isConstant s a && isConstant s b ≡ true) (x y : ℕ) (one : x ≡ termAt t a .second) (other : y ≡ termAt t b .second) where
     left-kind : kind s a ≡ 1
     left-kind = eqb-true _ _ (both-left _ _ constants)
 
@@ -63,7 +63,7 @@ module _ {t h : List ℕ} {c : State} (able : Readable t h c) where
     pub texts-apart : (x ≡ y → ⊥) → false ≡ sameWord (text s a) (text s b)
     texts-apart d = sym (word-differs _ _ (λ e. d (left-second ∙ sym (text-length a left-kind) ∙ ap length e ∙ text-length b right-kind ∙ sym right-second)))
 
-    module _ (q : ℕ) (from : q ≡ getD t (8 * b + 1) 0) where
+    module _ (q : ℕ) (from : q ≡ termAt t b .first) where
       right-first : q ≡ term s b .first
       right-first = first-at t (c .terms) b q (here b right-kind) from
 
@@ -75,7 +75,7 @@ module _ {t h : List ℕ} {c : State} (able : Readable t h c) where
           let g = right-second in
           omega arith
 
-      pub texts-compared : (p : ℕ) → p ≡ getD t (8 * a + 1) 0 → x ≡ y → (r : Bool)
+      pub texts-compared : (p : ℕ) → p ≡ termAt t a .first → x ≡ y → (r : Bool)
           → r ≡ sameWord (span h p (length (take (q + x - q) (drop q h)))) (take (q + x - q) (drop q h)) → r ≡ sameWord (text s a) (text s b)
       texts-compared p i e r g =
           let u : text s a ≡ span h p x = text-is a left-kind ∙ ap (λ (k : ℕ). span h k (term s a .second)) (sym (first-at t (c .terms) a p (here a left-kind) i)) ∙ ap (span h p) (sym left-second) in

@@ -3,7 +3,7 @@ use mathlib.Core.Path.{_≡_, refl, sym, ap, subst, _∙_}
 use mathlib.Core.Bool.{Bool, true, false, _&&_, _||_}
 use mathlib.Core.List.{List, [], _∷_, _++_}
 use mathlib.Core.Option.{Option, none, some}
-use Prim.Native.Nat.{ℕ, suc, _+_, _*_, _<_, _≤_}
+use Prim.Native.Nat.{ℕ, suc, _+_, _<_, _≤_}
 use native.Mathlib.Numerals.{add-one}
 use native.Mathlib.Omega.{arith}
 use lib.ListN.{length, getD, take, drop, take-append-drop, drop-of-length-le}
@@ -13,7 +13,7 @@ use borrow.Author.Tests.{eq-eqb, ne-eqb, lt-ltb, le-ltb, ltb-true, ltb-false}
 use Rattle.records.specs.declared.State.{State}
 use Rattle.records.specs.Lists.{if_then_else_, any, keep}
 use Rattle.records.specs.Store.{Store, Term, kind, isConstant, text, root, sameClass}
-use Rattle.records.specs.View.{Lent, storeOf, readIn, termed}
+use Rattle.records.specs.View.{Lent, storeOf, readIn, termed, termAt}
 use Rattle.records.proofs.Lists.{both-left, decide}
 use Rattle.wordeq.specs.Wordeq.{lettersOf, isFull, occurrence}
 use Rattle.wordeq.specs.Sides.{Texts}
@@ -29,7 +29,7 @@ module _ (l : List ℕ) (c : State) (x : Texts l c) (a k : ℕ) (e : k ≡ kind 
   unfolding isFull
   own-other n = rw (ne-eqb (kind (termed l c) a) 1 (λ z. n (e ∙ z)))
 
-  module _ (n : k ≡ 1) (v : ℕ) (f : v ≡ getD l (8 * a + 2) 0) where
+  module _ (n : k ≡ 1) (v : ℕ) (f : v ≡ termAt l a .second) where
     full : isFull (termed l c) a ≡ ltb 0 v
     unfolding isFull
     full = rw (eq-eqb (kind (termed l c) a) 1 (sym e ∙ n)) (ap (ltb 0) (text-length l [] c a (x .constants a (sym e ∙ n)) ∙ ap (λ (t : Term). t .second) (term-there l c a 0 (sym e ∙ n)) ∙ sym f))

@@ -2,7 +2,7 @@
 use mathlib.Core.Path.{_≡_, refl, sym, ap, _∙_}
 use mathlib.Core.Bool.{Bool, true, false, not, _||_}
 use mathlib.Core.List.{List, [], _∷_, _++_}
-use Prim.Native.Nat.{ℕ, suc, _+_, _*_, _<_, _≤_}
+use Prim.Native.Nat.{ℕ, suc, _+_, _<_, _≤_}
 use native.Mathlib.Numerals.{add-one}
 use native.Mathlib.Omega.{arith}
 use lib.ListN.{length, getD, set, drop, replicate, length-set}
@@ -11,7 +11,7 @@ use borrow.Author.Tests.{eq-eqb, not-false}
 use Rattle.records.specs.declared.State.{State}
 use Rattle.records.specs.Lists.{any, isIn}
 use Rattle.records.specs.Store.{Store, Term, kind}
-use Rattle.records.specs.View.{lent, charLimit, span, readIn, termed}
+use Rattle.records.specs.View.{lent, charLimit, span, readIn, termed, termAt}
 use Rattle.records.proofs.Lists.{any-append, any-turn, any-stop, any-done, any-zero, or-left, or-none, right-false, and-stop, and-next, failed, passed, clash}
 use Rattle.wordeq.specs.Wordeq.{fixed, lettersOf, letters, absent}
 use Rattle.wordeq.specs.Sides.{Texts}
@@ -33,11 +33,11 @@ is-in-append x l m = any-append (eqb x) l m
 -- A CONSTANT'S CHARACTERS IN THE LENT WORDS
 
 module _ (w : List ℕ) (c : State) (a k : ℕ) (x : Texts w c) (e : k ≡ kind (termed w c) a) (o : k ≡ 1) where
-  letters-words : (h : List ℕ) → lettersOf (readIn w h c) a ≡ span h (getD w (8 * a + 1) 0) (getD w (8 * a + 2) 0)
+  letters-words : (h : List ℕ) → lettersOf (readIn w h c) a ≡ span h (termAt w a .first) (termAt w a .second)
   unfolding lettersOf
   letters-words h = rw (eq-eqb (kind (termed w c) a) 1 (sym e ∙ o)) (text-words w h c a 0 (sym e ∙ o) (x .constants a (sym e ∙ o)))
 
-  module _ (f g p n : ℕ) (i : f ≡ getD w (8 * a + 1) 0) (j : p ≡ f) (u : g ≡ getD w (8 * a + 2) 0) (v : n ≡ g) where
+  module _ (f g p n : ℕ) (i : f ≡ termAt w a .first) (j : p ≡ f) (u : g ≡ termAt w a .second) (v : n ≡ g) where
     pub text-fits : p + n ≤ c .chars
     text-fits =
         let t = term-there w c a 0 (sym e ∙ o) in
@@ -49,7 +49,7 @@ module _ (w : List ℕ) (c : State) (a k : ℕ) (x : Texts w c) (e : k ≡ kind 
     text-limit = let q = text-fits in let r = x .limited in omega arith
 
     letters-here : (h : List ℕ) → lettersOf (readIn w h c) a ≡ span h p n
-    letters-here h = letters-words h ∙ (let y : p ≡ getD w (8 * a + 1) 0 = j ∙ i in let z : n ≡ getD w (8 * a + 2) 0 = v ∙ u in rw (y, z))
+    letters-here h = letters-words h ∙ (let y : p ≡ termAt w a .first = j ∙ i in let z : n ≡ termAt w a .second = v ∙ u in rw (y, z))
 
     pub mark-atom-is : (t t′ : List ℕ) → length t ≡ charLimit → t′ ≡ marked t p n → Marked (c .chars) (λ h. lettersOf (readIn w h c) a) t t′
     mark-atom-is t t′ s d = record {

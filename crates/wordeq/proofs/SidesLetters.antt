@@ -83,7 +83,7 @@ module _ (l h : List ℕ) (c : State) where
   text-length t q = let e = table-length (λ i. getD h i 0) (c .chars) in simp (length-take, length-drop) (omega arith)
 
   module _ (x : Texts l c) (a : ℕ) where
-    pub letters-constant : kind (termed l c) a ≡ 1 → length (lettersOf (readIn l h c) a) ≡ getD l (8 * a + 2) 0
+    pub letters-constant : kind (termed l c) a ≡ 1 → length (lettersOf (readIn l h c) a) ≡ termAt l a .second
     unfolding lettersOf
     letters-constant e = rw (eq-eqb (kind (termed l c) a) 1 e) (text-length a (x .constants a e) ∙ ap (λ (t : Term). t .second) (term-there l c a 0 e))
 
@@ -94,7 +94,7 @@ module _ (l h : List ℕ) (c : State) where
 pub count-none : (l : List ℕ) (c : State) (a k : ℕ) → Texts l c → k ≡ kind (termed l c) a → (k ≡ 1 → ⊥) → 0 ≡ length (lettersOf (termed l c) a)
 count-none l c a k x e n = sym (ap length (letters-other l [] c x a (λ z. n (e ∙ z))))
 
-pub count-some : (l : List ℕ) (c : State) (a k v r : ℕ) → Texts l c → k ≡ kind (termed l c) a → k ≡ 1 → v ≡ getD l (8 * a + 2) 0 → r ≡ v → r ≡ length (lettersOf (termed l c) a)
+pub count-some : (l : List ℕ) (c : State) (a k v r : ℕ) → Texts l c → k ≡ kind (termed l c) a → k ≡ 1 → v ≡ termAt l a .second → r ≡ v → r ≡ length (lettersOf (termed l c) a)
 count-some l c a k v r x e n f g = g ∙ f ∙ sym (letters-constant l [] c x a (sym e ∙ n))
 
 -- the letters of an atom are no more than are counted

@@ -2,7 +2,7 @@
 use mathlib.Core.Path.{_≡_, refl, sym, ap, _∙_}
 use mathlib.Core.Bool.{Bool, true, false, not, _&&_, _||_}
 use mathlib.Core.List.{List, [], _∷_, _++_}
-use Prim.Native.Nat.{ℕ, suc, _+_, _*_, _-_, _<_, _≤_}
+use Prim.Native.Nat.{ℕ, suc, _+_, _-_, _<_, _≤_}
 use native.Mathlib.Numerals.{add-one}
 use native.Mathlib.Omega.{arith}
 use lib.ListN.{length, getD, take, drop, length-take, drop-of-length-le}
@@ -12,7 +12,7 @@ use borrow.Author.Tests.{eqb-true, eq-eqb, ne-eqb}
 use Rattle.records.specs.declared.State.{State}
 use Rattle.records.specs.Lists.{table, sameWord}
 use Rattle.records.specs.Store.{Term, kind, term, isConstant, text}
-use Rattle.records.specs.View.{span, readIn, termed}
+use Rattle.records.specs.View.{span, readIn, termed, termAt}
 use Rattle.records.specs.Make.{strk}
 use Rattle.records.proofs.Lists.{and-stop, and-next, both-left, both-right, both-true, failed, table-at, table-length, table-add, word-differs}
 use Rattle.records.proofs.Views.{text-span}
@@ -75,13 +75,13 @@ module _ (h : List ℕ) (p n q m : ℕ) where
 
 -- a text in the lent words
 pub text-words : (w h : List ℕ) (c : State) (a k : ℕ) → kind (termed w c) a ≡ suc k → term (termed w c) a .first + term (termed w c) a .second ≤ c .chars
-    → text (readIn w h c) a ≡ span h (getD w (8 * a + 1) 0) (getD w (8 * a + 2) 0)
+    → text (readIn w h c) a ≡ span h (termAt w a .first) (termAt w a .second)
 text-words w h c a k e q =
     text-span h (c .chars) (term (termed w c) a) q
     ∙ ap (λ (t : Term). span h (t .first) (t .second)) (term-there w c a k e)
 
 text-room : (w h : List ℕ) (c : State) (a k : ℕ) → Spelled w h c → kind (termed w c) a ≡ suc k → term (termed w c) a .first + term (termed w c) a .second ≤ c .chars
-    → getD w (8 * a + 1) 0 + getD w (8 * a + 2) 0 ≤ length h
+    → termAt w a .first + termAt w a .second ≤ length h
 text-room w h c a k x e q =
     let t = term-there w c a k e in
     let f = ap (λ (t : Term). t .first) t in
@@ -95,19 +95,19 @@ module _ (w h : List ℕ) (c : State) (a b : ℕ) (x : Spelled w h c) (y : (isCo
   other-kind : kind (termed w c) b ≡ 1
   other-kind = eqb-true _ 1 (both-right (isConstant (termed w c) a) _ y)
 
-  one-text : text (readIn w h c) a ≡ span h (getD w (8 * a + 1) 0) (getD w (8 * a + 2) 0)
+  one-text : text (readIn w h c) a ≡ span h (termAt w a .first) (termAt w a .second)
   one-text = text-words w h c a 0 one-kind (x .texts .constants a one-kind)
 
-  other-text : text (readIn w h c) b ≡ span h (getD w (8 * b + 1) 0) (getD w (8 * b + 2) 0)
+  other-text : text (readIn w h c) b ≡ span h (termAt w b .first) (termAt w b .second)
   other-text = text-words w h c b 0 other-kind (x .texts .constants b other-kind)
 
-  pub one-room : getD w (8 * a + 1) 0 + getD w (8 * a + 2) 0 ≤ length h
+  pub one-room : termAt w a .first + termAt w a .second ≤ length h
   one-room = text-room w h c a 0 x one-kind (x .texts .constants a one-kind)
 
-  pub other-room : getD w (8 * b + 1) 0 + getD w (8 * b + 2) 0 ≤ length h
+  pub other-room : termAt w b .first + termAt w b .second ≤ length h
   other-room = text-room w h c b 0 x other-kind (x .texts .constants b other-kind)
 
-  pub differ-is : (p n q m : ℕ) (r : Bool) → p ≡ getD w (8 * a + 1) 0 → n ≡ getD w (8 * a + 2) 0 → q ≡ getD w (8 * b + 1) 0 → m ≡ getD w (8 * b + 2) 0
+  pub differ-is : (p n q m : ℕ) (r : Bool) → p ≡ termAt w a .first → n ≡ termAt w a .second → q ≡ termAt w b .first → m ≡ termAt w b .second
       → r ≡ differ (span h p n) (span h q m) → r ≡ (isConstant (readIn w h c) a && isConstant (readIn w h c) b && differ (text (readIn w h c) a) (text (readIn w h c) b))
   differ-is p n q m r e f g i d = and-next _ _ r y (d ∙ (rw (e, f, g, i, one-text, other-text)))
 
@@ -123,13 +123,13 @@ module _ (w h : List ℕ) (c : State) (v k : ℕ) (x : Spelled w h c) (e : k ≡
   plain-kind n = and-stop _ _ (ne-eqb _ 2 (λ z. n (e ∙ z)))
 
   module _ (o : k ≡ 2) where
-    name-text : text (readIn w h c) v ≡ span h (getD w (8 * v + 1) 0) (getD w (8 * v + 2) 0)
+    name-text : text (readIn w h c) v ≡ span h (termAt w v .first) (termAt w v .second)
     name-text = text-words w h c v 1 (sym e ∙ o) (x .texts .variables v (sym e ∙ o))
 
-    name-long : length (text (readIn w h c) v) ≡ getD w (8 * v + 2) 0
-    name-long = ap length name-text ∙ table-length (λ i. getD h (getD w (8 * v + 1) 0 + i) 0) (getD w (8 * v + 2) 0)
+    name-long : length (text (readIn w h c) v) ≡ termAt w v .second
+    name-long = ap length name-text ∙ table-length (λ i. getD h (termAt w v .first + i) 0) (termAt w v .second)
 
-    pub plain-short : (n : ℕ) → n ≡ getD w (8 * v + 2) 0 → n < 5 → true ≡ isPlain (readIn w h c) v
+    pub plain-short : (n : ℕ) → n ≡ termAt w v .second → n < 5 → true ≡ isPlain (readIn w h c) v
     unfolding isPlain
     plain-short n f l =
         sym (both-true _ _ (eq-eqb _ 2 (sym e ∙ o)) (ap not (word-differs _ _ (λ z.
@@ -137,16 +137,16 @@ module _ (w h : List ℕ) (c : State) (v k : ℕ) (x : Spelled w h c) (e : k ≡
         let j = name-long in
         let g : length (take 5 (text (readIn w h c) v)) < 5 = simp length-take (omega arith) in omega arith))))
 
-    pub plain-is : (n p : ℕ) (b r : Bool) → n ≡ getD w (8 * v + 2) 0 → 5 ≤ n → p ≡ getD w (8 * v + 1) 0 → b ≡ sameWord (span h p 5) strk → r ≡ not b → r ≡ isPlain (readIn w h c) v
+    pub plain-is : (n p : ℕ) (b r : Bool) → n ≡ termAt w v .second → 5 ≤ n → p ≡ termAt w v .first → b ≡ sameWord (span h p 5) strk → r ≡ not b → r ≡ isPlain (readIn w h c) v
     unfolding isPlain
     plain-is n p b r f l g d i =
         and-next _ _ r (eq-eqb _ 2 (sym e ∙ o)) (i ∙ ap not (d ∙ ap (λ (z : List ℕ). sameWord z strk) (rw g (sym (ap (take 5) name-text ∙ begins)))))
       where
-        begins : take 5 (span h (getD w (8 * v + 1) 0) (getD w (8 * v + 2) 0)) ≡ span h (getD w (8 * v + 1) 0) 5
+        begins : take 5 (span h (termAt w v .first) (termAt w v .second)) ≡ span h (termAt w v .first) 5
         begins =
-            let at : ℕ → ℕ = λ i. getD h (getD w (8 * v + 1) 0 + i) 0 in
-            let y : getD w (8 * v + 2) 0 ≡ 5 + (getD w (8 * v + 2) 0 - 5) = omega arith in
+            let at : ℕ → ℕ = λ i. getD h (termAt w v .first + i) 0 in
+            let y : termAt w v .second ≡ 5 + (termAt w v .second - 5) = omega arith in
             ap (λ (z : ℕ). take 5 (table at z)) y
-            ∙ ap (take 5) (table-add at 5 (getD w (8 * v + 2) 0 - 5))
-            ∙ ap (λ (z : ℕ). take z (table at 5 ++ table (λ i. at (5 + i)) (getD w (8 * v + 2) 0 - 5))) (sym (table-length at 5))
-            ∙ take-append-seam (table at 5) (table (λ i. at (5 + i)) (getD w (8 * v + 2) 0 - 5))
+            ∙ ap (take 5) (table-add at 5 (termAt w v .second - 5))
+            ∙ ap (λ (z : ℕ). take z (table at 5 ++ table (λ i. at (5 + i)) (termAt w v .second - 5))) (sym (table-length at 5))
+            ∙ take-append-seam (table at 5) (table (λ i. at (5 + i)) (termAt w v .second - 5))

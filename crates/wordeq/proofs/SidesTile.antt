@@ -2,7 +2,7 @@
 use mathlib.Core.Path.{_≡_, refl, sym, ap, _∙_}
 use mathlib.Core.Bool.{Bool, true, false, not, false≢true}
 use mathlib.Core.List.{List, [], _∷_, _++_}
-use Prim.Native.Nat.{ℕ, zero, suc, _+_, _*_, _-_, _<_, _≤_}
+use Prim.Native.Nat.{ℕ, zero, suc, _+_, _-_, _<_, _≤_}
 use native.Mathlib.Numerals.{add-one}
 use native.Mathlib.Omega.{arith}
 use lib.ListN.{length, getD, take, drop, length-append, length-drop, drop-of-length-le}
@@ -12,7 +12,7 @@ use borrow.Author.Tests.{eqb-true, eq-eqb, ne-eqb, not-true, not-false, leb-true
 use Rattle.records.specs.declared.State.{State}
 use Rattle.records.specs.Lists.{if_then_else_, joined, sameWord}
 use Rattle.records.specs.Store.{Store, kind, isConstant, text}
-use Rattle.records.specs.View.{charLimit, readIn, termed}
+use Rattle.records.specs.View.{charLimit, readIn, termed, termAt}
 use Rattle.records.proofs.Lists.{decide, left-false, clash}
 use Rattle.wordeq.specs.declared.sides.Cursor.{Cursor}
 use Rattle.wordeq.specs.Wordeq.{lettersOf, letters, filled}
@@ -71,7 +71,7 @@ module _ (w : List ℕ) (c : State) (a k : ℕ) (e : k ≡ kind (termed w c) a) 
     yes : isConstant (termed w c) a ≡ true
     yes = eq-eqb (kind (termed w c) a) 1 (sym e ∙ n)
 
-    pub count-constant : (m v r : ℕ) → Texts w c → v ≡ getD w (8 * a + 2) 0 → r ≡ v → r ≡ fillCount (termed w c) a m
+    pub count-constant : (m v r : ℕ) → Texts w c → v ≡ termAt w a .second → r ≡ v → r ≡ fillCount (termed w c) a m
     count-constant m v r x f g = rw yes (count-some w c a k v r x e n f g)
 
     pub start-constant : (i : ℕ) (v : Cursor) → record { atom = i; place = 0 } ≡ fillStart (termed w c) a i v

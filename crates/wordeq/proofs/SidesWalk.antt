@@ -2,7 +2,7 @@
 use mathlib.Core.Path.{_≡_, refl, sym, ap, _∙_}
 use mathlib.Core.Bool.{Bool, false}
 use mathlib.Core.List.{List, [], _∷_, _++_}
-use Prim.Native.Nat.{ℕ, suc, _+_, _*_, _-_, _<_, _≤_}
+use Prim.Native.Nat.{ℕ, suc, _+_, _-_, _<_, _≤_}
 use native.Mathlib.Numerals.{add-one}
 use native.Mathlib.Omega.{arith}
 use lib.ListN.{length, getD, drop, length-append, drop-of-length-le, List·getD-append}
@@ -72,7 +72,7 @@ place-limit w h c l k x t q =
     let g = x .texts .limited in omega arith
 
 pub letter-is : (w h : List ℕ) (c : State) (l : List ℕ) (k : Cursor) (f p r : ℕ) → Spelled w h c → There w c l k → k .atom < length l
-    → f ≡ getD w (8 * getD l (k .atom) 0 + 1) 0 → p ≡ f → r ≡ getD h (p + k .place) 0
+    → f ≡ termAt w (getD l (k .atom) 0) .first → p ≡ f → r ≡ getD h (p + k .place) 0
     → rest (readIn w h c) l (k .atom) (k .place) ≡ r ∷ rest (readIn w h c) l (k .atom) (k .place + 1)
 letter-is w h c l k f p r x t q e g d =
     decide (isConstant s a) (λ z. constant (eqb-true _ 1 z)) (λ z. absurd (other z))

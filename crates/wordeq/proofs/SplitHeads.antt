@@ -4,7 +4,7 @@ use mathlib.Core.Bool.{Bool, true, false, _&&_, _||_}
 use mathlib.Core.List.{List, [], _∷_, _++_}
 use mathlib.Core.Logic.{⊎-elim}
 use mathlib.Core.Option.{Option, none, some}
-use Prim.Native.Nat.{ℕ, zero, suc, _+_, _*_, _≤_, _<_}
+use Prim.Native.Nat.{ℕ, zero, suc, _+_, _≤_, _<_}
 use native.Mathlib.Nat.{eq-or-lt-of-le}
 use native.Mathlib.Omega.{arith}
 use lib.ListN.{length, take, drop, getD}
@@ -20,7 +20,7 @@ use Rattle.records.specs.declared.Added.{Added}
 use Rattle.records.specs.declared.Added.the-variants as adding
 use Rattle.records.specs.Lists.{if_then_else_, all, any}
 use Rattle.records.specs.Store.{Store, Out, ok, stop, andThen, _>>=_, _>>_, refuse, put, kind, isConstant, isString, text}
-use Rattle.records.specs.View.{Lent, storeOf, pairsView, readIn, termed}
+use Rattle.records.specs.View.{Lent, storeOf, pairsView, readIn, termed, termAt}
 use Rattle.records.specs.Rules.{isChar, isList, listLimit}
 use Rattle.records.specs.Make.{withKeys, ordered, samePair, addKey, isKey}
 use Rattle.records.specs.Audited.{Ready}
@@ -83,14 +83,14 @@ pub texts-of : {m : Lent} {c : State} → Ready m c → Texts (m .terms) c
 texts-of ready = readIn-of ready .texts
 
 module _ (w h : List ℕ) (c : State) (a : ℕ) (x : Texts w c) where
-  text-size : kind (termed w c) a ≡ 1 → length (text (readIn w h c) a) ≡ getD w (8 * a + 2) 0
-  text-size o = ap length (text-words w h c a 0 o (x .constants a o)) ∙ table-length (λ i. getD h (getD w (8 * a + 1) 0 + i) 0) (getD w (8 * a + 2) 0)
+  text-size : kind (termed w c) a ≡ 1 → length (text (readIn w h c) a) ≡ termAt w a .second
+  text-size o = ap length (text-words w h c a 0 o (x .constants a o)) ∙ table-length (λ i. getD h (termAt w a .first + i) 0) (termAt w a .second)
 
 pub full-none : (w : List ℕ) (c : State) (a k : ℕ) → k ≡ kind (termed w c) a → (k ≡ 1 → ⊥) → false ≡ isFull (termed w c) a
 unfolding isFull
 full-none w c a k e n = and-stop _ _ (ne-eqb _ 1 (λ z. n (e ∙ z)))
 
-pub full-some : (w : List ℕ) (c : State) (a k n : ℕ) (r : Bool) → Texts w c → k ≡ kind (termed w c) a → k ≡ 1 → n ≡ getD w (8 * a + 2) 0 → r ≡ ltb 0 n → r ≡ isFull (termed w c) a
+pub full-some : (w : List ℕ) (c : State) (a k n : ℕ) (r : Bool) → Texts w c → k ≡ kind (termed w c) a → k ≡ 1 → n ≡ termAt w a .second → r ≡ ltb 0 n → r ≡ isFull (termed w c) a
 unfolding isFull
 full-some w c a k n r x e o f g = and-next _ _ r (eq-eqb _ 1 (sym e ∙ o)) (g ∙ ap (ltb 0) (f ∙ sym (text-size w [] c a x (sym e ∙ o))))
 
@@ -105,7 +105,7 @@ full-whole m c a x =
 pub full-at : {m : Lent} {c : State} (a : ℕ) {r x : Bool} → Ready m c → r ≡ isFull (termed (m .terms) c) a → r ≡ x → isFull (storeOf m c) a ≡ x
 full-at {m} {c} a ready e f = sym (full-whole m c a (texts-of ready)) ∙ sym e ∙ f
 
-pub letter-first : (w h : List ℕ) (c : State) (a f p r : ℕ) → Spelled w h c → isFull (termed w c) a ≡ true → f ≡ getD w (8 * a + 1) 0 → p ≡ f → r ≡ getD h p 0
+pub letter-first : (w h : List ℕ) (c : State) (a f p r : ℕ) → Spelled w h c → isFull (termed w c) a ≡ true → f ≡ termAt w a .first → p ≡ f → r ≡ getD h p 0
     → text (readIn w h c) a ≡ r ∷ drop 1 (text (readIn w h c) a)
 unfolding isFull
 letter-first w h c a f p r x y e g d = drop-cons (text (readIn w h c) a) 0 0 long ∙ ap (λ (z : ℕ). z ∷ drop 1 (text (readIn w h c) a)) head
@@ -113,7 +113,7 @@ letter-first w h c a f p r x y e g d = drop-cons (text (readIn w h c) a) 0 0 lon
     here : kind (termed w c) a ≡ 1
     here = eqb-true _ 1 (both-left _ _ y)
 
-    size : 0 < getD w (8 * a + 2) 0
+    size : 0 < termAt w a .second
     size =
         let i = ltb-true 0 (length (text (termed w c) a)) (both-right (isConstant (termed w c) a) _ y) in
         let j = text-size w [] c a (x .texts) here in omega arith
@@ -121,13 +121,13 @@ letter-first w h c a f p r x y e g d = drop-cons (text (readIn w h c) a) 0 0 lon
     long : 0 < length (text (readIn w h c) a)
     long = let i = size in let j = text-size w h c a (x .texts) here in omega arith
 
-    place : getD w (8 * a + 1) 0 + 0 ≡ p
+    place : termAt w a .first + 0 ≡ p
     place = omega arith
 
     head : getD (text (readIn w h c) a) 0 0 ≡ r
     head =
         ap (λ (z : List ℕ). getD z 0 0) (text-words w h c a 0 here (x .texts .constants a here))
-        ∙ table-at (λ i. getD h (getD w (8 * a + 1) 0 + i) 0) (getD w (8 * a + 2) 0) 0 0 size
+        ∙ table-at (λ i. getD h (termAt w a .first + i) 0) (termAt w a .second) 0 0 size
         ∙ ap (λ (z : ℕ). getD h z 0) place
         ∙ sym d
 

@@ -6,7 +6,7 @@ use lib.ListN.{length}
 use Rattle.records.specs.Lists.{allBelow}
 use Rattle.records.specs.View.{lent, storeOf, termAt}
 use Rattle.records.specs.Rules.{termRule}
-use Rattle.records.specs.Marks.{Tables}
+use Rattle.records.specs.Hashes.{Tables}
 use Rattle.records.proofs.Lists.{within-is, below-zero, each-stop, each-turn, each-done}
 use Rattle.records.proofs.NameLaws.{tables-start}
 use mathlib.Core.List.{[]}
@@ -16,10 +16,10 @@ use Rattle.records.proofs.rules.terms_pass.Statement.{statement}
 use Rattle.records.proofs.rules.terms_pass.Tie as tie
 
 abbrev Inv-loop : tie.InvT-loop
-Inv-loop terms cells chars c marks₀ links₀ heads₀ i₀ marks links heads i = (i ≤ c .terms) × (length marks ≡ length marks₀) × (length links ≡ length links₀) × (allBelow (λ j. termRule (storeOf (lent terms cells chars [] []) c) (suc j)) i ≡ true) × Tables (storeOf (lent terms [] chars [] []) c) marks links heads (i + 1)
+Inv-loop terms cells chars c hashes₀ links₀ heads₀ i₀ hashes links heads i = (i ≤ c .terms) × (length hashes ≡ length hashes₀) × (length links ≡ length links₀) × (allBelow (λ j. termRule (storeOf (lent terms cells chars [] []) c) (suc j)) i ≡ true) × Tables (storeOf (lent terms [] chars [] []) c) hashes links heads (i + 1)
 
 abbrev μ-loop : tie.MeasureT-loop
-μ-loop terms cells chars c marks₀ links₀ heads₀ i₀ marks links heads i = c .terms - i
+μ-loop terms cells chars c hashes₀ links₀ heads₀ i₀ hashes links heads i = c .terms - i
 
 pub terms-pass-spec : {M : Type 1} → statement M
 terms-pass-spec =

@@ -1,16 +1,16 @@
 use mathlib.Core.List.{[]}
 use Rattle.records.specs.View.{lent, storeOf}
-use Rattle.records.proofs.NameLaws.{Walk, walk-start, walk-marked, tables-room, walk-less, walk-turn, name-empty, name-taken, name-free}
+use Rattle.records.proofs.NameLaws.{Walk, walk-start, walk-hashed, tables-room, walk-less, walk-turn, name-empty, name-taken, name-free}
 use native.Mathlib.Omega.{arith}
 use borrow.Author.Needs.{needs}
 use Rattle.records.proofs.unique.name_ok.Statement.{statement}
 use Rattle.records.proofs.unique.name_ok.Tie as tie
 
 abbrev Inv-loop : tie.InvT-loop
-Inv-loop terms chars c marks links heads m t n u₀ u = Walk (storeOf (lent terms [] chars [] []) c) m t u
+Inv-loop terms chars c hashes links heads m t n u₀ u = Walk (storeOf (lent terms [] chars [] []) c) m t u
 
 abbrev μ-loop : tie.MeasureT-loop
-μ-loop terms chars c marks links heads m t n u₀ u = u
+μ-loop terms chars c hashes links heads m t n u₀ u = u
 
 pub name-ok-spec : {M : Type 1} → statement M
 name-ok-spec =
@@ -36,7 +36,7 @@ name-ok-spec =
       r .0,
       (let i = tables-room (a .terms .now) (a .chars .now) (a .c) _ _ _ (a .t) (r .2) (r .1 .variable) in omega (arith, o .inv .lower)),
       r .1,
-      walk-marked (a .terms .now) (a .chars .now) (a .c) (a .m) (a .t) (r .1) _ _ _ (r .2) (o .u) (o .inv) (c .loop-test .taken),
+      walk-hashed (a .terms .now) (a .chars .now) (a .c) (a .m) (a .t) (r .1) _ _ _ (r .2) (o .u) (o .inv) (c .loop-test .taken),
     ))
     (λ c.
     let at-loop = c .before .before .before in

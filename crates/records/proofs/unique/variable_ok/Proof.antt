@@ -23,13 +23,13 @@ variable-ok-spec =
     let a = at-start .args in
     (at-start .pre .0, at-start .pre .1, passed _ _ (c .before .text-ok .ensures ∙ text-anywhere (a .terms .now) [] [] [] (a .chars .now) (a .c) (a .t)) (c .if1 .left)))
     (λ c κs.
-    let at-name-mark = c .before .before .before in
-    let at-if1 = at-name-mark .before in
+    let at-name-hash = c .before .before .before in
+    let at-if1 = at-name-hash .before in
     let at-text-ok = at-if1 .before in
     let at-start = at-text-ok .before .before .before .before .before in
     let a = at-start .args in (
       at-start .pre .0,
-      record { variable = at-start .pre .1; fits = passed _ _ (at-text-ok .text-ok .ensures ∙ text-anywhere (a .terms .now) [] [] [] (a .chars .now) (a .c) (a .t)) (at-if1 .if1 .left); marked = at-name-mark .name-mark .ensures },
+      record { variable = at-start .pre .1; fits = passed _ _ (at-text-ok .text-ok .ensures ∙ text-anywhere (a .terms .now) [] [] [] (a .chars .now) (a .c) (a .t)) (at-if1 .if1 .left); hashed = at-name-hash .name-hash .ensures },
       at-start .pre .2,
     ))
     (λ c. search needs)
@@ -58,10 +58,10 @@ variable-ok-spec =
     (λ c. search needs)
     (λ c. search needs)
     (λ c.
-    let at-name-mark = c .before .before .before .before .before .before in
-    let at-if1 = at-name-mark .before in
+    let at-name-hash = c .before .before .before .before .before .before in
+    let at-if1 = at-name-hash .before in
     let at-text-ok = at-if1 .before in
     let at-start = at-text-ok .before .before .before .before .before in
     let a = at-start .args in
     let f = passed _ _ (at-text-ok .text-ok .ensures ∙ text-anywhere (a .terms .now) [] [] [] (a .chars .now) (a .c) (a .t)) (at-if1 .if1 .left) in
-    record { passes = and-next _ _ _ f (sym (passed _ _ (c .before .before .name-ok .ensures) (c .before .if2 .left))); tables = λ z. tables-keep (a .terms .now) (a .chars .now) (a .c) _ _ _ (a .t) (at-start .pre .2) (at-name-mark .name-mark .result) (record { variable = at-start .pre .1; fits = f; marked = at-name-mark .name-mark .ensures }) }))
+    record { passes = and-next _ _ _ f (sym (passed _ _ (c .before .before .name-ok .ensures) (c .before .if2 .left))); tables = λ z. tables-keep (a .terms .now) (a .chars .now) (a .c) _ _ _ (a .t) (at-start .pre .2) (at-name-hash .name-hash .result) (record { variable = at-start .pre .1; fits = f; hashed = at-name-hash .name-hash .ensures }) }))

@@ -1,22 +1,22 @@
 use Prim.Native.Nat.{_+_}
-use Rattle.records.proofs.NameLaws.{mark-none, mark-turn, mark-done}
-use Rattle.records.specs.Marks.{markFrom}
+use Rattle.records.proofs.NameLaws.{hash-none, hash-turn, hash-done}
+use Rattle.records.specs.Hashes.{hashFrom}
 use Rattle.records.specs.View.{span}
 use Prim.Native.Nat.{_-_, _≤_, _<_}
 use mathlib.Core.Path.{_≡_}
 use native.Mathlib.Omega.{arith}
 use borrow.Author.Needs.{needs}
-use Rattle.records.proofs.unique.text_mark.Statement.{statement}
-use Rattle.records.proofs.unique.text_mark.Tie as tie
+use Rattle.records.proofs.unique.text_hash.Statement.{statement}
+use Rattle.records.proofs.unique.text_hash.Tie as tie
 
 abbrev Inv-loop : tie.InvT-loop
-Inv-loop chars p n h₀ i₀ h i = (i ≤ n) × (h < 4294967291) × (h ≡ markFrom 1 (span chars p i))
+Inv-loop chars p n h₀ i₀ h i = (i ≤ n) × (h < 4294967291) × (h ≡ hashFrom 1 (span chars p i))
 
 abbrev μ-loop : tie.MeasureT-loop
 μ-loop chars p n h₀ i₀ h i = n - i
 
 loop-holds : tie.Need-loop-holds Inv-loop μ-loop
-loop-holds c = let a = c .before .args in (omega arith, omega arith, mark-none (a .chars .now) (a .p))
+loop-holds c = let a = c .before .args in (omega arith, omega arith, hash-none (a .chars .now) (a .p))
 
 mul-h : tie.Need-mul-h Inv-loop μ-loop
 mul-h c = search needs
@@ -52,7 +52,7 @@ loop-again : tie.Need-loop-again Inv-loop μ-loop
 loop-again c =
     let at-loop = c .before .before .before in
     let at-start = at-loop .before .before in
-    let a = at-start .args in let o = at-loop .loop in (omega arith, omega arith, mark-turn (a .chars .now) (a .p) (o .i) (o .h) (c .wide .result) (o .inv .2) (c .wide .ensures))
+    let a = at-start .args in let o = at-loop .loop in (omega arith, omega arith, hash-turn (a .chars .now) (a .p) (o .i) (o .h) (c .wide .result) (o .inv .2) (c .wide .ensures))
 
 cast-result : tie.Need-cast-result Inv-loop μ-loop
 cast-result c = search needs
@@ -60,10 +60,10 @@ cast-result c = search needs
 returns : tie.Need-returns Inv-loop μ-loop
 returns c =
     let at-start = c .before .before .before in
-    let a = at-start .args in let o = c .before .loop in mark-done (a .chars .now) (a .p) (a .n) (o .i) (o .h) (o .inv .2) (o .inv .0) (c .loop-test .left)
+    let a = at-start .args in let o = c .before .loop in hash-done (a .chars .now) (a .p) (a .n) (o .i) (o .h) (o .inv .2) (o .inv .0) (c .loop-test .left)
 
-pub text-mark-spec : {M : Type 1} → statement M
-text-mark-spec =
+pub text-hash-spec : {M : Type 1} → statement M
+text-hash-spec =
     tie.close
     (tie.spec
     Inv-loop

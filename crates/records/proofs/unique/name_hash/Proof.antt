@@ -1,11 +1,11 @@
 use mathlib.Core.Path.{_∙_}
-use Rattle.records.proofs.NameLaws.{name-ends, mark-is}
+use Rattle.records.proofs.NameLaws.{name-ends, hash-is}
 use borrow.Author.Needs.{needs}
-use Rattle.records.proofs.unique.name_mark.Statement.{statement}
-use Rattle.records.proofs.unique.name_mark.Tie as tie
+use Rattle.records.proofs.unique.name_hash.Statement.{statement}
+use Rattle.records.proofs.unique.name_hash.Tie as tie
 
-pub name-mark-spec : {M : Type 1} → statement M
-name-mark-spec =
+pub name-hash-spec : {M : Type 1} → statement M
+name-hash-spec =
     tie.close
     (tie.spec
     (λ c κs. search needs)
@@ -25,5 +25,5 @@ name-mark-spec =
     let at-start = at-first .before .before .before in
     let a = at-start .args in
     let r = at-start .pre in
-    mark-is (a .terms .now) (a .chars .now) (a .c) (a .t) (r .1) (r .2) _ _ (at-wide .wide .ensures ∙ at-first .first .ensures)
-    (c .before .wide2 .ensures ∙ c .before .before .second .ensures) _ (c .text-mark .ensures)))
+    hash-is (a .terms .now) (a .chars .now) (a .c) (a .t) (r .1) (r .2) _ _ (at-wide .wide .ensures ∙ at-first .first .ensures)
+    (c .before .wide2 .ensures ∙ c .before .before .second .ensures) _ (c .text-hash .ensures)))
