@@ -3,7 +3,6 @@ pub mod Paths
 pub mod Fits
 pub mod Cites
 pub mod Run
-pub mod Added
 pub mod Walk
 pub mod Equal
 pub mod Sound

@@ -11,6 +11,7 @@ use Rattle.records.specs.Lists.{any, Every, none-left, and}
 use Rattle.records.specs.Store.{Store, Out, ok, stop, Work, andThen, _>>=_, give, term, isTerm, chain, path, isEdge}
 use Rattle.records.specs.Rules.{reasonRule}
 use Rattle.records.specs.Make.{addReason, withReasons, ordered, samePair}
+use Rattle.records.specs.Meaning.{IsUnder}
 use Rattle.records.specs.Audited.{Audited, Label, asserted, interface, congruence, definitional}
 use Rattle.records.proofs.Lists.{every-map, every-append, either, both-left, both-right, clash, every-both}
 use Rattle.engine.specs.Explain.{Seen, wasSeen, each, edge, walk}
@@ -35,12 +36,12 @@ joined-more m p (inr k) = inr (m .pairs _ k)
 module _ (s : Store) where
   -- how an edge is accounted for: by its reason, by its pairs, or it is definitional
   pub data Accounted (l : List (ℕ × ℕ)) (seen : Seen) (e : ℕ) : Type 0 where
-    by-reason : List·Memᴰ (term s e .labelKind, term s e .labelValue) l → Accounted l seen e
+    by-reason : IsUnder l (term s e) → Accounted l seen e
     by-pairs : term s e .labelKind ≡ 3 → Every (Joined seen) (chain s (term s e .labelValue)) → Accounted l seen e
     by-definition : term s e .labelKind ≡ 4 → Accounted l seen e
 
   accounted-more : {l l′ : List (ℕ × ℕ)} {seen seen′ : Seen} → More l seen l′ seen′ → (e : ℕ) → Accounted l seen e → Accounted l′ seen′ e
-  accounted-more m e (by-reason k) = by-reason (m .reasons _ k)
+  accounted-more m e (by-reason k) = by-reason (record { labelled = k .labelled; listed = m .reasons _ (k .listed) })
   accounted-more m e (by-pairs k j) = by-pairs k (every-map (joined-more m) j)
   accounted-more m e (by-definition k) = by-definition k
 
@@ -125,7 +126,7 @@ module _ (s : Store) (d : Audited s) where
   reason-run : (h t : ℕ) (seen : Seen) → isEdge s t ≡ true → reasonRule (term s t .labelKind, term s t .labelValue) ≡ true
       → ((rs : List (ℕ × ℕ)) → edge (walk h) t seen (withReasons s rs) ≡ andThen (λ (u : Unit {0}). give seen) (addReason (term s t .labelKind) (term s t .labelValue) (withReasons s rs)))
       → Run s (edge (walk h) t seen) seen (λ l v. Accounted s l v t)
-  unfolding cites
+  unfolding cites reasonRule
   reason-run h t seen e g q = record {
     cited = (term s t .labelKind, term s t .labelValue) ∷ [];
     after = seen;
@@ -133,7 +134,7 @@ module _ (s : Store) (d : Audited s) where
     causes = and (record { at = t; edge = e; is = refl; good = g }) none-left;
     grows = λ q m. m;
     fresh = λ q m. inl m;
-    ends = by-reason (List·Memᴰ·head refl);
+    ends = by-reason (record { labelled = both-left _ _ g; listed = List·Memᴰ·head refl });
   }
 
   pub edge-run : (h : ℕ) → Walks h → (t : ℕ) → isTerm s t ≡ true → isEdge s t ≡ true → term s t .stamp ≤ h → (seen : Seen)

@@ -25,7 +25,7 @@ use Rattle.engine.specs.Meaning.{Explains, Labels}
 use Rattle.engine.proofs.Paths.{Together}
 use Rattle.engine.proofs.Fits.{height-fit}
 use Rattle.engine.proofs.Cites.{cites, cites-ok, cites-full}
-use Rattle.engine.proofs.Added.{Added}
+use Rattle.records.proofs.Later.{Added}
 use Rattle.engine.proofs.Run.{walk-run}
 use Rattle.engine.proofs.Equal.{words-equal}
 

@@ -1,64 +1,32 @@
 -- Demand 3 of the step over one equation, from the deep forms of its two sides and wordeq over them.
-use mathlib.Core.Path.{_≡_, sym, ap, subst, _∙_}
-use mathlib.Core.Bool.{Bool, true, not, _&&_, _||_}
-use mathlib.Core.List.{List, [], _∷_, _++_, List·Memᴰ, List·Memᴰ·not-nil, List·Memᴰ·cases-cons, Memᴰ·cast}
+use mathlib.Core.Path.{_≡_, sym, subst, _∙_}
+use mathlib.Core.Bool.{true, _&&_}
+use mathlib.Core.List.{List, _++_}
 use mathlib.Core.Logic.{⊎-elim}
 use mathlib.Core.Option.{Option, none, some}
-use Prim.Native.Nat.{ℕ, _≤_}
+use Prim.Native.Nat.{ℕ}
 use native.Mathlib.Omega.{arith}
-use native.Mathlib.Decide.{decLe}
 use lib.IntN.{ℤ}
-use lib.Dec.{eqb}
 use borrow.Author.Tests.{eqb-true}
-use Rattle.records.specs.Lists.{all, joined}
-use Rattle.records.specs.Store.{Term, Store, ok, stop, _>>=_, term, count, kind, isString, isLength, isEquation, isEdge, within}
-use Rattle.records.specs.Rules.{reasonRule, isEquatable, isList}
+use Rattle.records.specs.Lists.{joined}
+use Rattle.records.specs.Store.{Store, ok, stop, _>>=_, term, kind, isString, isLength, isEquation, within}
+use Rattle.records.specs.Rules.{isEquatable, isList}
 use Rattle.records.specs.Make.{withReasons}
-use Rattle.records.specs.Meaning.{Words, Reading, Joins, Holds}
+use Rattle.records.specs.Meaning.{Words, Reading, Holds}
 use Rattle.records.specs.Audited.{Audited}
-use Rattle.records.proofs.Lists.{both-left, both-right, either, all-append, within-high}
-use Rattle.records.proofs.Grown.{term-past, string-here, Grown, grown-then, grown-string}
+use Rattle.records.proofs.Lists.{both-left, both-right, either, within-high}
+use Rattle.records.proofs.Grown.{string-here, grown-then, grown-string, holds-before, holds-left, holds-right, Strings, strings-later}
 use Rattle.normalize.specs.Normalize.{deepForm}
-use Rattle.normalize.proofs.Formed.{known-strings}
-use Rattle.normalize.proofs.Rewritten
-use Rattle.normalize.proofs.Rewritten.{holds-left, holds-right, Strings, strings-later}
+use Rattle.records.proofs.ListLaws.{list-every}
 use Rattle.normalize.proofs.Deep.{DeepFormed, Deepened, deep-ends}
 use Rattle.wordeq.specs.Wordeq.{Answer, done, saturated, conflict, propagate, split, resolve}
 use Rattle.wordeq.specs.Meaning.{Worth}
-use Rattle.normalize.proofs.Ends.{ends-give, ends-wider, ends-then}
+use Rattle.records.proofs.Outcomes.{ends-give, ends-wider, ends-then}
 use Rattle.wordeq.proofs.Ends.{Working, Ends}
-use Rattle.wordeq.proofs.Good.{Later, later-then, more-none, worth-back}
-use Rattle.wordeq.proofs.Resolve.{Resolved, resolve-ends, later-cut}
+use Rattle.wordeq.proofs.Good.{worth-back}
+use Rattle.records.proofs.Later.{Later, later-then, later-cut}
+use Rattle.wordeq.proofs.Resolve.{Resolved, resolve-ends}
 use Rattle.equation.specs.Equation.{Stepped, unexpanded, returned, orUnexpanded, step, stepArguments, StepSound}
-
--- REASONS THAT HELD BEFORE
-
-all-member : (p : ℕ × ℕ → Bool) (l : List (ℕ × ℕ)) (x : ℕ × ℕ) → all p l ≡ true → List·Memᴰ x l → p x ≡ true
-unfolding all
-all-member p [] x e m = absurd (List·Memᴰ·not-nil m)
-all-member p (y ∷ l) x e m = ⊎-elim (λ q. ap p q ∙ both-left (p y) _ e) (λ k. all-member p l x (both-right (p y) _ e) k) (List·Memᴰ·cases-cons m)
-
--- kind 0 is no reason's
-no-reason : (r : ℕ × ℕ) → reasonRule r ≡ true → r .0 ≡ 0 → ⊥
-unfolding reasonRule
-no-reason r e z =
-    ⊎-elim (λ q. let k = eqb-true (r .0) 1 q in omega arith) (λ q. let k = eqb-true (r .0) 2 q in omega arith) (either (eqb (r .0) 1) (eqb (r .0) 2) (both-left (eqb (r .0) 1 || eqb (r .0) 2) _ e))
-
--- what holds of the edges of a store later on held of those before
-held-before : {s s′ : Store} {w : Words} → Grown s s′ → (rs : List (ℕ × ℕ)) → all reasonRule rs ≡ true → Holds s′ rs w → Holds s rs w
-held-before {s} {s′} {w} g rs good h = record { merges = λ t i k. merge t i k (decLe t (count s)); reasons = λ t i m. reason t i m (decLe t (count s)) }
-  where
-    edge : (t : ℕ) → t ≤ count s → isEdge s t ≡ true → isEdge s′ t ≡ true
-    edge t l i = ap (λ (x : Term). not (eqb (x .forestParent) t)) (g .old t l) ∙ i
-
-    merge : (t : ℕ) → isEdge s t ≡ true → term s t .labelKind ≡ 4 → Dec (t ≤ count s) → Joins s w t
-    merge t i k (yes l) = h .merges t (edge t l i) (ap (λ (x : Term). x .labelKind) (g .old t l) ∙ k) ∙ ap (λ (x : Term). w (x .forestParent)) (g .old t l)
-    merge t i k (no l) = let z = ap (λ (x : Term). x .labelKind) (term-past s t (omega arith)) in absurd (omega arith)
-
-    reason : (t : ℕ) → isEdge s t ≡ true → List·Memᴰ (term s t .labelKind, term s t .labelValue) rs → Dec (t ≤ count s) → Joins s w t
-    reason t i m (yes l) =
-        h .reasons t (edge t l i) (Memᴰ·cast (ap (λ (x : Term). (x .labelKind, x .labelValue)) (g .old t l)) m) ∙ ap (λ (x : Term). w (x .forestParent)) (g .old t l)
-    reason t i m (no l) = absurd (no-reason _ (all-member reasonRule rs _ good m) (ap (λ (x : Term). x .labelKind) (term-past s t (omega arith))))
 
 -- THE SIDES
 
@@ -70,25 +38,19 @@ second-string s d e q i =
     (λ k. let n = eqb-true (kind s (term s e .first)) 4 (both-left (isLength s (term s e .first)) _ k) in let h = within-high 3 (kind s (term s e .first)) i in absurd (omega arith))
     (either (isString s (term s e .first) && isString s (term s e .second)) _ (d .recorded .equationSides e (eqb-true _ _ q)))
 
--- a form's later store is one of wordeq's
-later-form : {s s′ : Store} → Rewritten.Later s s′ → Later s s′
-later-form l = record { audited = l .audited; grown = l .grown; reasons = record { more = l .more; is = l .reasons }; keys = more-none (l .keys); room = l .room }
-
 form-ends : (known : List ℕ) (t : ℕ) (s : Store) → Audited s → Strings s known → isString s t ≡ true → Ends (Deepened s t) (deepForm known t s)
 form-ends known t s d h i = ends-wider (omega arith) (deep-ends known t s d h i)
-
--- reasons added at the end are reasons
-added-good : {s s′ : Store} (l : Rewritten.Later s s′) → all reasonRule (l .more) ≡ true
-added-good {s} l = both-right (all reasonRule (s .reasons)) _ (sym (all-append reasonRule (s .reasons) (l .more)) ∙ ap (all reasonRule) (sym (l .reasons)) ∙ l .audited .recorded .reasons)
 
 -- under the reasons of both forms, equal words of the terms are equal words of the lists
 forms-equal : {s s₁ s₂ : Store} {a b : ℕ} {l r : List ℕ} (rs : List (ℕ × ℕ)) → DeepFormed s s₁ a l → DeepFormed s₁ s₂ b r → (w : Words) → Reading s₂ w → Holds s₂ (s₂ .reasons ++ rs) w → w a ≡ w b → joined w l ≡ joined w r
 forms-equal {s} {s₁} {s₂} {a} {b} rs p q w rd h e =
     let h₂ = holds-left (s₂ .reasons) rs h in
-    let h₁ = subst (λ (x : List (ℕ × ℕ)). Holds s₂ x w) (q .later .reasons) h₂ in
-    let k₂ = held-before (q .later .grown) (q .later .more) (added-good (q .later)) (holds-right (s₁ .reasons) (q .later .more) h₁) in
-    let h₀ = subst (λ (x : List (ℕ × ℕ)). Holds s₂ x w) (p .later .reasons) (holds-left (s₁ .reasons) (q .later .more) h₁) in
-    let k₁ = held-before (grown-then (p .later .grown) (q .later .grown)) (p .later .more) (added-good (p .later)) (holds-right (s .reasons) (p .later .more) h₀) in
+    let m₁ : List (ℕ × ℕ) = p .later .reasons .more in
+    let m₂ : List (ℕ × ℕ) = q .later .reasons .more in
+    let h₁ = subst (λ (x : List (ℕ × ℕ)). Holds s₂ x w) (q .later .reasons .is) h₂ in
+    let k₂ = holds-before (q .later .grown) m₂ (holds-right (s₁ .reasons) m₂ h₁) in
+    let h₀ = subst (λ (x : List (ℕ × ℕ)). Holds s₂ x w) (p .later .reasons .is) (holds-left (s₁ .reasons) m₂ h₁) in
+    let k₁ = holds-before (grown-then (p .later .grown) (q .later .grown)) m₁ (holds-right (s .reasons) m₁ h₀) in
     sym (p .word w (q .later .grown .down w rd) k₁) ∙ e ∙ q .word w rd k₂
 
 -- THE STEP
@@ -109,7 +71,7 @@ module _ (known : List ℕ) (e : ℕ) (g : ℤ) (s : Store) (audited : Audited s
   list = both-left (isList s known && isEquation s e && isString s a) _ good
 
   strings : Strings s known
-  strings = known-strings s known (both-left (isList s known) _ (both-left (isList s known && isEquation s e) _ list))
+  strings = list-every s known (both-left (isList s known) _ (both-left (isList s known && isEquation s e) _ list))
 
   left : isString s a ≡ true
   left = both-right (isList s known && isEquation s e) _ list
@@ -129,20 +91,20 @@ module _ (known : List ℕ) (e : ℕ) (g : ℤ) (s : Store) (audited : Audited s
 
   resolved-ends : {s₁ s₂ : Store} {l r : List ℕ} → DeepFormed s s₁ a l → DeepFormed s₁ s₂ b r → (s₃ : Store) (x : Answer) → Resolved l r s₂ s₃ x → Ends (StepGood s e) (returned (s .reasons) x s₃)
   resolved-ends {s₁} {s₂} {l} {r} p q s₃ x y =
-      let k = later-then (later-form (p .later)) (later-form (q .later)) in
+      let k = later-then (p .later) (q .later) in
       returned-ends x s₃ (later-then k (y .later))
-      (worth-back x (λ w. w a) (λ w. w b) (λ w. joined w l) (λ w. joined w r) (k .grown) (y .later .grown) (λ w w₁ f. f a (string-here s a left)) (λ w w₁ f. f b (string-here s b right))
+      (worth-back x (λ w. w a) (λ w. w b) (λ w. joined w l) (λ w. joined w r) (k .grown) (λ t i. p .variables t (q .variables t i)) (y .later .grown) (λ w w₁ f. f a (string-here s a left)) (λ w w₁ f. f b (string-here s b right))
       (λ w rd h i. forms-equal (y .later .reasons .more) p q w rd (subst (λ (z : List (ℕ × ℕ)). Holds s₂ z w) (y .later .reasons .is) h) i) (y .sound))
 
   right-ends : {s₁ : Store} {l : List ℕ} → DeepFormed s s₁ a l → (s₂ : Store) (o : Option (List ℕ)) → Deepened s₁ b s₂ o
       → Ends (StepGood s e) (orUnexpanded (s .reasons) (λ r. resolve l r g >>= returned (s .reasons)) o s₂)
-  right-ends p s₂ none y = ends-give (unexpanded-good s₂ (later-then (later-form (p .later)) (later-form y)))
+  right-ends p s₂ none y = ends-give (unexpanded-good s₂ (later-then (p .later) y))
   right-ends {l = l} p s₂ (some r) y =
       ends-then (returned (s .reasons)) (resolve l r g s₂) (resolve-ends l r g s₂ (y .later .audited) (strings-later (y .later .grown) (p .strings)) (y .strings)) (resolved-ends p y)
 
   left-ends : (s₁ : Store) (o : Option (List ℕ)) → Deepened s a s₁ o
       → Ends (StepGood s e) (orUnexpanded (s .reasons) (λ l. deepForm known b >>= orUnexpanded (s .reasons) (λ r. resolve l r g >>= returned (s .reasons))) o s₁)
-  left-ends s₁ none y = ends-give (unexpanded-good s₁ (later-form y))
+  left-ends s₁ none y = ends-give (unexpanded-good s₁ y)
   left-ends s₁ (some l) y =
       let g = y .later .grown in
       ends-then _ (deepForm known b s₁) (form-ends known b s₁ (y .later .audited) (strings-later g strings) (grown-string g b right)) (right-ends y)

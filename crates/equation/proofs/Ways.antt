@@ -20,17 +20,17 @@ use Rattle.records.proofs.Lists.{both-left, both-right, both-true, left-false, 
 use Rattle.records.proofs.Works.{stop-not}
 use Rattle.records.proofs.Views.{table-is}
 use Rattle.records.proofs.Climbs.{view-term, term-within}
-use Rattle.records.proofs.Grown.{kind-term, grown-string}
+use Rattle.records.proofs.Grown.{kind-term, grown-string, strings-later}
 use Rattle.records.proofs.Public.{passed-ready}
 use Rattle.normalize.specs.declared.DeepForm.{DeepForm}
 use Rattle.normalize.specs.declared.DeepForm.the-variants as deep
 use Rattle.normalize.specs.Normalize.{deepForm, formArguments}
 use Rattle.normalize.specs.Calls.{firstWords, deepened}
 use Rattle.normalize.specs.Pushes.{Candidates}
-use Rattle.normalize.proofs.Rewritten.{Later, strings-later}
+use Rattle.records.proofs.Later.{Later, later-below}
 use Rattle.normalize.proofs.Replacing.{candidates-later}
 use Rattle.normalize.proofs.Deep.{deep-gives, deep-kept}
-use Rattle.normalize.proofs.Carried.{Carried, carried-none, carried-then, carried-ready, carried-kept, later-below}
+use Rattle.normalize.proofs.Carried.{Carried, carried-none, carried-then, carried-ready, carried-kept}
 use Rattle.normalize.proofs.FormCalls.{listed-short, listed-unready, listed-unfit, listed-works}
 use Rattle.wordeq.specs.declared.StepResult.{StepResult}
 use Rattle.wordeq.specs.declared.StepResult.the-variants as wordeq

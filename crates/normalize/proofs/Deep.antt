@@ -16,15 +16,19 @@ use Rattle.records.proofs.Lists.{both-left, both-right, every-append}
 use Rattle.normalize.specs.Normalize.{formArguments, normalForm, pushAll, deepLimit, opens, Round, expand, settle, afterExpand, rounds, deepForm}
 use Rattle.records.specs.Rules.{isList}
 use Rattle.normalize.specs.Meaning.{DeepForms}
-use Rattle.normalize.proofs.Ends.{Refused, Ends, ends-give, ends-if, ends-map, ends-then}
-use Rattle.normalize.proofs.Rewritten.{Later, later-none, later-then, later-added, Strings, strings-later, Rewritten, rewritten-none, rewritten-then, rewritten-after, rewritten-before, rewritten-as}
-use Rattle.normalize.proofs.Formed.{all-ends, Formed, form-ends, known-strings}
+use Rattle.normalize.proofs.Ends.{Ends}
+use Rattle.records.proofs.Outcomes.{Refused, ends-give, ends-if, ends-map, ends-then}
+use Rattle.normalize.proofs.Rewritten.{Rewritten, rewritten-none, rewritten-then, rewritten-after, rewritten-before, rewritten-as}
+use Rattle.records.proofs.Later.{Later, later-none, later-then, more-after}
+use Rattle.records.proofs.Grown.{OldVariables, Strings, strings-later}
+use Rattle.normalize.proofs.Formed.{all-ends, Formed, form-ends}
+use Rattle.records.proofs.ListLaws.{list-every}
 
 -- ONE ROUND
 
 formed-rewritten : {s s′ : Store} {t : ℕ} {l : List ℕ} → Formed s s′ t l → Rewritten s s′ (t ∷ []) l
 unfolding joined
-formed-rewritten {t = t} f = record { later = f .later; strings = f .strings; words = λ w r h. append-nil (w t) ∙ f .word w r h }
+formed-rewritten {t = t} f = record { later = f .later; variables = f .variables; strings = f .strings; words = λ w r h. append-nil (w t) ∙ f .word w r h }
 
 -- what a round that began with the list l leaves: None, or a list of the same word
 abbrev pub Expanded : Store → List ℕ → Store → Option Round → Type 0
@@ -41,7 +45,7 @@ module _ (known : List ℕ) (t : ℕ) where
   expand-ends [] r s audited h k i = ends-give (rewritten-as (sym (append-nil (r .list))) refl (rewritten-none s (r .list) audited i))
   expand-ends (a ∷ l) r s audited h (and j k) i =
       ends-if (opens s t a) _ _
-      (λ b. ends-if (isIn a (r .met)) _ _ (λ c. ends-give (later-none s audited))
+      (λ b. ends-if (isIn a (r .met)) _ _ (λ c. ends-give (later-none audited))
       (λ c. ends-then _ (normalForm known a s) (form-ends known a s audited h j) (λ s₁ form f.
       ends-if (ltb deepLimit (length (r .list ++ form))) _ _ (λ d. ends-give (f .later))
       (λ d. let x = one s₁ form (formed-rewritten f) in
@@ -73,7 +77,7 @@ module _ (known : List ℕ) where
   settle-ends : (before : List ℕ) (more : List ℕ → Work (Option (List ℕ))) → Goes more → (out : List ℕ) (s : Store) → Audited s → Strings s known → Strings s out → Ends (Answers s out) (settle before more out s)
   unfolding settle
   settle-ends before more go out s audited h k =
-      ends-if (ltb deepLimit (length out)) _ _ (λ b. ends-give (later-none s audited))
+      ends-if (ltb deepLimit (length out)) _ _ (λ b. ends-give (later-none audited))
       (λ b. let n : length out ≤ deepLimit = ltb-false _ _ b in
       ends-if (sameWord out before) _ _ (λ c. ends-give (rewritten-none s out audited k, n)) (λ c. go out s audited h k n))
 
@@ -101,9 +105,10 @@ module _ (known : List ℕ) where
 -- term's word
 pub record DeepFormed (s s′ : Store) (t : ℕ) (l : List ℕ) : Type 0 where
   pub later : Later s s′
+  pub variables : OldVariables s s′
   pub strings : Strings s′ l
   pub long : length l ≤ deepLimit
-  pub word : (w : Words) → Reading s′ w → Holds s (later .more) w → w t ≡ joined w l
+  pub word : (w : Words) → Reading s′ w → Holds s (later .reasons .more) w → w t ≡ joined w l
 
 abbrev pub Deepened : Store → ℕ → Store → Option (List ℕ) → Type 0
 Deepened s t s′ none = Later s s′
@@ -112,7 +117,7 @@ Deepened s t s′ (some l) = DeepFormed s s′ t l
 deepened : (s : Store) (t : ℕ) (s′ : Store) (o : Option (List ℕ)) → Answers s (t ∷ []) s′ o → Deepened s t s′ o
 unfolding joined
 deepened s t s′ none x = x
-deepened s t s′ (some l) x = record { later = x .0 .later; strings = x .0 .strings; long = x .1; word = λ w r h. sym (append-nil (w t)) ∙ x .0 .words w r h }
+deepened s t s′ (some l) x = record { later = x .0 .later; variables = x .0 .variables; strings = x .0 .strings; long = x .1; word = λ w r h. sym (append-nil (w t)) ∙ x .0 .words w r h }
 
 pub deep-ends : (known : List ℕ) (t : ℕ) (s : Store) → Audited s → Strings s known → isString s t ≡ true → Ends (Deepened s t) (deepForm known t s)
 unfolding deepForm
@@ -124,7 +129,7 @@ deep-ends known t s audited h i =
 
 module _ (known : List ℕ) (t : ℕ) (s : Store) (audited : Audited s) (good : formArguments known t s ≡ true) where
   ends : Ends (Deepened s t) (deepForm known t s)
-  ends = deep-ends known t s audited (known-strings s known (both-left (isList s known) _ good)) (both-right (isList s known) _ good)
+  ends = deep-ends known t s audited (list-every s known (both-left (isList s known) _ good)) (both-right (isList s known) _ good)
 
   pub deep-gives : (s′ : Store) (l : List ℕ) → deepForm known t s ≡ ok s′ (some l) → DeepFormed s s′ t l
   deep-gives s′ l e = ends .given s′ (some l) e
@@ -139,4 +144,4 @@ module _ (known : List ℕ) (t : ℕ) (s : Store) (audited : Audited s) (good : 
 
   pub deep-sound : (s′ : Store) (o : Option (List ℕ)) → deepForm known t s ≡ ok s′ o → DeepForms s s′ t o
   deep-sound s′ none e = tt
-  deep-sound s′ (some l) e = λ w r h. let f = deep-gives s′ l e in f .word w r (subst (λ (x : List (ℕ × ℕ)). Holds s x w) (later-added (f .later)) h)
+  deep-sound s′ (some l) e = λ w r h. let f = deep-gives s′ l e in f .word w r (subst (λ (x : List (ℕ × ℕ)). Holds s x w) (more-after (f .later .reasons)) h)

@@ -21,7 +21,7 @@ use Rattle.records.specs.Audited.{Ready}
 use Rattle.records.specs.Calls.{Working}
 use Rattle.records.proofs.Lists.{decide, left-false, all-every, every-all, every-at, table-at, within-high}
 use Rattle.records.proofs.Works.{via}
-use Rattle.records.proofs.Grown.{string-term}
+use Rattle.records.proofs.Grown.{string-term, Strings, strings-later}
 use Rattle.records.proofs.Climbs.{view-count}
 use Rattle.normalize.specs.declared.Form.{Form}
 use Rattle.normalize.specs.declared.Form.the-variants as form
@@ -33,7 +33,7 @@ use Rattle.records.specs.Rules.{listLimit}
 use Rattle.normalize.specs.Pushes.{Candidates}
 use Rattle.normalize.specs.Calls.{firstWords, formed, deepened}
 use Rattle.normalize.specs.Deeps.{opensIn, Met, RoundOf, expandAtom, expanded, ExpandedTo, Expands}
-use Rattle.normalize.proofs.Rewritten.{Strings, strings-later, Rewritten}
+use Rattle.normalize.proofs.Rewritten.{Rewritten}
 use Rattle.normalize.proofs.Formed.{form-ends}
 use Rattle.normalize.proofs.Deep.{expand-ends}
 use Rattle.normalize.proofs.Carried.{Carried, carried-none, carried-ready, carried-kept, carried-then}
@@ -104,20 +104,20 @@ atom-length known a l s s′ l′ e = via (λ f. if ltb deepLimit (length (l ++ 
     short s₁ f true q d = let z : _≡_ {A = ℕ} 0 1 = cc in absurd (omega arith)
     short s₁ f false q d = let z : l ++ f ≡ l′ = cc in subst (λ (x : List ℕ). length x ≤ deepLimit) z (ltb-false _ _ q)
 
--- MARKS
+-- CONCATENATIONS MET
 
 pub met-none : (table : List ℕ) → length table ≡ 513 → ((i : ℕ) → i < length table → getD table i 0 ≡ 0) → Met table []
 unfolding isIn any
-met-none table e f = record { size = e; marks = λ x h. rw (f x (omega arith)) }
+met-none table e f = record { size = e; tells = λ x h. rw (f x (omega arith)) }
 
 met-more : (table met : List ℕ) (a : ℕ) → Met table met → a ≤ termLimit → Met (set table a 1) (a ∷ met)
 unfolding isIn any
 met-more table met a h l = record {
   size = length-set table a 1 ∙ h .size;
-  marks = λ x k.
+  tells = λ x k.
       decide (eqb x a)
       (λ e. let q : x ≡ a = eqb-true x a e in rw (e, q, getD-set-same table a 1 0 (let z = h .size in omega arith)))
-      (λ e. rw (e, getD-set-other table a x 1 0 (eqb-false x a e)) (h .marks x k));
+      (λ e. rw (e, getD-set-other table a x 1 0 (eqb-false x a e)) (h .tells x k));
 }
 
 -- ONE ATOM OF A ROUND
@@ -173,7 +173,7 @@ module _ {m : Lent} {c : State} (ready : Ready m c) (known : List ℕ) (t a : �
       met = met;
       is = expand-plain known t a st (record { list = firstWords next k; met = met }) (sym e ∙ not-true b h)
           ∙ ap (λ (w : List ℕ). ok st (some (record { list = w; met = met }))) (sym (words-put next k a l) ∙ ap (firstWords (set next k a)) (sym (add-one k)));
-      marks = λ n d z. q;
+      tells = λ n d z. q;
     };
   }
 
@@ -181,16 +181,16 @@ module _ {m : Lent} {c : State} (ready : Ready m c) (known : List ℕ) (t a : �
     opened : opens st t a ≡ true
     opened = sym e ∙ not-false b h
 
-    marked-is : (met : List ℕ) → Met table met → isIn a met ≡ eqb (getD table a 0) 1
-    marked-is met q = sym (q .marks a atom-place)
+    met-is : (met : List ℕ) → Met table met → isIn a met ≡ eqb (getD table a 0) 1
+    met-is met q = sym (q .tells a atom-place)
 
     pub one-again : getD table a 0 ≡ 1 → Expands known t (a ∷ []) next k table m m c next table (deep.None c)
     one-again d = record {
       kept = refl;
       is = λ met q. record {
         met = [];
-        is = expand-again known t a st (record { list = firstWords next k; met = met }) opened (marked-is met q ∙ eq-eqb (getD table a 0) 1 d);
-        marks = λ n f z. no-list z;
+        is = expand-again known t a st (record { list = firstWords next k; met = met }) opened (met-is met q ∙ eq-eqb (getD table a 0) 1 d);
+        tells = λ n f z. no-list z;
       };
     }
 
@@ -199,8 +199,8 @@ module _ {m : Lent} {c : State} (ready : Ready m c) (known : List ℕ) (t a : �
       kept = w .kept;
       is = λ met q. record {
         met = a ∷ met;
-        is = expand-open known t a st (record { list = firstWords next k; met = met }) opened (marked-is met q ∙ ne-eqb (getD table a 0) 1 d) ∙ ap (andThen (asRound known t a st (a ∷ met))) (w .says) ∙ turned met x;
-        marks = λ n f z. met-more table met a q atom-place;
+        is = expand-open known t a st (record { list = firstWords next k; met = met }) opened (met-is met q ∙ ne-eqb (getD table a 0) 1 d) ∙ ap (andThen (asRound known t a st (a ∷ met))) (w .says) ∙ turned met x;
+        tells = λ n f z. met-more table met a q atom-place;
       };
     }
       where
@@ -268,7 +268,7 @@ module _ (known : List ℕ) (t : ℕ) where
 -- what is left of the list, after the round's list so far, is what is asked
 pub record Rest (known : List ℕ) (t : ℕ) (l next₀ : List ℕ) (m₀ : Lent) (c : State) (m : Lent) (d : State) (next : List ℕ) (k : ℕ) (table : List ℕ) (i : ℕ) (met : List ℕ) : Type 0 where
   pub now : List ℕ
-  pub marks : Met table now
+  pub tells : Met table now
   pub is : expand known t (drop i l) (record { list = firstWords next k; met = now }) (storeOf m d) ≡ expand known t l (record { list = firstWords next₀ 0; met = met }) (storeOf m₀ c)
 
 pub record Walking (known : List ℕ) (t : ℕ) (l next₀ table₀ : List ℕ) (m₀ : Lent) (c : State) (m : Lent) (d : State) (next : List ℕ) (k : ℕ) (table : List ℕ) (i : ℕ) : Type 0 where
@@ -282,7 +282,7 @@ walking-none {m} {c} known t l next table r = record {
   carried = carried-none r;
   out = subst (Strings (storeOf m c)) (sym (words-none next)) none-left;
   low = omega arith;
-  rest = λ met q. record { now = met; marks = q; is = refl };
+  rest = λ met q. record { now = met; tells = q; is = refl };
 }
 
 module _ (list : List ℕ) (count′ : ℕ) {known : List ℕ} {t : ℕ} {next₀ table₀ : List ℕ} {m₀ m : Lent} {c d : State} {next : List ℕ} {k : ℕ} {table : List ℕ} {i : ℕ}
@@ -317,7 +317,7 @@ module _ (list : List ℕ) (count′ : ℕ) {known : List ℕ} {t : ℕ} {next�
 
   module _ {m′ : Lent} (next′ table′ : List ℕ) (x : DeepForm) (p : length (m′ .terms) ≡ length (m .terms)) (q : length (m′ .cells) ≡ length (m .cells)) (w : Expands known t (at ∷ []) next k table m m′ d next′ table′ x) where
     one : (met : List ℕ) (z : Met table₀ met) → ExpandedTo (expand known t (at ∷ []) (record { list = firstWords next k; met = g .rest met z .now }) sw) m′ next′ table′ x
-    one met z = w .is (g .rest met z .now) (g .rest met z .marks)
+    one met z = w .is (g .rest met z .now) (g .rest met z .tells)
 
     one-says : (met : List ℕ) (z : Met table₀ met) (y : DeepForm) → x ≡ y → expand known t (at ∷ []) (record { list = firstWords next k; met = g .rest met z .now }) sw ≡ expanded y (one met z .met) m′ next′
     one-says met z y e = one met z .is ∙ ap (λ (u : DeepForm). expanded u (one met z .met) m′ next′) e
@@ -330,33 +330,33 @@ module _ (list : List ℕ) (count′ : ℕ) {known : List ℕ} {t : ℕ} {next�
         ∙ ap (λ (l : List ℕ). expand known t l (record { list = firstWords next k; met = g .rest met z .now }) sw) (sym left-is) ∙ g .rest met z .is
 
     module _ (n : ℕ) (d′ : State) (e : x ≡ deep.List n d′) where
-      first-says : expand known t (at ∷ []) (record { list = firstWords next k; met = g .rest (o .marked .met) (o .marked .is) .now }) sw ≡ ok (storeOf m′ d′) (some (record { list = firstWords next′ n; met = one (o .marked .met) (o .marked .is) .met }))
-      first-says = one-says (o .marked .met) (o .marked .is) (deep.List n d′) e
+      first-says : expand known t (at ∷ []) (record { list = firstWords next k; met = g .rest (o .told .met) (o .told .is) .now }) sw ≡ ok (storeOf m′ d′) (some (record { list = firstWords next′ n; met = one (o .told .met) (o .told .is) .met }))
+      first-says = one-says (o .told .met) (o .told .is) (deep.List n d′) e
 
       rewritten : Rewritten sw (storeOf m′ d′) (firstWords next k ++ at ∷ []) (firstWords next′ n)
       rewritten =
-          expand-ends known t (at ∷ []) (record { list = firstWords next k; met = g .rest (o .marked .met) (o .marked .is) .now }) sw (g .carried .later .audited)
-          (all-every (isString sw) known (walk-candidates .strings)) (and walk-string none-left) (g .out) .given (storeOf m′ d′) (some (record { list = firstWords next′ n; met = one (o .marked .met) (o .marked .is) .met })) first-says
+          expand-ends known t (at ∷ []) (record { list = firstWords next k; met = g .rest (o .told .met) (o .told .is) .now }) sw (g .carried .later .audited)
+          (all-every (isString sw) known (walk-candidates .strings)) (and walk-string none-left) (g .out) .given (storeOf m′ d′) (some (record { list = firstWords next′ n; met = one (o .told .met) (o .told .is) .met })) first-says
 
       pub walking-turn : Walking known t (firstWords list count′) next₀ table₀ m₀ c m′ d′ next′ n table′ (i + 1)
       walking-turn = record {
         carried = carried-then (g .carried) m′ d′ (w .kept) (rewritten .later) p q;
         out = rewritten .strings;
-        low = (let l = expand-short known t at (record { list = firstWords next k; met = g .rest (o .marked .met) (o .marked .is) .now }) sw (storeOf m′ d′) (record { list = firstWords next′ n; met = one (o .marked .met) (o .marked .is) .met }) (deepLimit + i) first-says (let y = words-length next k in let z = g .low in omega arith) (omega arith) in
+        low = (let l = expand-short known t at (record { list = firstWords next k; met = g .rest (o .told .met) (o .told .is) .now }) sw (storeOf m′ d′) (record { list = firstWords next′ n; met = one (o .told .met) (o .told .is) .met }) (deepLimit + i) first-says (let y = words-length next k in let z = g .low in omega arith) (omega arith) in
             let y = words-length next′ n in omega arith);
-        rest = λ met z. record { now = one met z .met; marks = one met z .marks n d′ e; is = rw add-one (rest-says met z (deep.List n d′) e) };
+        rest = λ met z. record { now = one met z .met; tells = one met z .tells n d′ e; is = rw add-one (rest-says met z (deep.List n d′) e) };
       }
 
     walking-none-met : (d′ : State) → x ≡ deep.None d′ → Expands known t (firstWords list count′) next₀ 0 table₀ m₀ m′ c next′ table′ (deep.None d′)
     walking-none-met d′ e = record {
       kept = carried-kept (g .carried) m′ (w .kept);
-      is = λ met z. record { met = []; is = sym (rest-says met z (deep.None d′) e); marks = λ n f y. no-list y };
+      is = λ met z. record { met = []; is = sym (rest-says met z (deep.None d′) e); tells = λ n f y. no-list y };
     }
 
     walking-stopped : (j : ℕ) → x ≡ deep.Refused j → Expands known t (firstWords list count′) next₀ 0 table₀ m₀ m′ c next′ table′ (deep.Refused j)
     walking-stopped j e = record {
       kept = carried-kept (g .carried) m′ (w .kept);
-      is = λ met z. record { met = []; is = sym (rest-says met z (deep.Refused j) e); marks = λ n f y. no-refusal y };
+      is = λ met z. record { met = []; is = sym (rest-says met z (deep.Refused j) e); tells = λ n f y. no-refusal y };
     }
 
     -- an answer that is no list ends the loop
@@ -376,7 +376,7 @@ walking-done list n {i = i} g h = record {
   is = λ met z. record {
     met = g .rest met z .now;
     is = sym (rw (drop-past (firstWords list n) i (let y = words-length list n in omega arith)) at (g .rest met z .is));
-    marks = λ j f y. g .rest met z .marks;
+    tells = λ j f y. g .rest met z .tells;
   };
 }
 
@@ -384,15 +384,15 @@ walking-done list n {i = i} g h = record {
 
 module _ {m m′ : Lent} {c : State} (ready : Ready m c) (known nodes : List ℕ) (cs : Candidates (storeOf m c) known nodes) (t : ℕ) {list next table next′ table′ : List ℕ} {n : ℕ} (o : RoundOf (storeOf m c) list n table next)
     (p : length (m′ .terms) ≡ length (m .terms)) (q : length (m′ .cells) ≡ length (m .cells)) (x : DeepForm) (w : Expands known t (firstWords list n) next 0 table m m′ c next′ table′ x) (k : ℕ) (d : State) (e : x ≡ deep.List k d) where
-  witness : ExpandedTo (expand known t (firstWords list n) (record { list = firstWords next 0; met = o .marked .met }) (storeOf m c)) m′ next′ table′ x
-  witness = w .is (o .marked .met) (o .marked .is)
+  witness : ExpandedTo (expand known t (firstWords list n) (record { list = firstWords next 0; met = o .told .met }) (storeOf m c)) m′ next′ table′ x
+  witness = w .is (o .told .met) (o .told .is)
 
-  says : expand known t (firstWords list n) (record { list = firstWords next 0; met = o .marked .met }) (storeOf m c) ≡ ok (storeOf m′ d) (some (record { list = firstWords next′ k; met = witness .met }))
+  says : expand known t (firstWords list n) (record { list = firstWords next 0; met = o .told .met }) (storeOf m c) ≡ ok (storeOf m′ d) (some (record { list = firstWords next′ k; met = witness .met }))
   says = witness .is ∙ ap (λ (u : DeepForm). expanded u (witness .met) m′ next′) e
 
   list-ends : Rewritten (storeOf m c) (storeOf m′ d) (firstWords next 0 ++ firstWords list n) (firstWords next′ k)
   list-ends =
-      expand-ends known t (firstWords list n) (record { list = firstWords next 0; met = o .marked .met }) (storeOf m c) (ready .audited) (all-every (isString (storeOf m c)) known (cs .strings))
+      expand-ends known t (firstWords list n) (record { list = firstWords next 0; met = o .told .met }) (storeOf m c) (ready .audited) (all-every (isString (storeOf m c)) known (cs .strings))
       (all-every (isString (storeOf m c)) _ (o .strings)) (subst (Strings (storeOf m c)) (sym (words-none next)) none-left) .given (storeOf m′ d) (some (record { list = firstWords next′ k; met = witness .met })) says
 
   pub round-carried : Carried m c m′ d
@@ -403,7 +403,7 @@ module _ {m m′ : Lent} {c : State} (ready : Ready m c) (known nodes : List ℕ
 
   pub round-short : k ≤ 2 * deepLimit
   round-short =
-      let z = expand-shorts known t (firstWords list n) (record { list = firstWords next 0; met = o .marked .met }) (storeOf m c) (storeOf m′ d) (record { list = firstWords next′ k; met = witness .met }) deepLimit says (let y = words-length next 0 in omega arith) (omega arith) in
+      let z = expand-shorts known t (firstWords list n) (record { list = firstWords next 0; met = o .told .met }) (storeOf m c) (storeOf m′ d) (record { list = firstWords next′ k; met = witness .met }) deepLimit says (let y = words-length next 0 in omega arith) (omega arith) in
       let a = words-length next′ k in
       let b = words-length list n in
       let s = o .short in omega arith

@@ -6,7 +6,7 @@ use mathlib.Core.Option.{Option, none, some}
 use Prim.Native.Nat.{ℕ, _+_, _≤_}
 use native.Mathlib.Omega.{arith}
 use lib.ListN.{length, length-append, length-reverse}
-use lib.Dec.{eqb, leb}
+use lib.Dec.{eqb}
 use borrow.Author.Tests.{eqb-true, eq-eqb}
 use Rattle.records.specs.Lists.{if_then_else_, all, firstOf, joined, Every, none-left, and}
 use Rattle.records.specs.Store.{Store, ok, stop, Work, _>>=_, give, within, isString, isConstant, text, root, sameClass}
@@ -14,7 +14,7 @@ use Rattle.records.specs.Rules.{isChar, listLimit, isList}
 use Rattle.records.specs.Make.{makeConstant}
 use Rattle.records.specs.Meaning.{Words, Reading, Holds}
 use Rattle.records.specs.Audited.{Audited}
-use Rattle.records.proofs.Lists.{both-left, both-right, both-true, every-map, every-append, all-every, all-append, every-left}
+use Rattle.records.proofs.Lists.{both-left, both-right, both-true, every-map, every-append, all-append, every-left}
 use Rattle.records.proofs.Readings.{text-characters}
 use Rattle.records.proofs.Kept.{made-string, constant-kept, constant-stops}
 use Rattle.records.proofs.Meant.{constant-word}
@@ -23,8 +23,12 @@ use Rattle.engine.proofs.Sound.{explain-gives, explain-stops}
 use Rattle.normalize.specs.Normalize.{flatten, orFirst, representative, substitute, join, push, pushAll, pushForms, normalForm, formArguments}
 use Rattle.normalize.specs.Meaning.{Forms}
 use Rattle.normalize.proofs.Atoms.{Flat, flatten-flat, flatten-atoms, flatten-stops}
-use Rattle.normalize.proofs.Ends.{Refused, Ends, ends-give, ends-by, ends-if, ends-map, ends-then}
-use Rattle.normalize.proofs.Rewritten.{Later, later-none, later-added, later-made, Strings, strings-later, Rewritten, rewritten-none, rewritten-then, rewritten-after, rewritten-before, rewritten-explained, rewritten-as}
+use Rattle.normalize.proofs.Ends.{Ends}
+use Rattle.records.proofs.Outcomes.{Refused, ends-give, ends-by, ends-if, ends-map, ends-then}
+use Rattle.normalize.proofs.Rewritten.{Rewritten, rewritten-none, rewritten-then, rewritten-after, rewritten-before, rewritten-explained, rewritten-as}
+use Rattle.records.proofs.Later.{Later, later-none, more-after, later-made}
+use Rattle.records.proofs.Grown.{OldVariables, Strings, strings-later}
+use Rattle.records.proofs.ListLaws.{list-every}
 
 -- THE REPRESENTATIVE
 
@@ -83,7 +87,8 @@ joined-pair t u c s s′ audited p q e =
     let good = all-append isChar (text s u) (text s t) ∙ both-true _ _ (text-characters s (audited .recorded) u) (text-characters s (audited .recorded) t) in
     let m = constant-kept (text s u ++ text s t) s s′ c audited good e in
     record {
-      later = later-made (text s u ++ text s t) s s′ c audited good e;
+      later = later-made (m .made);
+      variables = m .made .variables (λ q. omega arith);
       strings = and (made-string (m .made) refl) none-left;
       words = λ w r h.
           let r₀ = m .made .grown .down w r in
@@ -131,7 +136,8 @@ push-ends t out s audited i k =
   where
     dropped : isConstant s t ≡ true → eqb (length (text s t)) 0 ≡ true → Rewritten s s (t ∷ []) []
     dropped c z = record {
-      later = later-none s audited;
+      later = later-none audited;
+      variables = λ t e. e;
       strings = none-left;
       words = λ w r h. ap (λ (x : List ℕ). x ++ []) (r .constants t (eqb-true _ _ c) ∙ empty (text s t) (eqb-true _ _ z));
     }
@@ -180,9 +186,10 @@ forms-end cs (a ∷ l) out s audited h (and i j) k =
 -- the term's word
 pub record Formed (s s′ : Store) (t : ℕ) (l : List ℕ) : Type 0 where
   pub later : Later s s′
+  pub variables : OldVariables s s′
   pub strings : Strings s′ l
   pub long : length l ≤ listLimit
-  pub word : (w : Words) → Reading s′ w → Holds s (later .more) w → w t ≡ joined w l
+  pub word : (w : Words) → Reading s′ w → Holds s (later .reasons .more) w → w t ≡ joined w l
 
 form-of : (cs m : List ℕ) (t : ℕ) (s : Store) → Audited s → Strings s cs → Strings s m → length m ≤ listLimit → ((w : Words) → Reading s w → joined w (t ∷ []) ≡ joined w m)
     → Ends (λ s′ l. Formed s s′ t l) ((pushForms cs m [] >>= (λ out. give (reverse out))) s)
@@ -191,6 +198,7 @@ form-of cs m t s audited h k n f =
     ends-then (λ out. give (reverse out)) (pushForms cs m [] s) (forms-end cs m [] s audited h k none-left) (λ s′ out x.
     ends-give (record {
       later = x .list .later;
+      variables = x .list .variables;
       strings = x .list .strings;
       long = (let i = x .long in let o = length-reverse out in omega arith);
       word = λ w r j. sym (append-nil (w t)) ∙ f w (x .list .later .grown .down w r) ∙ x .list .words w r j;
@@ -206,13 +214,9 @@ form-ends known t s audited h i =
     (λ s₁ m x. subst (λ (y : Store). Ends (λ s′ l. Formed s s′ t l) ((pushForms (known ++ m) m [] >>= (λ out. give (reverse out))) y)) (sym (x .0 .same-store))
     (form-of (known ++ m) m t s audited (every-append h (x .1)) (x .1) (x .0 .long) (x .0 .words)))
 
--- what the arguments are
-pub known-strings : (s : Store) (known : List ℕ) → isList s known ≡ true → Strings s known
-known-strings s known e = all-every _ known (both-right (leb (length known) listLimit) _ e)
-
 module _ (known : List ℕ) (t : ℕ) (s : Store) (audited : Audited s) (good : formArguments known t s ≡ true) where
   ends : Ends (λ s′ l. Formed s s′ t l) (normalForm known t s)
-  ends = form-ends known t s audited (known-strings s known (both-left (isList s known) _ good)) (both-right (isList s known) _ good)
+  ends = form-ends known t s audited (list-every s known (both-left (isList s known) _ good)) (both-right (isList s known) _ good)
 
   pub form-gives : (s′ : Store) (l : List ℕ) → normalForm known t s ≡ ok s′ l → Formed s s′ t l
   form-gives s′ l e = ends .given s′ l e
@@ -222,7 +226,7 @@ module _ (known : List ℕ) (t : ℕ) (s : Store) (audited : Audited s) (good : 
   form-stops n e = ends .stopped n e
 
   pub form-sound : (s′ : Store) (l : List ℕ) → normalForm known t s ≡ ok s′ l → Forms s s′ t l
-  form-sound s′ l e w r h = let f = form-gives s′ l e in f .word w r (subst (λ (x : List (ℕ × ℕ)). Holds s x w) (later-added (f .later)) h)
+  form-sound s′ l e w r h = let f = form-gives s′ l e in f .word w r (subst (λ (x : List (ℕ × ℕ)). Holds s x w) (more-after (f .later .reasons)) h)
 
   pub form-kept : (s′ : Store) (l : List ℕ) → normalForm known t s ≡ ok s′ l → Later s s′
   form-kept s′ l e = form-gives s′ l e .later

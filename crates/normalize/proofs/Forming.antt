@@ -2,16 +2,16 @@
 use mathlib.Core.Path.{_≡_, refl, sym, ap, subst, _∙_}
 use mathlib.Core.Bool.{true}
 use mathlib.Core.List.{List, [], _∷_, _++_, append-nil, reverse, reverse-reverse}
-use Prim.Native.Nat.{ℕ, _+_, _≤_, _<_}
+use Prim.Native.Nat.{ℕ, _≤_, _<_}
 use native.Mathlib.Omega.{arith}
 use lib.ListN.{length, take, getD, length-take}
 use lib.Dec.{leb}
 use borrow.Author.Tests.{ne-eqb}
 use Rattle.records.specs.declared.State.{State}
 use Rattle.records.specs.Lists.{all, joined, Every, none-left, and}
-use Rattle.records.specs.Store.{Store, ok, stop, andThen, _>>=_, give, kind, count, within, rootIn, classUp, isString}
+use Rattle.records.specs.Store.{Store, ok, stop, andThen, _>>=_, give, kind, count, within, rootIn, isString}
 use Rattle.records.specs.View.{Lent, storeOf, termsView, termLimit}
-use Rattle.records.specs.Audited.{Ready, Closed}
+use Rattle.records.specs.Audited.{Ready}
 use Rattle.records.specs.Calls.{Working}
 use Rattle.records.proofs.Lists.{both-left, both-right, both-true, all-append, all-every, every-all, every-map, within-low, within-high}
 use Rattle.records.proofs.Grown.{string-term}
@@ -34,11 +34,8 @@ module _ {m : Lent} {c : State} (ready : Ready m c) where
   pub ready-nested : Nested (bare (m .terms) (c .terms) (m .cells) (c .cells))
   ready-nested = let n = recorded-nested s (ready .audited .recorded) in record { ascends = n .ascends; lower = n .lower }
 
-  pub ready-closed : Closed (classUp (termsView (m .terms) (c .terms))) (c .terms)
-  ready-closed = ready-roots m c (ready .audited .classed)
-
   pub ready-rooting : Rooting (termsView (m .terms) (c .terms)) (c .terms)
-  ready-rooting = record { stays = ready-closed; ends = λ t w. ready .audited .classed .classEnds t (rw (view-count (m .terms) (c .terms)) w) }
+  ready-rooting = record { stays = ready-roots m c (ready .audited .classed); ends = λ t w. ready .audited .classed .classEnds t (rw (view-count (m .terms) (c .terms)) w) }
 
   -- string terms are counted, and their roots are places of the table
   placed : (t : ℕ) → isString s t ≡ true → (0 < t) × (rootIn (s .terms) t ≤ termLimit)

@@ -18,7 +18,7 @@ use Rattle.records.specs.View.{Lent, storeOf, termsView, termLimit}
 use Rattle.records.specs.Audited.{Ready, Closed}
 use Rattle.records.specs.Calls.{Working, added}
 use Rattle.records.proofs.Lists.{both-left, both-right, both-true, all-every, every-all, every-map, every-at, within-low, within-high, table-length}
-use Rattle.records.proofs.Grown.{string-term, string-here}
+use Rattle.records.proofs.Grown.{string-term, string-here, Strings, strings-later}
 use Rattle.records.proofs.Climbs.{root-term, view-count, term-within, ready-roots}
 use Rattle.engine.specs.Explain.{explain, explainArguments}
 use Rattle.normalize.specs.declared.Form.{Form}
@@ -28,7 +28,7 @@ use Rattle.normalize.specs.Nodes.{NodeOf, nodeAt}
 use Rattle.normalize.specs.Pushes.{pushed, Candidates, cite, pushFor}
 use Rattle.normalize.specs.Calls.{firstWords}
 use Rattle.normalize.proofs.Represents.{drop-past, nodes-later, node-is}
-use Rattle.normalize.proofs.Rewritten.{Later, Strings, strings-later}
+use Rattle.records.proofs.Later.{Later}
 use Rattle.normalize.proofs.Formed.{Stands, representative-stands, replace-ends, atom-ends, Pushed}
 use Rattle.normalize.proofs.Carried.{Carried, carried-none, carried-ready, carried-kept, carried-then}
 

@@ -16,7 +16,7 @@ use Rattle.records.specs.View.{termLimit, termsView}
 use Rattle.records.specs.Audited.{Closed}
 use Rattle.records.specs.Ends.{Ends}
 use Rattle.records.proofs.Lists.{both-right, left-false, decide, clash, within-high, every-map, every-append, every-both}
-use Rattle.records.proofs.Paths.{first-same}
+use Rattle.records.proofs.Paths.{first-same, first-has}
 use Rattle.records.proofs.Climbs.{climb-within, view-count}
 use Rattle.records.proofs.Ends.{ends-more}
 use Rattle.normalize.specs.Normalize.{orFirst, representative}
@@ -114,20 +114,6 @@ module _ {A : Type 0} (p : A → Bool) where
       go true ih = refl
       go false ih = ih
 
-  -- it passes and has what each element has
-  pub record Passes (P : A → Type 0) (x : A) : Type 0 where
-    pub passes : p x ≡ true
-    pub has : P x
-
-  pub first-passes : {P : A → Type 0} {l : List A} (x : A) → Every P l → firstOf p l ≡ some x → Passes P x
-  unfolding firstOf
-  first-passes x none-left e = let z : _≡_ {A = ℕ} 0 1 = cc in absurd (omega arith)
-  first-passes {P} x (and {a} {l} h k) e = go (p a) refl (first-passes x k) e
-    where
-      go : (b : Bool) → p a ≡ b → (firstOf p l ≡ some x → Passes P x) → _≡_ {A = Option A} (elim b [ true ↦ some a | false ↦ firstOf p l ]) (some x) → Passes P x
-      go true q ih d = let z : a ≡ x = cc in record { passes = ap p (sym z) ∙ q; has = subst P z h }
-      go false q ih d = ih d
-
   pub none-passes : (l : List A) → firstOf p l ≡ none → Every (λ a. p a ≡ false) l
   unfolding firstOf
   none-passes [] e = none-left
@@ -208,11 +194,11 @@ module _ (ts : List Term) where
       -- a constant stood there
       over-constant : (u : ℕ) → firstOf (constant r) l ≡ some u → getD (withNode ts t node) r 0 ≡ chosen ts (l ++ t ∷ []) r
       over-constant u p =
-          let f = first-passes (constant r) u k p in
+          let f = first-has (constant r) l u k p in
           let c : prev ≡ u = i ∙ chosen-by l r (some u) _ p refl in
-          let g = rank-is u true (both-right (member r u) _ (f .passes)) in
+          let g = rank-is u true (both-right (member r u) _ (f .1)) in
           let z = rank-low t in
-          let w = f .has in
+          let w = f .0 in
           let d : better ≡ false = rw (c, ne-eqb u 0 (λ q. omega arith)) (le-ltb (rank ts u) (rank ts t) (omega arith)) in
           with-old d ∙ c ∙ sym (chosen-by (l ++ t ∷ []) r (some u) _ (first-kept (constant r) l t u p) refl)
 
@@ -220,10 +206,10 @@ module _ (ts : List Term) where
       over-member : (u : ℕ) → firstOf (constant r) l ≡ none → firstOf (member r) l ≡ some u → getD (withNode ts t node) r 0 ≡ chosen ts (l ++ t ∷ []) r
       unfolding firstOf
       over-member u p q =
-          let f = first-passes (member r) u (every-both k (none-passes (constant r) l p)) q in
+          let f = first-has (member r) l u (every-both k (none-passes (constant r) l p)) q in
           let c : prev ≡ u = i ∙ chosen-by l r none (some u) p q in
-          let w = f .has .0 in
-          let g = rank-is u false (right-of (member r u) _ (f .passes) (f .has .1)) in
+          let w = f .0 .0 in
+          let g = rank-is u false (right-of (member r u) _ (f .1) (f .0 .1)) in
           decide (isConstantIn ts t)
           (λ e.
           let z = rank-is t true e in
@@ -296,6 +282,6 @@ node-is s l node a n k h = go (firstOf (constant (s .terms) r) l) refl (firstOf 
     there x p e = rw (e, ne-eqb x 0 (λ q. omega arith))
 
     go : (x : Option ℕ) → firstOf (constant (s .terms) r) l ≡ x → (y : Option ℕ) → firstOf (member (s .terms) r) l ≡ y → (if eqb (getD node r 0) 0 then a else getD node r 0) ≡ orFirst x y a
-    go (some u) p y q = there u (first-passes (constant (s .terms) r) u k p .has) (n .entries r h ∙ chosen-by (s .terms) l r (some u) y p q)
-    go none p (some u) q = there u (first-passes (member (s .terms) r) u k q .has) (n .entries r h ∙ chosen-by (s .terms) l r none (some u) p q)
+    go (some u) p y q = there u (first-has (constant (s .terms) r) l u k p .0) (n .entries r h ∙ chosen-by (s .terms) l r (some u) y p q)
+    go none p (some u) q = there u (first-has (member (s .terms) r) l u k q .0) (n .entries r h ∙ chosen-by (s .terms) l r none (some u) p q)
     go none p none q = let e : getD node r 0 ≡ 0 = n .entries r h ∙ chosen-by (s .terms) l r none none p q in rw e

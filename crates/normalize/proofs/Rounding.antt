@@ -31,8 +31,8 @@ use Rattle.normalize.specs.declared.Turn.the-variants as turn
 use Rattle.normalize.specs.Normalize.{deepLimit, normalForm, push, pushAll, expand, settle, afterExpand, rounds, deepForm}
 use Rattle.normalize.specs.Pushes.{pushed, Candidates}
 use Rattle.normalize.specs.Calls.{firstWords, formed, deepened}
-use Rattle.normalize.specs.Deeps.{opensIn, Met, Marked, expanded, Expands, settled, settling, Settles, roundThen, TurnedTo, Turns}
-use Rattle.normalize.proofs.Rewritten.{Strings, strings-later}
+use Rattle.normalize.specs.Deeps.{opensIn, Met, MetTable, expanded, Expands, settled, settling, Settles, roundThen, TurnedTo, Turns}
+use Rattle.records.proofs.Grown.{Strings, strings-later}
 use Rattle.normalize.proofs.Formed.{Pushed, push-ends, Formed, form-ends}
 use Rattle.normalize.proofs.Deep.{Answers, rounds-end}
 use Rattle.normalize.proofs.Carried.{Carried, carried-none, carried-ready, carried-kept, carried-then}
@@ -147,7 +147,7 @@ module _ {m : Lent} {c : State} (known : List ℕ) (t : ℕ) (list : List ℕ) (
   unfolding roundThen
   round-stands h = record {
     kept = refl;
-    is = λ met q. record { met = met; is = λ more. rw (sym e ∙ not-true b h); marks = λ k f z. q };
+    is = λ met q. record { met = met; is = λ more. rw (sym e ∙ not-true b h); tells = λ k f z. q };
   }
 
   module _ (h : not b ≡ false) (next : List ℕ) {m′ : Lent} (next′ table′ : List ℕ) (x : DeepForm) (w : Expands known t (firstWords list n) next 0 table m m′ c next′ table′ x) where
@@ -159,10 +159,10 @@ module _ {m : Lent} {c : State} (known : List ℕ) (t : ℕ) (list : List ℕ) (
         ∙ ap (andThen (afterExpand (firstWords list n) more)) (w .is met q .is ∙ ap (λ (u : DeepForm). expanded u (w .is met q .met) m′ next′) i))
 
     round-none : (d : State) → x ≡ deep.None d → (l : List ℕ) → Turns known t (firstWords list n) table m m′ c l table′ (turn.Ends (deep.None d))
-    round-none d i l = record { kept = w .kept; is = λ met q. record { met = []; is = λ more. round-says met q (deep.None d) i more; marks = λ k f z. (let y : _≡_ {A = ℕ} 0 1 = cc in absurd (omega arith)) } }
+    round-none d i l = record { kept = w .kept; is = λ met q. record { met = []; is = λ more. round-says met q (deep.None d) i more; tells = λ k f z. (let y : _≡_ {A = ℕ} 0 1 = cc in absurd (omega arith)) } }
 
     round-stopped : (j : ℕ) → x ≡ deep.Refused j → (l : List ℕ) → Turns known t (firstWords list n) table m m′ c l table′ (turn.Ends (deep.Refused j))
-    round-stopped j i l = record { kept = w .kept; is = λ met q. record { met = []; is = λ more. round-says met q (deep.Refused j) i more; marks = λ k f z. (let y : _≡_ {A = ℕ} 0 1 = cc in absurd (omega arith)) } }
+    round-stopped j i l = record { kept = w .kept; is = λ met q. record { met = []; is = λ more. round-says met q (deep.Refused j) i more; tells = λ k f z. (let y : _≡_ {A = ℕ} 0 1 = cc in absurd (omega arith)) } }
 
     -- an answer that is no list ends the round
     pub round-ended : OneOf (1 ∷ 2 ∷ []) (tagOf the-type x) → (l : List ℕ) → Turns known t (firstWords list n) table m m′ c l table′ (turn.Ends x)
@@ -179,7 +179,7 @@ module _ {m : Lent} {c : State} (known : List ℕ) (t : ℕ) (list : List ℕ) (
       is = λ met q. record {
         met = w .is met q .met;
         is = λ more. round-says met q (deep.List k d) i more ∙ v .is (more (w .is met q .met));
-        marks = λ j f z. w .is met q .marks k d i;
+        tells = λ j f z. w .is met q .tells k d i;
       };
     }
 
@@ -187,7 +187,7 @@ module _ {m : Lent} {c : State} (known : List ℕ) (t : ℕ) (list : List ℕ) (
 
 pub record Left (j : ℕ) (known : List ℕ) (t : ℕ) (l : List ℕ) (s : Store) (table : List ℕ) (o : Out (Option (List ℕ))) : Type 0 where
   pub met : List ℕ
-  pub marks : Met table met
+  pub tells : Met table met
   pub is : rounds j known t met l s ≡ o
 
 pub record Rounding (known : List ℕ) (t : ℕ) (l : List ℕ) (m₀ : Lent) (c : State) (m : Lent) (d : State) (list : List ℕ) (n : ℕ) (table : List ℕ) (i : ℕ) : Type 0 where
@@ -198,7 +198,7 @@ pub record Rounding (known : List ℕ) (t : ℕ) (l : List ℕ) (m₀ : Lent) (c
 
 pub rounding-none : {m : Lent} {c : State} (known : List ℕ) (t : ℕ) (list : List ℕ) (n : ℕ) (table : List ℕ) → Ready m c → all (isString (storeOf m c)) (firstWords list n) ≡ true → n ≤ deepLimit → length table ≡ 513 → ((i : ℕ) → i < length table → getD table i 0 ≡ 0)
     → Rounding known t (firstWords list n) m c m c list n table 0
-rounding-none known t list n table r e h z f = record { carried = carried-none r; strings = e; short = h; rest = record { met = []; marks = met-none table z f; is = refl } }
+rounding-none known t list n table r e h z f = record { carried = carried-none r; strings = e; short = h; rest = record { met = []; tells = met-none table z f; is = refl } }
 
 module _ {known : List ℕ} {t : ℕ} {l : List ℕ} {m₀ m : Lent} {c d : State} {list : List ℕ} {n : ℕ} {table : List ℕ} {i : ℕ} (g : Rounding known t l m₀ c m d list n table i) (ready : Ready m₀ c) (nodes : List ℕ) (cs : Candidates (storeOf m₀ c) known nodes) where
   pub rounding-ready : Ready m d
@@ -207,12 +207,12 @@ module _ {known : List ℕ} {t : ℕ} {l : List ℕ} {m₀ m : Lent} {c d : Stat
   pub rounding-candidates : Candidates (storeOf m d) known nodes
   rounding-candidates = candidates-later cs (g .carried .later)
 
-  pub rounding-marked : Marked table
-  rounding-marked = record { met = g .rest .met; is = g .rest .marks }
+  pub rounding-met : MetTable table
+  rounding-met = record { met = g .rest .met; is = g .rest .tells }
 
   module _ (h : i < 64) {m′ : Lent} (list′ table′ : List ℕ) (x : Turn) (w : Turns known t (firstWords list n) table m m′ d list′ table′ x) where
     turned : TurnedTo (λ more. roundThen known t (g .rest .met) (firstWords list n) more (storeOf m d)) m′ list′ table′ x
-    turned = w .is (g .rest .met) (g .rest .marks)
+    turned = w .is (g .rest .met) (g .rest .tells)
 
     round-is : (j : ℕ) (y : Turn) → x ≡ y → rounds (suc j) known t (g .rest .met) (firstWords list n) (storeOf m d) ≡ settled y (rounds j known t (turned .met)) m′ list′
     unfolding rounds roundThen
@@ -239,7 +239,7 @@ module _ {known : List ℕ} {t : ℕ} {l : List ℕ} {m₀ m : Lent} {c d : Stat
           carried = carried-then (g .carried) m′ f (w .kept) (a .0 .later) p q;
           strings = every-all (a .0 .strings);
           short = (let z = words-length list′ k in let y = a .1 in omega arith);
-          rest = record { met = turned .met; marks = turned .marks k f e; is = turn-rest (turn.Again k f) e };
+          rest = record { met = turned .met; tells = turned .tells k f e; is = turn-rest (turn.Again k f) e };
         }
 
   pub rounds-done : 64 ≤ i → Working (rounds 64 known t [] l) m₀ m c (ok (storeOf m d) (some (firstWords list n)))

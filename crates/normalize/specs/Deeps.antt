@@ -20,15 +20,15 @@ use Rattle.normalize.specs.declared.Turn.the-variants as turn
 abbrev pub opensIn : List Term → ℕ → ℕ → Bool
 opensIn ts t a = eqb (termIn ts a .kind) 3 && not (eqb a t)
 
-abbrev pub isMarked : List ℕ → ℕ → Bool
-isMarked table x = eqb (getD table x 0) 1
+abbrev pub isMet : List ℕ → ℕ → Bool
+isMet table x = eqb (getD table x 0) 1
 
--- the concatenations met are those marked
+-- the concatenations met are those of which the table tells
 pub record Met (table met : List ℕ) : Type 0 where
   pub size : length table ≡ 513
-  pub marks : (x : ℕ) → x ≤ termLimit → isMarked table x ≡ isIn x met
+  pub tells : (x : ℕ) → x ≤ termLimit → isMet table x ≡ isIn x met
 
-pub record Marked (table : List ℕ) : Type 0 where
+pub record MetTable (table : List ℕ) : Type 0 where
   pub met : List ℕ
   pub is : Met table met
 
@@ -37,7 +37,7 @@ pub record RoundOf (s : Store) (list : List ℕ) (count : ℕ) (table next : Lis
   pub strings : all (isString s) (firstWords list count) ≡ true
   pub short : count ≤ deepLimit
   pub within : count ≤ length list
-  pub marked : Marked table
+  pub told : MetTable table
   pub room : 2 * deepLimit ≤ length next
 
 -- the normal form of a concatenation after the list so far
@@ -55,7 +55,7 @@ expanded (deep.Refused k) met m l = stop k
 pub record ExpandedTo (o : Out (Option Round)) (m : Lent) (next table : List ℕ) (x : DeepForm) : Type 0 where
   pub met : List ℕ
   pub is : o ≡ expanded x met m next
-  pub marks : (n : ℕ) (c : State) → x ≡ deep.List n c → Met table met
+  pub tells : (n : ℕ) (c : State) → x ≡ deep.List n c → Met table met
 
 -- the atoms l expanded after the first k words of a slice
 pub record Expands (known : List ℕ) (t : ℕ) (l next : List ℕ) (k : ℕ) (table : List ℕ) (m m′ : Lent) (c : State) (next′ table′ : List ℕ) (x : DeepForm) : Type 0 where
@@ -84,7 +84,7 @@ roundThen known t met l more = do
 pub record TurnedTo (o : (List ℕ → List ℕ → Work (Option (List ℕ))) → Out (Option (List ℕ))) (m : Lent) (l table : List ℕ) (x : Turn) : Type 0 where
   pub met : List ℕ
   pub is : (more : List ℕ → List ℕ → Work (Option (List ℕ))) → o more ≡ settled x (more met) m l
-  pub marks : (n : ℕ) (c : State) → x ≡ turn.Again n c → Met table met
+  pub tells : (n : ℕ) (c : State) → x ≡ turn.Again n c → Met table met
 
 pub record Turns (known : List ℕ) (t : ℕ) (l table : List ℕ) (m m′ : Lent) (c : State) (l′ table′ : List ℕ) (x : Turn) : Type 0 where
   pub kept : storeOf m′ c ≡ storeOf m c

@@ -13,7 +13,7 @@ ghost use Rattle.normalize.specs.Normalize.{deepLimit, pushAll, rounds, 
 ghost use Rattle.records.specs.Rules.{listLimit, isList};
 ghost use Rattle.normalize.specs.Pushes.{pushed, Candidates};
 ghost use Rattle.normalize.specs.Calls.{firstWords, deepened};
-ghost use Rattle.normalize.specs.Deeps.{Marked, Settles, Turns};
+ghost use Rattle.normalize.specs.Deeps.{MetTable, Settles, Turns};
 use crate::DEEP_NF_ATOM_CAP;
 use crate::DeepForm;
 use crate::Form;
@@ -119,7 +119,7 @@ fn round(
     requires { ⌜ Candidates (storeOf (lends terms cells chars reasons keys) c) (now known) (now table) ⌝ }
     requires { ⌜ all (isString (storeOf (lends terms cells chars reasons keys) c)) (firstWords (now list) count) ≡ true ⌝ }
     requires { ⌜ (count ≤ deepLimit) × (listLimit ≤ length (now list)) ⌝ }
-    requires { ⌜ Marked (now met) ⌝ }
+    requires { ⌜ MetTable (now met) ⌝ }
     ensures { λ x. ⌜ Between (Turns (now (known .entry)) t (firstWords (now (list .entry)) count) (now (met .entry))) (across terms cells chars reasons keys) c (now (list .exit)) (now (met .exit)) x ⌝ }
 {
     if !expands::any_opens(terms, c.terms, t, list, count) {

@@ -10,12 +10,13 @@ use lib.ListN.{length}
 use lib.Dec.{eqb}
 use borrow.Author.Tests.{eq-eqb, ne-eqb}
 use Rattle.records.specs.declared.State.{State}
-use Rattle.records.specs.Store.{Term, Store, term, termIn, count, isTerm, within, climb, classUp, forestUp, rootIn, topIn, aboveBy, aboveIn}
+use Rattle.records.specs.Store.{Term, Store, term, termIn, count, isTerm, isString, within, climb, classUp, forestUp, rootIn, topIn, aboveBy, aboveIn}
 use Rattle.records.specs.View.{Lent, termAt, termsView, storeOf}
 use Rattle.records.specs.Rules.{parentsRule, eachTerm}
 use Rattle.records.specs.Audited.{Closed, Classed}
 use Rattle.records.proofs.Lists.{both-left, both-right, clash, below-at, below-all, within-is, within-low, within-high, within-zero, table-length}
 use Rattle.records.proofs.Views.{term-is}
+use Rattle.records.proofs.Grown.{string-term}
 
 -- STEPS
 
@@ -172,6 +173,9 @@ module _ (m : Lent) (c : State) where
 
   pub within-term : (t : ℕ) → within (c .terms) t ≡ true → isTerm (storeOf m c) t ≡ true
   within-term t w = rw (view-count (m .terms) (c .terms)) w
+
+  pub string-within : (t : ℕ) → isString (storeOf m c) t ≡ true → within (c .terms) t ≡ true
+  string-within t e = term-within t (string-term (storeOf m c) t e)
 
   pub ready-roots : Classed (storeOf m c) → Closed (classUp (termsView (m .terms) (c .terms))) (c .terms)
   ready-roots a = rw (view-count (m .terms) (c .terms)) at (classed-roots (storeOf m c) a)

@@ -1,7 +1,7 @@
 -- A term appended: words for the store extend to it, and for a variable any word can be chosen.
 use mathlib.Core.Path.{_≡_, refl, sym, ap, subst, _∙_}
 use mathlib.Core.Bool.{Bool, true, false, not}
-use mathlib.Core.List.{List, [], List·Memᴰ}
+use mathlib.Core.List.{List, []}
 use Prim.Native.Nat.{ℕ, zero, suc, _≤_, _<_}
 use native.Mathlib.Omega.{arith}
 use native.Mathlib.Decide.{decLe}
@@ -11,7 +11,7 @@ use Rattle.records.specs.Lists.{if_then_else_, all, joined, firsts, Ever
 use Rattle.records.specs.Store.{Term, Cell, Store, term, count, kind, textIn, text, chainIn, parts, isEdge}
 use Rattle.records.specs.Rules.{isChar}
 use Rattle.records.specs.Make.{own}
-use Rattle.records.specs.Meaning.{Words, Reading, Joins, Holds}
+use Rattle.records.specs.Meaning.{Words, Reading, Joins, IsUnder, Holds}
 use Rattle.records.specs.Audited.{Audited}
 use Rattle.records.proofs.Lists.{clash, every-map, every-firsts, all-take, all-drop, all-joined, joined-same, within-is, within-high}
 use Rattle.records.proofs.Readings.{parts-lower}
@@ -73,7 +73,7 @@ module _ (s : Store) (ds : List Cell) (hs : List ℕ) (k a b : ℕ) (audited : A
   holds-by : (w v : Words) → ((t : ℕ) → (t ≡ n → ⊥) → v t ≡ w t) → (rs : List (ℕ × ℕ)) → Holds s rs w → Holds s′ rs v
   holds-by w v same rs h = record {
     merges = edges (λ x. x .labelKind ≡ 4) w v same (h .merges);
-    reasons = edges (λ x. List·Memᴰ (x .labelKind, x .labelValue) rs) w v same (h .reasons);
+    reasons = edges (IsUnder rs) w v same (h .reasons);
   }
 
   old-kind : (t j : ℕ) → kind s t ≡ suc j → kind s′ t ≡ suc j

@@ -1,15 +1,17 @@
 -- A store that grew keeps its terms with their texts, parts and classes; words for the larger store are words for the smaller, and words
 -- for the smaller extend to the larger.
-use mathlib.Core.Path.{_≡_, refl, sym, ap, _∙_}
-use mathlib.Core.Bool.{true}
-use mathlib.Core.List.{List, _∷_}
+use mathlib.Core.Path.{_≡_, refl, sym, ap, subst, _∙_}
+use mathlib.Core.Bool.{true, not}
+use mathlib.Core.List.{List, _∷_, _++_, List·Memᴰ, Memᴰ·append-left, Memᴰ·append-right}
 use Prim.Native.Nat.{ℕ, zero, suc, _≤_, _<_}
 use native.Mathlib.Omega.{arith}
 use native.Mathlib.Decide.{decLe}
 use lib.ListN.{List·getD-eq-default}
-use Rattle.records.specs.Store.{Term, noTerm, Store, termIn, term, count, kind, within, isTerm, isString, text, parts, root}
-use Rattle.records.specs.Meaning.{Words, Reading, Holds}
-use Rattle.records.proofs.Lists.{within-low, within-high, within-is}
+use lib.Dec.{eqb}
+use Rattle.records.specs.Lists.{Every}
+use Rattle.records.specs.Store.{Term, noTerm, Store, termIn, term, count, kind, within, isTerm, isString, text, parts, root, isEdge}
+use Rattle.records.specs.Meaning.{Words, Reading, Joins, IsUnder, Holds}
+use Rattle.records.proofs.Lists.{clash, every-map, within-low, within-high, within-is}
 
 -- NUMBERS OF TERMS
 
@@ -68,6 +70,10 @@ pub record Grown (s s′ : Store) : Type 0 where
   pub holds : (w : Words) (rs : List (ℕ × ℕ)) → Holds s rs w → Holds s′ rs w
   pub extend : (w : Words) → Reading s w → Extends s s′ w
 
+-- no variable more
+abbrev pub OldVariables : Store → Store → Type 0
+OldVariables s s′ = (t : ℕ) → kind s′ t ≡ 2 → kind s t ≡ 2
+
 pub grown-none : (s : Store) → Grown s s
 grown-none s = record {
   more = omega arith;
@@ -112,3 +118,38 @@ grown-then {s} {s₁} {s₂} p q = record {
         held = λ rs h. y .held rs (x .held rs h);
       };
 }
+
+-- what holds of the edges later on holds of those before
+module _ {s s′ : Store} {w : Words} (g : Grown s s′) where
+  edge-before : (Q : Term → Type 0) → (Q noTerm → ⊥) → ((t : ℕ) → isEdge s′ t ≡ true → Q (term s′ t) → Joins s′ w t) → (t : ℕ) → isEdge s t ≡ true → Q (term s t) → Joins s w t
+  edge-before Q none held t i q = go (decLe t (count s))
+    where
+      go : Dec (t ≤ count s) → Joins s w t
+      go (yes l) =
+          let e = g .old t l in
+          held t (ap (λ (x : Term). not (eqb (x .forestParent) t)) e ∙ i) (subst Q (sym e) q) ∙ ap (λ (x : Term). w (x .forestParent)) e
+      go (no l) = absurd (none (subst Q (term-past s t (omega arith)) q))
+
+  pub holds-before : (rs : List (ℕ × ℕ)) → Holds s′ rs w → Holds s rs w
+  holds-before rs h = record {
+    merges = edge-before (λ x. x .labelKind ≡ 4) (λ e. omega arith) (h .merges);
+    reasons = edge-before (IsUnder rs) (λ u. clash (u .labelled) refl) (h .reasons);
+  }
+
+-- fewer reasons hold
+pub holds-fewer : {s : Store} {w : Words} {l m : List (ℕ × ℕ)} → ((r : ℕ × ℕ) → List·Memᴰ r l → List·Memᴰ r m) → Holds s m w → Holds s l w
+holds-fewer f h = record { merges = h .merges; reasons = λ t e k. h .reasons t e (record { labelled = k .labelled; listed = f _ (k .listed) }) }
+
+pub holds-left : {s : Store} {w : Words} (l m : List (ℕ × ℕ)) → Holds s (l ++ m) w → Holds s l w
+holds-left l m h = holds-fewer (λ r k. Memᴰ·append-left m k) h
+
+pub holds-right : {s : Store} {w : Words} (l m : List (ℕ × ℕ)) → Holds s (l ++ m) w → Holds s m w
+holds-right l m h = holds-fewer (λ r k. Memᴰ·append-right l k) h
+
+-- LISTS OF STRING TERMS
+
+abbrev pub Strings : Store → List ℕ → Type 0
+Strings s l = Every (λ a. isString s a ≡ true) l
+
+pub strings-later : {s s′ : Store} {l : List ℕ} → Grown s s′ → Strings s l → Strings s′ l
+strings-later g k = every-map (grown-string g) k

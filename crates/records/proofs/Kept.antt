@@ -20,8 +20,8 @@ use Rattle.records.specs.Audited.{Recorded, Audited}
 use Rattle.records.proofs.Lists.{both-left, both-right, both-true, or-left, decide, clash, all-append, all-every, within-low, within-high, word-is, word-same, first-some, first-none}
 use Rattle.records.proofs.Works.{stop-not, via, branch}
 use Rattle.records.proofs.Chains.{extends-refl, extends-append, ascends-made, chain-made, from-length, plain, plain-firsts, plain-length}
-use Rattle.records.proofs.Grown.{kind-term, Grown, grown-none, grown-then}
-use Rattle.records.proofs.Append.{grow, More, New, kept-audited, new-term}
+use Rattle.records.proofs.Grown.{kind-term, Grown, OldVariables, grown-none, grown-then}
+use Rattle.records.proofs.Append.{grow, More, New, kept-audited, new-term, each-kind}
 use Rattle.records.proofs.Extend.{Chosen, choose, kept-grown}
 use Rattle.records.proofs.Beside.{audited-beside, grown-beside, reading-beside, holds-beside}
 
@@ -63,11 +63,14 @@ reason-stops k v s n e = go (ltb (length (s .reasons)) (s .room .reasons)) e
 
 -- TERMS
 
--- a term made: what it is, that the store is audited, and what of it is as it was
+-- a term made: what it is, that the store is audited, that no other is a new variable, and what of the store is as it was
 pub record MadeIn (s s′ : Store) (t k : ℕ) : Type 0 where
   pub audited : Audited s′
   pub grown : Grown s s′
   pub kind-is : kind s′ t ≡ k
+  pub variables : (k ≡ 2 → ⊥) → OldVariables s s′
+  pub cells : length (s .cells) ≤ length (s′ .cells)
+  pub chars : length (s .chars) ≤ length (s′ .chars)
   pub reasons : s′ .reasons ≡ s .reasons
   pub keys : s′ .keys ≡ s .keys
   pub room : s′ .room ≡ s .room
@@ -79,7 +82,7 @@ made-string m e = ap (within 3) (m .kind-is) ∙ e
 -- a term found is in the store as it is
 found-in : (s s′ : Store) (t k : ℕ) → Audited s → s′ ≡ s → kind s t ≡ k → MadeIn s s′ t k
 found-in s s′ t k a e q =
-    subst (λ (x : Store). MadeIn s x t k) (sym e) (record { audited = a; grown = grown-none s; kind-is = q; reasons = refl; keys = refl; room = refl })
+    subst (λ (x : Store). MadeIn s x t k) (sym e) (record { audited = a; grown = grown-none s; kind-is = q; variables = λ d u e. e; cells = omega arith; chars = omega arith; reasons = refl; keys = refl; room = refl })
 
 -- a term appended
 grow-in : (s : Store) (ds : List Cell) (hs : List ℕ) (k a b : ℕ) → Audited s → More s ds hs → New s ds hs k a b → MadeIn s (grow s ds hs k a b) (suc (count s)) k
@@ -87,6 +90,9 @@ grow-in s ds hs k a b audited more new = record {
   audited = kept-audited s ds hs k a b audited more new;
   grown = kept-grown s ds hs k a b audited more new;
   kind-is = ap (λ (x : Term). x .kind) (new-term s ds hs k a b);
+  variables = λ d. each-kind s ds hs k a b 1 (λ t e. e) (λ e. absurd (d e));
+  cells = more .cells .longer;
+  chars = more .chars;
   reasons = refl;
   keys = refl;
   room = refl;
@@ -643,6 +649,9 @@ fresh-kept s s′ z a e =
         audited = f .made .audited;
         grown = grown-then (names-grown s m) (f .made .grown);
         kind-is = f .made .kind-is;
+        variables = f .made .variables;
+        cells = f .made .cells;
+        chars = f .made .chars;
         reasons = f .made .reasons;
         keys = f .made .keys;
         room = f .made .room;

@@ -32,3 +32,9 @@ pub mod Builds
 pub mod Naming
 pub mod BuildCalls
 pub mod Auditing
+pub mod Outcomes
+pub mod Counts
+pub mod Sequence
+pub mod Later
+pub mod Loops
+pub mod ListLaws

@@ -32,23 +32,22 @@ string-not s t e q = let h = within-high 3 (kind s t) e in omega arith
 -- between string terms
 pub equation-true : (a b : ℕ) {s s′ : Store} {t : ℕ} {w : Words} → EquationMade a b s s′ t → isString s a ≡ true → w a ≡ w b → True s′ w t
 equation-true a b {s} {s′} {t} {w} m e q =
-    Meaning.True.equal
+    Meaning.True.equal (m .made .kind-is)
     (λ k. string-not s′ a (grown-string (m .made .grown) a e) (sym (ap (kind s′) (m .first-is)) ∙ k))
     (ap w (m .first-is) ∙ q ∙ sym (ap w (m .second-is)))
 
 -- between the lengths a of x and b of y
 pub lengths-true : (a b x y : ℕ) {s s′ : Store} {t : ℕ} {w : Words} → EquationMade a b s s′ t → kind s a ≡ 4 → kind s b ≡ 4 → term s a .first ≡ x → term s b .first ≡ y → length (w x) ≡ length (w y) → True s′ w t
 lengths-true a b x y {s} {s′} {t} {w} m e f p q h =
-    Meaning.True.long (ap (kind s′) (m .first-is) ∙ grown-kind (m .made .grown) a 3 e)
+    Meaning.True.long (m .made .kind-is) (ap (kind s′) (m .first-is) ∙ grown-kind (m .made .grown) a 3 e)
     (ap (λ (i : ℕ). length (w i)) (side a x (term s′ t .first) e p (m .first-is)) ∙ h ∙ sym (ap (λ (i : ℕ). length (w i)) (side b y (term s′ t .second) f q (m .second-is))))
   where
     side : (a x i : ℕ) → kind s a ≡ 4 → term s a .first ≡ x → i ≡ a → term s′ i .first ≡ x
     side a x i e p j = ap (λ (u : ℕ). term s′ u .first) j ∙ ap (λ (u : Term). u .first) (m .made .grown .old a (present s a 3 e)) ∙ p
 
 -- an equation that is true stays so while the store grows
-pub grown-true : {s s′ : Store} {w : Words} → Grown s s′ → Recorded s → (e : ℕ) → kind s e ≡ 5 → True s w e → True s′ w e
-grown-true {s} {s′} {w} g r e k = go
-  where
+module _ {s s′ : Store} (g : Grown s s′) (r : Recorded s) (e : ℕ) where
+  module _ (k : kind s e ≡ 5) where
     self : term s′ e ≡ term s e
     self = g .old e (present s e 4 k)
 
@@ -58,8 +57,10 @@ grown-true {s} {s′} {w} g r e k = go
     second-is : term s′ (term s′ e .second) ≡ term s (term s e .second)
     second-is = ap (λ (x : Term). term s′ (x .second)) self ∙ g .old (term s e .second) (equatable-here s _ _ (r .equationSides e k) .1)
 
-    go : True s w e → True s′ w e
-    go (Meaning.True.equal d q) =
-        Meaning.True.equal (λ i. d (ap (λ (x : Term). x .kind) (sym first-is) ∙ i)) (ap (λ (x : Term). w (x .first)) self ∙ q ∙ ap (λ (x : Term). w (x .second)) (sym self))
-    go (Meaning.True.long i q) =
-        Meaning.True.long (ap (λ (x : Term). x .kind) first-is ∙ i) (ap (λ (x : Term). length (w (x .first))) first-is ∙ q ∙ ap (λ (x : Term). length (w (x .first))) (sym second-is))
+  pub grown-true : {w : Words} → True s w e → True s′ w e
+  grown-true {w} (Meaning.True.equal k d q) =
+      Meaning.True.equal (grown-kind g e 4 k) (λ i. d (ap (λ (x : Term). x .kind) (sym (first-is k)) ∙ i))
+      (ap (λ (x : Term). w (x .first)) (self k) ∙ q ∙ ap (λ (x : Term). w (x .second)) (sym (self k)))
+  grown-true {w} (Meaning.True.long k i q) =
+      Meaning.True.long (grown-kind g e 4 k) (ap (λ (x : Term). x .kind) (first-is k) ∙ i)
+      (ap (λ (x : Term). length (w (x .first))) (first-is k) ∙ q ∙ ap (λ (x : Term). length (w (x .first))) (sym (second-is k)))

@@ -5,8 +5,8 @@ use mathlib.Core.List.{List, List·Memᴰ}
 use Prim.Native.Nat.{ℕ}
 use lib.ListN.{length}
 use Rattle.records.specs.Lists.{all, joined}
-use Rattle.records.specs.Store.{Store, term, kind, text, parts, isEdge}
-use Rattle.records.specs.Rules.{isChar}
+use Rattle.records.specs.Store.{Term, Store, term, kind, text, parts, isEdge}
+use Rattle.records.specs.Rules.{isChar, isReasonKind}
 
 -- a word for each term; 'a concatenation's or a list's is its parts' words in order': `joined w l`
 abbrev pub Words : Type 0
@@ -24,13 +24,19 @@ pub record Reading (s : Store) (w : Words) : Type 0 where
 abbrev pub Joins : Store → Words → ℕ → Type 0
 Joins s w t = w t ≡ w (term s t .forestParent)
 
--- 'The edges under a reason are those at entry labelled with its kind and number. A reason holds for given words when the two ends
--- of every edge under it have equal words; a definitional merge (label 4) holds when its two ends do'
+-- 'The edges under a reason are those at entry labelled with its kind and number': x is the child of an edge under a reason of the list.
+-- A congruence edge is under none, whatever number its pair chain has
+pub record IsUnder (rs : List (ℕ × ℕ)) (x : Term) : Type 0 where
+  pub labelled : isReasonKind (x .labelKind) ≡ true
+  pub listed : List·Memᴰ (x .labelKind, x .labelValue) rs
+
+-- 'A reason holds for given words when the two ends of every edge under it have equal words; a definitional merge (label 4) holds when
+-- its two ends do'
 pub record Holds (s : Store) (rs : List (ℕ × ℕ)) (w : Words) : Type 0 where
   pub merges : (t : ℕ) → isEdge s t ≡ true → term s t .labelKind ≡ 4 → Joins s w t
-  pub reasons : (t : ℕ) → isEdge s t ≡ true → List·Memᴰ (term s t .labelKind, term s t .labelValue) rs → Joins s w t
+  pub reasons : (t : ℕ) → isEdge s t ≡ true → IsUnder rs (term s t) → Joins s w t
 
--- 'A listed atom .. is true when its two words are equal or, between lengths, equally long'
+-- 'A listed atom, an equation in Split's list, is true when its two words are equal or, between lengths, equally long'
 pub data True (s : Store) (w : Words) (e : ℕ) : Type 0 where
-  equal : (kind s (term s e .first) ≡ 4 → ⊥) → w (term s e .first) ≡ w (term s e .second) → True s w e
-  long : kind s (term s e .first) ≡ 4 → length (w (term s (term s e .first) .first)) ≡ length (w (term s (term s e .second) .first)) → True s w e
+  equal : kind s e ≡ 5 → (kind s (term s e .first) ≡ 4 → ⊥) → w (term s e .first) ≡ w (term s e .second) → True s w e
+  long : kind s e ≡ 5 → kind s (term s e .first) ≡ 4 → length (w (term s (term s e .first) .first)) ≡ length (w (term s (term s e .second) .first)) → True s w e

@@ -26,9 +26,13 @@ isChar c = ltb c 0xD800 || (leb 0xE000 c && leb c 0x10FFFF)
 unfoldable pub isNumber : ℕ → Bool
 isNumber v = ltb v 0x8000_0000
 
+-- the kinds of reasons: '1 asserted or 2 interface'
+abbrev pub isReasonKind : ℕ → Bool
+isReasonKind k = eqb k 1 || eqb k 2
+
 -- 'Reasons, two words (1 asserted or 2 interface; a number below 2^31, on edges too)'
 unfoldable pub reasonRule : ℕ × ℕ → Bool
-reasonRule p = (eqb (p .0) 1 || eqb (p .0) 2) && isNumber (p .1)
+reasonRule p = isReasonKind (p .0) && isNumber (p .1)
 
 -- 'Split keys, two different string terms, lower number first'
 unfoldable pub keyRule : Store → ℕ × ℕ → Bool
@@ -101,7 +105,7 @@ aloneRule s t u = isString s t || eqb t u || not (sameClass s t u)
 
 -- 'An edge's label stands on the child: 1 asserted, 2 interface, 3 congruence (value = a pair chain), 4 definitional (value 0)'
 unfoldable pub edgeLabel : ℕ → ℕ → Bool
-edgeLabel k v = ((eqb k 1 || eqb k 2) && isNumber v) || eqb k 3 || (eqb k 4 && eqb v 0)
+edgeLabel k v = (isReasonKind k && isNumber v) || eqb k 3 || (eqb k 4 && eqb v 0)
 
 -- 'Unused words, labels of roots included, are 0'
 unfoldable pub labelRule : Store → ℕ → Bool

@@ -3,16 +3,15 @@ use mathlib.Core.Path.{_≡_, refl, sym, ap, _∙_}
 use mathlib.Core.Bool.{Bool, true, false, _&&_}
 use mathlib.Core.List.{List, [], _∷_}
 use mathlib.Core.Option.{none, some}
-use Prim.Native.Nat.{ℕ, _≤_}
+use Prim.Native.Nat.{ℕ}
 use native.Mathlib.Omega.{arith}
 use lib.ListN.{length, getD}
 use lib.Dec.{eqb, leb}
-use borrow.Author.Tests.{eqb-true, leb-true, le-leb}
+use borrow.Author.Tests.{eqb-true, le-leb}
 use Rattle.records.specs.declared.State.{State}
 use Rattle.records.specs.Lists.{all}
-use Rattle.records.specs.Store.{Store, ok, andThen, isVariable, isString}
+use Rattle.records.specs.Store.{Store, ok, andThen, isVariable}
 use Rattle.records.specs.View.{Lent, storeOf, readIn, termed}
-use Rattle.records.specs.Rules.{listLimit, isList}
 use Rattle.records.specs.Make.{makeConstant}
 use Rattle.records.proofs.Lists.{both-left, both-right, both-true}
 use Rattle.wordeq.specs.declared.StepResult.{StepResult}
@@ -58,9 +57,6 @@ module _ (s : Store) (l r : List ℕ) (x : Bool) (t : x ≡ true) where
   assigned-both i =
       let h : assigned s l r ≡ true = sym i ∙ t in
       both-true _ _ (both-right (eqb (length l) 1) (isVariable s (getD l 0 0)) (both-left _ (fixed s r) h)) (both-right (eqb (length l) 1 && isVariable s (getD l 0 0)) (fixed s r) h)
-
-pub list-limited : (s : Store) (l : List ℕ) → isList s l ≡ true → length l ≤ listLimit
-list-limited s l h = leb-true _ _ (both-left (leb (length l) listLimit) (all (isString s) l) h)
 
 -- EACH WAY
 

@@ -1,20 +1,18 @@
 -- What holds of all words under the reasons that work added.
-use mathlib.Core.Path.{_≡_, sym, ap, subst, _∙_}
+use mathlib.Core.Path.{_≡_, sym, ap, subst}
 use mathlib.Core.Bool.{true}
-use mathlib.Core.List.{List, _++_, append-assoc, List·Memᴰ, Memᴰ·append-left, Memᴰ·append-right}
+use mathlib.Core.List.{List, _++_, List·Memᴰ, Memᴰ·append-left, Memᴰ·append-right}
 use Prim.Native.Nat.{ℕ}
 use native.Mathlib.Omega.{arith}
 use Rattle.records.specs.Store.{Store, isString, sameClass}
-use Rattle.records.specs.Make.{withReasons}
 use Rattle.records.specs.Meaning.{Words, Reading, Holds}
 use Rattle.records.specs.Audited.{Audited}
-use Rattle.records.proofs.Grown.{Grown, grown-none, grown-then}
-use Rattle.records.proofs.Beside.{reading-beside, holds-beside}
+use Rattle.records.proofs.Grown.{Grown, grown-none, grown-then, holds-fewer}
+use Rattle.records.proofs.Beside.{reading-beside}
 use Rattle.engine.specs.Explain.{explain}
-use Rattle.engine.proofs.Added.{Added, added-none}
+use Rattle.records.proofs.Later.{Added, added-none, added-then}
 use Rattle.engine.proofs.Sound.{Gave, explain-gives, explain-stops}
-use Rattle.normalize.proofs.Ends.{ends-by}
-use Rattle.normalize.proofs.Rewritten.{holds-fewer}
+use Rattle.records.proofs.Outcomes.{ends-by}
 use Rattle.wordeq.proofs.Ends.{Ends}
 
 abbrev pub Under : Store → List (ℕ × ℕ) → (Words → Type 0) → Type 0
@@ -34,15 +32,6 @@ module _ {s s′ : Store} (a : Added s s′) where
   pub reading-on : {w : Words} → Reading s w → Reading s′ w
   reading-on {w} r = subst (λ (x : Store). Reading x w) (sym (a .is)) (reading-beside s (s .reasons ++ a .more) (s .keys) (s .names) w r)
 
-  pub holds-on : {w : Words} {rs : List (ℕ × ℕ)} → Holds s rs w → Holds s′ rs w
-  holds-on {w} {rs} h = subst (λ (x : Store). Holds x rs w) (sym (a .is)) (holds-beside s (s .reasons ++ a .more) (s .keys) (s .names) w rs h)
-
-  pub holds-back : {w : Words} {rs : List (ℕ × ℕ)} → Holds s′ rs w → Holds s rs w
-  holds-back {w} {rs} h = go (subst (λ (x : Store). Holds x rs w) (a .is) h)
-    where
-      go : Holds (withReasons s (s .reasons ++ a .more)) rs w → Holds s rs w
-      go k = record { merges = k .merges; reasons = k .reasons }
-
 pub cited-none : {P : Words → Type 0} (s : Store) → Audited s → ((w : Words) → Reading s w → P w) → Cited P s s
 cited-none s d f = record { added = added-none s; audited = d; grown = grown-none s; holds = λ w r h. f w r }
 
@@ -53,18 +42,14 @@ pub cited-map : {P Q : Words → Type 0} {s s′ : Store} → ((w : Words) → P
 cited-map f c = record { added = c .added; audited = c .audited; grown = c .grown; holds = λ w r h. f w (c .holds w r h) }
 
 pub cited-then : {P Q R : Words → Type 0} {s s₁ s₂ : Store} → ((w : Words) → P w → Q w → R w) → Cited P s s₁ → Cited Q s₁ s₂ → Cited R s s₂
-cited-then {s = s} f p q = record {
-  added = record {
-    more = p .added .more ++ q .added .more;
-    is =
-        q .added .is ∙ ap (λ (x : Store). withReasons x (x .reasons ++ q .added .more)) (p .added .is)
-        ∙ ap (withReasons s) (append-assoc (s .reasons) (p .added .more) (q .added .more));
-  };
+unfolding added-then
+cited-then f p q = record {
+  added = added-then (p .added) (q .added);
   audited = q .audited;
   grown = grown-then (p .grown) (q .grown);
   holds = λ w r h.
       f w (p .holds w r (holds-fewer (λ x k. Memᴰ·append-left (q .added .more) k) h))
-      (q .holds w (reading-on (p .added) r) (holds-on (p .added) (holds-fewer (λ x k. Memᴰ·append-right (p .added .more) k) h)));
+      (q .holds w (reading-on (p .added) r) (p .grown .holds w (q .added .more) (holds-fewer (λ x k. Memᴰ·append-right (p .added .more) k) h)));
 }
 
 -- under all the reasons at the end

@@ -9,21 +9,23 @@ use native.Mathlib.Omega.{arith}
 use lib.ListN.{length}
 use borrow.Author.Tests.{eqb-true, ltb-true, not-true}
 use Rattle.records.specs.Lists.{if_then_else_, all, firstOf, joined, isIn}
-use Rattle.records.specs.Store.{Store, isConstant, isVariable, text}
+use Rattle.records.specs.Store.{Store, kind, isConstant, isVariable, text}
 use Rattle.records.specs.Rules.{isChar}
 use Rattle.records.specs.Make.{makeConstant}
 use Rattle.records.specs.Meaning.{Words, Reading}
 use Rattle.records.specs.Audited.{Audited}
-use Rattle.records.proofs.Lists.{both-left, both-right, either, clash, all-joined, word-same}
+use Rattle.records.proofs.Lists.{both-left, both-right, either, clash, all-every, all-joined, word-same}
+use Rattle.records.proofs.Paths.{first-has}
 use Rattle.records.proofs.Readings.{text-characters}
 use Rattle.records.proofs.Kept.{ConstantMade, constant-kept, constant-stops}
 use Rattle.records.proofs.Meant.{constant-word}
-use Rattle.normalize.proofs.Ends.{ends-give, ends-by, ends-if, ends-then}
+use Rattle.records.proofs.Outcomes.{ends-give, ends-by, ends-if, ends-then}
 use Rattle.wordeq.specs.Wordeq.{conflict, answer, same, fixed, lettersOf, letters, unequal, short, absent, constants, isPlain, alias, emptiesAt, empties, assigns, differ, clashes}
-use Rattle.wordeq.proofs.Words.{fill-within, fill-in, any-in, differ-apart, empty-each, first-passing}
+use Rattle.wordeq.proofs.Words.{fill-within, fill-in, any-in, differ-apart, empty-each}
 use Rattle.wordeq.proofs.Ends.{Ends}
 use Rattle.wordeq.proofs.Cited.{cited-none}
-use Rattle.wordeq.proofs.Good.{Good, passes, later-none, later-made, Step, step-pass, step-conflict, step-propagate}
+use Rattle.wordeq.proofs.Good.{Good, passes, Step, step-pass, step-conflict, step-propagate}
+use Rattle.records.proofs.Later.{later-none, later-made}
 use Rattle.wordeq.proofs.Tile.{fixed-word}
 
 -- no words make the sides equal
@@ -81,10 +83,14 @@ constants-step l r s d hl hr = ends-if _ _ _ (λ b. never-step d (never b)) (λ 
 
 -- 4
 
+plain-variable : (s : Store) (v : ℕ) → isPlain s v ≡ true → kind s v ≡ 2
+unfolding isPlain
+plain-variable s v e = eqb-true _ _ (both-left (isVariable s v) _ e)
+
 pub alias-step : {added : Bool} (l r : List ℕ) → Step added l r (alias l r)
 unfolding alias joined
 alias-step (a ∷ []) (b ∷ []) s d hl hr =
-    ends-if (isPlain s a && isPlain s b) _ _ (λ c. step-propagate a b false (later-none d) (λ w rd h z. sym (append-nil (w a)) ∙ z ∙ append-nil (w b))) (λ c. step-pass d)
+    ends-if (isPlain s a && isPlain s b) _ _ (λ c. step-propagate a b false (later-none d) (plain-variable s a (both-left (isPlain s a) _ c)) (λ w rd h z. sym (append-nil (w a)) ∙ z ∙ append-nil (w b))) (λ c. step-pass d)
 alias-step (a ∷ []) [] s d hl hr = step-pass d
 alias-step (a ∷ []) (b ∷ c ∷ r) s d hl hr = step-pass d
 alias-step [] r s d hl hr = step-pass d
@@ -99,13 +105,13 @@ empties-step [] [] s d hl hr = step-pass d
 empties-step [] (a ∷ []) s d hl hr = step-pass d
 empties-step (x ∷ l) r s d hl hr = step-pass d
 empties-step {added} [] (a ∷ b ∷ r) s d hl hr =
-    ends-if (all (isVariable s) (a ∷ b ∷ r)) _ _ (λ c. ends-then _ _ (constant-ends [] s d refl) (λ s₁ t m. by s₁ t m (firstOf (λ v. not (same s₁ v t)) (a ∷ b ∷ r)) refl)) (λ c. step-pass d)
+    ends-if (all (isVariable s) (a ∷ b ∷ r)) _ _ (λ c. ends-then _ _ (constant-ends [] s d refl) (λ s₁ t m. by c s₁ t m (firstOf (λ v. not (same s₁ v t)) (a ∷ b ∷ r)) refl)) (λ c. step-pass d)
   where
-    by : (s₁ : Store) (t : ℕ) → ConstantMade [] s s₁ t → (y : Option ℕ) → firstOf (λ v. not (same s₁ v t)) (a ∷ b ∷ r) ≡ y → Ends (Good added [] (a ∷ b ∷ r) s) (emptiesAt t y s₁)
-    by s₁ t m none q = ends-give (passes (later-made (m .made)) (m .made .reasons))
-    by s₁ t m (some v) q =
-        step-propagate v t true (later-made (m .made))
-        (λ w rd h z. first-passing _ (a ∷ b ∷ r) v q (λ x. w x ≡ []) (empty-each w (a ∷ b ∷ r) (sym z)) ∙ sym (constant-word m rd))
+    by : all (isVariable s) (a ∷ b ∷ r) ≡ true → (s₁ : Store) (t : ℕ) → ConstantMade [] s s₁ t → (y : Option ℕ) → firstOf (λ v. not (same s₁ v t)) (a ∷ b ∷ r) ≡ y → Ends (Good added [] (a ∷ b ∷ r) s) (emptiesAt t y s₁)
+    by c s₁ t m none q = ends-give (passes (later-made (m .made)) (m .made .variables (λ e. omega arith)) (m .made .reasons))
+    by c s₁ t m (some v) q =
+        step-propagate v t true (later-made (m .made)) (eqb-true _ _ (first-has _ (a ∷ b ∷ r) v (all-every (isVariable s) (a ∷ b ∷ r) c) q .0))
+        (λ w rd h z. first-has _ (a ∷ b ∷ r) v (empty-each w (a ∷ b ∷ r) (sym z)) q .0 ∙ sym (constant-word m rd))
 
 -- constants' characters are characters
 letters-characters : (s : Store) (l : List ℕ) → Audited s → all isChar (letters s l) ≡ true
@@ -123,7 +129,7 @@ assigns-step (a ∷ b ∷ l) r s d hl hr = step-pass d
 assigns-step (a ∷ []) r s d hl hr =
     ends-if (isVariable s a && fixed s r) _ _
     (λ c. ends-then _ _ (constant-ends (letters s r) s d (letters-characters s r d)) (λ s₁ t m.
-    step-propagate a t false (later-made (m .made))
+    step-propagate a t false (later-made (m .made)) (eqb-true _ _ (both-left (isVariable s a) _ c))
     (λ w rd h z. sym (append-nil (w a)) ∙ z ∙ fixed-word s w r (m .made .grown .down w rd) (both-right (isVariable s a) _ c) ∙ sym (constant-word m rd))))
     (λ c. step-pass d)
 

@@ -1,7 +1,7 @@
 -- How wordeq ends: what holds of its end without a stop, and that it stops only with 6 to 9.
 use Prim.Native.Nat.{ℕ}
 use Rattle.records.specs.Store.{Store, Out}
-use Rattle.normalize.proofs.Ends.{Refused, EndsBy}
+use Rattle.records.proofs.Outcomes.{Refused, EndsBy}
 
 abbrev pub Working : ℕ → Type 0
 Working n = Refused 9 n

@@ -15,10 +15,10 @@ use Rattle.records.specs.Meaning.{Words}
 use Rattle.records.specs.Audited.{Audited}
 use Rattle.records.proofs.Lists.{both-left, both-right, decide, clash, all-every}
 use Rattle.engine.specs.Explain.{explain}
-use Rattle.engine.proofs.Added.{Added}
+use Rattle.records.proofs.Later.{Added}
 use Rattle.engine.proofs.Sound.{explain-stops}
-use Rattle.normalize.proofs.Ends.{ends-give, ends-map, ends-if, ends-then}
-use Rattle.normalize.proofs.Rewritten.{Strings, strings-later}
+use Rattle.records.proofs.Outcomes.{ends-give, ends-map, ends-if, ends-then}
+use Rattle.records.proofs.Grown.{Strings, strings-later}
 use Rattle.wordeq.specs.Wordeq.{same, nfEqual, explainPair, nfExplain}
 use Rattle.wordeq.specs.Meaning.{ExplainsEqual}
 use Rattle.wordeq.proofs.Ends.{Ends}

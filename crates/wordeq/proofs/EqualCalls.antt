@@ -5,19 +5,20 @@ use mathlib.Core.List.{List, [], _∷_}
 use Prim.Native.Nat.{ℕ}
 use native.Mathlib.Omega.{arith}
 use lib.ListN.{length}
-use lib.Dec.{eqb, leb}
+use lib.Dec.{eqb}
 use borrow.Author.Tests.{not-true, not-false, eqb-true}
 use Rattle.records.specs.declared.State.{State}
 use Rattle.records.specs.Lists.{all}
 use Rattle.records.specs.Store.{Store, Out, ok, stop, isString}
 use Rattle.records.specs.View.{Lent, storeOf, readIn}
-use Rattle.records.specs.Rules.{audit, listLimit, isList}
+use Rattle.records.specs.Rules.{audit, isList}
 use Rattle.records.specs.Audited.{Ready}
 use Rattle.records.specs.Calls.{Working, Public, call}
 use Rattle.records.proofs.Lists.{both-left, both-right, left-false, and-next}
 use Rattle.records.proofs.Passed.{ready-of}
 use Rattle.records.proofs.Public.{call-unready, call-unfit, call-works, audit-low}
 use Rattle.records.proofs.Works.{stop-not}
+use Rattle.records.proofs.ListLaws.{list-strings}
 use Rattle.wordeq.specs.Wordeq.{same, nfEqual, nfExplain, nfArguments}
 use Rattle.wordeq.specs.Stripping.{Readable}
 use Rattle.wordeq.specs.Calls.{equalArguments, equalLists, PublicEqualExplain}
@@ -38,9 +39,6 @@ module _ (s : Store) (l r : List ℕ) (b : Bool) (e : b ≡ equalArguments l r s
 
   pub pair-last : not b ≡ false → eqb (length l) (length r) ≡ nfArguments l r s
   pair-last h = and-next (equalArguments l r s) (eqb (length l) (length r)) _ (sym e ∙ not-false b h) refl
-
-pub list-strings : (s : Store) (l : List ℕ) → isList s l ≡ true → all (isString s) l ≡ true
-list-strings s l e = both-right (leb (length l) listLimit) _ e
 
 -- terms and characters alone give the same test
 equal-read : (m : Lent) (c : State) (l r : List ℕ) → nfEqual (readIn (m .terms) (m .chars) c) l r ≡ nfEqual (storeOf m c) l r

@@ -14,7 +14,7 @@ use Rattle.records.specs.declared.State.{State}
 use Rattle.records.specs.Lists.{if_then_else_, all, keep, joined, sameWord}
 use Rattle.records.specs.Store.{Store, kind, isConstant, isString, text}
 use Rattle.records.specs.View.{lent, storeOf, readIn, termed}
-use Rattle.records.proofs.Lists.{both-left, both-right, both-true, left-false, and-next, or-stop, or-next, failed, passed, clash, decide, all-append, all-every, every-at, joined-append}
+use Rattle.records.proofs.Lists.{both-left, both-right, both-true, left-false, and-next, or-stop, or-next, clash, decide, all-append, all-every, every-at, joined-append}
 use Rattle.wordeq.specs.Wordeq.{same, fixed, lettersOf, letters, filled, lead, forced, firstSpan, fits, variables}
 use Rattle.wordeq.specs.Sides.{Spelled, rest, Tiling}
 use Rattle.wordeq.specs.Stripping.{Pair}
@@ -160,22 +160,6 @@ module _ (s : Store) (a k : ℕ) (e : k ≡ kind s a) where
 
 pub pair-at : (s : Store) (l : List ℕ) → all (isString s) l ≡ true → (v : ℕ) → isString s v ≡ true → (i : ℕ) → i < length l → Pair s (getD l i 0) v
 pair-at s l e v f i b = record { one = every-at l i 0 (all-every _ l e) b; other = f }
-
-module _ (p : ℕ → Bool) (l : List ℕ) (i : ℕ) (h : all p (drop i l) ≡ all p l) where
-  module _ (q : i < length l) (b : Bool) (e : b ≡ p (getD l i 0)) where
-    all-at : all p l ≡ (p (getD l i 0) && all p (drop (suc i) l))
-    unfolding all
-    all-at = sym h ∙ rw (drop-cons l i 0 q)
-
-    pub all-stop : not b ≡ true → false ≡ all p l
-    all-stop n = sym (all-at ∙ left-false _ _ (failed _ b e n))
-
-    pub all-turn : not b ≡ false → all p (drop (i + 1) l) ≡ all p l
-    all-turn n = rw add-one (sym (all-at ∙ ap (λ (x : Bool). x && all p (drop (suc i) l)) (passed _ b e n)))
-
-  pub all-done : length l ≤ i → true ≡ all p l
-  unfolding all
-  all-done q = rw (drop-of-length-le l q) at h
 
 pub agree-variables : (s : Store) (v : ℕ) (l : List ℕ) → all (agrees s v) l ≡ all (λ u. same s u v) (variables s l)
 unfolding all keep agrees

@@ -7,13 +7,13 @@ use native.Mathlib.Omega.{arith}
 use lib.ListN.{length, take, drop, getD, length-append, length-take, length-drop}
 use lib.IntN.{ℤ}
 use lib.Dec.{leb}
-use borrow.Author.Tests.{eq-eqb, ne-eqb, le-leb}
+use borrow.Author.Tests.{le-leb}
 use mir.Syntax.{w32}
 use mir.Val.{toZ, ofZ, SFits}
 use mir.ValLaws.{toZ-ofZ}
 use Rattle.records.specs.declared.State.{State}
 use Rattle.records.specs.Lists.{any, joined}
-use Rattle.records.specs.Store.{Store, Out, ok, stop, andThen, _>>=_, give, kind, isConcat}
+use Rattle.records.specs.Store.{Store, Out, ok, stop, andThen, _>>=_, give, isConcat}
 use Rattle.records.specs.View.{Lent, storeOf}
 use Rattle.records.specs.Rules.{listLimit, isList}
 use Rattle.records.specs.Audited.{Ready}
@@ -30,30 +30,6 @@ use Rattle.wordeq.specs.Resolving.{soft, flatSteps, ran}
 use Rattle.wordeq.proofs.Strips.{drop-head}
 
 -- SOME ATOM IS A CONCATENATION
-
-module _ (s : Store) (l : List ℕ) (i : ℕ) (g : any (isConcat s) (drop i l) ≡ any (isConcat s) l) where
-  module _ (h : i < length l) (k : ℕ) (f : k ≡ kind s (getD l i 0)) where
-    at : any (isConcat s) (drop i l) ≡ (isConcat s (getD l i 0) || any (isConcat s) (drop (i + 1) l))
-    unfolding any
-    at = rw (drop-head l i h)
-
-    pub concat-stop : k ≡ 3 → true ≡ any (isConcat s) l
-    concat-stop z =
-        let q : isConcat s (getD l i 0) ≡ true = eq-eqb (kind s (getD l i 0)) 3 (sym f ∙ z) in
-        sym (sym g ∙ at ∙ ap (λ (b : Bool). b || any (isConcat s) (drop (i + 1) l)) q)
-
-    pub concat-turn : (k ≡ 3 → ⊥) → any (isConcat s) (drop (i + 1) l) ≡ any (isConcat s) l
-    concat-turn z =
-        let q : isConcat s (getD l i 0) ≡ false = ne-eqb (kind s (getD l i 0)) 3 (λ e. z (f ∙ e)) in
-        sym (ap (λ (b : Bool). b || any (isConcat s) (drop (i + 1) l)) q) ∙ sym at ∙ g
-
-  none : (k : List ℕ) → length k ≡ 0 → false ≡ any (isConcat s) k
-  unfolding any
-  none [] e = refl
-  none (a ∷ k) e = absurd (omega arith)
-
-  pub concat-end : length l ≤ i → false ≡ any (isConcat s) l
-  concat-end h = let k = length-drop i l in none (drop i l) (omega arith) ∙ g
 
 module _ (s : Store) (l r : List ℕ) (b : Bool) (e : b ≡ any (isConcat s) l) where
   pub either-left : b ≡ true → true ≡ any (isConcat s) (l ++ r)

@@ -4,12 +4,11 @@ use mathlib.Core.Bool.{Bool, true, false}
 use mathlib.Core.List.{List, []}
 use Prim.Native.Nat.{ℕ, _≤_}
 use lib.ListN.{length}
-use borrow.Author.Tests.{leb-true}
 use Rattle.records.specs.declared.State.{State}
 use Rattle.records.specs.View.{Lent, lent, storeOf, readIn, termed}
-use Rattle.records.specs.Rules.{listLimit, isList}
+use Rattle.records.specs.Rules.{listLimit}
 use Rattle.records.specs.Audited.{Ready}
-use Rattle.records.proofs.Lists.{both-left}
+use Rattle.records.proofs.ListLaws.{list-short}
 use Rattle.wordeq.specs.declared.StepResult.the-variants as step
 use Rattle.wordeq.specs.Wordeq.{fixed, lettersOf, letters, unequal, short, absent, constants}
 use Rattle.wordeq.specs.Sides.{Texts, Spelled}
@@ -54,12 +53,9 @@ module _ (m : Lent) (c : State) (l r : List ℕ) where
   unfolding conflicts unequal short absent fixed letters lettersOf
   conflicts-whole = refl
 
-  list-limit : (k : List ℕ) → isList (storeOf m c) k ≡ true → length k ≤ listLimit
-  list-limit k e = leb-true (length k) listLimit (both-left _ _ e)
-
   -- what the code's step 3 requires
   pub constants-need : Ready m c → BothLists (storeOf m c) l r → Spelled (m .terms) (m .chars) c × (length l ≤ listLimit) × (length r ≤ listLimit)
-  constants-need x b = (ready-readIn m c x, list-limit l (b .left), list-limit r (b .right))
+  constants-need x b = (ready-readIn m c x, list-short (storeOf m c) l (b .left), list-short (storeOf m c) r (b .right))
 
   -- and what it answers
   module _ (b : Bool) (e : b ≡ conflicts (readIn (m .terms) (m .chars) c) l r) where

@@ -16,11 +16,11 @@ pub mod SidesWalk
 pub mod SidesTexts
 pub mod SidesReady
 pub mod Listed
-pub mod Sequence
 pub mod Splitting
 pub mod SidesTile
 pub mod SidesUnequal
-pub mod Later
+pub mod Turning
+pub mod ExplainingEach
 pub mod Propagating
 pub mod Pairs
 pub mod EqualCalls

@@ -27,9 +27,10 @@ use Rattle.wordeq.specs.Wordeq.{conflict, pass, answer, settled, _orElse
 use Rattle.wordeq.specs.Results.{BothLists, tried, Tries}
 use Rattle.wordeq.specs.Sides.{Texts}
 use Rattle.wordeq.specs.Occurring.{atPlace}
-use Rattle.wordeq.proofs.SidesReady.{ready-readIn, ready-classes, string-within}
-use Rattle.normalize.proofs.Carried.{Higher, agree-below}
-use Rattle.wordeq.proofs.Sequence.{grows-give}
+use Rattle.wordeq.proofs.SidesReady.{ready-readIn}
+use Rattle.records.proofs.Climbs.{string-within, ready-roots}
+use Rattle.records.proofs.Counts.{Higher, agree-below}
+use Rattle.records.proofs.Sequence.{grows-give}
 use Rattle.wordeq.proofs.Elsewhere.{place-in, place-past, occurrence-whole, occurrence-class}
 use Rattle.records.specs.declared.Added.{Added as Answered}
 
@@ -79,10 +80,10 @@ module _ (t e h r ks : List ℕ) (c : State) (l o : List ℕ) where
     texts-known = (ready-readIn m c d .texts, leb-true (length o) listLimit (both-left _ _ (b .right)))
 
     pub classes-known : Closed (classUp (termsView t (c .terms))) (c .terms)
-    classes-known = ready-classes m c d
+    classes-known = ready-roots m c (d .audited .classed)
 
     pub side-within : all (within (c .terms)) o ≡ true
-    side-within = every-all (every-map (λ a z. string-within m c d a z) (all-every (isString s) o (both-right (leb (length o) listLimit) _ (b .right))))
+    side-within = every-all (every-map (λ a z. string-within m c a z) (all-every (isString s) o (both-right (leb (length o) listLimit) _ (b .right))))
 
     side-string : (p : ℕ) → p < length o → isString s (getD o p 0) ≡ true
     side-string p z = every-at o p 0 (all-every (isString s) o (both-right (leb (length o) listLimit) _ (b .right))) z
@@ -91,7 +92,7 @@ module _ (t e h r ks : List ℕ) (c : State) (l o : List ℕ) where
     lone-string n = every-at l 0 0 (all-every (isString s) l (both-right (leb (length l) listLimit) _ (b .left))) (omega arith)
 
     pub lone-within : length l ≡ 1 → within (c .terms) (getD l 0 0) ≡ true
-    lone-within n = string-within m c d (getD l 0 0) (lone-string n)
+    lone-within n = string-within m c (getD l 0 0) (lone-string n)
 
     module _ (n : length l ≡ 1) (k : ℕ) (i : k ≡ termIn (termsView t (c .terms)) (getD l 0 0) .kind) (j : k ≡ 1 → ⊥) (p : ℕ)
         (f : occurrence (termed t c) (getD l 0 0) [] o ≡ atPlace o p) where

@@ -11,8 +11,8 @@ use Rattle.records.specs.Lists.{any, joined, Every, and}
 use Rattle.records.specs.Store.{Store, isConstant, text, sameClass}
 use Rattle.records.specs.Meaning.{Words, Reading}
 use Rattle.records.proofs.Lists.{both-left, both-right}
-use Rattle.normalize.proofs.Ends.{ends-if, ends-then}
-use Rattle.normalize.proofs.Rewritten.{Strings}
+use Rattle.records.proofs.Outcomes.{ends-if, ends-then}
+use Rattle.records.proofs.Grown.{Strings}
 use Rattle.wordeq.specs.Wordeq.{isFull, occurrence, occursAt, occurs}
 use Rattle.wordeq.proofs.Words.{inside-longer, some-long}
 use Rattle.wordeq.proofs.Ends.{Ends}

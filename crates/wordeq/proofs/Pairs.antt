@@ -1,5 +1,5 @@
 -- The loop of `nfExplain`: pairs explained one after the other.
-use mathlib.Core.Path.{_≡_, refl, sym, ap, _∙_}
+use mathlib.Core.Path.{_≡_, refl, sym, _∙_}
 use mathlib.Core.Bool.{Bool, true, false, not, _&&_}
 use mathlib.Core.List.{List, [], _∷_}
 use Prim.Native.Nat.{ℕ, _+_, _≤_, _<_}
@@ -9,7 +9,7 @@ use borrow.Author.Tests.{not-true, not-false, eq-eqb, ne-eqb}
 use Rattle.records.specs.declared.State.{State}
 use Rattle.records.specs.declared.Added.the-variants as adding
 use Rattle.records.specs.Lists.{all, sameWord}
-use Rattle.records.specs.Store.{Store, Out, ok, stop, andThen, isConstant, isString, text, sameClass}
+use Rattle.records.specs.Store.{Store, Out, ok, Work, andThen, isConstant, isString, text, sameClass}
 use Rattle.records.specs.View.{Lent, lent, storeOf, readIn}
 use Rattle.records.specs.Audited.{Ready}
 use Rattle.records.specs.Calls.{Working, added}
@@ -17,7 +17,8 @@ use Rattle.records.proofs.Lists.{both-true}
 use Rattle.engine.specs.Explain.{explain, explainArguments}
 use Rattle.wordeq.specs.Wordeq.{explainPair, nfExplain}
 use Rattle.wordeq.specs.Stripping.{Readable, Pair}
-use Rattle.wordeq.proofs.Strips.{Going, going-none, going-then, kept-down, pair-of, drop-head}
+use Rattle.wordeq.proofs.Strips.{pair-of, drop-head}
+use Rattle.wordeq.proofs.Turning.{Turning, turning-none, turning-end, turning-refused, turning-on}
 use Rattle.wordeq.proofs.Equal.{pair-ends}
 use Rattle.records.specs.declared.Added.{Added as Answered}
 
@@ -65,10 +66,6 @@ module _ (t e h r ks : List ℕ) (c : State) (a b : ℕ) where
 
 -- EACH PAIR
 
-explain-on : (a b : ℕ) (l r : List ℕ) (s : Store) (o : Out (Unit {0})) → explainPair a b s ≡ o → nfExplain (a ∷ l) (b ∷ r) s ≡ andThen (λ u. nfExplain l r) o
-unfolding nfExplain
-explain-on a b l r s o i = rw i
-
 explain-done : (l r : List ℕ) (s : Store) → length l ≡ 0 → nfExplain l r s ≡ ok s tt
 unfolding nfExplain
 explain-done [] r s e = refl
@@ -78,33 +75,35 @@ module _ (t e h ks l r : List ℕ) where
   abbrev now : List ℕ → State → Store
   now rs c = storeOf (lent t e h rs ks) c
 
+  abbrev left : ℕ → Work (Unit {0})
+  left i = nfExplain (drop i l) (drop i r)
+
+  abbrev one : ℕ → Work (Unit {0})
+  one i = explainPair (getD l i 0) (getD r i 0)
+
   -- the first i pairs are explained
-  pub record Pairing (c : State) (rs : List ℕ) (d : State) (rs′ : List ℕ) (i : ℕ) : Type 0 where
-    pub going : Going t e h ks c rs d rs′
-    pub rest : nfExplain (drop i l) (drop i r) (now rs′ d) ≡ nfExplain l r (now rs c)
+  abbrev pub Pairing : State → List ℕ → State → List ℕ → ℕ → Type 0
+  Pairing = Turning t e h ks left one
 
   pub pairing-none : {c : State} {rs : List ℕ} → Ready (lent t e h rs ks) c → Pairing c rs c rs 0
-  pairing-none d = record { going = going-none t e h ks d; rest = refl }
+  pairing-none d = turning-none t e h ks left one d
 
   module _ {c d : State} {rs rs₁ : List ℕ} {i : ℕ} (g : Pairing c rs d rs₁ i) where
     pub pairing-end : length l ≤ i → Working (nfExplain l r) (lent t e h rs ks) (lent t e h rs₁ ks) c (added (adding.Counts d) (lent t e h rs₁ ks))
-    pairing-end z = let k = length-drop i l in record { says = sym (g .rest) ∙ explain-done (drop i l) (drop i r) (now rs₁ d) (omega arith); kept = g .going .kept }
+    pairing-end z = let k = length-drop i l in turning-end t e h ks left one g (explain-done (drop i l) (drop i r) (now rs₁ d) (omega arith))
 
-    module _ (b : i < length l) (n : length l ≡ length r) (left : all (isString (readIn t h c)) l ≡ true) (right : all (isString (readIn t h c)) r ≡ true) where
+    module _ (b : i < length l) (n : length l ≡ length r) (one-side : all (isString (readIn t h c)) l ≡ true) (other-side : all (isString (readIn t h c)) r ≡ true) where
       pub pairing-pair : Pair (readIn t h d) (getD l i 0) (getD r i 0)
-      pairing-pair = pair-of t e h ks (g .going) l r left right i i b (omega arith)
+      pairing-pair = pair-of t e h ks (g .going) l r one-side other-side i i b (omega arith)
 
-      on : (o : Out (Unit {0})) → explainPair (getD l i 0) (getD r i 0) (now rs₁ d) ≡ o → nfExplain (drop i l) (drop i r) (now rs₁ d) ≡ andThen (λ u. nfExplain (drop (i + 1) l) (drop (i + 1) r)) o
-      on o j = rw (drop-head l i b, drop-head r i (omega arith)) (explain-on (getD l i 0) (getD r i 0) (drop (i + 1) l) (drop (i + 1) r) (now rs₁ d) o j)
+      next : left i (now rs₁ d) ≡ andThen (λ u. left (i + 1)) (one i (now rs₁ d))
+      unfolding nfExplain
+      next = rw (drop-head l i b, drop-head r i (omega arith))
 
       module _ (rs₂ : List ℕ) (y : Answered) (w : Working (explainPair (getD l i 0) (getD r i 0)) (lent t e h rs₁ ks) (lent t e h rs₂ ks) d (added y (lent t e h rs₂ ks))) where
         pub pairing-refused : (k : ℕ) → y ≡ adding.Refused k → Working (nfExplain l r) (lent t e h rs ks) (lent t e h rs₂ ks) c (added (adding.Refused k) (lent t e h rs₂ ks))
-        pairing-refused k j = record { says = sym (g .rest) ∙ on (stop k) (w .says ∙ ap (λ (o : Answered). added o (lent t e h rs₂ ks)) j); kept = kept-down t e h ks (g .going) rs₂ (w .kept) }
+        pairing-refused = turning-refused t e h ks left one g next rs₂ y w
 
         pub pairing-turn : (d₂ : State) → y ≡ adding.Counts d₂ → Pairing c rs d₂ rs₂ (i + 1)
         pairing-turn d₂ j =
-            let k : explainPair (getD l i 0) (getD r i 0) (now rs₁ d) ≡ ok (now rs₂ d₂) tt = w .says ∙ ap (λ (o : Answered). added o (lent t e h rs₂ ks)) j in
-            record {
-              going = going-then t e h ks (g .going) rs₂ (pair-ends (getD l i 0) (getD r i 0) (now rs₁ d) (g .going .ready .audited) (pairing-pair .one) (pairing-pair .other) .given (now rs₂ d₂) tt k) (w .kept);
-              rest = sym (on (ok (now rs₂ d₂) tt) k) ∙ g .rest;
-            }
+            turning-on t e h ks left one g next rs₂ y w d₂ j (pair-ends (getD l i 0) (getD r i 0) (now rs₁ d) (g .going .ready .audited) (pairing-pair .one) (pairing-pair .other) .given (now rs₂ d₂) tt)

@@ -3,11 +3,9 @@ use mathlib.Core.Path.{_≡_, refl, sym, ap, _∙_}
 use mathlib.Core.Bool.{Bool, true, false, not, _&&_}
 use mathlib.Core.List.{List, [], _∷_}
 use mathlib.Core.Option.{Option, none, some}
-use Prim.Native.Nat.{ℕ, suc, _+_, _≤_, _<_}
-use native.Mathlib.Numerals.{add-one}
+use Prim.Native.Nat.{ℕ, _+_, _≤_, _<_}
 use native.Mathlib.Omega.{arith}
 use lib.ListN.{length, getD, drop, drop-of-length-le}
-use lib.Seq.{drop-cons}
 use lib.Dec.{eqb, leb}
 use borrow.Author.Tests.{eqb-true, eq-eqb, ne-eqb, leb-true, le-leb, lt-leb}
 use Rattle.records.specs.declared.State.{State}
@@ -19,7 +17,7 @@ use Rattle.records.specs.View.{Lent, storeOf, readIn, termed}
 use Rattle.records.specs.Make.{makeConstant}
 use Rattle.records.specs.Audited.{Ready}
 use Rattle.records.specs.Calls.{Working, made}
-use Rattle.records.proofs.Lists.{both-left, both-right, left-false, failed, passed, every-map, all-every}
+use Rattle.records.proofs.Lists.{both-left, both-right, failed, passed, every-map, all-every}
 use Rattle.records.proofs.Grown.{grown-string}
 use Rattle.records.proofs.Kept.{MadeIn, made-string}
 use Rattle.wordeq.specs.declared.StepResult.{StepResult}
@@ -29,7 +27,7 @@ use Rattle.wordeq.specs.Results.{tried, Tries}
 use Rattle.wordeq.specs.Stripping.{Readable, Pair}
 use Rattle.wordeq.specs.Propagates.{aliased, emptied, assigned, linked}
 use Rattle.wordeq.proofs.Strips.{drop-head}
-use Rattle.wordeq.proofs.Sequence.{made-is, made-stops}
+use Rattle.records.proofs.Sequence.{made-is, made-stops}
 use Rattle.wordeq.proofs.Splitting.{constant-in, empty-ready}
 use Rattle.wordeq.proofs.Propagating.{assigns-done, assigns-stop}
 
@@ -69,22 +67,6 @@ module _ (s : Store) (l r : List ℕ) where
 
     pub assigned-last : k ≡ 2 → (y : Bool) → y ≡ fixed s r → y ≡ assigned s l r
     assigned-last n y j = rw (eq-eqb (length l) 1 e, eq-eqb (kind s (getD l 0 0)) 2 (sym i ∙ n)) j
-
--- all variables, atom by atom
-module _ (s : Store) (l : List ℕ) (i k : ℕ) (h : all (isVariable s) (drop i l) ≡ all (isVariable s) l) (q : i < length l) (e : k ≡ kind s (getD l i 0)) where
-  variables-at : all (isVariable s) l ≡ (isVariable s (getD l i 0) && all (isVariable s) (drop (suc i) l))
-  unfolding all
-  variables-at = sym h ∙ rw (drop-cons l i 0 q)
-
-  pub variables-stop : (k ≡ 2 → ⊥) → false ≡ all (isVariable s) l
-  variables-stop n = sym (variables-at ∙ left-false _ _ (ne-eqb _ 2 (λ z. n (e ∙ z))))
-
-  pub variables-turn : k ≡ 2 → all (isVariable s) (drop (i + 1) l) ≡ all (isVariable s) l
-  variables-turn n = rw add-one (sym (variables-at ∙ rw (eq-eqb (kind s (getD l i 0)) 2 (sym e ∙ n))))
-
-pub variables-done : (s : Store) (l : List ℕ) (i : ℕ) → all (isVariable s) (drop i l) ≡ all (isVariable s) l → length l ≤ i → true ≡ all (isVariable s) l
-unfolding all
-variables-done s l i h q = rw (drop-of-length-le l q) at h
 
 -- THE FIRST VARIABLE THAT IS NOT THE SAME
 

@@ -14,7 +14,7 @@ use Rattle.records.specs.Make.{makeConstant}
 use Rattle.records.specs.Calls.{Working, made}
 use Rattle.records.proofs.Lists.{all-every, every-map, joined-same}
 use Rattle.wordeq.specs.Wordeq.{propagate, answer, fixed, lettersOf, letters, assigns}
-use Rattle.wordeq.proofs.Sequence.{made-is, made-stops}
+use Rattle.records.proofs.Sequence.{made-is, made-stops}
 
 -- a side of constants: its constant characters are its characters
 pub letters-fixed : (s : Store) (l : List ℕ) → fixed s l ≡ true → letters s l ≡ joined (text s) l

@@ -16,17 +16,17 @@ use Rattle.records.specs.Meaning
 use Rattle.records.specs.Meaning.{Words, Reading, Holds, True}
 use Rattle.records.specs.Audited.{Audited}
 use Rattle.records.proofs.Lists.{all-every, every-all, every-map}
-use Rattle.records.proofs.Grown.{Grown, grown-none, grown-then}
-use Rattle.records.proofs.Beside.{audited-beside, grown-beside, reading-beside}
+use Rattle.records.proofs.Grown.{Grown, grown-none, holds-before, Strings, holds-fewer}
+use Rattle.records.proofs.Beside.{reading-beside}
 use Rattle.normalize.specs.Normalize.{flatten}
 use Rattle.normalize.proofs.Atoms.{Flat, flatten-flat, flatten-stops, flatten-atoms}
-use Rattle.normalize.proofs.Ends.{ends-give, ends-map, ends-by, ends-if, ends-then}
-use Rattle.normalize.proofs.Rewritten.{Strings, holds-fewer}
+use Rattle.records.proofs.Outcomes.{ends-give, ends-map, ends-by, ends-if, ends-then}
 use Rattle.wordeq.specs.Wordeq.{Answer, done, saturated, conflict, propagate, split, answer, after, isBare, orDone, steps, softened, closed, resolve}
 use Rattle.wordeq.specs.Meaning.{Chosen, Sound}
 use Rattle.wordeq.proofs.Ends.{Working, Ends}
-use Rattle.wordeq.proofs.Cited.{Under, holds-back, added-reasons}
-use Rattle.wordeq.proofs.Good.{More, more-none, Later, later-then, later-cited, joined-local, worth-back, Calm, Good, passes, answers, Step, step-else, step-flip}
+use Rattle.wordeq.proofs.Cited.{Under, added-reasons}
+use Rattle.wordeq.proofs.Good.{joined-local, worth-back, Calm, Good, passes, answers, Step, step-else, step-flip, later-cited}
+use Rattle.records.proofs.Later.{More, Later, later-then, later-cut, variables-added}
 use Rattle.wordeq.proofs.Strip.{Apart, Stripped, strip-ends}
 use Rattle.wordeq.proofs.Occurs.{occurs-step}
 use Rattle.wordeq.proofs.Constants.{constants-step, alias-step, empties-step, assigns-step, clashes-step}
@@ -73,11 +73,11 @@ module _ (l r : List ℕ) (s : Store) (hl : Strings s l) (hr : Strings s r) wher
   -- what is sound of the stripped sides is sound of the sides
   stepped : (added : Bool) (s₁ : Store) (v : List ℕ × List ℕ) → Stripped l r s s₁ v → ltb (length (s .reasons)) (length (s₁ .reasons)) ≡ added
       → (s′ : Store) (o : Option Answer) → Good added (v .0) (v .1) s₁ s′ o → Stepped l r s s′ o
-  stepped added s₁ v t a s′ none (passes k e) = nothing (later-then (later-cited (t .cited)) k)
+  stepped added s₁ v t a s′ none (passes k u e) = nothing (later-then (later-cited (t .cited)) k)
   stepped added s₁ v t a s′ (some x) (answers k h c) =
       something (record {
         later = later-then (later-cited (t .cited)) k;
-        sound = worth-back x (λ w. joined w l) (λ w. joined w r) (λ w. joined w (v .0)) (λ w. joined w (v .1)) (t .cited .grown) (k .grown) (joined-local s hl) (joined-local s hr) sides h;
+        sound = worth-back x (λ w. joined w l) (λ w. joined w r) (λ w. joined w (v .0)) (λ w. joined w (v .1)) (t .cited .grown) (variables-added (t .cited .added)) (k .grown) (joined-local s hl) (joined-local s hr) sides h;
         calm = calmed x c;
       })
     where
@@ -86,7 +86,7 @@ module _ (l r : List ℕ) (s : Store) (hl : Strings s l) (hr : Strings s r) wher
           subst (List·Memᴰ q) (sym (k .reasons .is)) (Memᴰ·append-left (k .reasons .more) (subst (List·Memᴰ q) (sym (added-reasons (t .cited .added))) (Memᴰ·append-right (s .reasons) m)))
 
       sides : Under s₁ (s′ .reasons) (λ w. joined w l ≡ joined w r → joined w (v .0) ≡ joined w (v .1))
-      sides w rd u = t .cited .holds w (t .cited .grown .down w rd) (holds-fewer cited-here (holds-back (t .cited .added) u))
+      sides w rd u = t .cited .holds w (t .cited .grown .down w rd) (holds-fewer cited-here (holds-before (t .cited .grown) (s′ .reasons) u))
 
       calmed : (x : Answer) → Calm added s₁ s′ x → Calm false s s′ x
       calmed done c = tt
@@ -124,7 +124,7 @@ flatten-ends l s d h =
 
 module _ (l r m n : List ℕ) (s : Store) (hl : Strings s l) (hr : Strings s r) (fl : (w : Words) → Reading s w → joined w l ≡ joined w m) (fr : (w : Words) → Reading s w → joined w r ≡ joined w n) where
   ran-flat : (s′ : Store) (x : Answer) → Ran m n s s′ x → Ran l r s s′ (softened x)
-  ran-flat s′ x k = soft x (k .calm) (worth-back x (λ w. joined w l) (λ w. joined w r) (λ w. joined w m) (λ w. joined w n) (grown-none s) (k .later .grown) (joined-local s hl) (joined-local s hr)
+  ran-flat s′ x k = soft x (k .calm) (worth-back x (λ w. joined w l) (λ w. joined w r) (λ w. joined w m) (λ w. joined w n) (grown-none s) (λ t e. e) (k .later .grown) (joined-local s hl) (joined-local s hr)
       (λ w rd h e. sym (fl w rd) ∙ e ∙ fr w rd) (k .sound))
     where
       soft : (x : Answer) → Calm false s s′ x → Sound s s′ l r x → Ran l r s s′ (softened x)
@@ -150,23 +150,10 @@ pub record Resolved (l r : List ℕ) (s s′ : Store) (x : Answer) : Type 0 wher
   pub sound : Sound s s′ l r x
   pub incoming : Incoming s s′ x
 
--- reasons cut back to those that came in
-pub later-cut : {s s₁ : Store} → Audited s → Later s s₁ → Later s (withReasons s₁ (s .reasons))
-later-cut {s} {s₁} d k =
-    let e = ap (λ (x : _). x .reasons) (k .room) in
-    let h = d .roomy .reasons in
-    record {
-      audited = audited-beside s₁ (s .reasons) (s₁ .keys) (s₁ .names) (k .audited) (d .recorded .reasons) (k .audited .recorded .keys) (omega arith) (k .audited .roomy .keys);
-      grown = grown-then (k .grown) (grown-beside s₁ (s .reasons) (s₁ .keys) (s₁ .names));
-      reasons = more-none refl;
-      keys = k .keys;
-      room = k .room;
-    }
-
 module _ (s₁ : Store) (rs : List (ℕ × ℕ)) where
   true-cut : {w : Words} {a : ℕ} → True s₁ w a → True (withReasons s₁ rs) w a
-  true-cut (Meaning.True.equal p q) = Meaning.True.equal p q
-  true-cut (Meaning.True.long p q) = Meaning.True.long p q
+  true-cut (Meaning.True.equal k p q) = Meaning.True.equal k p q
+  true-cut (Meaning.True.long k p q) = Meaning.True.long k p q
 
   chosen-cut : {s : Store} {w : Words} {atoms : List ℕ} → Chosen s s₁ w atoms → Chosen s (withReasons s₁ rs) w atoms
   chosen-cut c = record {

@@ -28,7 +28,7 @@ use Rattle.wordeq.specs.Wordeq.{Answer, done, saturated, split, closed, 
 use Rattle.wordeq.specs.Results.{BothLists, resolved}
 use Rattle.wordeq.specs.Resolving.{closing, flatSteps, ran}
 use Rattle.wordeq.specs.Calls.{equalArguments, PublicResolve}
-use Rattle.wordeq.proofs.EqualCalls.{list-strings}
+use Rattle.records.proofs.ListLaws.{list-strings}
 use Rattle.wordeq.proofs.Resolve.{resolve-sound, resolve-stops}
 
 -- CLOSED

@@ -1,6 +1,6 @@
 -- The constants of a side, and their characters counted.
 use mathlib.Core.Path.{_≡_, sym, ap, _∙_}
-use mathlib.Core.Bool.{Bool, true, false, not, _&&_}
+use mathlib.Core.Bool.{Bool, true, false, not}
 use mathlib.Core.List.{List, [], _++_}
 use Prim.Native.Nat.{ℕ, suc, _+_, _*_, _-_, _<_, _≤_}
 use native.Mathlib.Numerals.{add-one}
@@ -10,31 +10,14 @@ use lib.Seq.{drop-cons, take-all}
 use lib.Dec.{ltb}
 use borrow.Author.Tests.{eq-eqb, ne-eqb}
 use Rattle.records.specs.declared.State.{State}
-use Rattle.records.specs.Lists.{if_then_else_, all, joined}
+use Rattle.records.specs.Lists.{if_then_else_, joined}
 use Rattle.records.specs.Store.{Store, Term, textIn, kind, term, isConstant, text}
 use Rattle.records.specs.View.{charLimit, termAt, readIn, termed}
-use Rattle.records.proofs.Lists.{and-stop, and-next, left-false, table-length, failed, passed, within-low, within-high}
+use Rattle.records.proofs.Lists.{and-stop, and-next, table-length, failed, passed, within-low, within-high}
 use Rattle.records.proofs.Grown.{kind-term}
 use Rattle.records.proofs.Views.{term-is}
 use Rattle.wordeq.specs.Wordeq.{fixed, lettersOf, letters, short}
 use Rattle.wordeq.specs.Sides.{Texts, constantSide, otherSide}
-
--- ALL CONSTANTS
-
-module _ (s : Store) (l : List ℕ) (i k : ℕ) (h : fixed s (drop i l) ≡ fixed s l) (q : i < length l) (e : k ≡ kind s (getD l i 0)) where
-  fixed-at : fixed s l ≡ (isConstant s (getD l i 0) && fixed s (drop (suc i) l))
-  unfolding fixed all
-  fixed-at = sym h ∙ rw (drop-cons l i 0 q)
-
-  pub fixed-stop : (k ≡ 1 → ⊥) → false ≡ fixed s l
-  fixed-stop n = sym (fixed-at ∙ left-false _ _ (ne-eqb _ 1 (λ z. n (e ∙ z))))
-
-  pub fixed-turn : k ≡ 1 → fixed s (drop (i + 1) l) ≡ fixed s l
-  fixed-turn n = rw add-one (sym (fixed-at ∙ rw (eq-eqb (kind s (getD l i 0)) 1 (sym e ∙ n))))
-
-pub fixed-done : (s : Store) (l : List ℕ) (i : ℕ) → fixed s (drop i l) ≡ fixed s l → length l ≤ i → true ≡ fixed s l
-unfolding fixed all
-fixed-done s l i h q = rw (drop-of-length-le l q) at h
 
 -- THE CONSTANT SIDE
 

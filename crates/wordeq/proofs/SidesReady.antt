@@ -1,19 +1,17 @@
 -- What the tests of two lists require follows from an audited store, and they say the same of the whole store: they read its terms and
 -- characters alone.
 use mathlib.Core.Path.{_≡_, refl, ap, _∙_}
-use mathlib.Core.Bool.{Bool, true, _&&_}
+use mathlib.Core.Bool.{Bool, _&&_}
 use mathlib.Core.List.{List, [], _∷_}
-use Prim.Native.Nat.{ℕ, suc}
+use Prim.Native.Nat.{ℕ}
 use native.Mathlib.Omega.{arith}
 use lib.ListN.{length, getD, length-append}
 use lib.Dec.{ltb}
 use Rattle.records.specs.declared.State.{State}
 use Rattle.records.specs.Lists.{joined}
-use Rattle.records.specs.Store.{isString, within, classUp}
-use Rattle.records.specs.View.{Lent, storeOf, termAt, termsView, readIn, termed}
-use Rattle.records.specs.Audited.{Ready, Closed}
+use Rattle.records.specs.View.{Lent, storeOf, readIn, termed}
+use Rattle.records.specs.Audited.{Ready}
 use Rattle.records.proofs.Lists.{table-length}
-use Rattle.records.proofs.Grown.{string-term}
 use Rattle.wordeq.specs.Wordeq.{fixed, lettersOf, letters, short}
 use Rattle.wordeq.specs.Sides.{Texts, Spelled, constantSide, otherSide}
 use Rattle.wordeq.proofs.SidesWalk.{count-same}
@@ -32,15 +30,6 @@ module _ (m : Lent) (c : State) where
       };
       room = x .sized .charRoom;
     }
-
-    terms-size : length ((storeOf m c) .terms) ≡ c .terms
-    terms-size = table-length (λ i. termAt (m .terms) (suc i)) (c .terms)
-
-    pub ready-classes : Closed (classUp (termsView (m .terms) (c .terms))) (c .terms)
-    ready-classes = let f = x .audited .classed .classParents in record { stays = rw terms-size at f }
-
-    pub string-within : (t : ℕ) → isString (storeOf m c) t ≡ true → within (c .terms) t ≡ true
-    string-within t e = let f = string-term (storeOf m c) t e in rw terms-size at f
 
   pub fixed-whole : (l : List ℕ) → fixed (termed (m .terms) c) l ≡ fixed (storeOf m c) l
   unfolding fixed

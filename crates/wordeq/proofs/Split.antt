@@ -20,12 +20,13 @@ use Rattle.records.proofs.Readings.{text-characters}
 use Rattle.records.proofs.Grown.{Grown, grown-then, grown-kind, grown-string, present, string-here}
 use Rattle.records.proofs.Kept.{made-string, ConcatMade, concat-kept, concat-stops, LengthMade, length-kept, length-stops, EquationMade, equation-kept, equation-stops, KeyAdded, key-kept, key-stops, Fresh, fresh-kept, fresh-stops}
 use Rattle.records.proofs.Meant.{constant-word, concat-word, equation-true, lengths-true, grown-true}
-use Rattle.normalize.proofs.Ends.{ends-give, ends-map, ends-by, ends-if, ends-then}
+use Rattle.records.proofs.Outcomes.{ends-give, ends-map, ends-by, ends-if, ends-then}
 use Rattle.wordeq.specs.Wordeq.{split, Tried, answer, freshVariable, splitCharacter, splitHeads, splitBy, splits}
 use Rattle.wordeq.specs.Meaning.{Chosen, Sound}
 use Rattle.wordeq.proofs.Words.{longer-is, first-is}
 use Rattle.wordeq.proofs.Ends.{Ends}
-use Rattle.wordeq.proofs.Good.{Later, later-none, later-then, later-made, later-key, Good, answers, good-after, good-flip, Step, step-pass}
+use Rattle.wordeq.proofs.Good.{Good, answers, good-after, good-flip, Step, step-pass}
+use Rattle.records.proofs.Later.{Later, later-none, later-then, later-made, later-key}
 use Rattle.wordeq.proofs.Strip.{Apart}
 use Rattle.wordeq.proofs.Constants.{constant-ends}
 
@@ -207,8 +208,8 @@ module _ {added : Bool} (none-added : added ≡ false) (g : ℤ) where
       split-ends (p ∷ q₁ ∷ q₂ ∷ []) k₉ still
       (three-ways a b l r p q₁ q₂ z₁ z₂ (negℤ g) s s₉ (string-here s a sa) (string-here s b sb)
       (choose-two s s₃ s₄ s₆ s₇ s₉ z₁ z₂ (k₃ .grown) m₄ (grown-then (m₅ .made .grown) (m₆ .made .grown)) m₇ g₇₉)
-      (λ w rd h. grown-true g₃₉ (k₃ .audited .recorded) p (m₃ .made .kind-is) (lengths-true la lb a b m₃ la-kind (m₂ .made .kind-is) la-first (m₂ .first-is) h))
-      (λ w rd h. grown-true g₆₉ (k₆ .audited .recorded) q₁ (m₆ .made .kind-is) (equation-true a t₁ m₆ (grown-string (k₅ .grown) a sa) (h ∙ sym (pair-word w m₅ g₅₉ rd))))
+      (λ w rd h. grown-true g₃₉ (k₃ .audited .recorded) p (lengths-true la lb a b m₃ la-kind (m₂ .made .kind-is) la-first (m₂ .first-is) h))
+      (λ w rd h. grown-true g₆₉ (k₆ .audited .recorded) q₁ (equation-true a t₁ m₆ (grown-string (k₅ .grown) a sa) (h ∙ sym (pair-word w m₅ g₅₉ rd))))
       (λ w rd h. equation-true b t₂ m₉ (grown-string (k₈ .grown) b sb) (h ∙ sym (pair-word w m₈ (m₉ .made .grown) rd))))
 
   pub character-split : (v b c : ℕ) (cs l r : List ℕ) (s : Store) → Audited s → isString s v ≡ true → kind s b ≡ 1 → text s b ≡ c ∷ cs → Ends (Good added (v ∷ l) (b ∷ r) s) (splitCharacter g v c s)
@@ -234,7 +235,7 @@ module _ {added : Bool} (none-added : added ≡ false) (g : ℤ) where
       split-ends (p ∷ q ∷ []) k₆ still
       (two-ways v b c cs l r p q z (negℤ g) s s₆ (string-here s v sv) kb tb
       (choose-one s s₃ s₄ s₆ z (k₃ .grown) m₄ g₄₆)
-      (λ w rd e. grown-true g₂₆ (k₂ .audited .recorded) p (m₂ .made .kind-is) (equation-true v n m₂ (grown-string (k₁ .grown) v sv) (e ∙ sym (constant-word m₁ (g₁₆ .down w rd)))))
+      (λ w rd e. grown-true g₂₆ (k₂ .audited .recorded) p (equation-true v n m₂ (grown-string (k₁ .grown) v sv) (e ∙ sym (constant-word m₁ (g₁₆ .down w rd)))))
       (λ w rd e. equation-true v t m₆ (grown-string (k₅ .grown) v sv)
       (e ∙ ap (λ (y : List ℕ). y ++ w z) (sym (constant-word m₃ (g₃₆ .down w rd))) ∙ sym (pair-word w m₅ (m₆ .made .grown) rd))))
 
@@ -271,7 +272,7 @@ splits-step g added (a ∷ l) (b ∷ r) n s d (and sa hl) (and sb hr) =
     ends-if (isConstant s a && isConstant s b) _ _ (λ c. step-pass d) (λ c. ends-if (added || isKey s a b) _ _
     (λ e. ends-give (answers (later-none d) tt tt))
     (λ e. ends-then _ _ (key-ends a b s d sa sb n) (λ s₁ u k.
-    ends-map (λ s′ o h. good-after (and sa hl) (and sb hr) (later-key k) (k .reasons) h) (keyed-split (no-left added e) g a b l r s s₁ (k .grown) (k .audited) sa sb))))
+    ends-map (λ s′ o h. good-after (and sa hl) (and sb hr) (later-key k) (λ t i. ap (λ (x : Store). kind x t) (sym (k .is)) ∙ i) (k .reasons) h) (keyed-split (no-left added e) g a b l r s s₁ (k .grown) (k .audited) sa sb))))
   where
     no-left : (x : Bool) → x || isKey s a b ≡ false → x ≡ false
     no-left true e = e

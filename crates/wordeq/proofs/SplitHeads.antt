@@ -36,7 +36,7 @@ use Rattle.wordeq.specs.Results.{BothLists}
 use Rattle.wordeq.specs.Sides.{Texts, Spelled}
 use Rattle.wordeq.specs.Splits.{listed, characterAtoms, headAtoms}
 use Rattle.wordeq.specs.Heads.{HeadsApart, HeadPair, atomsBy, atomsOf, splitNew}
-use Rattle.wordeq.proofs.Sequence.{grows-key, working-then, working-stop}
+use Rattle.records.proofs.Sequence.{grows-key, working-then, working-stop}
 use Rattle.wordeq.proofs.Strip.{Apart}
 use Rattle.wordeq.proofs.SidesTexts.{text-words}
 use Rattle.wordeq.proofs.SidesReady.{ready-readIn}

@@ -29,7 +29,7 @@ use Rattle.normalize.specs.declared.Form.{Form}
 use Rattle.normalize.specs.declared.Form.the-variants as form
 use Rattle.wordeq.specs.Splits.{listed, prefixAtom, emptyAtom, characterAtom, lengthsAtom, characterAtoms, prefixAtoms, headAtoms}
 use Rattle.wordeq.proofs.Split.{equatable-strings, equatable-lengths}
-use Rattle.wordeq.proofs.Sequence.{Grows, grows-then, grows-constant, grows-variable, grows-concat, grows-length, grows-equation, grows-name, working-then, working-stop, made-is, made-then, made-stop}
+use Rattle.records.proofs.Sequence.{Grows, grows-then, grows-constant, grows-variable, grows-concat, grows-length, grows-equation, grows-name, working-then, working-stop, made-is, made-then, made-stop}
 
 -- A FRESH VARIABLE
 

@@ -8,16 +8,16 @@ use native.Mathlib.Omega.{arith}
 use lib.ListN.{length, drop, length-append, length-take, length-drop}
 use lib.IntN.{ℤ}
 use lib.Dec.{eqb, ltb, leb}
-use borrow.Author.Tests.{ne-eqb, leb-true, le-leb}
+use borrow.Author.Tests.{ne-eqb, le-leb}
 use Rattle.records.specs.declared.State.{State}
 use Rattle.records.specs.Lists.{if_then_else_, all}
 use Rattle.records.specs.Store.{Store, Out, ok, andThen, isString}
 use Rattle.records.specs.View.{Lent, storeOf, pairAt, readIn}
-use Rattle.records.specs.Rules.{isList, listLimit}
+use Rattle.records.specs.Rules.{listLimit}
 use Rattle.records.specs.Calls.{Working}
-use Rattle.records.proofs.Lists.{both-left, both-right, both-true, every-all, table-length}
+use Rattle.records.proofs.Lists.{both-right, both-true, every-all, table-length}
 use Rattle.records.proofs.Passed.{ready-after}
-use Rattle.engine.proofs.Added.{Added}
+use Rattle.records.proofs.Later.{Added}
 use Rattle.wordeq.specs.declared.StepResult.{StepResult}
 use Rattle.wordeq.specs.declared.StepResult.the-variants as step
 use Rattle.wordeq.specs.declared.Stripped.{Stripped}
@@ -31,8 +31,9 @@ use Rattle.wordeq.proofs.LackingTries.{constants-need, constants-confli
 use Rattle.wordeq.proofs.Strip.{strip-ends}
 use Rattle.wordeq.proofs.Strip as strip
 use Rattle.wordeq.proofs.SplitHeads.{heads-apart}
-use Rattle.normalize.proofs.Carried.{Higher, agree-below}
-use Rattle.wordeq.proofs.Trying.{Lined, Last, occursBoth, conflicts, propagates, tiles, grouped, occurs-goes, conflicts-goes, propagates-goes, after-groups, tiles-goes, strings-of, done-is, else-works, else-tries, else-last}
+use Rattle.records.proofs.Counts.{Higher, agree-below}
+use Rattle.wordeq.proofs.Trying.{Lined, Last, occursBoth, conflicts, propagates, tiles, grouped, occurs-goes, conflicts-goes, propagates-goes, after-groups, tiles-goes, done-is, else-works, else-tries, else-last}
+use Rattle.records.proofs.ListLaws.{list-short, list-every}
 use Rattle.wordeq.specs.Lacking.{conflicts as lacks}
 
 -- STEPS 2 AND 3
@@ -90,9 +91,6 @@ higher-added {s} a =
     let n = length-append (s .reasons) (a .more) in
     subst (Higher s) (sym (a .is)) (record { terms = omega arith; cells = omega arith; chars = omega arith; reasons = omega arith; keys = omega arith })
 
-list-short : (s : Store) (l : List ℕ) → isList s l ≡ true → length l ≤ listLimit
-list-short s l h = leb-true (length l) listLimit (both-left _ (all (isString s) l) h)
-
 part-short : (l : List ℕ) (i x : ℕ) → length (part l i x) ≤ length l
 part-short l i x = let p = length-take (x - i) (drop i l) in let q = length-drop i l in omega arith
 
@@ -141,7 +139,7 @@ module _ (g : ℤ) (l r : List ℕ) {m m₁ : Lent} {c : State} {y : Stripped} (
 
     module _ (x : Lined l r m c) where
       off : strip.Stripped l r (storeOf m c) (storeOf m₁ d) (part l i p, part r i q)
-      off = strip-ends l r (storeOf m c) (x .ready .audited) (strings-of (storeOf m c) l (x .lists .left)) (strings-of (storeOf m c) r (x .lists .right)) .given
+      off = strip-ends l r (storeOf m c) (x .ready .audited) (list-every (storeOf m c) l (x .lists .left)) (list-every (storeOf m c) r (x .lists .right)) .given
           (storeOf m₁ d) (part l i p, part r i q) strip-says
 
       -- a place in the lists, in bytes

@@ -10,8 +10,8 @@ use Rattle.records.specs.Store.{Store, ok, isConstant, isString, text, sameClas
 use Rattle.records.specs.Meaning.{Words, Reading}
 use Rattle.records.specs.Audited.{Audited}
 use Rattle.records.proofs.Lists.{word-is, clash, every-append, every-left, every-right}
-use Rattle.normalize.proofs.Ends.{ends-give, ends-map, ends-if, ends-then}
-use Rattle.normalize.proofs.Rewritten.{Strings, strings-later}
+use Rattle.records.proofs.Outcomes.{ends-give, ends-map, ends-if, ends-then}
+use Rattle.records.proofs.Grown.{Strings, strings-later}
 use Rattle.wordeq.specs.Wordeq.{same, explainMatch, stripHeads, strip}
 use Rattle.wordeq.proofs.Words
 use Rattle.wordeq.proofs.Words.{Alike, alike-reverse, cancel-front, cancel-back, unturn}

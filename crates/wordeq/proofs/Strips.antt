@@ -20,7 +20,7 @@ use Rattle.records.proofs.Lists.{both-true, decide, all-every, every-at, table-
 use Rattle.records.proofs.Views.{table-is}
 use Rattle.records.proofs.Passed.{ready-after}
 use Rattle.engine.specs.Explain.{explain, explainArguments}
-use Rattle.engine.proofs.Added.{Added, added-none, added-then}
+use Rattle.records.proofs.Later.{Added, added-none, added-then}
 use Rattle.wordeq.specs.declared.Stripped.{Stripped}
 use Rattle.wordeq.specs.declared.Stripped.the-variants.{Parts, Refused}
 use Rattle.wordeq.specs.Wordeq.{same, explainMatch, stripHeads, strip}

@@ -12,9 +12,8 @@ use Rattle.records.specs.Store.{Store, isConstant, isString, text, root, sameCl
 use Rattle.records.specs.Meaning.{Words, Reading}
 use Rattle.records.specs.Audited.{Audited}
 use Rattle.records.proofs.Lists.{both-left, both-right, both-true, clash, all-every, word-refl}
-use Rattle.records.proofs.Grown.{grown-string}
-use Rattle.normalize.proofs.Ends.{ends-give, ends-map, ends-if, ends-then}
-use Rattle.normalize.proofs.Rewritten.{Strings, strings-later}
+use Rattle.records.proofs.Grown.{grown-string, Strings, strings-later}
+use Rattle.records.proofs.Outcomes.{ends-give, ends-map, ends-if, ends-then}
 use Rattle.wordeq.specs.Wordeq.{same, fixed, lettersOf, letters, filled, lead, firstSpan, fits, explainAll, variables, tileBy, tile}
 use Rattle.wordeq.proofs.Words.{fill-is, fill-all, fill-length, span-is, span-forced}
 use Rattle.wordeq.proofs.Ends.{Ends}

@@ -7,16 +7,15 @@ use Prim.Native.Nat.{ℕ, suc, _+_, _<_, _≤_}
 use native.Mathlib.Numerals.{add-one}
 use native.Mathlib.Omega.{arith}
 use lib.ListN.{length, getD, drop, length-drop}
-use lib.Dec.{leb}
-use borrow.Author.Tests.{leb-true}
 use Rattle.records.specs.declared.State.{State}
 use Rattle.records.specs.declared.Added.the-variants as adding
 use Rattle.records.specs.Lists.{if_then_else_, all, keep, Every}
 use Rattle.records.specs.Store.{Store, Out, ok, stop, andThen, _>>_, isString}
 use Rattle.records.specs.View.{Lent, lent, storeOf, termsView, readIn, termed}
-use Rattle.records.specs.Rules.{isList, listLimit}
+use Rattle.records.specs.Rules.{isList}
 use Rattle.records.specs.Calls.{Working, added}
-use Rattle.records.proofs.Lists.{both-left, both-right, and-stop, and-next, failed, passed, decide, all-drop, all-every, every-at, every-map}
+use Rattle.records.proofs.Lists.{both-left, and-stop, and-next, failed, passed, decide, all-drop, all-every, every-at, every-map}
+use Rattle.records.proofs.ListLaws.{list-strings, list-every}
 use Rattle.wordeq.specs.declared.StepResult.{StepResult}
 use Rattle.wordeq.specs.declared.StepResult.the-variants as step
 use Rattle.wordeq.specs.Wordeq.{conflict, Tried, answer, pass, settled, _orElse_, same, fixed, letters, fits, variables, explainAll, tileBy, tile}
@@ -27,21 +26,15 @@ use Rattle.wordeq.specs.Explaining.{OneClass}
 use Rattle.wordeq.specs.Spans.{FirstVariable, agrees, unfit}
 use Rattle.wordeq.proofs.Strips.{part-whole}
 use Rattle.wordeq.proofs.SidesReady.{ready-readIn, constant-side-whole, other-side-whole}
-use Rattle.wordeq.proofs.Later.{same-classes}
+use Rattle.wordeq.proofs.ExplainingEach.{same-classes}
 use Rattle.wordeq.proofs.Fitting.{fixed-variables, variables-from, variables-none, variables-short, agree-variables, fits-whole}
 use Rattle.records.specs.declared.Added.{Added as Answered}
 
 -- A LIST
 
 module _ (s : Store) (l : List ℕ) (e : isList s l ≡ true) where
-  pub list-short : length l ≤ listLimit
-  list-short = leb-true (length l) listLimit (both-left _ _ e)
-
-  pub list-strings : all (isString s) l ≡ true
-  list-strings = both-right (leb (length l) listLimit) _ e
-
   pub list-string : (i : ℕ) → i < length l → isString s (getD l i 0) ≡ true
-  list-string i b = every-at l i 0 (all-every _ l list-strings) b
+  list-string i b = every-at l i 0 (list-every s l e) b
 
 -- the part after place i
 pub after : (l : List ℕ) (i : ℕ) → part l (i + 1) (length l) ≡ drop (suc i) l

@@ -1,7 +1,7 @@
 -- Steps tried one after the other: where a step passes the next goes on from the slices and counts that it left; where it answers, that is
 -- the answer.
 use mathlib.Core.Path.{_≡_, refl, sym, ap, subst, _∙_, fun-ext}
-use mathlib.Core.Bool.{Bool, true, false, not, _&&_, _||_}
+use mathlib.Core.Bool.{Bool, false, not, _&&_, _||_}
 use mathlib.Core.List.{List, [], _∷_}
 use mathlib.Core.Logic.{inl, inr}
 use mathlib.Core.Option.{Option, none, some}
@@ -11,32 +11,30 @@ use types.Run.{OneOf}
 use denote.Enum.Declared.{tagOf}
 use lib.ListN.{length}
 use lib.IntN.{ℤ}
-use lib.Dec.{leb}
 use Rattle.records.specs.declared.State.{State}
 use Rattle.records.specs.Lists.{all, firstOf}
-use Rattle.records.specs.Store.{Store, Out, ok, andThen, _>>=_, isString, isConstant, isVariable}
+use Rattle.records.specs.Store.{Store, Out, ok, andThen, _>>=_, isConstant, isVariable}
 use Rattle.records.specs.View.{Lent, storeOf}
-use Rattle.records.specs.Rules.{isList, listLimit}
 use Rattle.records.specs.Make.{makeConstant}
 use Rattle.records.specs.Audited.{Ready}
 use Rattle.records.specs.Calls.{Working}
-use Rattle.records.proofs.Lists.{both-left, both-right, both-true, all-every, every-all}
 use Rattle.records.proofs.Works.{via, branch}
 use Rattle.records.proofs.Passed.{ready-after}
 use Rattle.engine.specs.Explain.{explain}
-use Rattle.normalize.proofs.Rewritten.{Strings, strings-later}
 use Rattle.wordeq.specs.declared.StepResult.{StepResult}
 use Rattle.wordeq.specs.declared.StepResult.the-variants as step
 use Rattle.wordeq.specs.Wordeq.{Answer, conflict, propagate, Tried, answer, pass, settled, _orElse_, same, fixed, letters, occurrence, occursAt, occurs, unequal, short, absent, constants, isPlain, alias, emptiesAt, empties, assigns, fits, explainAll, variables, tileBy, tile, clashes, splits, after}
 use Rattle.wordeq.specs.Results.{BothLists, tried, Tries}
 use Rattle.wordeq.proofs.StepResult.{the-type}
 use Rattle.wordeq.proofs.Orelse.{else-assoc}
-use Rattle.wordeq.proofs.Good.{Good, passes, Later, Step, step-else, step-flip}
+use Rattle.wordeq.proofs.Good.{Good, passes, Step, step-else, step-flip}
+use Rattle.records.proofs.Later.{Later}
 use Rattle.wordeq.proofs.Occurs.{occurs-step}
 use Rattle.wordeq.proofs.Constants.{constants-step, alias-step, empties-step, assigns-step}
 use Rattle.wordeq.proofs.Tile.{tile-step}
-use Rattle.normalize.proofs.Carried.{Higher, agree-below}
-use Rattle.wordeq.proofs.Sequence.{higher-none, higher-then, grows-constant}
+use Rattle.records.proofs.Counts.{Higher, agree-below, higher-none, higher-then}
+use Rattle.records.proofs.Sequence.{grows-constant}
+use Rattle.records.proofs.ListLaws.{list-every, list-later}
 
 -- ORDER
 
@@ -75,18 +73,10 @@ goes-else {a = a} {b = b} p q = record { step-of = step-else a b (p .step-of) (q
 pub goes-flip : {l r : List ℕ} {a : Tried} → Goes r l a → Goes l r a
 goes-flip p = record { step-of = step-flip (p .step-of); rises = p .rises }
 
--- LISTS
-
-pub strings-of : (s : Store) (l : List ℕ) → isList s l ≡ true → Strings s l
-strings-of s l h = all-every (isString s) l (both-right (leb (length l) listLimit) _ h)
-
-list-later : {s s′ : Store} (l : List ℕ) → Later s s′ → isList s l ≡ true → isList s′ l ≡ true
-list-later {s = s} l k h = both-true _ _ (both-left (leb (length l) listLimit) _ h) (every-all (strings-later (k .grown) (strings-of s l h)))
-
 -- ONE STEP, THEN THE REST
 
 later-of : {l r : List ℕ} {s s′ : Store} {o : Option Answer} → Good false l r s s′ o → Later s s′
-later-of (passes k h) = k
+later-of (passes k v h) = k
 later-of (Good.answers k h c) = k
 
 module _ {l r : List ℕ} {a : Tried} (g : Goes l r a) {m m₁ : Lent} {c d : State} (w : Tries a m m₁ c (step.Done d)) where
@@ -96,7 +86,7 @@ module _ {l r : List ℕ} {a : Tried} (g : Goes l r a) {m m₁ : Lent} {c d : St
   -- for what the store has later
   pub passed-later : Ready m c → BothLists (storeOf m c) l r → Later (storeOf m c) (storeOf m₁ d)
   passed-later ready lists =
-      later-of (g .step-of (storeOf m c) (ready .audited) (strings-of (storeOf m c) l (lists .left)) (strings-of (storeOf m c) r (lists .right)) .given (storeOf m₁ d) none passed)
+      later-of (g .step-of (storeOf m c) (ready .audited) (list-every (storeOf m c) l (lists .left)) (list-every (storeOf m c) r (lists .right)) .given (storeOf m₁ d) none passed)
 
   -- for the next step
   pub passed-ready : Ready m c → BothLists (storeOf m c) l r → length (m₁ .terms) ≡ length (m .terms) → length (m₁ .cells) ≡ length (m .cells) → Ready m₁ d
@@ -105,7 +95,7 @@ module _ {l r : List ℕ} {a : Tried} (g : Goes l r a) {m m₁ : Lent} {c d : St
   pub passed-lists : Ready m c → BothLists (storeOf m c) l r → BothLists (storeOf m₁ d) l r
   passed-lists ready lists =
       let k = passed-later ready lists in
-      record { left = list-later l k (lists .left); right = list-later r k (lists .right) }
+      record { left = list-later l (k .grown) (lists .left); right = list-later r (k .grown) (lists .right) }
 
   -- the next step's answer
   pub else-works : {b : Tried} {m₂ : Lent} {o : Out (Option Answer)} → Working b m₁ m₂ d o → Working (a orElse b) m m₂ c o

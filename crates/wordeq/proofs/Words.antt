@@ -3,7 +3,6 @@ use mathlib.Core.Path.{_≡_, refl, sym, ap, _∙_}
 use mathlib.Core.Bool.{Bool, true, false, not, _&&_, _||_}
 use mathlib.Core.List.{List, [], _∷_, _++_, reverse, append-cancel-left, append-cancel-right, reverse-append, reverse-reverse, reverse-cons}
 use mathlib.Core.Logic.{⊎-elim}
-use mathlib.Core.Option.{Option, some}
 use Prim.Native.Nat.{ℕ, suc, _+_, _-_, _*_, _/_, _≤_, _<_}
 use native.Mathlib.Nat.{suc-mul, div-eq-of-eq-mul-right}
 use native.Mathlib.Omega.{arith}
@@ -11,7 +10,7 @@ use lib.ListN.{length, take, drop, length-append, take-append-drop}
 use lib.Seq.{take-append-le, take-at, drop-at}
 use lib.Dec.{eqb}
 use borrow.Author.Tests.{not-true, eq-eqb}
-use Rattle.records.specs.Lists.{if_then_else_, all, any, keep, firstOf, joined, isIn, Every, none-left, and}
+use Rattle.records.specs.Lists.{if_then_else_, all, any, keep, joined, isIn, Every, none-left, and}
 use Rattle.records.proofs.Lists.{either, or-left, or-right, clash, any-append, joined-append}
 use Rattle.wordeq.specs.Wordeq.{differ}
 
@@ -188,15 +187,6 @@ differ-apart (a ∷ v) (b ∷ w) x y e z =
     ⊎-elim (λ h. clash (eq-eqb a b p) (not-true _ h)) (λ h. differ-apart v w x y h q) (either (not (eqb a b)) (differ v w) e)
 
 -- FOUND
-
-pub first-passing : {A : Type 0} (p : A → Bool) (l : List A) (v : A) → firstOf p l ≡ some v → (P : A → Type 0) → Every P l → P v
-unfolding firstOf
-first-passing p [] v e P k = let z : _≡_ {A = ℕ} 0 1 = cc in absurd (omega arith)
-first-passing {A} p (x ∷ l) v e P (and q k) = go (first-passing p l v) (p x) e
-  where
-    go : (firstOf p l ≡ some v → (P : A → Type 0) → Every P l → P v) → (b : Bool) → (elim b as (λ z. Option A) [ true ↦ some x | false ↦ firstOf p l ]) ≡ some v → P v
-    go ih true e = let z : x ≡ v = cc in rw z at q
-    go ih false e = ih e P k
 
 -- a character of one word that the test passes
 pub any-in : (p : ℕ → Bool) (v : List ℕ) → any p v ≡ true → (c : ℕ) × (p c ≡ true) × (isIn c v ≡ true)

@@ -18,6 +18,11 @@ pub record Chosen (s s′ : Store) (w : Words) (atoms : List ℕ) : Type 0 where
   pub listed : List·Memᴰ atom atoms
   pub holds : True s′ words atom
 
+-- the variable is one of the store at entry and, where the sides have equal words, has the word of the term answered with it
+pub record Propagates (s s′ : Store) (L R : Words → List ℕ) (v x : ℕ) : Type 0 where
+  pub variable : kind s v ≡ 2
+  pub equal : (w : Words) → Reading s′ w → Holds s (s′ .reasons) w → L w ≡ R w → w v ≡ w x
+
 -- 'whatever words the variables are given. Suppose only that the definitional merges and the reasons named in the answer hold for these
 -- words': s is the store at entry, whose edges count, s′ that at exit, whose reasons are named; L and R are the sides' words.
 -- 'After Conflict the sides have different words. After Propagate, if the sides have equal words, the variable has the word of the term
@@ -27,7 +32,7 @@ abbrev pub Worth : Store → Store → (Words → List ℕ) → (Words → List 
 Worth s s′ L R done = Unit {0}
 Worth s s′ L R saturated = Unit {0}
 Worth s s′ L R conflict = (w : Words) → Reading s w → Holds s (s′ .reasons) w → L w ≡ R w → ⊥
-Worth s s′ L R (propagate v x k) = (w : Words) → Reading s′ w → Holds s (s′ .reasons) w → L w ≡ R w → w v ≡ w x
+Worth s s′ L R (propagate v x k) = Propagates s s′ L R v x
 Worth s s′ L R (split atoms g) = (w : Words) → Reading s w → Holds s (s′ .reasons) w → L w ≡ R w → Chosen s s′ w atoms
 
 -- 'The two sides are the two lists'

@@ -27,7 +27,7 @@ round-spec =
       at-start .pre .0,
       (
         at-start .pre .1 .0,
-        (record { strings = at-start .pre .1 .1 .0; short = at-start .pre .1 .1 .1 .0 .0; within = (let p = at-start .pre .1 .1 .1 .0 in omega arith); marked = at-start .pre .1 .1 .1 .1; room = lit≤ tt }),
+        (record { strings = at-start .pre .1 .1 .0; short = at-start .pre .1 .1 .1 .0 .0; within = (let p = at-start .pre .1 .1 .1 .0 in omega arith); told = at-start .pre .1 .1 .1 .1; room = lit≤ tt }),
       ),
     ))
     (λ c. search needs)
@@ -49,16 +49,16 @@ round-spec =
     let at-start = at-expand .before .before .before .before .before .before .before .before .before .before .before .before .before .before .before .before .before .before in (
       carried-ready
           (round-carried (at-start .pre .0) _ _ (at-start .pre .1 .0) _ {list = at-start .args .list .now} {next = replicate 512 0} {n = at-start .args .count}
-          (record { strings = at-start .pre .1 .1 .0; short = at-start .pre .1 .1 .1 .0 .0; within = (let p = at-start .pre .1 .1 .1 .0 in omega arith); marked = at-start .pre .1 .1 .1 .1; room = lit≤ tt })
+          (record { strings = at-start .pre .1 .1 .0; short = at-start .pre .1 .1 .1 .0 .0; within = (let p = at-start .pre .1 .1 .1 .0 in omega arith); told = at-start .pre .1 .1 .1 .1; room = lit≤ tt })
           (at-expand .expand .kept .0) refl _ (at-expand .expand .ensures) _ _ (at-made .made .given .1))
           (at-start .pre .0),
       (
         round-strings (at-start .pre .0) _ _ (at-start .pre .1 .0) _ {list = at-start .args .list .now} {next = replicate 512 0} {n = at-start .args .count}
-            (record { strings = at-start .pre .1 .1 .0; short = at-start .pre .1 .1 .1 .0 .0; within = (let p = at-start .pre .1 .1 .1 .0 in omega arith); marked = at-start .pre .1 .1 .1 .1; room = lit≤ tt })
+            (record { strings = at-start .pre .1 .1 .0; short = at-start .pre .1 .1 .1 .0 .0; within = (let p = at-start .pre .1 .1 .1 .0 in omega arith); told = at-start .pre .1 .1 .1 .1; room = lit≤ tt })
             (at-expand .expand .kept .0) refl _ (at-expand .expand .ensures) _ _ (at-made .made .given .1),
         (
           (let s = round-short (at-start .pre .0) _ _ (at-start .pre .1 .0) _ {list = at-start .args .list .now} {next = replicate 512 0} {n = at-start .args .count}
-              (record { strings = at-start .pre .1 .1 .0; short = at-start .pre .1 .1 .1 .0 .0; within = (let p = at-start .pre .1 .1 .1 .0 in omega arith); marked = at-start .pre .1 .1 .1 .1; room = lit≤ tt })
+              (record { strings = at-start .pre .1 .1 .0; short = at-start .pre .1 .1 .1 .0 .0; within = (let p = at-start .pre .1 .1 .1 .0 in omega arith); told = at-start .pre .1 .1 .1 .1; room = lit≤ tt })
               (at-expand .expand .kept .0) refl _ (at-expand .expand .ensures) _ _ (at-made .made .given .1) in
               let e = at-expand .expand .kept .1 .1 .1 .1 .1 .1 .1 .1 .1 .1 .1 .1 .0 in (omega arith, omega arith)),
           ((let p = at-start .pre .1 .1 .1 .0 in omega arith), (let p = at-start .pre .1 .1 .1 .0 in omega arith)),
@@ -79,6 +79,6 @@ round-spec =
     round-settled _ _ (at-start .args .list .now) (at-start .args .count) _ _ (at-any-opens .any-opens .ensures) (at-if1 .if1 .left) (replicate 512 0) _ _ _
     (at-expand .expand .ensures) _ _ (at-made .made .given .1)
     (round-carried (at-start .pre .0) _ _ (at-start .pre .1 .0) _ {list = at-start .args .list .now} {next = replicate 512 0} {n = at-start .args .count}
-    (record { strings = at-start .pre .1 .1 .0; short = at-start .pre .1 .1 .1 .0 .0; within = (let p = at-start .pre .1 .1 .1 .0 in omega arith); marked = at-start .pre .1 .1 .1 .1; room = lit≤ tt })
+    (record { strings = at-start .pre .1 .1 .0; short = at-start .pre .1 .1 .1 .0 .0; within = (let p = at-start .pre .1 .1 .1 .0 in omega arith); told = at-start .pre .1 .1 .1 .1; room = lit≤ tt })
     (at-expand .expand .kept .0) refl _ (at-expand .expand .ensures) _ _ (at-made .made .given .1))
     _ _ (at-settle .settle .ensures)))

@@ -3,7 +3,7 @@ use Prim.Native.Nat.{_-_, _≤_}
 use mathlib.Core.Path.{_≡_, refl}
 use Rattle.normalize.specs.Calls.{firstWords}
 use Rattle.records.specs.View.{lent}
-use Rattle.normalize.proofs.Rounding.{Rounding, rounding-none, rounding-ready, rounding-candidates, rounding-marked, rounds-ended, rounding-turn, rounds-done}
+use Rattle.normalize.proofs.Rounding.{Rounding, rounding-none, rounding-ready, rounding-candidates, rounding-met, rounds-ended, rounding-turn, rounds-done}
 use native.Mathlib.Omega.{arith}
 use borrow.Author.Needs.{needs}
 use Rattle.normalize.proofs.deeper.rounds.Statement.{statement}
@@ -41,7 +41,7 @@ rounds-spec =
           at-loop .loop .inv .5 .strings,
           (
             (at-loop .loop .inv .5 .short, (let e = at-loop .loop .inv .4 in let p = at-start .pre .1 .1 .1 .1 in omega arith)),
-            rounding-marked (at-loop .loop .inv .5) (at-start .pre .0) _ (at-start .pre .1 .0),
+            rounding-met (at-loop .loop .inv .5) (at-start .pre .0) _ (at-start .pre .1 .0),
           ),
         ),
       ),

@@ -1,9 +1,10 @@
 use Rattle.records.specs.View.{termed}
-use Rattle.wordeq.proofs.Propagated.{variables-stop, variables-turn, variables-done}
+use Rattle.records.proofs.Loops.{all-stop, all-turn, all-done}
+use borrow.Author.Tests.{eq-eqb, ne-eqb}
 use Rattle.records.specs.Store.{isVariable}
 use Rattle.records.specs.Lists.{all}
 use lib.ListN.{length, drop}
-use mathlib.Core.Path.{_≡_, refl}
+use mathlib.Core.Path.{_≡_, refl, sym, _∙_}
 use Prim.Native.Nat.{_-_, _≤_}
 use native.Mathlib.Omega.{arith}
 use borrow.Author.Needs.{needs}
@@ -29,19 +30,11 @@ are-variables-spec =
     (λ c.
     let at-loop-test = c .before .before .before in
     let at-loop = at-loop-test .before in
-    let at-start = at-loop .before .before .before in
-    variables-stop (termed (at-start .args .terms .now) (at-start .args .c)) (at-start .args .l .now) _ _ (at-loop .loop .inv .1) (at-loop-test .loop-test .taken)
-    (c .before .kind-of .ensures) (c .if1 .taken))
+    all-stop _ _ _ (at-loop .loop .inv .1) (at-loop-test .loop-test .taken) (ne-eqb _ 2 (λ z. c .if1 .taken (c .before .kind-of .ensures ∙ z))))
     (λ c. search needs)
     (λ c. search needs)
     (λ c.
     let at-loop-test = c .before .before .before in
     let at-loop = at-loop-test .before in
-    let at-start = at-loop .before .before .before in (
-      omega arith,
-      variables-turn (termed (at-start .args .terms .now) (at-start .args .c)) (at-start .args .l .now) _ _ (at-loop .loop .inv .1) (at-loop-test .loop-test .taken)
-          (c .before .kind-of .ensures) (c .if1 .left),
-    ))
-    (λ c.
-    let at-start = c .before .before .before .before in
-    variables-done (termed (at-start .args .terms .now) (at-start .args .c)) (at-start .args .l .now) _ (c .before .loop .inv .1) (c .loop-test .left)))
+    (omega arith, all-turn _ _ _ (at-loop .loop .inv .1) (at-loop-test .loop-test .taken) (eq-eqb _ 2 (sym (c .before .kind-of .ensures) ∙ c .if1 .left))))
+    (λ c. all-done _ _ _ (c .before .loop .inv .1) (c .loop-test .left)))

@@ -1,4 +1,5 @@
-use Rattle.wordeq.proofs.Choices.{aliased-lengths, emptied-bare, assigned-length, assigned-both, list-limited, choice-alias, choice-left, choice-right, choice-first, choice-last, choice-none}
+use Rattle.wordeq.proofs.Choices.{aliased-lengths, emptied-bare, assigned-length, assigned-both, choice-alias, choice-left, choice-right, choice-first, choice-last, choice-none}
+use Rattle.records.proofs.ListLaws.{list-short}
 use Rattle.wordeq.proofs.SidesReady.{ready-readIn}
 use Rattle.records.specs.View.{lent, storeOf, readIn, termed}
 use native.Mathlib.Omega.{arith}
@@ -88,7 +89,7 @@ propagate-unchecked-spec =
     let at-start = at-is-assigned .before .before .before .before .before .before .before .before .before .before .before .before .before .before .before .before .before .before .before in (
       at-start .pre .0,
       (
-        list-limited
+        list-short
             (storeOf (lent (at-start .args .terms .now) (at-start .args .cells .now) (at-start .args .chars .now) (at-start .args .reasons .now) (at-start .args .keys .now))
             (at-start .args .c))
             (at-start .args .rhs .now) (at-start .pre .1 .right),
@@ -127,7 +128,7 @@ propagate-unchecked-spec =
     let at-start = at-is-assigned2 .before .before .before .before .before .before .before .before .before .before .before .before .before .before .before .before .before .before .before .before .before .before in (
       at-start .pre .0,
       (
-        list-limited
+        list-short
             (storeOf (lent (at-start .args .terms .now) (at-start .args .cells .now) (at-start .args .chars .now) (at-start .args .reasons .now) (at-start .args .keys .now))
             (at-start .args .c))
             (at-start .args .lhs .now) (at-start .pre .1 .left),

@@ -1,10 +1,11 @@
 use lib.ListN.{length, drop}
-use mathlib.Core.Path.{_≡_, refl}
+use mathlib.Core.Path.{_≡_, refl, sym, _∙_}
 use Prim.Native.Nat.{_-_, _≤_}
 use Rattle.records.specs.View.{termed}
 use Rattle.records.specs.Lists.{any}
 use Rattle.records.specs.Store.{isConcat}
-use Rattle.wordeq.proofs.Flattening.{concat-stop, concat-turn, concat-end}
+use Rattle.records.proofs.Loops.{any-stop, any-turn, any-done}
+use borrow.Author.Tests.{eq-eqb, ne-eqb}
 use native.Mathlib.Omega.{arith}
 use borrow.Author.Needs.{needs}
 use Rattle.wordeq.proofs.resolving.has_concat.Statement.{statement}
@@ -29,19 +30,13 @@ has-concat-spec =
     (λ c.
     let at-loop-test = c .before .before .before in
     let at-loop = at-loop-test .before in
-    let at-start = at-loop .before .before .before in
-    concat-stop (termed (at-start .args .terms .now) (at-start .args .c)) (at-start .args .l .now) _ (at-loop .loop .inv .1) (at-loop-test .loop-test .taken) _
-    (c .before .kind-of .ensures) (c .if1 .taken))
+    any-stop _ _ _ (at-loop .loop .inv .1) (at-loop-test .loop-test .taken) (eq-eqb _ 3 (sym (c .before .kind-of .ensures) ∙ c .if1 .taken)))
     (λ c. search needs)
     (λ c. let at-loop-test = c .before .before .before in (let p = at-loop-test .loop-test .taken in omega arith))
     (λ c.
     let at-loop-test = c .before .before .before in
-    let at-loop = at-loop-test .before in
-    let at-start = at-loop .before .before .before in (
+    let at-loop = at-loop-test .before in (
       let p = at-loop-test .loop-test .taken in omega arith,
-      concat-turn (termed (at-start .args .terms .now) (at-start .args .c)) (at-start .args .l .now) _ (at-loop .loop .inv .1) (at-loop-test .loop-test .taken) _
-          (c .before .kind-of .ensures) (c .if1 .left),
+      any-turn _ _ _ (at-loop .loop .inv .1) (at-loop-test .loop-test .taken) (ne-eqb _ 3 (λ z. c .if1 .left (c .before .kind-of .ensures ∙ z))),
     ))
-    (λ c.
-    let at-start = c .before .before .before .before in
-    concat-end (termed (at-start .args .terms .now) (at-start .args .c)) (at-start .args .l .now) _ (c .before .loop .inv .1) (c .loop-test .left)))
+    (λ c. any-done _ _ _ (c .before .loop .inv .1) (c .loop-test .left)))

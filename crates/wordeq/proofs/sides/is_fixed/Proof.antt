@@ -1,21 +1,25 @@
 use Prim.Native.Nat.{_-_, _≤_}
-use mathlib.Core.Path.{_≡_, refl}
+use mathlib.Core.Path.{_≡_, refl, sym, _∙_}
 use lib.ListN.{length, drop}
 use Rattle.records.specs.View.{termed}
+use Rattle.records.specs.Lists.{all}
+use Rattle.records.specs.Store.{isConstant}
+use Rattle.records.proofs.Loops.{all-stop, all-turn, all-done}
 use Rattle.wordeq.specs.Wordeq.{fixed}
-use Rattle.wordeq.proofs.SidesLetters.{fixed-stop, fixed-turn, fixed-done}
+use borrow.Author.Tests.{eq-eqb, ne-eqb}
 use native.Mathlib.Omega.{arith}
 use borrow.Author.Needs.{needs}
 use Rattle.wordeq.proofs.sides.is_fixed.Statement.{statement}
 use Rattle.wordeq.proofs.sides.is_fixed.Tie as tie
 
 abbrev Inv-loop : tie.InvT-loop
-Inv-loop terms c l i₀ i = (i ≤ length l) × (fixed (termed terms c) (drop i l) ≡ fixed (termed terms c) l)
+Inv-loop terms c l i₀ i = (i ≤ length l) × (all (isConstant (termed terms c)) (drop i l) ≡ all (isConstant (termed terms c)) l)
 
 abbrev μ-loop : tie.MeasureT-loop
 μ-loop terms c l i₀ i = length l - i
 
 pub is-fixed-spec : {M : Type 1} → statement M
+unfolding fixed
 is-fixed-spec =
     tie.close
     (tie.spec
@@ -28,11 +32,11 @@ is-fixed-spec =
     (λ c.
     let at-loop-test = c .before .before .before in
     let at-loop = at-loop-test .before in
-    fixed-stop _ _ _ _ (at-loop .loop .inv .1) (at-loop-test .loop-test .taken) (c .before .kind-of .ensures) (c .if1 .taken))
+    all-stop _ _ _ (at-loop .loop .inv .1) (at-loop-test .loop-test .taken) (ne-eqb _ 1 (λ z. c .if1 .taken (c .before .kind-of .ensures ∙ z))))
     (λ c. search needs)
     (λ c. search needs)
     (λ c.
     let at-loop-test = c .before .before .before in
     let at-loop = at-loop-test .before in
-    (omega arith, fixed-turn _ _ _ _ (at-loop .loop .inv .1) (at-loop-test .loop-test .taken) (c .before .kind-of .ensures) (c .if1 .left)))
-    (λ c. fixed-done _ _ _ (c .before .loop .inv .1) (c .loop-test .left)))
+    (omega arith, all-turn _ _ _ (at-loop .loop .inv .1) (at-loop-test .loop-test .taken) (eq-eqb _ 1 (sym (c .before .kind-of .ensures) ∙ c .if1 .left))))
+    (λ c. all-done _ _ _ (c .before .loop .inv .1) (c .loop-test .left)))

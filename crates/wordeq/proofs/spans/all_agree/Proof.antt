@@ -1,5 +1,7 @@
 use Rattle.records.specs.View.{readIn}
-use Rattle.wordeq.proofs.Fitting.{pair-at, all-stop, all-turn, all-done}
+use Rattle.records.proofs.Lists.{failed, passed}
+use Rattle.records.proofs.Loops.{all-stop, all-turn, all-done}
+use Rattle.wordeq.proofs.Fitting.{pair-at}
 use Prim.Native.Nat.{_-_, _≤_}
 use mathlib.Core.Path.{_≡_, refl}
 use lib.ListN.{length, drop}
@@ -34,11 +36,11 @@ all-agree-spec =
     (λ c.
     let at-loop-test = c .before .before .before in
     let at-loop = at-loop-test .before in
-    all-stop _ _ _ (at-loop .loop .inv .1) (at-loop-test .loop-test .taken) _ (c .before .atom-agrees .ensures) (c .if1 .taken))
+    all-stop _ _ _ (at-loop .loop .inv .1) (at-loop-test .loop-test .taken) (failed _ _ (c .before .atom-agrees .ensures) (c .if1 .taken)))
     (λ c. search needs)
     (λ c. search needs)
     (λ c.
     let at-loop-test = c .before .before .before in
     let at-loop = at-loop-test .before in
-    (omega arith, all-turn _ _ _ (at-loop .loop .inv .1) (at-loop-test .loop-test .taken) _ (c .before .atom-agrees .ensures) (c .if1 .left)))
+    (omega arith, all-turn _ _ _ (at-loop .loop .inv .1) (at-loop-test .loop-test .taken) (passed _ _ (c .before .atom-agrees .ensures) (c .if1 .left))))
     (λ c. all-done _ _ _ (c .before .loop .inv .1) (c .loop-test .left)))

@@ -1,5 +1,6 @@
 use Rattle.records.specs.View.{readIn, termed}
-use Rattle.wordeq.proofs.TileSides.{list-short, list-string, after-strings, after-short, readable-readIn, unfit-apart, unfit-is}
+use Rattle.wordeq.proofs.TileSides.{list-string, after-strings, after-short, readable-readIn, unfit-apart, unfit-is}
+use Rattle.records.proofs.ListLaws.{list-short}
 use native.Mathlib.Omega.{arith}
 use borrow.Author.Needs.{needs}
 use Rattle.wordeq.proofs.spans.is_unfit.Statement.{statement}

@@ -7,31 +7,22 @@ use Prim.Native.Nat.{ℕ, suc, _+_}
 use native.Mathlib.Omega.{arith}
 use lib.ListN.{length, length-append}
 use lib.Dec.{ltb, leb}
 use Rattle.records.specs.declared.State.{State}
 use Rattle.records.specs.declared.Made.{Made}
 use Rattle.records.specs.declared.Made.the-variants.{Term, Refused}
 use Rattle.records.specs.Lists.{if_then_else_}
 use Rattle.records.specs.Store.{Store, Out, ok, stop, Work, andThen, _>>=_, _>>_, give, refuse, put, count}
 use Rattle.records.specs.View.{Lent, storeOf}
 use Rattle.records.specs.Rules.{named}
 use Rattle.records.specs.Make.{withKeys, withChars, withCells, withTerms, own, ordered, addKey, addText, addChain, chainFrom, addTerm, lookup, orMake, lowest, constantOf, concatOf, lengthOf, equationOf, makeConstant, makeVariable, makeConcat, makeLength, makeEquation, takeName}
 use Rattle.records.specs.Calls.{Working, made}
 use Rattle.records.proofs.Works.{stop-not, via}
 use Rattle.records.proofs.Kept.{name-taken}
-use Rattle.normalize.proofs.Carried.{Higher, agree-below}
+use Rattle.records.proofs.Counts.{Higher, higher-none, higher-then, agree-below}
 
--- COUNTS, OF WHICH NONE IS LOWER
+-- WORK THAT TAKES NOTHING AWAY
 
-pub higher-none : (s : Store) → Higher s s
-higher-none s = record { terms = omega arith; cells = omega arith; chars = omega arith; reasons = omega arith; keys = omega arith }
-
-pub higher-then : {s s₁ s₂ : Store} → Higher s s₁ → Higher s₁ s₂ → Higher s s₂
-higher-then p q =
-    let a = p .terms in let b = p .cells in let c = p .chars in let d = p .reasons in let e = p .keys in
-    let a₁ = q .terms in let b₁ = q .cells in let c₁ = q .chars in let d₁ = q .reasons in let e₁ = q .keys in
-    record { terms = omega arith; cells = omega arith; chars = omega arith; reasons = omega arith; keys = omega arith }
-
--- work that takes nothing away
+-- no count is lower after it
 pub record Grows {A : Type 0} (w : Work A) : Type 0 where
   pub higher : (s s′ : Store) (a : A) → w s ≡ ok s′ a → Higher s s′
 
@@ -121,8 +112,6 @@ grows-name = record {
       let x = name-taken s s′ w e in
       subst (Higher s) (sym (x .is)) (record { terms = omega arith; cells = omega arith; chars = omega arith; reasons = omega arith; keys = omega arith });
 }
-
--- SLICES
 
 -- SEQUENCE
 

@@ -2,28 +2,28 @@
 use mathlib.Core.Path.{_≡_, refl, sym, ap, subst, _∙_}
 use mathlib.Core.Bool.{Bool, true, false, not}
 use mathlib.Core.List.{List, [], _∷_}
-use Prim.Native.Nat.{ℕ, _+_, _-_, _≤_, _<_}
-use native.Mathlib.Omega.{arith}
-use lib.ListN.{length, drop, getD, length-drop}
+use Prim.Native.Nat.{ℕ, _+_, _≤_, _<_}
+use lib.ListN.{length, drop, getD, drop-of-length-le}
 use lib.Dec.{eqb}
 use borrow.Author.Tests.{eqb-true, eq-eqb, ne-eqb}
 use Rattle.records.specs.declared.State.{State}
 use Rattle.records.specs.declared.Added.the-variants as adding
 use Rattle.records.specs.Lists.{if_then_else_, all, keep, Every, none-left, and}
-use Rattle.records.specs.Store.{Store, Term, Out, ok, stop, andThen, termIn, isConstant, isString, root, sameClass}
+use Rattle.records.specs.Store.{Store, Term, Out, ok, Work, andThen, termIn, isConstant, isString, root, sameClass}
 use Rattle.records.specs.View.{Lent, lent, storeOf, termsView, readIn}
 use Rattle.records.specs.Audited.{Audited, Ready}
 use Rattle.records.specs.Calls.{Working, added}
 use Rattle.records.proofs.Lists.{both-left, both-right, both-true, clash, decide, every-at}
 use Rattle.engine.specs.Explain.{explain, explainArguments}
-use Rattle.normalize.proofs.Ends.{ends-give, ends-map, ends-if}
+use Rattle.records.proofs.Outcomes.{ends-give, ends-map, ends-if}
 use Rattle.wordeq.specs.Wordeq.{same, explainAll, variables}
 use Rattle.wordeq.specs.Stripping.{Pair}
 use Rattle.wordeq.specs.Explaining.{OneClass, explainAtom}
 use Rattle.wordeq.proofs.Ends.{Ends}
 use Rattle.wordeq.proofs.Cited.{Cited, cited-none, cited-map, explain-ends}
 use Rattle.wordeq.proofs.Strip.{same-class}
-use Rattle.wordeq.proofs.Strips.{Going, going-none, going-then, going-string, kept-down, terms-kept, drop-head}
+use Rattle.wordeq.proofs.Strips.{going-string, terms-kept, drop-head}
+use Rattle.wordeq.proofs.Turning.{Turning, turning-none, turning-end, turning-refused, turning-on}
 use Rattle.records.specs.declared.Added.{Added as Answered}
 
 -- ONE ATOM
@@ -65,21 +65,22 @@ module _ (t e h ks l : List ℕ) (v : ℕ) where
   abbrev now : List ℕ → State → Store
   now rs c = storeOf (lent t e h rs ks) c
 
-  pub record Citing (c : State) (rs : List ℕ) (d : State) (rs′ : List ℕ) (i : ℕ) : Type 0 where
-    pub going : Going t e h ks c rs d rs′
-    pub rest : explainAll (variables (readIn t h c) (drop i l)) v (now rs′ d) ≡ explainAll (variables (readIn t h c) l) v (now rs c)
+  abbrev left : State → ℕ → Work (Unit {0})
+  left c i = explainAll (variables (readIn t h c) (drop i l)) v
+
+  abbrev one : ℕ → Work (Unit {0})
+  one i = explainAtom (getD l i 0) v
+
+  abbrev pub Citing : State → List ℕ → State → List ℕ → ℕ → Type 0
+  Citing c = Turning t e h ks (left c) one c
 
   pub citing-none : {c : State} {rs : List ℕ} → Ready (lent t e h rs ks) c → Citing c rs c rs 0
-  citing-none d = record { going = going-none t e h ks d; rest = refl }
+  citing-none {c} d = turning-none t e h ks (left c) one d
 
   module _ {c d : State} {rs rs₁ : List ℕ} {i : ℕ} (g : Citing c rs d rs₁ i) where
-    none : (k : List ℕ) → length k ≡ 0 → explainAll (variables (readIn t h c) k) v (now rs₁ d) ≡ ok (now rs₁ d) tt
-    unfolding keep explainAll
-    none [] z = refl
-    none (a ∷ k) z = absurd (omega arith)
-
     pub citing-end : length l ≤ i → Working (explainAll (variables (readIn t h c) l) v) (lent t e h rs ks) (lent t e h rs₁ ks) c (added (adding.Counts d) (lent t e h rs₁ ks))
-    citing-end z = let k = length-drop i l in record { says = sym (g .rest) ∙ none (drop i l) (omega arith); kept = g .going .kept }
+    unfolding keep explainAll
+    citing-end z = turning-end t e h ks (left c) one g (rw (drop-of-length-le l z))
 
     module _ (b : i < length l) (pairs : Every (λ u. Pair (readIn t h c) u v) l) (classes : Every (λ u. OneClass (termsView t (c .terms)) u v) l) where
       pub citing-pair : Pair (readIn t h d) (getD l i 0) v
@@ -88,22 +89,18 @@ module _ (t e h ks l : List ℕ) (v : ℕ) where
       pub citing-class : OneClass (termsView t (d .terms)) (getD l i 0) v
       citing-class = subst (λ (x : List Term). OneClass x (getD l i 0) v) (sym (terms-kept t e h ks (g .going))) (every-at l i 0 classes b)
 
-      on : (o : Out (Unit {0})) → explainAtom (getD l i 0) v (now rs₁ d) ≡ o → explainAll (variables (readIn t h c) (drop i l)) v (now rs₁ d) ≡ andThen (λ x. explainAll (variables (readIn t h c) (drop (i + 1) l)) v) o
-      on o j =
+      next : left c i (now rs₁ d) ≡ andThen (λ u. left c (i + 1)) (one i (now rs₁ d))
+      next =
           ap (λ (x : List ℕ). explainAll (variables (readIn t h c) x) v (now rs₁ d)) (drop-head l i b)
-          ∙ atom-step (readIn t h c) (getD l i 0) v (drop (i + 1) l) (now rs₁ d) (ap (λ (x : List Term). eqb (termIn x (getD l i 0) .kind) 1) (terms-kept t e h ks (g .going))) o j
+          ∙ atom-step (readIn t h c) (getD l i 0) v (drop (i + 1) l) (now rs₁ d) (ap (λ (x : List Term). eqb (termIn x (getD l i 0) .kind) 1) (terms-kept t e h ks (g .going))) (one i (now rs₁ d)) refl
 
       module _ (rs₂ : List ℕ) (y : Answered) (w : Working (explainAtom (getD l i 0) v) (lent t e h rs₁ ks) (lent t e h rs₂ ks) d (added y (lent t e h rs₂ ks))) where
         pub citing-refused : (n : ℕ) → y ≡ adding.Refused n → Working (explainAll (variables (readIn t h c) l) v) (lent t e h rs ks) (lent t e h rs₂ ks) c (added (adding.Refused n) (lent t e h rs₂ ks))
-        citing-refused n j = record { says = sym (g .rest) ∙ on (stop n) (w .says ∙ ap (λ (o : Answered). added o (lent t e h rs₂ ks)) j); kept = kept-down t e h ks (g .going) rs₂ (w .kept) }
+        citing-refused = turning-refused t e h ks (left c) one g next rs₂ y w
 
         pub citing-turn : (d₂ : State) → y ≡ adding.Counts d₂ → Citing c rs d₂ rs₂ (i + 1)
         citing-turn d₂ j =
-            let k : explainAtom (getD l i 0) v (now rs₁ d) ≡ ok (now rs₂ d₂) tt = w .says ∙ ap (λ (o : Answered). added o (lent t e h rs₂ ks)) j in
-            record {
-              going = going-then t e h ks (g .going) rs₂ (atom-ends (getD l i 0) v (now rs₁ d) (g .going .ready .audited) (citing-pair .one) (citing-pair .other) (citing-class .class) .given (now rs₂ d₂) tt k) (w .kept);
-              rest = sym (on (ok (now rs₂ d₂) tt) k) ∙ g .rest;
-            }
+            turning-on t e h ks (left c) one g next rs₂ y w d₂ j (atom-ends (getD l i 0) v (now rs₁ d) (g .going .ready .audited) (citing-pair .one) (citing-pair .other) (citing-class .class) .given (now rs₂ d₂) tt)
 
 -- WHAT STEP 5 TESTED is what the loop requires
 

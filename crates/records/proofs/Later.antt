@@ -1,0 +1,123 @@
+-- A store later on: terms, reasons and keys may have been added.
+use mathlib.Core.Path.{_≡_, refl, sym, ap, subst, _∙_}
+use mathlib.Core.List.{List, [], _++_, append-assoc, append-nil}
+use Prim.Native.Nat.{ℕ, _≤_}
+use native.Mathlib.Omega.{arith}
+use lib.ListN.{length, drop, length-append}
+use lib.Seq.{drop-append-seam}
+use Rattle.records.specs.declared.State.{State}
+use Rattle.records.specs.Store.{Store, kind}
+use Rattle.records.specs.View.{Lent, storeOf}
+use Rattle.records.specs.Make.{withReasons}
+use Rattle.records.specs.Audited.{Audited}
+use Rattle.records.proofs.Grown.{Grown, OldVariables, grown-none, grown-then}
+use Rattle.records.proofs.Beside.{audited-beside, grown-beside}
+use Rattle.records.proofs.Kept.{MadeIn, KeyAdded}
+use Rattle.records.proofs.Counts.{Below, Higher, higher-below}
+
+-- a list with more at its end
+pub record More {A : Type 0} (l l′ : List A) : Type 0 where
+  pub more : List A
+  pub is : l′ ≡ l ++ more
+
+module _ {A : Type 0} where
+  unfoldable pub more-none : {l l′ : List A} → l′ ≡ l → More l l′
+  more-none {l} e = record { more = []; is = e ∙ sym (append-nil l) }
+
+  unfoldable pub more-then : {l m n : List A} → More l m → More m n → More l n
+  more-then {l} p q = record { more = p .more ++ q .more; is = q .is ∙ ap (λ (x : List A). x ++ q .more) (p .is) ∙ append-assoc l (p .more) (q .more) }
+
+  pub more-longer : {l m : List A} → More l m → length l ≤ length m
+  more-longer {l} p = let e = ap length (p .is) ∙ length-append l (p .more) in omega arith
+
+  pub more-after : {l m : List A} (p : More l m) → drop (length l) m ≡ p .more
+  more-after {l} p = ap (drop (length l)) (p .is) ∙ drop-append-seam l (p .more)
+
+pub record Later (s s′ : Store) : Type 0 where
+  pub audited : Audited s′
+  pub grown : Grown s s′
+  pub cells : length (s .cells) ≤ length (s′ .cells)
+  pub chars : length (s .chars) ≤ length (s′ .chars)
+  pub reasons : More (s .reasons) (s′ .reasons)
+  pub keys : More (s .keys) (s′ .keys)
+  pub room : s′ .room ≡ s .room
+
+pub later-none : {s : Store} → Audited s → Later s s
+later-none {s} d = record { audited = d; grown = grown-none s; cells = omega arith; chars = omega arith; reasons = more-none refl; keys = more-none refl; room = refl }
+
+unfoldable pub later-then : {s s₁ s₂ : Store} → Later s s₁ → Later s₁ s₂ → Later s s₂
+later-then p q = record {
+  audited = q .audited;
+  grown = grown-then (p .grown) (q .grown);
+  cells = (let a = p .cells in let b = q .cells in omega arith);
+  chars = (let a = p .chars in let b = q .chars in omega arith);
+  reasons = more-then (p .reasons) (q .reasons);
+  keys = more-then (p .keys) (q .keys);
+  room = q .room ∙ p .room;
+}
+
+-- after a term was made, after a key was added
+unfoldable pub later-made : {s s′ : Store} {t k : ℕ} → MadeIn s s′ t k → Later s s′
+later-made m = record { audited = m .audited; grown = m .grown; cells = m .cells; chars = m .chars; reasons = more-none (m .reasons); keys = more-none (m .keys); room = m .room }
+
+pub later-key : {a b : ℕ} {s s′ : Store} → KeyAdded a b s s′ → Later s s′
+later-key k = record {
+  audited = k .audited;
+  grown = k .grown;
+  cells = (let e = ap (λ (x : Store). length (x .cells)) (k .is) in omega arith);
+  chars = (let e = ap (λ (x : Store). length (x .chars)) (k .is) in omega arith);
+  reasons = more-none (k .reasons);
+  keys = record { more = _; is = ap (λ (x : Store). x .keys) (k .is) };
+  room = ap (λ (x : Store). x .room) (k .is);
+}
+
+-- s′ is s with more reasons at the end: terms, cells, characters, keys, names and room are those of s
+pub record Added (s s′ : Store) : Type 0 where
+  pub more : List (ℕ × ℕ)
+  pub is : s′ ≡ withReasons s (s .reasons ++ more)
+
+unfoldable pub added-none : (s : Store) → Added s s
+added-none s = record { more = []; is = ap (withReasons s) (sym (append-nil (s .reasons))) }
+
+unfoldable pub added-then : {s s₁ s₂ : Store} → Added s s₁ → Added s₁ s₂ → Added s s₂
+added-then {s} p q = record {
+  more = p .more ++ q .more;
+  is = q .is ∙ ap (λ (x : Store). withReasons x (x .reasons ++ q .more)) (p .is) ∙ ap (withReasons s) (append-assoc (s .reasons) (p .more) (q .more));
+}
+
+-- by which no variable is made
+unfoldable pub later-added : {s s′ : Store} → Added s s′ → Audited s′ → Later s s′
+later-added {s} a d = record {
+  audited = d;
+  grown = subst (Grown s) (sym (a .is)) (grown-beside s (s .reasons ++ a .more) (s .keys) (s .names));
+  cells = (let e = ap (λ (x : Store). length (x .cells)) (a .is) in omega arith);
+  chars = (let e = ap (λ (x : Store). length (x .chars)) (a .is) in omega arith);
+  reasons = record { more = a .more; is = ap (λ (x : Store). x .reasons) (a .is) };
+  keys = more-none (ap (λ (x : Store). x .keys) (a .is));
+  room = ap (λ (x : Store). x .room) (a .is);
+}
+
+pub variables-added : {s s′ : Store} → Added s s′ → OldVariables s s′
+variables-added a t e = ap (λ (x : Store). kind x t) (sym (a .is)) ∙ e
+
+-- reasons cut back to those of entry
+pub later-cut : {s s₁ : Store} → Audited s → Later s s₁ → Later s (withReasons s₁ (s .reasons))
+later-cut {s} {s₁} d k =
+    let e = ap (λ (x : _). x .reasons) (k .room) in
+    let h = d .roomy .reasons in
+    record {
+      audited = audited-beside s₁ (s .reasons) (s₁ .keys) (s₁ .names) (k .audited) (d .recorded .reasons) (k .audited .recorded .keys) (omega arith) (k .audited .roomy .keys);
+      grown = grown-then (k .grown) (grown-beside s₁ (s .reasons) (s₁ .keys) (s₁ .names));
+      cells = k .cells;
+      chars = k .chars;
+      reasons = more-none refl;
+      keys = k .keys;
+      room = k .room;
+    }
+
+-- no count is lower
+pub later-higher : {s s′ : Store} → Later s s′ → Higher s s′
+later-higher l = record { terms = l .grown .more; cells = l .cells; chars = l .chars; reasons = more-longer (l .reasons); keys = more-longer (l .keys) }
+
+pub later-below : (m m′ : Lent) (c d : State) → Later (storeOf m c) (storeOf m′ d) → Below c d
+later-below m m′ c d l = higher-below m m′ c d (later-higher l)
