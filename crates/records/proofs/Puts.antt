@@ -9,7 +9,7 @@ use native.Mathlib.Omega.{arith}
 use lib.ListN.{length, getD, set, take, drop, drop-of-length-le, length-set, List·getD-append}
 use lib.Dec.{ltb}
 use lib.Seq.{sets, sets-eq, getD-append-add, length-take-le, drop-cons, length-sets, getD-set-same, getD-set-other, ext-getD}
-use Rattle.records.specs.View.{cellWords, termWords}
+use Rattle.records.specs.View.{reasonRoom, termAt, cellAt, pairAt, termsView, cellsView, pairsView, zeroTerm, zeroCell, termWords, cellWords}
 use Rattle.records.specs.Store.{Term, noTerm, within}
 use Rattle.records.specs.Make.{own, chainFrom}
 use Rattle.records.specs.Puts.{TermPut, withClass, withEdge, TermSet, CellPut, ChainPut, PairPut, Pushed}
