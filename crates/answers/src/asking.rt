@@ -14,14 +14,14 @@ use records::State;
 use records::fields::word;
 
 pub fn state(c: Counts) -> State {
-    State {
-        terms: c.terms as usize,
-        cells: c.cells as usize,
-        chars: c.chars as usize,
-        reasons: c.reasons,
-        keys: c.keys,
-        names: c.names,
-    }
+    State::of(
+        c.terms as usize,
+        c.cells as usize,
+        c.chars as usize,
+        c.reasons,
+        c.keys,
+        c.names,
+    )
 }
 
 fn ask_find(

@@ -10,7 +10,7 @@ use borrow.Author.Tests.{leb-true, lt-leb, le-leb}
 use Rattle.records.specs.declared.State.{State}
 use Rattle.records.specs.declared.Made.{Made}
 use Rattle.records.specs.declared.Made.the-variants.{Term}
-use Rattle.records.specs.View.{Lent}
+use Rattle.records.specs.View.{Lent, counts}
 use Rattle.records.specs.Rules.{audit}
 use Rattle.records.proofs.Lists.{both-left, both-right, left-false, and-next}
 use Rattle.records.specs.declared.Added.{Added}
@@ -72,9 +72,9 @@ module _ (w a : List ℕ) where
   unfolding roomy
   roomy-is h = and-next (leb 6 (length w)) (leb 8 (length a)) _ (le-leb 6 (length w) h) refl
 
-pub state-read : (w : List ℕ) {a b c d e f : ℕ} → a ≡ getD w 0 0 → b ≡ getD w 1 0 → c ≡ getD w 2 0 → d ≡ getD w 3 0 → e ≡ getD w 4 0 → f ≡ getD w 5 0
-    → _≡_ {A = State} (record { terms = a; cells = b; chars = c; reasons = d; keys = e; names = f }) (stateOf w)
-state-read w p q r s t u = rw (p, q, r, s, t, u)
+pub state-read : (w : List ℕ) {x : State} {a b c d e f : ℕ} → x ≡ counts a b c d e f → a ≡ getD w 0 0 → b ≡ getD w 1 0 → c ≡ getD w 2 0 → d ≡ getD w 3 0 → e ≡ getD w 4 0 → f ≡ getD w 5 0
+    → x ≡ stateOf w
+state-read w i p q r s t u = i ∙ rw (p, q, r, s, t, u)
 
 pub audit-unstated : (w : List ℕ) (m : Lent) → length w < 6 → 1 ≡ audited w m
 unfolding audited

@@ -27,14 +27,14 @@ use wordeq::StepResult;
 pub(crate) fn state_of(state: &[u32]) -> State
     ensures { λ r. ⌜ r ≡ stateOf (now (state .entry)) ⌝ }
 {
-    State {
-        terms: fields::word(state, 0) as usize,
-        cells: fields::word(state, 1) as usize,
-        chars: fields::word(state, 2) as usize,
-        reasons: fields::word(state, 3) as usize,
-        keys: fields::word(state, 4) as usize,
-        names: fields::word(state, 5),
-    }
+    State::of(
+        fields::word(state, 0) as usize,
+        fields::word(state, 1) as usize,
+        fields::word(state, 2) as usize,
+        fields::word(state, 3) as usize,
+        fields::word(state, 4) as usize,
+        fields::word(state, 5),
+    )
 }
 
 pub(crate) fn write_state(state: &mut [u32], c: State)

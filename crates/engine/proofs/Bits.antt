@@ -11,7 +11,7 @@ use lib.Seq.{getD-set-same, getD-set-other}
 use lib.Pow.{shr-shr, shl-exact}
 use lib.Dec.{eqb}
 use borrow.Author.Tests.{eqb-false, eq-eqb}
-use Rattle.engine.specs.Marks.{place, bit, marked, Marked}
+use Rattle.engine.specs.Seen.{place, bit, seenAt, Noted}
 
 -- a digit of the half is the next digit of the whole
 half : (w j : ℕ) → w / 2 ^ suc j ≡ w / 2 / 2 ^ j
@@ -62,10 +62,10 @@ unfolding bit
 bit-kept w b j e d = ap (λ (x : ℕ). eqb x 1) (digit-kept b j w d (digit-low w b e))
 
 -- the table with the bit of place k set
-pub mark-set : (table : List ℕ) (k : ℕ) → k < 32 * length table → marked table k ≡ false
-    → Marked table (set table (k / 32) (getD table (k / 32) 0 + 2 ^ (k % 32))) k
-unfolding marked
-mark-set table k h e =
+pub note-set : (table : List ℕ) (k : ℕ) → k < 32 * length table → seenAt table k ≡ false
+    → Noted table (set table (k / 32) (getD table (k / 32) 0 + 2 ^ (k % 32))) k
+unfolding seenAt
+note-set table k h e =
     let i = k / 32 in
     let w = getD table (k / 32) 0 in
     let inside : k / 32 < length table = omega arith in
@@ -130,6 +130,6 @@ one-shifted j h = shl-exact {a = 1} 1 j 32 (omega arith) (omega arith) ∙ nativ
 pub shifted-fits : (w k : ℕ) → bit w (k % 32) ≡ false → w < 2 ^ 32 → w + (1 * 2 ^ (k % 32)) % 4294967296 < 2 ^ 32
 shifted-fits w k e f = rw (one-shifted (k % 32) (omega arith)) (bit-fits w (k % 32) (omega arith) e f)
 
-pub mark-shifted : (table : List ℕ) (k : ℕ) → k < 32 * length table → marked table k ≡ false
-    → Marked table (set table (k / 32) (getD table (k / 32) 0 + (1 * 2 ^ (k % 32)) % 4294967296)) k
-mark-shifted table k h e = rw (one-shifted (k % 32) (omega arith)) (mark-set table k h e)
+pub note-shifted : (table : List ℕ) (k : ℕ) → k < 32 * length table → seenAt table k ≡ false
+    → Noted table (set table (k / 32) (getD table (k / 32) 0 + (1 * 2 ^ (k % 32)) % 4294967296)) k
+note-shifted table k h e = rw (one-shifted (k % 32) (omega arith)) (note-set table k h e)

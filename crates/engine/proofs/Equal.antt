@@ -1,4 +1,4 @@
--- Where each marked pair is accounted for, it has equal words under all words for which the definitional merges and the reasons hold.
+-- Where each pair seen is accounted for, it has equal words under all words for which the definitional merges and the reasons hold.
 use mathlib.Core.Path.{_≡_, refl, sym, ap, _∙_}
 use mathlib.Core.Bool.{true}
 use mathlib.Core.List.{List, List·Memᴰ}
@@ -32,7 +32,7 @@ same-pair a b c d p q = go (decLe a b) (decLe c d)
     go (no h) (yes k) = inr (omega arith)
     go (no h) (no k) = inl (omega arith)
 
--- where each marked pair is settled, and the reasons hold
+-- where each pair seen is settled, and the reasons hold
 module _ (s : Store) (d : Audited s) (l : List (ℕ × ℕ)) (seen : Seen) (settled : (q : ℕ × ℕ) → List·Memᴰ q seen → Settled s l seen q)
     (w : Words) (reading : Reading s w) (holds : Holds s l w) where
   -- a joined pair has equal words where the stamps of its path are below m

@@ -66,21 +66,21 @@ module _ (ts : List Term) where
   rise-one (goes d r) (ends e) = absurd (d e)
   rise-one {t} (goes d r) (goes f q) = ap (λ (l : List ℕ). t ∷ l) (rise-one r q)
 
-  -- from a later one on the list is shorter
-  pub record Later (t : ℕ) (l : List ℕ) (x : ℕ) : Type 0 where
+  -- the list from a member x on: shorter, unless x is the first
+  pub record Onward (t : ℕ) (l : List ℕ) (x : ℕ) : Type 0 where
     pub from : List ℕ
     pub rise : Rise ts x from
     pub shorter : (x ≡ t) ⊎ (length from < length l)
 
-  pub rise-from : {t x : ℕ} {l : List ℕ} → Rise ts t l → List·Memᴰ x l → Later t l x
+  pub rise-from : {t x : ℕ} {l : List ℕ} → Rise ts t l → List·Memᴰ x l → Onward t l x
   rise-from {t} {x} (ends e) m = go (List·Memᴰ·cases-cons m)
     where
-      go : (x ≡ t) ⊎ List·Memᴰ x [] → Later t (t ∷ []) x
+      go : (x ≡ t) ⊎ List·Memᴰ x [] → Onward t (t ∷ []) x
       go (inl e′) = record { from = x ∷ []; rise = ends {t = x} (rw e′ e); shorter = inl e′ }
       go (inr n) = absurd (List·Memᴰ·not-nil n)
   rise-from {t} {x} (goes {l = l} d r) m = go (rise-from r) (List·Memᴰ·cases-cons m)
     where
-      go : (List·Memᴰ x l → Later (forestUp ts t) l x) → (x ≡ t) ⊎ List·Memᴰ x l → Later t (t ∷ l) x
+      go : (List·Memᴰ x l → Onward (forestUp ts t) l x) → (x ≡ t) ⊎ List·Memᴰ x l → Onward t (t ∷ l) x
       go ih (inl e) = record { from = t ∷ l; rise = rw e (goes d r); shorter = inl e }
       go ih (inr m) =
           let k = ih m in
@@ -129,7 +129,7 @@ module _ (ts : List Term) where
   pub above-each : {x y : ℕ} → Above x y → Above y x → x ≡ y
   above-each {x} {y} a b = go (rise-from (a .rise) (a .mem)) (rise-from (b .rise) (b .mem))
     where
-      go : Later x (a .list) y → Later y (b .list) x → x ≡ y
+      go : Onward x (a .list) y → Onward y (b .list) x → x ≡ y
       go f g =
           let p = ap length (rise-one (f .rise) (b .rise)) in
           let q = ap length (rise-one (g .rise) (a .rise)) in

@@ -1,5 +1,5 @@
 -- Each way through `plain_edge` and `explain_plain`, and the walk that starts anew. The laws of a walk with a table hold for any
--- table, so one that the code does not make will do: zeros, and then the walk's own pair marked.
+-- table, so one that the code does not make will do: zeros, and then the walk's own pair noted.
 use mathlib.Core.Path.{_≡_, refl, sym, _∙_}
 use mathlib.Core.Bool.{Bool, true, false}
 use mathlib.Core.List.{List, []}
@@ -11,12 +11,12 @@ use Rattle.records.specs.View.{pairsView}
 use Rattle.engine.specs.declared.Walked.{Walked}
 use Rattle.engine.specs.declared.Plain.the-variants.{Ended, Congruence}
 use Rattle.engine.specs.Explain.{walked}
-use Rattle.engine.specs.Marks.{place, marked, Marked}
+use Rattle.engine.specs.Seen.{place, seenAt, Noted}
 use Rattle.engine.specs.Walks.{Together, Walkable, Walks, Gives, Explained, Explainable, Plainly, PlainEdge, PlainPath, PlainPair}
-use Rattle.engine.proofs.Bits.{mark-set}
+use Rattle.engine.proofs.Bits.{note-set}
 use Rattle.engine.proofs.Turns.{standing-on, fewer, Labelled, edge-gives, edge-nothing}
 use Rattle.engine.proofs.Rises.{pair-same, Rising, rising-stop, rising-done}
-use Rattle.engine.proofs.Starts.{no-mark, explained-by, explainable-walk}
+use Rattle.engine.proofs.Starts.{none-noted, explained-by, explainable-walk}
 
 module _ {Done : Walked → Type 0} {reasons reasons′ : List ℕ} {count : ℕ} (h : pairsView reasons′ count ≡ pairsView reasons count) where
   plainly-ended : {w : Walked} → Done w → Plainly Done reasons reasons′ count (Ended w)
@@ -48,25 +48,25 @@ plain-walkable terms reasons n a b h p = explainable-walk terms (p .cells) reaso
 pub plain-same : (terms reasons : List ℕ) (n a b c : ℕ) → a ≡ b → Plainly (PlainPath terms reasons reasons n a b c) reasons reasons c (Ended (record { code = 0; count = c }))
 plain-same terms reasons n a b c i = plainly-ended refl (λ cells k. explained-by terms cells _ reasons reasons n k a b c 0 _ (pair-same terms cells (replicate 0 0) reasons n k a b c i))
 
--- a walk over any table that lacks the pair, and has it marked, is an explanation: a table of zeros lacks every pair
+-- a walk over any table that lacks the pair, and has it noted, is an explanation: a table of zeros lacks every pair
 explained-alone : {terms cells reasons reasons′ : List ℕ} {n k a b c : ℕ} {r : Walked}
-    → ((tab tab₁ : List ℕ) → false ≡ marked tab (place n a b) → Marked tab tab₁ (place n a b) → Walks (walked (a, b)) (λ s. Together s (a, b)) terms cells tab tab₁ reasons reasons′ n k c r)
+    → ((tab tab₁ : List ℕ) → false ≡ seenAt tab (place n a b) → Noted tab tab₁ (place n a b) → Walks (walked (a, b)) (λ s. Together s (a, b)) terms cells tab tab₁ reasons reasons′ n k c r)
     → Explained terms cells reasons reasons′ n k a b c r
 explained-alone {n = n} {a = a} {b = b} f =
     let at = place n a b in
     let zeros : List ℕ = replicate (at + 1) 0 in
-    let none = no-mark (at + 1) at in
-    explained-by _ _ _ _ _ _ _ _ _ _ (at + 1) _ (f zeros _ (sym none) (mark-set zeros at (rw (length-replicate {A = ℕ} (at + 1) 0) (omega arith)) none))
+    let none = none-noted (at + 1) at in
+    explained-by _ _ _ _ _ _ _ _ _ _ (at + 1) _ (f zeros _ (sym none) (note-set zeros at (rw (length-replicate {A = ℕ} (at + 1) 0) (omega arith)) none))
 
 module _ (terms reasons reasons₁ : List ℕ) (n a b m x c c₁ : ℕ) (late : Bool) (apart : a ≡ b → ⊥) (g : Walking terms reasons reasons₁ n a b m x late c c₁) where
   pub plain-done : late ≡ true → x ≡ m → Plainly (PlainPath terms reasons reasons₁ n a b c) reasons reasons₁ c (Ended (record { code = 0; count = c₁ }))
   plain-done z u =
-      plainly-ended (g [] [] 0 .along .kept)
+      plainly-ended (g [] [] 0 .stays .kept)
       (λ cells k. explained-alone (λ tab tab₁ j d. rising-done terms cells tab tab₁ reasons n k a b c _ apart false refl j refl d tab₁ reasons₁ m x c₁ late (g cells tab₁ k) z u))
 
   module _ (reasons₂ : List ℕ) where
     plain-kept : pairsView reasons₂ c₁ ≡ pairsView reasons₁ c₁ → pairsView reasons₂ c ≡ pairsView reasons c
-    plain-kept h = let s = g [] [] 0 .along in fewer reasons₁ reasons₂ c c₁ (s .more) h ∙ s .kept
+    plain-kept h = let s = g [] [] 0 .stays in fewer reasons₁ reasons₂ c c₁ (s .more) h ∙ s .kept
 
     pub plain-met : pairsView reasons₂ c₁ ≡ pairsView reasons₁ c₁ → Plainly (PlainPath terms reasons reasons₂ n a b c) reasons reasons₂ c Congruence
     plain-met h = plainly-met (plain-kept h)

@@ -18,13 +18,13 @@ use Rattle.records.proofs.Lists.{or-left, or-right, clash, both-left, both-righ
 use Rattle.records.proofs.Climbs.{above-root, above-is, classed-tops}
 use Rattle.engine.specs.declared.Walked.{Walked}
 use Rattle.engine.specs.Explain.{Seen, wasSeen, each, edge, highest, height, walked}
-use Rattle.engine.specs.Marks.{place, marked, Marked, Marks}
+use Rattle.engine.specs.Seen.{place, seenAt, Noted, Tables}
 use Rattle.engine.specs.Walks.{Standing, Together, Edge, Walkable, Shows, came, Walks, ahead}
 use Rattle.engine.proofs.Bits.{place-pair, place-small}
 use Rattle.engine.proofs.Fits.{highest-high}
 use Rattle.engine.proofs.Paths.{nearest, path-edges}
 use Rattle.engine.proofs.Walk.{walked-same}
-use Rattle.engine.proofs.Turns.{standing-within, standing-term, standing-on, Left, left-turn, left-stopped, left-none, Along, along-none, along-then, every-head, every-tail, wide-on}
+use Rattle.engine.proofs.Turns.{standing-within, standing-term, standing-on, Left, left-turn, left-stopped, left-none, Stays, stays-none, stays-then, every-head, every-tail, wide-on}
 
 -- A PAIR
 
@@ -43,13 +43,13 @@ module _ {terms cells reasons : List ℕ} {n k a b : ℕ} (e : Standing terms ce
   right-low : b ≤ n
   right-low = within-high n b (standing-within e b (q .right))
 
-pub pair-seen : (terms cells tab reasons : List ℕ) (n k a b c at : ℕ) (v : Bool) → at ≡ place n a b → v ≡ marked tab at → v ≡ true
+pub pair-seen : (terms cells tab reasons : List ℕ) (n k a b c at : ℕ) (v : Bool) → at ≡ place n a b → v ≡ seenAt tab at → v ≡ true
     → Walks (walked (a, b)) (λ s. Together s (a, b)) terms cells tab tab reasons reasons n k c (record { code = 0; count = c })
 pair-seen terms cells tab reasons n k a b c at v i j h = record {
   kept = refl;
   more = omega arith;
   shows = λ e q seen m.
-      let w : wasSeen (a, b) seen ≡ true = sym (m .says a b (left-low e q) (right-low e q)) ∙ ap (marked tab) (sym i) ∙ sym j ∙ h in
+      let w : wasSeen (a, b) seen ≡ true = sym (m .says a b (left-low e q) (right-low e q)) ∙ ap (seenAt tab) (sym i) ∙ sym j ∙ h in
       came refl seen m (walked-same (e .store) (e .audited) (a, b) q seen (pairsView reasons c) ∙ rw (or-right (eqb a b) (wasSeen (a, b) seen) w));
 }
 
@@ -67,7 +67,7 @@ nearest-fit terms cells tab reasons n k a b w =
     closed : Closed (forestUp (termsView terms n)) n
     closed = rw (w .standing .terms-are, table-length (λ i. termAt terms (suc i)) n) at (classed-tops (w .standing .store) (w .standing .audited .classed))
 
--- marking a pair
+-- a pair noted
 same-place : (n x y a b : ℕ) → min x y ≡ min a b → max x y ≡ max a b → place n x y ≡ place n a b
 same-place n x y a b i j = rw (i, j)
 
@@ -79,14 +79,14 @@ same-pair : (p q : ℕ × ℕ) → p .0 ≡ q .0 → p .1 ≡ q .1 → samePair 
 unfolding samePair
 same-pair p q i j = both-true _ _ (eq-eqb _ _ i) (eq-eqb _ _ j)
 
-pub marks-more : (n : ℕ) (tab tab′ : List ℕ) (a b : ℕ) (seen : Seen) → a ≤ n → b ≤ n → Marked tab tab′ (place n a b) → Marks n tab seen → Marks n tab′ (ordered a b ∷ seen)
+pub tables-more : (n : ℕ) (tab tab′ : List ℕ) (a b : ℕ) (seen : Seen) → a ≤ n → b ≤ n → Noted tab tab′ (place n a b) → Tables n tab seen → Tables n tab′ (ordered a b ∷ seen)
 unfolding wasSeen any
-marks-more n tab tab′ a b seen ha hb d m = record { says = λ x y hx hy. go x y hx hy (ℕ-discrete (place n x y) (place n a b)) }
+tables-more n tab tab′ a b seen ha hb d m = record { says = λ x y hx hy. go x y hx hy (ℕ-discrete (place n x y) (place n a b)) }
   where
-    go : (x y : ℕ) → x ≤ n → y ≤ n → Dec (place n x y ≡ place n a b) → marked tab′ (place n x y) ≡ (samePair (ordered x y) (ordered a b) || any (samePair (ordered x y)) seen)
+    go : (x y : ℕ) → x ≤ n → y ≤ n → Dec (place n x y ≡ place n a b) → seenAt tab′ (place n x y) ≡ (samePair (ordered x y) (ordered a b) || any (samePair (ordered x y)) seen)
     go x y hx hy (yes i) =
         let z = place-pair n x y a b hx hy ha hb i in
-        ap (marked tab′) i ∙ d .here ∙ sym (or-left _ _ (same-pair (ordered x y) (ordered a b) (z .0) (z .1)))
+        ap (seenAt tab′) i ∙ d .here ∙ sym (or-left _ _ (same-pair (ordered x y) (ordered a b) (z .0) (z .1)))
     go x y hx hy (no i) =
         d .elsewhere (place n x y) i ∙ m .says x y hx hy ∙ sym (apart (samePair (ordered x y) (ordered a b)) refl)
       where
@@ -131,25 +131,25 @@ pub record On (s : Store) (p : ℕ × ℕ) (t : ℕ) : Type 0 where
 
 -- the loop over the edges, first from a up to m, then from b
 pub record Rising (terms cells tab tab′ reasons reasons′ : List ℕ) (n k a b m x : ℕ) (late : Bool) (c c′ : ℕ) : Type 0 where
-  pub along : Along tab tab′ reasons reasons′ c c′
+  pub stays : Stays tab tab′ reasons reasons′ c c′
   pub here : (e : Standing terms cells reasons n k) → Together (e .store) (a, b) → isTerm (e .store) x ≡ true
   pub above : (e : Standing terms cells reasons n k) → Together (e .store) (a, b) → List·Memᴰ m (aboveIn (e .store .terms) x)
   pub beside : (e : Standing terms cells reasons n k) → Together (e .store) (a, b) → List·Memᴰ m (aboveIn (e .store .terms) b)
   pub edges : (e : Standing terms cells reasons n k) → Together (e .store) (a, b) → Every (On (e .store) (a, b)) (ahead (e .store .terms) m b late x)
-  pub left : (e : Standing terms cells reasons n k) → Together (e .store) (a, b) → (seen : Seen) → Marks n tab seen
+  pub left : (e : Standing terms cells reasons n k) → Together (e .store) (a, b) → (seen : Seen) → Tables n tab seen
       → Left (edge walked) (e .store) n tab′ reasons′ c′ (ahead (e .store .terms) m b late x) (each (edge walked) (path (e .store) a b) seen (withReasons (e .store) (pairsView reasons c)))
 
 pub rising-begin : (terms cells tab reasons : List ℕ) (n k a b m c : ℕ) → m ≡ nearestIn (termsView terms n) a b → Rising terms cells tab tab reasons reasons n k a b m a false c c
 unfolding pathIn
 rising-begin terms cells tab reasons n k a b m c i = record {
-  along = along-none tab reasons c;
+  stays = stays-none tab reasons c;
   here = λ e q. q .left;
   above = λ e q. let z = nearest (e .store) (e .audited) (a, b) q in rw (sym (z .is) ∙ near e) at (z .left);
   beside = λ e q. let z = nearest (e .store) (e .audited) (a, b) q in rw (sym (z .is) ∙ near e) at (z .right);
   edges = λ e q.
       let k₁ = every-both (path-edges (e .store) (e .audited) (a, b) q) (highest-high (e .store) (height (e .store) (a, b)) (path (e .store) a b) (omega arith)) in
       rw (near e) at (Rattle.records.proofs.Lists.every-map {Q = On (e .store) (a, b)} (λ t z. record { edge-is = record { here = z .0 .0; joins = z .0 .1 }; low = z .1 }) k₁);
-  left = λ e q seen v. record { seen = seen; marks = v; is = ap (λ (j : ℕ). each (edge walked) (upTo j (aboveIn (e .store .terms) a) ++ upTo j (aboveIn (e .store .terms) b)) seen (withReasons (e .store) (pairsView reasons c))) (sym (near e)) };
+  left = λ e q seen v. record { seen = seen; tabled = v; is = ap (λ (j : ℕ). each (edge walked) (upTo j (aboveIn (e .store .terms) a) ++ upTo j (aboveIn (e .store .terms) b)) seen (withReasons (e .store) (pairsView reasons c))) (sym (near e)) };
 }
   where
     near : (e : Standing terms cells reasons n k) → nearestIn (e .store .terms) a b ≡ m
@@ -160,7 +160,7 @@ module _ (terms cells tab tab₁ reasons reasons₁ : List ℕ) (n k a b m x : �
       → Rising terms cells tab tab₁ reasons reasons₁ n k a b m b true c c₁
   rising-switch true g z i = clash refl z
   rising-switch false g z i = record {
-    along = g .along;
+    stays = g .stays;
     here = λ e q. q .right;
     above = g .beside;
     beside = g .beside;
@@ -177,46 +177,46 @@ module _ (terms cells tab tab₁ reasons reasons₁ : List ℕ) (n k a b m x : �
 
   module _ (late : Bool) (g : Rising terms cells tab tab₁ reasons reasons₁ n k a b m x late c c₁) (d : x ≡ m → ⊥) (tab₂ reasons₂ : List ℕ) (r : Walked)
       (t : length tab₂ ≡ length tab₁) (l : length reasons₂ ≡ length reasons₁) (w : Walks (edge walked x) (λ s. Edge s x) terms cells tab₁ tab₂ reasons₁ reasons₂ n k c₁ r) where
-    rising-along : Along tab tab₂ reasons reasons₂ c (r .count)
-    rising-along = along-then (g .along) t l (w .kept) (w .more)
+    rising-stays : Stays tab tab₂ reasons reasons₂ c (r .count)
+    rising-stays = stays-then (g .stays) t l (w .kept) (w .more)
 
-    rising-left : (e : Standing terms cells reasons n k) (q : Together (e .store) (a, b)) (seen : Seen) → Marks n tab seen
+    rising-left : (e : Standing terms cells reasons n k) (q : Together (e .store) (a, b)) (seen : Seen) → Tables n tab seen
         → Left (edge walked) (e .store) n tab₁ reasons₁ c₁ (x ∷ ahead (e .store .terms) m b late (forestUp (e .store .terms) x)) (each (edge walked) (path (e .store) a b) seen (withReasons (e .store) (pairsView reasons c)))
     rising-left e q seen v = rw (rising-step late g d e q) at (g .left e q seen v)
 
-    rising-shows : (e : Standing terms cells reasons n k) → Together (e .store) (a, b) → (seen : Seen) → Marks n tab₁ seen
+    rising-shows : (e : Standing terms cells reasons n k) → Together (e .store) (a, b) → (seen : Seen) → Tables n tab₁ seen
         → Shows (e .store) n tab₂ reasons₂ r (edge walked x seen (withReasons (e .store) (pairsView reasons₁ c₁)))
-    rising-shows e q seen v = w .shows (standing-on reasons₁ (g .along .long) e) (rising-on late g d e q .edge-is) seen v
+    rising-shows e q seen v = w .shows (standing-on reasons₁ (g .stays .long) e) (rising-on late g d e q .edge-is) seen v
 
     pub rising-turn : r .code ≡ 0 → (y : ℕ) → y ≡ termAt terms x .forestParent → Rising terms cells tab tab₂ reasons reasons₂ n k a b m y late c (r .count)
     rising-turn i y j = record {
-      along = rising-along;
+      stays = rising-stays;
       here = λ e q. rw (parent e q) at (e .audited .classed .forestParents x (g .here e q));
       above = λ e q. rw (parent e q) at (up-on (e .store .terms) x m (e .audited .classed .forestEnds x (g .here e q)) (g .above e q) d);
       beside = g .beside;
       edges = λ e q. rw (parent e q) at (every-tail (rw (rising-step late g d e q) at (g .edges e q)));
-      left = λ e q seen v. let f = rising-left e q seen v in rw (parent e q) at (left-turn (edge walked) (e .store) n f (rising-shows e q (f .seen) (f .marks)) i);
+      left = λ e q seen v. let f = rising-left e q seen v in rw (parent e q) at (left-turn (edge walked) (e .store) n f (rising-shows e q (f .seen) (f .tabled)) i);
     }
       where
         parent : (e : Standing terms cells reasons n k) → Together (e .store) (a, b) → term (e .store) x .forestParent ≡ y
         parent e q = ap (λ (z : Term). z .forestParent) (standing-term e x (g .here e q)) ∙ sym j
 
-    rising-refused : (r .code ≡ 0 → ⊥) → (e : Standing terms cells reasons n k) → Together (e .store) (a, b) → (seen : Seen) → Marks n tab seen
+    rising-refused : (r .code ≡ 0 → ⊥) → (e : Standing terms cells reasons n k) → Together (e .store) (a, b) → (seen : Seen) → Tables n tab seen
         → Shows (e .store) n tab₂ reasons₂ r (each (edge walked) (path (e .store) a b) seen (withReasons (e .store) (pairsView reasons c)))
-    rising-refused i e q seen v = let f = rising-left e q seen v in left-stopped (edge walked) (e .store) n f (rising-shows e q (f .seen) (f .marks)) i
+    rising-refused i e q seen v = let f = rising-left e q seen v in left-stopped (edge walked) (e .store) n f (rising-shows e q (f .seen) (f .tabled)) i
 
 -- THE WHOLE WALK OF A PAIR
 
-module _ (terms cells tab tab₁ reasons : List ℕ) (n k a b c at : ℕ) (apart : a ≡ b → ⊥) (v : Bool) (i : at ≡ place n a b) (j : v ≡ marked tab at) (h : v ≡ false) (d : Marked tab tab₁ at) where
+module _ (terms cells tab tab₁ reasons : List ℕ) (n k a b c at : ℕ) (apart : a ≡ b → ⊥) (v : Bool) (i : at ≡ place n a b) (j : v ≡ seenAt tab at) (h : v ≡ false) (d : Noted tab tab₁ at) where
   -- a pair not seen before does what its path's edges do in turn
-  pair-shows : (tab′ reasons′ : List ℕ) (r : Walked) (e : Standing terms cells reasons n k) (q : Together (e .store) (a, b)) (seen : Seen) → Marks n tab seen
-      → ((seen₁ : Seen) → Marks n tab₁ seen₁ → Shows (e .store) n tab′ reasons′ r (each (edge walked) (path (e .store) a b) seen₁ (withReasons (e .store) (pairsView reasons c))))
+  pair-shows : (tab′ reasons′ : List ℕ) (r : Walked) (e : Standing terms cells reasons n k) (q : Together (e .store) (a, b)) (seen : Seen) → Tables n tab seen
+      → ((seen₁ : Seen) → Tables n tab₁ seen₁ → Shows (e .store) n tab′ reasons′ r (each (edge walked) (path (e .store) a b) seen₁ (withReasons (e .store) (pairsView reasons c))))
       → Shows (e .store) n tab′ reasons′ r (walked (a, b) seen (withReasons (e .store) (pairsView reasons c)))
   pair-shows tab′ reasons′ r e q seen m f =
-      let unseen : wasSeen (a, b) seen ≡ false = sym (m .says a b (left-low e q) (right-low e q)) ∙ ap (marked tab) (sym i) ∙ sym j ∙ h in
+      let unseen : wasSeen (a, b) seen ≡ false = sym (m .says a b (left-low e q) (right-low e q)) ∙ ap (seenAt tab) (sym i) ∙ sym j ∙ h in
       let z : walked (a, b) seen (withReasons (e .store) (pairsView reasons c)) ≡ each (edge walked) (path (e .store) a b) (ordered a b ∷ seen) (withReasons (e .store) (pairsView reasons c))
       = walked-same (e .store) (e .audited) (a, b) q seen (pairsView reasons c) ∙ rw (ne-eqb a b apart, unseen) in
-      rw z (f (ordered a b ∷ seen) (marks-more n tab tab₁ a b seen (left-low e q) (right-low e q) (rw i at d) m))
+      rw z (f (ordered a b ∷ seen) (tables-more n tab tab₁ a b seen (left-low e q) (right-low e q) (rw i at d) m))
 
   pub rising-stop : (tab₁′ reasons₁ : List ℕ) (m x : ℕ) (late : Bool) (c₁ : ℕ) (g : Rising terms cells tab₁ tab₁′ reasons reasons₁ n k a b m x late c c₁) → (x ≡ m → ⊥)
       → (tab₂ reasons₂ : List ℕ) (r : Walked) → length tab₂ ≡ length tab₁′ → length reasons₂ ≡ length reasons₁
@@ -228,14 +228,14 @@ module _ (terms cells tab tab₁ reasons : List ℕ) (n k a b c at : ℕ) (apart
     shows = λ e q seen v₁. pair-shows tab₂ reasons₂ r e q seen v₁ (rising-refused terms cells tab₁ tab₁′ reasons reasons₁ n k a b m x c c₁ late g u tab₂ reasons₂ r t l w z e q);
   }
     where
-      on : Along tab₁ tab₂ reasons reasons₂ c (r .count)
-      on = rising-along terms cells tab₁ tab₁′ reasons reasons₁ n k a b m x c c₁ late g u tab₂ reasons₂ r t l w
+      on : Stays tab₁ tab₂ reasons reasons₂ c (r .count)
+      on = rising-stays terms cells tab₁ tab₁′ reasons reasons₁ n k a b m x c c₁ late g u tab₂ reasons₂ r t l w
 
   pub rising-done : (tab₂ reasons₂ : List ℕ) (m x c₂ : ℕ) (late : Bool) → Rising terms cells tab₁ tab₂ reasons reasons₂ n k a b m x late c c₂ → late ≡ true → x ≡ m
       → Walks (walked (a, b)) (λ s. Together s (a, b)) terms cells tab tab₂ reasons reasons₂ n k c (record { code = 0; count = c₂ })
   rising-done tab₂ reasons₂ m x c₂ true g z u = record {
-    kept = g .along .kept;
-    more = g .along .more;
+    kept = g .stays .kept;
+    more = g .stays .more;
     shows = λ e q seen v₁. pair-shows tab₂ reasons₂ _ e q seen v₁ (λ seen₁ v₂. left-none (edge walked) (e .store) n (rw (up-here (e .store .terms) x m u) at (g .left e q seen₁ v₂)));
   }
   rising-done tab₂ reasons₂ m x c₂ false g z u = clash z refl
@@ -272,9 +272,9 @@ module _ (terms cells tab₀ tab tab₁ reasons reasons₁ : List ℕ) (n k a b 
     (g : Rising terms cells tab tab₁ reasons reasons₁ n k a b m x late c c₁) (d : x ≡ m → ⊥) where
   pub rising-walkable : length tab ≡ length tab₀ → Walkable terms cells tab₁ reasons₁ n k (λ s. Edge s x)
   rising-walkable i = record {
-    standing = standing-on reasons₁ (g .along .long) (u .standing);
+    standing = standing-on reasons₁ (g .stays .long) (u .standing);
     fit = rising-on terms cells tab tab₁ reasons reasons₁ n k a b m x c c₁ late g d (u .standing) (u .fit) .edge-is;
-    wide = wide-on (g .along .tables ∙ i) (u .wide);
+    wide = wide-on (g .stays .tables ∙ i) (u .wide);
   }
 
   pub rising-low : termIn (termsView terms n) x .stamp < highest (termsView terms n) (pathIn (termsView terms n) a b)

@@ -1,4 +1,4 @@
--- A run of walk: the reasons that it gives, and the pairs that it marks, each accounted for.
+-- A run of walk: the reasons that it gives, and the pairs that it sees, each accounted for.
 use mathlib.Core.Path.{_≡_, refl, ap, _∙_}
 use mathlib.Core.Bool.{Bool, true, false, _||_}
 use mathlib.Core.List.{List, [], _∷_, _++_, List·Memᴰ, List·Memᴰ·head, List·Memᴰ·tail, List·Memᴰ·cases-cons, Memᴰ·append-left, Memᴰ·append-right}
@@ -20,7 +20,7 @@ use Rattle.engine.proofs.Paths.{path-edges}
 use Rattle.engine.proofs.Fits.{Fit, fit-zero, fit-more, pairs-fit}
 use Rattle.engine.proofs.Cites.{cites, citing, citing-then}
 
--- equal, or marked
+-- equal, or seen
 abbrev pub Joined : Seen → ℕ × ℕ → Type 0
 Joined seen p = (p .0 ≡ p .1) ⊎ List·Memᴰ (ordered (p .0) (p .1)) seen
 
@@ -45,7 +45,7 @@ module _ (s : Store) where
   accounted-more m e (by-pairs k j) = by-pairs k (every-map (joined-more m) j)
   accounted-more m e (by-definition k) = by-definition k
 
-  -- a marked pair, the way round that it was walked
+  -- a pair seen, the way round that it was walked
   pub record Settled (l : List (ℕ × ℕ)) (seen : Seen) (q : ℕ × ℕ) : Type 0 where
     pub one : ℕ
     pub other : ℕ
@@ -150,9 +150,9 @@ module _ (s : Store) (d : Audited s) where
           (each-run s (walk h) (Fit s h) (λ p l v. Joined v p) (λ l l′ v v′. joined-more) ih (every-map (λ p f. fit-more b f) (pairs-fit s d t (d .congruences t e k))) seen)
       go (definitional k n) = run-as s (edge (walk h) t seen) (λ rs. rw k) (λ l v j. j) (run-give s seen (by-definition k))
 
-  marked-run : (p : ℕ × ℕ) (seen : Seen) {f : Work Seen}
+  seen-run : (p : ℕ × ℕ) (seen : Seen) {f : Work Seen}
       → Run s f (ordered (p .0) (p .1) ∷ seen) (λ l v. Every (Accounted s l v) (path s (p .0) (p .1))) → Run s f seen (λ l v. Joined v p)
-  marked-run p seen x = record {
+  seen-run p seen x = record {
     cited = x .cited;
     after = x .after;
     is = x .is;
@@ -173,5 +173,5 @@ module _ (s : Store) (d : Audited s) where
           (run-give s seen (⊎-elim (λ q. inl (eqb-true _ _ q)) (λ q. inr (seen-is p seen q)) (either (eqb (p .0) (p .1)) _ e)))
       go ih false e =
           run-as s (walk (suc h) p seen) (λ rs. rw e) (λ l v j. j)
-          (marked-run p seen (each-run s (edge (walk h)) (λ t. ((isTerm s t ≡ true) × (isEdge s t ≡ true)) × (term s t .stamp < suc h)) (λ t l v. Accounted s l v t) (λ l l′ v v′. accounted-more s)
+          (seen-run p seen (each-run s (edge (walk h)) (λ t. ((isTerm s t ≡ true) × (isEdge s t ≡ true)) × (term s t .stamp < suc h)) (λ t l v. Accounted s l v t) (λ l l′ v v′. accounted-more s)
           (λ t q. edge-run h ih t (q .0 .0) (q .0 .1) (let m = q .1 in omega arith)) (every-both (path-edges s d p (f .together)) (f .stamps)) (ordered (p .0) (p .1) ∷ seen)))

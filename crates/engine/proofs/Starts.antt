@@ -10,13 +10,13 @@ use Rattle.records.specs.Store.{Store, ok, stop, andThen, store, count, isStrin
 use Rattle.records.specs.declared.State.{State}
 use Rattle.records.specs.declared.Added.the-variants.{Counts, Refused}
 use Rattle.records.specs.Calls.{Working, added}
-use Rattle.records.specs.View.{Lent, lent, storeOf, pairsView}
+use Rattle.records.specs.View.{Lent, lent, storeOf, pairsView, reasonsAt}
 use Rattle.records.specs.Make.{withReasons}
 use Rattle.records.specs.Audited.{Ready}
 use Rattle.records.proofs.Lists.{both-left, both-right}
 use Rattle.engine.specs.declared.Walked.{Walked}
 use Rattle.engine.specs.Explain.{wasSeen, walked, explain, explainArguments}
-use Rattle.engine.specs.Marks.{place, bit, marked, Marks}
+use Rattle.engine.specs.Seen.{place, bit, seenAt, Tables}
 use Rattle.engine.specs.Walks.{Standing, Together, Walkable, Shows, came, refused, Walks, Comes, explained, stopped, Explained, Explainable}
 use Rattle.engine.proofs.Sound.{class-together}
 
@@ -26,24 +26,24 @@ no-bit : (j : ℕ) → bit 0 j ≡ false
 unfolding bit
 no-bit j = rw (native.Mathlib.Nat.zero-div (2 ^ j)) refl
 
--- a table of zeros marks nothing
-pub no-mark : (w k : ℕ) → marked (replicate w 0) k ≡ false
-unfolding marked
-no-mark w k = ap (λ (x : ℕ). bit x (k % 32)) (zero-at w (k / 32)) ∙ no-bit (k % 32)
+-- a table of zeros has no pair
+pub none-noted : (w k : ℕ) → seenAt (replicate w 0) k ≡ false
+unfolding seenAt
+none-noted w k = ap (λ (x : ℕ). bit x (k % 32)) (zero-at w (k / 32)) ∙ no-bit (k % 32)
   where
     zero-at : (w i : ℕ) → _≡_ {A = ℕ} (getD (replicate w 0) i 0) 0
     zero-at zero i = refl
     zero-at (suc w) zero = refl
     zero-at (suc w) (suc i) = zero-at w i
 
-no-marks : (n w : ℕ) → Marks n (replicate w 0) []
+none-tabled : (n w : ℕ) → Tables n (replicate w 0) []
 unfolding wasSeen any
-no-marks n w = record { says = λ a b ha hb. no-mark w (place n a b) }
+none-tabled n w = record { says = λ a b ha hb. none-noted w (place n a b) }
 
 pub explained-by : (terms cells tab′ reasons reasons′ : List ℕ) (n k a b c w : ℕ) (r : Walked)
     → Walks (walked (a, b)) (λ s. Together s (a, b)) terms cells (replicate w 0) tab′ reasons reasons′ n k c r → Explained terms cells reasons reasons′ n k a b c r
 unfolding explain
-explained-by terms cells tab′ reasons reasons′ n k a b c w r g = record { kept = g .kept; comes = λ e q. go e (g .shows e q [] (no-marks n w)) }
+explained-by terms cells tab′ reasons reasons′ n k a b c w r g = record { kept = g .kept; comes = λ e q. go e (g .shows e q [] (none-tabled n w)) }
   where
     go : (e : Standing terms cells reasons n k) → Shows (e .store) n tab′ reasons′ r (walked (a, b) [] (withReasons (e .store) (pairsView reasons c)))
         → Comes (e .store) reasons′ r (explain a b (withReasons (e .store) (pairsView reasons c)))
@@ -70,23 +70,19 @@ module _ (m : Lent) (c : State) where
         together = class-together (storeOf m c) (d .audited) a b (both-left _ _ i) (both-right (isString (storeOf m c) a) _ i) (both-right (isString (storeOf m c) a && isString (storeOf m c) b) _ h);
       }
 
-  -- the counts with other reasons
-  abbrev pub reasonsAt : ℕ → State
-  reasonsAt n = record { terms = c .terms; cells = c .cells; chars = c .chars; reasons = n; keys = c .keys; names = c .names }
-
   module _ (a b : ℕ) (d : Ready m c) (h : explainArguments a b (storeOf m c) ≡ true) (reasons′ : List ℕ) (l : length reasons′ ≡ length (m .reasons)) (r : Walked)
       (x : Explained (m .terms) (m .cells) (m .reasons) reasons′ (c .terms) (c .cells) a b (c .reasons) r) where
-    store-after : (n : ℕ) → storeOf (lent (m .terms) (m .cells) (m .chars) reasons′ (m .keys)) (reasonsAt n) ≡ withReasons (storeOf m c) (pairsView reasons′ n)
+    store-after : (n : ℕ) → storeOf (lent (m .terms) (m .cells) (m .chars) reasons′ (m .keys)) (reasonsAt c n) ≡ withReasons (storeOf m c) (pairsView reasons′ n)
     store-after n = rw l
 
     still : storeOf (lent (m .terms) (m .cells) (m .chars) reasons′ (m .keys)) c ≡ storeOf m c
     still = store-after (c .reasons) ∙ ap (withReasons (storeOf m c)) (x .kept)
 
-    pub explain-came : r .code ≡ 0 → Working (explain a b) m (lent (m .terms) (m .cells) (m .chars) reasons′ (m .keys)) c
-        (added (Counts (reasonsAt (r .count))) (lent (m .terms) (m .cells) (m .chars) reasons′ (m .keys)))
-    explain-came z = record { says = go (x .comes (standing-of d) (explainable-of a b d h .together)); kept = still }
+    pub explain-came : r .code ≡ 0 → (e : State) → e ≡ reasonsAt c (r .count) → Working (explain a b) m (lent (m .terms) (m .cells) (m .chars) reasons′ (m .keys)) c
+        (added (Counts e) (lent (m .terms) (m .cells) (m .chars) reasons′ (m .keys)))
+    explain-came z e q = rw q (record { says = go (x .comes (standing-of d) (explainable-of a b d h .together)); kept = still })
       where
-        go : Comes (storeOf m c) reasons′ r (explain a b (storeOf m c)) → explain a b (storeOf m c) ≡ ok (storeOf (lent (m .terms) (m .cells) (m .chars) reasons′ (m .keys)) (reasonsAt (r .count))) tt
+        go : Comes (storeOf m c) reasons′ r (explain a b (storeOf m c)) → explain a b (storeOf m c) ≡ ok (storeOf (lent (m .terms) (m .cells) (m .chars) reasons′ (m .keys)) (reasonsAt c (r .count))) tt
         go (explained i e) = e ∙ ap (λ (s : Store). ok s tt) (sym (store-after (r .count)))
         go (stopped i e) = absurd (i z)
 

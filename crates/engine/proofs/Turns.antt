@@ -3,15 +3,16 @@ use mathlib.Core.Path.{_≡_, refl, sym, ap, _∙_}
 use mathlib.Core.Bool.{Bool, true, false}
 use mathlib.Core.List.{List, [], _∷_, _++_}
 use mathlib.Core.Logic.{_⊎_, inl, inr, ⊎-elim}
-use Prim.Native.Nat.{ℕ, suc, _+_, _/_, _^_, _≤_, _<_, min}
-use native.Mathlib.Numerals.{add-one}
+use Prim.Native.Nat.{ℕ, suc, _+_, _/_, _≤_, _<_, min}
 use native.Mathlib.Omega.{arith}
 use lib.ListN.{length}
 use lib.Dec.{ltb}
-use borrow.Author.Tests.{ltb-true}
-use Rattle.records.specs.Lists.{firsts, Every, and}
+use Rattle.records.specs.declared.State.{State}
+use Rattle.records.specs.declared.Added.{Added}
+use Rattle.records.specs.declared.Added.the-variants.{Counts, Refused}
+use Rattle.records.specs.Lists.{firsts, oneMore, Every, and}
 use Rattle.records.specs.Store.{Term, Cell, Store, Out, ok, stop, Work, andThen, store, term, cell, count, isTerm, isEdge, within, kind, parts, chain, chainIn, pathIn, termIn, cellIn}
-use Rattle.records.specs.View.{termAt, cellAt, termsView, cellsView, pairsView, reasonRoom, reasonLimit}
+use Rattle.records.specs.View.{termAt, cellAt, termsView, cellsView, pairsView, reasonRoom, reasonLimit, oneReason}
 use Rattle.records.specs.Make.{withReasons, addReason}
 use Rattle.records.specs.Audited.{Audited, Label, asserted, interface, congruence, definitional, Next, last, later}
 use Rattle.records.specs.Puts.{Pushed}
@@ -20,7 +21,7 @@ use Rattle.records.proofs.Views.{term-is, cell-is, table-is}
 use Rattle.records.proofs.Chains.{chain-none, chain-is}
 use Rattle.engine.specs.declared.Walked.{Walked}
 use Rattle.engine.specs.Explain.{Seen, each, edge, highest, walked}
-use Rattle.engine.specs.Marks.{Marks}
+use Rattle.engine.specs.Seen.{Tables}
 use Rattle.engine.specs.Walks.{Standing, Together, Edge, Wide, Walkable, Shows, came, refused, Walks, Gives}
 use Rattle.engine.proofs.Fits.{Fit, fit-height, pairs-fit}
 
@@ -63,19 +64,26 @@ fewer l l′ m n h e = Rattle.records.proofs.Lists.table-same _ _ m (λ i b. ta
 
 -- ONE REASON
 
-pub gives-yes : (l l′ : List ℕ) (n kind value : ℕ) (b : Bool) → Pushed l l′ n kind value b → b ≡ true → Gives l l′ n kind value (record { code = 0; count = n + 1 })
-gives-yes l l′ n kind value b p t = record {
-  kept = p .kept;
-  more = omega arith;
-  given = λ h. (refl, rw add-one (p .grown t));
-  full = λ h. clash (sym (p .fits) ∙ t) h;
-}
+module _ (l l′ : List ℕ) (c : State) (kind value : ℕ) (r : Added) (p : Pushed l l′ c kind value r) where
+  pub gives-counts : (d : State) → r ≡ Counts d → Gives l l′ (c .reasons) kind value (record { code = 0; count = d .reasons })
+  gives-counts d i = decide (ltb (c .reasons) (reasonRoom l)) yes no
+    where
+      yes : ltb (c .reasons) (reasonRoom l) ≡ true → Gives l l′ (c .reasons) kind value (record { code = 0; count = d .reasons })
+      yes h =
+          let z = p .grown h .0 in
+          let q : d ≡ oneReason c = cc in
+          rw q (record { kept = p .kept; more = omega arith; given = λ y. (refl, p .grown y .1); full = λ y. clash h y })
 
-pub gives-no : (l l′ : List ℕ) (n kind value : ℕ) (b : Bool) → Pushed l l′ n kind value b → b ≡ false → Gives l l′ n kind value (record { code = 7; count = n })
-gives-no l l′ n kind value b p t = record { kept = p .kept; more = omega arith; given = λ h. clash h (sym (p .fits) ∙ t); full = λ h. refl }
+      no : ltb (c .reasons) (reasonRoom l) ≡ false → Gives l l′ (c .reasons) kind value (record { code = 0; count = d .reasons })
+      no h = let z = p .full h in let y : _≡_ {A = ℕ} 0 1 = cc in absurd (omega arith)
 
-pub pushed-fits : (l l′ : List ℕ) (n kind value : ℕ) (b : Bool) → Pushed l l′ n kind value b → b ≡ true → n + 1 < 2 ^ 64
-pushed-fits l l′ n kind value b p t = let h = ltb-true n (reasonRoom l) (sym (p .fits) ∙ t) in omega arith
+  pub gives-refused : (k : ℕ) → r ≡ Refused k → Gives l l′ (c .reasons) kind value (record { code = k; count = c .reasons })
+  gives-refused k i = record {
+    kept = p .kept;
+    more = omega arith;
+    given = λ h. let z = p .grown h .0 in let y : _≡_ {A = ℕ} 0 1 = cc in absurd (omega arith);
+    full = λ h. let z = p .full h in cc;
+  }
 
 -- AN EDGE BY ITS LABEL
 
@@ -98,7 +106,7 @@ unfolding edge
 edge-adds s node j v seen (inl a) e f = rw (e, f, a)
 edge-adds s node j v seen (inr a) e f = rw (e, f, a)
 
-added-fits : (s : Store) (j v : ℕ) (rs : List (ℕ × ℕ)) → ltb (length rs) (s .room .reasons) ≡ true → addReason j v (withReasons s rs) ≡ ok (withReasons s (rs ++ ((j, v) ∷ []))) tt
+added-fits : (s : Store) (j v : ℕ) (rs : List (ℕ × ℕ)) → ltb (length rs) (s .room .reasons) ≡ true → addReason j v (withReasons s rs) ≡ ok (withReasons s (oneMore rs (j, v))) tt
 unfolding addReason
 added-fits s j v rs h = rw h
 
@@ -110,7 +118,7 @@ pub edge-gives : (terms cells tab reasons reasons′ : List ℕ) (n k node j kin
     → Gives reasons reasons′ count j value r → Walks (edge walked node) (λ s. Edge s node) terms cells tab tab reasons reasons′ n k count r
 edge-gives terms cells tab reasons reasons′ n k node j kind value count r two i l g = record { kept = g .kept; more = g .more; shows = λ e q seen m. go e q seen m }
   where
-    go : (e : Standing terms cells reasons n k) → Edge (e .store) node → (seen : Seen) → Marks n tab seen
+    go : (e : Standing terms cells reasons n k) → Edge (e .store) node → (seen : Seen) → Tables n tab seen
         → Shows (e .store) n tab reasons′ r (edge walked node seen (withReasons (e .store) (pairsView reasons count)))
     go e q seen m =
         let s = e .store in
@@ -165,14 +173,14 @@ each-none f seen s = refl
 -- what is left of work in turn comes to what the whole came to
 pub record Left {A : Type 0} (f : A → Seen → Work Seen) (s : Store) (n : ℕ) (tab reasons : List ℕ) (count : ℕ) (l : List A) (o : Out Seen) : Type 0 where
   pub seen : Seen
-  pub marks : Marks n tab seen
+  pub tabled : Tables n tab seen
   pub is : each f l seen (withReasons s (pairsView reasons count)) ≡ o
 
 module _ {A : Type 0} (f : A → Seen → Work Seen) (s : Store) (n : ℕ) where
   -- one in turn that came to something, that was refused, and none left
   pub left-turn : {tab tab′ reasons reasons′ : List ℕ} {c : ℕ} {r : Walked} {x : A} {l : List A} {o : Out Seen} (v : Left f s n tab reasons c (x ∷ l) o)
       → Shows s n tab′ reasons′ r (f x (v .seen) (withReasons s (pairsView reasons c))) → r .code ≡ 0 → Left f s n tab′ reasons′ (r .count) l o
-  left-turn {x = x} {l = l} v (came h seen m i) z = record { seen = seen; marks = m; is = sym (each-first f x l (v .seen) seen _ _ i) ∙ v .is }
+  left-turn {x = x} {l = l} v (came h seen m i) z = record { seen = seen; tabled = m; is = sym (each-first f x l (v .seen) seen _ _ i) ∙ v .is }
   left-turn v (refused h i) z = absurd (h z)
 
   pub left-stopped : {tab tab′ reasons reasons′ : List ℕ} {c : ℕ} {r : Walked} {x : A} {l : List A} {o : Out Seen} (v : Left f s n tab reasons c (x ∷ l) o)
@@ -181,22 +189,22 @@ module _ {A : Type 0} (f : A → Seen → Work Seen) (s : Store) (n : ℕ) where
   left-stopped {x = x} {l = l} v (refused h i) d = refused h (sym (v .is) ∙ each-stopped f x l (v .seen) _ _ i)
 
   pub left-none : {tab reasons : List ℕ} {c : ℕ} {o : Out Seen} → Left f s n tab reasons c [] o → Shows s n tab reasons (record { code = 0; count = c }) o
-  left-none v = came refl (v .seen) (v .marks) (sym (v .is) ∙ each-none f (v .seen) _)
+  left-none v = came refl (v .seen) (v .tabled) (sym (v .is) ∙ each-none f (v .seen) _)
 
 -- from a table, reasons and a count to others: what was counted stays
-pub record Along (tab tab′ reasons reasons′ : List ℕ) (count count′ : ℕ) : Type 0 where
+pub record Stays (tab tab′ reasons reasons′ : List ℕ) (count count′ : ℕ) : Type 0 where
   pub tables : length tab′ ≡ length tab
   pub long : length reasons′ ≡ length reasons
   pub kept : pairsView reasons′ count ≡ pairsView reasons count
   pub more : count ≤ count′
 
-pub along-none : (tab reasons : List ℕ) (count : ℕ) → Along tab tab reasons reasons count count
-along-none tab reasons count = record { tables = refl; long = refl; kept = refl; more = omega arith }
+pub stays-none : (tab reasons : List ℕ) (count : ℕ) → Stays tab tab reasons reasons count count
+stays-none tab reasons count = record { tables = refl; long = refl; kept = refl; more = omega arith }
 
-pub along-then : {tab tab₁ tab₂ reasons reasons₁ reasons₂ : List ℕ} {count count₁ count₂ : ℕ} → Along tab tab₁ reasons reasons₁ count count₁
+pub stays-then : {tab tab₁ tab₂ reasons reasons₁ reasons₂ : List ℕ} {count count₁ count₂ : ℕ} → Stays tab tab₁ reasons reasons₁ count count₁
     → length tab₂ ≡ length tab₁ → length reasons₂ ≡ length reasons₁ → pairsView reasons₂ count₁ ≡ pairsView reasons₁ count₁ → count₁ ≤ count₂
-    → Along tab tab₂ reasons reasons₂ count count₂
-along-then {reasons₁ = r₁} {reasons₂ = r₂} {count = c} {count₁ = c₁} a t l v m = record {
+    → Stays tab tab₂ reasons reasons₂ count count₂
+stays-then {reasons₁ = r₁} {reasons₂ = r₂} {count = c} {count₁ = c₁} a t l v m = record {
   tables = t ∙ a .tables;
   long = l ∙ a .long;
   kept = fewer r₁ r₂ c c₁ (a .more) v ∙ a .kept;
@@ -225,10 +233,10 @@ at-chain s at d = decide (within (length (s .cells)) at) standing (λ f. absurd 
 
 -- the loop over the pairs of the congruence edge from node
 pub record Pairing (terms cells tab tab′ reasons reasons′ : List ℕ) (n k node first at count count′ : ℕ) : Type 0 where
-  pub along : Along tab tab′ reasons reasons′ count count′
+  pub stays : Stays tab tab′ reasons reasons′ count count′
   pub at-is : (e : Standing terms cells reasons n k) → Edge (e .store) node → At (e .store) at
   pub fits : (e : Standing terms cells reasons n k) → Edge (e .store) node → Every (Fit (e .store) (term (e .store) node .stamp)) (chain (e .store) at)
-  pub left : (e : Standing terms cells reasons n k) → Edge (e .store) node → (seen : Seen) → Marks n tab seen
+  pub left : (e : Standing terms cells reasons n k) → Edge (e .store) node → (seen : Seen) → Tables n tab seen
       → Left walked (e .store) n tab′ reasons′ count′ (chain (e .store) at) (each walked (chain (e .store) first) seen (withReasons (e .store) (pairsView reasons count)))
 
 firsts-none : (l : List (ℕ × ℕ)) → firsts l ≡ [] → length l ≡ 0
@@ -251,10 +259,10 @@ congruence-pairs s d t j c z =
 pub pairing-begin : (terms cells tab reasons : List ℕ) (n k node j value c : ℕ) → j ≡ 3 → Labelled terms node j value
     → Pairing terms cells tab tab reasons reasons n k node value value c c
 pairing-begin terms cells tab reasons n k node j value c i l = record {
-  along = along-none tab reasons c;
+  stays = stays-none tab reasons c;
   at-is = λ e q. at-chain (e .store) value (λ z. congruence-pairs (e .store) (e .audited) node (q .joins) (label-kind e q l ∙ i) (ap (chain (e .store)) (label-value e q l) ∙ z));
   fits = λ e q. rw (label-value e q l) at (pairs-fit (e .store) (e .audited) node (e .audited .congruences node (q .joins) (label-kind e q l ∙ i)));
-  left = λ e q seen m. record { seen = seen; marks = m; is = refl };
+  left = λ e q seen m. record { seen = seen; tabled = m; is = refl };
 }
 
 -- a congruence edge does what its pairs do in turn
@@ -299,24 +307,24 @@ module _ (terms cells tab tab₁ reasons reasons₁ : List ℕ) (n k node first 
   module _ (tab₂ reasons₂ : List ℕ) (r : Walked) (t : length tab₂ ≡ length tab₁) (m : length reasons₂ ≡ length reasons₁)
       (w : Walks (walked (x, y)) (λ s. Together s (x, y)) terms cells tab₁ tab₂ reasons₁ reasons₂ n k c₁ r) where
     -- what the pair came to, from where the pairs before it left off
-    pairing-shows : (e : Standing terms cells reasons n k) → Edge (e .store) node → (seen : Seen) → Marks n tab₁ seen
+    pairing-shows : (e : Standing terms cells reasons n k) → Edge (e .store) node → (seen : Seen) → Tables n tab₁ seen
         → Shows (e .store) n tab₂ reasons₂ r (walked (x, y) seen (withReasons (e .store) (pairsView reasons₁ c₁)))
-    pairing-shows e q seen v = w .shows (standing-on reasons₁ (g .along .long) e) (pairing-fit e q .together) seen v
+    pairing-shows e q seen v = w .shows (standing-on reasons₁ (g .stays .long) e) (pairing-fit e q .together) seen v
 
     -- the pairs left, with this one first
-    pairing-left : (e : Standing terms cells reasons n k) (q : Edge (e .store) node) (seen : Seen) (v : Marks n tab seen)
+    pairing-left : (e : Standing terms cells reasons n k) (q : Edge (e .store) node) (seen : Seen) (v : Tables n tab seen)
         → Left walked (e .store) n tab₁ reasons₁ c₁ ((x, y) ∷ chain (e .store) z) (each walked (chain (e .store) first) seen (withReasons (e .store) (pairsView reasons c)))
     pairing-left e q seen v = rw (pair-chain e (at-here _ at (g .at-is e q) d) p) at (g .left e q seen v)
 
-    on : Along tab tab₂ reasons reasons₂ c (r .count)
-    on = along-then (g .along) t m (w .kept) (w .more)
+    on : Stays tab tab₂ reasons reasons₂ c (r .count)
+    on = stays-then (g .stays) t m (w .kept) (w .more)
 
     pub pairing-turn : r .code ≡ 0 → Pairing terms cells tab tab₂ reasons reasons₂ n k node first z c (r .count)
     pairing-turn i = record {
-      along = on;
+      stays = on;
       at-is = λ e q. pair-next e (at-here _ at (g .at-is e q) d) p;
       fits = λ e q. every-tail (rw (pair-chain e (at-here _ at (g .at-is e q) d) p) at (g .fits e q));
-      left = λ e q seen v. let f = pairing-left e q seen v in left-turn walked (e .store) n f (pairing-shows e q (f .seen) (f .marks)) i;
+      left = λ e q seen v. let f = pairing-left e q seen v in left-turn walked (e .store) n f (pairing-shows e q (f .seen) (f .tabled)) i;
     }
 
     -- a pair that is refused ends the edge
@@ -326,15 +334,15 @@ module _ (terms cells tab tab₁ reasons reasons₁ : List ℕ) (n k node first 
       kept = on .kept;
       more = on .more;
       shows = λ e q seen v. let f = pairing-left e q seen v in
-          edge-shows c e q l j u seen (left-stopped walked (e .store) n f (pairing-shows e q (f .seen) (f .marks)) i);
+          edge-shows c e q l j u seen (left-stopped walked (e .store) n f (pairing-shows e q (f .seen) (f .tabled)) i);
     }
 
 pub pairing-done : (terms cells tab tab₁ reasons reasons₁ : List ℕ) (n k node first at c c₁ : ℕ) → Pairing terms cells tab tab₁ reasons reasons₁ n k node first at c c₁ → at ≡ 0
     → (kind value : ℕ) → kind ≡ 3 → first ≡ value → Labelled terms node kind value
     → Walks (edge walked node) (λ s. Edge s node) terms cells tab tab₁ reasons reasons₁ n k c (record { code = 0; count = c₁ })
 pairing-done terms cells tab tab₁ reasons reasons₁ n k node first at c c₁ g z kind value j u l = record {
-  kept = g .along .kept;
-  more = g .along .more;
+  kept = g .stays .kept;
+  more = g .stays .more;
   shows = λ e q seen v. edge-shows c e q l j u seen (left-none walked (e .store) n (rw (ap (chain (e .store)) z ∙ chain-none (e .store .cells) 0 (within-zero _ 0 refl)) at (g .left e q seen v)));
 }
 
@@ -347,9 +355,9 @@ module _ (terms cells tab tab₁ reasons reasons₁ : List ℕ) (n k node first 
     (g : Pairing terms cells tab tab₁ reasons reasons₁ n k node first at c c₁) (d : at ≡ 0 → ⊥) where
   pub pairing-walkable : x ≡ cellAt cells at .value → y ≡ cellAt cells at .other → Walkable terms cells tab₁ reasons₁ n k (λ s. Together s (x, y))
   pairing-walkable i j = record {
-    standing = standing-on reasons₁ (g .along .long) (u .standing);
+    standing = standing-on reasons₁ (g .stays .long) (u .standing);
     fit = pairing-fit terms cells tab tab₁ reasons reasons₁ n k node first at x y _ c c₁ g d (record { one = i; other = j; next-is = refl }) (u .standing) (u .fit) .together;
-    wide = wide-on (g .along .tables) (u .wide);
+    wide = wide-on (g .stays .tables) (u .wide);
   }
 
   pub pairing-low : x ≡ cellAt cells at .value → y ≡ cellAt cells at .other → highest (termsView terms n) (pathIn (termsView terms n) x y) ≤ termIn (termsView terms n) node .stamp

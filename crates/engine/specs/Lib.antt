@@ -1,5 +1,5 @@
 pub mod Calls
 pub mod Explain
-pub mod Marks
+pub mod Seen
 pub mod Meaning
 pub mod Walks

@@ -1,20 +1,22 @@
--- What explain_rec and expand_edge promise: they do what `walked` and `edge` say, the table marking the pairs seen.
+-- What explain_rec and expand_edge promise: they do what `walked` and `edge` say, the table having the pairs seen.
 use mathlib.Core.Path.{_≡_}
 use mathlib.Core.Bool.{Bool, true, false}
-use mathlib.Core.List.{List, [], _∷_, _++_}
+use mathlib.Core.List.{List, _++_}
 use Prim.Native.Nat.{ℕ, _+_, _*_, _≤_}
 use lib.ListN.{length}
 use lib.Dec.{ltb}
-use Rattle.records.specs.Lists.{upTo}
+use denote.Ref.{now}
+use Rattle.records.specs.declared.State.{State}
+use Rattle.records.specs.Lists.{upTo, oneMore}
 use Rattle.records.specs.Store.{Term, Store, Out, ok, stop, Work, isTerm, isEdge, top, aboveIn}
-use Rattle.records.specs.View.{termsView, cellsView, pairsView, reasonRoom}
+use Rattle.records.specs.View.{Slice, termsView, cellsView, pairsView, reasonRoom}
 use Rattle.records.specs.Make.{withReasons}
 use Rattle.records.specs.Audited.{Audited}
 use Rattle.engine.specs.declared.Walked.{Walked}
 use Rattle.engine.specs.declared.Plain.{Plain}
 use Rattle.engine.specs.declared.Plain.the-variants.{Ended}
 use Rattle.engine.specs.Explain.{Seen, edge, walked, explain}
-use Rattle.engine.specs.Marks.{Marks}
+use Rattle.engine.specs.Seen.{Tables}
 
 -- an audited store with the lent terms and cells and the room of the lent reasons
 pub record Standing (terms cells reasons : List ℕ) (n k : ℕ) : Type 0 where
@@ -47,14 +49,14 @@ pub record Walkable (terms cells table reasons : List ℕ) (n k : ℕ) (P : Stor
 
 -- what a walk came to
 pub data Shows (s : Store) (n : ℕ) (table reasons : List ℕ) (r : Walked) (o : Out Seen) : Type 0 where
-  came : r .code ≡ 0 → (seen : Seen) → Marks n table seen → o ≡ ok (withReasons s (pairsView reasons (r .count))) seen → Shows s n table reasons r o
+  came : r .code ≡ 0 → (seen : Seen) → Tables n table seen → o ≡ ok (withReasons s (pairsView reasons (r .count))) seen → Shows s n table reasons r o
   refused : (r .code ≡ 0 → ⊥) → o ≡ stop (r .code) → Shows s n table reasons r o
 
 -- from a table and reasons to a table and reasons: what is counted stays, and the work is done
 pub record Walks (work : Seen → Work Seen) (P : Store → Type 0) (terms cells table table′ reasons reasons′ : List ℕ) (n k count : ℕ) (r : Walked) : Type 0 where
   pub kept : pairsView reasons′ count ≡ pairsView reasons count
   pub more : count ≤ r .count
-  pub shows : (e : Standing terms cells reasons n k) → P (e .store) → (seen : Seen) → Marks n table seen
+  pub shows : (e : Standing terms cells reasons n k) → P (e .store) → (seen : Seen) → Tables n table seen
       → Shows (e .store) n table′ reasons′ r (work seen (withReasons (e .store) (pairsView reasons count)))
 
 -- the edges ahead on a path: from x up to m, and then from b up to m unless x is on b's side
@@ -66,7 +68,7 @@ ahead ts m b false x = upTo m (aboveIn ts x) ++ upTo m (aboveIn ts b)
 pub record Gives (l l′ : List ℕ) (n kind value : ℕ) (r : Walked) : Type 0 where
   pub kept : pairsView l′ n ≡ pairsView l n
   pub more : n ≤ r .count
-  pub given : ltb n (reasonRoom l) ≡ true → (r .code ≡ 0) × (pairsView l′ (r .count) ≡ pairsView l n ++ ((kind, value) ∷ []))
+  pub given : ltb n (reasonRoom l) ≡ true → (r .code ≡ 0) × (pairsView l′ (r .count) ≡ oneMore (pairsView l n) (kind, value))
   pub full : ltb n (reasonRoom l) ≡ false → r .code ≡ 7
 
 -- what an explanation came to
@@ -103,3 +105,15 @@ pub record PlainPair (terms reasons : List ℕ) (n a b : ℕ) : Type 0 where
   pub cells : List ℕ
   pub k : ℕ
   pub can : Explainable terms cells reasons n k a b
+
+-- THE WORDS OF CONTRACTS. Slices are passed by their names, and the counts as they were at entry
+
+-- a walk from the table and the reasons at entry to those at exit
+abbrev pub Along : (List ℕ → List ℕ → List ℕ → List ℕ → List ℕ → List ℕ → ℕ → ℕ → ℕ → Walked → Type 0) → Slice → Slice → Slice → Slice → State → Walked → Type 0
+Along P terms cells seen reasons c r =
+    P (now (terms .entry)) (now (cells .entry)) (now (seen .entry)) (now (seen .exit)) (now (reasons .entry)) (now (reasons .exit)) (c .terms) (c .cells) (c .reasons) r
+
+-- a pair explained from the reasons at entry to those at exit
+abbrev pub PairExplained : Slice → Slice → Slice → State → ℕ → ℕ → Walked → Type 0
+PairExplained terms cells reasons c a b r =
+    Explained (now (terms .entry)) (now (cells .entry)) (now (reasons .entry)) (now (reasons .exit)) (c .terms) (c .cells) a b (c .reasons) r

@@ -7,8 +7,8 @@ ghost use Rattle.records.specs.View.{storeOf, lends, across};
 ghost use Rattle.records.specs.Audited.{Ready};
 ghost use Rattle.records.specs.Calls.{added, Does, Answers, Promises};
 ghost use Rattle.engine.specs.Explain.{find, findArguments, walked, edge, explain, explainArguments};
-ghost use Rattle.engine.specs.Marks.{place, marked, Marked};
-ghost use Rattle.engine.specs.Walks.{Walkable, Together, Edge, Walks, Gives, Explainable, Explained, Plainly, PlainEdge, PlainPair, PlainPath};
+ghost use Rattle.engine.specs.Seen.{place, seenAt, Noted};
+ghost use Rattle.engine.specs.Walks.{Walkable, Together, Edge, Walks, Gives, Explainable, Plainly, PlainEdge, PlainPair, PlainPath, Along, PairExplained};
 ghost use Rattle.engine.specs.Calls.{found, PublicExplain};
 use records::Added;
 use records::State;
@@ -17,7 +17,8 @@ use records::fields;
 use records::put;
 use records::rules;
 
-// How far a walk came: 0 and the count of reasons, or the refusal.
+// How far a walk came: 0 and the count of reasons, or the refusal. A walk is given the counts and hands back that of the reasons alone,
+// because a walk within a walk keeps what it was handed on the stack.
 pub struct Walked {
     pub code: u32,
     pub count: usize,
@@ -54,7 +55,8 @@ pub fn find(
     if !rules::is_string(terms, c.terms, t) {
         return Found::Refused(5);
     }
-    Found::Root(classes::root_unchecked(terms, c.terms, t))
+    let r = classes::root_unchecked(terms, c.terms, t);
+    Found::Root(r)
 }
 
 // The place of the pair {a, b} in a table for numbers up to n.
@@ -68,20 +70,20 @@ fn place(n: usize, a: u32, b: u32) -> usize
     (b as usize) * (n + 1) + (a as usize)
 }
 
-// Whether the place k is marked.
-fn is_marked(table: &[u32], k: usize) -> bool
+// Whether the pair of the place k was seen.
+fn is_seen(table: &[u32], k: usize) -> bool
     requires { ⌜ k < 32 * length (now table) ⌝ }
-    ensures { λ r. ⌜ r ≡ marked (now (table .entry)) k ⌝ }
+    ensures { λ r. ⌜ r ≡ seenAt (now (table .entry)) k ⌝ }
 {
     let w = table[k / 32];
     let j = k % 32;
     (w >> j) % 2 == 1
 }
 
-// Marks the place k, which is not marked.
-fn mark(table: &mut [u32], k: usize)
-    requires { ⌜ (k < 32 * length (now table)) × (marked (now table) k ≡ false) ⌝ }
-    ensures { λ _. ⌜ Marked (now (table .entry)) (now (table .exit)) k ⌝ }
+// Notes that the pair of the place k was seen, which it was not before.
+fn note_seen(table: &mut [u32], k: usize)
+    requires { ⌜ (k < 32 * length (now table)) × (seenAt (now table) k ≡ false) ⌝ }
+    ensures { λ _. ⌜ Noted (now (table .entry)) (now (table .exit)) k ⌝ }
 {
     let i = k / 32;
     let j = k % 32;
@@ -90,45 +92,53 @@ fn mark(table: &mut [u32], k: usize)
 }
 
 // One reason more.
-fn give(reasons: &mut [u32], count: usize, kind: u32, value: u32) -> Walked
-    ensures { λ r. ⌜ Gives (now (reasons .entry)) (now (reasons .exit)) count kind value r ⌝ }
+fn give(reasons: &mut [u32], c: State, kind: u32, value: u32) -> Walked
+    ensures { λ r. ⌜ Gives (now (reasons .entry)) (now (reasons .exit)) (c .reasons) kind value r ⌝ }
 {
-    if put::push_reason_unchecked(reasons, count, kind, value) {
-        return Walked {
+    let p = put::push_reason_unchecked(reasons, c, kind, value);
+    match p {
+        Added::Counts(d) => Walked {
             code: 0,
-            count: count + 1,
-        };
+            count: d.reasons,
+        },
+        Added::Refused(k) => Walked {
+            code: k,
+            count: c.reasons,
+        },
     }
-    Walked { code: 7, count }
 }
 
 // Walks a up to the nearest shared ancestor, then b: each edge's reasons, in that order. A pair seen before is skipped.
 fn explain_rec(
     terms: &[u32],
     cells: &[u32],
-    n: usize,
-    k: usize,
+    c: State,
     a: u32,
     b: u32,
     seen: &mut [u32],
     reasons: &mut [u32],
-    count: usize,
 ) -> Walked
-    requires { ⌜ Walkable (now terms) (now cells) (now seen) (now reasons) n k (λ s. Together s (a, b)) ⌝ }
-    ensures { λ r. ⌜ Walks (walked (a, b)) (λ s. Together s (a, b)) (now (terms .entry)) (now (cells .entry)) (now (seen .entry)) (now (seen .exit)) (now (reasons .entry)) (now (reasons .exit)) n k count r ⌝ }
+    requires { ⌜ Walkable (now terms) (now cells) (now seen) (now reasons) (c .terms) (c .cells) (λ s. Together s (a, b)) ⌝ }
+    ensures { λ r. ⌜ Along (Walks (walked (a, b)) (λ s. Together s (a, b))) terms cells seen reasons c r ⌝ }
 {
     if a == b {
-        return Walked { code: 0, count };
+        return Walked {
+            code: 0,
+            count: c.reasons,
+        };
     }
-    let at = place(n, a, b);
-    if is_marked(seen, at) {
-        return Walked { code: 0, count };
+    let at = place(c.terms, a, b);
+    if is_seen(seen, at) {
+        return Walked {
+            code: 0,
+            count: c.reasons,
+        };
     }
-    mark(seen, at);
-    let top = classes::nearest_unchecked(terms, n, a, b);
+    note_seen(seen, at);
+    let top = classes::nearest_unchecked(terms, c.terms, a, b);
     let mut x = a;
     let mut last = false;
-    let mut given = count;
+    let mut given = c.reasons;
     loop {
         if x == top {
             if last {
@@ -140,7 +150,7 @@ fn explain_rec(
             last = true;
             x = b;
         } else {
-            let r = expand_edge(terms, cells, n, k, x, seen, reasons, given);
+            let r = expand_edge(terms, cells, c.with_reasons(given), x, seen, reasons);
             if r.code != 0 {
                 return r;
             }
@@ -154,28 +164,26 @@ fn explain_rec(
 fn expand_edge(
     terms: &[u32],
     cells: &[u32],
-    n: usize,
-    k: usize,
+    c: State,
     node: u32,
     seen: &mut [u32],
     reasons: &mut [u32],
-    count: usize,
 ) -> Walked
-    requires { ⌜ Walkable (now terms) (now cells) (now seen) (now reasons) n k (λ s. Edge s node) ⌝ }
-    ensures { λ r. ⌜ Walks (edge walked node) (λ s. Edge s node) (now (terms .entry)) (now (cells .entry)) (now (seen .entry)) (now (seen .exit)) (now (reasons .entry)) (now (reasons .exit)) n k count r ⌝ }
+    requires { ⌜ Walkable (now terms) (now cells) (now seen) (now reasons) (c .terms) (c .cells) (λ s. Edge s node) ⌝ }
+    ensures { λ r. ⌜ Along (Walks (edge walked node) (λ s. Edge s node)) terms cells seen reasons c r ⌝ }
 {
     let kind = fields::label_kind(terms, node);
     let value = fields::label_value(terms, node);
     match kind {
-        1 => give(reasons, count, 1, value),
-        2 => give(reasons, count, 2, value),
+        1 => give(reasons, c, 1, value),
+        2 => give(reasons, c, 2, value),
         3 => {
             let mut at = value;
-            let mut given = count;
+            let mut given = c.reasons;
             while at != 0 {
                 let s = fields::value(cells, at);
                 let t = fields::other(cells, at);
-                let r = explain_rec(terms, cells, n, k, s, t, seen, reasons, given);
+                let r = explain_rec(terms, cells, c.with_reasons(given), s, t, seen, reasons);
                 if r.code != 0 {
                     return r;
                 }
@@ -187,8 +195,14 @@ fn expand_edge(
                 count: given,
             }
         }
-        4 => Walked { code: 0, count },
-        _ => Walked { code: 3, count },
+        4 => Walked {
+            code: 0,
+            count: c.reasons,
+        },
+        _ => Walked {
+            code: 3,
+            count: c.reasons,
+        },
     }
 }
 
@@ -196,87 +210,80 @@ fn expand_edge(
 fn explain_few(
     terms: &[u32],
     cells: &[u32],
-    n: usize,
-    k: usize,
+    c: State,
     a: u32,
     b: u32,
     reasons: &mut [u32],
-    count: usize,
 ) -> Walked
-    requires { ⌜ (n ≤ 31) × Explainable (now terms) (now cells) (now reasons) n k a b ⌝ }
-    ensures { λ r. ⌜ Explained (now (terms .entry)) (now (cells .entry)) (now (reasons .entry)) (now (reasons .exit)) n k a b count r ⌝ }
+    requires { ⌜ (c .terms ≤ 31) × Explainable (now terms) (now cells) (now reasons) (c .terms) (c .cells) a b ⌝ }
+    ensures { λ r. ⌜ PairExplained terms cells reasons c a b r ⌝ }
 {
     let mut seen: [u32; 32] = [0; 32];
-    explain_rec(terms, cells, n, k, a, b, &mut seen, reasons, count)
+    explain_rec(terms, cells, c, a, b, &mut seen, reasons)
 }
 
 fn explain_some(
     terms: &[u32],
     cells: &[u32],
-    n: usize,
-    k: usize,
+    c: State,
     a: u32,
     b: u32,
     reasons: &mut [u32],
-    count: usize,
 ) -> Walked
-    requires { ⌜ (n ≤ 127) × Explainable (now terms) (now cells) (now reasons) n k a b ⌝ }
-    ensures { λ r. ⌜ Explained (now (terms .entry)) (now (cells .entry)) (now (reasons .entry)) (now (reasons .exit)) n k a b count r ⌝ }
+    requires { ⌜ (c .terms ≤ 127) × Explainable (now terms) (now cells) (now reasons) (c .terms) (c .cells) a b ⌝ }
+    ensures { λ r. ⌜ PairExplained terms cells reasons c a b r ⌝ }
 {
     let mut seen: [u32; 512] = [0; 512];
-    explain_rec(terms, cells, n, k, a, b, &mut seen, reasons, count)
+    explain_rec(terms, cells, c, a, b, &mut seen, reasons)
 }
 
 fn explain_many(
     terms: &[u32],
     cells: &[u32],
-    n: usize,
-    k: usize,
+    c: State,
     a: u32,
     b: u32,
     reasons: &mut [u32],
-    count: usize,
 ) -> Walked
-    requires { ⌜ (n ≤ 512) × Explainable (now terms) (now cells) (now reasons) n k a b ⌝ }
-    ensures { λ r. ⌜ Explained (now (terms .entry)) (now (cells .entry)) (now (reasons .entry)) (now (reasons .exit)) n k a b count r ⌝ }
+    requires { ⌜ (c .terms ≤ 512) × Explainable (now terms) (now cells) (now reasons) (c .terms) (c .cells) a b ⌝ }
+    ensures { λ r. ⌜ PairExplained terms cells reasons c a b r ⌝ }
 {
     let mut seen: [u32; 8225] = [0; 8225];
-    explain_rec(terms, cells, n, k, a, b, &mut seen, reasons, count)
+    explain_rec(terms, cells, c, a, b, &mut seen, reasons)
 }
 
 // As expand_edge, for an edge that leads to no other pair. Any other is left to expand_edge.
-fn plain_edge(terms: &[u32], node: u32, reasons: &mut [u32], count: usize) -> Plain
-    ensures { λ r. ⌜ Plainly (PlainEdge (now (terms .entry)) (now (reasons .entry)) (now (reasons .exit)) node count) (now (reasons .entry)) (now (reasons .exit)) count r ⌝ }
+fn plain_edge(terms: &[u32], c: State, node: u32, reasons: &mut [u32]) -> Plain
+    ensures { λ r. ⌜ Plainly (PlainEdge (now (terms .entry)) (now (reasons .entry)) (now (reasons .exit)) node (c .reasons)) (now (reasons .entry)) (now (reasons .exit)) (c .reasons) r ⌝ }
 {
     let kind = fields::label_kind(terms, node);
     let value = fields::label_value(terms, node);
     match kind {
-        1 => Plain::Ended(give(reasons, count, 1, value)),
-        2 => Plain::Ended(give(reasons, count, 2, value)),
-        4 => Plain::Ended(Walked { code: 0, count }),
+        1 => Plain::Ended(give(reasons, c, 1, value)),
+        2 => Plain::Ended(give(reasons, c, 2, value)),
+        4 => Plain::Ended(Walked {
+            code: 0,
+            count: c.reasons,
+        }),
         _ => Plain::Congruence,
     }
 }
 
 // As explain_rec, for a path without congruence edges. It meets no second pair, so it needs no table.
-fn explain_plain(
-    terms: &[u32],
-    n: usize,
-    a: u32,
-    b: u32,
-    reasons: &mut [u32],
-    count: usize,
-) -> Plain
-    requires { ⌜ (n ≤ 512) × PlainPair (now terms) (now reasons) n a b ⌝ }
-    ensures { λ r. ⌜ Plainly (PlainPath (now (terms .entry)) (now (reasons .entry)) (now (reasons .exit)) n a b count) (now (reasons .entry)) (now (reasons .exit)) count r ⌝ }
+fn explain_plain(terms: &[u32], c: State, a: u32, b: u32, reasons: &mut [u32]) -> Plain
+    requires { ⌜ (c .terms ≤ 512) × PlainPair (now terms) (now reasons) (c .terms) a b ⌝ }
+    ensures { λ r. ⌜ Plainly (PlainPath (now (terms .entry)) (now (reasons .entry)) (now (reasons .exit)) (c .terms) a b (c .reasons)) (now (reasons .entry)) (now (reasons .exit)) (c .reasons) r ⌝ }
 {
     if a == b {
-        return Plain::Ended(Walked { code: 0, count });
+        return Plain::Ended(Walked {
+            code: 0,
+            count: c.reasons,
+        });
     }
-    let top = classes::nearest_unchecked(terms, n, a, b);
+    let top = classes::nearest_unchecked(terms, c.terms, a, b);
     let mut node = a;
     let mut last = false;
-    let mut given = count;
+    let mut given = c.reasons;
     loop {
         if node == top {
             if last {
@@ -288,7 +295,7 @@ fn explain_plain(
             last = true;
             node = b;
         } else {
-            let p = plain_edge(terms, node, reasons, given);
+            let p = plain_edge(terms, c.with_reasons(given), node, reasons);
             let Plain::Ended(r) = p else {
                 return Plain::Congruence;
             };
@@ -306,27 +313,25 @@ fn explain_plain(
 fn explain_pair(
     terms: &[u32],
     cells: &[u32],
-    n: usize,
-    k: usize,
+    c: State,
     a: u32,
     b: u32,
     reasons: &mut [u32],
-    count: usize,
 ) -> Walked
-    requires { ⌜ (n ≤ 512) × Explainable (now terms) (now cells) (now reasons) n k a b ⌝ }
-    ensures { λ r. ⌜ Explained (now (terms .entry)) (now (cells .entry)) (now (reasons .entry)) (now (reasons .exit)) n k a b count r ⌝ }
+    requires { ⌜ (c .terms ≤ 512) × Explainable (now terms) (now cells) (now reasons) (c .terms) (c .cells) a b ⌝ }
+    ensures { λ r. ⌜ PairExplained terms cells reasons c a b r ⌝ }
 {
-    if n < 32 {
-        return explain_few(terms, cells, n, k, a, b, reasons, count);
+    if c.terms < 32 {
+        return explain_few(terms, cells, c, a, b, reasons);
     }
-    let p = explain_plain(terms, n, a, b, reasons, count);
+    let p = explain_plain(terms, c, a, b, reasons);
     if let Plain::Ended(r) = p {
         return r;
     }
-    if n < 128 {
-        return explain_some(terms, cells, n, k, a, b, reasons, count);
+    if c.terms < 128 {
+        return explain_some(terms, cells, c, a, b, reasons);
     }
-    explain_many(terms, cells, n, k, a, b, reasons, count)
+    explain_many(terms, cells, c, a, b, reasons)
 }
 
 // The reasons why a and b, string terms of one class, are equal, after those that are there.
@@ -343,20 +348,11 @@ pub fn explain_unchecked(
     requires { ⌜ (Ready (lends terms cells chars reasons keys) c) × (explainArguments a b (storeOf (lends terms cells chars reasons keys) c) ≡ true) ⌝ }
     ensures { λ r. ⌜ Does (explain a b) (across terms cells chars reasons keys) c (added r) ⌝ }
 {
-    let n = c.terms;
-    let k = c.cells;
-    let r = explain_pair(terms, cells, n, k, a, b, reasons, c.reasons);
+    let r = explain_pair(terms, cells, c, a, b, reasons);
     if r.code != 0 {
         return Added::Refused(r.code);
     }
-    Added::Counts(State {
-        terms: c.terms,
-        cells: c.cells,
-        chars: c.chars,
-        reasons: r.count,
-        keys: c.keys,
-        names: c.names,
-    })
+    Added::Counts(c.with_reasons(r.count))
 }
 
 // Two string terms of one class.

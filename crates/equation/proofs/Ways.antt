@@ -12,7 +12,7 @@ use lib.Dec.{leb}
 use borrow.Author.Tests.{eq-eqb, ne-eqb, eqb-true, le-leb, not-true, not-false}
 use Rattle.records.specs.declared.State.{State}
 use Rattle.records.specs.Store.{Term, Store, Out, ok, stop, Work, andThen, _>>=_, term, kind, isString, isEquation}
-use Rattle.records.specs.View.{Lent, lent, storeOf, termAt, pairAt, pairsView}
+use Rattle.records.specs.View.{Lent, lent, storeOf, termAt, pairAt, pairsView, reasonsAt}
 use Rattle.records.specs.Rules.{audit, listLimit, isList}
 use Rattle.records.specs.Audited.{Ready}
 use Rattle.records.specs.Calls.{Working}
@@ -35,7 +35,6 @@ use Rattle.normalize.proofs.FormCalls.{listed-short, listed-unready, listed-unf
 use Rattle.wordeq.specs.declared.StepResult.{StepResult}
 use Rattle.wordeq.specs.declared.StepResult.the-variants as wordeq
 use Rattle.wordeq.specs.Wordeq.{isGuard, resolve}
-use Rattle.wordeq.specs.Resolving.{reasonsAt}
 use Rattle.wordeq.specs.Results.{resolved}
 use Rattle.equation.specs.declared.Outcome.{Outcome}
 use Rattle.equation.specs.Equation.{Stepped, unexpanded, returned, orUnexpanded, step, stepArguments}

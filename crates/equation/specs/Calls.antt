@@ -6,12 +6,11 @@ use lib.ListN.{take}
 use lib.IntN.{ℤ}
 use Rattle.records.specs.declared.State.{State}
 use Rattle.records.specs.Store.{Store, Out, ok, stop, Work, _>>=_}
-use Rattle.records.specs.View.{Lent, storeOf}
+use Rattle.records.specs.View.{Lent, storeOf, reasonsAt}
 use Rattle.normalize.specs.Normalize.{deepForm}
 use Rattle.normalize.specs.Calls.{listCall, PublicList}
 use Rattle.wordeq.specs.declared.StepResult.{StepResult}
 use Rattle.wordeq.specs.declared.StepResult.the-variants as wordeq
-use Rattle.wordeq.specs.Resolving.{reasonsAt}
 use Rattle.wordeq.specs.Wordeq.{done, saturated, conflict, propagate, split, resolve}
 use Rattle.equation.specs.declared.Outcome.{Outcome}
 use Rattle.equation.specs.declared.Outcome.the-variants.{Done, Saturated, Conflict, Propagate, Split, Unexpanded, Refused}

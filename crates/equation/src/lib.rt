@@ -25,7 +25,6 @@ use records::fields;
 use records::rules;
 use wordeq::StepResult;
 use wordeq::resolving::resolve_unchecked;
-use wordeq::resolving::with_reasons;
 
 // The answer, with the new counts.
 pub enum Outcome {
@@ -45,7 +44,7 @@ fn carried(o: StepResult, incoming: usize) -> Outcome
     ensures { λ r. ⌜ r ≡ carried incoming o ⌝ }
 {
     match o {
-        StepResult::Done(c) => Outcome::Done(with_reasons(c, incoming)),
+        StepResult::Done(c) => Outcome::Done(c.with_reasons(incoming)),
         StepResult::Saturated(c) => Outcome::Saturated(c),
         StepResult::Conflict(c) => Outcome::Conflict(c),
         StepResult::Propagate(c, v, w, f) => Outcome::Propagate(c, v, w, f),
@@ -149,7 +148,7 @@ fn right_form(
             list,
             incoming,
         ),
-        DeepForm::None(d) => Outcome::Unexpanded(with_reasons(d, incoming)),
+        DeepForm::None(d) => Outcome::Unexpanded(d.with_reasons(incoming)),
         DeepForm::Refused(k) => Outcome::Refused(k),
     }
 }
@@ -203,7 +202,7 @@ pub fn step_unchecked(
             list,
             c.reasons,
         ),
-        DeepForm::None(d) => Outcome::Unexpanded(with_reasons(d, c.reasons)),
+        DeepForm::None(d) => Outcome::Unexpanded(d.with_reasons(c.reasons)),
         DeepForm::Refused(k) => Outcome::Refused(k),
     }
 }

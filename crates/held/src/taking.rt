@@ -24,15 +24,7 @@ pub fn name_from_unchecked(
     requires { ⌜ Ready (lends terms cells chars reasons keys) (namesAt c next) ⌝ }
     ensures { λ r. ⌜ Taken (across terms cells chars reasons keys .entry) (namesAt c next) r ⌝ }
 {
-    let d = State {
-        terms: c.terms,
-        cells: c.cells,
-        chars: c.chars,
-        reasons: c.reasons,
-        keys: c.keys,
-        names: next,
-    };
-    names::take_name_unchecked(terms, cells, chars, reasons, keys, d)
+    names::take_name_unchecked(terms, cells, chars, reasons, keys, c.with_names(next))
 }
 
 // Takes the next free name: the counter moves past it, and the name is handed back.

@@ -17,14 +17,7 @@ pub(crate) struct Session {
 // 'The known list starts empty, the name counter at 0 and no key set'.
 pub(crate) fn start() -> Session {
     Session {
-        counts: State {
-            terms: 0,
-            cells: 0,
-            chars: 0,
-            reasons: 0,
-            keys: 0,
-            names: 0,
-        },
+        counts: State::of(0, 0, 0, 0, 0, 0),
         known: 0,
         stamp: 1,
         line: 1,
@@ -95,12 +88,5 @@ pub(crate) fn next_line(s: Session) -> Session {
 
 // 'runs the step with no reasons incoming'
 pub(crate) fn without_reasons(c: State) -> State {
-    State {
-        terms: c.terms,
-        cells: c.cells,
-        chars: c.chars,
-        reasons: 0,
-        keys: c.keys,
-        names: c.names,
-    }
+    c.with_reasons(0)
 }

@@ -1,39 +1,21 @@
--- Adding a reason or a key: the ways through, over the store that is seen.
+-- Adding a key: the ways through, over the store that is seen.
 use mathlib.Core.Path.{_≡_, refl}
 use mathlib.Core.Bool.{Bool, true, false}
-use mathlib.Core.List.{List, [], _∷_, _++_}
-use Prim.Native.Nat.{ℕ, _+_, _*_, _<_, min, max}
+use mathlib.Core.List.{List}
+use Prim.Native.Nat.{ℕ, _+_, _*_, min, max}
 use native.Mathlib.Numerals.{add-one}
 use native.Mathlib.Omega.{arith}
 use lib.ListN.{length, getD}
 use lib.Dec.{eqb, ltb}
 use borrow.Author.Tests.{eq-eqb, ne-eqb}
 use Rattle.records.specs.declared.State.{State}
-use Rattle.records.specs.Lists.{any}
+use Rattle.records.specs.Lists.{any, oneMore}
 use Rattle.records.specs.Store.{ok, stop}
-use Rattle.records.specs.View.{reasonLimit, lent, storeOf, pairAt, pairsView, keyRoom, oneReason, oneKey}
-use Rattle.records.specs.Make.{addReason, addKey, ordered, samePair}
-use Rattle.records.specs.Puts.{PairPut, Pushed}
+use Rattle.records.specs.View.{lent, storeOf, pairAt, pairsView, keyRoom, oneKey}
+use Rattle.records.specs.Make.{addKey, ordered, samePair}
+use Rattle.records.specs.Puts.{PairPut}
 use Rattle.records.specs.Calls.{Working}
 use Rattle.records.proofs.Lists.{table-length}
-use Rattle.records.proofs.Rooms.{pair-limit}
-
--- REASONS
-
-module _ (t e h r k : List ℕ) (c : State) (a b : ℕ) (r′ : List ℕ) (fits : Bool) (p : Pushed r r′ (c .reasons) a b fits) (n : length r′ ≡ length r) where
-  pub reason-limit : fits ≡ true → c .reasons < reasonLimit
-  reason-limit f = pair-limit r reasonLimit (c .reasons) fits (p .fits) f
-
-  pub reason-added : (d : State) → fits ≡ true → d ≡ oneReason c
-      → Working (addReason a b) (lent t e h r k) (lent t e h r′ k) c (ok (storeOf (lent t e h r′ k) d) tt)
-  unfolding addReason
-  reason-added d f q =
-      let g : pairsView r′ (c .reasons + 1) ≡ pairsView r (c .reasons) ++ ((a, b) ∷ []) = rw add-one (p .grown f) in
-      record { says = rw (table-length (pairAt r) (c .reasons), ← p .fits, f, q, n, g); kept = rw (p .kept, n) }
-
-  pub reason-refused : fits ≡ false → Working (addReason a b) (lent t e h r k) (lent t e h r′ k) c (stop 7)
-  unfolding addReason
-  reason-refused f = record { says = rw (table-length (pairAt r) (c .reasons), ← p .fits, f); kept = rw (p .kept, n) }
 
 -- KEYS
 
@@ -42,7 +24,7 @@ module _ (t e h r k : List ℕ) (c : State) (a b : ℕ) (fits : Bool) (p : fits 
       → Working (addKey a b) (lent t e h r k) (lent t e h r k′) c (ok (storeOf (lent t e h r k′) d) tt)
   unfolding addKey
   key-added k′ x y d o u w n f q =
-      let g : pairsView k′ (c .keys + 1) ≡ pairsView k (c .keys) ++ ((x, y) ∷ []) = rw add-one (w .grown) in
+      let g : pairsView k′ (c .keys + 1) ≡ oneMore (pairsView k (c .keys)) (x, y) = rw add-one (w .grown) in
       record { says = rw (table-length (pairAt k) (c .keys), ← p, f, q, n, g, o, u); kept = rw (w .kept, n) }
 
   pub key-refused : fits ≡ false → Working (addKey a b) (lent t e h r k) (lent t e h r k) c (stop 8)

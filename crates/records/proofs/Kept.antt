@@ -11,7 +11,7 @@ use lib.ListN.{length, take, drop, length-append, length-drop}
 use lib.Seq.{take-append-le, drop-append-le, drop-append-seam, take-length}
 use lib.Dec.{eqb, ltb, leb}
 use borrow.Author.Tests.{eqb-true, eq-eqb, ltb-true, leb-true, leb-false, lt-ltb}
-use Rattle.records.specs.Lists.{if_then_else_, all, firsts, firstBelow, Every, none-left, and}
+use Rattle.records.specs.Lists.{if_then_else_, all, firsts, firstBelow, oneMore, Every, none-left, and}
 use Rattle.records.specs.Store.{Term, Cell, Store, Out, ok, stop, Work, andThen, _>>=_, _>>_, give, refuse, put, term, count, kind, within, isTerm, isString, isConstant, isVariable, isConcat, isLength, isEquation, textIn, text, chainIn, parts}
 use Rattle.records.specs.Rules.{isChar, reasonRule, keyRule, named, isEquatable}
 use Rattle.records.specs.Make.{withReasons, withKeys, withChars, withCells, withNames, own, addReason, addKey, addText, addChain, chainFrom, addTerm, lookup, orMake, lowest, constantOf, concatOf, lengthOf, equationOf, makeConstant, makeVariable, makeConcat, makeLength, makeEquation, ordered, strk, decimalBy, nameOf, isSome, isTaken, takeNameBy, nameLimit, takeName}
@@ -28,12 +28,12 @@ use Rattle.records.proofs.Beside.{audited-beside, grown-beside, reading
 -- REASONS
 
 pub record ReasonAdded (k v : ℕ) (s s′ : Store) : Type 0 where
-  pub is : s′ ≡ withReasons s (s .reasons ++ ((k, v) ∷ []))
+  pub is : s′ ≡ withReasons s (oneMore (s .reasons) (k, v))
   pub audited : Audited s′
   pub grown : Grown s s′
   pub room : length (s .reasons) < s .room .reasons
 
-reason-room : (k v : ℕ) (s s′ : Store) → addReason k v s ≡ ok s′ tt → (length (s .reasons) < s .room .reasons) × (s′ ≡ withReasons s (s .reasons ++ ((k, v) ∷ [])))
+reason-room : (k v : ℕ) (s s′ : Store) → addReason k v s ≡ ok s′ tt → (length (s .reasons) < s .room .reasons) × (s′ ≡ withReasons s (oneMore (s .reasons) (k, v)))
 unfolding addReason
 reason-room k v s s′ e =
     branch (ltb (length (s .reasons)) (s .room .reasons)) _ _ {s = s} (λ b d. (ltb-true _ _ b, cc)) (λ b d. stop-not d) e
@@ -42,7 +42,7 @@ pub reason-kept : (k v : ℕ) (s s′ : Store) → Audited s → reasonRule (k, 
 unfolding all
 reason-kept k v s s′ a good e =
     let p = reason-room k v s s′ e in
-    let l = s .reasons ++ ((k, v) ∷ []) in
+    let l = oneMore (s .reasons) (k, v) in
     let h = p .0 in
     let n = length-append (s .reasons) ((k, v) ∷ []) in
     let f = all-append reasonRule (s .reasons) ((k, v) ∷ []) ∙ both-true _ _ (a .recorded .reasons) (both-true _ _ good refl) in
@@ -57,7 +57,7 @@ pub reason-stops : (k v : ℕ) (s : Store) (n : ℕ) → addReason k v s ≡ sto
 unfolding addReason
 reason-stops k v s n e = go (ltb (length (s .reasons)) (s .room .reasons)) e
   where
-    go : (b : Bool) → (if b then put (withReasons s (s .reasons ++ ((k, v) ∷ []))) else refuse 7) s ≡ stop n → n ≡ 7
+    go : (b : Bool) → (if b then put (withReasons s (oneMore (s .reasons) (k, v))) else refuse 7) s ≡ stop n → n ≡ 7
     go true d = let z : _≡_ {A = ℕ} 0 1 = cc in absurd (omega arith)
     go false d = cc
 

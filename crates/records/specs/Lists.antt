@@ -76,6 +76,10 @@ unfoldable pub lastBelow : (ℕ → Bool) → ℕ → ℕ
 lastBelow p zero = 0
 lastBelow p (suc n) = if p n then n else lastBelow p n
 
+-- a list with one more at its end
+abbrev pub oneMore : {A : Type 0} → List A → A → List A
+oneMore l a = l ++ (a ∷ [])
+
 -- P of each element
 pub data Every {A : Type 0} (P : A → Type 0) : List A → Type 0 where
   none-left : Every P []

@@ -5,7 +5,7 @@ use mathlib.Core.Option.{Option, none, some}
 use Prim.Native.Nat.{ℕ, zero, suc, _+_, _-_, _/_, _%_, min, max}
 use lib.ListN.{length}
 use lib.Dec.{eqb, ltb, leb}
-use Rattle.records.specs.Lists.{if_then_else_, all, any, sameWord, firstBelow}
+use Rattle.records.specs.Lists.{if_then_else_, all, any, sameWord, firstBelow, oneMore}
 use Rattle.records.specs.Store.{Term, Cell, Store, ok, stop, Work, _>>=_, _>>_, give, refuse, store, put, term, count, isString, isConstant, isConcat, isLength, isEquation, text, parts}
 use Rattle.records.specs.Rules.{isChar, named, isList, isEquatable}
 
@@ -33,7 +33,7 @@ withTerms s ts = record { terms = ts; cells = s .cells; chars = s .chars; reason
 unfoldable pub addReason : ℕ → ℕ → Work (Unit {0})
 addReason k v = do
   s ← store
-  if ltb (length (s .reasons)) (s .room .reasons) then put (withReasons s (s .reasons ++ ((k, v) ∷ []))) else refuse 7
+  if ltb (length (s .reasons)) (s .room .reasons) then put (withReasons s (oneMore (s .reasons) (k, v))) else refuse 7
 
 -- an unordered pair, 'lower number first'
 abbrev pub ordered : ℕ → ℕ → ℕ × ℕ
@@ -49,7 +49,7 @@ isKey s a b = any (samePair (ordered a b)) (s .keys)
 unfoldable pub addKey : ℕ → ℕ → Work (Unit {0})
 addKey a b = do
   s ← store
-  if ltb (length (s .keys)) (s .room .keys) then put (withKeys s (s .keys ++ (ordered a b ∷ []))) else refuse 8
+  if ltb (length (s .keys)) (s .room .keys) then put (withKeys s (oneMore (s .keys) (ordered a b))) else refuse 8
 
 -- TERMS: 'making a term gives the lowest-numbered equal record, else appends one that is its own class, its characters or cells
 -- at the end of theirs, unsimplified'

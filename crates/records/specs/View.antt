@@ -179,7 +179,11 @@ sizes m c =
     && (leb (c .reasons) reasonLimit && leb (2 * c .reasons) (length (m .reasons)))
     && (leb (c .keys) keyLimit && leb (2 * c .keys) (length (m .keys)))
 
--- the state with one term, some cells or characters, one reason or key more, or another name counter
+-- the state of six numbers
+abbrev pub counts : ℕ → ℕ → ℕ → ℕ → ℕ → ℕ → State
+counts t e h r k n = record { terms = t; cells = e; chars = h; reasons = r; keys = k; names = n }
+
+-- the state with one term, some cells or characters, one reason or key more, or with another count of reasons or name counter
 abbrev pub oneTerm : State → State
 oneTerm c = record { terms = c .terms + 1; cells = c .cells; chars = c .chars; reasons = c .reasons; keys = c .keys; names = c .names }
 
@@ -191,6 +195,9 @@ moreChars c n = record { terms = c .terms; cells = c .cells; chars = c .chars + 
 
 abbrev pub oneReason : State → State
 oneReason c = record { terms = c .terms; cells = c .cells; chars = c .chars; reasons = c .reasons + 1; keys = c .keys; names = c .names }
+
+abbrev pub reasonsAt : State → ℕ → State
+reasonsAt c n = record { terms = c .terms; cells = c .cells; chars = c .chars; reasons = n; keys = c .keys; names = c .names }
 
 abbrev pub oneKey : State → State
 oneKey c = record { terms = c .terms; cells = c .cells; chars = c .chars; reasons = c .reasons; keys = c .keys + 1; names = c .names }

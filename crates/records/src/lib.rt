@@ -2,7 +2,7 @@
 ghost use mathlib.Core.Path.{_≡_};
 ghost use Prim.Native.Nat.{_+_, _<_, _≤_};
 ghost use Rattle.records.specs.Rules.{audit};
-ghost use Rattle.records.specs.View.{termLimit, cellLimit, charLimit, reasonLimit, keyLimit, oneTerm, moreCells, moreChars, oneReason, oneKey, namesAt, across};
+ghost use Rattle.records.specs.View.{termLimit, cellLimit, charLimit, reasonLimit, keyLimit, oneTerm, moreCells, moreChars, oneReason, reasonsAt, oneKey, namesAt, counts, across};
 
 pub mod build;
 pub mod classes;
@@ -90,8 +90,29 @@ pub struct Named {
     pub len: usize,
 }
 
-// One record more, or another name counter: the counts go in by value and the new ones come back.
+// One record more, another count of reasons or another name counter: the counts go in by value and the new ones come back.
 impl State {
+    // The counts as a caller tells them. Every public call audits them.
+    pub fn of(
+        terms: usize,
+        cells: usize,
+        chars: usize,
+        reasons: usize,
+        keys: usize,
+        names: u32,
+    ) -> State
+        ensures { λ r. ⌜ r ≡ counts terms cells chars reasons keys names ⌝ }
+    {
+        State {
+            terms,
+            cells,
+            chars,
+            reasons,
+            keys,
+            names,
+        }
+    }
+
     fn with_term(self) -> State
         requires { ⌜ self .terms < termLimit ⌝ }
         ensures { λ r. ⌜ r ≡ oneTerm self ⌝ }
@@ -148,6 +169,19 @@ impl State {
         }
     }
 
+    pub fn with_reasons(self, n: usize) -> State
+        ensures { λ r. ⌜ r ≡ reasonsAt self n ⌝ }
+    {
+        State {
+            terms: self.terms,
+            cells: self.cells,
+            chars: self.chars,
+            reasons: n,
+            keys: self.keys,
+            names: self.names,
+        }
+    }
+
     fn with_key(self) -> State
         requires { ⌜ self .keys < keyLimit ⌝ }
         ensures { λ r. ⌜ r ≡ oneKey self ⌝ }
@@ -162,7 +196,7 @@ impl State {
         }
     }
 
-    fn with_names(self, names: u32) -> State
+    pub fn with_names(self, names: u32) -> State
         ensures { λ r. ⌜ r ≡ namesAt self names ⌝ }
     {
         State {

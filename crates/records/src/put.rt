@@ -5,7 +5,7 @@ ghost use lib.Dec.{ltb, leb};
 ghost use lib.ListN.{length};
 ghost use Rattle.records.specs.Lists.{any};
 ghost use Rattle.records.specs.View.{termLimit, cellLimit, termAt, termWords, cellWords, termRoom, cellRoom, pairAt, pairsView, across};
-ghost use Rattle.records.specs.Make.{addReason, addKey, ordered, samePair};
+ghost use Rattle.records.specs.Make.{addKey, ordered, samePair};
 ghost use Rattle.records.specs.Puts.{TermPut, withClass, withEdge, TermSet, CellPut, ChainPut, PairPut, Pushed};
 ghost use Rattle.records.specs.Calls.{added, Does};
 use crate::CELL_WIDTH;
@@ -114,30 +114,17 @@ fn push_pair(pairs: &mut [u32], n: usize, a: u32, b: u32)
     pairs[2 * n + 1] = b;
 }
 
-// A reason at the count, where one fits.
-pub fn push_reason_unchecked(reasons: &mut [u32], n: usize, kind: u32, value: u32) -> bool
-    ensures { λ r. ⌜ Pushed (now (reasons .entry)) (now (reasons .exit)) n kind value r ⌝ }
-{
-    if pair_fits(reasons, crate::REASON_LIMIT, n) {
-        push_pair(reasons, n, kind, value);
-        return true;
-    }
-    false
-}
-
-pub fn add_reason_unchecked(
-    terms: &[u32],
-    cells: &[u32],
-    chars: &[u32],
+// A reason at the count, where one fits, with the counts of one reason more.
+pub fn push_reason_unchecked(
     reasons: &mut [u32],
-    keys: &[u32],
     c: crate::State,
     kind: u32,
     value: u32,
 ) -> crate::Added
-    ensures { λ r. ⌜ Does (addReason kind value) (across terms cells chars reasons keys) c (added r) ⌝ }
+    ensures { λ r. ⌜ Pushed (now (reasons .entry)) (now (reasons .exit)) c kind value r ⌝ }
 {
-    if push_reason_unchecked(reasons, c.reasons, kind, value) {
+    if pair_fits(reasons, crate::REASON_LIMIT, c.reasons) {
+        push_pair(reasons, c.reasons, kind, value);
         return crate::Added::Counts(c.with_reason());
     }
     crate::Added::Refused(7)

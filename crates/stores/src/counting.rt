@@ -5,14 +5,14 @@ use records::State;
 use records::fields::word;
 
 pub(crate) fn counts_of(t: u32, e: u32, h: u32, r: u32, k: u32, names: u32) -> State {
-    State {
-        terms: t as usize,
-        cells: e as usize,
-        chars: h as usize,
-        reasons: r as usize,
-        keys: k as usize,
-        names: names,
-    }
+    State::of(
+        t as usize,
+        e as usize,
+        h as usize,
+        r as usize,
+        k as usize,
+        names,
+    )
 }
 
 pub(crate) fn lens_of(t: u32, e: u32, h: u32, r: u32, k: u32) -> Lens {

@@ -2,9 +2,9 @@
 use mathlib.Core.List.{List, _++_}
 use Prim.Native.Nat.{ℕ}
 use lib.IntN.{ℤ}
-use Rattle.records.specs.declared.State.{State}
 use Rattle.records.specs.Lists.{if_then_else_, any}
 use Rattle.records.specs.Store.{Work, _>>=_, give, store, isConcat}
+use Rattle.records.specs.View.{reasonsAt}
 use Rattle.normalize.specs.Normalize.{flatten}
 use Rattle.wordeq.specs.declared.StepResult.{StepResult}
 use Rattle.wordeq.specs.declared.StepResult.the-variants as step
@@ -32,10 +32,6 @@ soft (step.Conflict d) = step.Saturated d
 soft (step.Propagate d v w f) = step.Propagate d v w f
 soft (step.Split d n g) = step.Split d n g
 soft (step.Refused k) = step.Refused k
-
--- the counts with n reasons
-abbrev pub reasonsAt : State → ℕ → State
-reasonsAt d n = record { terms = d .terms; cells = d .cells; chars = d .chars; reasons = n; keys = d .keys; names = d .names }
 
 -- 'Conflict and Propagate end with the incoming reasons and those added; other answers return the incoming count.'
 abbrev pub closing : ℕ → StepResult → StepResult

@@ -14,7 +14,7 @@ ghost use Rattle.normalize.specs.Normalize.{atoms};
 ghost use Rattle.normalize.specs.Flat.{bare, Nested, Appended};
 ghost use Rattle.wordeq.specs.Wordeq.{resolve, isGuard};
 ghost use Rattle.wordeq.specs.Results.{BothLists, resolved};
-ghost use Rattle.wordeq.specs.Resolving.{soft, reasonsAt, closing, flatSteps, ran};
+ghost use Rattle.wordeq.specs.Resolving.{soft, closing, flatSteps, ran};
 use crate::StepResult;
 use crate::stepping;
 use normalize::flat;
@@ -144,30 +144,16 @@ fn run<'a>(
     stepping::steps_unchecked(terms, cells, chars, reasons, keys, c, lhs, rhs, guard, list)
 }
 
-// The counts with n reasons.
-pub fn with_reasons(d: State, n: usize) -> State
-    ensures { λ r. ⌜ r ≡ reasonsAt d n ⌝ }
-{
-    State {
-        terms: d.terms,
-        cells: d.cells,
-        chars: d.chars,
-        reasons: n,
-        keys: d.keys,
-        names: d.names,
-    }
-}
-
 // Conflict and Propagate end with the reasons added too; other answers return the incoming count.
 fn close(n: usize, o: StepResult) -> StepResult
     ensures { λ x. ⌜ x ≡ closing n o ⌝ }
 {
     match o {
-        StepResult::Done(d) => StepResult::Done(with_reasons(d, n)),
-        StepResult::Saturated(d) => StepResult::Saturated(with_reasons(d, n)),
+        StepResult::Done(d) => StepResult::Done(d.with_reasons(n)),
+        StepResult::Saturated(d) => StepResult::Saturated(d.with_reasons(n)),
         StepResult::Conflict(d) => StepResult::Conflict(d),
         StepResult::Propagate(d, v, w, f) => StepResult::Propagate(d, v, w, f),
-        StepResult::Split(d, k, g) => StepResult::Split(with_reasons(d, n), k, g),
+        StepResult::Split(d, k, g) => StepResult::Split(d.with_reasons(n), k, g),
         StepResult::Refused(k) => StepResult::Refused(k),
     }
 }

@@ -19,8 +19,8 @@ use Rattle.engine.proofs.explain_rec.Reads as explain-rec
 use Rattle.engine.proofs.explain_rec.Kinds as explain-rec-kinds
 use Rattle.engine.proofs.+expand_edge+explain_rec.Lts-explain_rec as explain-rec-lts
 use Rattle.engine.proofs.give.Reads as give-reads
-use Rattle.engine.proofs.is_marked.Reads as is-marked-reads
-use Rattle.engine.proofs.mark.Reads as mark-reads
+use Rattle.engine.proofs.is_seen.Reads as is-seen-reads
+use Rattle.engine.proofs.note_seen.Reads as note-seen-reads
 use Rattle.engine.proofs.place.Reads as place-reads
 use Rattle.records.proofs.classes.nearest_unchecked.Reads as nearest-unchecked-reads
 use Rattle.records.proofs.fields.forest_parent.Reads as forest-parent-reads
@@ -29,14 +29,15 @@ use Rattle.records.proofs.fields.label_value.Reads as label-value-reads
 use Rattle.records.proofs.fields.next.Reads as next-reads
 use Rattle.records.proofs.fields.other.Reads as other-reads
 use Rattle.records.proofs.fields.value.Reads as value-reads
+use Rattle.records.proofs.State.with_reasons.Reads as with-reasons-reads
 use Rattle.engine.proofs.+expand_edge+explain_rec.{statement}
 use Rattle.engine.proofs.+expand_edge+explain_rec.Tie.{close}
 
 abbrev μ-expand-edge : Measures 4 expand-edge-kinds.ps ℕ
-μ-expand-edge κs a = 2 * termIn (termsView (a .0 .now) (a .1 .1 .0)) (a .1 .1 .1 .1 .0) .stamp + 1
+μ-expand-edge κs a = 2 * termIn (termsView (a .0 .now) (a .1 .1 .0 .terms)) (a .1 .1 .1 .0) .stamp + 1
 
 abbrev μ-explain-rec : Measures 4 explain-rec-kinds.ps ℕ
-μ-explain-rec κs a = 2 * highest (termsView (a .0 .now) (a .1 .1 .0)) (pathIn (termsView (a .0 .now) (a .1 .1 .0)) (a .1 .1 .1 .1 .0) (a .1 .1 .1 .1 .1 .0))
+μ-explain-rec κs a = 2 * highest (termsView (a .0 .now) (a .1 .1 .0 .terms)) (pathIn (termsView (a .0 .now) (a .1 .1 .0 .terms)) (a .1 .1 .1 .0) (a .1 .1 .1 .1 .0))
 
 abbrev expand-edge-at : ℕ → In 4 expand-edge-kinds.ps
 expand-edge-at t =
@@ -55,16 +56,16 @@ explain-rec-below t =
     and 4 explain-rec-kinds.ps (falls 4 explain-rec-kinds.ps _<_ μ-explain-rec t) explain-rec.Pre
 
 abbrev expand-edge-Inv-loop : expand-edge-lts.InvT-loop
-expand-edge-Inv-loop terms cells n k node seen₀ reasons₀ count kind value at₀ given₀ seen reasons at given = Pairing terms cells seen₀ seen reasons₀ reasons n k node at₀ at given₀ given
+expand-edge-Inv-loop terms cells c node seen₀ reasons₀ kind value at₀ given₀ seen reasons at given = Pairing terms cells seen₀ seen reasons₀ reasons (c .terms) (c .cells) node at₀ at given₀ given
 
 abbrev expand-edge-μ-loop : expand-edge-lts.MeasureT-loop
-expand-edge-μ-loop terms cells n k node seen₀ reasons₀ count kind value at₀ given₀ seen reasons at given = length (chainIn (cellsView cells k) at)
+expand-edge-μ-loop terms cells c node seen₀ reasons₀ kind value at₀ given₀ seen reasons at given = length (chainIn (cellsView cells (c .cells)) at)
 
 abbrev explain-rec-Inv-loop : explain-rec-lts.InvT-loop
-explain-rec-Inv-loop terms cells n k a b seen₀ reasons₀ count at top x₀ last₀ given₀ seen reasons x last given = Rising terms cells seen₀ seen reasons₀ reasons n k a b top x last given₀ given
+explain-rec-Inv-loop terms cells c a b seen₀ reasons₀ at top x₀ last₀ given₀ seen reasons x last given = Rising terms cells seen₀ seen reasons₀ reasons (c .terms) (c .cells) a b top x last given₀ given
 
 abbrev explain-rec-μ-loop : explain-rec-lts.MeasureT-loop
-explain-rec-μ-loop terms cells n k a b seen₀ reasons₀ count at top x₀ last₀ given₀ seen reasons x last given = far (termsView terms n) top b last x
+explain-rec-μ-loop terms cells c a b seen₀ reasons₀ at top x₀ last₀ given₀ seen reasons x last given = far (termsView terms (c .terms)) top b last x
 
 pub +expand-edge+explain-rec-spec : {M : Type 1} → statement M
 +expand-edge+explain-rec-spec = close μ-expand-edge μ-explain-rec (λ t. expand-edge-lts.spec (
@@ -78,6 +79,8 @@ pub +expand-edge+explain-rec-spec : {M : Type 1} → statement M
   value-reads.Learnt,
   other-reads.Asked,
   other-reads.Learnt,
+  with-reasons-reads.Asked,
+  with-reasons-reads.Learnt,
   explain-rec-below t,
   explain-rec.Post,
   next-reads.Asked,
@@ -87,30 +90,45 @@ pub +expand-edge+explain-rec-spec : {M : Type 1} → statement M
     expand-edge.Post
     expand-edge-Inv-loop
     expand-edge-μ-loop
+    -- label-kind-requires
     (λ c κs. search needs)
+    -- label-value-requires
     (λ c κs. search needs)
+    -- give-requires
     (λ c κs. search needs)
+    -- give-requires-2
     (λ c κs. search needs)
+    -- loop-holds
     (λ c. pairing-begin _ _ _ _ _ _ _ _ _ _ (c .match .keys3) (record { kind-is = c .before .before .label-kind .ensures; value-is = c .before .label-value .ensures }))
+    -- value-requires
     (λ c κs. search needs)
+    -- other-requires
     (λ c κs. search needs)
+    -- with-reasons-requires
+    (λ c κs. search needs)
+    -- explain-rec-requires
     (λ c κs.
-    let at-other = c .before .before in
+    let at-other = c .before .before .before in
     let at-value = at-other .before in
     let at-loop-test = at-value .before in
     let at-loop = at-loop-test .before in
-    let at-start = at-loop .before .before .before .before .before .before .before .before in (
+    let at-start = at-loop .before .before .before .before .before .before .before .before in
+    rw (c .before .before .with-reasons .ensures) (
       let h = pairing-low _ _ _ _ _ _ _ _ _ _ _ _ _ _ _ (at-start .pre .1) (at-loop .loop .inv) (at-loop-test .loop-test .taken) (at-value .value .ensures)
           (at-other .other .ensures) in
           omega (arith, at-start .pre .0),
       pairing-walkable _ _ _ _ _ _ _ _ _ _ _ _ _ _ _ (at-start .pre .1) (at-loop .loop .inv) (at-loop-test .loop-test .taken) (at-value .value .ensures)
           (at-other .other .ensures),
     ))
+    -- same-length
     (λ c. search needs)
+    -- same-length-2
     (λ c. search needs)
+    -- returns
     (λ c.
     let at-explain-rec = c .before .before .before .before .before .before in
-    let at-other = at-explain-rec .before .before .before in
+    let at-with-reasons = at-explain-rec .before .before .before in
+    let at-other = at-with-reasons .before in
     let at-value = at-other .before in
     let at-loop-test = at-value .before in
     let at-loop = at-loop-test .before in
@@ -118,46 +136,59 @@ pub +expand-edge+explain-rec-spec : {M : Type 1} → statement M
     let at-label-value = at-match .before in
     let at-label-kind = at-label-value .before in
     pairing-stop _ _ _ _ _ _ _ _ _ _ _ _ _ _ _ _ (at-loop .loop .inv) (at-loop-test .loop-test .taken)
-    (record { one = at-value .value .ensures; other = at-other .other .ensures; next-is = refl }) _ _ _ (at-explain-rec .explain-rec .kept .1 .1 .1 .1 .1 .1 .0)
-    (at-explain-rec .explain-rec .kept .1 .1 .1 .1 .1 .1 .1 .0) (at-explain-rec .explain-rec .ensures) (c .if1 .taken) _ _ (at-match .match .keys3) refl
-    (record { kind-is = at-label-kind .label-kind .ensures; value-is = at-label-value .label-value .ensures }))
+    (record { one = at-value .value .ensures; other = at-other .other .ensures; next-is = refl }) _ _ _ (at-explain-rec .explain-rec .kept .1 .1 .1 .1 .1 .0)
+    (at-explain-rec .explain-rec .kept .1 .1 .1 .1 .1 .1 .0) (rw (at-with-reasons .with-reasons .ensures) at (at-explain-rec .explain-rec .ensures)) (c .if1 .taken) _ _
+    (at-match .match .keys3) refl (record { kind-is = at-label-kind .label-kind .ensures; value-is = at-label-value .label-value .ensures }))
+    -- next-requires
     (λ c κs. search needs)
+    -- loop-less
     (λ c.
-    let at-loop-test = c .before .before .before .before .before .before .before .before .before .before .before .before in
+    let at-loop-test = c .before .before .before .before .before .before .before .before .before .before .before .before .before in
     let at-loop = at-loop-test .before in
     let at-start = at-loop .before .before .before .before .before .before .before .before in
     pairing-less _ _ _ _ _ _ _ _ _ _ _ 0 0 _ _ (at-start .pre .1) (at-loop .loop .inv) (at-loop-test .loop-test .taken) _ (c .next .ensures))
+    -- loop-again
     (λ c.
     let at-explain-rec = c .before .before .before .before .before .before .before in
-    let at-other = at-explain-rec .before .before .before in
+    let at-with-reasons = at-explain-rec .before .before .before in
+    let at-other = at-with-reasons .before in
     let at-value = at-other .before in
     let at-loop-test = at-value .before in
     let at-loop = at-loop-test .before in
     pairing-turn _ _ _ _ _ _ _ _ _ _ _ _ _ _ _ _ (at-loop .loop .inv) (at-loop-test .loop-test .taken)
-    (record { one = at-value .value .ensures; other = at-other .other .ensures; next-is = c .next .ensures }) _ _ _ (at-explain-rec .explain-rec .kept .1 .1 .1 .1 .1 .1 .0)
-    (at-explain-rec .explain-rec .kept .1 .1 .1 .1 .1 .1 .1 .0) (at-explain-rec .explain-rec .ensures) (c .before .if1 .left))
+    (record { one = at-value .value .ensures; other = at-other .other .ensures; next-is = c .next .ensures }) _ _ _ (at-explain-rec .explain-rec .kept .1 .1 .1 .1 .1 .0)
+    (at-explain-rec .explain-rec .kept .1 .1 .1 .1 .1 .1 .0) (rw (at-with-reasons .with-reasons .ensures) at (at-explain-rec .explain-rec .ensures)) (c .before .if1 .left))
+    -- same-length-3
     (λ c. search needs)
+    -- returns-2
     (λ c.
     let at-match = c .before .before .before .before in
     let at-label-value = at-match .before in
     let at-label-kind = at-label-value .before in
     edge-gives _ _ _ _ _ _ _ _ 1 _ _ _ _ (inl refl) (at-match .match .keys1)
     (record { kind-is = at-label-kind .label-kind .ensures; value-is = at-label-value .label-value .ensures }) (c .before .before .give .ensures))
+    -- same-length-4
     (λ c. search needs)
+    -- returns-3
     (λ c.
     let at-match = c .before .before .before .before in
     let at-label-value = at-match .before in
     let at-label-kind = at-label-value .before in
     edge-gives _ _ _ _ _ _ _ _ 2 _ _ _ _ (inr refl) (at-match .match .keys2)
     (record { kind-is = at-label-kind .label-kind .ensures; value-is = at-label-value .label-value .ensures }) (c .before .before .give2 .ensures))
+    -- same-length-5
     (λ c. search needs)
+    -- same-length-6
     (λ c. search needs)
+    -- returns-4
     (λ c.
     let at-label-value = c .before .before .before in
     let at-label-kind = at-label-value .before in
     pairing-done _ _ _ _ _ _ _ _ _ _ _ _ _ (c .before .loop .inv) (c .loop-test .left) _ _ (c .before .before .match .keys3) refl
     (record { kind-is = at-label-kind .label-kind .ensures; value-is = at-label-value .label-value .ensures }))
+    -- returns-5
     (λ c. edge-nothing _ _ _ _ _ _ _ _ _ _ (c .match .keys4) (record { kind-is = c .before .before .label-kind .ensures; value-is = c .before .label-value .ensures }))
+    -- returns-6
     (λ c.
     let at-start = c .before .before .before .before .before .before .before in
     edge-other _ _ _ _ _ _ _ _ _ _ (c .match .rest .0 .0 .0 .1) (c .match .rest .0 .0 .1) (c .match .rest .0 .1) (c .match .rest .1)
@@ -165,12 +196,14 @@ pub +expand-edge+explain-rec-spec : {M : Type 1} → statement M
     λ t. explain-rec-lts.spec (
       place-reads.Asked,
       place-reads.Learnt,
-      is-marked-reads.Asked,
-      is-marked-reads.Learnt,
-      mark-reads.Asked,
-      mark-reads.Learnt,
+      is-seen-reads.Asked,
+      is-seen-reads.Learnt,
+      note-seen-reads.Asked,
+      note-seen-reads.Learnt,
       nearest-unchecked-reads.Asked,
       nearest-unchecked-reads.Learnt,
+      with-reasons-reads.Asked,
+      with-reasons-reads.Learnt,
       expand-edge-below t,
       expand-edge.Post,
       forest-parent-reads.Asked,
@@ -180,66 +213,92 @@ pub +expand-edge+explain-rec-spec : {M : Type 1} → statement M
     explain-rec.Post
     explain-rec-Inv-loop
     explain-rec-μ-loop
+    -- returns
     (λ c. pair-same _ _ _ _ _ _ _ _ _ (c .if1 .taken))
+    -- place-requires
     (λ c κs. search needs)
+    -- is-seen-requires
     (λ c κs.
     let at-start = c .before .before .before .before .before .before .before in
     place-inside _ _ _ _ _ _ _ _ _ (at-start .pre .1) (c .before .place .ensures))
+    -- same-length
     (λ c. search needs)
+    -- returns-2
     (λ c.
     let at-place = c .before .before .before in
-    pair-seen _ _ _ _ _ _ _ _ _ _ _ (at-place .place .ensures) (c .before .is-marked .ensures) (c .if2 .taken))
+    pair-seen _ _ _ _ _ _ _ _ _ _ _ (at-place .place .ensures) (c .before .is-seen .ensures) (c .if2 .taken))
+    -- note-seen-requires
     (λ c κs.
     let at-place = c .before .before .before .before in
     let at-start = at-place .before .before .before .before .before .before in
-    (place-inside _ _ _ _ _ _ _ _ _ (at-start .pre .1) (at-place .place .ensures), sym (c .before .before .is-marked .ensures) ∙ c .before .if2 .left))
+    (place-inside _ _ _ _ _ _ _ _ _ (at-start .pre .1) (at-place .place .ensures), sym (c .before .before .is-seen .ensures) ∙ c .before .if2 .left))
+    -- nearest-unchecked-requires
     (λ c κs.
     let at-start = c .before .before .before .before .before .before .before .before .before .before .before .before .before in
     nearest-fit _ _ _ _ _ _ _ _ (at-start .pre .1))
+    -- loop-holds
     (λ c. rising-begin _ _ _ _ _ _ _ _ _ _ (c .nearest-unchecked .ensures))
+    -- same-length-2
     (λ c. search needs)
+    -- same-length-3
     (λ c. search needs)
+    -- returns-3
     (λ c.
-    let at-mark = c .before .before .before .before .before .before in
-    let at-if2 = at-mark .before .before in
-    let at-is-marked = at-if2 .before in
-    let at-place = at-is-marked .before .before in
+    let at-note-seen = c .before .before .before .before .before .before in
+    let at-if2 = at-note-seen .before .before in
+    let at-is-seen = at-if2 .before in
+    let at-place = at-is-seen .before .before in
     let at-if1 = at-place .before in
-    rising-done _ _ _ _ _ _ _ _ _ _ _ (at-if1 .if1 .left) _ (at-place .place .ensures) (at-is-marked .is-marked .ensures) (at-if2 .if2 .left) (at-mark .mark .ensures) _ _ _ _ _
+    rising-done _ _ _ _ _ _ _ _ _ _ _ (at-if1 .if1 .left) _ (at-place .place .ensures) (at-is-seen .is-seen .ensures) (at-if2 .if2 .left) (at-note-seen .note-seen .ensures) _ _ _ _ _
     _ (c .before .before .loop .inv) (c .if4 .taken) (c .before .if3 .taken))
+    -- loop-less
     (λ c. far-switch _ _ _ _ _ (c .before .if3 .taken) (c .if4 .left))
+    -- loop-again
     (λ c. rising-switch _ _ _ _ _ _ _ _ _ _ _ _ _ _ _ (c .before .before .loop .inv) (c .if4 .left) (c .before .if3 .taken))
+    -- with-reasons-requires
+    (λ c κs. search needs)
+    -- expand-edge-requires
     (λ c κs.
-    let at-if3 = c .before .before in
+    let at-if3 = c .before .before .before in
     let at-loop = at-if3 .before in
-    let at-mark = at-loop .before .before .before .before in
-    let at-start = at-mark .before .before .before .before .before .before .before .before .before .before .before in (
+    let at-note-seen = at-loop .before .before .before .before in
+    let at-start = at-note-seen .before .before .before .before .before .before .before .before .before .before .before in
+    rw (c .before .before .with-reasons .ensures) (
       let h = rising-low _ _ _ _ _ _ _ _ _ _ _ _ _ _ _ _ (at-start .pre .1) (at-loop .loop .inv) (at-if3 .if3 .left) in omega (arith, at-start .pre .0),
-      rising-walkable _ _ _ _ _ _ _ _ _ _ _ _ _ _ _ _ (at-start .pre .1) (at-loop .loop .inv) (at-if3 .if3 .left) (at-mark .mark .ensures .long),
+      rising-walkable _ _ _ _ _ _ _ _ _ _ _ _ _ _ _ _ (at-start .pre .1) (at-loop .loop .inv) (at-if3 .if3 .left) (at-note-seen .note-seen .ensures .long),
     ))
+    -- same-length-4
     (λ c. search needs)
+    -- same-length-5
     (λ c. search needs)
+    -- returns-4
     (λ c.
     let at-expand-edge = c .before .before .before .before .before .before in
-    let at-if3 = at-expand-edge .before .before .before in
+    let at-with-reasons = at-expand-edge .before .before .before in
+    let at-if3 = at-with-reasons .before in
     let at-loop = at-if3 .before in
-    let at-mark = at-loop .before .before .before .before in
-    let at-if2 = at-mark .before .before in
-    let at-is-marked = at-if2 .before in
-    let at-place = at-is-marked .before .before in
+    let at-note-seen = at-loop .before .before .before .before in
+    let at-if2 = at-note-seen .before .before in
+    let at-is-seen = at-if2 .before in
+    let at-place = at-is-seen .before .before in
     let at-if1 = at-place .before in
-    rising-stop _ _ _ _ _ _ _ _ _ _ _ (at-if1 .if1 .left) _ (at-place .place .ensures) (at-is-marked .is-marked .ensures) (at-if2 .if2 .left) (at-mark .mark .ensures) _ _ _ _ _
-    _ (at-loop .loop .inv) (at-if3 .if3 .left) _ _ _ (at-expand-edge .expand-edge .kept .1 .1 .1 .1 .1 .0) (at-expand-edge .expand-edge .kept .1 .1 .1 .1 .1 .1 .0)
-    (at-expand-edge .expand-edge .ensures) (c .if5 .taken))
+    rising-stop _ _ _ _ _ _ _ _ _ _ _ (at-if1 .if1 .left) _ (at-place .place .ensures) (at-is-seen .is-seen .ensures) (at-if2 .if2 .left) (at-note-seen .note-seen .ensures) _ _
+    _ _ _ _ (at-loop .loop .inv) (at-if3 .if3 .left) _ _ _ (at-expand-edge .expand-edge .kept .1 .1 .1 .1 .0) (at-expand-edge .expand-edge .kept .1 .1 .1 .1 .1 .0)
+    (rw (at-with-reasons .with-reasons .ensures) at (at-expand-edge .expand-edge .ensures)) (c .if5 .taken))
+    -- forest-parent-requires
     (λ c κs. search needs)
+    -- loop-less-2
     (λ c.
-    let at-if3 = c .before .before .before .before .before .before .before .before .before .before in
+    let at-if3 = c .before .before .before .before .before .before .before .before .before .before .before in
     let at-loop = at-if3 .before in
     let at-start = at-loop .before .before .before .before .before .before .before .before .before .before .before .before .before .before .before in
     far-turn _ _ _ _ _ _ _ _ _ _ _ _ _ _ _ _ (at-start .pre .1) (at-loop .loop .inv) (at-if3 .if3 .left) _ (c .forest-parent .ensures))
+    -- loop-again-2
     (λ c.
     let at-expand-edge = c .before .before .before .before .before .before .before in
-    let at-if3 = at-expand-edge .before .before .before in
+    let at-with-reasons = at-expand-edge .before .before .before in
+    let at-if3 = at-with-reasons .before in
     let at-loop = at-if3 .before in
-    rising-turn _ _ _ _ _ _ _ _ _ _ _ _ _ _ _ (at-loop .loop .inv) (at-if3 .if3 .left) _ _ _ (at-expand-edge .expand-edge .kept .1 .1 .1 .1 .1 .0)
-    (at-expand-edge .expand-edge .kept .1 .1 .1 .1 .1 .1 .0) (at-expand-edge .expand-edge .ensures) (c .before .if5 .left) _ (c .forest-parent .ensures))
+    rising-turn _ _ _ _ _ _ _ _ _ _ _ _ _ _ _ (at-loop .loop .inv) (at-if3 .if3 .left) _ _ _ (at-expand-edge .expand-edge .kept .1 .1 .1 .1 .0)
+    (at-expand-edge .expand-edge .kept .1 .1 .1 .1 .1 .0) (rw (at-with-reasons .with-reasons .ensures) at (at-expand-edge .expand-edge .ensures)) (c .before .if5 .left) _
+    (c .forest-parent .ensures))

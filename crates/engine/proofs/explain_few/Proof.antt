@@ -8,9 +8,13 @@ pub explain-few-spec : {M : Type 1} → statement M
 explain-few-spec =
     tie.close
     (tie.spec
+    -- slice-aggregate-explain-rec
     (λ c. search needs)
+    -- explain-rec-requires
     (λ c κs.
     let at-start = c .before .before .before .before .before in
     explainable-walk _ _ _ _ _ _ _ 31 32 (at-start .pre .0) (omega arith) (omega arith) (at-start .pre .1))
+    -- same-length
     (λ c. search needs)
+    -- returns
     (λ c. let at-explain-rec = c .before .before .before in explained-by _ _ _ _ _ _ _ _ _ _ 32 _ (at-explain-rec .explain-rec .ensures)))

@@ -1,4 +1,4 @@
-use Rattle.engine.proofs.Turns.{gives-yes, gives-no, pushed-fits}
+use Rattle.engine.proofs.Turns.{gives-counts, gives-refused}
 use borrow.Author.Needs.{needs}
 use Rattle.engine.proofs.give.Statement.{statement}
 use Rattle.engine.proofs.give.Tie as tie
@@ -6,4 +6,22 @@ use Rattle.engine.proofs.give.Tie as tie
 pub give-spec : {M : Type 1} → statement M
 give-spec =
     tie.close
-    (tie.spec (λ c κs. search needs) (λ c. record { fits = search pushed-fits }) (λ c. search needs) (λ c. search gives-yes) (λ c. search needs) (λ c. search gives-no))
+    (tie.spec
+    -- push-reason-unchecked-requires
+    (λ c κs. search needs)
+    -- enum-known-p
+    (λ c. search needs)
+    -- enum-known-p-2
+    (λ c. search needs)
+    -- same-length
+    (λ c. search needs)
+    -- returns
+    (λ c.
+    let at-push-reason-unchecked = c .before .before .before .before .before in
+    gives-counts _ _ _ _ _ _ (at-push-reason-unchecked .push-reason-unchecked .ensures) _ (c .before .p .given .1))
+    -- same-length-2
+    (λ c. search needs)
+    -- returns-2
+    (λ c.
+    let at-push-reason-unchecked = c .before .before .before .before .before in
+    gives-refused _ _ _ _ _ _ (at-push-reason-unchecked .push-reason-unchecked .ensures) _ (c .before .p2 .given .1)))

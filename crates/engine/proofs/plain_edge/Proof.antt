@@ -9,23 +9,33 @@ pub plain-edge-spec : {M : Type 1} → statement M
 plain-edge-spec =
     tie.close
     (tie.spec
+    -- label-kind-requires
     (λ c κs. search needs)
+    -- label-value-requires
     (λ c κs. search needs)
+    -- give-requires
     (λ c κs. search needs)
+    -- give-requires-2
     (λ c κs. search needs)
+    -- same-length
     (λ c. search needs)
+    -- returns
     (λ c.
     let at-match = c .before .before .before .before in
     let at-label-value = at-match .before in
     let at-label-kind = at-label-value .before in
     plain-gives _ _ _ _ 1 _ _ _ _ (inl refl) (at-match .match .keys1) (record { kind-is = at-label-kind .label-kind .ensures; value-is = at-label-value .label-value .ensures })
     (c .before .before .give .ensures))
+    -- same-length-2
     (λ c. search needs)
+    -- returns-2
     (λ c.
     let at-match = c .before .before .before .before in
     let at-label-value = at-match .before in
     let at-label-kind = at-label-value .before in
     plain-gives _ _ _ _ 2 _ _ _ _ (inr refl) (at-match .match .keys2) (record { kind-is = at-label-kind .label-kind .ensures; value-is = at-label-value .label-value .ensures })
     (c .before .before .give2 .ensures))
+    -- returns-3
     (λ c. plain-nothing _ _ _ _ _ _ (c .match .keys3) (record { kind-is = c .before .before .label-kind .ensures; value-is = c .before .label-value .ensures }))
+    -- returns-4
     (λ c. plainly-met refl))

@@ -1,16 +1,16 @@
 use Prim.Native.Nat.{_/_}
-use Rattle.engine.proofs.Bits.{shifted-fits, mark-shifted}
-use Rattle.engine.specs.Marks.{marked}
+use Rattle.engine.proofs.Bits.{shifted-fits, note-shifted}
+use Rattle.engine.specs.Seen.{seenAt}
 use borrow.Author.Needs.{needs}
-use Rattle.engine.proofs.mark.Statement.{statement}
-use Rattle.engine.proofs.mark.Tie as tie
+use Rattle.engine.proofs.note_seen.Statement.{statement}
+use Rattle.engine.proofs.note_seen.Tie as tie
 
 add-table : tie.Need-add-table
-unfolding marked
+unfolding seenAt
 add-table c = record { fits = shifted-fits _ (c .before .args .k) (c .before .pre .1) (c .slice-known .given (c .before .args .k / 32) .fits) }
 
-pub mark-spec : {M : Type 1} → statement M
-mark-spec =
+pub note-seen-spec : {M : Type 1} → statement M
+note-seen-spec =
     tie.close
     (tie.spec
     (λ c. search needs)
@@ -21,4 +21,4 @@ mark-spec =
     (λ c. search needs)
     (λ c. search needs)
     (λ c. search needs)
-    (λ c. mark-shifted _ _ (c .before .pre .0) (c .before .pre .1)))
+    (λ c. note-shifted _ _ (c .before .pre .0) (c .before .pre .1)))
