@@ -62,8 +62,8 @@ fn say_split(list: &[u32], n: usize, g: i32) {
     say_guard(g);
 }
 
-fn say_outcome(
-    o: Outcome,
+fn say_answer(
+    r: StepResult,
     terms: &[u32],
     cells: &[u32],
     chars: &[u32],
@@ -71,34 +71,22 @@ fn say_outcome(
     list: &[u32],
     c: Counts,
 ) -> Counts {
-    match o {
-        Outcome::Done(d) => say_store(b": done", terms, cells, chars, reasons, c, d),
-        Outcome::Saturated(d) => say_store(b": saturated", terms, cells, chars, reasons, c, d),
-        Outcome::Conflict(d) => say_store(b": conflict", terms, cells, chars, reasons, c, d),
-        Outcome::Unexpanded(d) => say_store(b": unexpanded", terms, cells, chars, reasons, c, d),
-        Outcome::Propagate(d, v, w, link) => {
+    match r {
+        StepResult::Done(d) => say_store(b": done", terms, cells, chars, reasons, c, d),
+        StepResult::Saturated(d) => say_store(b": saturated", terms, cells, chars, reasons, c, d),
+        StepResult::Conflict(d) => say_store(b": conflict", terms, cells, chars, reasons, c, d),
+        StepResult::Propagate(d, v, w, link) => {
             say_propagate(v, w, link);
             say_store(b"", terms, cells, chars, reasons, c, d)
         }
-        Outcome::Split(d, n, g) => {
+        StepResult::Split(d, n, g) => {
             say_split(list, n, g);
             say_store(b"", terms, cells, chars, reasons, c, d)
         }
-        Outcome::Refused(k) => {
+        StepResult::Refused(k) => {
             say(b": refused ", k);
             c
         }
-    }
-}
-
-fn outcome(o: StepResult) -> Outcome {
-    match o {
-        StepResult::Done(d) => Outcome::Done(d),
-        StepResult::Saturated(d) => Outcome::Saturated(d),
-        StepResult::Conflict(d) => Outcome::Conflict(d),
-        StepResult::Propagate(d, v, w, link) => Outcome::Propagate(d, v, w, link),
-        StepResult::Split(d, n, g) => Outcome::Split(d, n, g),
-        StepResult::Refused(k) => Outcome::Refused(k),
     }
 }
 
@@ -114,7 +102,7 @@ fn ask_resolve<'a>(
     list: &mut [u32],
     c: Counts,
 ) -> Counts {
-    let o = wordeq::resolve_equation(
+    let r = wordeq::resolve_equation(
         terms,
         cells,
         chars,
@@ -126,7 +114,7 @@ fn ask_resolve<'a>(
         g,
         list,
     );
-    say_outcome(outcome(o), terms, cells, chars, reasons, list, c)
+    say_answer(r, terms, cells, chars, reasons, list, c)
 }
 
 fn ask_step(
@@ -153,7 +141,10 @@ fn ask_step(
         g,
         list,
     );
-    say_outcome(o, terms, cells, chars, reasons, list, c)
+    match o {
+        Outcome::Answered(r) => say_answer(r, terms, cells, chars, reasons, list, c),
+        Outcome::Unexpanded(d) => say_store(b": unexpanded", terms, cells, chars, reasons, c, d),
+    }
 }
 
 fn ask_equal(

@@ -17,24 +17,24 @@ use mir.Val.{toZ, ofZ, SFits}
 use mir.ValLaws.{toZ-ofZ}
 use Rattle.records.specs.declared.State.{State}
 use Rattle.records.specs.Lists.{all}
-use Rattle.records.specs.Store.{Store, ok, isString}
+use Rattle.records.specs.Store.{Store, ok, Work, isString}
 use Rattle.records.specs.View.{Lent, storeOf}
 use Rattle.records.specs.Rules.{listLimit, isList}
 use Rattle.records.proofs.Lists.{both-left, both-right}
 use Rattle.normalize.specs.Calls.{listCall, PublicList}
 use Rattle.wordeq.specs.declared.StepResult.{StepResult}
 use Rattle.wordeq.specs.declared.StepResult.the-variants as step
-use Rattle.wordeq.specs.Wordeq.{done, saturated, conflict, propagate, split, resolve, resolveArguments, isGuard}
+use Rattle.wordeq.specs.Wordeq.{Answer, done, saturated, conflict, propagate, split, resolve, resolveArguments, isGuard}
 use Rattle.wordeq.specs.Meaning.{Sound}
 use Rattle.wordeq.specs.Results.{resolved}
 use Rattle.wordeq.specs.Calls.{PublicResolve}
 use Rattle.wordeq.proofs.Resolve.{resolve-kept, resolve-stops}
+use Rattle.wordeq.proofs.FewAtoms.{Few, resolve-few}
 use Rattle.capi.specs.Interface.{stateOf, roomy}
 use Rattle.capi.specs.Equations.{flag, answerWords, answerRead, ExportedResolve}
-use Rattle.capi.specs.Leaves.{NarrowAnswer, Telling, tells, ToldWords, ToldBy, answerTelling}
-use Rattle.capi.proofs.Exports.{Tells}
-use Rattle.capi.proofs.Listings.{Shows, list-gives, list-room, list-tellable, list-exported, list-worth, untold-list}
-use Rattle.capi.proofs.FewAtoms.{Few, resolve-few}
+use Rattle.capi.specs.Leaves.{Narrow, NarrowAnswer, Telling, tells, ToldWords, ToldBy, answerTelling}
+use Rattle.capi.proofs.Exports.{Tells, Shows}
+use Rattle.capi.proofs.Listings.{list-gives, list-room, list-tellable, list-exported, list-worth, untold-list}
 
 -- THE WORK
 
@@ -90,7 +90,25 @@ stands-in g h guarded fit n k k′ i q same j = by (decLe n (length k′))
 pub record Stands (r : StepResult) (k′ : List ℕ) : Type 0 where
   pub split : (c : State) (n : ℕ) (g : ℤ) → r ≡ step.Split c n g → StandsIn n g k′
 
-answer-shows : (r : StepResult) (m′ : Lent) (k′ : List ℕ) → Stands r k′ → Shows answerWords (answerRead k′) m′ (resolved r m′ k′) (answerTelling r)
+-- the Split of a call whose answers are wordeq's, under `says`
+module _ {A : Type 0} {fit : Store → Bool} {work : Work A} (can : Tells fit work) (says : Answer → A) (g : ℤ) (fits : SFits w32 g) (guarded : (s : Store) → fit s ≡ true → isGuard g ≡ true)
+    (few : (s s′ : Store) (x : Answer) → work s ≡ ok s′ (says x) → Few g x) (m m′ : Lent) (k k′ : List ℕ) (c : State) (same : length k′ ≡ length k) where
+  pub split-stands : (d : State) (n : ℕ) (h : ℤ) → listCall k fit work m c ≡ ok (storeOf m′ d) (says (split (take n k′) h)) → StandsIn n h k′
+  split-stands d n h e = stands-in g h guard fits n k k′ (long .0) (long .1) same (list-room can m k c _ _ e)
+    where
+      long : Few g (split (take n k′) h)
+      long =
+          list-gives can m k c {P = λ s y. (x : Answer) → y ≡ says x → Few g x} (λ s s′ y a f q x i. few s s′ x (q ∙ ap (ok s′) i)) (storeOf m′ d) (says (split (take n k′) h)) e
+          (split (take n k′) h) refl
+
+      guard : isGuard g ≡ true
+      guard = list-gives can m k c {P = λ s x. isGuard g ≡ true} (λ s s′ x a f q. guarded s f) (storeOf m′ d) (says (split (take n k′) h)) e
+
+-- the counts and the Split of an answer are narrow
+pub answer-narrow : (r : StepResult) {k′ : List ℕ} → ((c : State) (v : List ℕ) → answerTelling r ≡ tells c v → Narrow c) → Stands r k′ → NarrowAnswer r
+answer-narrow r f i = record { counts = f; split = λ d n h e. (let j = i .split d n h e in let p = j .three in record { list = omega arith; guard = j .guard }) }
+
+pub answer-shows : (r : StepResult) (m′ : Lent) (k′ : List ℕ) → Stands r k′ → Shows 8 answerWords (answerRead k′) m′ (resolved r m′ k′) (answerTelling r)
 answer-shows (step.Done c) m′ k′ i = record { value = done; outcome = refl; spelt = refl; few = omega arith; back = λ z. refl }
 answer-shows (step.Saturated c) m′ k′ i = record { value = saturated; outcome = refl; spelt = refl; few = omega arith; back = λ z. refl }
 answer-shows (step.Conflict c) m′ k′ i = record { value = conflict; outcome = refl; spelt = refl; few = omega arith; back = λ z. refl }
@@ -119,29 +137,22 @@ module _ {l r : List ℕ} {g : ℤ} {m m′ : Lent} {k k′ : List ℕ} {c : Sta
   called : PublicList (listCall k (resolveArguments l r g) (resolve l r g) m c) m m′ k k′ c (resolved o m′ k′)
   called = here .is
 
-  pub resolve-stands : Stands o k′
-  resolve-stands = record { split = λ d n h e. at d n h (sym (called .store .says) ∙ ap (λ (x : StepResult). resolved x m′ k′) e) }
-    where
-      at : (d : State) (n : ℕ) (h : ℤ) → listCall k (resolveArguments l r g) (resolve l r g) m c ≡ ok (storeOf m′ d) (split (take n k′) h) → StandsIn n h k′
-      at d n h e = stands-in g h guarded fit n k k′ (long .0) (long .1) same (list-room (resolve-tells l r g) m k c _ _ e)
-        where
-          long : Few g (split (take n k′) h)
-          long = list-gives (resolve-tells l r g) m k c {P = λ s x. Few g x} (λ s s′ x a f q. resolve-few g l r s .given s′ x q) (storeOf m′ d) (split (take n k′) h) e
+  stands : Stands o k′
+  stands = record {
+    split = λ d n h e. split-stands (resolve-tells l r g) (λ x. x) g fit (λ s f. both-right (isList s l && isList s r) _ f) (λ s s′ x q. resolve-few g l r s .given s′ x q) m m′ k k′ c same d n h (sym (called .store .says) ∙ ap (λ (x : StepResult). resolved x m′ k′) e);
+  }
 
-          guarded : isGuard g ≡ true
-          guarded = list-gives (resolve-tells l r g) m k c {P = λ s x. isGuard g ≡ true} (λ s s′ x a f q. both-right (isList s l && isList s r) _ f) (storeOf m′ d) (split (take n k′) h) e
+  shows : Shows 8 answerWords (answerRead k′) m′ (resolved o m′ k′) (answerTelling o)
+  shows = answer-shows o m′ k′ stands
 
   pub resolve-tellable : NarrowAnswer o
-  resolve-tellable = record {
-    counts = λ d v e. list-tellable (resolve-tells l r g) called answerWords (answerRead k′) (answerTelling o) (answer-shows o m′ k′ resolve-stands) d v e;
-    split = λ d n h e. (let j = resolve-stands .split d n h e in let p = j .three in record { list = omega arith; guard = j .guard });
-  }
+  resolve-tellable = answer-narrow o (list-tellable (resolve-tells l r g) called answerWords (answerRead k′) (answerTelling o) shows) stands
 
   pub resolve-exported : {w w′ a a′ : List ℕ} {n : ℕ} → roomy w a ≡ true → c ≡ stateOf w → ToldBy answerTelling w w′ a a′ o n
       → ExportedResolve l r g m m′ k k′ w w′ a a′ n
   resolve-exported room e u = record {
-    is = list-exported (resolve-tells l r g) called answerWords (answerRead k′) (answerTelling o) (answer-shows o m′ k′ resolve-stands) room e (u .is);
-    worth = list-worth (resolve-tells l r g) called answerWords (answerRead k′) (answerTelling o) (answer-shows o m′ k′ resolve-stands) room e (u .is) (λ s′ x q. subst (λ (d : State). Sound (storeOf m d) s′ l r x) e (here .worth s′ x q));
+    is = list-exported (resolve-tells l r g) called answerWords (answerRead k′) (answerTelling o) shows room e (u .is);
+    worth = list-worth (resolve-tells l r g) called answerWords (answerRead k′) (answerTelling o) shows room e (u .is) (λ s′ x q. subst (λ (d : State). Sound (storeOf m d) s′ l r x) e (here .worth s′ x q));
   }
 
 -- TELLING

@@ -1,8 +1,8 @@
 -- find and explain, told in words.
 use mathlib.Core.Path.{_≡_, refl, sym, ap, subst, _∙_}
 use mathlib.Core.Bool.{true, _&&_}
-use mathlib.Core.List.{List, []}
-use Prim.Native.Nat.{ℕ, zero, suc, _≤_, _<_}
+use mathlib.Core.List.{List, [], _∷_}
+use Prim.Native.Nat.{ℕ, _≤_, _<_}
 use native.Mathlib.Omega.{arith}
 use lib.ListN.{length, getD, set}
 use borrow.Author.Tests.{lt-leb}
@@ -10,7 +10,7 @@ use Rattle.records.specs.declared.State.{State}
 use Rattle.records.specs.declared.Added.{Added}
 use Rattle.records.specs.declared.Added.the-variants as adding
 use Rattle.records.specs.Lists.{Every}
-use Rattle.records.specs.Store.{Store, ok, isString, sameClass}
+use Rattle.records.specs.Store.{Store, isString, sameClass}
 use Rattle.records.specs.View.{Lent, storeOf}
 use Rattle.records.specs.Audited.{Audited}
 use Rattle.records.specs.Calls.{call, Public, added}
@@ -22,9 +22,9 @@ use Rattle.engine.specs.Meaning.{Explains, addedTo, Labels}
 use Rattle.engine.specs.Calls.{found, PublicExplain}
 use Rattle.engine.proofs.Sound.{explain-kept, explain-stops}
 use Rattle.capi.specs.Interface.{stateOf, roomy, over, Exported, ExportedExplain}
-use Rattle.capi.specs.Leaves.{Narrow, ToldCounts}
-use Rattle.capi.proofs.Words.{beyond-same, beyond-first, first-read, roomy-answer}
-use Rattle.capi.proofs.Exports.{Tells, call-stops, told-public, untold}
+use Rattle.capi.specs.Leaves.{Narrow, Telling, tells, refuses, ToldBy, addedTelling}
+use Rattle.capi.proofs.Words.{written-same, roomy-state, roomy-answer, one-told, told-by, told-refuses}
+use Rattle.capi.proofs.Exports.{Tells, call-stops, untold, Shows, told-exported, numberWords, numberRead}
 use Rattle.capi.proofs.CountExports.{counts-tellable, counts-exported, counts-worth, counts-full}
 
 -- FIND
@@ -36,29 +36,30 @@ find-tells t = record {
   stops = λ s n a f e z. let y : _≡_ {A = ℕ} 0 1 = cc in absurd (omega arith);
 }
 
+-- the root; the counts are as they were
+abbrev foundTelling : State → Found → Telling
+foundTelling c (Root u) = tells c (u ∷ [])
+foundTelling c (Refused k) = refuses k
+
+found-shows : (r : Found) (m : Lent) (c : State) → Shows 8 numberWords numberRead m (found r m c) (foundTelling c r)
+found-shows (Root u) m c = record { value = u; outcome = refl; spelt = refl; few = omega arith; back = λ z. refl }
+found-shows (Refused k) m c = refl
+
 module _ (t : ℕ) (m : Lent) (c : State) (r : Found) (called : Public (call (findArguments t) (find t) m c) m m c (found r m c)) (w a : List ℕ) (room : roomy w a ≡ true) (is : c ≡ stateOf w) where
   at : Public (call (findArguments t) (find t) m (stateOf w)) m m (stateOf w) (found r m (stateOf w))
   at = subst (λ (d : State). Public (call (findArguments t) (find t) m d) m m d (found r m d)) is called
 
+  find-exported : {a′ : List ℕ} {k : ℕ} → ToldBy (foundTelling (stateOf w)) w w a a′ r k → Exported (over (roomy w a) (call (findArguments t) (find t) m (stateOf w))) m m w w 1 a a′ (getD a′ 0 0) k
+  find-exported u =
+      told-exported 8 numberWords numberRead m (found r m (stateOf w)) (foundTelling (stateOf w) r) (found-shows r m (stateOf w)) (λ q. call-stops (find-tells t) m (stateOf w) 0 (sym (at .says) ∙ q) refl) (u .is) room
+      (roomy-state w a room) (roomy-answer w a room) at .is
+
   pub find-told : (u : ℕ) → r ≡ Root u
       → Exported (over (roomy w a) (call (findArguments t) (find t) m (stateOf w))) m m w w 1 a (set a 0 u) (getD (set a 0 u) 0 0) 0
-  find-told u e = record {
-    public = told-public room (ap (ok (storeOf m (stateOf w))) (first-read a u (roomy-answer w a room)) ∙ sym (ap (λ (x : Found). found x m (stateOf w)) e)) at;
-    state = beyond-same 6 w;
-    answer = beyond-first a u;
-    state-idle = λ z. refl;
-    answer-idle = λ z. absurd (z refl);
-  }
+  find-told u e = find-exported (told-by (ap (foundTelling (stateOf w)) e) (one-told room (written-same w (roomy-state w a room)) refl))
 
   pub find-untold : (k : ℕ) → r ≡ Refused k → Exported (over (roomy w a) (call (findArguments t) (find t) m (stateOf w))) m m w w 1 a a (getD a 0 0) k
-  find-untold zero e = absurd (call-stops (find-tells t) m (stateOf w) 0 (sym (at .says) ∙ ap (λ (x : Found). found x m (stateOf w)) e) refl)
-  find-untold (suc k) e = record {
-    public = told-public room (sym (ap (λ (x : Found). found x m (stateOf w)) e)) at;
-    state = beyond-same 6 w;
-    answer = beyond-same 1 a;
-    state-idle = λ z. refl;
-    answer-idle = λ z. refl;
-  }
+  find-untold k e = find-exported (told-refuses (ap (foundTelling (stateOf w)) e))
 
 -- EXPLAIN
 
@@ -82,12 +83,12 @@ explain-short a b m w h = record { is = untold _ m w 0 [] tt (lt-leb 6 (length w
 
 module _ {a b : ℕ} {m m′ : Lent} {c : State} {r : Added} (called : PublicExplain a b m m′ c (added r m′)) where
   pub explain-tellable : (d : State) → r ≡ adding.Counts d → Narrow d
-  explain-tellable d e = counts-tellable (explain-tells a b) (called .is) d e
+  explain-tellable d e = counts-tellable (explain-tells a b) r (called .is) d e
 
-  pub explain-exported : {w w′ : List ℕ} {k : ℕ} → 6 ≤ length w → c ≡ stateOf w → ToldCounts w w′ r k → ExportedExplain a b m m′ w w′ k
+  pub explain-exported : {w w′ : List ℕ} {k : ℕ} → 6 ≤ length w → c ≡ stateOf w → ToldBy addedTelling w w′ [] [] r k → ExportedExplain a b m m′ w w′ k
   explain-exported room e t = record {
-    is = counts-exported (explain-tells a b) (called .is) t room e;
-    worth = counts-worth (explain-tells a b) (called .is) t (λ s′ q. subst (λ (d : State). Explains (storeOf m d) s′ a b) e (called .worth s′ q));
-    edges = counts-worth (explain-tells a b) (called .is) t (λ s′ q. subst (λ (d : State). Every (Labels (storeOf m d)) (addedTo (storeOf m d) s′)) e (called .edges s′ q));
-    full = counts-full (explain-tells a b) (called .is) t (called .full);
+    is = counts-exported (explain-tells a b) r (called .is) t room e;
+    worth = counts-worth (explain-tells a b) r (called .is) t (λ s′ q. subst (λ (d : State). Explains (storeOf m d) s′ a b) e (called .worth s′ q));
+    edges = counts-worth (explain-tells a b) r (called .is) t (λ s′ q. subst (λ (d : State). Every (Labels (storeOf m d)) (addedTo (storeOf m d) s′)) e (called .edges s′ q));
+    full = counts-full (explain-tells a b) r (called .is) t (called .full);
   }

@@ -2,15 +2,13 @@
 use mathlib.Core.Path.{_≡_, refl, sym, ap, subst, _∙_}
 use mathlib.Core.Bool.{Bool, true, false}
 use mathlib.Core.List.{List, [], _∷_}
-use Prim.Native.Nat.{ℕ, zero, suc, _≤_, _<_}
+use Prim.Native.Nat.{ℕ, _≤_, _<_}
 use native.Mathlib.Omega.{arith}
-use lib.ListN.{length, set, take}
-use lib.Dec.{eqb}
+use lib.ListN.{length, set}
 use borrow.Author.Tests.{lt-leb}
 use Rattle.records.specs.declared.State.{State}
 use Rattle.records.specs.declared.Added.{Added}
 use Rattle.records.specs.declared.Added.the-variants as adding
-use Rattle.records.specs.Store.{ok}
 use Rattle.records.specs.View.{Lent, storeOf}
 use Rattle.records.specs.Audited.{Audited}
 use Rattle.records.specs.Calls.{call, Public, added}
@@ -21,10 +19,10 @@ use Rattle.wordeq.specs.Meaning.{ExplainsEqual}
 use Rattle.wordeq.specs.Calls.{equalArguments, equalLists, compared, PublicEqualExplain}
 use Rattle.wordeq.proofs.Equal.{explain-equal-kept, explain-equal-stops}
 use Rattle.capi.specs.Interface.{stateOf, roomy}
-use Rattle.capi.specs.Equations.{flag, flagRead, ExportedEqual, ExportedEqualExplain}
-use Rattle.capi.specs.Leaves.{Narrow, ToldCounts}
-use Rattle.capi.proofs.Words.{beyond-same, beyond-first, first-read, roomy-answer}
-use Rattle.capi.proofs.Exports.{Tells, call-stops, told-public, untold}
+use Rattle.capi.specs.Equations.{flag, flagWords, flagRead, ExportedEqual, ExportedEqualExplain}
+use Rattle.capi.specs.Leaves.{Narrow, Telling, tells, refuses, ToldBy, addedTelling}
+use Rattle.capi.proofs.Words.{written-same, roomy-state, roomy-answer, one-told, told-by, told-refuses}
+use Rattle.capi.proofs.Exports.{Tells, call-stops, untold, Shows, told-exported}
 use Rattle.capi.proofs.CountExports.{counts-tellable, counts-exported, counts-worth, counts-full}
 use Rattle.capi.proofs.AnswerExports.{left-strings, right-strings, flag-back}
 
@@ -37,9 +35,14 @@ equal-tells l r = record {
   stops = λ s n a f e z. let y : _≡_ {A = ℕ} 0 1 = cc in absurd (omega arith);
 }
 
-first-word : (a : List ℕ) (u : ℕ) → 8 ≤ length a → take 1 (set a 0 u) ≡ u ∷ []
-first-word [] u h = absurd (omega arith)
-first-word (x ∷ a) u h = refl
+-- the flag; the counts are as they were
+abbrev equalTelling : State → Equality → Telling
+equalTelling c (equality.Is b) = tells c (flag b ∷ [])
+equalTelling c (equality.Refused k) = refuses k
+
+equal-shows : (x : Equality) (m : Lent) (c : State) → Shows 8 flagWords flagRead m (compared x m c) (equalTelling c x)
+equal-shows (equality.Is b) m c = record { value = b; outcome = refl; spelt = refl; few = omega arith; back = λ z. flag-back b }
+equal-shows (equality.Refused k) m c = refl
 
 pub equal-short : (l r : List ℕ) (m : Lent) (w a : List ℕ) → roomy w a ≡ false → ExportedEqual l r m w a a 1
 equal-short l r m w a e = record { is = record { is = untold _ m w 1 a (flagRead a) e; says = λ z. absurd (omega arith) } }
@@ -48,36 +51,19 @@ module _ (l r : List ℕ) (m : Lent) (c : State) (x : Equality) (called : Public
   at : Public (call (equalArguments l r) (equalLists l r) m (stateOf w)) m m (stateOf w) (compared x m (stateOf w))
   at = subst (λ (d : State). Public (call (equalArguments l r) (equalLists l r) m d) m m d (compared x m d)) is called
 
+  equal-exported : {a′ : List ℕ} {k : ℕ} → ToldBy (equalTelling (stateOf w)) w w a a′ x k → ExportedEqual l r m w a a′ k
+  equal-exported u = record {
+    is =
+        told-exported 8 flagWords flagRead m (compared x m (stateOf w)) (equalTelling (stateOf w) x) (equal-shows x m (stateOf w)) (λ q. call-stops (equal-tells l r) m (stateOf w) 0 (sym (at .says) ∙ q) refl) (u .is) room
+        (roomy-state w a room) (roomy-answer w a room) at;
+  }
+
   pub equal-told : (b : Bool) → x ≡ equality.Is b → (u : ℕ) → u ≡ flag b → ExportedEqual l r m w a (set a 0 u) 0
   equal-told b e u f =
-      let q : flagRead (set a 0 u) ≡ b = ap (λ (y : ℕ). eqb y 1) (first-read a u (roomy-answer w a room) ∙ f) ∙ flag-back b in
-      record {
-        is = record {
-          is = record {
-            public = told-public room (ap (ok (storeOf m (stateOf w))) q ∙ sym (ap (λ (y : Equality). compared y m (stateOf w)) e)) at;
-            state = beyond-same 6 w;
-            answer = beyond-first a u;
-            state-idle = λ z. refl;
-            answer-idle = λ z. absurd (z refl);
-          };
-          says = λ z. first-word a u (roomy-answer w a room) ∙ ap (λ (y : ℕ). y ∷ []) (f ∙ ap flag (sym q));
-        };
-      }
+      equal-exported (told-by (ap (equalTelling (stateOf w)) e ∙ ap (λ (y : ℕ). tells (stateOf w) (y ∷ [])) (sym f)) (one-told room (written-same w (roomy-state w a room)) refl))
 
   pub equal-untold : (k : ℕ) → x ≡ equality.Refused k → ExportedEqual l r m w a a k
-  equal-untold zero e = absurd (call-stops (equal-tells l r) m (stateOf w) 0 (sym (at .says) ∙ ap (λ (y : Equality). compared y m (stateOf w)) e) refl)
-  equal-untold (suc k) e = record {
-    is = record {
-      is = record {
-        public = told-public room (sym (ap (λ (y : Equality). compared y m (stateOf w)) e)) at;
-        state = beyond-same 6 w;
-        answer = beyond-same 1 a;
-        state-idle = λ z. refl;
-        answer-idle = λ z. refl;
-      };
-      says = λ z. absurd (omega arith);
-    };
-  }
+  equal-untold k e = equal-exported (told-refuses (ap (equalTelling (stateOf w)) e))
 
 -- NF_EQUAL_EXPLAIN
 
@@ -92,11 +78,11 @@ pairs-short l r m w h = record { is = untold _ m w 0 [] tt (lt-leb 6 (length w) 
 
 module _ {l r : List ℕ} {m m′ : Lent} {c : State} {x : Added} (called : PublicEqualExplain l r m m′ c (added x m′)) where
   pub pairs-tellable : (d : State) → x ≡ adding.Counts d → Narrow d
-  pairs-tellable d e = counts-tellable (pairs-tells l r) (called .is) d e
+  pairs-tellable d e = counts-tellable (pairs-tells l r) x (called .is) d e
 
-  pub pairs-exported : {w w′ : List ℕ} {k : ℕ} → 6 ≤ length w → c ≡ stateOf w → ToldCounts w w′ x k → ExportedEqualExplain l r m m′ w w′ k
+  pub pairs-exported : {w w′ : List ℕ} {k : ℕ} → 6 ≤ length w → c ≡ stateOf w → ToldBy addedTelling w w′ [] [] x k → ExportedEqualExplain l r m m′ w w′ k
   pairs-exported room e t = record {
-    is = counts-exported (pairs-tells l r) (called .is) t room e;
-    worth = counts-worth (pairs-tells l r) (called .is) t (λ s′ q. subst (λ (d : State). ExplainsEqual (storeOf m d) s′ l r) e (called .worth s′ q));
-    full = counts-full (pairs-tells l r) (called .is) t (called .full);
+    is = counts-exported (pairs-tells l r) x (called .is) t room e;
+    worth = counts-worth (pairs-tells l r) x (called .is) t (λ s′ q. subst (λ (d : State). ExplainsEqual (storeOf m d) s′ l r) e (called .worth s′ q));
+    full = counts-full (pairs-tells l r) x (called .is) t (called .full);
   }

@@ -24,8 +24,8 @@ use Rattle.normalize.proofs.Deep.{deep-gives, deep-kept, deep-stops}
 use Rattle.capi.specs.Interface.{stateOf, roomy}
 use Rattle.capi.specs.Forms.{formWords, deepWords, formRead, deepRead, ExportedForm, ExportedDeepForm}
 use Rattle.capi.specs.Leaves.{Narrow, NarrowList, formTelling, deepTelling, ToldBy}
-use Rattle.capi.proofs.Exports.{Tells}
-use Rattle.capi.proofs.Listings.{Shows, list-gives, list-narrow, list-exported, list-worth, untold-list}
+use Rattle.capi.proofs.Exports.{Tells, Shows}
+use Rattle.capi.proofs.Listings.{list-gives, list-narrow, list-exported, list-worth, untold-list}
 
 module _ (known : List ℕ) (t : ℕ) where
   pub form-tells : Tells (formArguments known t) (normalForm known t)
@@ -51,7 +51,7 @@ deep-short known t s s′ (some x) a f e = deep-gives known t s a f s′ x e .lo
 
 -- THE NORMAL FORM
 
-form-shows : (r : Form) (m′ : Lent) (l′ : List ℕ) → Shows formWords (formRead l′) m′ (formed r m′ l′) (formTelling r)
+form-shows : (r : Form) (m′ : Lent) (l′ : List ℕ) → Shows 8 formWords (formRead l′) m′ (formed r m′ l′) (formTelling r)
 form-shows (form.List n d) m′ l′ = record {
   value = firstWords l′ n;
   outcome = refl;
@@ -84,7 +84,7 @@ module _ {known : List ℕ} {t : ℕ} {m m′ : Lent} {l l′ : List ℕ} {c : S
 
 -- THE DEEP FORM
 
-deep-shows : (r : DeepForm) (m′ : Lent) (l′ : List ℕ) → Shows deepWords (deepRead l′) m′ (deepened r m′ l′) (deepTelling r)
+deep-shows : (r : DeepForm) (m′ : Lent) (l′ : List ℕ) → Shows 8 deepWords (deepRead l′) m′ (deepened r m′ l′) (deepTelling r)
 deep-shows (deep.List n d) m′ l′ = record {
   value = some (firstWords l′ n);
   outcome = refl;

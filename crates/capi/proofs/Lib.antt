@@ -4,7 +4,6 @@ pub mod Tellings
 pub mod Engines
 pub mod Listings
 pub mod FormExports
-pub mod FewAtoms
 pub mod AnswerExports
 pub mod CountExports
 pub mod EqualExports

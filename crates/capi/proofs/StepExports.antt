@@ -1,34 +1,37 @@
 -- The step over one equation, told in words.
 use mathlib.Core.Path.{_≡_, refl, sym, ap, subst, _∙_}
-use mathlib.Core.Bool.{Bool, true, false, _&&_}
-use mathlib.Core.List.{List, [], _∷_}
+use mathlib.Core.Bool.{false, true, _&&_}
+use mathlib.Core.List.{List, [], _∷_, _++_}
 use Prim.Native.Nat.{ℕ}
 use native.Mathlib.Omega.{arith}
-use lib.ListN.{length, take}
-use lib.Seq.{length-take-le}
+use lib.ListN.{length, getD}
 use lib.IntN.{ℤ}
+use lib.Dec.{ltb}
 use mir.Syntax.{w32}
 use mir.Val.{toZ, ofZ, SFits}
 use mir.ValLaws.{toZ-ofZ}
 use Rattle.records.specs.declared.State.{State}
-use Rattle.records.specs.Store.{ok, term, isEquation, isString}
+use Rattle.records.specs.Store.{Out, ok, andThen, give, term, isEquation, isString}
 use Rattle.records.specs.View.{Lent, storeOf}
 use Rattle.records.specs.Rules.{isList}
 use Rattle.records.proofs.Lists.{both-right}
 use Rattle.normalize.specs.Calls.{listCall, PublicList}
-use Rattle.wordeq.specs.Wordeq.{done, saturated, conflict, propagate, split, isGuard}
+use Rattle.wordeq.specs.declared.StepResult.{StepResult}
+use Rattle.wordeq.specs.Wordeq.{Answer, done, saturated, conflict, propagate, split}
+use Rattle.wordeq.specs.Results.{resolved}
 use Rattle.equation.specs.declared.Outcome.{Outcome}
 use Rattle.equation.specs.declared.Outcome.the-variants as outcome
-use Rattle.equation.specs.Equation.{unexpanded, answered, step, stepArguments, StepSound}
+use Rattle.equation.specs.Equation.{Stepped, unexpanded, answered, step, stepArguments, StepSound}
 use Rattle.equation.specs.Calls.{stepped, PublicStep}
 use Rattle.equation.proofs.Sound.{step-kept, step-stops}
+use Rattle.equation.proofs.FewAtoms.{step-few}
 use Rattle.capi.specs.Interface.{stateOf, roomy}
+use Rattle.capi.specs.Equations.{answerWords, answerRead}
 use Rattle.capi.specs.Steps.{stepWords, stepRead, ExportedStep}
-use Rattle.capi.specs.Leaves.{NarrowOutcome, ToldBy, outcomeTelling}
-use Rattle.capi.proofs.Exports.{Tells}
-use Rattle.capi.proofs.Listings.{Shows, list-gives, list-room, list-tellable, list-exported, list-worth, untold-list}
-use Rattle.capi.proofs.FewAtoms.{FewStep, step-few}
-use Rattle.capi.proofs.AnswerExports.{flag-back, StandsIn, stands-in}
+use Rattle.capi.specs.Leaves.{Narrow, NarrowOutcome, Telling, tells, refuses, ToldBy, answerTelling, outcomeTelling}
+use Rattle.capi.proofs.Exports.{Tells, Shows}
+use Rattle.capi.proofs.Listings.{list-tellable, list-exported, list-worth, untold-list}
+use Rattle.capi.proofs.AnswerExports.{Stands, split-stands, answer-narrow, answer-shows}
 
 pub step-tells : (known : List ℕ) (e : ℕ) (g : ℤ) → Tells (stepArguments known e g) (step known e g)
 step-tells known e g = record {
@@ -36,26 +39,42 @@ step-tells known e g = record {
   stops = λ s n a f q z. let i = step-stops known e g s a f n q .from in absurd (omega arith);
 }
 
-pub record Stands (r : Outcome) (k′ : List ℕ) : Type 0 where
-  pub split : (c : State) (n : ℕ) (g : ℤ) → r ≡ outcome.Split c n g → StandsIn n g k′
+-- ITS WORDS
 
-step-shows : (r : Outcome) (m′ : Lent) (k′ : List ℕ) → Stands r k′ → Shows stepWords (stepRead k′) m′ (stepped r m′ k′) (outcomeTelling r)
-step-shows (outcome.Done c) m′ k′ i = record { value = answered done; outcome = refl; spelt = refl; few = omega arith; back = λ z. refl }
-step-shows (outcome.Saturated c) m′ k′ i = record { value = answered saturated; outcome = refl; spelt = refl; few = omega arith; back = λ z. refl }
-step-shows (outcome.Conflict c) m′ k′ i = record { value = answered conflict; outcome = refl; spelt = refl; few = omega arith; back = λ z. refl }
-step-shows (outcome.Propagate c v x f) m′ k′ i =
-    record { value = answered (propagate v x f); outcome = refl; spelt = refl; few = omega arith; back = λ z. ap (λ (b : Bool). answered (propagate v x b)) (flag-back f) }
-step-shows (outcome.Split c n g) m′ k′ i =
-    let j = i .split c n g refl in
-    record {
-      value = answered (split (take n k′) g);
-      outcome = refl;
-      spelt = ap (λ (x : ℕ). 4 ∷ x ∷ ofZ w32 g ∷ []) (sym (length-take-le n k′ (j .here)));
-      few = omega arith;
-      back = λ z. ap (λ (h : ℤ). answered (split (take n k′) h)) (toZ-ofZ w32 g (j .guard));
-    }
+abbrev andAnswered : Out Answer → Out Stepped
+andAnswered = andThen (λ x. give (answered x))
+
+-- wordeq's cases are below Unexpanded's
+below-five : (x : Answer) (z : List ℕ) → ltb 4 (getD (answerWords x ++ z) 0 0) ≡ false
+below-five done z = refl
+below-five saturated z = refl
+below-five conflict z = refl
+below-five (propagate v w f) z = refl
+below-five (split l g) z = refl
+
+answered-shows : (k′ : List ℕ) (m′ : Lent) (r : Out Answer) (T : Telling) → Shows 8 answerWords (answerRead k′) m′ r T → Shows 8 stepWords (stepRead k′) m′ (andAnswered r) T
+answered-shows k′ m′ r (tells d v) s = record {
+  value = answered (s .value);
+  outcome = ap andAnswered (s .outcome);
+  spelt = s .spelt;
+  few = s .few;
+  back = λ z. rw (ap (λ (u : List ℕ). ltb 4 (getD (u ++ z) 0 0)) (s .spelt) ∙ below-five (s .value) z) (ap answered (s .back z));
+}
+answered-shows k′ m′ r (refuses n) s = ap andAnswered s
+
+abbrev Stood : Outcome → List ℕ → Type 0
+Stood (outcome.Answered r) k′ = Stands r k′
+Stood (outcome.Unexpanded c) k′ = Unit {0}
+
+step-shows : (r : Outcome) (m′ : Lent) (k′ : List ℕ) → Stood r k′ → Shows 8 stepWords (stepRead k′) m′ (stepped r m′ k′) (outcomeTelling r)
+step-shows (outcome.Answered r) m′ k′ i = answered-shows k′ m′ (resolved r m′ k′) (answerTelling r) (answer-shows r m′ k′ i)
 step-shows (outcome.Unexpanded c) m′ k′ i = record { value = unexpanded; outcome = refl; spelt = refl; few = omega arith; back = λ z. refl }
-step-shows (outcome.Refused n) m′ k′ i = refl
+
+outcome-narrow : (r : Outcome) (k′ : List ℕ) → ((c : State) (v : List ℕ) → outcomeTelling r ≡ tells c v → Narrow c) → Stood r k′ → NarrowOutcome r
+outcome-narrow (outcome.Answered r) k′ f i = answer-narrow r f i
+outcome-narrow (outcome.Unexpanded c) k′ f i = f c (5 ∷ []) refl
+
+-- THE CALL
 
 pub step-untold : (known : List ℕ) (e : ℕ) (g : ℤ) (m : Lent) (k w a : List ℕ) → roomy w a ≡ false → ExportedStep known e g m m k k w w a a 1
 step-untold known e g m k w a q = record { is = untold-list _ stepWords m k w a _ q; worth = λ z. absurd (omega arith) }
@@ -68,26 +87,23 @@ module _ {known : List ℕ} {e : ℕ} {g : ℤ} {m m′ : Lent} {k k′ : List �
   called : PublicList (listCall k (stepArguments known e g) (step known e g) m c) m m′ k k′ c (stepped o m′ k′)
   called = here .is
 
-  pub step-stands : Stands o k′
-  step-stands = record { split = λ d n h q. at d n h (sym (called .store .says) ∙ ap (λ (x : Outcome). stepped x m′ k′) q) }
-    where
-      at : (d : State) (n : ℕ) (h : ℤ) → listCall k (stepArguments known e g) (step known e g) m c ≡ ok (storeOf m′ d) (answered (split (take n k′) h)) → StandsIn n h k′
-      at d n h q = stands-in g h guarded fit n k k′ (long .0) (long .1) same (list-room (step-tells known e g) m k c _ _ q)
-        where
-          long : FewStep g (answered (split (take n k′) h))
-          long = list-gives (step-tells known e g) m k c {P = λ s x. FewStep g x} (λ s s′ x a f i. step-few g known e s .given s′ x i) (storeOf m′ d) (answered (split (take n k′) h)) q
+  stood : (x : Outcome) → listCall k (stepArguments known e g) (step known e g) m c ≡ stepped x m′ k′ → Stood x k′
+  stood (outcome.Answered r) q = record {
+    split = λ d n h i. split-stands (step-tells known e g) answered g fit (λ s f. both-right (isList s known && isEquation s e && isString s (term s e .first)) _ f) (λ s s′ x j. step-few g known e s .given s′ (answered x) j) m m′ k k′ c same d n h (q ∙ ap (λ (y : StepResult). andAnswered (resolved y m′ k′)) i);
+  }
+  stood (outcome.Unexpanded d) q = tt
 
-          guarded : isGuard g ≡ true
-          guarded = list-gives (step-tells known e g) m k c {P = λ s x. isGuard g ≡ true} (λ s s′ x a f i. both-right (isList s known && isEquation s e && isString s (term s e .first)) _ f) (storeOf m′ d) (answered (split (take n k′) h)) q
+  stands : Stood o k′
+  stands = stood o (sym (called .store .says))
+
+  shows : Shows 8 stepWords (stepRead k′) m′ (stepped o m′ k′) (outcomeTelling o)
+  shows = step-shows o m′ k′ stands
 
   pub step-tellable : NarrowOutcome o
-  step-tellable = record {
-    counts = λ d v q. list-tellable (step-tells known e g) called stepWords (stepRead k′) (outcomeTelling o) (step-shows o m′ k′ step-stands) d v q;
-    split = λ d n h q. (let j = step-stands .split d n h q in let p = j .three in record { list = omega arith; guard = j .guard });
-  }
+  step-tellable = outcome-narrow o k′ (list-tellable (step-tells known e g) called stepWords (stepRead k′) (outcomeTelling o) shows) stands
 
   pub step-exported : {w w′ a a′ : List ℕ} {n : ℕ} → roomy w a ≡ true → c ≡ stateOf w → ToldBy outcomeTelling w w′ a a′ o n → ExportedStep known e g m m′ k k′ w w′ a a′ n
   step-exported room q u = record {
-    is = list-exported (step-tells known e g) called stepWords (stepRead k′) (outcomeTelling o) (step-shows o m′ k′ step-stands) room q (u .is);
-    worth = list-worth (step-tells known e g) called stepWords (stepRead k′) (outcomeTelling o) (step-shows o m′ k′ step-stands) room q (u .is) (λ s′ x i. subst (λ (d : State). StepSound (storeOf m d) s′ e x) q (here .worth s′ x i));
+    is = list-exported (step-tells known e g) called stepWords (stepRead k′) (outcomeTelling o) shows room q (u .is);
+    worth = list-worth (step-tells known e g) called stepWords (stepRead k′) (outcomeTelling o) shows room q (u .is) (λ s′ x i. subst (λ (d : State). StepSound (storeOf m d) s′ e x) q (here .worth s′ x i));
   }

@@ -1,22 +1,19 @@
 -- The state's six words read and written, and the answer's.
 use mathlib.Core.Path.{_≡_, refl, sym, ap, _∙_}
 use mathlib.Core.Bool.{true, false}
-use mathlib.Core.List.{List, [], _∷_}
+use mathlib.Core.List.{List, [], _∷_, _++_}
 use Prim.Native.Nat.{ℕ, _≤_, _<_}
 use native.Mathlib.Omega.{arith}
-use lib.ListN.{length, getD, drop, set, length-set}
+use lib.ListN.{length, getD, drop, set, length-append, length-drop}
+use lib.Seq.{drop-append-seam}
 use lib.Dec.{leb}
 use borrow.Author.Tests.{leb-true, lt-leb, le-leb}
 use Rattle.records.specs.declared.State.{State}
-use Rattle.records.specs.declared.Made.{Made}
-use Rattle.records.specs.declared.Made.the-variants.{Term}
 use Rattle.records.specs.View.{Lent, counts}
 use Rattle.records.specs.Rules.{audit}
 use Rattle.records.proofs.Lists.{both-left, both-right, left-false, and-next}
-use Rattle.records.specs.declared.Added.{Added}
-use Rattle.records.specs.declared.Added.the-variants as adding
 use Rattle.capi.specs.Interface.{stateOf, Beyond, roomy, audited}
-use Rattle.capi.specs.Leaves.{written, Told, ToldCounts}
+use Rattle.capi.specs.Leaves.{written, Telling, tells, refuses, ToldWords, ToldBy}
 
 -- six words one after the other
 pub sets-written : (c : State) (w : List ℕ) → 6 ≤ length w
@@ -44,16 +41,15 @@ beyond-same n w = record { length-is = refl; rest = refl }
 pub beyond-written : (c : State) (w : List ℕ) → 6 ≤ length w → Beyond 6 w (written c w)
 beyond-written c w h = record { length-is = written-length c w h; rest = refl }
 
-first-rest : (a : List ℕ) (t : ℕ) → drop 1 (set a 0 t) ≡ drop 1 a
-first-rest [] t = refl
-first-rest (x ∷ a) t = refl
-
-pub beyond-first : (a : List ℕ) (t : ℕ) → Beyond 1 a (set a 0 t)
-beyond-first a t = record { length-is = length-set a 0 t; rest = first-rest a t }
-
-pub first-read : (a : List ℕ) (t : ℕ) → 8 ≤ length a → getD (set a 0 t) 0 0 ≡ t
-first-read [] t h = absurd (omega arith)
-first-read (x ∷ a) t h = refl
+-- counts read off the words and written back
+pub written-same : (w : List ℕ) → 6 ≤ length w → w ≡ written (stateOf w) w
+written-same [] h = absurd (omega arith)
+written-same (x0 ∷ []) h = absurd (omega arith)
+written-same (x0 ∷ x1 ∷ []) h = absurd (omega arith)
+written-same (x0 ∷ x1 ∷ x2 ∷ []) h = absurd (omega arith)
+written-same (x0 ∷ x1 ∷ x2 ∷ x3 ∷ []) h = absurd (omega arith)
+written-same (x0 ∷ x1 ∷ x2 ∷ x3 ∷ x4 ∷ []) h = absurd (omega arith)
+written-same (x0 ∷ x1 ∷ x2 ∷ x3 ∷ x4 ∷ x5 ∷ w) h = refl
 
 module _ (w a : List ℕ) where
   pub roomy-state : roomy w a ≡ true → 6 ≤ length w
@@ -84,9 +80,53 @@ pub audit-stated : (w : List ℕ) (m : Lent) (c : State) (k : ℕ) → 6 ≤ len
 unfolding audited
 audit-stated w m c k h e v = rw (le-leb 6 (length w) h) (v ∙ ap (audit m) e)
 
-module _ {w w′ a a′ : List ℕ} {r : Made} where
-  pub told-term : {t : ℕ} {c : State} → r ≡ Term t c → w′ ≡ written c w → a′ ≡ set a 0 t → Told w w′ a a′ r 0
-  told-term e p q = rw e (record { code = refl; state = p; answer = q })
+-- WORDS PUT FIRST
 
-pub told-counts : {w w′ : List ℕ} {r : Added} {c : State} → r ≡ adding.Counts c → w′ ≡ written c w → ToldCounts w w′ r 0
-told-counts e p = rw e (record { code = refl; state = p })
+one-set : (a : List ℕ) (x : ℕ) → 8 ≤ length a → set a 0 x ≡ x ∷ drop 1 a
+one-set [] x h = absurd (omega arith)
+one-set (p ∷ a) x h = refl
+
+two-set : (a : List ℕ) (x y : ℕ) → 8 ≤ length a → set (set a 0 x) 1 y ≡ x ∷ y ∷ drop 2 a
+two-set [] x y h = absurd (omega arith)
+two-set (p ∷ []) x y h = absurd (omega arith)
+two-set (p ∷ q ∷ a) x y h = refl
+
+three-set : (a : List ℕ) (x y z : ℕ) → 8 ≤ length a → set (set (set a 0 x) 1 y) 2 z ≡ x ∷ y ∷ z ∷ drop 3 a
+three-set [] x y z h = absurd (omega arith)
+three-set (p ∷ []) x y z h = absurd (omega arith)
+three-set (p ∷ q ∷ []) x y z h = absurd (omega arith)
+three-set (p ∷ q ∷ r ∷ a) x y z h = refl
+
+four-set : (a : List ℕ) (x y z u : ℕ) → 8 ≤ length a → set (set (set (set a 0 x) 1 y) 2 z) 3 u ≡ x ∷ y ∷ z ∷ u ∷ drop 4 a
+four-set [] x y z u h = absurd (omega arith)
+four-set (p ∷ []) x y z u h = absurd (omega arith)
+four-set (p ∷ q ∷ []) x y z u h = absurd (omega arith)
+four-set (p ∷ q ∷ r ∷ []) x y z u h = absurd (omega arith)
+four-set (p ∷ q ∷ r ∷ t ∷ a) x y z u h = refl
+
+pub beyond-words : (v a : List ℕ) → length v ≤ length a → Beyond (length v) a (v ++ drop (length v) a)
+beyond-words v a h = record {
+  length-is = length-append v (drop (length v) a) ∙ (let e = length-drop (length v) a in omega arith);
+  rest = drop-append-seam v (drop (length v) a);
+}
+
+-- TELLING
+
+pub one-told : {w w′ a a′ : List ℕ} {c : State} {x : ℕ} → roomy w a ≡ true → w′ ≡ written c w → a′ ≡ set a 0 x → ToldWords w w′ a a′ (tells c (x ∷ [])) 0
+one-told {w} {a = a} {x = x} room p q = record { code = refl; state = p; answer = q ∙ one-set a x (roomy-answer w a room) }
+
+pub two-told : {w w′ a a′ : List ℕ} {c : State} {x y : ℕ} → roomy w a ≡ true → w′ ≡ written c w → a′ ≡ set (set a 0 x) 1 y → ToldWords w w′ a a′ (tells c (x ∷ y ∷ [])) 0
+two-told {w} {a = a} {x = x} {y = y} room p q = record { code = refl; state = p; answer = q ∙ two-set a x y (roomy-answer w a room) }
+
+pub three-told : {w w′ a a′ : List ℕ} {c : State} {x y z : ℕ} → roomy w a ≡ true → w′ ≡ written c w → a′ ≡ set (set (set a 0 x) 1 y) 2 z → ToldWords w w′ a a′ (tells c (x ∷ y ∷ z ∷ [])) 0
+three-told {w} {a = a} {x = x} {y = y} {z = z} room p q = record { code = refl; state = p; answer = q ∙ three-set a x y z (roomy-answer w a room) }
+
+pub four-told : {w w′ a a′ : List ℕ} {c : State} {x y z u : ℕ} → roomy w a ≡ true → w′ ≡ written c w → a′ ≡ set (set (set (set a 0 x) 1 y) 2 z) 3 u → ToldWords w w′ a a′ (tells c (x ∷ y ∷ z ∷ u ∷ [])) 0
+four-told {w} {a = a} {x = x} {y = y} {z = z} {u = u} room p q = record { code = refl; state = p; answer = q ∙ four-set a x y z u (roomy-answer w a room) }
+
+module _ {R : Type 0} {f : R → Telling} {r : R} where
+  pub told-by : {w w′ a a′ : List ℕ} {T : Telling} {k : ℕ} → f r ≡ T → ToldWords w w′ a a′ T k → ToldBy f w w′ a a′ r k
+  told-by e t = record { is = rw e t }
+
+  pub told-refuses : {w a : List ℕ} {k : ℕ} → f r ≡ refuses k → ToldBy f w w a a r k
+  told-refuses e = record { is = rw e (record { code = refl; state = refl; answer = refl }) }

@@ -2,7 +2,7 @@
 use mathlib.Core.Path.{_≡_}
 use mathlib.Core.List.{List, [], _∷_, _++_}
 use Prim.Native.Nat.{ℕ, _<_}
-use lib.ListN.{length, drop, set}
+use lib.ListN.{length, drop}
 use lib.IntN.{ℤ}
 use mir.Syntax.{w32}
 use mir.Val.{ofZ, SFits}
@@ -33,38 +33,7 @@ pub record Narrow (c : State) : Type 0 where
   pub reasons : c .reasons < 4294967296
   pub keys : c .keys < 4294967296
 
--- a making call's answer put into the words: the result, the state, the answer's first word
-abbrev pub codeOf : Made → ℕ
-codeOf (Term t c) = 0
-codeOf (Refused k) = k
-
-abbrev pub stateAfter : Made → List ℕ → List ℕ
-stateAfter (Term t c) w = written c w
-stateAfter (Refused k) w = w
-
-abbrev pub answerAfter : Made → List ℕ → List ℕ
-answerAfter (Term t c) a = set a 0 t
-answerAfter (Refused k) a = a
-
-pub record Told (w w′ a a′ : List ℕ) (r : Made) (k : ℕ) : Type 0 where
-  pub code : k ≡ codeOf r
-  pub state : w′ ≡ stateAfter r w
-  pub answer : a′ ≡ answerAfter r a
-
--- the counts after explain
-abbrev pub addedCode : Added → ℕ
-addedCode (adding.Counts c) = 0
-addedCode (adding.Refused k) = k
-
-abbrev pub addedState : Added → List ℕ → List ℕ
-addedState (adding.Counts c) w = written c w
-addedState (adding.Refused k) w = w
-
-pub record ToldCounts (w w′ : List ℕ) (r : Added) (k : ℕ) : Type 0 where
-  pub code : k ≡ addedCode r
-  pub state : w′ ≡ addedState r w
-
--- An answer of several cases: the counts and the answer's first words, or the refusal.
+-- What an answer tells: the counts and the answer's first words, or the refusal.
 pub data Telling : Type 0 where
   tells : State → List ℕ → Telling
   refuses : ℕ → Telling
@@ -88,6 +57,15 @@ pub record ToldWords (w w′ a a′ : List ℕ) (r : Telling) (k : ℕ) : Type 0
 
 pub record ToldBy {R : Type 0} (f : R → Telling) (w w′ a a′ : List ℕ) (r : R) (k : ℕ) : Type 0 where
   pub is : ToldWords w w′ a a′ (f r) k
+
+-- a making call's term, the counts after explain
+abbrev pub madeTelling : Made → Telling
+madeTelling (Term t c) = tells c (t ∷ [])
+madeTelling (Refused k) = refuses k
+
+abbrev pub addedTelling : Added → Telling
+addedTelling (adding.Counts c) = tells c []
+addedTelling (adding.Refused k) = refuses k
 
 -- counts that a word holds, with the count of a list
 pub record NarrowList (n : ℕ) (c : State) : Type 0 where
@@ -121,15 +99,11 @@ pub record NarrowAnswer (r : StepResult) : Type 0 where
   pub counts : (c : State) (v : List ℕ) → answerTelling r ≡ tells c v → Narrow c
   pub split : (c : State) (n : ℕ) (g : ℤ) → r ≡ step.Split c n g → NarrowSplit n g
 
+-- the same of the step over one equation
 abbrev pub outcomeTelling : Outcome → Telling
-outcomeTelling (outcome.Done c) = tells c (0 ∷ [])
-outcomeTelling (outcome.Saturated c) = tells c (1 ∷ [])
-outcomeTelling (outcome.Conflict c) = tells c (2 ∷ [])
-outcomeTelling (outcome.Propagate c v w f) = tells c (3 ∷ v ∷ w ∷ flag f ∷ [])
-outcomeTelling (outcome.Split c n g) = tells c (4 ∷ n ∷ ofZ w32 g ∷ [])
+outcomeTelling (outcome.Answered r) = answerTelling r
 outcomeTelling (outcome.Unexpanded c) = tells c (5 ∷ [])
-outcomeTelling (outcome.Refused k) = refuses k
 
-pub record NarrowOutcome (r : Outcome) : Type 0 where
-  pub counts : (c : State) (v : List ℕ) → outcomeTelling r ≡ tells c v → Narrow c
-  pub split : (c : State) (n : ℕ) (g : ℤ) → r ≡ outcome.Split c n g → NarrowSplit n g
+abbrev pub NarrowOutcome : Outcome → Type 0
+NarrowOutcome (outcome.Answered r) = NarrowAnswer r
+NarrowOutcome (outcome.Unexpanded c) = Narrow c

@@ -1,13 +1,8 @@
 // The C interface: each call of the store over lent words, the state in six words of its own. A slice is a pointer and a length.
 ghost use mathlib.Core.Path.{_≡_};
-ghost use mathlib.Core.Bool.{_&&_};
-ghost use lib.Dec.{leb};
-ghost use lib.ListN.{length, getD};
-ghost use Rattle.records.specs.Lists.{all};
-ghost use Rattle.records.specs.Store.{isString};
 ghost use Rattle.records.specs.View.{across, Between};
-ghost use Rattle.records.specs.Rules.{isChar, isList, isEquatable};
-ghost use Rattle.records.specs.Make.{makeConstant, makeVariable, makeConcat, makeLength, makeEquation};
+ghost use Rattle.records.specs.Make.{makeConstant, constantArguments, makeVariable, variableArguments, makeConcat, concatArguments};
+ghost use Rattle.records.specs.Make.{makeLength, lengthArguments, makeEquation, equationArguments};
 ghost use Rattle.engine.specs.Explain.{find, findArguments};
 ghost use Rattle.capi.specs.Interface.{audited, ExportedExplain, ExportsNumber, ExportsList};
 ghost use Rattle.capi.specs.Forms.{ExportedForm, ExportedDeepForm};
@@ -57,7 +52,7 @@ pub extern "C" fn labels_make_constant(
     text: &[u32],
     answer: &mut [u32],
 ) -> u32
-    ensures { λ r. ⌜ ExportsNumber (λ s. all isChar (now (text .entry))) (makeConstant (now (text .entry))) (across terms cells chars reasons keys) state answer r ⌝ }
+    ensures { λ r. ⌜ ExportsNumber (constantArguments (now (text .entry))) (makeConstant (now (text .entry))) (across terms cells chars reasons keys) state answer r ⌝ }
 {
     if !is_roomy(state, answer) {
         return 1;
@@ -78,7 +73,7 @@ pub extern "C" fn labels_make_variable(
     name: &[u32],
     answer: &mut [u32],
 ) -> u32
-    ensures { λ r. ⌜ ExportsNumber (λ s. leb 1 (length (now (name .entry))) && all isChar (now (name .entry))) (makeVariable (now (name .entry))) (across terms cells chars reasons keys) state answer r ⌝ }
+    ensures { λ r. ⌜ ExportsNumber (variableArguments (now (name .entry))) (makeVariable (now (name .entry))) (across terms cells chars reasons keys) state answer r ⌝ }
 {
     if !is_roomy(state, answer) {
         return 1;
@@ -99,7 +94,7 @@ pub extern "C" fn labels_make_concatenation(
     parts: &[u32],
     answer: &mut [u32],
 ) -> u32
-    ensures { λ r. ⌜ ExportsNumber (λ s. leb 2 (length (now (parts .entry))) && isList s (now (parts .entry))) (makeConcat (now (parts .entry))) (across terms cells chars reasons keys) state answer r ⌝ }
+    ensures { λ r. ⌜ ExportsNumber (concatArguments (now (parts .entry))) (makeConcat (now (parts .entry))) (across terms cells chars reasons keys) state answer r ⌝ }
 {
     if !is_roomy(state, answer) {
         return 1;
@@ -120,7 +115,7 @@ pub extern "C" fn labels_make_length(
     t: u32,
     answer: &mut [u32],
 ) -> u32
-    ensures { λ r. ⌜ ExportsNumber (λ s. isString s t) (makeLength t) (across terms cells chars reasons keys) state answer r ⌝ }
+    ensures { λ r. ⌜ ExportsNumber (lengthArguments t) (makeLength t) (across terms cells chars reasons keys) state answer r ⌝ }
 {
     if !is_roomy(state, answer) {
         return 1;
@@ -142,7 +137,7 @@ pub extern "C" fn labels_make_equation(
     u: u32,
     answer: &mut [u32],
 ) -> u32
-    ensures { λ r. ⌜ ExportsNumber (λ s. isEquatable s t u) (makeEquation t u) (across terms cells chars reasons keys) state answer r ⌝ }
+    ensures { λ r. ⌜ ExportsNumber (equationArguments t u) (makeEquation t u) (across terms cells chars reasons keys) state answer r ⌝ }
 {
     if !is_roomy(state, answer) {
         return 1;

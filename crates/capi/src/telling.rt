@@ -13,7 +13,8 @@ ghost use Rattle.normalize.specs.declared.Form.the-variants as form;
 ghost use Rattle.normalize.specs.declared.DeepForm.the-variants as deep;
 ghost use Rattle.capi.specs.Interface.{stateOf, roomy};
 ghost use Rattle.capi.specs.Equations.{flag};
-ghost use Rattle.capi.specs.Leaves.{written, Narrow, NarrowList, NarrowAnswer, NarrowOutcome, Told, ToldCounts, tells, ToldWords, ToldBy, formTelling, deepTelling, answerTelling, outcomeTelling};
+ghost use Rattle.capi.specs.Leaves.{written, tells, ToldWords, ToldBy, madeTelling, addedTelling, formTelling, deepTelling, answerTelling, outcomeTelling};
+ghost use Rattle.capi.specs.Leaves.{Narrow, NarrowList, NarrowAnswer, NarrowOutcome};
 use equation::Outcome;
 use normalize::DeepForm;
 use normalize::Form;
@@ -62,14 +63,10 @@ pub(crate) fn is_roomy(state: &[u32], answer: &[u32]) -> bool
 // A making call's answer into the state's and the answer's words.
 pub(crate) fn tell(state: &mut [u32], answer: &mut [u32], made: Made) -> u32
     requires { ⌜ (roomy (now state) (now answer) ≡ true) × ((t : ℕ) (c : State) → made ≡ Term t c → Narrow c) ⌝ }
-    ensures { λ r. ⌜ Told (now (state .entry)) (now (state .exit)) (now (answer .entry)) (now (answer .exit)) made r ⌝ }
+    ensures { λ r. ⌜ ToldBy madeTelling (now (state .entry)) (now (state .exit)) (now (answer .entry)) (now (answer .exit)) made r ⌝ }
 {
     match made {
-        Made::Term(t, c) => {
-            write_state(state, c);
-            answer[0] = t;
-            0
-        }
+        Made::Term(t, c) => tell_one(state, answer, c, t),
         Made::Refused(k) => k,
     }
 }
@@ -77,7 +74,7 @@ pub(crate) fn tell(state: &mut [u32], answer: &mut [u32], made: Made) -> u32
 // The counts after explain into the state's words.
 pub(crate) fn tell_counts(state: &mut [u32], added: Added) -> u32
     requires { ⌜ (6 ≤ length (now state)) × ((c : State) → added ≡ adding.Counts c → Narrow c) ⌝ }
-    ensures { λ r. ⌜ ToldCounts (now (state .entry)) (now (state .exit)) added r ⌝ }
+    ensures { λ r. ⌜ ToldBy addedTelling (now (state .entry)) (now (state .exit)) [] [] added r ⌝ }
 {
     match added {
         Added::Counts(c) => {
@@ -210,12 +207,7 @@ pub(crate) fn tell_outcome(state: &mut [u32], answer: &mut [u32], made: Outcome)
     ensures { λ r. ⌜ ToldBy outcomeTelling (now (state .entry)) (now (state .exit)) (now (answer .entry)) (now (answer .exit)) made r ⌝ }
 {
     match made {
-        Outcome::Done(c) => tell_one(state, answer, c, 0),
-        Outcome::Saturated(c) => tell_one(state, answer, c, 1),
-        Outcome::Conflict(c) => tell_one(state, answer, c, 2),
-        Outcome::Propagate(c, v, w, f) => tell_four(state, answer, c, 3, v, w, flag_of(f)),
-        Outcome::Split(c, n, g) => tell_three(state, answer, c, 4, n as u32, bits_of(g)),
+        Outcome::Answered(r) => tell_answer(state, answer, r),
         Outcome::Unexpanded(c) => tell_one(state, answer, c, 5),
-        Outcome::Refused(k) => k,
     }
 }

@@ -1,7 +1,7 @@
 -- Each way through the step over one equation.
 use mathlib.Core.Path.{_≡_, refl, sym, ap, subst, _∙_}
 use mathlib.Core.Bool.{Bool, true, false, not, _&&_}
-use mathlib.Core.List.{List, []}
+use mathlib.Core.List.{List, [], _∷_}
 use mathlib.Core.Option.{none, some}
 use Prim.Native.Nat.{ℕ, _≤_, _<_}
 use native.Mathlib.Omega.{arith}
@@ -9,6 +9,8 @@ use lib.ListN.{length, take, getD, length-take}
 use lib.Seq.{ext-getD, getD-take}
 use lib.IntN.{ℤ}
 use lib.Dec.{leb}
+use denote.Enum.Declared.{tagOf}
+use types.Run.{OneOf, miss}
 use borrow.Author.Tests.{eq-eqb, ne-eqb, eqb-true, le-leb, not-true, not-false}
 use Rattle.records.specs.declared.State.{State}
 use Rattle.records.specs.Store.{Term, Store, Out, ok, stop, Work, andThen, _>>=_, term, kind, isString, isEquation}
@@ -32,11 +34,12 @@ use Rattle.normalize.proofs.Replacing.{candidates-later}
 use Rattle.normalize.proofs.Deep.{deep-gives, deep-kept}
 use Rattle.normalize.proofs.Carried.{Carried, carried-none, carried-then, carried-ready, carried-kept}
 use Rattle.normalize.proofs.FormCalls.{listed-short, listed-unready, listed-unfit, listed-works}
+use Rattle.wordeq.proofs.StepResult.{the-type}
 use Rattle.wordeq.specs.declared.StepResult.{StepResult}
-use Rattle.wordeq.specs.declared.StepResult.the-variants as wordeq
+use Rattle.wordeq.specs.declared.StepResult.the-variants.{Done, Saturated, Conflict, Propagate, Split, Refused}
 use Rattle.wordeq.specs.Wordeq.{isGuard, resolve}
 use Rattle.wordeq.specs.Results.{resolved}
-use Rattle.equation.specs.declared.Outcome.{Outcome}
+use Rattle.equation.specs.declared.Outcome.the-variants.{Answered}
 use Rattle.equation.specs.Equation.{Stepped, unexpanded, returned, orUnexpanded, step, stepArguments}
 use Rattle.equation.specs.Calls.{stepped, PublicStep, resolveForms, rightForm, carried}
 use Rattle.equation.proofs.Sound.{second-string, step-sound, step-stops}
@@ -51,30 +54,37 @@ reasons-kept m m′ c e n h =
 
 -- WORDEQ'S ANSWER
 
-returned-is : (o : StepResult) (m : Lent) (k : List ℕ) (n : ℕ) → andThen (returned (pairsView (m .reasons) n)) (resolved o m k) ≡ stepped (carried n o) m k
-returned-is (wordeq.Done c) m k n = refl
-returned-is (wordeq.Saturated c) m k n = refl
-returned-is (wordeq.Conflict c) m k n = refl
-returned-is (wordeq.Propagate c v w f) m k n = refl
-returned-is (wordeq.Split c j g) m k n = refl
-returned-is (wordeq.Refused j) m k n = refl
+returned-is : (o : StepResult) (m : Lent) (k : List ℕ) (n : ℕ) → andThen (returned (pairsView (m .reasons) n)) (resolved o m k) ≡ stepped (Answered (carried n o)) m k
+returned-is (Done c) m k n = refl
+returned-is (Saturated c) m k n = refl
+returned-is (Conflict c) m k n = refl
+returned-is (Propagate c v w f) m k n = refl
+returned-is (Split c j g) m k n = refl
+returned-is (Refused j) m k n = refl
 
-pub forms-resolved : {m m′ : Lent} {c : State} (l r k : List ℕ) (g z : ℤ) (n : ℕ) (o : StepResult) (x : Outcome) → n ≤ c .reasons → z ≡ g → Working (resolve l r z) m m′ c (resolved o m′ k) → x ≡ carried n o
-    → Working (resolveForms l r g (pairsView (m .reasons) n)) m m′ c (stepped x m′ k)
+pub forms-resolved : {m m′ : Lent} {c : State} (l r k : List ℕ) (g z : ℤ) (n : ℕ) (o x : StepResult) → n ≤ c .reasons → z ≡ g → Working (resolve l r z) m m′ c (resolved o m′ k) → x ≡ carried n o
+    → Working (resolveForms l r g (pairsView (m .reasons) n)) m m′ c (stepped (Answered x) m′ k)
 unfolding resolveForms
 forms-resolved {m} {m′} {c} l r k g z n o x h i w e = record {
   says =
       ap (andThen (returned (pairsView (m .reasons) n))) (ap (λ (y : ℤ). resolve l r y (storeOf m c)) (sym i) ∙ w .says)
       ∙ ap (λ (rs : List (ℕ × ℕ)). andThen (returned rs) (resolved o m′ k)) (sym (reasons-kept m m′ c (w .kept) n h))
       ∙ returned-is o m′ k n
-      ∙ ap (λ (y : Outcome). stepped y m′ k) (sym e);
+      ∙ ap (λ (y : StepResult). stepped (Answered y) m′ k) (sym e);
   kept = w .kept;
 }
 
--- the cases of `carried`
-module _ (o : StepResult) (n : ℕ) where
-  pub carried-is : {x : Outcome} (y : StepResult) → o ≡ y → x ≡ carried n y → x ≡ carried n o
-  carried-is y e q = q ∙ ap (carried n) (sym e)
+pub carried-done : (o : StepResult) (n : ℕ) {x : StepResult} (c : State) → o ≡ Done c → x ≡ carried n (Done c) → x ≡ carried n o
+carried-done o n c e q = q ∙ ap (carried n) (sym e)
+
+-- what a `match` finds where it is not Done is carried as it is
+pub carried-same : (o : StepResult) (n : ℕ) → OneOf (1 ∷ 2 ∷ 3 ∷ 4 ∷ 5 ∷ []) (tagOf the-type o) → o ≡ carried n o
+carried-same (Done c) n k = absurd (miss (1 ∷ 2 ∷ 3 ∷ 4 ∷ 5 ∷ []) 0 tt k)
+carried-same (Saturated c) n k = refl
+carried-same (Conflict c) n k = refl
+carried-same (Propagate c v w f) n k = refl
+carried-same (Split c j g) n k = refl
+carried-same (Refused j) n k = refl
 
 -- A DEEP FORM, AND WHAT FOLLOWS IT
 

@@ -4,18 +4,16 @@ ghost use mathlib.Core.Bool.{true};
 ghost use mathlib.Core.List.{[]};
 ghost use Prim.Native.Nat.{_≤_};
 ghost use lib.ListN.{length};
-ghost use Rattle.records.specs.Store.{isString};
-ghost use Rattle.records.specs.View.{storeOf, pairsView, lends, across, termed};
+ghost use Rattle.records.specs.View.{storeOf, lends, across, termed};
 ghost use Rattle.records.specs.Rules.{listLimit, isList};
 ghost use Rattle.records.specs.Audited.{Ready};
 ghost use Rattle.records.specs.Calls.{Does, Writes, _into_};
-ghost use Rattle.normalize.specs.Normalize.{deepForm, formArguments};
-ghost use Rattle.normalize.specs.Calls.{deepened};
+ghost use Rattle.normalize.specs.Normalize.{formArguments};
 ghost use Rattle.normalize.specs.Pushes.{Candidates};
 ghost use Rattle.wordeq.specs.Wordeq.{isGuard};
 ghost use Rattle.wordeq.specs.Results.{BothLists};
 ghost use Rattle.equation.specs.Equation.{step, stepArguments};
-ghost use Rattle.equation.specs.Calls.{stepped, PublicStep, resolveForms, rightForm, carried};
+ghost use Rattle.equation.specs.Calls.{stepped, PublicStep, incomingOf, resolveForms, rightForm, carried};
 use normalize::DeepForm;
 use normalize::deeper::deep_form_by_unchecked;
 use normalize::deeper::known_table_unchecked;
@@ -26,30 +24,19 @@ use records::rules;
 use wordeq::StepResult;
 use wordeq::resolving::resolve_unchecked;
 
-// The answer, with the new counts.
+// wordeq's answer, a refusal among its cases; or Unexpanded, with the new counts.
 pub enum Outcome {
-    Done(State),
-    Saturated(State),
-    Conflict(State),
-    // the variable, its word, the link flag
-    Propagate(State, u32, u32, bool),
-    // how many atoms are listed, the guard negated
-    Split(State, usize, i32),
+    Answered(StepResult),
     Unexpanded(State),
-    Refused(u32),
 }
 
-// wordeq's answer as the step's: Done returns the incoming count of reasons, the other cases carry those of the forms.
-fn carried(o: StepResult, incoming: usize) -> Outcome
+// Done returns the incoming count of reasons, the other cases carry those of the forms.
+fn carried(o: StepResult, incoming: usize) -> StepResult
     ensures { λ r. ⌜ r ≡ carried incoming o ⌝ }
 {
     match o {
-        StepResult::Done(c) => Outcome::Done(c.with_reasons(incoming)),
-        StepResult::Saturated(c) => Outcome::Saturated(c),
-        StepResult::Conflict(c) => Outcome::Conflict(c),
-        StepResult::Propagate(c, v, w, f) => Outcome::Propagate(c, v, w, f),
-        StepResult::Split(c, n, g) => Outcome::Split(c, n, g),
-        StepResult::Refused(k) => Outcome::Refused(k),
+        StepResult::Done(c) => StepResult::Done(c.with_reasons(incoming)),
+        _ => o,
     }
 }
 
@@ -71,32 +58,10 @@ fn resolve_forms<'a>(
     requires { ⌜ BothLists (storeOf (lends terms cells chars reasons keys) c) (now lhs) (now rhs) ⌝ }
     requires { ⌜ isGuard guard ≡ true ⌝ }
     requires { ⌜ (listLimit ≤ length (now list)) × (incoming ≤ c .reasons) ⌝ }
-    ensures { λ o. ⌜ Does (resolveForms (now (lhs .entry)) (now (rhs .entry)) guard (pairsView (now (reasons .entry)) incoming)) (across terms cells chars reasons keys) c (stepped o into list) ⌝ }
+    ensures { λ o. ⌜ Does (resolveForms (now (lhs .entry)) (now (rhs .entry)) guard (incomingOf reasons incoming)) (across terms cells chars reasons keys) c (stepped o into list) ⌝ }
 {
     let o = resolve_unchecked(terms, cells, chars, reasons, keys, c, lhs, rhs, guard, list);
-    carried(o, incoming)
-}
-
-// The deep form of one side. The table is that of the known list.
-fn deep_form(
-    terms: &mut [u32],
-    cells: &[u32],
-    chars: &mut [u32],
-    reasons: &mut [u32],
-    keys: &[u32],
-    c: State,
-    known: &[u32],
-    table: &[u32; 513],
-    t: u32,
-    list: &mut [u32],
-) -> DeepForm
-    requires { ⌜ Ready (lends terms cells chars reasons keys) c ⌝ }
-    requires { ⌜ Candidates (storeOf (lends terms cells chars reasons keys) c) (now known) (now table) ⌝ }
-    requires { ⌜ isString (storeOf (lends terms cells chars reasons keys) c) t ≡ true ⌝ }
-    requires { ⌜ listLimit ≤ length (now list) ⌝ }
-    ensures { λ x. ⌜ Does (deepForm (now (known .entry)) t) (across terms cells chars reasons keys) c (deepened x into list) ⌝ }
-{
-    deep_form_by_unchecked(terms, cells, chars, reasons, keys, c, known, table, t, list)
+    Outcome::Answered(carried(o, incoming))
 }
 
 // From the deep form of the right side on.
@@ -120,10 +85,10 @@ fn right_form(
     requires { ⌜ isList (storeOf (lends terms cells chars reasons keys) c) (now lhs) ≡ true ⌝ }
     requires { ⌜ isGuard guard ≡ true ⌝ }
     requires { ⌜ (listLimit ≤ length (now list)) × (incoming ≤ c .reasons) ⌝ }
-    ensures { λ o. ⌜ Does (rightForm (now (known .entry)) t guard (now (lhs .entry)) (pairsView (now (reasons .entry)) incoming)) (across terms cells chars reasons keys) c (stepped o into list) ⌝ }
+    ensures { λ o. ⌜ Does (rightForm (now (known .entry)) t guard (now (lhs .entry)) (incomingOf reasons incoming)) (across terms cells chars reasons keys) c (stepped o into list) ⌝ }
 {
     let mut right: [u32; 1024] = [0; 1024];
-    match deep_form(
+    match deep_form_by_unchecked(
         terms,
         cells,
         chars,
@@ -149,7 +114,7 @@ fn right_form(
             incoming,
         ),
         DeepForm::None(d) => Outcome::Unexpanded(d.with_reasons(incoming)),
-        DeepForm::Refused(k) => Outcome::Refused(k),
+        DeepForm::Refused(k) => Outcome::Answered(StepResult::Refused(k)),
     }
 }
 
@@ -175,7 +140,7 @@ pub fn step_unchecked(
     let a = fields::first(terms, e);
     let b = fields::second(terms, e);
     let table = known_table_unchecked(terms, cells, chars, reasons, keys, c, known);
-    match deep_form(
+    match deep_form_by_unchecked(
         terms,
         cells,
         chars,
@@ -203,7 +168,7 @@ pub fn step_unchecked(
             c.reasons,
         ),
         DeepForm::None(d) => Outcome::Unexpanded(d.with_reasons(c.reasons)),
-        DeepForm::Refused(k) => Outcome::Refused(k),
+        DeepForm::Refused(k) => Outcome::Answered(StepResult::Refused(k)),
     }
 }
 
@@ -239,14 +204,14 @@ pub fn step(
     ensures { λ o. ⌜ Writes (PublicStep (now (known .entry)) e guard) (across terms cells chars reasons keys) list c (stepped o) ⌝ }
 {
     if list.len() < LIST_LIMIT {
-        return Outcome::Refused(1);
+        return Outcome::Answered(StepResult::Refused(1));
     }
     let k = records::audit(terms, cells, chars, reasons, keys, c);
     if k != 0 {
-        return Outcome::Refused(k);
+        return Outcome::Answered(StepResult::Refused(k));
     }
     if !can_step(terms, c, known, e, guard) {
-        return Outcome::Refused(5);
+        return Outcome::Answered(StepResult::Refused(5));
     }
     step_unchecked(terms, cells, chars, reasons, keys, c, known, e, guard, list)
 }

@@ -7,6 +7,7 @@ use equation::Outcome;
 use records::State;
 use records::fields::word;
 use std::num::wrapping_add_usize;
+use wordeq::StepResult;
 
 fn say_name(k: u32) {
     let mut piece = [0u8; 24];
@@ -104,36 +105,43 @@ fn say_split(list: &[u32], atoms: usize, g: i32, reasons: &[u32], n: usize) {
     end_line();
 }
 
-// Prints the step's answer. Answers the counts from here on: the records that were made stay.
-pub(crate) fn say_outcome(o: Outcome, reasons: &[u32], list: &[u32], was: State) -> State {
-    match o {
-        Outcome::Done(c) => {
+// Prints wordeq's answer. Answers the counts from here on: the records that were made stay.
+fn say_answer(r: StepResult, reasons: &[u32], list: &[u32], was: State) -> State {
+    match r {
+        StepResult::Done(c) => {
             say_alone(0);
             c
         }
-        Outcome::Saturated(c) => {
+        StepResult::Saturated(c) => {
             say_cited(1, reasons, c.reasons);
             c
         }
-        Outcome::Conflict(c) => {
+        StepResult::Conflict(c) => {
             say_cited(2, reasons, c.reasons);
             c
         }
-        Outcome::Propagate(c, v, w, link) => {
+        StepResult::Propagate(c, v, w, link) => {
             say_propagate(v, w, link, reasons, c.reasons);
             c
         }
-        Outcome::Split(c, n, g) => {
+        StepResult::Split(c, n, g) => {
             say_split(list, n, g, reasons, c.reasons);
             c
         }
+        StepResult::Refused(k) => {
+            say_refused(k);
+            was
+        }
+    }
+}
+
+// The same of the step.
+pub(crate) fn say_outcome(o: Outcome, reasons: &[u32], list: &[u32], was: State) -> State {
+    match o {
+        Outcome::Answered(r) => say_answer(r, reasons, list, was),
         Outcome::Unexpanded(c) => {
             say_alone(5);
             c
-        }
-        Outcome::Refused(k) => {
-            say_refused(k);
-            was
         }
     }
 }

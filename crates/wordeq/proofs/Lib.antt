@@ -39,3 +39,4 @@ pub mod Fitting
 pub mod TileSides
 pub mod SplitHeads
 pub mod Steps
+pub mod FewAtoms

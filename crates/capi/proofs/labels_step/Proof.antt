@@ -22,7 +22,7 @@ labels-step-spec =
     let at-is-roomy = at-if1 .before in
     let at-start = at-is-roomy .before .before .before .before .before .before .before .before .before .before .before .before in (
       (sym (at-is-roomy .is-roomy .ensures) ∙ not-false _ (at-if1 .if1 .left)),
-      step-tellable _ (at-start .fits .guard) (at-step .step .ensures) (let k = at-step .step .kept .1 .1 .1 .1 .1 .1 .1 .1 .1 .0 in omega arith),
+      step-tellable (at-step .step .result) (at-start .fits .guard) (at-step .step .ensures) (let k = at-step .step .kept .1 .1 .1 .1 .1 .1 .1 .1 .1 .0 in omega arith),
     ))
     (λ c. search needs)
     (λ c. search needs)
@@ -39,5 +39,5 @@ labels-step-spec =
     let at-if1 = at-state-of .before .before in
     let at-is-roomy = at-if1 .before in
     let at-start = at-is-roomy .before .before .before .before .before .before .before .before .before .before .before .before in
-    step-exported _ (at-start .fits .guard) (at-step .step .ensures) (let k = at-step .step .kept .1 .1 .1 .1 .1 .1 .1 .1 .1 .0 in omega arith)
+    step-exported (at-step .step .result) (at-start .fits .guard) (at-step .step .ensures) (let k = at-step .step .kept .1 .1 .1 .1 .1 .1 .1 .1 .1 .0 in omega arith)
     (sym (at-is-roomy .is-roomy .ensures) ∙ not-false _ (at-if1 .if1 .left)) (at-state-of .state-of .ensures) (at-tell-outcome .tell-outcome .ensures)))

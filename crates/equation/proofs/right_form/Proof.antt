@@ -23,27 +23,27 @@ right-form-spec =
     let at-n = c .before .before .before .before .before .before in
     let at-deep-form = at-n .before .before .before .before .before .before .before .before .before in
     let at-start = at-deep-form .before .before .before .before .before .before .before .before .before .before .before .before .before .before .before in
-    (let h = form-short (at-deep-form .deep-form .last .1 .1 .1 .1 .1 .1 .1 .1 .1 .0) (at-start .args .known .now) (at-start .args .t) _ (at-start .pre .0 .0) (at-start .pre .1 .0)
-    (at-deep-form .deep-form .ensures) (at-n .n .given .1) (at-deep-form .deep-form .kept .0) refl in
-    let k = at-deep-form .deep-form .kept .1 .1 .1 .1 .1 .1 .1 .1 .1 .0 in omega arith))
+    (let h = form-short (at-deep-form .deep-form-by-unchecked .last .1 .1 .1 .1 .1 .1 .1 .1 .1 .0) (at-start .args .known .now) (at-start .args .t) _ (at-start .pre .0 .0) (at-start .pre .1 .0)
+    (at-deep-form .deep-form-by-unchecked .ensures) (at-n .n .given .1) (at-deep-form .deep-form-by-unchecked .kept .0) refl in
+    let k = at-deep-form .deep-form-by-unchecked .kept .1 .1 .1 .1 .1 .1 .1 .1 .1 .0 in omega arith))
     (λ c.
     let at-n = c .before .before .before .before .before .before .before in
     let at-deep-form = at-n .before .before .before .before .before .before .before .before .before in
     let at-start = at-deep-form .before .before .before .before .before .before .before .before .before .before .before .before .before .before .before in
-    (let h = form-short (at-deep-form .deep-form .last .1 .1 .1 .1 .1 .1 .1 .1 .1 .0) (at-start .args .known .now) (at-start .args .t) _ (at-start .pre .0 .0) (at-start .pre .1 .0)
-    (at-deep-form .deep-form .ensures) (at-n .n .given .1) (at-deep-form .deep-form .kept .0) refl in
-    let k = at-deep-form .deep-form .kept .1 .1 .1 .1 .1 .1 .1 .1 .1 .0 in sym (length-take-le _ (at-deep-form .deep-form .last .1 .1 .1 .1 .1 .1 .1 .1 .1 .0) (omega arith))))
+    (let h = form-short (at-deep-form .deep-form-by-unchecked .last .1 .1 .1 .1 .1 .1 .1 .1 .1 .0) (at-start .args .known .now) (at-start .args .t) _ (at-start .pre .0 .0) (at-start .pre .1 .0)
+    (at-deep-form .deep-form-by-unchecked .ensures) (at-n .n .given .1) (at-deep-form .deep-form-by-unchecked .kept .0) refl in
+    let k = at-deep-form .deep-form-by-unchecked .kept .1 .1 .1 .1 .1 .1 .1 .1 .1 .0 in sym (length-take-le _ (at-deep-form .deep-form-by-unchecked .last .1 .1 .1 .1 .1 .1 .1 .1 .1 .0) (omega arith))))
     (λ c κs.
     let at-n = c .before .before .before .before .before .before .before .before in
     let at-deep-form = at-n .before .before .before .before .before .before .before .before .before in
     let at-start = at-deep-form .before .before .before .before .before .before .before .before .before .before .before .before .before .before .before in
-    let the-deep-form = at-deep-form .deep-form .last .1 .1 .1 .1 .1 .1 .1 .1 .1 .0 in
-    let the-deep-form-ensures = at-deep-form .deep-form .ensures in
-    let the-deep-form-kept = at-deep-form .deep-form .kept .0 in (
+    let the-deep-form = at-deep-form .deep-form-by-unchecked .last .1 .1 .1 .1 .1 .1 .1 .1 .1 .0 in
+    let the-deep-form-ensures = at-deep-form .deep-form-by-unchecked .ensures in
+    let the-deep-form-kept = at-deep-form .deep-form-by-unchecked .kept .0 in (
       form-ready the-deep-form (at-start .args .known .now) (at-start .args .t) _ (at-start .pre .0 .0) (at-start .pre .1 .0) the-deep-form-ensures (at-n .n .given .1)
           the-deep-form-kept refl,
       (
-        record { left = form-keeps the-deep-form (at-start .args .known .now) (at-start .args .t) _ (at-start .pre .0 .0) (at-start .pre .1 .0) the-deep-form-ensures (at-n .n .given .1) the-deep-form-kept refl (at-start .args .lhs .now) (at-start .pre .1 .1 .0); right = form-list the-deep-form (at-start .args .known .now) (at-start .args .t) _ (at-start .pre .0 .0) (at-start .pre .1 .0) the-deep-form-ensures (at-n .n .given .1) the-deep-form-kept refl (first-part the-deep-form _ (let h = form-short the-deep-form (at-start .args .known .now) (at-start .args .t) _ (at-start .pre .0 .0) (at-start .pre .1 .0) the-deep-form-ensures (at-n .n .given .1) the-deep-form-kept refl in let k = at-deep-form .deep-form .kept .1 .1 .1 .1 .1 .1 .1 .1 .1 .0 in omega arith)) },
+        record { left = form-keeps the-deep-form (at-start .args .known .now) (at-start .args .t) _ (at-start .pre .0 .0) (at-start .pre .1 .0) the-deep-form-ensures (at-n .n .given .1) the-deep-form-kept refl (at-start .args .lhs .now) (at-start .pre .1 .1 .0); right = form-list the-deep-form (at-start .args .known .now) (at-start .args .t) _ (at-start .pre .0 .0) (at-start .pre .1 .0) the-deep-form-ensures (at-n .n .given .1) the-deep-form-kept refl (first-part the-deep-form _ (let h = form-short the-deep-form (at-start .args .known .now) (at-start .args .t) _ (at-start .pre .0 .0) (at-start .pre .1 .0) the-deep-form-ensures (at-n .n .given .1) the-deep-form-kept refl in let k = at-deep-form .deep-form-by-unchecked .kept .1 .1 .1 .1 .1 .1 .1 .1 .1 .0 in omega arith)) },
         (
           ap isGuard (toZ-ofZ w32 (at-start .args .guard) (at-start .fits .guard)) ∙ at-start .pre .1 .1 .1 .0,
           (
@@ -68,13 +68,13 @@ right-form-spec =
     let at-n = at-resolve-forms .before .before .before .before .before .before .before .before .before in
     let at-deep-form = at-n .before .before .before .before .before .before .before .before .before in
     let at-start = at-deep-form .before .before .before .before .before .before .before .before .before .before .before .before .before .before .before in
-    right-some (at-deep-form .deep-form .last .1 .1 .1 .1 .1 .1 .1 .1 .1 .0) (at-start .args .known .now) (at-start .args .t) (at-start .args .incoming) _
-    (at-start .args .guard) (at-start .args .lhs .now) (at-start .pre .1 .1 .1 .1 .1) (at-start .pre .0 .0) (at-start .pre .1 .0) (at-deep-form .deep-form .ensures)
-    (at-n .n .given .1) (at-deep-form .deep-form .kept .0) refl
-    (first-part (at-deep-form .deep-form .last .1 .1 .1 .1 .1 .1 .1 .1 .1 .0) _
-    (let h = form-short (at-deep-form .deep-form .last .1 .1 .1 .1 .1 .1 .1 .1 .1 .0) (at-start .args .known .now) (at-start .args .t) _ (at-start .pre .0 .0)
-    (at-start .pre .1 .0) (at-deep-form .deep-form .ensures) (at-n .n .given .1) (at-deep-form .deep-form .kept .0) refl in
-    let k = at-deep-form .deep-form .kept .1 .1 .1 .1 .1 .1 .1 .1 .1 .0 in omega arith))
+    right-some (at-deep-form .deep-form-by-unchecked .last .1 .1 .1 .1 .1 .1 .1 .1 .1 .0) (at-start .args .known .now) (at-start .args .t) (at-start .args .incoming) _
+    (at-start .args .guard) (at-start .args .lhs .now) (at-start .pre .1 .1 .1 .1 .1) (at-start .pre .0 .0) (at-start .pre .1 .0) (at-deep-form .deep-form-by-unchecked .ensures)
+    (at-n .n .given .1) (at-deep-form .deep-form-by-unchecked .kept .0) refl
+    (first-part (at-deep-form .deep-form-by-unchecked .last .1 .1 .1 .1 .1 .1 .1 .1 .1 .0) _
+    (let h = form-short (at-deep-form .deep-form-by-unchecked .last .1 .1 .1 .1 .1 .1 .1 .1 .1 .0) (at-start .args .known .now) (at-start .args .t) _ (at-start .pre .0 .0)
+    (at-start .pre .1 .0) (at-deep-form .deep-form-by-unchecked .ensures) (at-n .n .given .1) (at-deep-form .deep-form-by-unchecked .kept .0) refl in
+    let k = at-deep-form .deep-form-by-unchecked .kept .1 .1 .1 .1 .1 .1 .1 .1 .1 .0 in omega arith))
     _ (toZ-ofZ w32 (at-start .args .guard) (at-start .fits .guard)) (at-resolve-forms .resolve-forms .ensures))
     (λ c. search needs)
     (λ c. search needs)
@@ -84,8 +84,8 @@ right-form-spec =
     (λ c.
     let at-deep-form = c .before .before .before .before .before .before .before .before .before .before .before in
     let at-start = at-deep-form .before .before .before .before .before .before .before .before .before .before .before .before .before .before .before in
-    right-none (at-deep-form .deep-form .last .1 .1 .1 .1 .1 .1 .1 .1 .1 .0) (at-start .args .known .now) (at-start .args .t) (at-start .args .incoming) _
-    (at-start .args .guard) (at-start .args .lhs .now) (at-start .pre .1 .1 .1 .1 .1) (at-start .pre .0 .0) (at-start .pre .1 .0) (at-deep-form .deep-form .ensures)
+    right-none (at-deep-form .deep-form-by-unchecked .last .1 .1 .1 .1 .1 .1 .1 .1 .1 .0) (at-start .args .known .now) (at-start .args .t) (at-start .args .incoming) _
+    (at-start .args .guard) (at-start .args .lhs .now) (at-start .pre .1 .1 .1 .1 .1) (at-start .pre .0 .0) (at-start .pre .1 .0) (at-deep-form .deep-form-by-unchecked .ensures)
     (c .before .before .d .given .1) (c .with-reasons .ensures))
     (λ c. search needs)
     (λ c. search needs)
@@ -95,6 +95,6 @@ right-form-spec =
     (λ c.
     let at-deep-form = c .before .before .before .before .before .before .before .before .before .before in
     let at-start = at-deep-form .before .before .before .before .before .before .before .before .before .before .before .before .before .before .before in
-    right-stop (at-deep-form .deep-form .last .1 .1 .1 .1 .1 .1 .1 .1 .1 .0) (at-start .args .known .now) (at-start .args .t) (at-start .args .incoming) _
-    (at-start .args .guard) (at-start .args .lhs .now) (at-start .pre .1 .1 .1 .1 .1) (at-start .pre .0 .0) (at-start .pre .1 .0) (at-deep-form .deep-form .ensures)
+    right-stop (at-deep-form .deep-form-by-unchecked .last .1 .1 .1 .1 .1 .1 .1 .1 .1 .0) (at-start .args .known .now) (at-start .args .t) (at-start .args .incoming) _
+    (at-start .args .guard) (at-start .args .lhs .now) (at-start .pre .1 .1 .1 .1 .1) (at-start .pre .0 .0) (at-start .pre .1 .0) (at-deep-form .deep-form-by-unchecked .ensures)
     (c .before .k .given .1)))

@@ -44,19 +44,19 @@ step-unchecked-spec =
     let at-deep-form = at-n .before .before .before .before .before .before .before .before .before in
     let at-first = at-deep-form .before .before .before .before .before .before .before .before .before .before .before .before .before .before .before .before in
     let at-start = at-first .before .before .before .before .before .before .before .before .before in
-    (let h = form-short (at-deep-form .deep-form .last .1 .1 .1 .1 .1 .1 .1 .1 .1 .0) (at-start .args .known .now) (at-first .first .result) _ (at-start .pre .0)
+    (let h = form-short (at-deep-form .deep-form-by-unchecked .last .1 .1 .1 .1 .1 .1 .1 .1 .1 .0) (at-start .args .known .now) (at-first .first .result) _ (at-start .pre .0)
     (left-fits (at-start .args .known .now) (at-start .args .e) (at-start .args .guard) _ _ (at-start .pre .0) (at-start .pre .1 .0) _ (at-first .first .ensures))
-    (at-deep-form .deep-form .ensures) (at-n .n .given .1) (at-deep-form .deep-form .kept .0) refl in
-    let k = at-deep-form .deep-form .kept .1 .1 .1 .1 .1 .1 .1 .1 .1 .0 in omega arith))
+    (at-deep-form .deep-form-by-unchecked .ensures) (at-n .n .given .1) (at-deep-form .deep-form-by-unchecked .kept .0) refl in
+    let k = at-deep-form .deep-form-by-unchecked .kept .1 .1 .1 .1 .1 .1 .1 .1 .1 .0 in omega arith))
     (λ c.
     let at-n = c .before .before .before .before .before .before .before .before in
     let at-deep-form = at-n .before .before .before .before .before .before .before .before .before in
     let at-first = at-deep-form .before .before .before .before .before .before .before .before .before .before .before .before .before .before .before .before in
     let at-start = at-first .before .before .before .before .before .before .before .before .before in
-    (let h = form-short (at-deep-form .deep-form .last .1 .1 .1 .1 .1 .1 .1 .1 .1 .0) (at-start .args .known .now) (at-first .first .result) _ (at-start .pre .0)
+    (let h = form-short (at-deep-form .deep-form-by-unchecked .last .1 .1 .1 .1 .1 .1 .1 .1 .1 .0) (at-start .args .known .now) (at-first .first .result) _ (at-start .pre .0)
     (left-fits (at-start .args .known .now) (at-start .args .e) (at-start .args .guard) _ _ (at-start .pre .0) (at-start .pre .1 .0) _ (at-first .first .ensures))
-    (at-deep-form .deep-form .ensures) (at-n .n .given .1) (at-deep-form .deep-form .kept .0) refl in
-    let k = at-deep-form .deep-form .kept .1 .1 .1 .1 .1 .1 .1 .1 .1 .0 in sym (length-take-le _ (at-deep-form .deep-form .last .1 .1 .1 .1 .1 .1 .1 .1 .1 .0) (omega arith))))
+    (at-deep-form .deep-form-by-unchecked .ensures) (at-n .n .given .1) (at-deep-form .deep-form-by-unchecked .kept .0) refl in
+    let k = at-deep-form .deep-form-by-unchecked .kept .1 .1 .1 .1 .1 .1 .1 .1 .1 .0 in sym (length-take-le _ (at-deep-form .deep-form-by-unchecked .last .1 .1 .1 .1 .1 .1 .1 .1 .1 .0) (omega arith))))
     (λ c κs.
     let at-n = c .before .before .before .before .before .before .before .before .before in
     let at-deep-form = at-n .before .before .before .before .before .before .before .before .before in
@@ -65,9 +65,9 @@ step-unchecked-spec =
     let at-first = at-second .before .before in
     let at-start = at-first .before .before .before .before .before .before .before .before .before in
     let by-left-fits = left-fits (at-start .args .known .now) (at-start .args .e) (at-start .args .guard) _ _ (at-start .pre .0) (at-start .pre .1 .0) _ (at-first .first .ensures) in
-    let the-deep-form = at-deep-form .deep-form .last .1 .1 .1 .1 .1 .1 .1 .1 .1 .0 in
-    let the-deep-form-ensures = at-deep-form .deep-form .ensures in
-    let the-deep-form-kept = at-deep-form .deep-form .kept .0 in (
+    let the-deep-form = at-deep-form .deep-form-by-unchecked .last .1 .1 .1 .1 .1 .1 .1 .1 .1 .0 in
+    let the-deep-form-ensures = at-deep-form .deep-form-by-unchecked .ensures in
+    let the-deep-form-kept = at-deep-form .deep-form-by-unchecked .kept .0 in (
       (
         form-ready the-deep-form (at-start .args .known .now) (at-first .first .result) _ (at-start .pre .0) by-left-fits the-deep-form-ensures (at-n .n .given .1)
             the-deep-form-kept refl,
@@ -84,7 +84,7 @@ step-unchecked-spec =
               (first-part the-deep-form _
               (let h = form-short the-deep-form (at-start .args .known .now) (at-first .first .result) _ (at-start .pre .0) by-left-fits the-deep-form-ensures
               (at-n .n .given .1) the-deep-form-kept refl in
-              let k = at-deep-form .deep-form .kept .1 .1 .1 .1 .1 .1 .1 .1 .1 .0 in omega arith)),
+              let k = at-deep-form .deep-form-by-unchecked .kept .1 .1 .1 .1 .1 .1 .1 .1 .1 .0 in omega arith)),
           (
             ap isGuard (toZ-ofZ w32 (at-start .args .guard) (at-start .fits .guard))
                 ∙ step-guard (at-start .args .known .now) (at-start .args .e) (at-start .args .guard) _ _ (at-start .pre .0) (at-start .pre .1 .0),
@@ -113,15 +113,15 @@ step-unchecked-spec =
     let at-second = at-deep-form .before .before .before .before .before .before .before .before .before .before .before .before .before .before in
     let at-first = at-second .before .before in
     let at-start = at-first .before .before .before .before .before .before .before .before .before in
-    let the-deep-form = at-deep-form .deep-form .last .1 .1 .1 .1 .1 .1 .1 .1 .1 .0 in
+    let the-deep-form = at-deep-form .deep-form-by-unchecked .last .1 .1 .1 .1 .1 .1 .1 .1 .1 .0 in
     left-some (at-start .args .known .now) (at-start .args .e) (at-start .args .guard) _ _ (at-start .pre .0) (at-start .pre .1 .0) the-deep-form _ (at-first .first .result)
-    (at-second .second .result) (at-first .first .ensures) (at-second .second .ensures) (at-deep-form .deep-form .ensures) (at-n .n .given .1)
-    (at-deep-form .deep-form .kept .0) refl
+    (at-second .second .result) (at-first .first .ensures) (at-second .second .ensures) (at-deep-form .deep-form-by-unchecked .ensures) (at-n .n .given .1)
+    (at-deep-form .deep-form-by-unchecked .kept .0) refl
     (first-part the-deep-form _
     (let h = form-short the-deep-form (at-start .args .known .now) (at-first .first .result) _ (at-start .pre .0)
     (left-fits (at-start .args .known .now) (at-start .args .e) (at-start .args .guard) _ _ (at-start .pre .0) (at-start .pre .1 .0) _ (at-first .first .ensures))
-    (at-deep-form .deep-form .ensures) (at-n .n .given .1) (at-deep-form .deep-form .kept .0) refl in
-    let k = at-deep-form .deep-form .kept .1 .1 .1 .1 .1 .1 .1 .1 .1 .0 in omega arith))
+    (at-deep-form .deep-form-by-unchecked .ensures) (at-n .n .given .1) (at-deep-form .deep-form-by-unchecked .kept .0) refl in
+    let k = at-deep-form .deep-form-by-unchecked .kept .1 .1 .1 .1 .1 .1 .1 .1 .1 .0 in omega arith))
     _ (toZ-ofZ w32 (at-start .args .guard) (at-start .fits .guard)) (at-right-form .right-form .ensures))
     (λ c. search needs)
     (λ c. search needs)
@@ -134,8 +134,8 @@ step-unchecked-spec =
     let at-first = at-second .before .before in
     let at-start = at-first .before .before .before .before .before .before .before .before .before in
     left-none (at-start .args .known .now) (at-start .args .e) (at-start .args .guard) _ _ (at-start .pre .0) (at-start .pre .1 .0)
-    (at-deep-form .deep-form .last .1 .1 .1 .1 .1 .1 .1 .1 .1 .0) _ (at-first .first .result) (at-second .second .result) (at-first .first .ensures)
-    (at-second .second .ensures) (at-deep-form .deep-form .ensures) (c .before .before .d .given .1) (c .with-reasons .ensures))
+    (at-deep-form .deep-form-by-unchecked .last .1 .1 .1 .1 .1 .1 .1 .1 .1 .0) _ (at-first .first .result) (at-second .second .result) (at-first .first .ensures)
+    (at-second .second .ensures) (at-deep-form .deep-form-by-unchecked .ensures) (c .before .before .d .given .1) (c .with-reasons .ensures))
     (λ c. search needs)
     (λ c. search needs)
     (λ c. search needs)
@@ -147,5 +147,5 @@ step-unchecked-spec =
     let at-first = at-second .before .before in
     let at-start = at-first .before .before .before .before .before .before .before .before .before in
     left-stop (at-start .args .known .now) (at-start .args .e) (at-start .args .guard) _ _ (at-start .pre .0) (at-start .pre .1 .0)
-    (at-deep-form .deep-form .last .1 .1 .1 .1 .1 .1 .1 .1 .1 .0) _ (at-first .first .result) (at-second .second .result) (at-first .first .ensures)
-    (at-second .second .ensures) (at-deep-form .deep-form .ensures) (c .before .k .given .1)))
+    (at-deep-form .deep-form-by-unchecked .last .1 .1 .1 .1 .1 .1 .1 .1 .1 .0) _ (at-first .first .result) (at-second .second .result) (at-first .first .ensures)
+    (at-second .second .ensures) (at-deep-form .deep-form-by-unchecked .ensures) (c .before .k .given .1)))

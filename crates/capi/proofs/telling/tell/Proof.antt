@@ -1,6 +1,6 @@
-use mathlib.Core.Path.{refl}
-use Rattle.capi.proofs.Words.{roomy-state, roomy-answer, told-term}
-use native.Mathlib.Omega.{arith}
+use Rattle.capi.proofs.Words.{told-by}
+use Rattle.capi.specs.Leaves.{madeTelling}
+use mathlib.Core.Path.{ap}
 use borrow.Author.Needs.{needs}
 use Rattle.capi.proofs.telling.tell.Statement.{statement}
 use Rattle.capi.proofs.telling.tell.Tie as tie
@@ -11,13 +11,14 @@ tell-spec =
     (tie.spec
     (λ c. search needs)
     (λ c κs.
-    let at-start = c .before .before .before .before .before .before in
-    (roomy-state _ _ (at-start .pre .0), at-start .pre .1 _ _ (c .before .before .made .given .1)))
+    let at-made = c .before .before .before in
+    let at-start = at-made .before .before .before .before in
+    (at-start .pre .0, at-start .pre .1 _ _ (at-made .made .given .1)))
+    (λ c. search needs)
+    (λ c. search needs)
+    (λ c. search needs)
     (λ c.
-    let at-start = c .before .before .before .before .before .before .before .before .before in
-    let h = roomy-answer _ _ (at-start .pre .0) in omega arith)
-    (λ c. search needs)
-    (λ c. search needs)
-    (λ c. search needs)
-    (λ c. let at-made = c .before .before .before .before .before in told-term (at-made .made .given .1) (c .before .before .write-state .ensures) refl)
+    let at-tell-one = c .before .before .before .before in
+    let at-made = at-tell-one .before .before .before .before in
+    told-by (ap madeTelling (at-made .made .given .1)) (at-tell-one .tell-one .ensures))
     (λ c. search needs))

@@ -1,5 +1,5 @@
 use Rattle.capi.proofs.AnswerExports.{told-flag, told-guard}
-use Rattle.capi.proofs.Listings.{told-by, told-refuses}
+use Rattle.capi.proofs.Words.{told-by, told-refuses}
 use Rattle.capi.specs.Leaves.{answerTelling}
 use mathlib.Core.Path.{ap}
 use borrow.Author.Needs.{needs}

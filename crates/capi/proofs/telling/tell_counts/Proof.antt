@@ -1,4 +1,6 @@
-use Rattle.capi.proofs.Words.{told-counts}
+use Rattle.capi.proofs.Words.{told-by}
+use Rattle.capi.specs.Leaves.{addedTelling}
+use mathlib.Core.Path.{refl, ap}
 use borrow.Author.Needs.{needs}
 use Rattle.capi.proofs.telling.tell_counts.Statement.{statement}
 use Rattle.capi.proofs.telling.tell_counts.Tie as tie
@@ -11,5 +13,5 @@ tell-counts-spec =
     (λ c κs. let at-start = c .before .before .before .before .before in (at-start .pre .0, at-start .pre .1 _ (c .before .before .added .given .1)))
     (λ c. search needs)
     (λ c. search needs)
-    (λ c. let at-added = c .before .before .before .before .before in told-counts (at-added .added .given .1) (c .before .before .write-state .ensures))
+    (λ c. let at-added = c .before .before .before .before .before in told-by (ap addedTelling (at-added .added .given .1)) (record { code = refl; state = c .before .before .write-state .ensures; answer = refl }))
     (λ c. search needs))

@@ -1,4 +1,4 @@
-use Rattle.capi.proofs.Listings.{told-by}
+use Rattle.capi.proofs.Words.{told-by}
 use Rattle.capi.specs.Leaves.{formTelling}
 use mathlib.Core.Path.{ap}
 use borrow.Author.Needs.{needs}

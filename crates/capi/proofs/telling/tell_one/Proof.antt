@@ -1,5 +1,4 @@
-use Rattle.capi.proofs.Listings.{one-told}
-use Rattle.capi.proofs.Words.{roomy-state, roomy-answer}
+use Rattle.capi.proofs.Words.{one-told, roomy-state, roomy-answer}
 use mathlib.Core.Path.{refl}
 use native.Mathlib.Omega.{arith}
 use borrow.Author.Needs.{needs}

@@ -1,7 +1,6 @@
-use Rattle.capi.proofs.AnswerExports.{told-flag, told-guard}
-use Rattle.capi.proofs.Listings.{told-by, told-refuses}
-use Rattle.capi.specs.Leaves.{outcomeTelling}
-use mathlib.Core.Path.{ap}
+use Rattle.capi.proofs.Words.{told-by}
+use Rattle.capi.specs.Leaves.{outcomeTelling, NarrowOutcome}
+use mathlib.Core.Path.{ap, subst}
 use borrow.Author.Needs.{needs}
 use Rattle.capi.proofs.telling.tell_outcome.Statement.{statement}
 use Rattle.capi.proofs.telling.tell_outcome.Tie as tie
@@ -14,77 +13,21 @@ tell-outcome-spec =
     (λ c κs.
     let at-made = c .before .before .before in
     let at-start = at-made .before .before .before .before in
-    (at-start .pre .0, at-start .pre .1 .counts _ _ (ap outcomeTelling (at-made .made .given .1))))
+    (at-start .pre .0, subst NarrowOutcome (at-made .made .given .1) (at-start .pre .1)))
     (λ c. search needs)
     (λ c κs.
     let at-made2 = c .before .before .before in
     let at-start = at-made2 .before .before .before .before in
-    (at-start .pre .0, at-start .pre .1 .counts _ _ (ap outcomeTelling (at-made2 .made2 .given .1))))
+    (at-start .pre .0, subst NarrowOutcome (at-made2 .made2 .given .1) (at-start .pre .1)))
     (λ c. search needs)
-    (λ c κs.
-    let at-made3 = c .before .before .before in
-    let at-start = at-made3 .before .before .before .before in
-    (at-start .pre .0, at-start .pre .1 .counts _ _ (ap outcomeTelling (at-made3 .made3 .given .1))))
-    (λ c. search needs)
-    (λ c κs. search needs)
-    (λ c κs.
-    let at-made4 = c .before .before .before .before in
-    let at-start = at-made4 .before .before .before .before in
-    (at-start .pre .0, at-start .pre .1 .counts _ _ (ap outcomeTelling (at-made4 .made4 .given .1))))
     (λ c. search needs)
     (λ c.
-    let at-made5 = c .before .before .before in
-    let at-start = at-made5 .before .before .before .before in
-    record { fits = at-start .pre .1 .split _ _ _ (at-made5 .made5 .given .1) .list })
-    (λ c κs. search needs)
-    (λ c κs.
-    let at-made5 = c .before .before .before .before in
-    let at-start = at-made5 .before .before .before .before in
-    (at-start .pre .0, at-start .pre .1 .counts _ _ (ap outcomeTelling (at-made5 .made5 .given .1))))
-    (λ c. search needs)
-    (λ c κs.
-    let at-made6 = c .before .before .before in
-    let at-start = at-made6 .before .before .before .before in
-    (at-start .pre .0, at-start .pre .1 .counts _ _ (ap outcomeTelling (at-made6 .made6 .given .1))))
-    (λ c. search needs)
+    let at-tell-answer = c .before .before .before .before in
+    let at-made = at-tell-answer .before .before .before .before in
+    told-by (ap outcomeTelling (at-made .made .given .1)) (at-tell-answer .tell-answer .ensures .is))
     (λ c. search needs)
     (λ c. search needs)
     (λ c.
     let at-tell-one = c .before .before .before .before in
-    let at-made = at-tell-one .before .before .before .before in
-    told-by (ap outcomeTelling (at-made .made .given .1)) (at-tell-one .tell-one .ensures))
-    (λ c. search needs)
-    (λ c. search needs)
-    (λ c.
-    let at-tell-one2 = c .before .before .before .before in
-    let at-made2 = at-tell-one2 .before .before .before .before in
-    told-by (ap outcomeTelling (at-made2 .made2 .given .1)) (at-tell-one2 .tell-one2 .ensures))
-    (λ c. search needs)
-    (λ c. search needs)
-    (λ c.
-    let at-tell-one3 = c .before .before .before .before in
-    let at-made3 = at-tell-one3 .before .before .before .before in
-    told-by (ap outcomeTelling (at-made3 .made3 .given .1)) (at-tell-one3 .tell-one3 .ensures))
-    (λ c. search needs)
-    (λ c. search needs)
-    (λ c.
-    let at-tell-four = c .before .before .before .before in
-    let at-flag-of = at-tell-four .before in
-    let at-made4 = at-flag-of .before .before .before .before in
-    told-flag (ap outcomeTelling (at-made4 .made4 .given .1)) (at-flag-of .flag-of .ensures) (at-tell-four .tell-four .ensures))
-    (λ c. search needs)
-    (λ c. search needs)
-    (λ c.
-    let at-tell-three = c .before .before .before .before in
-    let at-bits-of = at-tell-three .before in
-    let at-made5 = at-bits-of .before .before .before .before in
-    let at-start = at-made5 .before .before .before .before in
-    told-guard (ap outcomeTelling (at-made5 .made5 .given .1)) (at-start .pre .1 .split _ _ _ (at-made5 .made5 .given .1) .guard) (at-bits-of .bits-of .ensures)
-    (at-tell-three .tell-three .ensures))
-    (λ c. search needs)
-    (λ c. search needs)
-    (λ c.
-    let at-tell-one4 = c .before .before .before .before in
-    let at-made6 = at-tell-one4 .before .before .before .before in
-    told-by (ap outcomeTelling (at-made6 .made6 .given .1)) (at-tell-one4 .tell-one4 .ensures))
-    (λ c. told-refuses (ap outcomeTelling (c .before .made7 .given .1))))
+    let at-made2 = at-tell-one .before .before .before .before in
+    told-by (ap outcomeTelling (at-made2 .made2 .given .1)) (at-tell-one .tell-one .ensures)))

@@ -1,5 +1,4 @@
-use Rattle.capi.proofs.Listings.{three-told}
-use Rattle.capi.proofs.Words.{roomy-state, roomy-answer}
+use Rattle.capi.proofs.Words.{three-told, roomy-state, roomy-answer}
 use lib.ListN.{length-set}
 use mathlib.Core.Path.{refl}
 use native.Mathlib.Omega.{arith}

@@ -9,13 +9,12 @@ use lib.ListN.{length}
 use lib.IntN.{ℤ, negℤ}
 use lib.Dec.{ltb}
 use Rattle.records.specs.Lists.{if_then_else_, all, any, firstOf}
-use Rattle.records.specs.Store.{Store, Out, ok, stop, Work, andThen, isConstant, isVariable, isConcat, text, term}
+use Rattle.records.specs.Store.{Store, Out, ok, stop, Work, andThen, isConstant, isVariable, isConcat, text}
 use Rattle.records.specs.Make.{addKey, isKey, makeConstant, makeConcat, makeLength, makeEquation}
 use Rattle.records.proofs.Works.{stop-not}
 use Rattle.engine.specs.Explain.{explain}
-use Rattle.normalize.specs.Normalize.{flatten, deepForm}
-use Rattle.equation.specs.Equation.{Stepped, unexpanded, answered, returned, orUnexpanded, step}
+use Rattle.normalize.specs.Normalize.{flatten}
 use Rattle.wordeq.specs.Wordeq.{Answer, done, saturated, conflict, propagate, split, Tried, settled, _orElse_, same, fixed, letters, occurrence, occursAt, occurs, constants, alias, isPlain, emptiesAt, empties, assigns, fits, explainAll, variables, tileBy, tile, clashes, differ, freshVariable, splitCharacter, splitHeads, splitBy, splits, after, isBare, orDone, strip, steps, softened, closed, resolve, unequal, short, absent}
 
 -- WHAT EVERY VALUE OF A WORK HAS
 
@@ -23,7 +22,7 @@ module _ {A : Type 0} where
   pub record Always (P : A → Type 0) (o : Out A) : Type 0 where
     pub given : (s : Store) (x : A) → o ≡ ok s x → P x
 
-  give-has : {P : A → Type 0} {s : Store} {x : A} → P x → Always P (ok s x)
+  pub give-has : {P : A → Type 0} {s : Store} {x : A} → P x → Always P (ok s x)
   give-has {P} {s} {x} h = record { given = λ s₁ y e. at cc }
     where
       at : {y : A} → x ≡ y → P y
@@ -34,11 +33,11 @@ module _ {A : Type 0} where
   if-has false m n f g = g
 
 module _ {A B : Type 0} where
-  next-has : {P : A → Type 0} {Q : B → Type 0} (f : A → Work B) (o : Out A) → Always P o → ((s : Store) (x : A) → P x → Always Q (f x s)) → Always Q (andThen f o)
+  pub next-has : {P : A → Type 0} {Q : B → Type 0} (f : A → Work B) (o : Out A) → Always P o → ((s : Store) (x : A) → P x → Always Q (f x s)) → Always Q (andThen f o)
   next-has f (ok s x) e k = k s x (e .given s x refl)
   next-has f (stop n) e k = record { given = λ s x q. stop-not q }
 
-  then-has : {Q : B → Type 0} (f : A → Work B) (o : Out A) → ((s : Store) (x : A) → Always Q (f x s)) → Always Q (andThen f o)
+  pub then-has : {Q : B → Type 0} (f : A → Work B) (o : Out A) → ((s : Store) (x : A) → Always Q (f x s)) → Always Q (andThen f o)
   then-has f (ok s x) k = k s x
   then-has f (stop n) k = record { given = λ s x q. stop-not q }
 
@@ -191,27 +190,3 @@ module _ (g : ℤ) where
       (then-has _ (flatten l s) (λ s₁ m. then-has _ (flatten r s₁) (λ s₂ n. next-has _ (steps g m n s₂) (steps-few m n s₂) (λ s₃ y k. give-has (soft-few y k)))))
       (steps-few l r s))
       (λ s₁ x k. closed-few (s .reasons) s₁ x k)
-
-  -- THE STEP OVER ONE EQUATION
-
-  abbrev pub FewStep : Stepped → Type 0
-  FewStep unexpanded = Unit {0}
-  FewStep (answered x) = Few x
-
-  returned-few : (rs : List (ℕ × ℕ)) (s : Store) (x : Answer) → Few x → Always FewStep (returned rs x s)
-  returned-few rs s done k = give-has tt
-  returned-few rs s saturated k = give-has tt
-  returned-few rs s conflict k = give-has tt
-  returned-few rs s (propagate v x f) k = give-has tt
-  returned-few rs s (split l h) k = give-has k
-
-  or-few : (rs : List (ℕ × ℕ)) (f : List ℕ → Work Stepped) → ((l : List ℕ) (s : Store) → Always FewStep (f l s)) → (s : Store) (o : Option (List ℕ)) → Always FewStep (orUnexpanded rs f o s)
-  or-few rs f h s none = give-has tt
-  or-few rs f h s (some l) = h l s
-
-  pub step-few : (known : List ℕ) (e : ℕ) (s : Store) → Always FewStep (step known e g s)
-  unfolding step
-  step-few known e s =
-      then-has _ (deepForm known (term s e .first) s) (λ s₁ o. or-few (s .reasons) _
-      (λ l s₂. then-has _ (deepForm known (term s e .second) s₂) (λ s₃ u. or-few (s .reasons) _
-      (λ r s₄. next-has _ (resolve l r g s₄) (resolve-few l r s₄) (λ s₅ x k. returned-few (s .reasons) s₅ x k)) s₃ u)) s₁ o)
