@@ -16,7 +16,7 @@ use Rattle.records.specs.Rules.{isNumber, keyRule, isEquatable}
 use Rattle.records.specs.Make.{withTerms}
 use Rattle.records.specs.Audited.{Part, Label, asserted, interface, congruence, definitional, Unlabelled, Falls, Pairs, Congruent, Recorded, Classed, Congruences, Roomy, Audited}
 use Rattle.records.proofs.Lists.{clash, both-left, both-right, within-low, within-high, every-map, every-both, all-every, every-all}
-use Rattle.records.proofs.Climbs.{classed-roots, classed-tops, root-self, top-self}
+use Rattle.records.proofs.Climbs.{root-self, top-self}
 use Rattle.records.proofs.Grown.{string-term}
 use Rattle.records.proofs.Readings.{pairs-terms}
 use Rattle.classes.specs.Merge.{isRootIn, canMerge, under, mergeIn}
@@ -172,29 +172,27 @@ module _ (s : Store) (audited : Audited s) (child parent n stamp : ℕ) (j : Mer
       go (yes z) = ap (λ (u : ℕ). isTerm s (up (term s′ u))) z ∙ ap (λ (x : Term). isTerm s (up x)) at-child ∙ ap (isTerm s) e ∙ parent-term
       go (no d) = ap (λ (x : Term). isTerm s (up x)) (away t d) ∙ h t w
 
-  class-moved : Moved (classUp (s .terms)) (classUp (s′ .terms)) (count s) child parent
-  class-moved = record {
-    closed = classed-roots s q;
-    closed′ = record { stays = step (λ x. x .classParent) refl (q .classParents) };
-    ends = q .classEnds;
-    self = j .class-self;
-    at = ap (λ (x : Term). x .classParent) at-child;
-    away = λ t d. ap (λ (x : Term). x .classParent) (away t d);
+  -- and the child, which was a root, is put under the parent
+  moved : (up : Term → ℕ) → up (under (term s child) parent n stamp) ≡ parent → ((t : ℕ) → isTerm s t ≡ true → isTerm s (up (term s t)) ≡ true)
+      → ((t : ℕ) → isTerm s t ≡ true → up (term s (climb (λ u. up (term s u)) (count s) t)) ≡ climb (λ u. up (term s u)) (count s) t)
+      → up (term s child) ≡ child → (climb (λ u. up (term s u)) (count s) parent ≡ child → ⊥) → Moved (λ u. up (term s u)) (λ u. up (term s′ u)) (count s) child parent
+  moved up e h ends self apart = record {
+    closed = record { stays = h };
+    closed′ = record { stays = step up e h };
+    ends = ends;
+    self = self;
+    at = ap up at-child ∙ e;
+    away = λ t d. ap up (away t d);
     here = parent-term;
-    apart = λ e. j .apart (root-child ∙ sym e);
+    apart = apart;
   }
 
+  class-moved : Moved (classUp (s .terms)) (classUp (s′ .terms)) (count s) child parent
+  class-moved = moved (λ x. x .classParent) refl (q .classParents) (q .classEnds) (j .class-self) (λ e. j .apart (root-child ∙ sym e))
+
   forest-moved : Moved (forestUp (s .terms)) (forestUp (s′ .terms)) (count s) child parent
-  forest-moved = record {
-    closed = classed-tops s q;
-    closed′ = record { stays = step (λ x. x .forestParent) refl (q .forestParents) };
-    ends = q .forestEnds;
-    self = j .forest-self;
-    at = ap (λ (x : Term). x .forestParent) at-child;
-    away = λ t d. ap (λ (x : Term). x .forestParent) (away t d);
-    here = parent-term;
-    apart = λ e. j .apart (eqb-true _ _ (q .alike child parent child-term parent-term ∙ eq-eqb _ _ (top-child ∙ sym e)));
-  }
+  forest-moved = moved (λ x. x .forestParent) refl (q .forestParents) (q .forestEnds) (j .forest-self)
+      (λ e. j .apart (eqb-true _ _ (q .alike child parent child-term parent-term ∙ eq-eqb _ _ (top-child ∙ sym e))))
 
   root-counted : (t : ℕ) → root s′ t ≡ climb (classUp (s′ .terms)) (count s) t
   root-counted t = ap (λ (k : ℕ). climb (classUp (s′ .terms)) k t) long

@@ -3,15 +3,14 @@ use mathlib.Core.Path.{_≡_}
 use mathlib.Core.Bool.{Bool, not, _&&_}
 use mathlib.Core.List.{List}
 use Prim.Native.Nat.{ℕ, zero, suc, _-_}
-use lib.ListN.{length, set}
+use lib.ListN.{set}
 use lib.Dec.{eqb}
 use Rattle.records.specs.declared.State.{State}
-use Rattle.records.specs.Store.{Term, Store, Out, ok, stop, Work, termIn, within, isString, sameClass}
-use Rattle.records.specs.View.{Lent, storeOf, termsView}
+use Rattle.records.specs.Store.{Term, Store, Out, ok, stop, Work, termIn, isString, sameClass}
+use Rattle.records.specs.View.{Lent, storeOf}
 use Rattle.records.specs.Rules.{isNumber, audit}
 use Rattle.records.specs.Make.{withTerms}
 use Rattle.records.specs.Calls.{call}
-use mathlib.Core.Bool.{true}
 
 -- the root of its class and of its tree: in the program's stores the two are one
 unfoldable pub isRootIn : List Term → ℕ → Bool
@@ -39,11 +38,6 @@ mergeIn ts child parent n stamp = set ts (child - 1) (under (termIn ts child) pa
 
 unfoldable pub mergeClasses : ℕ → ℕ → ℕ → ℕ → Work (Unit {0})
 mergeClasses child parent n stamp s = ok (withTerms s (mergeIn (s .terms) child parent n stamp)) tt
-
--- the words of terms, before and after
-pub record PutUnder (l l′ : List ℕ) (child parent n stamp : ℕ) : Type 0 where
-  pub long : length l′ ≡ length l
-  pub terms : (k : ℕ) → within k child ≡ true → termsView l′ k ≡ mergeIn (termsView l k) child parent n stamp
 
 -- the answer of merging: 0, or the refusal's number
 abbrev pub merged : ℕ → Lent → State → Out (Unit {0})

@@ -2,16 +2,19 @@
 // `M child parent n`.
 ghost use mathlib.Core.Path.{_≡_};
 ghost use mathlib.Core.Bool.{true};
-ghost use Prim.Native.Nat.{_+_, _*_, _≤_};
+ghost use Prim.Native.Nat.{_≤_};
 ghost use lib.ListN.{length};
 ghost use Rattle.records.specs.Store.{within};
-ghost use Rattle.records.specs.View.{storeOf, termsView, lends, across, Between};
+ghost use Rattle.records.specs.View.{storeOf, termAt, termsView, termWords, lends, across, Between};
+ghost use Rattle.records.specs.Puts.{TermSet};
 ghost use Rattle.records.specs.Audited.{Ready};
-ghost use Rattle.classes.specs.Merge.{isRootIn, canMerge, PutUnder, PublicMerge};
+ghost use Rattle.classes.specs.Merge.{isRootIn, canMerge, under, PublicMerge};
 use records::State;
 use records::classes::root_unchecked;
 use records::fields::class_parent;
 use records::fields::forest_parent;
+use records::put::put_class_parent_unchecked;
+use records::put::put_edge_unchecked;
 use records::rules::is_number;
 use records::rules::is_string;
 
@@ -60,15 +63,11 @@ fn can_merge_unchecked(
 
 // The child's record, under the parent.
 fn put_under_unchecked(terms: &mut [u32], child: u32, parent: u32, n: u32, stamp: u32)
-    requires { ⌜ 8 * child + 8 ≤ length (now terms) ⌝ }
-    ensures { λ _. ⌜ PutUnder (now (terms .entry)) (now (terms .exit)) child parent n stamp ⌝ }
+    requires { ⌜ termWords child ≤ length (now terms) ⌝ }
+    ensures { λ _. ⌜ TermSet (now (terms .entry)) (now (terms .exit)) child (under (termAt (now (terms .entry)) child) parent n stamp) ⌝ }
 {
-    let at = 8 * (child as usize);
-    terms[at + 3] = parent;
-    terms[at + 4] = parent;
-    terms[at + 5] = 1;
-    terms[at + 6] = n;
-    terms[at + 7] = stamp;
+    put_class_parent_unchecked(terms, child, parent);
+    put_edge_unchecked(terms, child, parent, 1, n, stamp);
 }
 
 // Puts the child's class under the parent: 0, or the refusal. The caller's stamps count up.

@@ -1,6 +1,4 @@
-use Rattle.classes.proofs.MergeCode.{put-under}
-use lib.ListN.{length-set}
-use native.Mathlib.Omega.{arith}
+use Rattle.classes.proofs.MergeCode.{put-room, put-under}
 use borrow.Author.Needs.{needs}
 use Rattle.classes.proofs.put_under_unchecked.Statement.{statement}
 use Rattle.classes.proofs.put_under_unchecked.Tie as tie
@@ -9,21 +7,14 @@ pub put-under-unchecked-spec : {M : Type 1} → statement M
 put-under-unchecked-spec =
     tie.close
     (tie.spec
+    (λ c κs. search needs)
+    (λ c κs.
+    let at-class-parent = c .before .before .before in
+    let at-start = at-class-parent .before .before .before in
+    put-room (at-class-parent .put-class-parent-unchecked .ensures) (at-start .pre))
     (λ c. search needs)
-    (λ c. search needs)
-    (λ c. search needs)
-    (λ c. search needs)
-    (λ c. search needs)
-    (λ c. search needs)
-    (λ c. simp length-set (omega arith))
-    (λ c. search needs)
-    (λ c. search needs)
-    (λ c. simp length-set (omega arith))
-    (λ c. search needs)
-    (λ c. search needs)
-    (λ c. simp length-set (omega arith))
-    (λ c. search needs)
-    (λ c. search needs)
-    (λ c. simp length-set (omega arith))
-    (λ c. search needs)
-    (λ c. put-under (c .args .terms .now) (c .args .child) (c .args .parent) (c .args .n) (c .args .stamp) (c .pre)))
+    (λ c.
+    let at-class-parent = c .before .before .before .before .before .before in
+    let at-start = at-class-parent .before .before .before in
+    put-under (at-start .args .terms .now) _ _ (at-start .args .child) (at-start .args .parent) (at-start .args .n) (at-start .args .stamp)
+    (at-class-parent .put-class-parent-unchecked .ensures) (c .before .before .put-edge-unchecked .ensures)))
