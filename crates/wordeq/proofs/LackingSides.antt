@@ -1,4 +1,4 @@
--- The constant characters of a side marked, and those of another side looked for among them.
+-- The places that the constant characters of a side use, and the characters of another side looked for among them.
 use mathlib.Core.Path.{_≡_, refl, sym, ap, _∙_}
 use mathlib.Core.Bool.{Bool, true, false, not, _||_}
 use mathlib.Core.List.{List, [], _∷_, _++_}
@@ -15,11 +15,11 @@ use Rattle.records.specs.View.{lent, charLimit, span, readIn, termed, termAt}
 use Rattle.records.proofs.Lists.{any-append, any-turn, any-stop, any-done, any-zero, or-left, or-none, right-false, and-stop, and-next, failed, passed, clash}
 use Rattle.wordeq.specs.Wordeq.{fixed, lettersOf, letters, absent}
 use Rattle.wordeq.specs.Sides.{Texts}
-use Rattle.wordeq.specs.Lacking.{seen, marked, Marked, Lacking}
+use Rattle.wordeq.specs.Lacking.{seen, used, Uses, Lacking}
 use Rattle.wordeq.proofs.SidesLetters.{term-there, letters-other, letters-at, letters-end}
 use Rattle.wordeq.proofs.SidesTexts.{text-words}
 use Rattle.wordeq.proofs.SidesReady.{length-whole}
-use Rattle.wordeq.proofs.LackingMarks.{or-assoc, marked-length, seen-none, seen-again, seen-marked}
+use Rattle.wordeq.proofs.LackingPlaces.{or-assoc, used-length, seen-none, seen-again, seen-used}
 
 any-same : {A : Type 0} (p q : A → Bool) (l : List A) → ((x : A) → p x ≡ q x) → any p l ≡ any q l
 unfolding any
@@ -51,12 +51,12 @@ module _ (w : List ℕ) (c : State) (a k : ℕ) (x : Texts w c) (e : k ≡ kind 
     letters-here : (h : List ℕ) → lettersOf (readIn w h c) a ≡ span h p n
     letters-here h = letters-words h ∙ (let y : p ≡ termAt w a .first = j ∙ i in let z : n ≡ termAt w a .second = v ∙ u in rw (y, z))
 
-    pub mark-atom-is : (t t′ : List ℕ) → length t ≡ charLimit → t′ ≡ marked t p n → Marked (c .chars) (λ h. lettersOf (readIn w h c) a) t t′
-    mark-atom-is t t′ s d = record {
-      size = ap length d ∙ marked-length t p n;
-      marks = λ h y.
+    pub use-atom-is : (t t′ : List ℕ) → length t ≡ charLimit → t′ ≡ used t p n → Uses (c .chars) (λ h. lettersOf (readIn w h c) a) t t′
+    use-atom-is t t′ s d = record {
+      size = ap length d ∙ used-length t p n;
+      uses = λ h y.
           ap (λ (z : List ℕ). seen h z (c .chars) y) d
-          ∙ seen-marked h t (c .chars) p n y text-fits (let q = text-limit in omega arith)
+          ∙ seen-used h t (c .chars) p n y text-fits (let q = text-limit in omega arith)
           ∙ ap (λ (z : List ℕ). seen h t (c .chars) y || isIn y z) (sym (letters-here h));
     }
 
@@ -64,46 +64,46 @@ module _ (w : List ℕ) (c : State) (a k : ℕ) (x : Texts w c) (e : k ≡ kind 
     lack-atom-is h t t′ b q = record { says = q .says ∙ ap (any (λ y. not (seen h t (c .chars) y))) (sym (letters-here h)); size = q .size; kept = q .kept }
 
 module _ (w : List ℕ) (c : State) (a k : ℕ) (x : Texts w c) (e : k ≡ kind (termed w c) a) (o : k ≡ 1 → ⊥) (t : List ℕ) where
-  pub mark-atom-none : Marked (c .chars) (λ h. lettersOf (readIn w h c) a) t t
+  pub use-atom-none : Uses (c .chars) (λ h. lettersOf (readIn w h c) a) t t
   unfolding isIn any
-  mark-atom-none = record {
+  use-atom-none = record {
     size = refl;
-    marks = λ h y. sym (ap (λ (z : List ℕ). seen h t (c .chars) y || isIn y z) (letters-other w h c x a (λ z. o (e ∙ z))) ∙ or-none (seen h t (c .chars) y));
+    uses = λ h y. sym (ap (λ (z : List ℕ). seen h t (c .chars) y || isIn y z) (letters-other w h c x a (λ z. o (e ∙ z))) ∙ or-none (seen h t (c .chars) y));
   }
 
   pub lack-atom-none : (h : List ℕ) → Lacking h (c .chars) (lettersOf (readIn w h c) a) t t false
   unfolding any
   lack-atom-none h = record { says = sym (ap (any (λ y. not (seen h t (c .chars) y))) (letters-other w h c x a (λ z. o (e ∙ z)))); size = refl; kept = λ z y. refl }
 
--- A SIDE MARKED
+-- THE PLACES OF A SIDE
 
--- with the characters from atom i on, those of all atoms are marked
-pub record Marking (w : List ℕ) (c : State) (l t₀ t : List ℕ) (i : ℕ) : Type 0 where
+-- with the characters from atom i on, those of all atoms are used
+pub record UsingSide (w : List ℕ) (c : State) (l t₀ t : List ℕ) (i : ℕ) : Type 0 where
   pub size : length t ≡ length t₀
   pub rest : (h : List ℕ) (x : ℕ) → (seen h t (c .chars) x || isIn x (letters (readIn w h c) (drop i l))) ≡ (seen h t₀ (c .chars) x || isIn x (letters (readIn w h c) l))
 
-pub marking-none : (w : List ℕ) (c : State) (l t : List ℕ) → Marking w c l t t 0
-marking-none w c l t = record { size = refl; rest = λ h x. refl }
+pub using-side-none : (w : List ℕ) (c : State) (l t : List ℕ) → UsingSide w c l t t 0
+using-side-none w c l t = record { size = refl; rest = λ h x. refl }
 
-module _ (w : List ℕ) (c : State) (l t₀ t : List ℕ) (i : ℕ) (m : Marking w c l t₀ t i) where
-  pub marking-one : (t′ : List ℕ) → i < length l → Marked (c .chars) (λ h. lettersOf (readIn w h c) (getD l i 0)) t t′ → Marking w c l t₀ t′ (i + 1)
-  marking-one t′ q d = record {
+module _ (w : List ℕ) (c : State) (l t₀ t : List ℕ) (i : ℕ) (m : UsingSide w c l t₀ t i) where
+  pub using-side-one : (t′ : List ℕ) → i < length l → Uses (c .chars) (λ h. lettersOf (readIn w h c) (getD l i 0)) t t′ → UsingSide w c l t₀ t′ (i + 1)
+  using-side-one t′ q d = record {
     size = d .size ∙ m .size;
     rest = λ h x.
         let s = readIn w h c in
         let n = c .chars in
         rw add-one (
-        ap (λ (b : Bool). b || isIn x (letters s (drop (suc i) l))) (d .marks h x)
+        ap (λ (b : Bool). b || isIn x (letters s (drop (suc i) l))) (d .uses h x)
         ∙ or-assoc (seen h t n x) (isIn x (lettersOf s (getD l i 0))) (isIn x (letters s (drop (suc i) l)))
         ∙ ap (λ (b : Bool). seen h t n x || b) (sym (is-in-append x (lettersOf s (getD l i 0)) (letters s (drop (suc i) l))) ∙ ap (isIn x) (sym (letters-at s l i q)))
         ∙ m .rest h x);
   }
 
-  pub marking-done : length l ≤ i → Marked (c .chars) (λ h. letters (readIn w h c) l) t₀ t
+  pub using-side-done : length l ≤ i → Uses (c .chars) (λ h. letters (readIn w h c) l) t₀ t
   unfolding isIn any
-  marking-done q = record {
+  using-side-done q = record {
     size = m .size;
-    marks = λ h x.
+    uses = λ h x.
         sym (ap (λ (z : List ℕ). seen h t (c .chars) x || isIn x z) (letters-end (readIn w h c) l i q) ∙ or-none (seen h t (c .chars) x))
         ∙ m .rest h x;
   }
@@ -191,10 +191,10 @@ module _ (w h : List ℕ) (c : State) (l r : List ℕ) (x : Bool) (e : x ≡ fix
   unfolding absent fixed
   absent-not n = and-stop _ _ (failed _ x e n)
 
-  pub absent-is : not x ≡ false → c .chars ≤ charLimit → (t t′ : List ℕ) (b : Bool) → Marked (c .chars) (λ h. letters (readIn w h c) l) (replicate charLimit 0) t
+  pub absent-is : not x ≡ false → c .chars ≤ charLimit → (t t′ : List ℕ) (b : Bool) → Uses (c .chars) (λ h. letters (readIn w h c) l) (replicate charLimit 0) t
       → Lacking h (c .chars) (letters (readIn w h c) r) t t′ b → b ≡ absent (readIn w h c) l r
   unfolding absent fixed
   absent-is n q t t′ b m k =
       and-next _ _ b (passed _ x e n)
       (k .says ∙ any-same (λ y. not (seen h t (c .chars) y)) (λ y. not (isIn y (letters (readIn w h c) l))) (letters (readIn w h c) r)
-      (λ y. ap not (m .marks h y ∙ ap (λ (z : Bool). z || isIn y (letters (readIn w h c) l)) (seen-none h charLimit (c .chars) y q))))
+      (λ y. ap not (m .uses h y ∙ ap (λ (z : Bool). z || isIn y (letters (readIn w h c) l)) (seen-none h charLimit (c .chars) y q))))

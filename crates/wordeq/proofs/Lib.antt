@@ -32,7 +32,7 @@ pub mod Propagated
 pub mod Choices
 pub mod Elsewhere
 pub mod Lone
-pub mod LackingMarks
+pub mod LackingPlaces
 pub mod LackingSides
 pub mod LackingTries
 pub mod Fitting

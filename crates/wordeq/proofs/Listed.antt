@@ -6,15 +6,9 @@ use Prim.Native.Nat.{ℕ, suc, _+_, _-_, _≤_, _<_}
 use native.Mathlib.Omega.{arith}
 use lib.ListN.{length, drop, getD, length-drop}
 use borrow.Author.Tests.{not-true, not-false}
-use Rattle.records.specs.Lists.{all}
-use Rattle.records.specs.Store.{Store, isString}
-use Rattle.records.proofs.Lists.{all-every, every-at}
+use Rattle.records.specs.Store.{Store}
 use Rattle.wordeq.specs.Wordeq.{same, nfEqual}
-use Rattle.wordeq.specs.Stripping.{Pair}
 use Rattle.wordeq.proofs.Strips.{drop-head}
-
-pub strings-pair : (s : Store) (l r : List ℕ) → all (isString s) l ≡ true → all (isString s) r ≡ true → (i : ℕ) → i < length l → i < length r → Pair s (getD l i 0) (getD r i 0)
-strings-pair s l r p q i f k = record { one = every-at l i 0 (all-every _ l p) f; other = every-at r i 0 (all-every _ r q) k }
 
 pub unequal-lengths : (s : Store) (l r : List ℕ) → (length l ≡ length r → ⊥) → false ≡ nfEqual s l r
 unfolding nfEqual

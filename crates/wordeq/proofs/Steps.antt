@@ -107,7 +107,7 @@ finished (step.Refused n) m k = refl
 pub lined-strings : {l r : List ℕ} {m : Lent} {c : State} → Lined l r m c → (all (isString (readIn (m .terms) (m .chars) c)) l ≡ true) × (all (isString (readIn (m .terms) (m .chars) c)) r ≡ true)
 lined-strings {l} {r} {m} {c} x = (both-right (leb (length l) listLimit) _ (x .lists .left), both-right (leb (length r) listLimit) _ (x .lists .right))
 
-module _ (g : ℤ) (l r : List ℕ) {m m₁ : Lent} {c : State} {y : Stripped} (w : Strips (strip l r) m m₁ c l r y) where
+module _ (g : ℤ) (l r : List ℕ) {m m₁ : Lent} {c : State} {y : Stripped} (w : Strips m m₁ c l r y) where
   pub steps-refused : (k : ℕ) → y ≡ Refused k → (ks : List ℕ) → Working (steps g l r) m m₁ c (resolved (step.Refused k) m₁ ks)
   unfolding steps
   steps-refused k j ks = record { says = rw (w .is .says ∙ ap (λ (o : Stripped). stripped o m₁ l r) j); kept = w .is .kept }

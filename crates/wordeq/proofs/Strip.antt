@@ -3,16 +3,19 @@ use mathlib.Core.Path.{_≡_, refl, sym, ap, subst, _∙_}
 use mathlib.Core.Bool.{Bool, true, false, _&&_, _||_}
 use mathlib.Core.List.{List, [], _∷_, _++_, reverse, reverse-cons}
 use Prim.Native.Nat.{ℕ}
+use lib.ListN.{length, drop}
 use lib.Dec.{eqb}
 use borrow.Author.Tests.{eqb-true, eq-eqb}
-use Rattle.records.specs.Lists.{if_then_else_, joined, sameWord, Every, none-left, and}
-use Rattle.records.specs.Store.{Store, ok, isConstant, isString, text, sameClass}
+use Rattle.records.specs.Lists.{if_then_else_, joined, sameWord, firsts, seconds, Every, none-left, and}
+use Rattle.records.specs.Store.{Store, Out, ok, stop, andThen, isConstant, isString, text, sameClass}
+use Rattle.records.specs.Make.{withReasons}
 use Rattle.records.specs.Meaning.{Words, Reading}
 use Rattle.records.specs.Audited.{Audited}
-use Rattle.records.proofs.Lists.{word-is, clash, every-append, every-left, every-right}
+use Rattle.records.proofs.Lists.{word-is, clash, every-append, every-left, every-right, every-map}
 use Rattle.records.proofs.Outcomes.{ends-give, ends-map, ends-if, ends-then}
 use Rattle.records.proofs.Grown.{Strings, strings-later}
-use Rattle.wordeq.specs.Wordeq.{same, explainMatch, stripHeads, strip}
+use Rattle.wordeq.specs.Wordeq.{same, explainMatch, strip, sameHeads, sameTails, rest, explainMatches}
+use Rattle.engine.proofs.Added.{Added}
 use Rattle.wordeq.proofs.Words
 use Rattle.wordeq.proofs.Words.{Alike, alike-reverse, cancel-front, cancel-back, unturn}
 use Rattle.wordeq.proofs.Ends.{Ends}
@@ -59,7 +62,40 @@ unfolding explainMatch
 match-ends a b s d p q e =
     ends-if (plainly s a b) _ _ (λ f. ends-give (cited-none s d (same-word s a b e f))) (λ f. explain-ends a b s d p q (same-class s a b e f))
 
--- HEADS
+-- MATCHES EXPLAINED
+
+-- two string terms that are the same
+pub record Match (s : Store) (p : ℕ × ℕ) : Type 0 where
+  pub one : isString s (p .0) ≡ true
+  pub other : isString s (p .1) ≡ true
+  pub alike : same s (p .0) (p .1) ≡ true
+
+-- what is the same stays so when reasons are added
+match-later : {s s′ : Store} {p : ℕ × ℕ} → Added s s′ → Match s p → Match s′ p
+unfolding same
+match-later {s} {p = p} a m = subst (λ (x : Store). Match x p) (sym (a .is)) (beside (s .reasons ++ a .more))
+  where
+    beside : (rs : List (ℕ × ℕ)) → Match (withReasons s rs) p
+    beside rs = record { one = m .one; other = m .other; alike = m .alike }
+
+pub matches-append : (l m : List (ℕ × ℕ)) (s : Store) → explainMatches (l ++ m) s ≡ andThen (λ u. explainMatches m) (explainMatches l s)
+unfolding explainMatches
+matches-append [] m s = refl
+matches-append (p ∷ l) m s = go (matches-append l m) (explainMatch (p .0) (p .1) s)
+  where
+    go : ((s₁ : Store) → explainMatches (l ++ m) s₁ ≡ andThen (λ u. explainMatches m) (explainMatches l s₁))
+        → (o : Out (Unit {0})) → andThen (λ u. explainMatches (l ++ m)) o ≡ andThen (λ u. explainMatches m) (andThen (λ u. explainMatches l) o)
+    go ih (ok s₁ u) = ih s₁
+    go ih (stop n) = refl
+
+pub matches-end : (l : List (ℕ × ℕ)) (s : Store) → Audited s → Every (Match s) l → Ends (λ s′ u. Cited (λ w. Alike w (firsts l) (seconds l)) s s′) (explainMatches l s)
+unfolding explainMatches firsts seconds
+matches-end [] s d none-left = ends-give (cited-none s d (λ w rd. Words.Alike.nothing))
+matches-end (p ∷ l) s d (and m k) =
+    ends-then _ _ (match-ends (p .0) (p .1) s d (m .one) (m .other) (m .alike))
+    (λ s₁ u c. ends-map (λ s′ v q. cited-then (λ w e x. Words.Alike.pair e x) c q) (matches-end l s₁ (c .audited) (every-map (λ q. match-later (c .added)) k)))
+
+-- WHAT IS LEFT
 
 -- two lists whose heads are different terms
 abbrev pub Apart : List ℕ → List ℕ → Type 0
@@ -67,46 +103,32 @@ Apart [] r = Unit {0}
 Apart (a ∷ l) [] = Unit {0}
 Apart (a ∷ l) (b ∷ r) = a ≡ b → ⊥
 
-apart-empty : (l : List ℕ) → Apart l []
-apart-empty [] = tt
-apart-empty (a ∷ l) = tt
-
 apart-front : (l m r n : List ℕ) → Apart (l ++ m) (r ++ n) → Apart l r
 apart-front [] m r n h = tt
 apart-front (a ∷ l) m [] n h = tt
 apart-front (a ∷ l) m (b ∷ r) n h = h
 
--- what heads are off: left and right, alike under the reasons added
-pub record Off (l r : List ℕ) (s s′ : Store) (v : List ℕ × List ℕ) : Type 0 where
-  pub left : List ℕ
-  pub right : List ℕ
-  pub is-left : l ≡ left ++ v .0
-  pub is-right : r ≡ right ++ v .1
-  pub cited : Cited (λ w. Alike w left right) s s′
-  pub apart : Apart (v .0) (v .1)
+-- the matches ps are the heads of both lists
+pub record Off (s : Store) (l r : List ℕ) (ps : List (ℕ × ℕ)) : Type 0 where
+  pub left : l ≡ firsts ps ++ drop (length ps) l
+  pub right : r ≡ seconds ps ++ drop (length ps) r
+  pub matched : Every (Match s) ps
+  pub apart : Apart (drop (length ps) l) (drop (length ps) r)
 
-off-none : (l r : List ℕ) (s : Store) → Audited s → Apart l r → Ends (Off l r s) (ok s (l, r))
-off-none l r s d h =
-    ends-give {P = Off l r s}
-    (record { left = []; right = []; is-left = refl; is-right = refl; cited = cited-none s d (λ w rd. Words.Alike.nothing); apart = h })
-
-pub heads-ends : (l r : List ℕ) (s : Store) → Audited s → Strings s l → Strings s r → Ends (Off l r s) (stripHeads l r s)
-unfolding stripHeads
-heads-ends [] r s d hl hr = off-none [] r s d tt
-heads-ends (a ∷ l) [] s d hl hr = off-none (a ∷ l) [] s d tt
-heads-ends (a ∷ l) (b ∷ r) s d (and p hl) (and q hr) =
-    ends-if (same s a b) _ _ (λ e. ends-then _ _ (match-ends a b s d p q e) (λ s₁ u m. ends-map (one m) (heads-ends l r s₁ (m .audited) (strings-later (m .grown) hl) (strings-later (m .grown) hr))))
-    (λ e. off-none (a ∷ l) (b ∷ r) s d (λ z. clash (same-self s a b z) e))
+pub off-heads : (s : Store) (l r : List ℕ) → Strings s l → Strings s r → Off s l r (sameHeads s l r)
+unfolding sameHeads firsts seconds
+off-heads s [] r hl hr = record { left = refl; right = refl; matched = none-left; apart = tt }
+off-heads s (a ∷ l) [] hl hr = record { left = refl; right = refl; matched = none-left; apart = tt }
+off-heads s (a ∷ l) (b ∷ r) (and p hl) (and q hr) = go (same s a b) refl (off-heads s l r hl hr)
   where
-    one : {s₁ : Store} → Cited (λ w. w a ≡ w b) s s₁ → (s′ : Store) (v : List ℕ × List ℕ) → Off l r s₁ s′ v → Off (a ∷ l) (b ∷ r) s s′ v
-    one m s′ v o = record {
-      left = a ∷ o .left;
-      right = b ∷ o .right;
-      is-left = ap (λ (x : List ℕ). a ∷ x) (o .is-left);
-      is-right = ap (λ (x : List ℕ). b ∷ x) (o .is-right);
-      cited = cited-then (λ w e k. Words.Alike.pair e k) m (o .cited);
+    go : (x : Bool) → same s a b ≡ x → Off s l r (sameHeads s l r) → Off s (a ∷ l) (b ∷ r) (elim x [ true ↦ (a, b) ∷ sameHeads s l r | false ↦ [] ])
+    go true e o = record {
+      left = ap (λ (x : List ℕ). a ∷ x) (o .left);
+      right = ap (λ (x : List ℕ). b ∷ x) (o .right);
+      matched = and (record { one = p; other = q; alike = e }) (o .matched);
       apart = o .apart;
     }
+    go false e o = record { left = refl; right = refl; matched = none-left; apart = λ z. clash (same-self s a b z) e }
 
 -- BOTH ENDS
 
@@ -120,27 +142,65 @@ every-reverse : {A : Type 0} {P : A → Type 0} {l : List A} → Every P l → E
 every-reverse none-left = none-left
 every-reverse (and {a} {l} p k) = rw (reverse-cons a l) (every-append (every-reverse k) (and p none-left))
 
-both-off : (l r l₁ r₁ : List ℕ) (s s₁ : Store) → Strings s l → Strings s r → Off l r s s₁ (l₁, r₁) → (s′ : Store) (v : List ℕ × List ℕ) → Off (reverse l₁) (reverse r₁) s₁ s′ v → Stripped l r s s′ (reverse (v .0), reverse (v .1))
-both-off l r l₁ r₁ s s₁ hl hr o s′ v o₂ =
-    let p = unturn l₁ (o₂ .left) (v .0) (o₂ .is-left) in
-    let q = unturn r₁ (o₂ .right) (v .1) (o₂ .is-right) in
-    record {
-      cited = cited-then front-back (o .cited) (o₂ .cited);
-      left = strings-later (o₂ .cited .grown) (strings-later (o .cited .grown) (every-left (reverse (v .0)) (reverse (o₂ .left)) (subst (Strings s) p (every-right (o .left) l₁ (subst (Strings s) (o .is-left) hl)))));
-      right = strings-later (o₂ .cited .grown) (strings-later (o .cited .grown) (every-left (reverse (v .1)) (reverse (o₂ .right)) (subst (Strings s) q (every-right (o .right) r₁ (subst (Strings s) (o .is-right) hr)))));
-      apart = apart-front (reverse (v .0)) (reverse (o₂ .left)) (reverse (v .1)) (reverse (o₂ .right)) (rw (← p, ← q) (o .apart));
-    }
-  where
-    front-back : (w : Words) → Alike w (o .left) (o .right) → Alike w (o₂ .left) (o₂ .right) → joined w l ≡ joined w r → joined w (reverse (v .0)) ≡ joined w (reverse (v .1))
-    front-back w k k₂ e =
-        let f : joined w l₁ ≡ joined w r₁ = cancel-front w (o .left) (o .right) l₁ r₁ k (ap (joined w) (sym (o .is-left)) ∙ e ∙ ap (joined w) (o .is-right)) in
-        cancel-back w (reverse (o₂ .left)) (reverse (o₂ .right)) (reverse (v .0)) (reverse (v .1)) (alike-reverse w k₂)
-        (ap (joined w) (sym (unturn l₁ (o₂ .left) (v .0) (o₂ .is-left))) ∙ f ∙ ap (joined w) (unturn r₁ (o₂ .right) (v .1) (o₂ .is-right)))
+module _ (s : Store) (l r : List ℕ) (hl : Strings s l) (hr : Strings s r) where
+  abbrev heads : List (ℕ × ℕ)
+  heads = sameHeads s l r
+
+  abbrev l₁ : List ℕ
+  l₁ = drop (length heads) l
+
+  abbrev r₁ : List ℕ
+  r₁ = drop (length heads) r
+
+  abbrev tails : List (ℕ × ℕ)
+  tails = sameTails s (length heads) l r
+
+  heads-off : Off s l r heads
+  heads-off = off-heads s l r hl hr
+
+  strings-left : Strings s l₁
+  strings-left = every-right (firsts heads) l₁ (subst (Strings s) (heads-off .left) hl)
+
+  strings-right : Strings s r₁
+  strings-right = every-right (seconds heads) r₁ (subst (Strings s) (heads-off .right) hr)
+
+  tails-off : Off s (reverse l₁) (reverse r₁) tails
+  unfolding sameTails
+  tails-off = off-heads s (reverse l₁) (reverse r₁) (every-reverse strings-left) (every-reverse strings-right)
+
+  abbrev l₂ : List ℕ
+  l₂ = reverse (drop (length tails) (reverse l₁))
+
+  abbrev r₂ : List ℕ
+  r₂ = reverse (drop (length tails) (reverse r₁))
+
+  -- what the heads leave is what both leave, and the tails turned round
+  turned-left : l₁ ≡ l₂ ++ reverse (firsts tails)
+  turned-left = unturn l₁ (firsts tails) (drop (length tails) (reverse l₁)) (tails-off .left)
+
+  turned-right : r₁ ≡ r₂ ++ reverse (seconds tails)
+  turned-right = unturn r₁ (seconds tails) (drop (length tails) (reverse r₁)) (tails-off .right)
+
+  front-back : (w : Words) → Alike w (firsts heads) (seconds heads) → Alike w (firsts tails) (seconds tails) → joined w l ≡ joined w r → joined w l₂ ≡ joined w r₂
+  front-back w k k₂ e =
+      let f : joined w l₁ ≡ joined w r₁ = cancel-front w (firsts heads) (seconds heads) l₁ r₁ k (ap (joined w) (sym (heads-off .left)) ∙ e ∙ ap (joined w) (heads-off .right)) in
+      cancel-back w (reverse (firsts tails)) (reverse (seconds tails)) l₂ r₂ (alike-reverse w k₂)
+      (ap (joined w) (sym turned-left) ∙ f ∙ ap (joined w) turned-right)
+
+  both-off : (s₁ s₂ : Store) → Cited (λ w. Alike w (firsts heads) (seconds heads)) s s₁ → Cited (λ w. Alike w (firsts tails) (seconds tails)) s₁ s₂ → Stripped l r s s₂ (l₂, r₂)
+  both-off s₁ s₂ c₁ c₂ = record {
+    cited = cited-then front-back c₁ c₂;
+    left = strings-later (c₂ .grown) (strings-later (c₁ .grown) (every-left l₂ (reverse (firsts tails)) (subst (Strings s) turned-left strings-left)));
+    right = strings-later (c₂ .grown) (strings-later (c₁ .grown) (every-left r₂ (reverse (seconds tails)) (subst (Strings s) turned-right strings-right)));
+    apart = apart-front l₂ (reverse (firsts tails)) r₂ (reverse (seconds tails)) (rw (← turned-left, ← turned-right) (heads-off .apart));
+  }
+
+  explained : Audited s → Ends (λ s₂ u. Stripped l r s s₂ (l₂, r₂)) (explainMatches (heads ++ tails) s)
+  explained d =
+      rw (matches-append heads tails s)
+      (ends-then _ _ (matches-end heads s d (heads-off .matched))
+      (λ s₁ u c₁. ends-map (λ s₂ v c₂. both-off s₁ s₂ c₁ c₂) (matches-end tails s₁ (c₁ .audited) (every-map (λ q. match-later (c₁ .added)) (tails-off .matched)))))
 
 pub strip-ends : (l r : List ℕ) (s : Store) → Audited s → Strings s l → Strings s r → Ends (Stripped l r s) (strip l r s)
-unfolding strip
-strip-ends l r s d hl hr =
-    ends-then _ _ (heads-ends l r s d hl hr) (λ s₁ v o. ends-then _ _ (heads-ends (reverse (v .0)) (reverse (v .1)) s₁ (o .cited .audited)
-    (every-reverse (strings-later (o .cited .grown) (every-right (o .left) (v .0) (subst (Strings s) (o .is-left) hl))))
-    (every-reverse (strings-later (o .cited .grown) (every-right (o .right) (v .1) (subst (Strings s) (o .is-right) hr)))))
-    (λ s₂ u o₂. ends-give {P = Stripped l r s} (both-off l r (v .0) (v .1) s s₁ hl hr o s₂ u o₂)))
+unfolding strip rest
+strip-ends l r s d hl hr = ends-then _ _ (explained s l r hl hr d) (λ s₂ u x. ends-give {P = Stripped l r s} x)

@@ -1,12 +1,12 @@
--- The loops of step 1: matches explained one after the other, heads and tails.
+-- The loops of step 1: same heads and tails counted, and the matches explained one after the other.
 use mathlib.Core.Path.{_≡_, refl, sym, ap, subst, _∙_}
 use mathlib.Core.Bool.{Bool, true, false, not, _&&_}
-use mathlib.Core.List.{List, [], _∷_, reverse, reverse-append, reverse-reverse}
+use mathlib.Core.List.{List, [], _∷_, _++_, reverse, reverse-append, reverse-reverse}
 use Prim.Native.Nat.{ℕ, suc, _+_, _-_, _≤_, _<_, min}
 use native.Mathlib.Numerals.{add-one}
 use native.Mathlib.Omega.{arith}
-use lib.ListN.{length, take, drop, getD, length-append, length-take, length-drop, length-reverse}
-use lib.Seq.{take-suc, take-all, drop-cons, getD-drop}
+use lib.ListN.{length, take, drop, getD, length-append, length-take, length-drop, length-reverse, take-append-drop}
+use lib.Seq.{take-suc, take-all, drop-cons, drop-at, getD-drop}
 use lib.Dec.{leb}
 use borrow.Author.Tests.{not-true, not-false, eq-eqb, ne-eqb, leb-true, leb-false}
 use Rattle.records.specs.declared.State.{State}
@@ -21,13 +21,18 @@ use Rattle.records.proofs.Views.{table-is}
 use Rattle.records.proofs.Passed.{ready-after}
 use Rattle.engine.specs.Explain.{explain, explainArguments}
 use Rattle.records.proofs.Later.{Added, added-none, added-then}
-use Rattle.wordeq.specs.declared.Stripped.{Stripped}
+use Rattle.wordeq.specs.declared.Rest.{Rest}
 use Rattle.wordeq.specs.declared.Stripped.the-variants.{Parts, Refused}
-use Rattle.wordeq.specs.Wordeq.{same, explainMatch, stripHeads, strip}
-use Rattle.wordeq.specs.Stripping.{Readable, Pair, part, stripped, Inside, Strips, Whole, StripsHeads, stripTails}
+use Rattle.wordeq.specs.Wordeq.{same, sameHeads, sameTails, matches, inner, rest, explainMatch, explainMatches, strip}
+use Rattle.wordeq.specs.Stripping.{Readable, Pair, part, Finds, Strips}
 use Rattle.wordeq.proofs.Cited.{Cited}
-use Rattle.wordeq.proofs.Strip.{plainly, same-class, match-ends, heads-ends}
+use Rattle.wordeq.proofs.Strip.{plainly, same-class, match-ends, matches-append, matches-end, off-heads}
 use Rattle.records.specs.declared.Added.{Added as Answered}
+
+-- what is the same is read in the terms and the characters
+same-read : (t e h ks rs : List ℕ) (c : State) (a b : ℕ) → same (storeOf (lent t e h rs ks) c) a b ≡ same (readIn t h c) a b
+unfolding same
+same-read t e h ks rs c a b = refl
 
 -- ONE MATCH
 
@@ -48,15 +53,11 @@ module _ (t e h r ks : List ℕ) (c : State) (a b : ℕ) where
     match-constants j = record { says = rw (ne-eqb a b d, sym i ∙ j); kept = refl }
 
     module _ (j : x ≡ false) where
-      same-read : same (readIn t h c) a b ≡ true → same s a b ≡ true
-      unfolding same
-      same-read k = k
-
       apart : plainly s a b ≡ false
       apart = rw (ne-eqb a b d, sym i ∙ j)
 
       pub match-arguments : Pair (readIn t h c) a b → same (readIn t h c) a b ≡ true → explainArguments a b s ≡ true
-      match-arguments p k = both-true _ _ (both-true _ _ (p .one) (p .other)) (same-class s a b (same-read k) apart)
+      match-arguments p k = both-true _ _ (both-true _ _ (p .one) (p .other)) (same-class s a b (same-read t e h ks r c a b ∙ k) apart)
 
       pub match-explained : {m′ : Lent} {o : Out (Unit {0})} → Working (explain a b) m m′ c o → Working (explainMatch a b) m m′ c o
       unfolding explainMatch
@@ -118,74 +119,175 @@ module _ (t e h ks : List ℕ) where
     pub going-string : (a : ℕ) → isString (readIn t h c) a ≡ true → isString (readIn t h d) a ≡ true
     going-string a i = subst (λ (x : List Term). within 3 (termIn x a .kind) ≡ true) (sym terms-kept) i
 
--- HEADS
+    pub going-same : (a b : ℕ) → same (readIn t h d) a b ≡ same (readIn t h c) a b
+    unfolding same
+    going-same a b = ap (λ (x : Store). same x a b) (g .added .is)
 
-heads-apart : (a b : ℕ) (l r : List ℕ) (s : Store) → same s a b ≡ false → stripHeads (a ∷ l) (b ∷ r) s ≡ ok s (a ∷ l, b ∷ r)
-unfolding stripHeads
-heads-apart a b l r s e = rw e
+-- THE SAME HEADS
 
-heads-same : (a b : ℕ) (l r : List ℕ) (s : Store) → same s a b ≡ true → (o : Out (Unit {0})) → explainMatch a b s ≡ o → stripHeads (a ∷ l) (b ∷ r) s ≡ andThen (λ u. stripHeads l r) o
-unfolding stripHeads
-heads-same a b l r s e o i = rw (e, i)
+heads-more : (s : Store) (a b : ℕ) (l r : List ℕ) → same s a b ≡ true → sameHeads s (a ∷ l) (b ∷ r) ≡ (a, b) ∷ sameHeads s l r
+unfolding sameHeads
+heads-more s a b l r e = ap (λ (x : Bool). elim x [ true ↦ (a, b) ∷ sameHeads s l r | false ↦ [] ]) e
 
-heads-done : (l r : List ℕ) (s : Store) → min (length l) (length r) ≡ 0 → stripHeads l r s ≡ ok s (l, r)
-unfolding stripHeads
-heads-done [] r s e = refl
-heads-done (a ∷ l) [] s e = refl
-heads-done (a ∷ l) (b ∷ r) s e = absurd (omega arith)
+heads-stop : (s : Store) (a b : ℕ) (l r : List ℕ) → same s a b ≡ false → sameHeads s (a ∷ l) (b ∷ r) ≡ []
+unfolding sameHeads
+heads-stop s a b l r e = ap (λ (x : Bool). elim x [ true ↦ (a, b) ∷ sameHeads s l r | false ↦ [] ]) e
 
--- u i and v i are left of two lists after i matches
+heads-none : (s : Store) (l r : List ℕ) → min (length l) (length r) ≡ 0 → sameHeads s l r ≡ []
+unfolding sameHeads
+heads-none s [] r e = refl
+heads-none s (a ∷ l) [] e = refl
+heads-none s (a ∷ l) (b ∷ r) e = absurd (omega arith)
+
+heads-short : (s : Store) (l r : List ℕ) → length (sameHeads s l r) ≤ min (length l) (length r)
+unfolding sameHeads
+heads-short s [] r = omega arith
+heads-short s (a ∷ l) [] = omega arith
+heads-short s (a ∷ l) (b ∷ r) = go (same s a b) (heads-short s l r)
+  where
+    go : (x : Bool) → length (sameHeads s l r) ≤ min (length l) (length r) → length {A = ℕ × ℕ} (elim x [ true ↦ (a, b) ∷ sameHeads s l r | false ↦ [] ]) ≤ min (length (a ∷ l)) (length (b ∷ r))
+    go true h = omega arith
+    go false h = omega arith
+
+tails-short : (s : Store) (n : ℕ) (l r : List ℕ) → length (sameTails s n l r) ≤ min (length l - n) (length r - n)
+unfolding sameTails
+tails-short s n l r =
+    rw (length-reverse (drop n l) ∙ length-drop n l, length-reverse (drop n r) ∙ length-drop n r) at (heads-short s (reverse (drop n l)) (reverse (drop n r)))
+
+-- in two stores of which the same is the same
+module _ (s s′ : Store) (f : (a b : ℕ) → same s a b ≡ same s′ a b) where
+  heads-by : (l r : List ℕ) → sameHeads s l r ≡ sameHeads s′ l r
+  unfolding sameHeads
+  heads-by [] r = refl
+  heads-by (a ∷ l) [] = refl
+  heads-by (a ∷ l) (b ∷ r) =
+      ap (λ (x : Bool). elim x [ true ↦ (a, b) ∷ sameHeads s l r | false ↦ [] ]) (f a b)
+      ∙ ap (λ (m : List (ℕ × ℕ)). elim (same s′ a b) [ true ↦ (a, b) ∷ m | false ↦ [] ]) (heads-by l r)
+
+  tails-by : (n : ℕ) (l r : List ℕ) → sameTails s n l r ≡ sameTails s′ n l r
+  unfolding sameTails
+  tails-by n l r = heads-by (reverse (drop n l)) (reverse (drop n r))
+
+  matches-by : (l r : List ℕ) → matches s l r ≡ matches s′ l r
+  matches-by l r =
+      ap (λ (m : List (ℕ × ℕ)). m ++ sameTails s (length m) l r) (heads-by l r)
+      ∙ ap (λ (m : List (ℕ × ℕ)). sameHeads s′ l r ++ m) (tails-by (length (sameHeads s′ l r)) l r)
+
+  rest-by : (l r : List ℕ) → rest s l r ≡ rest s′ l r
+  unfolding rest
+  rest-by l r =
+      ap (λ (m : List (ℕ × ℕ)). (inner (length m) (length (sameTails s (length m) l r)) l, inner (length m) (length (sameTails s (length m) l r)) r)) (heads-by l r)
+      ∙ ap (λ (m : List (ℕ × ℕ)). (inner (length (sameHeads s′ l r)) (length m) l, inner (length (sameHeads s′ l r)) (length m) r)) (tails-by (length (sameHeads s′ l r)) l r)
+
+-- COUNTING: u i and v i are left of two lists after i matches
+
+module _ (s : Store) (u v : ℕ → List ℕ) where
+  abbrev pub total : ℕ
+  total = length (sameHeads s (u 0) (v 0))
+
+  pub record Counted (i : ℕ) : Type 0 where
+    pub sum : i + length (sameHeads s (u i) (v i)) ≡ total
+
+  pub counted-none : Counted 0
+  counted-none = record { sum = omega arith }
+
+  module _ {i : ℕ} (k : Counted i) where
+    pub count-end : min (length (u i)) (length (v i)) ≡ 0 → i ≡ total
+    count-end z = let e = ap length (heads-none s (u i) (v i) z) in let j = k .sum in omega arith
+
+    module _ (a b : ℕ) (p : u i ≡ a ∷ u (i + 1)) (q : v i ≡ b ∷ v (i + 1)) where
+      stopped : same s a b ≡ false → i ≡ total
+      stopped z =
+          let e : length (sameHeads s (u i) (v i)) ≡ 0 = rw (p, q) (ap length (heads-stop s a b (u (i + 1)) (v (i + 1)) z)) in
+          let j = k .sum in
+          omega arith
+
+      pub count-more : same s a b ≡ true → sameHeads s (u i) (v i) ≡ (a, b) ∷ sameHeads s (u (i + 1)) (v (i + 1))
+      count-more z = rw (p, q) (heads-more s a b (u (i + 1)) (v (i + 1)) z)
+
+      pub counted-more : same s a b ≡ true → Counted (i + 1)
+      counted-more z = let e = ap length (count-more z) in let j = k .sum in record { sum = omega arith }
+
+      pub count-same : i < total → same s a b ≡ true
+      count-same h = decide (same s a b) (λ z. z) (λ z. let e = stopped z in absurd (omega arith))
+
+      module _ (x : Bool) (f : x ≡ same s a b) where
+        pub count-stop : not x ≡ true → i ≡ total
+        count-stop z = stopped (sym f ∙ not-true x z)
+
+        pub count-turn : not x ≡ false → Counted (i + 1)
+        count-turn z = counted-more (sym f ∙ not-false x z)
+
+-- EXPLAINING
+
+none-explained : (m : List (ℕ × ℕ)) (s : Store) → length m ≡ 0 → explainMatches m s ≡ ok s tt
+unfolding explainMatches
+none-explained [] s e = refl
+none-explained (p ∷ m) s e = absurd (omega arith)
+
+first-explained : (a b : ℕ) (m : List (ℕ × ℕ)) (s : Store) (o : Out (Unit {0})) → explainMatch a b s ≡ o → explainMatches ((a, b) ∷ m) s ≡ andThen (λ w. explainMatches m) o
+unfolding explainMatches
+first-explained a b m s o i = rw i
+
 module _ (t e h ks : List ℕ) (u v : ℕ → List ℕ) where
   abbrev now : List ℕ → State → Store
   now rs c = storeOf (lent t e h rs ks) c
 
+  abbrev from-place : State → ℕ → List (ℕ × ℕ)
+  from-place c i = sameHeads (readIn t h c) (u i) (v i)
+
+  -- the first i matches are explained
   pub record Matching (c : State) (rs : List ℕ) (d : State) (rs′ : List ℕ) (i : ℕ) : Type 0 where
     pub going : Going t e h ks c rs d rs′
-    pub rest : stripHeads (u i) (v i) (now rs′ d) ≡ stripHeads (u 0) (v 0) (now rs c)
+    pub counted : Counted (readIn t h c) u v i
+    pub left : explainMatches (from-place c i) (now rs′ d) ≡ explainMatches (from-place c 0) (now rs c)
 
   pub matching-none : {c : State} {rs : List ℕ} → Ready (lent t e h rs ks) c → Matching c rs c rs 0
-  matching-none d = record { going = going-none t e h ks d; rest = refl }
+  matching-none {c} d = record { going = going-none t e h ks d; counted = counted-none (readIn t h c) u v; left = refl }
 
-  module _ {c d : State} {rs rs₁ : List ℕ} {i : ℕ} (g : Matching c rs d rs₁ i) where
-    pub heads-end : min (length (u i)) (length (v i)) ≡ 0 → Working (stripHeads (u 0) (v 0)) (lent t e h rs ks) (lent t e h rs₁ ks) c (ok (now rs₁ d) (u i, v i))
-    heads-end z = record { says = sym (g .rest) ∙ heads-done (u i) (v i) (now rs₁ d) z; kept = g .going .kept }
+  module _ {c d : State} {rs rs₁ : List ℕ} {i : ℕ} (g : Matching c rs d rs₁ i) (n : ℕ) (f : n ≡ total (readIn t h c) u v) where
+    pub matching-end : n ≤ i → Working (explainMatches (from-place c 0)) (lent t e h rs ks) (lent t e h rs₁ ks) c (added (adding.Counts d) (lent t e h rs₁ ks))
+    matching-end z = let j = g .counted .sum in record { says = sym (g .left) ∙ none-explained (from-place c i) (now rs₁ d) (omega arith); kept = g .going .kept }
 
-    module _ (a b : ℕ) (p : u i ≡ a ∷ u (i + 1)) (q : v i ≡ b ∷ v (i + 1)) (x : Bool) (f : x ≡ same (readIn t h d) a b) where
-      same-now : same (readIn t h d) a b ≡ same (now rs₁ d) a b
+    module _ (a b : ℕ) (p : u i ≡ a ∷ u (i + 1)) (q : v i ≡ b ∷ v (i + 1)) (z : i < n) where
+      same-there : same (readIn t h c) a b ≡ true
+      same-there = count-same (readIn t h c) u v (g .counted) a b p q (omega arith)
+
+      pub matching-same : same (readIn t h d) a b ≡ true
+      matching-same = going-same t e h ks (g .going) a b ∙ same-there
+
+      same-now : same (now rs₁ d) a b ≡ true
       unfolding same
-      same-now = refl
+      same-now = matching-same
 
-      pub heads-stop : not x ≡ true → Working (stripHeads (u 0) (v 0)) (lent t e h rs ks) (lent t e h rs₁ ks) c (ok (now rs₁ d) (u i, v i))
-      heads-stop z =
-          let k : stripHeads (u i) (v i) (now rs₁ d) ≡ ok (now rs₁ d) (u i, v i) = rw (p, q) (heads-apart a b (u (i + 1)) (v (i + 1)) (now rs₁ d) (sym same-now ∙ sym f ∙ not-true x z)) in
-          record { says = sym (g .rest) ∙ k; kept = g .going .kept }
+      on : (o : Out (Unit {0})) → explainMatch a b (now rs₁ d) ≡ o → explainMatches (from-place c i) (now rs₁ d) ≡ andThen (λ w. explainMatches (from-place c (i + 1))) o
+      on o j =
+          ap (λ (m : List (ℕ × ℕ)). explainMatches m (now rs₁ d)) (count-more (readIn t h c) u v (g .counted) a b p q same-there)
+          ∙ first-explained a b (from-place c (i + 1)) (now rs₁ d) o j
 
-      module _ (z : not x ≡ false) where
-        is-same : same (now rs₁ d) a b ≡ true
-        is-same = sym same-now ∙ sym f ∙ not-false x z
+      module _ {rs₂ : List ℕ} (y : Answered) (w : Working (explainMatch a b) (lent t e h rs₁ ks) (lent t e h rs₂ ks) d (added y (lent t e h rs₂ ks))) where
+        pub matching-refused : (n : ℕ) → y ≡ adding.Refused n → Working (explainMatches (from-place c 0)) (lent t e h rs ks) (lent t e h rs₂ ks) c (added (adding.Refused n) (lent t e h rs₂ ks))
+        matching-refused n j = record { says = sym (g .left) ∙ on (stop n) (w .says ∙ ap (λ (o : Answered). added o (lent t e h rs₂ ks)) j); kept = kept-down t e h ks (g .going) rs₂ (w .kept) }
 
-        on : (o : Out (Unit {0})) → explainMatch a b (now rs₁ d) ≡ o → stripHeads (u i) (v i) (now rs₁ d) ≡ andThen (λ w. stripHeads (u (i + 1)) (v (i + 1))) o
-        on o j = rw (p, q) (heads-same a b (u (i + 1)) (v (i + 1)) (now rs₁ d) is-same o j)
+        pub matching-turn : (d₂ : State) → y ≡ adding.Counts d₂ → Pair (readIn t h d) a b → Matching c rs d₂ rs₂ (i + 1)
+        matching-turn d₂ j o =
+            let k : explainMatch a b (now rs₁ d) ≡ ok (now rs₂ d₂) tt = w .says ∙ ap (λ (o : Answered). added o (lent t e h rs₂ ks)) j in
+            record {
+              going = going-then t e h ks (g .going) rs₂ (match-ends a b (now rs₁ d) (g .going .ready .audited) (o .one) (o .other) same-now .given (now rs₂ d₂) tt k) (w .kept);
+              counted = counted-more (readIn t h c) u v (g .counted) a b p q same-there;
+              left = sym (on (ok (now rs₂ d₂) tt) k) ∙ g .left;
+            }
 
-        module _ {rs₂ : List ℕ} (y : Answered) (w : Working (explainMatch a b) (lent t e h rs₁ ks) (lent t e h rs₂ ks) d (added y (lent t e h rs₂ ks))) where
-          pub heads-refused : (n : ℕ) → y ≡ adding.Refused n → Working (stripHeads (u 0) (v 0)) (lent t e h rs ks) (lent t e h rs₂ ks) c (stop n)
-          heads-refused n j = record { says = sym (g .rest) ∙ on (stop n) (w .says ∙ ap (λ (o : Answered). added o (lent t e h rs₂ ks)) j); kept = kept-down t e h ks (g .going) rs₂ (w .kept) }
+-- two atoms of two lists
+pub strings-pair : (s : Store) (l r : List ℕ) → all (isString s) l ≡ true → all (isString s) r ≡ true → (i j : ℕ) → i < length l → j < length r → Pair s (getD l i 0) (getD r j 0)
+strings-pair s l r p q i j f k = record { one = every-at l i 0 (all-every _ l p) f; other = every-at r j 0 (all-every _ r q) k }
 
-          pub heads-turn : (d₂ : State) → y ≡ adding.Counts d₂ → Pair (readIn t h d) a b → Matching c rs d₂ rs₂ (i + 1)
-          heads-turn d₂ j o =
-              let k : explainMatch a b (now rs₁ d) ≡ ok (now rs₂ d₂) tt = w .says ∙ ap (λ (o : Answered). added o (lent t e h rs₂ ks)) j in
-              record {
-                going = going-then t e h ks (g .going) rs₂ (match-ends a b (now rs₁ d) (g .going .ready .audited) (o .one) (o .other) is-same .given (now rs₂ d₂) tt k) (w .kept);
-                rest = sym (on (ok (now rs₂ d₂) tt) k) ∙ g .rest;
-              }
-
--- two atoms of the lists at entry
+-- of the lists at entry
 pub pair-of : (t e h ks : List ℕ) {c d : State} {rs rs₁ : List ℕ} → Going t e h ks c rs d rs₁ → (l r : List ℕ) → all (isString (readIn t h c)) l ≡ true → all (isString (readIn t h c)) r ≡ true
     → (i j : ℕ) → i < length l → j < length r → Pair (readIn t h d) (getD l i 0) (getD r j 0)
-pair-of t e h ks g l r p q i j f k = record {
-  one = going-string t e h ks g _ (every-at l i 0 (all-every _ l p) f);
-  other = going-string t e h ks g _ (every-at r j 0 (all-every _ r q) k);
-}
+pair-of t e h ks {c} g l r p q i j f k =
+    let o = strings-pair (readIn t h c) l r p q i j f k in
+    record { one = going-string t e h ks g _ (o .one); other = going-string t e h ks g _ (o .other) }
 
 -- PARTS
 
@@ -226,7 +328,18 @@ module _ (l : List ℕ) where
   pub tail-start : (f : ℕ) → tail f 0 ≡ reverse (drop f l)
   tail-start f = let k : length l - 0 ≡ length l = omega arith in ap (λ (x : ℕ). reverse (part l f x)) k ∙ ap reverse (part-whole f)
 
--- THE LOOP OVER HEADS
+  -- a list without n heads and k tails is a part of it
+  pub inner-part : (n k : ℕ) → n + k ≤ length l → inner n k l ≡ part l n (length l - k)
+  inner-part n k h =
+      let d = length-drop n l in
+      let a = length-drop (length l - k - n) (drop n l) in
+      let z : length (reverse (drop (length l - k - n) (drop n l))) ≡ k = rw (length-reverse (drop (length l - k - n) (drop n l))) (omega arith) in
+      ap (λ (x : List ℕ). reverse (drop k (reverse x))) (sym (take-append-drop (length l - k - n) (drop n l)))
+      ∙ ap (λ (x : List ℕ). reverse (drop k x)) (reverse-append (part l n (length l - k)) (drop (length l - k - n) (drop n l)))
+      ∙ ap reverse (drop-at (reverse (drop (length l - k - n) (drop n l))) (reverse (part l n (length l - k))) k z)
+      ∙ reverse-reverse (part l n (length l - k))
+
+-- THE LOOPS
 
 pub below-left : (n a b i : ℕ) → n ≡ min a b → i < n → i < a
 below-left n a b i e h = omega arith
@@ -234,126 +347,159 @@ below-left n a b i e h = omega arith
 pub below-right : (n a b i : ℕ) → n ≡ min a b → i < n → i < b
 below-right n a b i e h = omega arith
 
-module _ (t e h ks l r : List ℕ) where
-  abbrev pub Heads : State → List ℕ → State → List ℕ → ℕ → Type 0
-  Heads = Matching t e h ks (λ i. drop i l) (λ i. drop i r)
-
-  module _ {c d : State} {rs rs₁ : List ℕ} {i : ℕ} where
-    pub heads-left : i ≤ length l → i ≤ length r → Working (stripHeads l r) (lent t e h rs ks) (lent t e h rs₁ ks) c (ok (storeOf (lent t e h rs₁ ks) d) (drop i l, drop i r))
-        → StripsHeads (lent t e h rs ks) (lent t e h rs₁ ks) c l r (Parts d i (length l) (length r))
-    heads-left p q w = record { strips = record { is = rw (part-whole l i, part-whole r i) w; inside = (p, omega arith, q, omega arith) }; whole = (refl, refl) }
-
-    pub heads-all : (n : ℕ) → n ≡ min (length l) (length r) → i ≤ n → n ≤ i → Heads c rs d rs₁ i → StripsHeads (lent t e h rs ks) (lent t e h rs₁ ks) c l r (Parts d i (length l) (length r))
-    heads-all n z p q g =
-        let a = length-drop i l in
-        let b = length-drop i r in
-        heads-left (omega arith) (omega arith) (heads-end t e h ks (λ k. drop k l) (λ k. drop k r) g (omega arith))
-
-  -- THE LOOP OVER TAILS
-
-  module _ (f : ℕ) where
-    abbrev pub Tails : State → List ℕ → State → List ℕ → ℕ → Type 0
-    Tails = Matching t e h ks (tail l f) (tail r f)
-
-    tails-of : (x s′ : Store) (i : ℕ) → stripHeads (tail l f 0) (tail r f 0) x ≡ ok s′ (tail l f i, tail r f i) → stripTails (drop f l) (drop f r) x ≡ ok s′ (part l f (length l - i), part r f (length r - i))
-    unfolding stripTails
-    tails-of x s′ i w =
-        let z = rw (tail-start l f, tail-start r f) at w in
-        rw (z, reverse-reverse (part l f (length l - i)), reverse-reverse (part r f (length r - i)))
-
-    module _ {c d : State} {rs rs₁ : List ℕ} (i : ℕ) where
-      pub tails-left : f + i ≤ length l → f + i ≤ length r → Working (stripHeads (tail l f 0) (tail r f 0)) (lent t e h rs ks) (lent t e h rs₁ ks) c (ok (storeOf (lent t e h rs₁ ks) d) (tail l f i, tail r f i))
-          → Strips (stripTails (drop f l) (drop f r)) (lent t e h rs ks) (lent t e h rs₁ ks) c l r (Parts d f (length l - i) (length r - i))
-      tails-left p q w = record {
-        is = record { says = tails-of (storeOf (lent t e h rs ks) c) (storeOf (lent t e h rs₁ ks) d) i (w .says); kept = w .kept };
-        inside = (omega arith, omega arith, omega arith, omega arith);
-      }
-
-    pub tails-refused : {c : State} {rs rs₁ : List ℕ} {k : ℕ} → Working (stripHeads (tail l f 0) (tail r f 0)) (lent t e h rs ks) (lent t e h rs₁ ks) c (stop k)
-        → Strips (stripTails (drop f l) (drop f r)) (lent t e h rs ks) (lent t e h rs₁ ks) c l r (Refused k)
-    unfolding stripTails
-    tails-refused w = let z = rw (tail-start l f, tail-start r f) at (w .says) in record { is = record { says = rw z; kept = w .kept }; inside = tt }
-
-    pub tails-all : {c d : State} {rs rs₁ : List ℕ} (n i : ℕ) → n ≡ min (length l) (length r) → f ≤ n → i ≤ n - f → n - f ≤ i → Tails c rs d rs₁ i
-        → Strips (stripTails (drop f l) (drop f r)) (lent t e h rs ks) (lent t e h rs₁ ks) c l r (Parts d f (length l - i) (length r - i))
-    tails-all n i z o p q g =
-        let j : f + i ≡ n = reach n i o p q in
-        tails-left i (below-both n (length l) (length r) (f + i) z j .0) (below-both n (length l) (length r) (f + i) z j .1)
-        (heads-end t e h ks (tail l f) (tail r f) g (none-left n i z j))
-      where
-        reach : (n i : ℕ) → f ≤ n → i ≤ n - f → n - f ≤ i → f + i ≡ n
-        reach n i o p q = omega arith
-
-        below-both : (n a b x : ℕ) → n ≡ min a b → x ≡ n → (x ≤ a) × (x ≤ b)
-        below-both n a b x z j = (omega arith, omega arith)
-
-        gone : (a i : ℕ) → f + i ≡ a → a - i - f ≡ 0
-        gone a i j = omega arith
-
-        zero-left : (x y : ℕ) → x ≡ 0 → min x y ≡ 0
-        zero-left x y j = omega arith
-
-        zero-right : (x y : ℕ) → y ≡ 0 → min x y ≡ 0
-        zero-right x y j = omega arith
-
-        lower : (x a b : ℕ) → x ≡ min a b → a ≤ b → x ≡ a
-        lower x a b j k = omega arith
-
-        upper : (x a b : ℕ) → x ≡ min a b → b < a → x ≡ b
-        upper x a b j k = omega arith
-
-        smaller : (a b i : ℕ) → f + i ≡ min a b → min (a - i - f) (b - i - f) ≡ 0
-        smaller a b i j =
-            decide (leb a b) (λ h. zero-left (a - i - f) (b - i - f) (gone a i (lower (f + i) a b j (leb-true a b h))))
-            (λ h. zero-right (a - i - f) (b - i - f) (gone b i (upper (f + i) a b j (leb-false a b h))))
-
-        none-left : (n i : ℕ) → n ≡ min (length l) (length r) → f + i ≡ n → min (length (tail l f i)) (length (tail r f i)) ≡ 0
-        none-left n i z j = rw (tail-length l f i, tail-length r f i) (smaller (length l) (length r) i (j ∙ z))
-
 pub below-tails : (n a b f i : ℕ) → n ≡ min a b → i < n - f → (f + i < a) × (f + i < b)
 below-tails n a b f i z h = (omega arith, omega arith)
 
 pub last-below : (n f i : ℕ) → f + i < n → n - 1 - i < n
 last-below n f i h = omega arith
 
--- BOTH HALVES
+module _ (l r : List ℕ) where
+  pub heads-within : (s : Store) (n i : ℕ) → n ≡ length (sameHeads s l r) → i < n → (i < length l) × (i < length r)
+  heads-within s n i e h = let k = heads-short s l r in (omega arith, omega arith)
 
-module _ (t e h ks l r : List ℕ) {c : State} {rs rs₁ : List ℕ} (y : Stripped) (w : StripsHeads (lent t e h rs ks) (lent t e h rs₁ ks) c l r y) where
-  pub strip-refused : (k : ℕ) → y ≡ Refused k → Strips (strip l r) (lent t e h rs ks) (lent t e h rs₁ ks) c l r (Refused k)
-  unfolding strip
-  strip-refused k j = record {
-    is = record { says = rw (w .strips .is .says ∙ ap (λ (o : Stripped). stripped o (lent t e h rs₁ ks) l r) j); kept = w .strips .is .kept };
-    inside = tt;
+  pub tails-within : (s : Store) (f n i : ℕ) → n ≡ length (sameTails s f l r) → i < n → (f + i < length l) × (f + i < length r)
+  tails-within s f n i e h = let k = tails-short s f l r in (omega arith, omega arith)
+
+  pub tails-are : (s : Store) (f : ℕ) → sameHeads s (tail l f 0) (tail r f 0) ≡ sameTails s f l r
+  unfolding sameTails
+  tails-are s f = rw (tail-start l f, tail-start r f)
+
+  pub heads-least : (s : Store) (n : ℕ) → n ≡ length (sameHeads s l r) → n ≤ min (length l) (length r)
+  heads-least s n e = let k = heads-short s l r in omega arith
+
+  pub tails-least : (s : Store) (f n : ℕ) → n ≡ length (sameTails s f l r) → (n ≤ length l) × (n ≤ length r)
+  tails-least s f n e = let k = tails-short s f l r in (omega arith, omega arith)
+
+  -- as the loop from the ends on has them
+  pub tails-total : (s : Store) (f n : ℕ) → n ≡ length (sameTails s f l r) → n ≡ total s (tail l f) (tail r f)
+  tails-total s f n e = e ∙ ap length (sym (tails-are s f))
+
+  pub tails-explained : {m m′ : Lent} {c : State} {o : Out (Unit {0})} (s : Store) (f : ℕ) → Working (explainMatches (sameHeads s (tail l f 0) (tail r f 0))) m m′ c o → Working (explainMatches (sameTails s f l r)) m m′ c o
+  tails-explained {m} {m′} {c} {o} s f w = subst (λ (x : List (ℕ × ℕ)). Working (explainMatches x) m m′ c o) (tails-are s f) w
+
+  -- all heads are the same
+  pub heads-all : (s : Store) (n i : ℕ) → n ≡ min (length l) (length r) → i ≤ n → n ≤ i → Counted s (λ k. drop k l) (λ k. drop k r) i → i ≡ length (sameHeads s l r)
+  heads-all s n i z p q k =
+      let a = length-drop i l in
+      let b = length-drop i r in
+      count-end s (λ k. drop k l) (λ k. drop k r) k (omega arith)
+
+  -- all tails
+  pub tails-all : (s : Store) (f n i : ℕ) → n ≡ min (length l) (length r) → f ≤ n → i ≤ n - f → n - f ≤ i → Counted s (tail l f) (tail r f) i → i ≡ length (sameTails s f l r)
+  tails-all s f n i z o p q k = count-end s (tail l f) (tail r f) k (none-left (reach o p q)) ∙ ap length (tails-are s f)
+    where
+      reach : f ≤ n → i ≤ n - f → n - f ≤ i → f + i ≡ n
+      reach o p q = omega arith
+
+      gone : (a : ℕ) → f + i ≡ a → a - i - f ≡ 0
+      gone a j = omega arith
+
+      zero-left : (x y : ℕ) → x ≡ 0 → min x y ≡ 0
+      zero-left x y j = omega arith
+
+      zero-right : (x y : ℕ) → y ≡ 0 → min x y ≡ 0
+      zero-right x y j = omega arith
+
+      lower : (x a b : ℕ) → x ≡ min a b → a ≤ b → x ≡ a
+      lower x a b j k = omega arith
+
+      upper : (x a b : ℕ) → x ≡ min a b → b < a → x ≡ b
+      upper x a b j k = omega arith
+
+      smaller : (a b : ℕ) → f + i ≡ min a b → min (a - i - f) (b - i - f) ≡ 0
+      smaller a b j =
+          decide (leb a b) (λ h. zero-left (a - i - f) (b - i - f) (gone a (lower (f + i) a b j (leb-true a b h))))
+          (λ h. zero-right (a - i - f) (b - i - f) (gone b (upper (f + i) a b j (leb-false a b h))))
+
+      none-left : f + i ≡ n → min (length (tail l f i)) (length (tail r f i)) ≡ 0
+      none-left j = rw (tail-length l f i, tail-length r f i) (smaller (length l) (length r) (j ∙ z))
+
+  -- what is left by its places
+  pub found : (s : Store) (f n : ℕ) → f ≡ length (sameHeads s l r) → n ≡ length (sameTails s f l r) → Finds s l r (record { from = f; lhs = length l - n; rhs = length r - n })
+  unfolding rest
+  found s f n p q =
+      let a = heads-short s l r in
+      let b = tails-short s f l r in
+      record {
+        heads = p;
+        left = ap (λ (x : ℕ). length l - x) q;
+        right = ap (λ (x : ℕ). length r - x) q;
+        is = places ∙ pair-is (inner-part l f n (omega arith)) (inner-part r f n (omega arith));
+        inside = (omega arith, omega arith, omega arith, omega arith);
+      }
+    where
+      pair-is : {x x′ y y′ : List ℕ} → x ≡ x′ → y ≡ y′ → _≡_ {A = List ℕ × List ℕ} (x, y) (x′, y′)
+      pair-is i j = rw (i, j)
+
+      places : rest s l r ≡ (inner f n l, inner f n r)
+      places = rw (q, p)
+
+-- HEADS, THEN TAILS
+
+module _ (t e h ks l r : List ℕ) {c : State} {rs rs₁ : List ℕ} (x : Rest) (f : Finds (readIn t h c) l r x) (y : Answered)
+    (w : Working (explainMatches (sameHeads (readIn t h c) l r)) (lent t e h rs ks) (lent t e h rs₁ ks) c (added y (lent t e h rs₁ ks))) where
+  pub both-refused : (k : ℕ) → y ≡ adding.Refused k → Working (explainMatches (matches (readIn t h c) l r)) (lent t e h rs ks) (lent t e h rs₁ ks) c (added (adding.Refused k) (lent t e h rs₁ ks))
+  both-refused k j = record {
+    says =
+        matches-append (sameHeads (readIn t h c) l r) (sameTails (readIn t h c) (length (sameHeads (readIn t h c) l r)) l r) (storeOf (lent t e h rs ks) c)
+        ∙ ap (andThen (λ (u : Unit {0}). explainMatches (sameTails (readIn t h c) (length (sameHeads (readIn t h c) l r)) l r))) (w .says ∙ ap (λ (o : Answered). added o (lent t e h rs₁ ks)) j);
+    kept = w .kept;
   }
 
-  module _ (d : State) (f x z : ℕ) (j : y ≡ Parts d f x z) where
-    ends : (x ≡ length l) × (z ≡ length r)
-    ends = subst (λ (o : Stripped). Whole o l r) j (w .whole)
+  module _ (d : State) (j : y ≡ adding.Counts d) (ready : Ready (lent t e h rs ks) c) (strings : all (isString (readIn t h c)) l ≡ true) (others : all (isString (readIn t h c)) r ≡ true) where
+    heads-say : explainMatches (sameHeads (readIn t h c) l r) (storeOf (lent t e h rs ks) c) ≡ ok (storeOf (lent t e h rs₁ ks) d) tt
+    heads-say = w .says ∙ ap (λ (o : Answered). added o (lent t e h rs₁ ks)) j
 
-    bounds : (f ≤ x) × (x ≤ length l) × (f ≤ z) × (z ≤ length r)
-    bounds = subst (λ (o : Stripped). Inside o l r) j (w .strips .inside)
+    pub heads-going : Going t e h ks c rs d rs₁
+    heads-going =
+        let m = off-heads (storeOf (lent t e h rs ks) c) l r (all-every _ l strings) (all-every _ r others) .matched in
+        let k =
+        ap (λ (p : List (ℕ × ℕ)). explainMatches p (storeOf (lent t e h rs ks) c)) (heads-by (storeOf (lent t e h rs ks) c) (readIn t h c) (same-read t e h ks rs c) l r)
+        ∙ heads-say in
+        let o = matches-end (sameHeads (storeOf (lent t e h rs ks) c) l r) (storeOf (lent t e h rs ks) c) (ready .audited) m .given (storeOf (lent t e h rs₁ ks) d) tt k in
+        record { ready = ready-after ready refl refl (o .audited); added = o .added; kept = w .kept }
 
-    pub strip-from : f ≤ min (length l) (length r)
-    strip-from = let a = bounds .0 in let b = bounds .2 in let p = ends .0 in let q = ends .1 in omega arith
+    tails-kept : sameTails (readIn t h d) (x .from) l r ≡ sameTails (readIn t h c) (x .from) l r
+    tails-kept = tails-by (readIn t h d) (readIn t h c) (going-same t e h ks heads-going) (x .from) l r
 
-    heads-say : stripHeads l r (storeOf (lent t e h rs ks) c) ≡ ok (storeOf (lent t e h rs₁ ks) d) (drop f l, drop f r)
-    heads-say =
-        w .strips .is .says ∙ ap (λ (o : Stripped). stripped o (lent t e h rs₁ ks) l r) j
-        ∙ ap (λ (k : ℕ). stripped (Parts d f k z) (lent t e h rs₁ ks) l r) (ends .0) ∙ ap (λ (k : ℕ). stripped (Parts d f (length l) k) (lent t e h rs₁ ks) l r) (ends .1)
-        ∙ rw (part-whole l f, part-whole r f)
+    pub tails-counted : (n : ℕ) → n ≡ length l - x .lhs → n ≡ length (sameTails (readIn t h d) (x .from) l r)
+    tails-counted n q =
+        let a = f .left in
+        let b = tails-short (readIn t h c) (x .from) l r in
+        let k = ap length tails-kept in
+        omega arith
 
-    halves : strip l r (storeOf (lent t e h rs ks) c) ≡ stripTails (drop f l) (drop f r) (storeOf (lent t e h rs₁ ks) d)
-    unfolding strip stripTails
-    halves = rw heads-say
+    pub both-explained : (rs₂ : List ℕ) (o : Answered) → Working (explainMatches (sameTails (readIn t h d) (x .from) l r)) (lent t e h rs₁ ks) (lent t e h rs₂ ks) d (added o (lent t e h rs₂ ks))
+        → Working (explainMatches (matches (readIn t h c) l r)) (lent t e h rs ks) (lent t e h rs₂ ks) c (added o (lent t e h rs₂ ks))
+    both-explained rs₂ o v = record {
+      says =
+          matches-append (sameHeads (readIn t h c) l r) (sameTails (readIn t h c) (length (sameHeads (readIn t h c) l r)) l r) (storeOf (lent t e h rs ks) c)
+          ∙ ap (andThen (λ (u : Unit {0}). explainMatches (sameTails (readIn t h c) (length (sameHeads (readIn t h c) l r)) l r))) heads-say
+          ∙ ap (λ (n : ℕ). explainMatches (sameTails (readIn t h c) n l r) (storeOf (lent t e h rs₁ ks) d)) (sym (f .heads))
+          ∙ ap (λ (m : List (ℕ × ℕ)). explainMatches m (storeOf (lent t e h rs₁ ks) d)) (sym tails-kept) ∙ v .says;
+      kept = kept-down t e h ks heads-going rs₂ (v .kept);
+    }
 
-    module _ (ready : Ready (lent t e h rs ks) c) (strings : all (isString (readIn t h c)) l ≡ true) (others : all (isString (readIn t h c)) r ≡ true) where
-      pub strip-going : Going t e h ks c rs d rs₁
-      strip-going =
-          let o = heads-ends l r (storeOf (lent t e h rs ks) c) (ready .audited) (all-every _ l strings) (all-every _ r others) .given (storeOf (lent t e h rs₁ ks) d) (drop f l, drop f r) heads-say in
-          record { ready = ready-after ready refl refl (o .cited .audited); added = o .cited .added; kept = w .strips .is .kept }
+-- STEP 1
 
-      pub strip-both : (rs₂ : List ℕ) (o : Stripped) → Strips (stripTails (drop f l) (drop f r)) (lent t e h rs₁ ks) (lent t e h rs₂ ks) d l r o → Strips (strip l r) (lent t e h rs ks) (lent t e h rs₂ ks) c l r o
-      strip-both rs₂ o v = record {
-        is = record { says = halves ∙ v .is .says; kept = kept-down t e h ks strip-going rs₂ (v .is .kept) };
-        inside = v .inside;
-      }
+module _ (t e h ks l r : List ℕ) {c : State} {rs rs₁ : List ℕ} (x : Rest) (f : Finds (readIn t h c) l r x) (y : Answered)
+    (w : Working (explainMatches (matches (readIn t h c) l r)) (lent t e h rs ks) (lent t e h rs₁ ks) c (added y (lent t e h rs₁ ks))) where
+  abbrev entry : Store
+  entry = storeOf (lent t e h rs ks) c
+
+  explained : (o : Out (Unit {0})) → added y (lent t e h rs₁ ks) ≡ o → explainMatches (matches entry l r) entry ≡ o
+  explained o j = ap (λ (m : List (ℕ × ℕ)). explainMatches m entry) (matches-by entry (readIn t h c) (same-read t e h ks rs c) l r) ∙ w .says ∙ j
+
+  pub strip-refused : (k : ℕ) → y ≡ adding.Refused k → Strips (lent t e h rs ks) (lent t e h rs₁ ks) c l r (Refused k)
+  unfolding strip
+  strip-refused k j = record { is = record { says = rw (explained (stop k) (ap (λ (o : Answered). added o (lent t e h rs₁ ks)) j)); kept = w .kept }; inside = tt }
+
+  pub strip-parts : (d : State) → y ≡ adding.Counts d → Strips (lent t e h rs ks) (lent t e h rs₁ ks) c l r (Parts d (x .from) (x .lhs) (x .rhs))
+  unfolding strip
+  strip-parts d j = record {
+    is = record {
+      says = rw (explained (ok (storeOf (lent t e h rs₁ ks) d) tt) (ap (λ (o : Answered). added o (lent t e h rs₁ ks)) j)) (ap (ok (storeOf (lent t e h rs₁ ks) d)) (rest-by entry (readIn t h c) (same-read t e h ks rs c) l r ∙ f .is));
+      kept = w .kept;
+    };
+    inside = f .inside;
+  }

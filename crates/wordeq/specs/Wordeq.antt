@@ -56,24 +56,46 @@ letters s l = joined (lettersOf s) l
 
 -- 1. 'Strip same heads, then same tails, explaining class matches. Nothing left: Done'
 
--- two numbers or two constants need no reason
+-- the pairs of same heads of two lists, in order
+unfoldable pub sameHeads : Store → List ℕ → List ℕ → List (ℕ × ℕ)
+sameHeads s [] r = []
+sameHeads s (a ∷ l) [] = []
+sameHeads s (a ∷ l) (b ∷ r) = elim (same s a b) [ true ↦ (a, b) ∷ sameHeads s l r | false ↦ [] ]
+
+-- the pairs of same tails of two lists without their first n atoms, from the ends on
+unfoldable pub sameTails : Store → ℕ → List ℕ → List ℕ → List (ℕ × ℕ)
+sameTails s n l r = sameHeads s (reverse (drop n l)) (reverse (drop n r))
+
+-- the matches that are stripped
+abbrev pub matches : Store → List ℕ → List ℕ → List (ℕ × ℕ)
+matches s l r = sameHeads s l r ++ sameTails s (length (sameHeads s l r)) l r
+
+-- a list without n heads and k tails
+abbrev pub inner : ℕ → ℕ → List ℕ → List ℕ
+inner n k l = reverse (drop k (reverse (drop n l)))
+
+-- what is left of both lists
+unfoldable pub rest : Store → List ℕ → List ℕ → List ℕ × List ℕ
+rest s l r =
+    let n = length (sameHeads s l r) in
+    let k = length (sameTails s n l r) in
+    (inner n k l, inner n k r)
+
+-- one number or two constants need no reason
 unfoldable pub explainMatch : ℕ → ℕ → Work (Unit {0})
 explainMatch a b = do
   s ← store
   if eqb a b || (isConstant s a && isConstant s b) then give tt else explain a b
 
-unfoldable pub stripHeads : List ℕ → List ℕ → Work (List ℕ × List ℕ)
-stripHeads [] r = give ([], r)
-stripHeads (a ∷ l) [] = give (a ∷ l, [])
-stripHeads (a ∷ l) (b ∷ r) = do
-  s ← store
-  if same s a b then (explainMatch a b >> stripHeads l r) else give (a ∷ l, b ∷ r)
+unfoldable pub explainMatches : List (ℕ × ℕ) → Work (Unit {0})
+explainMatches [] = give tt
+explainMatches (p ∷ l) = explainMatch (p .0) (p .1) >> explainMatches l
 
+-- what is left is found first, and then each match is explained: reasons change nothing in what is the same
 unfoldable pub strip : List ℕ → List ℕ → Work (List ℕ × List ℕ)
 strip l r = do
-  (l₁, r₁) ← stripHeads l r
-  (l₂, r₂) ← stripHeads (reverse l₁) (reverse r₁)
-  give (reverse l₂, reverse r₂)
+  s ← store
+  explainMatches (matches s l r) >> give (rest s l r)
 
 -- 2. 'Occurs check, left single first: a lone non-constant against a list with an atom of its class and a non-empty constant: Conflict.'
 -- Departure A: 'Conflict in step 2 needs an occurrence and a non-empty constant at two different places .. It then explains (first such

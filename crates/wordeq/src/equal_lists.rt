@@ -36,7 +36,9 @@ pub fn nf_equal_unchecked(terms: &[u32], chars: &[u32], c: State, lhs: &[u32], r
 // Whether they are two constants of equal characters.
 fn is_alike(terms: &[u32], chars: &[u32], c: State, a: u32, b: u32) -> bool
     requires { ⌜ Readable (now terms) (now chars) c ⌝ }
-    ensures { λ r. ⌜ r ≡ (isConstant (readIn (now (terms .entry)) (now (chars .entry)) c) a && isConstant (readIn (now (terms .entry)) (now (chars .entry)) c) b && sameWord (text (readIn (now (terms .entry)) (now (chars .entry)) c) a) (text (readIn (now (terms .entry)) (now (chars .entry)) c) b)) ⌝ }
+    ensures { λ r. do
+      let s = readIn (now (terms .entry)) (now (chars .entry)) c
+      ⌜ r ≡ (isConstant s a && isConstant s b && sameWord (text s a) (text s b)) ⌝ }
 {
     if !stripping::both_constant(terms, c.terms, a, b) {
         return false;

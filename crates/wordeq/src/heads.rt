@@ -137,7 +137,10 @@ pub(crate) fn split_unchecked(
     requires { ⌜ HeadsApart (now lhs) (now rhs) ⌝ }
     requires { ⌜ isGuard guard ≡ true ⌝ }
     requires { ⌜ listLimit ≤ length (now list) ⌝ }
-    ensures { λ o. ⌜ Does (clashes (now (lhs .entry)) (now (rhs .entry)) orElse splits guard added (now (lhs .entry)) (now (rhs .entry))) (across terms cells chars reasons keys) c (tried o into list) ⌝ }
+    ensures { λ o. do
+      let l = now (lhs .entry)
+      let r = now (rhs .entry)
+      ⌜ Does (clashes l r orElse splits guard added l r) (across terms cells chars reasons keys) c (tried o into list) ⌝ }
 {
     if lhs.len() == 0 {
         return StepResult::Done(c);

@@ -1,5 +1,6 @@
 // Step 3: the constant characters of two sides against each other. A side has up to 1,024 times 16,384 of them, but constants share the
-// store's 16,384, so a table marks places there: an atom marks each of its places once, and the character of a place is looked for once.
+// store's 16,384, so a table says which places there are used: an atom enters each of its places once, and the character of a place is
+// looked for once.
 ghost use mathlib.Core.Path.{_≡_};
 ghost use mathlib.Core.List.{[]};
 ghost use Prim.Native.Nat.{_+_, _<_, _≤_};
@@ -8,15 +9,15 @@ ghost use Rattle.records.specs.View.{charLimit, span, readIn};
 ghost use Rattle.records.specs.Rules.{listLimit};
 ghost use Rattle.wordeq.specs.Wordeq.{lettersOf, letters, absent};
 ghost use Rattle.wordeq.specs.Sides.{Texts, Spelled};
-ghost use Rattle.wordeq.specs.Lacking.{hasMark, seen, marked, Marked, Lacking, conflicts};
+ghost use Rattle.wordeq.specs.Lacking.{usedAt, seen, used, Uses, Lacking, conflicts};
 use crate::sides;
 use records::State;
 use records::fields;
 use records::rules;
 
-fn has_mark(chars: &[u32], table: &[u8; 16384], x: u32, i: usize) -> bool
+fn used_at(chars: &[u32], table: &[u8; 16384], x: u32, i: usize) -> bool
     requires { ⌜ (i < length (now chars)) × (i < charLimit) ⌝ }
-    ensures { λ b. ⌜ b ≡ hasMark (now (chars .entry)) (now (table .entry)) x i ⌝ }
+    ensures { λ b. ⌜ b ≡ usedAt (now (chars .entry)) (now (table .entry)) x i ⌝ }
 {
     if table[i] == 0 {
         return false;
@@ -24,14 +25,14 @@ fn has_mark(chars: &[u32], table: &[u8; 16384], x: u32, i: usize) -> bool
     x == chars[i]
 }
 
-// Whether one of the first n places is marked and has the character x.
+// Whether one of the first n places is used and has the character x.
 fn is_seen(chars: &[u32], table: &[u8; 16384], n: usize, x: u32) -> bool
     requires { ⌜ (n ≤ length (now chars)) × (n ≤ charLimit) ⌝ }
     ensures { λ b. ⌜ b ≡ seen (now (chars .entry)) (now (table .entry)) n x ⌝ }
 {
     let mut i: usize = 0;
     while i < n {
-        if has_mark(chars, table, x, i) {
+        if used_at(chars, table, x, i) {
             return true;
         }
         i += 1;
@@ -39,7 +40,7 @@ fn is_seen(chars: &[u32], table: &[u8; 16384], n: usize, x: u32) -> bool
     false
 }
 
-// The same for the character at a place, which may be marked itself.
+// The same for the character at a place, which may itself be used.
 fn is_known(chars: &[u32], table: &[u8; 16384], n: usize, i: usize) -> bool
     requires { ⌜ (n ≤ length (now chars)) × (n ≤ charLimit) × (i < n) ⌝ }
     ensures { λ b. ⌜ b ≡ seen (now (chars .entry)) (now (table .entry)) n (getD (now (chars .entry)) i 0) ⌝ }
@@ -50,11 +51,11 @@ fn is_known(chars: &[u32], table: &[u8; 16384], n: usize, i: usize) -> bool
     is_seen(chars, table, n, chars[i])
 }
 
-// THE CHARACTERS OF A SIDE MARKED
+// THE PLACES THAT A SIDE USES
 
-fn mark_text(table: &mut [u8; 16384], p: usize, n: usize)
+fn use_text(table: &mut [u8; 16384], p: usize, n: usize)
     requires { ⌜ p + n ≤ charLimit ⌝ }
-    ensures { λ r. ⌜ now (table .exit) ≡ marked (now (table .entry)) p n ⌝ }
+    ensures { λ r. ⌜ now (table .exit) ≡ used (now (table .entry)) p n ⌝ }
 {
     let mut j: usize = 0;
     while j < n {
@@ -63,32 +64,32 @@ fn mark_text(table: &mut [u8; 16384], p: usize, n: usize)
     }
 }
 
-fn mark_atom(terms: &[u32], c: State, a: u32, table: &mut [u8; 16384])
+fn use_atom(terms: &[u32], c: State, a: u32, table: &mut [u8; 16384])
     requires { ⌜ Texts (now terms) c × (length (now table) ≡ charLimit) ⌝ }
-    ensures { λ r. ⌜ Marked (c .chars) (λ h. lettersOf (readIn (now (terms .entry)) h c) a) (now (table .entry)) (now (table .exit)) ⌝ }
+    ensures { λ r. ⌜ Uses (c .chars) (λ h. lettersOf (readIn (now (terms .entry)) h c) a) (now (table .entry)) (now (table .exit)) ⌝ }
 {
     if rules::kind_of(terms, c.terms, a) != 1 {
         return;
     }
     let p = fields::wide(fields::first(terms, a));
     let n = fields::wide(fields::second(terms, a));
-    mark_text(table, p, n);
+    use_text(table, p, n);
 }
 
-fn mark_side(terms: &[u32], c: State, l: &[u32], table: &mut [u8; 16384])
+fn use_side(terms: &[u32], c: State, l: &[u32], table: &mut [u8; 16384])
     requires { ⌜ Texts (now terms) c × (length (now table) ≡ charLimit) ⌝ }
-    ensures { λ r. ⌜ Marked (c .chars) (λ h. letters (readIn (now (terms .entry)) h c) (now (l .entry))) (now (table .entry)) (now (table .exit)) ⌝ }
+    ensures { λ r. ⌜ Uses (c .chars) (λ h. letters (readIn (now (terms .entry)) h c) (now (l .entry))) (now (table .entry)) (now (table .exit)) ⌝ }
 {
     let mut i: usize = 0;
     while i < l.len() {
-        mark_atom(terms, c, l[i], table);
+        use_atom(terms, c, l[i], table);
         i += 1;
     }
 }
 
-// A CHARACTER THAT IS NOT MARKED
+// A CHARACTER THAT THE SIDE DOES NOT USE
 
-// A place whose character is marked elsewhere is marked too, so that it is looked for once.
+// A place whose character is used elsewhere is entered too, so that it is looked for once.
 fn lacks_text(chars: &[u32], table: &mut [u8; 16384], n: usize, p: usize, k: usize) -> bool
     requires { ⌜ (n ≤ length (now chars)) × (n ≤ charLimit) × (p + k ≤ n) × (length (now table) ≡ charLimit) ⌝ }
     ensures { λ b. ⌜ Lacking (now (chars .entry)) n (span (now (chars .entry)) p k) (now (table .entry)) (now (table .exit)) b ⌝ }
@@ -147,7 +148,7 @@ pub(crate) fn absent(terms: &[u32], chars: &[u32], c: State, l: &[u32], r: &[u32
         return false;
     }
     let mut table: [u8; 16384] = [0; 16384];
-    mark_side(terms, c, l, &mut table);
+    use_side(terms, c, l, &mut table);
     lacks_side(terms, chars, c, r, &mut table)
 }
 

@@ -36,7 +36,14 @@ pub enum StepResult {
     Refused(u32),
 }
 
-// What step 1 leaves: the counts, the place where both parts begin, and where the left and the right one end; or the refusal.
+// The places of what step 1 leaves: where both parts begin, and where the left and the right one end.
+pub struct Rest {
+    pub from: usize,
+    pub lhs: usize,
+    pub rhs: usize,
+}
+
+// What step 1 leaves: the counts, and these places; or the refusal.
 pub enum Stripped {
     Parts(records::State, usize, usize, usize),
     Refused(u32),
@@ -79,7 +86,10 @@ pub fn nf_equal(
     lhs: &[u32],
     rhs: &[u32],
 ) -> Equality
-    ensures { λ r. ⌜ Answers (equalArguments (now (lhs .entry)) (now (rhs .entry))) (equalLists (now (lhs .entry)) (now (rhs .entry))) (across terms cells chars reasons keys) c (λ m. compared r m c) ⌝ }
+    ensures { λ o. do
+      let l = now (lhs .entry)
+      let r = now (rhs .entry)
+      ⌜ Answers (equalArguments l r) (equalLists l r) (across terms cells chars reasons keys) c (λ m. compared o m c) ⌝ }
 {
     let k = records::audit(terms, cells, chars, reasons, keys, c);
     if k != 0 {

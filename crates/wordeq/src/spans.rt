@@ -124,7 +124,9 @@ fn is_unfit<'a>(
     i: usize,
 ) -> bool
     requires { ⌜ Readable (now terms) (now chars) c ⌝ }
-    requires { ⌜ (length (now word) ≤ listLimit) × (isList (readIn (now terms) (now chars) c) (now side) ≡ true) × FirstVariable (termed (now terms) c) (now side) i × (i < length (now side)) ⌝ }
+    requires { do
+      let r = now side
+      ⌜ (length (now word) ≤ listLimit) × (isList (readIn (now terms) (now chars) c) r ≡ true) × FirstVariable (termed (now terms) c) r i × (i < length r) ⌝ }
     ensures { λ b. do
       let s = readIn (now (terms .entry)) (now (chars .entry)) c
       ⌜ b ≡ unfit s (now (word .entry)) (now (side .entry)) (getD (now (side .entry)) i 0) (variables s (drop (suc i) (now (side .entry)))) ⌝ }

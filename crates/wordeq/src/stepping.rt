@@ -33,7 +33,10 @@ fn conflicts_unchecked<'a>(
 ) -> StepResult
     requires { ⌜ Ready (lends terms cells chars reasons keys) c ⌝ }
     requires { ⌜ BothLists (storeOf (lends terms cells chars reasons keys) c) (now lhs) (now rhs) ⌝ }
-    ensures { λ o. ⌜ Between (Tries (occurs (now (lhs .entry)) (now (rhs .entry)) orElse occurs (now (rhs .entry)) (now (lhs .entry)) orElse constants (now (lhs .entry)) (now (rhs .entry)))) (across terms cells chars reasons keys) c o ⌝ }
+    ensures { λ o. do
+      let l = now (lhs .entry)
+      let r = now (rhs .entry)
+      ⌜ Between (Tries (occurs l r orElse occurs r l orElse constants l r)) (across terms cells chars reasons keys) c o ⌝ }
 {
     let o = occurring::occurs_unchecked(terms, cells, chars, reasons, keys, c, lhs, rhs);
     let StepResult::Done(d) = o else {

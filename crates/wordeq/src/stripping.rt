@@ -3,15 +3,16 @@ ghost use mathlib.Core.Path.{_≡_};
 ghost use mathlib.Core.Bool.{true, _&&_};
 ghost use mathlib.Core.List.{[]};
 ghost use Prim.Native.Nat.{min, _≤_};
-ghost use lib.ListN.{length, drop};
+ghost use lib.ListN.{length};
 ghost use lib.Dec.{eqb};
 ghost use Rattle.records.specs.Lists.{all, sameWord};
 ghost use Rattle.records.specs.Store.{termIn, isConstant, isString, text, sameClass};
 ghost use Rattle.records.specs.View.{termsView, lends, across, Between, readIn};
 ghost use Rattle.records.specs.Audited.{Ready};
 ghost use Rattle.records.specs.Calls.{added, Does};
-ghost use Rattle.wordeq.specs.Wordeq.{same, explainMatch, strip};
-ghost use Rattle.wordeq.specs.Stripping.{Readable, Pair, stripTails, Strips, StripsHeads};
+ghost use Rattle.wordeq.specs.Wordeq.{same, sameHeads, sameTails, matches, explainMatch, explainMatches};
+ghost use Rattle.wordeq.specs.Stripping.{Readable, Pair, Finds, Strips};
+use crate::Rest;
 use crate::Stripped;
 use records::Added;
 use records::State;
@@ -101,8 +102,70 @@ fn shorter(a: usize, b: usize) -> usize
     b
 }
 
-// Same heads, from place 0 on.
-fn strip_heads(
+// How many heads are the same.
+fn count_heads(terms: &[u32], chars: &[u32], c: State, lhs: &[u32], rhs: &[u32]) -> usize
+    requires { ⌜ Readable (now terms) (now chars) c ⌝ }
+    requires { ⌜ all (isString (readIn (now terms) (now chars) c)) (now lhs) ≡ true ⌝ }
+    requires { ⌜ all (isString (readIn (now terms) (now chars) c)) (now rhs) ≡ true ⌝ }
+    ensures { λ n. ⌜ n ≡ length (sameHeads (readIn (now (terms .entry)) (now (chars .entry)) c) (now (lhs .entry)) (now (rhs .entry))) ⌝ }
+{
+    let n = shorter(lhs.len(), rhs.len());
+    let mut i: usize = 0;
+    while i < n {
+        if !same_unchecked(terms, chars, c, lhs[i], rhs[i]) {
+            return i;
+        }
+        i += 1;
+    }
+    i
+}
+
+// How many tails are the same, from the ends down to place `from`.
+fn count_tails(
+    terms: &[u32],
+    chars: &[u32],
+    c: State,
+    lhs: &[u32],
+    rhs: &[u32],
+    from: usize,
+) -> usize
+    requires { ⌜ Readable (now terms) (now chars) c ⌝ }
+    requires { ⌜ all (isString (readIn (now terms) (now chars) c)) (now lhs) ≡ true ⌝ }
+    requires { ⌜ all (isString (readIn (now terms) (now chars) c)) (now rhs) ≡ true ⌝ }
+    requires { ⌜ from ≤ min (length (now lhs)) (length (now rhs)) ⌝ }
+    ensures { λ n. ⌜ n ≡ length (sameTails (readIn (now (terms .entry)) (now (chars .entry)) c) from (now (lhs .entry)) (now (rhs .entry))) ⌝ }
+{
+    let n = shorter(lhs.len(), rhs.len());
+    let mut i: usize = 0;
+    while i < n - from {
+        let x = lhs[lhs.len() - 1 - i];
+        let y = rhs[rhs.len() - 1 - i];
+        if !same_unchecked(terms, chars, c, x, y) {
+            return i;
+        }
+        i += 1;
+    }
+    i
+}
+
+// What is left of two lists of string terms without their same heads and then their same tails. It writes nothing.
+pub fn find_rest_unchecked(terms: &[u32], chars: &[u32], c: State, lhs: &[u32], rhs: &[u32]) -> Rest
+    requires { ⌜ Readable (now terms) (now chars) c ⌝ }
+    requires { ⌜ all (isString (readIn (now terms) (now chars) c)) (now lhs) ≡ true ⌝ }
+    requires { ⌜ all (isString (readIn (now terms) (now chars) c)) (now rhs) ≡ true ⌝ }
+    ensures { λ x. ⌜ Finds (readIn (now (terms .entry)) (now (chars .entry)) c) (now (lhs .entry)) (now (rhs .entry)) x ⌝ }
+{
+    let from = count_heads(terms, chars, c, lhs, rhs);
+    let n = count_tails(terms, chars, c, lhs, rhs, from);
+    Rest {
+        from: from,
+        lhs: lhs.len() - n,
+        rhs: rhs.len() - n,
+    }
+}
+
+// The reasons why the first n heads, which are the same, are equal.
+fn explain_heads(
     terms: &[u32],
     cells: &[u32],
     chars: &[u32],
@@ -111,36 +174,36 @@ fn strip_heads(
     c: State,
     lhs: &[u32],
     rhs: &[u32],
-) -> Stripped
+    n: usize,
+) -> Added
     requires { ⌜ Ready (lends terms cells chars reasons keys) c ⌝ }
     requires { ⌜ all (isString (readIn (now terms) (now chars) c)) (now lhs) ≡ true ⌝ }
     requires { ⌜ all (isString (readIn (now terms) (now chars) c)) (now rhs) ≡ true ⌝ }
-    ensures { λ r. ⌜ Between StripsHeads (across terms cells chars reasons keys) c (now (lhs .entry)) (now (rhs .entry)) r ⌝ }
+    requires { ⌜ n ≡ length (sameHeads (readIn (now terms) (now chars) c) (now lhs) (now rhs)) ⌝ }
+    ensures { λ o. do
+      let s = readIn (now (terms .entry)) (now (chars .entry)) c
+      ⌜ Does (explainMatches (sameHeads s (now (lhs .entry)) (now (rhs .entry)))) (across terms cells chars reasons keys) c (added o) ⌝ }
 {
-    let n = shorter(lhs.len(), rhs.len());
     let mut d = c;
     let mut i: usize = 0;
     while i < n {
         let a = lhs[i];
         let b = rhs[i];
-        if !same_unchecked(terms, chars, d, a, b) {
-            return Stripped::Parts(d, i, lhs.len(), rhs.len());
-        }
         match explain_match_unchecked(terms, cells, chars, reasons, keys, d, a, b) {
             Added::Counts(e) => {
                 d = e;
             }
             Added::Refused(k) => {
-                return Stripped::Refused(k);
+                return Added::Refused(k);
             }
         }
         i += 1;
     }
-    Stripped::Parts(d, i, lhs.len(), rhs.len())
+    Added::Counts(d)
 }
 
-// Same tails, from the ends down to place `from`.
-fn strip_tails(
+// The reasons why the last n tails, which are the same, are equal, from the ends on.
+fn explain_tails(
     terms: &[u32],
     cells: &[u32],
     chars: &[u32],
@@ -150,36 +213,65 @@ fn strip_tails(
     lhs: &[u32],
     rhs: &[u32],
     from: usize,
-) -> Stripped
+    n: usize,
+) -> Added
     requires { ⌜ Ready (lends terms cells chars reasons keys) c ⌝ }
     requires { ⌜ all (isString (readIn (now terms) (now chars) c)) (now lhs) ≡ true ⌝ }
     requires { ⌜ all (isString (readIn (now terms) (now chars) c)) (now rhs) ≡ true ⌝ }
-    requires { ⌜ from ≤ min (length (now lhs)) (length (now rhs)) ⌝ }
-    ensures { λ r. ⌜ Between (Strips (stripTails (drop from (now (lhs .entry))) (drop from (now (rhs .entry))))) (across terms cells chars reasons keys) c (now (lhs .entry)) (now (rhs .entry)) r ⌝ }
+    requires { ⌜ n ≡ length (sameTails (readIn (now terms) (now chars) c) from (now lhs) (now rhs)) ⌝ }
+    ensures { λ o. do
+      let s = readIn (now (terms .entry)) (now (chars .entry)) c
+      ⌜ Does (explainMatches (sameTails s from (now (lhs .entry)) (now (rhs .entry)))) (across terms cells chars reasons keys) c (added o) ⌝ }
 {
-    let n = shorter(lhs.len(), rhs.len());
     let mut d = c;
     let mut i: usize = 0;
-    while i < n - from {
+    while i < n {
         let a = lhs[lhs.len() - 1 - i];
         let b = rhs[rhs.len() - 1 - i];
-        if !same_unchecked(terms, chars, d, a, b) {
-            return Stripped::Parts(d, from, lhs.len() - i, rhs.len() - i);
-        }
         match explain_match_unchecked(terms, cells, chars, reasons, keys, d, a, b) {
             Added::Counts(e) => {
                 d = e;
             }
             Added::Refused(k) => {
-                return Stripped::Refused(k);
+                return Added::Refused(k);
             }
         }
         i += 1;
     }
-    Stripped::Parts(d, from, lhs.len() - i, rhs.len() - i)
+    Added::Counts(d)
 }
 
-// Step 1 on two lists of string terms.
+// The reasons of the matches outside `rest`: heads in order, then tails from the ends on.
+fn explain_stripped(
+    terms: &[u32],
+    cells: &[u32],
+    chars: &[u32],
+    reasons: &mut [u32],
+    keys: &[u32],
+    c: State,
+    lhs: &[u32],
+    rhs: &[u32],
+    rest: Rest,
+) -> Added
+    requires { ⌜ Ready (lends terms cells chars reasons keys) c ⌝ }
+    requires { ⌜ all (isString (readIn (now terms) (now chars) c)) (now lhs) ≡ true ⌝ }
+    requires { ⌜ all (isString (readIn (now terms) (now chars) c)) (now rhs) ≡ true ⌝ }
+    requires { ⌜ Finds (readIn (now terms) (now chars) c) (now lhs) (now rhs) rest ⌝ }
+    ensures { λ o. do
+      let s = readIn (now (terms .entry)) (now (chars .entry)) c
+      ⌜ Does (explainMatches (matches s (now (lhs .entry)) (now (rhs .entry)))) (across terms cells chars reasons keys) c (added o) ⌝ }
+{
+    let from = rest.from;
+    let n = lhs.len() - rest.lhs;
+    match explain_heads(terms, cells, chars, reasons, keys, c, lhs, rhs, from) {
+        Added::Counts(d) => {
+            explain_tails(terms, cells, chars, reasons, keys, d, lhs, rhs, from, n)
+        }
+        Added::Refused(k) => Added::Refused(k),
+    }
+}
+
+// Step 1 on two lists of string terms: what is left is found, and then each match is explained.
 pub fn strip_unchecked(
     terms: &[u32],
     cells: &[u32],
@@ -193,12 +285,11 @@ pub fn strip_unchecked(
     requires { ⌜ Ready (lends terms cells chars reasons keys) c ⌝ }
     requires { ⌜ all (isString (readIn (now terms) (now chars) c)) (now lhs) ≡ true ⌝ }
     requires { ⌜ all (isString (readIn (now terms) (now chars) c)) (now rhs) ≡ true ⌝ }
-    ensures { λ r. ⌜ Between (Strips (strip (now (lhs .entry)) (now (rhs .entry)))) (across terms cells chars reasons keys) c (now (lhs .entry)) (now (rhs .entry)) r ⌝ }
+    ensures { λ r. ⌜ Between Strips (across terms cells chars reasons keys) c (now (lhs .entry)) (now (rhs .entry)) r ⌝ }
 {
-    match strip_heads(terms, cells, chars, reasons, keys, c, lhs, rhs) {
-        Stripped::Parts(d, from, _, _) => {
-            strip_tails(terms, cells, chars, reasons, keys, d, lhs, rhs, from)
-        }
-        Stripped::Refused(k) => Stripped::Refused(k),
+    let rest = find_rest_unchecked(terms, chars, c, lhs, rhs);
+    match explain_stripped(terms, cells, chars, reasons, keys, c, lhs, rhs, rest) {
+        Added::Counts(d) => Stripped::Parts(d, rest.from, rest.lhs, rest.rhs),
+        Added::Refused(k) => Stripped::Refused(k),
     }
 }

@@ -1,5 +1,6 @@
 use Rattle.records.specs.View.{readIn}
-use Rattle.wordeq.proofs.Listed.{strings-pair, unequal-lengths, equal-stop, equal-turn, equal-end}
+use Rattle.wordeq.proofs.Strips.{strings-pair}
+use Rattle.wordeq.proofs.Listed.{unequal-lengths, equal-stop, equal-turn, equal-end}
 use Rattle.wordeq.specs.Wordeq.{nfEqual}
 use lib.ListN.{length, drop}
 use Prim.Native.Nat.{_-_, _≤_}
@@ -34,7 +35,7 @@ nf-equal-unchecked-spec =
     let at-if1 = at-loop-test .before .before in
     let at-start = at-if1 .before .before .before .before .before in (
       at-start .pre .0,
-      strings-pair _ (at-start .args .lhs .now) (at-start .args .rhs .now) (at-start .pre .1 .0) (at-start .pre .1 .1) _ (at-loop-test .loop-test .taken)
+      strings-pair _ (at-start .args .lhs .now) (at-start .args .rhs .now) (at-start .pre .1 .0) (at-start .pre .1 .1) _ _ (at-loop-test .loop-test .taken)
           (let p = at-loop-test .loop-test .taken in let q = at-if1 .if1 .left in omega arith),
     ))
     (λ c.

@@ -24,15 +24,15 @@ returns-2 c =
     absent-bare (at-start .args .terms .now) (at-start .args .chars .now) (at-start .args .c) (at-start .args .l .now) (at-start .args .r .now) (at-start .pre .0 .texts) _
     (c .before .letters-length .ensures) (c .if2 .taken)
 
-mark-side-requires : tie.Need-mark-side-requires
-mark-side-requires c κs =
+use-side-requires : tie.Need-use-side-requires
+use-side-requires c κs =
     let at-start = c .before .before .before .before .before .before .before .before .before in
     (at-start .pre .0 .texts, length-replicate {A = ℕ} 16384 0)
 
 lacks-side-requires : tie.Need-lacks-side-requires
 lacks-side-requires c κs =
     let at-start = c .before .before .before .before .before .before .before .before .before .before .before in
-    (at-start .pre .0, c .before .mark-side .ensures .size ∙ length-replicate {A = ℕ} 16384 0)
+    (at-start .pre .0, c .before .use-side .ensures .size ∙ length-replicate {A = ℕ} 16384 0)
 
 returns-3 : tie.Need-returns-3
 returns-3 c =
@@ -40,7 +40,7 @@ returns-3 c =
     let at-is-fixed = at-if1 .before in
     let at-start = at-is-fixed .before .before .before .before .before in
     absent-is (at-start .args .terms .now) (at-start .args .chars .now) (at-start .args .c) (at-start .args .l .now) (at-start .args .r .now) _ (at-is-fixed .is-fixed .ensures) (at-if1 .if1 .left) (at-start .pre .0 .texts .limited) _ _ _
-    (c .before .before .mark-side .ensures) (c .lacks-side .ensures)
+    (c .before .before .use-side .ensures) (c .lacks-side .ensures)
 
 pub absent-spec : {M : Type 1} → statement M
 absent-spec =
@@ -50,6 +50,6 @@ absent-spec =
     returns
     letters-length-requires
     returns-2
-    mark-side-requires
+    use-side-requires
     lacks-side-requires
     returns-3)

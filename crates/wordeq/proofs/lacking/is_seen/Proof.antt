@@ -1,4 +1,4 @@
-use Rattle.wordeq.proofs.LackingMarks.{Unseen, unseen-none, unseen-stop, unseen-one, unseen-done}
+use Rattle.wordeq.proofs.LackingPlaces.{Unseen, unseen-none, unseen-stop, unseen-one, unseen-done}
 use Prim.Native.Nat.{_-_}
 use borrow.Author.Needs.{needs}
 use Rattle.wordeq.proofs.lacking.is_seen.Statement.{statement}
@@ -13,13 +13,13 @@ abbrev μ-loop : tie.MeasureT-loop
 loop-holds : tie.Need-loop-holds Inv-loop μ-loop
 loop-holds c = unseen-none _ _ _ _
 
-has-mark-requires : tie.Need-has-mark-requires Inv-loop μ-loop
-has-mark-requires c κs = search needs
+used-at-requires : tie.Need-used-at-requires Inv-loop μ-loop
+used-at-requires c κs = search needs
 
 returns : tie.Need-returns Inv-loop μ-loop
 returns c =
     let at-loop = c .before .before .before in
-    unseen-stop _ _ _ _ _ (at-loop .loop .inv) _ (c .before .has-mark .ensures) (c .before .before .loop-test .taken) (c .if1 .taken)
+    unseen-stop _ _ _ _ _ (at-loop .loop .inv) _ (c .before .used-at .ensures) (c .before .before .loop-test .taken) (c .if1 .taken)
 
 add-i : tie.Need-add-i Inv-loop μ-loop
 add-i c = search needs
@@ -30,7 +30,7 @@ loop-less c = search needs
 loop-again : tie.Need-loop-again Inv-loop μ-loop
 loop-again c =
     let at-loop = c .before .before .before in
-    unseen-one _ _ _ _ _ (at-loop .loop .inv) _ (c .before .has-mark .ensures) (c .before .before .loop-test .taken) (c .if1 .left)
+    unseen-one _ _ _ _ _ (at-loop .loop .inv) _ (c .before .used-at .ensures) (c .before .before .loop-test .taken) (c .if1 .left)
 
 returns-2 : tie.Need-returns-2 Inv-loop μ-loop
 returns-2 c = unseen-done _ _ _ _ _ (c .before .loop .inv) (c .loop-test .left)
@@ -42,7 +42,7 @@ is-seen-spec =
     Inv-loop
     μ-loop
     loop-holds
-    has-mark-requires
+    used-at-requires
     returns
     add-i
     loop-less

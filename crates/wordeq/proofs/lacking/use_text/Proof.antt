@@ -1,17 +1,17 @@
-use Rattle.wordeq.proofs.LackingMarks.{Marks, marks-none, marks-one, marks-done}
+use Rattle.wordeq.proofs.LackingPlaces.{Using, using-none, using-one, using-done}
 use Prim.Native.Nat.{_-_}
 use borrow.Author.Needs.{needs}
-use Rattle.wordeq.proofs.lacking.mark_text.Statement.{statement}
-use Rattle.wordeq.proofs.lacking.mark_text.Tie as tie
+use Rattle.wordeq.proofs.lacking.use_text.Statement.{statement}
+use Rattle.wordeq.proofs.lacking.use_text.Tie as tie
 
 abbrev Inv-loop : tie.InvT-loop
-Inv-loop table₀ p n j₀ table j = Marks table₀ p n table j
+Inv-loop table₀ p n j₀ table j = Using table₀ p n table j
 
 abbrev μ-loop : tie.MeasureT-loop
 μ-loop table₀ p n j₀ table j = n - j
 
 loop-holds : tie.Need-loop-holds Inv-loop μ-loop
-loop-holds c = marks-none _ _ _
+loop-holds c = using-none _ _ _
 
 add-table : tie.Need-add-table Inv-loop μ-loop
 add-table c = search needs
@@ -26,13 +26,13 @@ loop-less : tie.Need-loop-less Inv-loop μ-loop
 loop-less c = search needs
 
 loop-again : tie.Need-loop-again Inv-loop μ-loop
-loop-again c = marks-one _ _ _ _ _ (c .before .loop .inv) (c .loop-test .taken)
+loop-again c = using-one _ _ _ _ _ (c .before .loop .inv) (c .loop-test .taken)
 
 returns : tie.Need-returns Inv-loop μ-loop
-returns c = marks-done _ _ _ _ _ (c .before .loop .inv) (c .loop-test .left)
+returns c = using-done _ _ _ _ _ (c .before .loop .inv) (c .loop-test .left)
 
-pub mark-text-spec : {M : Type 1} → statement M
-mark-text-spec =
+pub use-text-spec : {M : Type 1} → statement M
+use-text-spec =
     tie.close
     (tie.spec
     Inv-loop

@@ -1,7 +1,7 @@
-use Rattle.wordeq.proofs.LackingSides.{mark-atom-none, mark-atom-is, text-limit}
+use Rattle.wordeq.proofs.LackingSides.{use-atom-none, use-atom-is, text-limit}
 use borrow.Author.Needs.{needs}
-use Rattle.wordeq.proofs.lacking.mark_atom.Statement.{statement}
-use Rattle.wordeq.proofs.lacking.mark_atom.Tie as tie
+use Rattle.wordeq.proofs.lacking.use_atom.Statement.{statement}
+use Rattle.wordeq.proofs.lacking.use_atom.Tie as tie
 
 kind-of-requires : tie.Need-kind-of-requires
 kind-of-requires c κs = search needs
@@ -9,7 +9,7 @@ kind-of-requires c κs = search needs
 returns : tie.Need-returns
 returns c =
     let at-start = c .before .before .before in
-    mark-atom-none (at-start .args .terms .now) (at-start .args .c) (at-start .args .a) _ (at-start .pre .0) (c .before .kind-of .ensures) (c .if1 .taken) _
+    use-atom-none (at-start .args .terms .now) (at-start .args .c) (at-start .args .a) _ (at-start .pre .0) (c .before .kind-of .ensures) (c .if1 .taken) _
 
 first-requires : tie.Need-first-requires
 first-requires c κs = search needs
@@ -23,8 +23,8 @@ second-requires c κs = search needs
 wide-requires-2 : tie.Need-wide-requires-2
 wide-requires-2 c κs = search needs
 
-mark-text-requires : tie.Need-mark-text-requires
-mark-text-requires c κs =
+use-text-requires : tie.Need-use-text-requires
+use-text-requires c κs =
     let at-wide = c .before .before .before in
     let at-first = at-wide .before in
     let at-if1 = at-first .before in
@@ -41,11 +41,11 @@ returns-2 c =
     let at-if1 = at-first .before in
     let at-kind-of = at-if1 .before in
     let at-start = at-kind-of .before .before in
-    mark-atom-is (at-start .args .terms .now) (at-start .args .c) (at-start .args .a) _ (at-start .pre .0) (at-kind-of .kind-of .ensures) (at-if1 .if1 .left) _ _ _ _
-    (at-first .first .ensures) (at-wide .wide .ensures) (at-second .second .ensures) (c .before .before .wide2 .ensures) _ _ (at-start .pre .1) (c .mark-text .ensures)
+    use-atom-is (at-start .args .terms .now) (at-start .args .c) (at-start .args .a) _ (at-start .pre .0) (at-kind-of .kind-of .ensures) (at-if1 .if1 .left) _ _ _ _
+    (at-first .first .ensures) (at-wide .wide .ensures) (at-second .second .ensures) (c .before .before .wide2 .ensures) _ _ (at-start .pre .1) (c .use-text .ensures)
 
-pub mark-atom-spec : {M : Type 1} → statement M
-mark-atom-spec =
+pub use-atom-spec : {M : Type 1} → statement M
+use-atom-spec =
     tie.close
     (tie.spec
     kind-of-requires
@@ -54,5 +54,5 @@ mark-atom-spec =
     wide-requires
     second-requires
     wide-requires-2
-    mark-text-requires
+    use-text-requires
     returns-2)

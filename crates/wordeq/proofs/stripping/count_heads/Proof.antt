@@ -1,0 +1,60 @@
+use Prim.Native.Nat.{_-_, _≤_}
+use lib.ListN.{drop}
+use Rattle.records.specs.View.{readIn}
+use Rattle.wordeq.proofs.Strips.{strings-pair, drop-head, Counted, counted-none, count-stop, count-turn, below-left, below-right, heads-all}
+use native.Mathlib.Omega.{arith}
+use borrow.Author.Needs.{needs}
+use Rattle.wordeq.proofs.stripping.count_heads.Statement.{statement}
+use Rattle.wordeq.proofs.stripping.count_heads.Tie as tie
+
+abbrev Inv-loop : tie.InvT-loop
+Inv-loop terms chars c lhs rhs n i₀ i = (i ≤ n) × Counted (readIn terms chars c) (λ k. drop k lhs) (λ k. drop k rhs) i
+
+abbrev μ-loop : tie.MeasureT-loop
+μ-loop terms chars c lhs rhs n i₀ i = n - i
+
+pub count-heads-spec : {M : Type 1} → statement M
+count-heads-spec =
+    tie.close
+    (tie.spec
+    Inv-loop
+    μ-loop
+    (λ c κs. search needs)
+    (λ c.
+    let at-start = c .before .before .before .before .before in
+    (omega arith, counted-none _ (λ k. drop k (at-start .args .lhs .now)) (λ k. drop k (at-start .args .rhs .now))))
+    (λ c. search needs)
+    (λ c. let at-shorter = c .before .before .before in below-left _ _ _ _ (at-shorter .shorter .ensures) (c .before .loop-test .taken))
+    (λ c. search needs)
+    (λ c. let at-shorter = c .before .before .before .before in below-right _ _ _ _ (at-shorter .shorter .ensures) (c .before .before .loop-test .taken))
+    (λ c κs.
+    let at-loop-test = c .before .before in
+    let at-shorter = at-loop-test .before .before in
+    let at-start = at-shorter .before .before .before .before .before in (
+      at-start .pre .0,
+      strings-pair _ (at-start .args .lhs .now) (at-start .args .rhs .now) (at-start .pre .1 .0) (at-start .pre .1 .1) _ _
+          (below-left _ _ _ _ (at-shorter .shorter .ensures) (at-loop-test .loop-test .taken)) (below-right _ _ _ _ (at-shorter .shorter .ensures) (at-loop-test .loop-test .taken)),
+    ))
+    (λ c.
+    let at-loop-test = c .before .before .before .before in
+    let at-loop = at-loop-test .before in
+    let at-shorter = at-loop .before in
+    let at-start = at-shorter .before .before .before .before .before in
+    count-stop _ (λ k. drop k (at-start .args .lhs .now)) (λ k. drop k (at-start .args .rhs .now)) (at-loop .loop .inv .1) _ _
+    (drop-head _ _ (below-left _ _ _ _ (at-shorter .shorter .ensures) (at-loop-test .loop-test .taken)))
+    (drop-head _ _ (below-right _ _ _ _ (at-shorter .shorter .ensures) (at-loop-test .loop-test .taken))) _ (c .before .same-unchecked .ensures) (c .if1 .taken))
+    (λ c. search needs)
+    (λ c. let at-loop-test = c .before .before .before .before in (let p = at-loop-test .loop-test .taken in omega arith))
+    (λ c.
+    let at-loop-test = c .before .before .before .before in
+    let at-loop = at-loop-test .before in
+    let at-shorter = at-loop .before in
+    let at-start = at-shorter .before .before .before .before .before in (
+      let p = at-loop-test .loop-test .taken in omega arith,
+      count-turn _ (λ k. drop k (at-start .args .lhs .now)) (λ k. drop k (at-start .args .rhs .now)) (at-loop .loop .inv .1) _ _
+          (drop-head _ _ (below-left _ _ _ _ (at-shorter .shorter .ensures) (at-loop-test .loop-test .taken)))
+          (drop-head _ _ (below-right _ _ _ _ (at-shorter .shorter .ensures) (at-loop-test .loop-test .taken))) _ (c .before .same-unchecked .ensures) (c .if1 .left),
+    ))
+    (λ c.
+    let at-start = c .before .before .before .before .before .before .before in
+    heads-all (at-start .args .lhs .now) (at-start .args .rhs .now) _ _ _ (c .before .before .shorter .ensures) (c .before .loop .inv .0) (c .loop-test .left) (c .before .loop .inv .1)))

@@ -1,0 +1,46 @@
+use mathlib.Core.Path.{refl}
+use Rattle.wordeq.proofs.Strips.{going-strings, both-refused, heads-going, tails-counted, both-explained}
+use native.Mathlib.Omega.{arith}
+use borrow.Author.Needs.{needs}
+use Rattle.wordeq.proofs.stripping.explain_stripped.Statement.{statement}
+use Rattle.wordeq.proofs.stripping.explain_stripped.Tie as tie
+
+pub explain-stripped-spec : {M : Type 1} → statement M
+explain-stripped-spec =
+    tie.close
+    (tie.spec
+    (λ c. let at-start = c .before .before .before .before .before .before .before .before in let p = at-start .pre .1 .1 .1 .inside .1 in omega arith)
+    (λ c κs.
+    let at-start = c .before .before .before .before .before .before .before .before .before in
+    (at-start .pre .0, (at-start .pre .1 .0, (at-start .pre .1 .1 .0, at-start .pre .1 .1 .1 .heads))))
+    (λ c. search needs)
+    (λ c κs.
+    let at-d = c .before .before in
+    let at-explain-heads = at-d .before .before .before .before in
+    let at-start = at-explain-heads .before .before .before .before .before .before .before .before .before .before in
+    let going = heads-going (at-start .args .terms .now) (at-start .args .cells .now) (at-start .args .chars .now) (at-start .args .keys .now)
+    (at-start .args .lhs .now) (at-start .args .rhs .now) (at-start .args .rest) (at-start .pre .1 .1 .1) _ (at-explain-heads .explain-heads .ensures) _ (at-d .d .given .1) (at-start .pre .0) (at-start .pre .1 .0) (at-start .pre .1 .1 .0) in (
+      going .ready,
+      (
+        going-strings (at-start .args .terms .now) (at-start .args .cells .now) (at-start .args .chars .now) (at-start .args .keys .now) going _ (at-start .pre .1 .0),
+        (
+          going-strings (at-start .args .terms .now) (at-start .args .cells .now) (at-start .args .chars .now) (at-start .args .keys .now) going _ (at-start .pre .1 .1 .0),
+          tails-counted (at-start .args .terms .now) (at-start .args .cells .now) (at-start .args .chars .now) (at-start .args .keys .now)
+              (at-start .args .lhs .now) (at-start .args .rhs .now) (at-start .args .rest) (at-start .pre .1 .1 .1) _ (at-explain-heads .explain-heads .ensures) _ (at-d .d .given .1) (at-start .pre .0) (at-start .pre .1 .0) (at-start .pre .1 .1 .0) _ refl,
+        ),
+      ),
+    ))
+    (λ c. search needs)
+    (λ c. search needs)
+    (λ c.
+    let at-d = c .before .before .before .before .before in
+    let at-explain-heads = at-d .before .before .before .before in
+    let at-start = at-explain-heads .before .before .before .before .before .before .before .before .before .before in
+    both-explained (at-start .args .terms .now) (at-start .args .cells .now) (at-start .args .chars .now) (at-start .args .keys .now)
+    (at-start .args .lhs .now) (at-start .args .rhs .now) (at-start .args .rest) (at-start .pre .1 .1 .1) _ (at-explain-heads .explain-heads .ensures) _ (at-d .d .given .1) (at-start .pre .0) (at-start .pre .1 .0) (at-start .pre .1 .1 .0) _ (c .before .before .explain-tails .result) (c .before .before .explain-tails .ensures))
+    (λ c. search needs)
+    (λ c.
+    let at-explain-heads = c .before .before .before .before .before in
+    let at-start = at-explain-heads .before .before .before .before .before .before .before .before .before .before in
+    both-refused (at-start .args .terms .now) (at-start .args .cells .now) (at-start .args .chars .now) (at-start .args .keys .now)
+    (at-start .args .lhs .now) (at-start .args .rhs .now) (at-start .args .rest) (at-start .pre .1 .1 .1) _ (at-explain-heads .explain-heads .ensures) _ (c .before .k .given .1)))

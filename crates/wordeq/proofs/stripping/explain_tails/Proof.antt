@@ -1,0 +1,112 @@
+use mathlib.Core.Path.{_≡_, refl}
+use Prim.Native.Nat.{_-_, _≤_}
+use lib.ListN.{length}
+use Rattle.records.specs.View.{readIn}
+use Rattle.wordeq.proofs.Strips.{pair-of, tail, tail-head, Matching, matching-none, matching-end, matching-same, matching-refused, matching-turn, last-below, tails-within, tails-total, tails-explained}
+use native.Mathlib.Omega.{arith}
+use borrow.Author.Needs.{needs}
+use Rattle.wordeq.proofs.stripping.explain_tails.Statement.{statement}
+use Rattle.wordeq.proofs.stripping.explain_tails.Tie as tie
+
+abbrev Inv-loop : tie.InvT-loop
+Inv-loop terms cells chars reasons₀ keys lhs rhs from n d₀ i₀ reasons d i = (i ≤ n) × ((length reasons ≡ length reasons₀) × Matching terms cells chars keys (tail lhs from) (tail rhs from) d₀ reasons₀ d reasons i)
+
+abbrev μ-loop : tie.MeasureT-loop
+μ-loop terms cells chars reasons₀ keys lhs rhs from n d₀ i₀ reasons d i = n - i
+
+pub explain-tails-spec : {M : Type 1} → statement M
+explain-tails-spec =
+    tie.close
+    (tie.spec
+    Inv-loop
+    μ-loop
+    (λ c.
+    let at-start = c .before .before .before .before .before .before .before in
+    (omega arith, (refl, matching-none (at-start .args .terms .now) (at-start .args .cells .now) (at-start .args .chars .now) (at-start .args .keys .now) (tail (at-start .args .lhs .now) (at-start .args .from)) (tail (at-start .args .rhs .now) (at-start .args .from)) (at-start .pre .0))))
+    (λ c.
+    let at-loop-test = c in
+    let at-loop = at-loop-test .before in
+    let at-start = at-loop .before .before .before .before .before .before .before .before in
+    let within = tails-within (at-start .args .lhs .now) (at-start .args .rhs .now) (readIn (at-start .args .terms .now) (at-start .args .chars .now) (at-start .args .c)) (at-start .args .from) _ _ (at-start .pre .1 .1 .1) (at-loop-test .loop-test .taken) in
+    let p = within .0 in omega arith)
+    (λ c.
+    let at-loop-test = c in
+    let at-loop = at-loop-test .before in
+    let at-start = at-loop .before .before .before .before .before .before .before .before in
+    let within = tails-within (at-start .args .lhs .now) (at-start .args .rhs .now) (readIn (at-start .args .terms .now) (at-start .args .chars .now) (at-start .args .c)) (at-start .args .from) _ _ (at-start .pre .1 .1 .1) (at-loop-test .loop-test .taken) in
+    let p = within .0 in omega arith)
+    (λ c. search needs)
+    (λ c.
+    let at-loop-test = c .before in
+    let at-loop = at-loop-test .before in
+    let at-start = at-loop .before .before .before .before .before .before .before .before in
+    let within = tails-within (at-start .args .lhs .now) (at-start .args .rhs .now) (readIn (at-start .args .terms .now) (at-start .args .chars .now) (at-start .args .c)) (at-start .args .from) _ _ (at-start .pre .1 .1 .1) (at-loop-test .loop-test .taken) in
+    (last-below _ (at-start .args .from) _ (within .0)))
+    (λ c.
+    let at-loop-test = c .before in
+    let at-loop = at-loop-test .before in
+    let at-start = at-loop .before .before .before .before .before .before .before .before in
+    let within = tails-within (at-start .args .lhs .now) (at-start .args .rhs .now) (readIn (at-start .args .terms .now) (at-start .args .chars .now) (at-start .args .c)) (at-start .args .from) _ _ (at-start .pre .1 .1 .1) (at-loop-test .loop-test .taken) in
+    let p = within .1 in omega arith)
+    (λ c.
+    let at-loop-test = c .before in
+    let at-loop = at-loop-test .before in
+    let at-start = at-loop .before .before .before .before .before .before .before .before in
+    let within = tails-within (at-start .args .lhs .now) (at-start .args .rhs .now) (readIn (at-start .args .terms .now) (at-start .args .chars .now) (at-start .args .c)) (at-start .args .from) _ _ (at-start .pre .1 .1 .1) (at-loop-test .loop-test .taken) in
+    let p = within .1 in omega arith)
+    (λ c. search needs)
+    (λ c.
+    let at-loop-test = c .before .before in
+    let at-loop = at-loop-test .before in
+    let at-start = at-loop .before .before .before .before .before .before .before .before in
+    let within = tails-within (at-start .args .lhs .now) (at-start .args .rhs .now) (readIn (at-start .args .terms .now) (at-start .args .chars .now) (at-start .args .c)) (at-start .args .from) _ _ (at-start .pre .1 .1 .1) (at-loop-test .loop-test .taken) in
+    (last-below _ (at-start .args .from) _ (within .1)))
+    (λ c κs.
+    let at-loop-test = c .before .before .before in
+    let at-loop = at-loop-test .before in
+    let at-start = at-loop .before .before .before .before .before .before .before .before in
+    let within = tails-within (at-start .args .lhs .now) (at-start .args .rhs .now) (readIn (at-start .args .terms .now) (at-start .args .chars .now) (at-start .args .c)) (at-start .args .from) _ _ (at-start .pre .1 .1 .1) (at-loop-test .loop-test .taken) in (
+      at-loop .loop .inv .1 .1 .going .ready,
+      (
+        pair-of (at-start .args .terms .now) (at-start .args .cells .now) (at-start .args .chars .now) (at-start .args .keys .now) (at-loop .loop .inv .1 .1 .going) (at-start .args .lhs .now) (at-start .args .rhs .now) (at-start .pre .1 .0) (at-start .pre .1 .1 .0) _ _ (last-below _ (at-start .args .from) _ (within .0)) (last-below _ (at-start .args .from) _ (within .1)),
+        matching-same (at-start .args .terms .now) (at-start .args .cells .now) (at-start .args .chars .now) (at-start .args .keys .now)
+            (tail (at-start .args .lhs .now) (at-start .args .from)) (tail (at-start .args .rhs .now) (at-start .args .from)) (at-loop .loop .inv .1 .1) _ (tails-total (at-start .args .lhs .now) (at-start .args .rhs .now) (readIn (at-start .args .terms .now) (at-start .args .chars .now) (at-start .args .c)) (at-start .args .from) _ (at-start .pre .1 .1 .1)) _ _
+            (tail-head (at-start .args .lhs .now) (at-start .args .from) _ (within .0)) (tail-head (at-start .args .rhs .now) (at-start .args .from) _ (within .1)) (at-loop-test .loop-test .taken),
+      ),
+    ))
+    (λ c. search needs)
+    (λ c. search needs)
+    (λ c. search needs)
+    (λ c.
+    let at-explain-match-unchecked = c .before .before .before .before .before in
+    let at-loop-test = at-explain-match-unchecked .before .before .before .before in
+    let at-loop = at-loop-test .before in
+    let at-start = at-loop .before .before .before .before .before .before .before .before in
+    let within = tails-within (at-start .args .lhs .now) (at-start .args .rhs .now) (readIn (at-start .args .terms .now) (at-start .args .chars .now) (at-start .args .c)) (at-start .args .from) _ _ (at-start .pre .1 .1 .1) (at-loop-test .loop-test .taken) in
+    tails-explained (at-start .args .lhs .now) (at-start .args .rhs .now) (readIn (at-start .args .terms .now) (at-start .args .chars .now) (at-start .args .c)) (at-start .args .from)
+    (matching-refused (at-start .args .terms .now) (at-start .args .cells .now) (at-start .args .chars .now) (at-start .args .keys .now)
+    (tail (at-start .args .lhs .now) (at-start .args .from)) (tail (at-start .args .rhs .now) (at-start .args .from)) (at-loop .loop .inv .1 .1) _ (tails-total (at-start .args .lhs .now) (at-start .args .rhs .now) (readIn (at-start .args .terms .now) (at-start .args .chars .now) (at-start .args .c)) (at-start .args .from) _ (at-start .pre .1 .1 .1)) _ _
+    (tail-head (at-start .args .lhs .now) (at-start .args .from) _ (within .0)) (tail-head (at-start .args .rhs .now) (at-start .args .from) _ (within .1)) (at-loop-test .loop-test .taken) _ (at-explain-match-unchecked .explain-match-unchecked .ensures) _ (c .before .k .given .1)))
+    (λ c. search (needs, c .before .before .before .before .before .before .before .before .before .loop-test .taken, c .before .before .before .before .before .before .before .before .before .before .before .before .before .before .before .before .before .before .good))
+    (λ c. let at-loop-test = c .before .before .before .before .before .before .before .before .before in (let p = at-loop-test .loop-test .taken in omega arith))
+    (λ c. (
+      let at-loop-test = c .before .before .before .before .before .before .before .before .before in let p = at-loop-test .loop-test .taken in omega arith,
+      (
+        search needs,
+        let at-explain-match-unchecked = c .before .before .before .before .before in
+            let at-loop-test = at-explain-match-unchecked .before .before .before .before in
+            let at-loop = at-loop-test .before in
+            let at-start = at-loop .before .before .before .before .before .before .before .before in
+            let within = tails-within (at-start .args .lhs .now) (at-start .args .rhs .now) (readIn (at-start .args .terms .now) (at-start .args .chars .now) (at-start .args .c)) (at-start .args .from) _ _ (at-start .pre .1 .1 .1) (at-loop-test .loop-test .taken) in
+            matching-turn (at-start .args .terms .now) (at-start .args .cells .now) (at-start .args .chars .now) (at-start .args .keys .now)
+            (tail (at-start .args .lhs .now) (at-start .args .from)) (tail (at-start .args .rhs .now) (at-start .args .from)) (at-loop .loop .inv .1 .1) _ (tails-total (at-start .args .lhs .now) (at-start .args .rhs .now) (readIn (at-start .args .terms .now) (at-start .args .chars .now) (at-start .args .c)) (at-start .args .from) _ (at-start .pre .1 .1 .1)) _ _
+            (tail-head (at-start .args .lhs .now) (at-start .args .from) _ (within .0)) (tail-head (at-start .args .rhs .now) (at-start .args .from) _ (within .1)) (at-loop-test .loop-test .taken) _ (at-explain-match-unchecked .explain-match-unchecked .ensures) _ (c .before .e .given .1)
+            (pair-of (at-start .args .terms .now) (at-start .args .cells .now) (at-start .args .chars .now) (at-start .args .keys .now) (at-loop .loop .inv .1 .1 .going) (at-start .args .lhs .now) (at-start .args .rhs .now) (at-start .pre .1 .0) (at-start .pre .1 .1 .0) _ _ (last-below _ (at-start .args .from) _ (within .0)) (last-below _ (at-start .args .from) _ (within .1))),
+      ),
+    ))
+    (λ c. search needs)
+    (λ c.
+    let at-start = c .before .before .before .before .before .before .before .before .before in
+    tails-explained (at-start .args .lhs .now) (at-start .args .rhs .now) (readIn (at-start .args .terms .now) (at-start .args .chars .now) (at-start .args .c)) (at-start .args .from)
+    (matching-end (at-start .args .terms .now) (at-start .args .cells .now) (at-start .args .chars .now) (at-start .args .keys .now)
+    (tail (at-start .args .lhs .now) (at-start .args .from)) (tail (at-start .args .rhs .now) (at-start .args .from)) (c .before .loop .inv .1 .1) _ (tails-total (at-start .args .lhs .now) (at-start .args .rhs .now) (readIn (at-start .args .terms .now) (at-start .args .chars .now) (at-start .args .c)) (at-start .args .from) _ (at-start .pre .1 .1 .1)) (c .loop-test .left))))
