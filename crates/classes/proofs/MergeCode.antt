@@ -2,7 +2,7 @@
 use mathlib.Core.Path.{_≡_, refl, sym, ap, subst, _∙_}
 use mathlib.Core.Bool.{Bool, true, false, not}
 use mathlib.Core.List.{List}
-use Prim.Native.Nat.{ℕ, zero, suc, _-_, _≤_}
+use Prim.Native.Nat.{ℕ, zero, suc, _-_, _≤_, _<_}
 use native.Mathlib.Omega.{arith}
 use lib.ListN.{length, set}
 use lib.Seq.{set-set}
@@ -10,13 +10,13 @@ use lib.Dec.{eqb}
 use borrow.Author.Tests.{eq-eqb, ne-eqb, not-true, not-false}
 use Rattle.records.specs.declared.State.{State}
 use Rattle.records.specs.Store.{Term, ok, stop, within, isString, sameClass, rootIn, classUp, forestUp}
-use Rattle.records.specs.View.{Lent, lent, storeOf, termAt, termsView, termWords}
+use Rattle.records.specs.View.{Lent, lent, storeOf, termAt, termsView, termWords, zeroTerm}
 use Rattle.records.specs.Puts.{withClass, withEdge, TermSet}
 use Rattle.records.specs.Rules.{audit, isNumber}
 use Rattle.records.specs.Make.{withTerms}
 use Rattle.records.specs.Audited.{Ready, Closed, Audited}
 use Rattle.records.specs.Calls.{call}
-use Rattle.records.proofs.Lists.{failed, passed, and-stop, and-next, five-1, five-2, five-3, five-4, five-last, within-high}
+use Rattle.records.proofs.Lists.{failed, passed, and-stop, and-next, five-1, five-2, five-3, five-4, five-last, within-low, within-high}
 use Rattle.records.proofs.Passed.{ready-of, ready-after, audit-of}
 use Rattle.records.proofs.Public.{call-unready, call-unfit}
 use Rattle.records.proofs.Grown.{string-term}
@@ -129,6 +129,11 @@ module _ (m : Lent) (c : State) (child parent n stamp k : ℕ) (v : k ≡ audit 
         let r = ready-of m c (sym v ∙ z) .sized .termRoom in
         omega arith
 
+-- record 0 is another record
+zero-away : {l l′ : List ℕ} {t : ℕ} {x : Term} → TermSet l l′ t x → 0 < t → zeroTerm l′ ≡ zeroTerm l
+unfolding zeroTerm
+zero-away a h = a .away 0 (λ e. omega arith)
+
 module _ (t e h r ks t′ : List ℕ) (c : State) (child parent n stamp k : ℕ) (v : k ≡ audit (lent t e h r ks) c) (z : k ≡ 0)
     (b : Bool) (f : b ≡ canMerge child parent n (storeOf (lent t e h r ks) c)) (y : not b ≡ false) where
   pub merge-is : TermSet t t′ child (under (termAt t child) parent n stamp) → PublicMerge (lent t e h r ks) (lent t′ e h r ks) c child parent n stamp 0
@@ -141,18 +146,19 @@ module _ (t e h r ks t′ : List ℕ) (c : State) (child parent n stamp k : ℕ)
       let p : termsView t′ (c .terms) ≡ mergeIn (termsView t (c .terms)) child parent n stamp =
       j .terms (c .terms) w ∙ ap (λ (x : Term). set (termsView t (c .terms)) (child - 1) (under x parent n stamp)) (sym (view-term t (c .terms) child w)) in
       let q = j .long in
+      let y₀ = zero-away j (within-low (c .terms) child w) in
       let d = ready-of m c a in
-      let k = merged-store p q in
+      let k = merged-store p q y₀ in
       record {
-        says = stored p q ∙ sym (rw (a, g));
+        says = stored p q y₀ ∙ sym (rw (a, g));
         idle = λ o. absurd (o refl);
         kept = λ o. audit-of (lent t′ e h r ks) c (ready-after d q refl (subst Audited (sym k) (merge-kept (storeOf m c) child parent n stamp (d .audited) g)));
       }
     where
-      merged-store : termsView t′ (c .terms) ≡ mergeIn (termsView t (c .terms)) child parent n stamp → length t′ ≡ length t
+      merged-store : termsView t′ (c .terms) ≡ mergeIn (termsView t (c .terms)) child parent n stamp → length t′ ≡ length t → zeroTerm t′ ≡ zeroTerm t
           → storeOf (lent t′ e h r ks) c ≡ withTerms (storeOf (lent t e h r ks) c) (mergeIn (termsView t (c .terms)) child parent n stamp)
-      merged-store p q = cc
+      merged-store p q y₀ = cc
 
-      stored : termsView t′ (c .terms) ≡ mergeIn (termsView t (c .terms)) child parent n stamp → length t′ ≡ length t
+      stored : termsView t′ (c .terms) ≡ mergeIn (termsView t (c .terms)) child parent n stamp → length t′ ≡ length t → zeroTerm t′ ≡ zeroTerm t
           → ok (storeOf (lent t′ e h r ks) c) tt ≡ mergeClasses child parent n stamp (storeOf (lent t e h r ks) c)
-      stored p q = cc
+      stored p q y₀ = cc
