@@ -15,7 +15,7 @@ use Rattle.records.proofs.Lists.{word-is, clash, every-append, every-left, ever
 use Rattle.records.proofs.Outcomes.{ends-give, ends-map, ends-if, ends-then}
 use Rattle.records.proofs.Grown.{Strings, strings-later}
 use Rattle.wordeq.specs.Wordeq.{same, explainMatch, strip, sameHeads, sameTails, rest, explainMatches}
-use Rattle.engine.proofs.Added.{Added}
+use Rattle.records.proofs.Later.{Added}
 use Rattle.wordeq.proofs.Words
 use Rattle.wordeq.proofs.Words.{Alike, alike-reverse, cancel-front, cancel-back, unturn}
 use Rattle.wordeq.proofs.Ends.{Ends}
