@@ -26,13 +26,12 @@ use Rattle.wordeq.specs.declared.StepResult.{StepResult}
 use Rattle.wordeq.specs.declared.StepResult.the-variants as step
 use Rattle.wordeq.specs.Wordeq.{Answer, done, saturated, conflict, propagate, split, resolve, resolveArguments, isGuard}
 use Rattle.wordeq.specs.Meaning.{Sound}
-use Rattle.wordeq.specs.Results.{resolved}
-use Rattle.wordeq.specs.Calls.{PublicResolve}
+use Rattle.wordeq.specs.Calls.{PublicResolve, resolved}
 use Rattle.wordeq.proofs.Resolve.{resolve-kept, resolve-stops}
 use Rattle.wordeq.proofs.FewAtoms.{Few, resolve-few}
 use Rattle.capi.specs.Interface.{stateOf, roomy}
 use Rattle.capi.specs.Equations.{flag, answerWords, answerRead, ExportedResolve}
-use Rattle.capi.specs.Leaves.{Narrow, NarrowAnswer, Telling, tells, ToldWords, ToldBy, answerTelling}
+use Rattle.capi.specs.Working.Leaves.{Narrow, NarrowAnswer, Telling, tells, ToldWords, ToldBy, answerTelling}
 use Rattle.capi.proofs.Exports.{Tells, Shows}
 use Rattle.capi.proofs.Listings.{list-gives, list-room, list-tellable, list-exported, list-worth, untold-list}
 

@@ -14,7 +14,7 @@ use Rattle.records.specs.Store.{Store, ok, stop, Work}
 use Rattle.records.specs.View.{Lent, storeOf}
 use Rattle.records.specs.Calls.{call, Public, added, fullAlone}
 use Rattle.capi.specs.Interface.{stateOf, over, Exported}
-use Rattle.capi.specs.Leaves.{Narrow, ToldBy, addedTelling}
+use Rattle.capi.specs.Working.Leaves.{Narrow, ToldBy, addedTelling}
 use Rattle.capi.proofs.Exports.{Tells, narrow, call-audited, call-stops, Shows, told-exported, told-worth, told-stop}
 
 abbrev noWords : Unit {0} → List ℕ

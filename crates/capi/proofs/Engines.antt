@@ -12,7 +12,7 @@ use Rattle.records.specs.declared.Added.the-variants as adding
 use Rattle.records.specs.Lists.{Every}
 use Rattle.records.specs.Store.{Store, isString, sameClass}
 use Rattle.records.specs.View.{Lent, storeOf}
-use Rattle.records.specs.Audited.{Audited}
+use Rattle.records.specs.Working.Audited.{Audited}
 use Rattle.records.specs.Calls.{call, Public, added}
 use Rattle.records.proofs.Lists.{both-left, both-right}
 use Rattle.engine.specs.declared.Found.{Found}
@@ -22,7 +22,7 @@ use Rattle.engine.specs.Meaning.{Explains, addedTo, Labels}
 use Rattle.engine.specs.Calls.{found, PublicExplain}
 use Rattle.engine.proofs.Sound.{explain-kept, explain-stops}
 use Rattle.capi.specs.Interface.{stateOf, roomy, over, Exported, ExportedExplain}
-use Rattle.capi.specs.Leaves.{Narrow, Telling, tells, refuses, ToldBy, addedTelling}
+use Rattle.capi.specs.Working.Leaves.{Narrow, Telling, tells, refuses, ToldBy, addedTelling}
 use Rattle.capi.proofs.Words.{written-same, roomy-state, roomy-answer, one-told, told-by, told-refuses}
 use Rattle.capi.proofs.Exports.{Tells, call-stops, untold, Shows, told-exported, numberWords, numberRead}
 use Rattle.capi.proofs.CountExports.{counts-tellable, counts-exported, counts-worth, counts-full}

@@ -10,7 +10,7 @@ use Rattle.records.specs.declared.State.{State}
 use Rattle.records.specs.declared.Added.{Added}
 use Rattle.records.specs.declared.Added.the-variants as adding
 use Rattle.records.specs.View.{Lent, storeOf}
-use Rattle.records.specs.Audited.{Audited}
+use Rattle.records.specs.Working.Audited.{Audited}
 use Rattle.records.specs.Calls.{call, Public, added}
 use Rattle.wordeq.specs.declared.Equality.{Equality}
 use Rattle.wordeq.specs.declared.Equality.the-variants as equality
@@ -20,7 +20,7 @@ use Rattle.wordeq.specs.Calls.{equalArguments, equalLists, compared, PublicEqua
 use Rattle.wordeq.proofs.Equal.{explain-equal-kept, explain-equal-stops}
 use Rattle.capi.specs.Interface.{stateOf, roomy}
 use Rattle.capi.specs.Equations.{flag, flagWords, flagRead, ExportedEqual, ExportedEqualExplain}
-use Rattle.capi.specs.Leaves.{Narrow, Telling, tells, refuses, ToldBy, addedTelling}
+use Rattle.capi.specs.Working.Leaves.{Narrow, Telling, tells, refuses, ToldBy, addedTelling}
 use Rattle.capi.proofs.Words.{written-same, roomy-state, roomy-answer, one-told, told-by, told-refuses}
 use Rattle.capi.proofs.Exports.{Tells, call-stops, untold, Shows, told-exported}
 use Rattle.capi.proofs.CountExports.{counts-tellable, counts-exported, counts-worth, counts-full}

@@ -12,13 +12,13 @@ use Rattle.records.specs.declared.Made.the-variants.{Term, Refused}
 use Rattle.records.specs.Store.{Store, Out, ok, stop, Work}
 use Rattle.records.specs.View.{Lent, storeOf}
 use Rattle.records.specs.Rules.{audit}
-use Rattle.records.specs.Audited.{Audited}
+use Rattle.records.specs.Working.Audited.{Audited}
 use Rattle.records.specs.Calls.{call, checked, unless, Public, made}
 use Rattle.records.proofs.Lists.{table-length}
 use Rattle.records.proofs.Works.{stop-not}
 use Rattle.records.proofs.Passed.{ready-of}
 use Rattle.capi.specs.Interface.{stateOf, Beyond, roomy, over, Exported, Answered}
-use Rattle.capi.specs.Leaves.{Narrow, Telling, tells, refuses, numberOf, stateWith, answerWith, ToldWords, ToldBy, madeTelling}
+use Rattle.capi.specs.Working.Leaves.{Narrow, Telling, tells, refuses, numberOf, stateWith, answerWith, ToldWords, ToldBy, madeTelling}
 use Rattle.capi.proofs.Words.{beyond-same, beyond-written, beyond-words, roomy-state, roomy-answer}
 
 -- the counts of an audited store are within their limits

@@ -10,7 +10,7 @@ use Rattle.records.specs.declared.State.{State}
 use Rattle.records.specs.Store.{Store, ok}
 use Rattle.records.specs.View.{Lent, storeOf}
 use Rattle.records.specs.Rules.{listLimit}
-use Rattle.records.specs.Audited.{Audited}
+use Rattle.records.specs.Working.Audited.{Audited}
 use Rattle.records.proofs.Lists.{table-length}
 use Rattle.normalize.specs.declared.Form.{Form}
 use Rattle.normalize.specs.declared.Form.the-variants as form
@@ -23,7 +23,7 @@ use Rattle.normalize.proofs.Formed.{form-gives, form-kept, form-stops}
 use Rattle.normalize.proofs.Deep.{deep-gives, deep-kept, deep-stops}
 use Rattle.capi.specs.Interface.{stateOf, roomy}
 use Rattle.capi.specs.Forms.{formWords, deepWords, formRead, deepRead, ExportedForm, ExportedDeepForm}
-use Rattle.capi.specs.Leaves.{Narrow, NarrowList, formTelling, deepTelling, ToldBy}
+use Rattle.capi.specs.Working.Leaves.{Narrow, NarrowList, formTelling, deepTelling, ToldBy}
 use Rattle.capi.proofs.Exports.{Tells, Shows}
 use Rattle.capi.proofs.Listings.{list-gives, list-narrow, list-exported, list-worth, untold-list}
 

@@ -12,12 +12,12 @@ use Rattle.records.specs.Lists.{if_then_else_}
 use Rattle.records.specs.Store.{Store, Out, ok, stop, Work}
 use Rattle.records.specs.View.{Lent, storeOf}
 use Rattle.records.specs.Rules.{listLimit}
-use Rattle.records.specs.Audited.{Audited}
+use Rattle.records.specs.Working.Audited.{Audited}
 use Rattle.records.specs.Calls.{call}
 use Rattle.records.proofs.Works.{stop-not}
 use Rattle.normalize.specs.Calls.{listCall, PublicList}
 use Rattle.capi.specs.Interface.{stateOf, roomy, over, AnsweredList}
-use Rattle.capi.specs.Leaves.{Narrow, Telling, tells, refuses, ToldWords}
+use Rattle.capi.specs.Working.Leaves.{Narrow, Telling, tells, refuses, ToldWords}
 use Rattle.capi.proofs.Words.{roomy-state, roomy-answer}
 use Rattle.capi.proofs.Exports.{Tells, narrow, call-gives, call-stops, untold, Shows, told-exported, told-worth, told-stop}
 

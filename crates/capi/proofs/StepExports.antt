@@ -18,7 +18,7 @@ use Rattle.records.proofs.Lists.{both-right}
 use Rattle.normalize.specs.Calls.{listCall, PublicList}
 use Rattle.wordeq.specs.declared.StepResult.{StepResult}
 use Rattle.wordeq.specs.Wordeq.{Answer, done, saturated, conflict, propagate, split}
-use Rattle.wordeq.specs.Results.{resolved}
+use Rattle.wordeq.specs.Calls.{resolved}
 use Rattle.equation.specs.declared.Outcome.{Outcome}
 use Rattle.equation.specs.declared.Outcome.the-variants as outcome
 use Rattle.equation.specs.Equation.{Stepped, unexpanded, answered, step, stepArguments, StepSound}
@@ -28,7 +28,7 @@ use Rattle.equation.proofs.FewAtoms.{step-few}
 use Rattle.capi.specs.Interface.{stateOf, roomy}
 use Rattle.capi.specs.Equations.{answerWords, answerRead}
 use Rattle.capi.specs.Steps.{stepWords, stepRead, ExportedStep}
-use Rattle.capi.specs.Leaves.{Narrow, NarrowOutcome, Telling, tells, refuses, ToldBy, answerTelling, outcomeTelling}
+use Rattle.capi.specs.Working.Leaves.{Narrow, NarrowOutcome, Telling, tells, refuses, ToldBy, answerTelling, outcomeTelling}
 use Rattle.capi.proofs.Exports.{Tells, Shows}
 use Rattle.capi.proofs.Listings.{list-tellable, list-exported, list-worth, untold-list}
 use Rattle.capi.proofs.AnswerExports.{Stands, split-stands, answer-narrow, answer-shows}

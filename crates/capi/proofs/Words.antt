@@ -13,7 +13,7 @@ use Rattle.records.specs.View.{Lent, counts}
 use Rattle.records.specs.Rules.{audit}
 use Rattle.records.proofs.Lists.{both-left, both-right, left-false, and-next}
 use Rattle.capi.specs.Interface.{stateOf, Beyond, roomy, audited}
-use Rattle.capi.specs.Leaves.{written, Telling, tells, refuses, ToldWords, ToldBy}
+use Rattle.capi.specs.Working.Leaves.{written, Telling, tells, refuses, ToldWords, ToldBy}
 
 -- six words one after the other
 pub sets-written : (c : State) (w : List ℕ) → 6 ≤ length w

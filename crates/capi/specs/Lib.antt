@@ -1,5 +1,5 @@
 pub mod Interface
-pub mod Leaves
 pub mod Forms
 pub mod Equations
 pub mod Steps
+pub mod Working

@@ -14,7 +14,7 @@ use Rattle.records.specs.Lists.{firsts, Every}
 use Rattle.records.specs.Store.{Term, Store, termIn, noTerm, term, count, kind, within, isTerm, isString, textIn, text, chain, parts, climb, classUp, forestUp, root, top, sameClass, isEdge}
 use Rattle.records.specs.Rules.{isNumber, keyRule, isEquatable}
 use Rattle.records.specs.Make.{withTerms}
-use Rattle.records.specs.Audited.{Part, Label, asserted, interface, congruence, definitional, Unlabelled, Falls, Pairs, Congruent, Recorded, Classed, Congruences, Roomy, Audited}
+use Rattle.records.specs.Working.Audited.{Part, Label, asserted, interface, congruence, definitional, Unlabelled, Falls, Pairs, Congruent, Recorded, Classed, Congruences, Roomy, Audited}
 use Rattle.records.proofs.Lists.{clash, both-left, both-right, within-low, within-high, every-map, every-both, all-every, every-all}
 use Rattle.records.proofs.Climbs.{root-self, top-self}
 use Rattle.records.proofs.Grown.{string-term}

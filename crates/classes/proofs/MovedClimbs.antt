@@ -4,7 +4,7 @@ use mathlib.Core.Bool.{true}
 use Prim.Native.Nat.{ℕ, zero, suc}
 use native.Mathlib.Decide.{ℕ-discrete}
 use Rattle.records.specs.Store.{within, climb}
-use Rattle.records.specs.Audited.{Closed}
+use Rattle.records.specs.Working.Audited.{Closed}
 use Rattle.records.proofs.Climbs.{climb-stays, climb-up}
 use Rattle.records.proofs.Repeats.{climb-one, climb-enough}
 

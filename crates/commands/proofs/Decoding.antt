@@ -18,7 +18,7 @@ use Rattle.commands.specs.declared.Char.the-variants as char
 use Rattle.commands.specs.declared.Listing.the-variants as listing
 use Rattle.commands.specs.Texts.{onto}
 use Rattle.commands.specs.Utf8.{isNext, sixMore, shaped, charBy, charOf, decodeBy, decode}
-use Rattle.commands.specs.Readings.{charIs, Listed}
+use Rattle.commands.specs.Working.Readings.{charIs, Listed}
 use Rattle.commands.proofs.Listings.{Filled, filled-none, filled-one, filled-all, filled-bad}
 
 -- A BYTE THAT GOES ON

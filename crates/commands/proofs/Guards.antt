@@ -19,7 +19,7 @@ use mir.Facts.{toZ-ofZ}
 use Rattle.commands.specs.declared.Number.{Number}
 use Rattle.commands.specs.declared.Number.the-variants as number
 use Rattle.commands.specs.Texts.{negated, above, below, numberBelow, guardOf, isDigit, valueFrom}
-use Rattle.commands.specs.Readings.{numberIs}
+use Rattle.commands.specs.Working.Readings.{numberIs}
 use Rattle.commands.proofs.Listings.{tail-is}
 
 pub positive-is : (x : ℕ) → x < 0x8000_0000 → toZ w32 x ≡ pos x

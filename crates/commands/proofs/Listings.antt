@@ -10,7 +10,7 @@ use lib.ListN.{drop, length-drop}
 use lib.Seq.{take-suc-set, take-all}
 use Rattle.commands.specs.declared.Listing.the-variants as listing
 use Rattle.commands.specs.Texts.{onto}
-use Rattle.commands.specs.Readings.{Listed}
+use Rattle.commands.specs.Working.Readings.{Listed}
 
 abbrev pub before : List ℕ → Option (List ℕ) → Option (List ℕ)
 before w none = none

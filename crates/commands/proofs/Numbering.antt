@@ -17,7 +17,7 @@ use Rattle.commands.specs.declared.Number.the-variants as number
 use Rattle.commands.specs.declared.Listing.the-variants as listing
 use Rattle.commands.specs.Texts.{both, space, withFirst, parted, fields, isDigit, valueFrom, numberBelow, wordLimit, numbers}
 use Rattle.commands.specs.Commands.{numbersAfter}
-use Rattle.commands.specs.Readings.{numberIs, Listed}
+use Rattle.commands.specs.Working.Readings.{numberIs, Listed}
 use Rattle.commands.proofs.Listings.{Filled, filled-none, filled-one, filled-all, filled-bad}
 
 -- DIGITS

@@ -22,7 +22,7 @@ use Rattle.commands.specs.declared.Listing.the-variants as listing
 use Rattle.commands.specs.Texts.{space, parted, fields, numberBelow, wordLimit, guardOf}
 use Rattle.commands.specs.Utf8.{decode}
 use Rattle.commands.specs.Commands.{Command, equation, merge, resolve, lineLimit, through, textAfter, numbersAfter, asConstant, asVariable, asConcatenation, asKnown, asEquation, asMerge, asResolve, resolveBy, byLetter, command}
-use Rattle.commands.specs.Readings.{numberIs, guardIs, listingIs, countOf, Listed}
+use Rattle.commands.specs.Working.Readings.{numberIs, guardIs, listingIs, countOf, Listed}
 use Rattle.commands.proofs.Listings.{tail-is}
 use Rattle.commands.proofs.Numbering.{field-is, last-field, next-field}
 

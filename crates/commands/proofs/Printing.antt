@@ -10,7 +10,7 @@ use Rattle.records.proofs.Naming.{decimal-length}
 use lib.Seq.{length-take-le, sets, sets-eq, take-suc, take-suc-set, take-all}
 use borrow.Author.Tests.{ne-eqb, le-ltb}
 use Rattle.records.specs.Make.{decimalBy}
-use Rattle.records.specs.Puts.{Written}
+use Rattle.records.specs.Working.Puts.{Written}
 use lib.IntN.{ℤ, pos, negsuc, negℤ, _+ℤ_, _-ℤ_, natAbs}
 use lib.Signed.{mag, ltZ, nonNeg}
 use lib.Dec.{T}

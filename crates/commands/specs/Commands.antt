@@ -3,9 +3,11 @@ use mathlib.Core.Bool.{true, false}
 use mathlib.Core.List.{List, [], _∷_}
 use mathlib.Core.Option.{Option, none, some}
 use Prim.Native.Nat.{ℕ}
-use lib.ListN.{length}
+use lib.ListN.{length, take}
 use lib.Dec.{eqb, leb}
 use lib.IntN.{ℤ}
+use Rattle.commands.specs.declared.Parsed.{Parsed}
+use Rattle.commands.specs.declared.Parsed.the-variants as parsed
 use Rattle.commands.specs.Texts.{space, fields, numbers, numberBelow, wordLimit, guardOf}
 use Rattle.commands.specs.Utf8.{decode}
 
@@ -102,3 +104,14 @@ byLetter k l = elim (eqb k 67) [
 unfoldable pub command : List ℕ → Option Command
 command [] = none
 command (k ∷ l) = elim (leb (length (k ∷ l)) lineLimit) [ true ↦ byLetter k l | false ↦ none ]
+
+-- a command; a text, parts and a known list are the first words of a list
+abbrev pub parsedIs : Parsed → List ℕ → Option Command
+parsedIs (parsed.Constant n) l = some (constant (take n l))
+parsedIs (parsed.Variable n) l = some (variable (take n l))
+parsedIs (parsed.Concatenation n) l = some (concatenation (take n l))
+parsedIs (parsed.Equation t u) l = some (equation t u)
+parsedIs (parsed.Merge t u n) l = some (merge t u n)
+parsedIs (parsed.Known n) l = some (known (take n l))
+parsedIs (parsed.Resolve e g) l = some (resolve e g)
+parsedIs parsed.Bad l = none

@@ -6,7 +6,7 @@ ghost use lib.IntN.{pos};
 ghost use Rattle.records.specs.Lists.{upTo};
 ghost use Rattle.commands.specs.Texts.{space, wordLimit, numberBelow, guardOf, negated};
 ghost use Rattle.commands.specs.Commands.{numbersAfter};
-ghost use Rattle.commands.specs.Readings.{numberIs, guardIs, Listed, Resolves};
+ghost use Rattle.commands.specs.Working.Readings.{numberIs, guardIs, Listed, Resolves};
 use crate::Guard;
 use crate::Listing;
 use crate::Number;

@@ -2,8 +2,8 @@
 ghost use mathlib.Core.Path.{_≡_};
 ghost use Prim.Native.Nat.{_≤_};
 ghost use lib.ListN.{length};
-ghost use Rattle.commands.specs.Commands.{lineLimit, through, textAfter, numbersAfter, asConstant, asVariable, asConcatenation, asEquation, asMerge, asKnown, byLetter, command};
-ghost use Rattle.commands.specs.Readings.{Listed, parsedIs};
+ghost use Rattle.commands.specs.Commands.{lineLimit, through, textAfter, numbersAfter, asConstant, asVariable, asConcatenation, asEquation, asMerge, asKnown, byLetter, command, parsedIs};
+ghost use Rattle.commands.specs.Working.Readings.{Listed};
 use crate::Listing;
 use crate::Parsed;
 use crate::numbers::read_numbers;

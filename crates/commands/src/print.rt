@@ -2,7 +2,7 @@
 ghost use mathlib.Core.Path.{_≡_};
 ghost use Prim.Native.Nat.{_+_, _≤_};
 ghost use lib.ListN.{length};
-ghost use Rattle.records.specs.Puts.{Written};
+ghost use Rattle.records.specs.Working.Puts.{Written};
 ghost use Rattle.records.specs.Make.{decimalBy};
 ghost use lib.IntN.{natAbs};
 ghost use Rattle.commands.specs.Answers.{numberText, reasonLetter, reasonText, isBelow, guardText, answerName, Piece};

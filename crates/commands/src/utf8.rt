@@ -4,7 +4,7 @@ ghost use mathlib.Core.Path.{_≡_};
 ghost use Prim.Native.Nat.{_+_, _-_, _<_, _≤_};
 ghost use lib.ListN.{length, drop, getD};
 ghost use Rattle.commands.specs.Utf8.{isNext, sixMore, shaped, charBy, charOf, decode};
-ghost use Rattle.commands.specs.Readings.{charIs, Listed};
+ghost use Rattle.commands.specs.Working.Readings.{charIs, Listed};
 ghost use Rattle.commands.specs.Commands.{lineLimit};
 use crate::Char;
 use crate::Listing;

@@ -11,7 +11,7 @@ use lib.Seq.{getD-set-same, getD-set-other}
 use lib.Pow.{shr-shr, shl-exact}
 use lib.Dec.{eqb}
 use borrow.Author.Tests.{eqb-false, eq-eqb}
-use Rattle.engine.specs.Seen.{place, bit, seenAt, Noted}
+use Rattle.engine.specs.Working.Seen.{place, bit, seenAt, Noted}
 
 -- a digit of the half is the next digit of the whole
 half : (w j : ℕ) → w / 2 ^ suc j ≡ w / 2 / 2 ^ j

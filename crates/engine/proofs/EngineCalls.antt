@@ -10,7 +10,7 @@ use Rattle.records.specs.Store.{Store, Out, ok, stop, isString, sameClass, with
 use Rattle.records.specs.View.{Lent, storeOf, termsView}
 use Rattle.records.specs.Lists.{Every}
 use Rattle.records.specs.Rules.{audit}
-use Rattle.records.specs.Audited.{Audited, Ready, Closed}
+use Rattle.records.specs.Working.Audited.{Audited, Ready, Closed}
 use Rattle.records.specs.Calls.{Working, Public, call}
 use lib.Seq.{drop-append-seam}
 use Rattle.records.proofs.Lists.{both-left, both-right, left-false, right-false}

@@ -10,7 +10,7 @@ use Rattle.records.specs.Lists.{joined, firsts, seconds, Every, none-left, and}
 use Rattle.records.specs.Store.{Store, term, chain, parts, path, isEdge}
 use Rattle.records.specs.Make.{ordered}
 use Rattle.records.specs.Meaning.{Words, Reading, Joins, Holds}
-use Rattle.records.specs.Audited.{Audited, Pairs, Congruent}
+use Rattle.records.specs.Working.Audited.{Audited, Pairs, Congruent}
 use Rattle.records.proofs.Lists.{every-map, every-both}
 use Rattle.engine.specs.Explain.{Seen}
 use Rattle.engine.proofs.Paths.{path-edges, path-joins}

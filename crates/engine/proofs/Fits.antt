@@ -5,7 +5,7 @@ use Prim.Native.Nat.{ℕ, _≤_, _<_}
 use native.Mathlib.Omega.{arith}
 use Rattle.records.specs.Lists.{Every, none-left, and}
 use Rattle.records.specs.Store.{Store, term, chain, path}
-use Rattle.records.specs.Audited.{Audited, Congruent}
+use Rattle.records.specs.Working.Audited.{Audited, Congruent}
 use Rattle.records.proofs.Lists.{every-map, every-both}
 use Rattle.records.proofs.Readings.{pairs-terms}
 use Rattle.engine.specs.Explain.{highest, height}

@@ -9,10 +9,10 @@ use native.Mathlib.Omega.{arith}
 use lib.ListN.{length}
 use lib.Dec.{eqb}
 use borrow.Author.Tests.{eqb-true, eqb-false, eq-eqb, ne-eqb}
-pub use Rattle.engine.specs.Walks.{Together}
+pub use Rattle.engine.specs.Working.Walks.{Together}
 use Rattle.records.specs.Lists.{any, firstOf, isIn, upTo, Every, none-left, and}
 use Rattle.records.specs.Store.{Term, Store, term, isTerm, climb, forestUp, top, aboveBy, aboveIn, orNone, nearestIn, pathIn, path, isEdge}
-use Rattle.records.specs.Audited.{Audited}
+use Rattle.records.specs.Working.Audited.{Audited}
 use Rattle.records.proofs.Lists.{every-append, every-left, every-right, either, or-left, or-right, clash}
 use Rattle.records.proofs.Climbs.{climb-stays}
 

@@ -11,8 +11,8 @@ use Rattle.records.specs.View.{pairsView}
 use Rattle.engine.specs.declared.Walked.{Walked}
 use Rattle.engine.specs.declared.Plain.the-variants.{Ended, Congruence}
 use Rattle.engine.specs.Explain.{walked}
-use Rattle.engine.specs.Seen.{place, seenAt, Noted}
-use Rattle.engine.specs.Walks.{Together, Walkable, Walks, Gives, Explained, Explainable, Plainly, PlainEdge, PlainPath, PlainPair}
+use Rattle.engine.specs.Working.Seen.{place, seenAt, Noted}
+use Rattle.engine.specs.Working.Walks.{Together, Walkable, Walks, Gives, Explained, Explainable, Plainly, PlainEdge, PlainPath, PlainPair}
 use Rattle.engine.proofs.Bits.{note-set}
 use Rattle.engine.proofs.Turns.{standing-on, fewer, Labelled, edge-gives, edge-nothing}
 use Rattle.engine.proofs.Rises.{pair-same, Rising, rising-stop, rising-done}

@@ -13,13 +13,13 @@ use Rattle.records.specs.Lists.{any, upTo, Every}
 use Rattle.records.specs.Store.{Term, Store, store, term, count, isTerm, within, path, pathIn, forestUp, topIn, aboveBy, aboveIn, nearestIn, termIn}
 use Rattle.records.specs.View.{termAt, termsView, pairsView}
 use Rattle.records.specs.Make.{withReasons, ordered, samePair}
-use Rattle.records.specs.Audited.{Closed}
+use Rattle.records.specs.Working.Audited.{Closed}
 use Rattle.records.proofs.Lists.{or-left, or-right, clash, both-left, both-right, both-true, within-high, table-length, every-both}
 use Rattle.records.proofs.Climbs.{above-root, above-is, classed-tops}
 use Rattle.engine.specs.declared.Walked.{Walked}
 use Rattle.engine.specs.Explain.{Seen, wasSeen, each, edge, highest, height, walked}
-use Rattle.engine.specs.Seen.{place, seenAt, Noted, Tables}
-use Rattle.engine.specs.Walks.{Standing, Together, Edge, Walkable, Shows, came, Walks, ahead}
+use Rattle.engine.specs.Working.Seen.{place, seenAt, Noted, Tables}
+use Rattle.engine.specs.Working.Walks.{Standing, Together, Edge, Walkable, Shows, came, Walks, ahead}
 use Rattle.engine.proofs.Bits.{place-pair, place-small}
 use Rattle.engine.proofs.Fits.{highest-high}
 use Rattle.engine.proofs.Paths.{nearest, path-edges}

@@ -12,7 +12,7 @@ use Rattle.records.specs.Store.{Store, Out, ok, stop, Work, andThen, _>>=_, giv
 use Rattle.records.specs.Rules.{reasonRule}
 use Rattle.records.specs.Make.{addReason, withReasons, ordered, samePair}
 use Rattle.records.specs.Meaning.{IsUnder}
-use Rattle.records.specs.Audited.{Audited, Label, asserted, interface, congruence, definitional}
+use Rattle.records.specs.Working.Audited.{Audited, Label, asserted, interface, congruence, definitional}
 use Rattle.records.proofs.Lists.{every-map, every-append, either, both-left, both-right, clash, every-both}
 use Rattle.engine.specs.Explain.{Seen, wasSeen, each, edge, walk}
 use Rattle.engine.specs.Meaning.{Labels}

@@ -15,7 +15,7 @@ use Rattle.records.specs.Store.{Store, Out, ok, stop, andThen, give, isString, 
 use Rattle.records.specs.Rules.{reasonRule}
 use Rattle.records.specs.Make.{withReasons}
 use Rattle.records.specs.Meaning.{Words, Reading, Holds}
-use Rattle.records.specs.Audited.{Audited}
+use Rattle.records.specs.Working.Audited.{Audited}
 use Rattle.records.proofs.Lists.{every-map, every-all, all-append, both-true}
 use Rattle.records.proofs.Works.{stop-not}
 use Rattle.records.proofs.Grown.{Grown, string-term}

@@ -12,12 +12,12 @@ use Rattle.records.specs.declared.Added.the-variants.{Counts, Refused}
 use Rattle.records.specs.Calls.{Working, added}
 use Rattle.records.specs.View.{Lent, lent, storeOf, pairsView, reasonsAt}
 use Rattle.records.specs.Make.{withReasons}
-use Rattle.records.specs.Audited.{Ready}
+use Rattle.records.specs.Working.Audited.{Ready}
 use Rattle.records.proofs.Lists.{both-left, both-right}
 use Rattle.engine.specs.declared.Walked.{Walked}
 use Rattle.engine.specs.Explain.{wasSeen, walked, explain, explainArguments}
-use Rattle.engine.specs.Seen.{place, bit, seenAt, Tables}
-use Rattle.engine.specs.Walks.{Standing, Together, Walkable, Shows, came, refused, Walks, Comes, explained, stopped, Explained, Explainable}
+use Rattle.engine.specs.Working.Seen.{place, bit, seenAt, Tables}
+use Rattle.engine.specs.Working.Walks.{Standing, Together, Walkable, Shows, came, refused, Walks, Comes, explained, stopped, Explained, Explainable}
 use Rattle.engine.proofs.Sound.{class-together}
 
 -- FROM NO PAIR SEEN

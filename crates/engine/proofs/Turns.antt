@@ -14,15 +14,15 @@ use Rattle.records.specs.Lists.{firsts, oneMore, Every, and}
 use Rattle.records.specs.Store.{Term, Cell, Store, Out, ok, stop, Work, andThen, store, term, cell, count, isTerm, isEdge, within, kind, parts, chain, chainIn, pathIn, termIn, cellIn}
 use Rattle.records.specs.View.{termAt, cellAt, termsView, cellsView, pairsView, reasonRoom, reasonLimit, oneReason}
 use Rattle.records.specs.Make.{withReasons, addReason}
-use Rattle.records.specs.Audited.{Audited, Label, asserted, interface, congruence, definitional, Next, last, later}
-use Rattle.records.specs.Puts.{Pushed}
+use Rattle.records.specs.Working.Audited.{Audited, Label, asserted, interface, congruence, definitional, Next, last, later}
+use Rattle.records.specs.Working.Puts.{Pushed}
 use Rattle.records.proofs.Lists.{clash, decide, within-low, within-high, within-is, within-zero, table-length}
 use Rattle.records.proofs.Views.{term-is, cell-is, table-is}
 use Rattle.records.proofs.Chains.{chain-none, chain-is}
 use Rattle.engine.specs.declared.Walked.{Walked}
 use Rattle.engine.specs.Explain.{Seen, each, edge, highest, walked}
-use Rattle.engine.specs.Seen.{Tables}
-use Rattle.engine.specs.Walks.{Standing, Together, Edge, Wide, Walkable, Shows, came, refused, Walks, Gives}
+use Rattle.engine.specs.Working.Seen.{Tables}
+use Rattle.engine.specs.Working.Walks.{Standing, Together, Edge, Wide, Walkable, Shows, came, refused, Walks, Gives}
 use Rattle.engine.proofs.Fits.{Fit, fit-height, pairs-fit}
 
 -- THE LENT WORDS

@@ -9,7 +9,7 @@ use borrow.Author.Tests.{eq-eqb}
 use Rattle.records.specs.Lists.{if_then_else_, Every, none-left, and}
 use Rattle.records.specs.Store.{Store, Work, andThen, give, term, isTerm, path, isEdge}
 use Rattle.records.specs.Make.{withReasons, ordered}
-use Rattle.records.specs.Audited.{Audited, Label, asserted, interface, congruence, definitional}
+use Rattle.records.specs.Working.Audited.{Audited, Label, asserted, interface, congruence, definitional}
 use Rattle.records.proofs.Lists.{every-both}
 use Rattle.engine.specs.Explain.{Seen, wasSeen, each, edge, walk, walked, height}
 use Rattle.engine.proofs.Paths.{Together, path-edges}

@@ -1,5 +1,4 @@
 pub mod Calls
 pub mod Explain
-pub mod Seen
 pub mod Meaning
-pub mod Walks
+pub mod Working

@@ -13,7 +13,7 @@ use Rattle.records.specs.Store.{Store, ok, stop, _>>=_, term, kind, isString, i
 use Rattle.records.specs.Rules.{isEquatable, isList}
 use Rattle.records.specs.Make.{withReasons}
 use Rattle.records.specs.Meaning.{Words, Reading, Holds}
-use Rattle.records.specs.Audited.{Audited}
+use Rattle.records.specs.Working.Audited.{Audited}
 use Rattle.records.proofs.Lists.{both-left, both-right, either, within-high}
 use Rattle.records.proofs.Grown.{string-here, grown-then, grown-string, holds-before, holds-left, holds-right, Strings, strings-later}
 use Rattle.normalize.specs.Normalize.{deepForm}

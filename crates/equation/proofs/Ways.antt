@@ -16,7 +16,7 @@ use Rattle.records.specs.declared.State.{State}
 use Rattle.records.specs.Store.{Term, Store, Out, ok, stop, Work, andThen, _>>=_, term, kind, isString, isEquation}
 use Rattle.records.specs.View.{Lent, lent, storeOf, termAt, pairAt, pairsView, reasonsAt}
 use Rattle.records.specs.Rules.{audit, listLimit, isList}
-use Rattle.records.specs.Audited.{Ready}
+use Rattle.records.specs.Working.Audited.{Ready}
 use Rattle.records.specs.Calls.{Working}
 use Rattle.records.proofs.Lists.{both-left, both-right, both-true, left-false, right-false, and-next, all-every, every-all, table-same, table-length, table-at}
 use Rattle.records.proofs.Works.{stop-not}
@@ -28,7 +28,7 @@ use Rattle.normalize.specs.declared.DeepForm.{DeepForm}
 use Rattle.normalize.specs.declared.DeepForm.the-variants as deep
 use Rattle.normalize.specs.Normalize.{deepForm, formArguments}
 use Rattle.normalize.specs.Calls.{firstWords, deepened}
-use Rattle.normalize.specs.Pushes.{Candidates}
+use Rattle.normalize.specs.Working.Pushes.{Candidates}
 use Rattle.records.proofs.Later.{Later, later-below}
 use Rattle.normalize.proofs.Replacing.{candidates-later}
 use Rattle.normalize.proofs.Deep.{deep-gives, deep-kept}
@@ -38,10 +38,11 @@ use Rattle.wordeq.proofs.StepResult.{the-type}
 use Rattle.wordeq.specs.declared.StepResult.{StepResult}
 use Rattle.wordeq.specs.declared.StepResult.the-variants.{Done, Saturated, Conflict, Propagate, Split, Refused}
 use Rattle.wordeq.specs.Wordeq.{isGuard, resolve}
-use Rattle.wordeq.specs.Results.{resolved}
+use Rattle.wordeq.specs.Calls.{resolved}
 use Rattle.equation.specs.declared.Outcome.the-variants.{Answered}
 use Rattle.equation.specs.Equation.{Stepped, unexpanded, returned, orUnexpanded, step, stepArguments}
-use Rattle.equation.specs.Calls.{stepped, PublicStep, resolveForms, rightForm, carried}
+use Rattle.equation.specs.Calls.{stepped, PublicStep}
+use Rattle.equation.specs.Working.Forms.{resolveForms, rightForm, carried}
 use Rattle.equation.proofs.Sound.{second-string, step-sound, step-stops}
 
 -- THE INCOMING REASONS

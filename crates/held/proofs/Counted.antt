@@ -3,7 +3,7 @@ use mathlib.Core.Path.{_≡_}
 use Rattle.records.specs.declared.State.{State}
 use Rattle.records.specs.declared.Named.{Named}
 use Rattle.records.specs.View.{Lent}
-use Rattle.records.specs.Audited.{Ready}
+use Rattle.records.specs.Working.Audited.{Ready}
 use Rattle.records.specs.Calls.{Taken}
 
 pub ready-as : {m : Lent} {c d : State} → d ≡ c → Ready m c → Ready m d

@@ -12,7 +12,7 @@ use denote.Enum.Declared.{tagOf}
 use borrow.Author.Tests.{lt-ltb, le-ltb, eq-eqb, ne-eqb, eqb-false, ltb-false}
 use Rattle.records.specs.Store.{Cell, cellIn, within, chainIn}
 use Rattle.records.specs.View.{cellAt, cellsView}
-use Rattle.records.specs.Audited.{Next, last, later, Ascends}
+use Rattle.records.specs.Working.Audited.{Next, last, later, Ascends}
 use Rattle.records.proofs.Lists.{table-length, decide, clash, within-low, within-high, within-is}
 use Rattle.records.proofs.Views.{cell-is}
 use Rattle.records.proofs.Chains.{chain-is, chain-none}

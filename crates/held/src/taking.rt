@@ -1,7 +1,7 @@
 // 'taking a name advances the counter and hands the name back': the counter of names, lent.
 ghost use mathlib.Core.Path.{_≡_};
 ghost use Rattle.records.specs.View.{namesAt, lends, across};
-ghost use Rattle.records.specs.Audited.{Ready};
+ghost use Rattle.records.specs.Working.Audited.{Ready};
 ghost use Rattle.records.specs.Calls.{Taken};
 use records::Named;
 use records::State;

@@ -10,14 +10,14 @@ use borrow.Author.Tests.{eqb-true, leb-true, leb-false, le-leb, lt-leb}
 use Rattle.records.specs.Lists.{if_then_else_, all, joined, firsts, Every, none-left, and}
 use Rattle.records.specs.Store.{Term, Cell, Store, ok, stop, give, refuse, kind, isString, isConcat, term, termIn, chainIn, parts}
 use Rattle.records.specs.Meaning.{Words, Reading}
-use Rattle.records.specs.Audited.{Recorded, Audited}
+use Rattle.records.specs.Working.Audited.{Recorded, Audited}
 use Rattle.records.proofs.Lists.{decide, clash, joined-append, joined-same, every-map, every-append, all-every, every-both}
 use Rattle.records.proofs.Works.{stop-not, branch}
 use Rattle.records.proofs.Grown.{term-zero}
 use Rattle.records.proofs.Readings.{parts-lower, parts-strings}
 use Rattle.normalize.specs.Normalize.{atomsBy, atoms, flatten}
 use Rattle.records.specs.Rules.{listLimit}
-use Rattle.normalize.specs.Flat.{Nested}
+use Rattle.normalize.specs.Working.Flat.{Nested}
 
 -- LISTS
 

@@ -4,7 +4,7 @@ use mathlib.Core.Path.{_≡_, refl, _∙_}
 use lib.ListN.{length}
 use Rattle.records.specs.declared.State.{State}
 use Rattle.records.specs.View.{Lent, storeOf}
-use Rattle.records.specs.Audited.{Ready}
+use Rattle.records.specs.Working.Audited.{Ready}
 use Rattle.records.proofs.Passed.{ready-after}
 use Rattle.records.proofs.Counts.{agree-below}
 use Rattle.records.proofs.Later.{Later, later-none, later-then, later-higher}

@@ -11,7 +11,7 @@ use borrow.Author.Tests.{ltb-false}
 use Rattle.records.specs.Lists.{any, joined, sameWord, isIn, none-left, and}
 use Rattle.records.specs.Store.{Store, ok, stop, Work, isString}
 use Rattle.records.specs.Meaning.{Words, Reading, Holds}
-use Rattle.records.specs.Audited.{Audited}
+use Rattle.records.specs.Working.Audited.{Audited}
 use Rattle.records.proofs.Lists.{both-left, both-right, every-append}
 use Rattle.normalize.specs.Normalize.{formArguments, normalForm, pushAll, deepLimit, opens, Round, expand, settle, afterExpand, rounds, deepForm}
 use Rattle.records.specs.Rules.{isList}

@@ -17,7 +17,7 @@ use Rattle.records.specs.declared.State.{State}
 use Rattle.records.specs.Lists.{if_then_else_, all, any, isIn, none-left, and}
 use Rattle.records.specs.Store.{Term, Store, Out, ok, stop, Work, andThen, give, count, termIn, isString}
 use Rattle.records.specs.View.{Lent, storeOf, termLimit}
-use Rattle.records.specs.Audited.{Ready}
+use Rattle.records.specs.Working.Audited.{Ready}
 use Rattle.records.specs.Calls.{Working}
 use Rattle.records.proofs.Lists.{decide, left-false, all-every, every-all, every-at, table-at, within-high}
 use Rattle.records.proofs.Works.{via}
@@ -30,9 +30,9 @@ use Rattle.normalize.specs.declared.DeepForm.the-variants as deep
 use Rattle.normalize.proofs.DeepForm.{the-type}
 use Rattle.normalize.specs.Normalize.{deepLimit, normalForm, opens, Round, expand}
 use Rattle.records.specs.Rules.{listLimit}
-use Rattle.normalize.specs.Pushes.{Candidates}
+use Rattle.normalize.specs.Working.Pushes.{Candidates}
 use Rattle.normalize.specs.Calls.{firstWords, formed, deepened}
-use Rattle.normalize.specs.Deeps.{opensIn, Met, RoundOf, expandAtom, expanded, ExpandedTo, Expands}
+use Rattle.normalize.specs.Working.Deeps.{opensIn, Met, RoundOf, expandAtom, expanded, ExpandedTo, Expands}
 use Rattle.normalize.proofs.Rewritten.{Rewritten}
 use Rattle.normalize.proofs.Formed.{form-ends}
 use Rattle.normalize.proofs.Deep.{expand-ends}

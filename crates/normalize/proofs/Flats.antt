@@ -17,7 +17,7 @@ use Rattle.records.proofs.Views.{first-at, value-at, next-at}
 use Rattle.records.proofs.Grown.{kind-term}
 use Rattle.normalize.specs.Normalize.{atoms}
 use Rattle.records.specs.Rules.{listLimit}
-use Rattle.normalize.specs.Flat.{bare, Nested, Appended}
+use Rattle.normalize.specs.Working.Flat.{bare, Nested, Appended}
 use Rattle.normalize.proofs.Atoms.{atoms-plain, nested-atoms}
 
 -- APPENDING

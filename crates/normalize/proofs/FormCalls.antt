@@ -11,7 +11,7 @@ use Rattle.records.specs.declared.State.{State}
 use Rattle.records.specs.Store.{Store, Out, stop, Work, isString}
 use Rattle.records.specs.View.{Lent, storeOf}
 use Rattle.records.specs.Rules.{audit, listLimit, isList}
-use Rattle.records.specs.Audited.{Ready}
+use Rattle.records.specs.Working.Audited.{Ready}
 use Rattle.records.specs.Calls.{Public, call, Working}
 use Rattle.records.proofs.Lists.{left-false, and-next}
 use Rattle.records.proofs.Public.{call-unready, call-unfit, call-works, passed-ready}

@@ -13,7 +13,7 @@ use Rattle.records.specs.Store.{Store, ok, stop, Work, _>>=_, give, within, isS
 use Rattle.records.specs.Rules.{isChar, listLimit, isList}
 use Rattle.records.specs.Make.{makeConstant}
 use Rattle.records.specs.Meaning.{Words, Reading, Holds}
-use Rattle.records.specs.Audited.{Audited}
+use Rattle.records.specs.Working.Audited.{Audited}
 use Rattle.records.proofs.Lists.{both-left, both-right, both-true, every-map, every-append, all-append, every-left}
 use Rattle.records.proofs.Readings.{text-characters}
 use Rattle.records.proofs.Kept.{made-string, constant-kept, constant-stops}

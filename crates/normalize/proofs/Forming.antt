@@ -11,7 +11,7 @@ use Rattle.records.specs.declared.State.{State}
 use Rattle.records.specs.Lists.{all, joined, Every, none-left, and}
 use Rattle.records.specs.Store.{Store, ok, stop, andThen, _>>=_, give, kind, count, within, rootIn, isString}
 use Rattle.records.specs.View.{Lent, storeOf, termsView, termLimit}
-use Rattle.records.specs.Audited.{Ready}
+use Rattle.records.specs.Working.Audited.{Ready}
 use Rattle.records.specs.Calls.{Working}
 use Rattle.records.proofs.Lists.{both-left, both-right, both-true, all-append, all-every, every-all, every-map, within-low, within-high}
 use Rattle.records.proofs.Grown.{string-term}
@@ -20,9 +20,9 @@ use Rattle.normalize.specs.declared.Form.{Form}
 use Rattle.normalize.specs.declared.Form.the-variants as form
 use Rattle.normalize.specs.Normalize.{atoms, pushForms, normalForm, formArguments}
 use Rattle.records.specs.Rules.{listLimit, isList}
-use Rattle.normalize.specs.Flat.{bare, Nested, Appended}
-use Rattle.normalize.specs.Nodes.{NodeOf, withNodes, Rooting}
-use Rattle.normalize.specs.Pushes.{pushed, Candidates}
+use Rattle.normalize.specs.Working.Flat.{bare, Nested, Appended}
+use Rattle.normalize.specs.Working.Nodes.{NodeOf, withNodes, Rooting}
+use Rattle.normalize.specs.Working.Pushes.{pushed, Candidates}
 use Rattle.normalize.specs.Calls.{firstWords, formed}
 use Rattle.normalize.proofs.Atoms.{same-atoms, atoms-plain, recorded-nested, atoms-strings, flatten-fits, flatten-full}
 use Rattle.normalize.proofs.Represents.{nodes-more, nodes-none}

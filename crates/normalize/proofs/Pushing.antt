@@ -15,14 +15,14 @@ use Rattle.records.specs.Lists.{all, joined, table}
 use Rattle.records.specs.Store.{Store, Term as TermOf, Out, ok, stop, Work, andThen, give, within, kind, term, termIn, isConstant, text}
 use Rattle.records.specs.View.{Lent, storeOf, termsView, termAt}
 use Rattle.records.specs.Make.{makeConstant}
-use Rattle.records.specs.Audited.{Ready}
+use Rattle.records.specs.Working.Audited.{Ready}
 use Rattle.records.specs.Calls.{Working, made}
 use Rattle.records.proofs.Lists.{both-left, both-right, both-true, left-false, clash, decide, table-length, table-suc}
 use Rattle.records.proofs.Views.{second-at, text-span}
 use Rattle.records.proofs.Grown.{kind-term}
 use Rattle.normalize.specs.Normalize.{join, push}
-use Rattle.normalize.specs.Flat.{bare}
-use Rattle.normalize.specs.Pushes.{isEmptyIn, joinsIn}
+use Rattle.normalize.specs.Working.Flat.{bare}
+use Rattle.normalize.specs.Working.Pushes.{isEmptyIn, joinsIn}
 use Rattle.normalize.specs.Calls.{firstWords}
 use Rattle.normalize.proofs.Words.{words-put}
 

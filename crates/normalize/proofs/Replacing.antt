@@ -15,7 +15,7 @@ use Rattle.records.specs.declared.Added.the-variants.{Counts, Refused}
 use Rattle.records.specs.Lists.{if_then_else_, table, none-left}
 use Rattle.records.specs.Store.{Term, Store, Out, ok, stop, andThen, _>>=_, give, count, within, termIn, rootIn, classUp, isString}
 use Rattle.records.specs.View.{Lent, storeOf, termsView, termLimit}
-use Rattle.records.specs.Audited.{Ready, Closed}
+use Rattle.records.specs.Working.Audited.{Ready, Closed}
 use Rattle.records.specs.Calls.{Working, added}
 use Rattle.records.proofs.Lists.{both-left, both-right, both-true, all-every, every-all, every-map, every-at, within-low, within-high, table-length}
 use Rattle.records.proofs.Grown.{string-term, string-here, Strings, strings-later}
@@ -24,8 +24,8 @@ use Rattle.engine.specs.Explain.{explain, explainArguments}
 use Rattle.normalize.specs.declared.Form.{Form}
 use Rattle.normalize.specs.declared.Form.the-variants as form
 use Rattle.normalize.specs.Normalize.{representative, substitute, push, pushForms}
-use Rattle.normalize.specs.Nodes.{NodeOf, nodeAt}
-use Rattle.normalize.specs.Pushes.{pushed, Candidates, cite, pushFor}
+use Rattle.normalize.specs.Working.Nodes.{NodeOf, nodeAt}
+use Rattle.normalize.specs.Working.Pushes.{pushed, Candidates, cite, pushFor}
 use Rattle.normalize.specs.Calls.{firstWords}
 use Rattle.normalize.proofs.Represents.{drop-past, nodes-later, node-is}
 use Rattle.records.proofs.Later.{Later}

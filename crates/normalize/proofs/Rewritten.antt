@@ -7,7 +7,7 @@ use Prim.Native.Nat.{ℕ}
 use Rattle.records.specs.Lists.{joined, none-left, and}
 use Rattle.records.specs.Store.{Store, isString}
 use Rattle.records.specs.Meaning.{Words, Reading, Holds}
-use Rattle.records.specs.Audited.{Audited}
+use Rattle.records.specs.Working.Audited.{Audited}
 use Rattle.records.proofs.Lists.{every-append, joined-append}
 use Rattle.records.proofs.Grown.{OldVariables, grown-string, holds-left, holds-right, Strings, strings-later}
 use Rattle.records.proofs.Later.{more-then, Later, later-none, later-then, later-added, variables-added}

@@ -18,7 +18,7 @@ use Rattle.records.specs.declared.State.{State}
 use Rattle.records.specs.Lists.{if_then_else_, all, any, table, sameWord, none-left}
 use Rattle.records.specs.Store.{Store, Out, ok, stop, Work, andThen, give, isString}
 use Rattle.records.specs.View.{Lent, storeOf}
-use Rattle.records.specs.Audited.{Ready}
+use Rattle.records.specs.Working.Audited.{Ready}
 use Rattle.records.specs.Calls.{Working}
 use Rattle.records.proofs.Lists.{all-every, every-all, every-at, table-at, word-is}
 use Rattle.normalize.specs.declared.Form.{Form}
@@ -29,9 +29,9 @@ use Rattle.normalize.proofs.DeepForm.{the-type}
 use Rattle.normalize.specs.declared.Turn.{Turn}
 use Rattle.normalize.specs.declared.Turn.the-variants as turn
 use Rattle.normalize.specs.Normalize.{deepLimit, normalForm, push, pushAll, expand, settle, afterExpand, rounds, deepForm}
-use Rattle.normalize.specs.Pushes.{pushed, Candidates}
+use Rattle.normalize.specs.Working.Pushes.{pushed, Candidates}
 use Rattle.normalize.specs.Calls.{firstWords, formed, deepened}
-use Rattle.normalize.specs.Deeps.{opensIn, Met, MetTable, expanded, Expands, settled, settling, Settles, roundThen, TurnedTo, Turns}
+use Rattle.normalize.specs.Working.Deeps.{opensIn, Met, MetTable, expanded, Expands, settled, settling, Settles, roundThen, TurnedTo, Turns}
 use Rattle.records.proofs.Grown.{Strings, strings-later}
 use Rattle.normalize.proofs.Formed.{Pushed, push-ends, Formed, form-ends}
 use Rattle.normalize.proofs.Deep.{Answers, rounds-end}

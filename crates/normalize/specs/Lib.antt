@@ -1,7 +1,4 @@
 pub mod Normalize
 pub mod Meaning
 pub mod Calls
-pub mod Flat
-pub mod Nodes
-pub mod Pushes
-pub mod Deeps
+pub mod Working

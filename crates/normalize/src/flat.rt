@@ -4,7 +4,7 @@ ghost use Prim.Native.Nat.{_≤_};
 ghost use lib.ListN.{length};
 ghost use Rattle.normalize.specs.Normalize.{atoms};
 ghost use Rattle.records.specs.Rules.{listLimit};
-ghost use Rattle.normalize.specs.Flat.{bare, Nested, Appended};
+ghost use Rattle.normalize.specs.Working.Flat.{bare, Nested, Appended};
 use held::chains;
 use held::chains::Link;
 use records::LIST_LIMIT;

@@ -13,7 +13,7 @@ use Rattle.records.specs.Lists.{any, oneMore}
 use Rattle.records.specs.Store.{ok, stop}
 use Rattle.records.specs.View.{lent, storeOf, pairAt, pairsView, keyRoom, oneKey}
 use Rattle.records.specs.Make.{addKey, ordered, samePair}
-use Rattle.records.specs.Puts.{PairPut}
+use Rattle.records.specs.Working.Puts.{PairPut}
 use Rattle.records.specs.Calls.{Working}
 use Rattle.records.proofs.Lists.{table-length}
 

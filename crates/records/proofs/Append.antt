@@ -15,8 +15,8 @@ use Rattle.records.specs.Lists.{all, firstOf, isIn, firsts, upTo, Every}
 use Rattle.records.specs.Store.{Term, noTerm, Cell, Store, termIn, term, count, kind, within, isTerm, isString, isLength, textIn, text, chainIn, chain, parts, climb, classUp, forestUp, root, top, sameClass, sameTree, aboveBy, aboveIn, orNone, nearestIn, pathIn, path, isEdge}
 use Rattle.records.specs.Make.{own}
 use Rattle.records.specs.Rules.{isChar, isNumber, keyRule, isEquatable}
-use Rattle.records.specs.Audited
-use Rattle.records.specs.Audited.{Part, Ascends, Closed, Label, Unlabelled, Falls, Pairs, Congruent, Recorded, Classed, Congruences, Audited}
+use Rattle.records.specs.Working.Audited
+use Rattle.records.specs.Working.Audited.{Part, Ascends, Closed, Label, Unlabelled, Falls, Pairs, Congruent, Recorded, Classed, Congruences, Audited}
 use Rattle.records.proofs.Lists.{both-left, both-right, both-true, either, or-left, or-right, within-low, within-high, within-is, decide, clash, every-map, every-both, all-every, every-all, firsts-length}
 use Rattle.records.proofs.Climbs.{climb-last, classed-roots, classed-tops, root-self, top-self, root-term, top-term}
 use Rattle.records.proofs.Chains

@@ -6,7 +6,7 @@ use borrow.Author.Tests.{not-true, not-false}
 use Rattle.records.specs.declared.State.{State}
 use Rattle.records.specs.View.{Lent, lent, storeOf, sizes}
 use Rattle.records.specs.Rules.{recordsRule, classesRule, congruencesRule, auditStore, audit}
-use Rattle.records.specs.Audited.{Sized, Congruable}
+use Rattle.records.specs.Working.Audited.{Sized, Congruable}
 use Rattle.records.proofs.RuleLaws.{sized-of}
 use Rattle.records.proofs.ClassLaws.{classes-seen}
 use Rattle.records.proofs.PairLaws.{congruences-both, congruable}

@@ -11,8 +11,8 @@ use Rattle.records.specs.Lists.{all}
 use Rattle.records.specs.Store.{Store, term}
 use Rattle.records.specs.Rules.{reasonRule, keyRule, isEquatable}
 use Rattle.records.specs.Meaning.{Words, Reading, Holds}
-use Rattle.records.specs.Audited
-use Rattle.records.specs.Audited.{Part, Label, Unlabelled, Falls, Pairs, Congruent, Recorded, Classed, Audited}
+use Rattle.records.specs.Working.Audited
+use Rattle.records.specs.Working.Audited.{Part, Label, Unlabelled, Falls, Pairs, Congruent, Recorded, Classed, Audited}
 use Rattle.records.proofs.Lists.{every-map}
 use Rattle.records.proofs.Grown.{Grown}
 

@@ -16,9 +16,9 @@ use Rattle.records.specs.declared.Made.the-variants.{Term, Refused}
 use Rattle.records.specs.Store.{Term as Record, Cell, Store, Out, ok, stop, Work, term, kind, count, within, chainIn}
 use Rattle.records.specs.View.{Lent, lent, storeOf, termWords, cellWords, termLimit, cellLimit, termRoom, cellRoom, termAt, cellAt, cellsView, oneTerm, moreCells}
 use Rattle.records.specs.Make.{lookup, lowest, addChain, addTerm, concatOf, makeConcat, lengthOf, equationOf, makeLength, makeEquation}
-use Rattle.records.specs.Leaves.{numberOf, Passed, appendParts, hasParts, sidesOf, hasSides, makeSides}
-use Rattle.records.specs.Puts.{TermPut, ChainPut}
-use Rattle.records.specs.Audited.{Ready, Sized, Recorded, Ascends}
+use Rattle.records.specs.Working.Leaves.{numberOf, Passed, appendParts, hasParts, sidesOf, hasSides, makeSides}
+use Rattle.records.specs.Working.Puts.{TermPut, ChainPut}
+use Rattle.records.specs.Working.Audited.{Ready, Sized, Recorded, Ascends}
 use Rattle.records.specs.Calls.{Working, made}
 use Rattle.records.proofs.Lists.{left-false, right-false, both-left, both-right, decide, within-low, within-high, table-length, first-same, word-is, every-at, firsts-length, every-firsts}
 use Rattle.records.proofs.Views.{term-is, cell-is}

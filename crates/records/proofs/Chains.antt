@@ -12,7 +12,7 @@ use borrow.Author.Tests.{leb-true, leb-false}
 use Rattle.records.specs.Lists.{firsts}
 use Rattle.records.specs.Store.{Cell, noCell, cellIn, within, chainBy, chainIn}
 use Rattle.records.specs.Make.{chainFrom}
-use Rattle.records.specs.Audited.{Next, last, later, Ascends}
+use Rattle.records.specs.Working.Audited.{Next, last, later, Ascends}
 use Rattle.records.proofs.Lists.{decide, clash, within-low, within-high, within-is, within-zero, within-past}
 
 -- ONE CELL

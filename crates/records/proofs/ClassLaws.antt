@@ -12,9 +12,9 @@ use Rattle.records.specs.declared.State.{State}
 use Rattle.records.specs.Lists.{if_then_else_}
 use Rattle.records.specs.Store.{Store, term, count, isTerm, isString, within, climb, classUp, forestUp, root, top, sameClass, sameTree}
 use Rattle.records.specs.Rules.{eachTerm, parentsRule, endsRule, alikeRule, aloneRule, isNumber, edgeLabel, labelRule, classesRule}
-use Rattle.records.specs.Leaves.{alikeAt, aloneAt, classTest}
+use Rattle.records.specs.Working.Leaves.{alikeAt, aloneAt, classTest}
 use Rattle.records.specs.View.{Lent, storeOf, termsView, termed, termAt}
-use Rattle.records.specs.Audited.{Closed, Rooted}
+use Rattle.records.specs.Working.Audited.{Closed, Rooted}
 use Rattle.records.proofs.Lists.{both-left, both-right, both-true, right-false, right-falsum, or-stop, or-next, either, or-left, or-right, decide, clash, same-test, and-stop, and-next, failed, passed}
 use Rattle.records.proofs.Climbs.{climb-up, climb-stays, climb-within, rule-at, rule-all, parents-roots, parents-tops, view-count, view-term, view-class, view-forest}
 

@@ -13,7 +13,7 @@ use Rattle.records.specs.declared.State.{State}
 use Rattle.records.specs.Store.{Term, Store, term, termIn, count, isTerm, isString, within, climb, classUp, forestUp, rootIn, topIn, aboveBy, aboveIn}
 use Rattle.records.specs.View.{Lent, termAt, termsView, storeOf}
 use Rattle.records.specs.Rules.{parentsRule, eachTerm}
-use Rattle.records.specs.Audited.{Closed, Classed}
+use Rattle.records.specs.Working.Audited.{Closed, Classed}
 use Rattle.records.proofs.Lists.{both-left, both-right, clash, below-at, below-all, within-is, within-low, within-high, within-zero, table-length}
 use Rattle.records.proofs.Views.{term-is}
 use Rattle.records.proofs.Grown.{string-term}

@@ -12,9 +12,9 @@ use Rattle.records.specs.declared.State.{State}
 use Rattle.records.specs.Store.{Store, within, climb, classUp, forestUp, root, top}
 use Rattle.records.specs.View.{termLimit, termed}
 use Rattle.records.specs.Rules.{endsRule, labelRule}
-use Rattle.records.specs.Leaves.{alikeAt, aloneAt, classTest}
-use Rattle.records.specs.Audited.{Closed, Rooted}
-use Rattle.records.specs.Ends.{End, Ends, Kept, Tested}
+use Rattle.records.specs.Working.Leaves.{alikeAt, aloneAt, classTest}
+use Rattle.records.specs.Working.Audited.{Closed, Rooted}
+use Rattle.records.specs.Working.Ends.{End, Ends, Kept, Tested}
 use Rattle.records.proofs.Lists.{decide, within-high}
 use Rattle.records.proofs.Climbs.{climb-add, Climbing, view-count}
 use Rattle.records.proofs.Repeats.{climb-one, climb-enough}

@@ -12,7 +12,7 @@ use Rattle.records.specs.Store.{Term, Cell, Store, term, count, kind, te
 use Rattle.records.specs.Rules.{isChar}
 use Rattle.records.specs.Make.{own}
 use Rattle.records.specs.Meaning.{Words, Reading, Joins, IsUnder, Holds}
-use Rattle.records.specs.Audited.{Audited}
+use Rattle.records.specs.Working.Audited.{Audited}
 use Rattle.records.proofs.Lists.{clash, every-map, every-firsts, all-take, all-drop, all-joined, joined-same, within-is, within-high}
 use Rattle.records.proofs.Readings.{parts-lower}
 use Rattle.records.proofs.Grown.{term-past, term-zero, present, string-here, Extends, Grown}

@@ -12,9 +12,9 @@ use Rattle.records.specs.Lists.{all, joined, sameWord, Every}
 use Rattle.records.specs.Store.{Out, isConstant, kind, termIn, textIn, text}
 use Rattle.records.specs.View.{lent, Lent, storeOf, charRoom, termAt, textAt, termsView, charsView, span, lengths}
 use Rattle.records.specs.Make.{makeConstant}
-use Rattle.records.specs.Leaves.{hasText, makeText}
-use Rattle.records.specs.Puts.{TextsWithin}
-use Rattle.records.specs.Audited.{Ready}
+use Rattle.records.specs.Working.Leaves.{hasText, makeText}
+use Rattle.records.specs.Working.Puts.{TextsWithin}
+use Rattle.records.specs.Working.Audited.{Ready}
 use Rattle.records.specs.Calls.{Working}
 use Rattle.records.proofs.Lists.{within-low, within-high, all-every, every-map, joined-same, table-length}
 use Rattle.records.proofs.Views.{term-is, text-span}

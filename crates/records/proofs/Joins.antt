@@ -11,7 +11,7 @@ use lib.Seq.{drop-cons, take-suc, take-all, split-at}
 use borrow.Author.Tests.{not-true, not-false}
 use Rattle.records.specs.Lists.{table, joined, sameWord}
 use Rattle.records.specs.View.{span, textAt, termAt, lengths, charsView}
-use Rattle.records.specs.Puts.{CharsPut, TextsWithin}
+use Rattle.records.specs.Working.Puts.{CharsPut, TextsWithin}
 use Rattle.records.proofs.Lists.{left-false, word-append, every-at, table-at, table-same, table-add, table-length, joined-append}
 use Rattle.records.proofs.Views.{part-span}
 use Rattle.records.proofs.Texts.{Copied, copied-one, copied-all, put-both}

@@ -16,7 +16,7 @@ use Rattle.records.specs.Store.{Term, Cell, Store, Out, ok, stop, Work, 
 use Rattle.records.specs.Rules.{isChar, reasonRule, keyRule, named, isEquatable}
 use Rattle.records.specs.Make.{withReasons, withKeys, withChars, withCells, withNames, own, addReason, addKey, addText, addChain, chainFrom, addTerm, lookup, orMake, lowest, constantOf, concatOf, lengthOf, equationOf, makeConstant, makeVariable, makeConcat, makeLength, makeEquation, ordered, strk, decimalBy, nameOf, isSome, isTaken, takeNameBy, nameLimit, takeName}
 use Rattle.records.specs.Meaning.{Words, Reading}
-use Rattle.records.specs.Audited.{Recorded, Audited}
+use Rattle.records.specs.Working.Audited.{Recorded, Audited}
 use Rattle.records.proofs.Lists.{both-left, both-right, both-true, or-left, decide, clash, all-append, all-every, within-low, within-high, word-is, word-same, first-some, first-none}
 use Rattle.records.proofs.Works.{stop-not, via, branch}
 use Rattle.records.proofs.Chains.{extends-refl, extends-append, ascends-made, chain-made, from-length, plain, plain-firsts, plain-length}

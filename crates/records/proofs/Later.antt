@@ -9,7 +9,7 @@ use Rattle.records.specs.declared.State.{State}
 use Rattle.records.specs.Store.{Store, kind}
 use Rattle.records.specs.View.{Lent, storeOf}
 use Rattle.records.specs.Make.{withReasons}
-use Rattle.records.specs.Audited.{Audited}
+use Rattle.records.specs.Working.Audited.{Audited}
 use Rattle.records.proofs.Grown.{Grown, OldVariables, grown-none, grown-then}
 use Rattle.records.proofs.Beside.{audited-beside, grown-beside}
 use Rattle.records.proofs.Kept.{MadeIn, KeyAdded}

@@ -15,11 +15,11 @@ use Rattle.records.specs.declared.State.{State}
 use Rattle.records.specs.Store.{Term as Record, Store, Out, ok, stop, Work, count, within, term, kind, termIn, textIn}
 use Rattle.records.specs.declared.Made.the-variants.{Term, Refused}
 use Rattle.records.specs.View.{lent, termWords, termLimit, charLimit, charRoom, termRoom, oneTerm, moreChars, Lent, storeOf, termAt, termsView, charsView, span}
-use Rattle.records.specs.Audited.{Ready, Sized}
+use Rattle.records.specs.Working.Audited.{Ready, Sized}
 use Rattle.records.specs.Calls.{Working, made}
-use Rattle.records.specs.Puts.{CharsPut, TermPut}
+use Rattle.records.specs.Working.Puts.{CharsPut, TermPut}
 use Rattle.records.specs.Make.{lookup, orMake, lowest, addText, addTerm, withChars, withTerms, own, makeConstant, makeVariable, constantOf}
-use Rattle.records.specs.Leaves.{numberOf, Passed, textOf, hasText, appendText, makeText}
+use Rattle.records.specs.Working.Leaves.{numberOf, Passed, textOf, hasText, appendText, makeText}
 use Rattle.records.specs.Rules.{named}
 use Rattle.records.proofs.Views.{term-is, text-span}
 use Rattle.records.proofs.Rooms.{chars-fit, chars-limit, chars-room, chars-over, term-limit, term-room}

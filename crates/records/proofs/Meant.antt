@@ -9,7 +9,7 @@ use Rattle.records.specs.Lists.{joined}
 use Rattle.records.specs.Store.{Term, Store, term, kind, isString}
 use Rattle.records.specs.Meaning
 use Rattle.records.specs.Meaning.{Words, Reading, True}
-use Rattle.records.specs.Audited.{Recorded}
+use Rattle.records.specs.Working.Audited.{Recorded}
 use Rattle.records.proofs.Lists.{within-high}
 use Rattle.records.proofs.Grown.{present, Grown, grown-kind, grown-string}
 use Rattle.records.proofs.Append.{equatable-here}

@@ -15,9 +15,9 @@ use Rattle.records.specs.declared.State.{State}
 use Rattle.records.specs.Lists.{allBelow, table, sameWord}
 use Rattle.records.specs.Store.{Term, Store, term, within, isVariable, text, termIn}
 use Rattle.records.specs.View.{lent, storeOf, termAt, charsView, span}
-use Rattle.records.specs.Leaves.{hasText}
+use Rattle.records.specs.Working.Leaves.{hasText}
 use Rattle.records.specs.Rules.{textRule, named, nameRule}
-use Rattle.records.specs.Hashes.{mixed, hashFrom, hash, Hashed, inChain, highest, Tables, Passing}
+use Rattle.records.specs.Working.Hashes.{mixed, hashFrom, hash, Hashed, inChain, highest, Tables, Passing}
 use Rattle.records.proofs.Lists.{both-left, both-right, both-true, left-false, right-false, right-true, and-stop, and-next, clash, decide, within-low, within-high, below-false, below-suc, below-zero, last-hit, last-pass, last-one, last-low, last-passes, last-all, table-length, word-is}
 use Rattle.records.proofs.Views.{term-is, part-span, text-span, first-at, second-at}
 use Rattle.records.proofs.Grown.{kind-term, present}

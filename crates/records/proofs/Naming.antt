@@ -18,11 +18,11 @@ use Rattle.records.specs.Store.{Store, ok, count, within}
 use Rattle.records.specs.View.{lent, storeOf, namesAt}
 use Rattle.records.specs.Rules.{named}
 use Rattle.records.specs.Make.{strk, decimalBy, nameOf, isTaken, withNames, nameLimit, takeNameBy, takeName, lookup, isSome}
-use Rattle.records.specs.Leaves.{numberOf, textOf, hasText}
-use Rattle.records.specs.Audited.{Ready}
+use Rattle.records.specs.Working.Leaves.{numberOf, textOf, hasText}
+use Rattle.records.specs.Working.Audited.{Ready}
 use Rattle.records.specs.Calls.{Taken}
-use Rattle.records.specs.Leaves.{Free}
-use Rattle.records.specs.Puts.{Written}
+use Rattle.records.specs.Working.Leaves.{Free}
+use Rattle.records.specs.Working.Puts.{Written}
 use Rattle.records.proofs.Lists.{clash, first-same}
 use Rattle.records.proofs.Making.{texts-within, found-text}
 

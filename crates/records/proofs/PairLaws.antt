@@ -13,8 +13,8 @@ use Rattle.records.specs.Lists.{all, upTo, sameWord, firsts, seconds, Ev
 use Rattle.records.specs.Store.{Cell, cellIn, term, kind, within, chainBy, chainIn, chain, aboveIn, nearestIn, pathIn, sameTree}
 use Rattle.records.specs.View.{Lent, storeOf, termLimit, termsView, cellAt, cellsView, termed, chained, termAt}
 use Rattle.records.specs.Rules.{stampBelow, fallsRule, pairsOf, congruenceRule, edgeRule, congruencesRule}
-use Rattle.records.specs.Leaves.{pairWords, pairMeets}
-use Rattle.records.specs.Audited.{Classed, Recorded, Part, Pathed, TermPair, Congruable}
+use Rattle.records.specs.Working.Leaves.{pairWords, pairMeets}
+use Rattle.records.specs.Working.Audited.{Classed, Recorded, Part, Pathed, TermPair, Congruable}
 use Rattle.records.proofs.Lists.{both-left, both-right, both-true, either, every-map, every-both, every-firsts, firsts-every, seconds-every, word-is, and-stop, and-next, or-stop, or-next, left-false, right-false, failed, passed, decide, table-length}
 use Rattle.records.proofs.Views.{kind-at, first-at, value-at, other-at, next-at}
 use Rattle.records.proofs.Climbs.{view-count, view-term, view-forest, ready-tops, within-term, term-within}

@@ -11,11 +11,11 @@ use lib.Seq.{getD-set-same, getD-set-other}
 use lib.Dec.{eqb}
 use borrow.Author.Tests.{eqb-true, eqb-false, eq-eqb, ne-eqb, lt-ltb, le-ltb}
 use Rattle.records.specs.Lists.{all, any, firstOf, isIn, upTo, Every, none-left, and}
-use Rattle.records.specs.Leaves.{flagged, isFlagged}
+use Rattle.records.specs.Working.Leaves.{flagged, isFlagged}
 use Rattle.records.specs.Store.{Term, within, climb, forestUp, topIn, aboveBy, aboveIn, orNone, nearestIn, pathIn}
 use Rattle.records.specs.View.{termsView, termAt}
 use Rattle.records.specs.Rules.{stampBelow}
-use Rattle.records.specs.Audited.{Closed}
+use Rattle.records.specs.Working.Audited.{Closed}
 use Rattle.records.proofs.Lists.{or-right, right-falsum, every-map, every-both, all-append, either, or-left, decide, clash, within-low, within-high}
 use Rattle.records.proofs.Climbs.{climb-stays, climb-up, above-step, view-term, view-forest, view-count}
 

@@ -8,7 +8,7 @@ use Rattle.records.specs.Lists.{if_then_else_}
 use Rattle.records.specs.Store.{Store, Out, stop, Work}
 use Rattle.records.specs.View.{Lent, storeOf, sizes}
 use Rattle.records.specs.Rules.{recordsRule, classesRule, congruencesRule, auditStore, audit}
-use Rattle.records.specs.Audited.{Ready}
+use Rattle.records.specs.Working.Audited.{Ready}
 use Rattle.records.specs.Calls.{call, checked, unless, Public, Working}
 use Rattle.records.proofs.Passed.{ready-of}
 

@@ -12,7 +12,7 @@ use Rattle.records.specs.Lists.{if_then_else_, all, joined, Every, none-
 use Rattle.records.specs.Store.{Store, term, kind, isTerm, isString, isConstant, isConcat, textIn, text, chain, parts}
 use Rattle.records.specs.Rules.{isChar}
 use Rattle.records.specs.Meaning.{Words, Reading}
-use Rattle.records.specs.Audited.{Pairs, Congruent, Recorded}
+use Rattle.records.specs.Working.Audited.{Pairs, Congruent, Recorded}
 use Rattle.records.proofs.Lists.{within-low, within-high, every-map, every-both, every-firsts, firsts-every, seconds-every, all-take, all-drop, all-joined, joined-same}
 use Rattle.records.proofs.Grown.{string-term}
 

@@ -10,7 +10,7 @@ use lib.Dec.{ltb}
 use borrow.Author.Tests.{ltb-true, ltb-false}
 use Rattle.records.specs.Lists.{if_then_else_}
 use Rattle.records.specs.Store.{within, climb}
-use Rattle.records.specs.Audited.{Closed}
+use Rattle.records.specs.Working.Audited.{Closed}
 use Rattle.records.proofs.Lists.{decide, within-low, within-high}
 use Rattle.records.proofs.Climbs.{climb-last, climb-stays, climb-add, climb-within}
 

@@ -11,7 +11,7 @@ use Rattle.records.specs.Lists.{all}
 use Rattle.records.specs.Store.{Store, termIn, within, term, cell, chain, chainBy, isString}
 use Rattle.records.specs.View.{Lent, lent, storeOf, cellAt, pairAt, termsView, termWords, cellWords, sizes, termLimit, cellLimit, charLimit, reasonLimit, keyLimit, termAt}
 use Rattle.records.specs.declared.State.{State}
-use Rattle.records.specs.Audited.{Sized}
+use Rattle.records.specs.Working.Audited.{Sized}
 use Rattle.records.specs.Rules.{isChar, isNumber, reasonRule, keyRule, cellRule, textRule, partRule, concatRule, lengthRule, isEquatable, equationRule}
 use Rattle.records.proofs.Lists.{within-zero, within-high, and-stop, and-next, or-stop, failed, passed, right-false, right-true, or-none, three-1, three-2, three-3, three-first, three-last, five-1, five-2, five-3, five-4, five-last, decide, table-length, both-left, both-right, both-true}
 use Rattle.records.proofs.Views.{term-is, term-none, term-past, next-at}

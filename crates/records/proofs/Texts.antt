@@ -13,7 +13,7 @@ use lib.Dec.{eqb}
 use borrow.Author.Tests.{eqb-true, eq-eqb, ne-eqb}
 use Rattle.records.specs.Lists.{sameWord, allBelow}
 use Rattle.records.specs.View.{span, charsView}
-use Rattle.records.specs.Puts.{CharsPut}
+use Rattle.records.specs.Working.Puts.{CharsPut}
 use Rattle.records.proofs.Lists.{table-at, table-same, table-add, table-length, same-test, word-is, word-same, below-zero, below-suc, below-at, below-all, below-false}
 
 -- the test of one place

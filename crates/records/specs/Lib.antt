@@ -1,13 +1,9 @@
-pub mod Leaves
-pub mod Ends
 pub mod Lists
 pub mod Store
 pub mod View
 pub mod Rules
-pub mod Hashes
 pub mod Make
-pub mod Puts
 pub mod Meaning
-pub mod Audited
 pub mod Calls
 pub mod AuditCases
+pub mod Working

@@ -6,7 +6,7 @@ ghost use lib.ListN.{length};
 ghost use Rattle.records.specs.Lists.{any};
 ghost use Rattle.records.specs.View.{termLimit, cellLimit, termAt, termWords, cellWords, termRoom, cellRoom, pairAt, pairsView, across};
 ghost use Rattle.records.specs.Make.{addKey, ordered, samePair};
-ghost use Rattle.records.specs.Puts.{TermPut, withClass, withEdge, TermSet, CellPut, ChainPut, PairPut, Pushed};
+ghost use Rattle.records.specs.Working.Puts.{TermPut, withClass, withEdge, TermSet, CellPut, ChainPut, PairPut, Pushed};
 ghost use Rattle.records.specs.Calls.{added, Does};
 use crate::CELL_WIDTH;
 use crate::TERM_WIDTH;

@@ -11,8 +11,8 @@ ghost use Rattle.records.specs.View.{storeOf, termsView, charsView, pair
 ghost use Rattle.records.specs.View.{termWords, cellWords, termLimit, cellLimit, charLimit, reasonLimit, keyLimit, sizes};
 ghost use Rattle.records.specs.Rules.{isChar, isNumber, isEquatable, recordsRule, eachTerm, eachCell, isList};
 ghost use Rattle.records.specs.Rules.{reasonRule, keyRule, cellRule, textRule, partRule, concatRule, lengthRule, equationRule, termRule};
-ghost use Rattle.records.specs.Hashes.{Tables, Passing};
-ghost use Rattle.records.specs.Audited.{Sized};
+ghost use Rattle.records.specs.Working.Hashes.{Tables, Passing};
+ghost use Rattle.records.specs.Working.Audited.{Sized};
 use crate::CELL_LIMIT;
 use crate::CELL_WIDTH;
 use crate::CHAR_LIMIT;

@@ -5,7 +5,7 @@ ghost use lib.ListN.{length};
 ghost use Rattle.records.specs.Lists.{sameWord, joined};
 ghost use Rattle.records.specs.View.{span, textAt, lengths};
 ghost use Rattle.records.specs.Rules.{listLimit};
-ghost use Rattle.records.specs.Puts.{CharsPut, TextsWithin};
+ghost use Rattle.records.specs.Working.Puts.{CharsPut, TextsWithin};
 use crate::fields::first;
 use crate::fields::second;
 use crate::fields::word;

@@ -8,7 +8,7 @@ ghost use lib.ListN.{length, getD};
 ghost use Rattle.records.specs.Store.{isVariable, text};
 ghost use Rattle.records.specs.View.{span, readIn};
 ghost use Rattle.records.specs.Rules.{textRule, named, nameRule};
-ghost use Rattle.records.specs.Hashes.{hashFrom, hash, Hashed, Tables, Passing};
+ghost use Rattle.records.specs.Working.Hashes.{hashFrom, hash, Hashed, Tables, Passing};
 use crate::State;
 use crate::fields;
 use crate::make::has_text;

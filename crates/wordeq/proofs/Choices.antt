@@ -17,8 +17,8 @@ use Rattle.records.proofs.Lists.{both-left, both-right, both-true}
 use Rattle.wordeq.specs.declared.StepResult.{StepResult}
 use Rattle.wordeq.specs.declared.StepResult.the-variants as step
 use Rattle.wordeq.specs.Wordeq.{propagate, Tried, answer, fixed, letters, isPlain, alias, empties, assigns, _orElse_}
-use Rattle.wordeq.specs.Results.{Tries}
-use Rattle.wordeq.specs.Propagates.{aliased, emptied, assigned}
+use Rattle.wordeq.specs.Working.Results.{Tries}
+use Rattle.wordeq.specs.Working.Propagates.{aliased, emptied, assigned}
 use Rattle.wordeq.proofs.Orelse.{else-after, else-answer, else-made, else-none}
 use Rattle.wordeq.proofs.Propagated.{emptied-parts}
 

@@ -6,7 +6,7 @@ use Prim.Native.Nat.{ℕ}
 use native.Mathlib.Omega.{arith}
 use Rattle.records.specs.Store.{Store, isString, sameClass}
 use Rattle.records.specs.Meaning.{Words, Reading, Holds}
-use Rattle.records.specs.Audited.{Audited}
+use Rattle.records.specs.Working.Audited.{Audited}
 use Rattle.records.proofs.Grown.{Grown, grown-none, grown-then, holds-fewer}
 use Rattle.records.proofs.Beside.{reading-beside}
 use Rattle.engine.specs.Explain.{explain}

@@ -13,7 +13,7 @@ use Rattle.records.specs.Store.{Store, kind, isConstant, isVariable, text}
 use Rattle.records.specs.Rules.{isChar}
 use Rattle.records.specs.Make.{makeConstant}
 use Rattle.records.specs.Meaning.{Words, Reading}
-use Rattle.records.specs.Audited.{Audited}
+use Rattle.records.specs.Working.Audited.{Audited}
 use Rattle.records.proofs.Lists.{both-left, both-right, either, clash, all-every, all-joined, word-same}
 use Rattle.records.proofs.Paths.{first-has}
 use Rattle.records.proofs.Readings.{text-characters}

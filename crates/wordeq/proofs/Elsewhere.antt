@@ -16,8 +16,8 @@ use Rattle.records.specs.Store.{Store, Term, kind, isConstant, text, root, same
 use Rattle.records.specs.View.{Lent, storeOf, readIn, termed, termAt}
 use Rattle.records.proofs.Lists.{both-left, decide}
 use Rattle.wordeq.specs.Wordeq.{lettersOf, isFull, occurrence}
-use Rattle.wordeq.specs.Sides.{Texts}
-use Rattle.wordeq.specs.Occurring.{atPlace, ownCount}
+use Rattle.wordeq.specs.Working.Sides.{Texts}
+use Rattle.wordeq.specs.Working.Occurring.{atPlace, ownCount}
 use Rattle.wordeq.proofs.SidesLetters.{term-there, text-length}
 use Rattle.wordeq.proofs.SidesWalk.{count-same}
 use Rattle.wordeq.proofs.Strips.{drop-head}

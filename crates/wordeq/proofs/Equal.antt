@@ -12,7 +12,7 @@ use Rattle.records.specs.Lists.{if_then_else_, all, joined, sameWord, and}
 use Rattle.records.specs.Store.{Store, Out, ok, stop, andThen, give, isConstant, isString, text, sameClass}
 use Rattle.records.specs.Make.{withReasons}
 use Rattle.records.specs.Meaning.{Words}
-use Rattle.records.specs.Audited.{Audited}
+use Rattle.records.specs.Working.Audited.{Audited}
 use Rattle.records.proofs.Lists.{both-left, both-right, decide, clash, all-every}
 use Rattle.engine.specs.Explain.{explain}
 use Rattle.records.proofs.Later.{Added}

@@ -12,7 +12,7 @@ use Rattle.records.specs.Lists.{all}
 use Rattle.records.specs.Store.{Store, Out, ok, stop, isString}
 use Rattle.records.specs.View.{Lent, storeOf, readIn}
 use Rattle.records.specs.Rules.{audit, isList}
-use Rattle.records.specs.Audited.{Ready}
+use Rattle.records.specs.Working.Audited.{Ready}
 use Rattle.records.specs.Calls.{Working, Public, call}
 use Rattle.records.proofs.Lists.{both-left, both-right, left-false, and-next}
 use Rattle.records.proofs.Passed.{ready-of}
@@ -20,7 +20,7 @@ use Rattle.records.proofs.Public.{call-unready, call-unfit, call-works, audit-l
 use Rattle.records.proofs.Works.{stop-not}
 use Rattle.records.proofs.ListLaws.{list-strings}
 use Rattle.wordeq.specs.Wordeq.{same, nfEqual, nfExplain, nfArguments}
-use Rattle.wordeq.specs.Stripping.{Readable}
+use Rattle.wordeq.specs.Working.Stripping.{Readable}
 use Rattle.wordeq.specs.Calls.{equalArguments, equalLists, PublicEqualExplain}
 use Rattle.wordeq.proofs.Equal.{explain-equal-sound, explain-equal-stops}
 

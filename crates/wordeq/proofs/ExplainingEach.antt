@@ -11,14 +11,14 @@ use Rattle.records.specs.declared.Added.the-variants as adding
 use Rattle.records.specs.Lists.{if_then_else_, all, keep, Every, none-left, and}
 use Rattle.records.specs.Store.{Store, Term, Out, ok, Work, andThen, termIn, isConstant, isString, root, sameClass}
 use Rattle.records.specs.View.{Lent, lent, storeOf, termsView, readIn}
-use Rattle.records.specs.Audited.{Audited, Ready}
+use Rattle.records.specs.Working.Audited.{Audited, Ready}
 use Rattle.records.specs.Calls.{Working, added}
 use Rattle.records.proofs.Lists.{both-left, both-right, both-true, clash, decide, every-at}
 use Rattle.engine.specs.Explain.{explain, explainArguments}
 use Rattle.records.proofs.Outcomes.{ends-give, ends-map, ends-if}
 use Rattle.wordeq.specs.Wordeq.{same, explainAll, variables}
-use Rattle.wordeq.specs.Stripping.{Pair}
-use Rattle.wordeq.specs.Explaining.{OneClass, explainAtom}
+use Rattle.wordeq.specs.Working.Stripping.{Pair}
+use Rattle.wordeq.specs.Working.Explaining.{OneClass, explainAtom}
 use Rattle.wordeq.proofs.Ends.{Ends}
 use Rattle.wordeq.proofs.Cited.{Cited, cited-none, cited-map, explain-ends}
 use Rattle.wordeq.proofs.Strip.{same-class}

@@ -16,9 +16,9 @@ use Rattle.records.specs.Store.{Store, kind, isConstant, isString, text}
 use Rattle.records.specs.View.{lent, storeOf, readIn, termed}
 use Rattle.records.proofs.Lists.{both-left, both-right, both-true, left-false, and-next, or-stop, or-next, clash, decide, all-append, all-every, every-at, joined-append}
 use Rattle.wordeq.specs.Wordeq.{same, fixed, lettersOf, letters, filled, lead, forced, firstSpan, fits, variables}
-use Rattle.wordeq.specs.Sides.{Spelled, rest, Tiling}
-use Rattle.wordeq.specs.Stripping.{Pair}
-use Rattle.wordeq.specs.Spans.{FirstVariable, agrees}
+use Rattle.wordeq.specs.Working.Sides.{Spelled, rest, Tiling}
+use Rattle.wordeq.specs.Working.Stripping.{Pair}
+use Rattle.wordeq.specs.Working.Spans.{FirstVariable, agrees}
 use Rattle.wordeq.proofs.SidesReady.{length-whole}
 
 -- THE FIRST VARIABLE

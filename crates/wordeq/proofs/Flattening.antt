@@ -16,17 +16,17 @@ use Rattle.records.specs.Lists.{any, joined}
 use Rattle.records.specs.Store.{Store, Out, ok, stop, andThen, _>>=_, give, isConcat}
 use Rattle.records.specs.View.{Lent, storeOf}
 use Rattle.records.specs.Rules.{listLimit, isList}
-use Rattle.records.specs.Audited.{Ready}
+use Rattle.records.specs.Working.Audited.{Ready}
 use Rattle.records.specs.Calls.{Working}
 use Rattle.records.proofs.Lists.{any-append, joined-same, both-true, both-right, every-all, every-map}
 use Rattle.normalize.specs.Normalize.{atoms, flatten}
-use Rattle.normalize.specs.Flat.{bare, Appended}
+use Rattle.normalize.specs.Working.Flat.{bare, Appended}
 use Rattle.normalize.proofs.Atoms.{every-of, same-atoms, flatten-fits, flatten-full, flatten-atoms}
 use Rattle.wordeq.specs.declared.StepResult.{StepResult}
 use Rattle.wordeq.specs.declared.StepResult.the-variants as step
 use Rattle.wordeq.specs.Wordeq.{Answer, steps, softened, isGuard}
-use Rattle.wordeq.specs.Results.{resolved}
-use Rattle.wordeq.specs.Resolving.{soft, flatSteps, ran}
+use Rattle.wordeq.specs.Calls.{resolved}
+use Rattle.wordeq.specs.Working.Resolving.{soft, flatSteps, ran}
 use Rattle.wordeq.proofs.Strips.{drop-head}
 
 -- SOME ATOM IS A CONCATENATION

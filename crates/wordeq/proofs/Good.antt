@@ -7,7 +7,7 @@ use Prim.Native.Nat.{ℕ, _≤_}
 use Rattle.records.specs.Lists.{joined}
 use Rattle.records.specs.Store.{Store, count, kind}
 use Rattle.records.specs.Meaning.{Words}
-use Rattle.records.specs.Audited.{Audited}
+use Rattle.records.specs.Working.Audited.{Audited}
 use Rattle.records.proofs.Lists.{joined-same, every-map}
 use Rattle.records.proofs.Grown.{Grown, OldVariables, grown-kind, present, string-here, Strings, strings-later}
 use Rattle.records.proofs.Later.{Later, later-none, later-then, later-added}

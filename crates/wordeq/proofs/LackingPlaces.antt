@@ -14,7 +14,7 @@ use borrow.Author.Tests.{eqb-true, eq-eqb, ne-eqb}
 use Rattle.records.specs.Lists.{if_then_else_, any, table, isIn}
 use Rattle.records.specs.View.{span}
 use Rattle.records.proofs.Lists.{any-append, any-stays, any-stop, or-right, or-none, decide}
-use Rattle.wordeq.specs.Lacking.{usedAt, seen, used}
+use Rattle.wordeq.specs.Working.Lacking.{usedAt, seen, used}
 
 -- ONE PLACE
 

@@ -14,8 +14,8 @@ use Rattle.records.specs.Store.{Store, Term, kind}
 use Rattle.records.specs.View.{lent, charLimit, span, readIn, termed, termAt}
 use Rattle.records.proofs.Lists.{any-append, any-turn, any-stop, any-done, any-zero, or-left, or-none, right-false, and-stop, and-next, failed, passed, clash}
 use Rattle.wordeq.specs.Wordeq.{fixed, lettersOf, letters, absent}
-use Rattle.wordeq.specs.Sides.{Texts}
-use Rattle.wordeq.specs.Lacking.{seen, used, Uses, Lacking}
+use Rattle.wordeq.specs.Working.Sides.{Texts}
+use Rattle.wordeq.specs.Working.Lacking.{seen, used, Uses, Lacking}
 use Rattle.wordeq.proofs.SidesLetters.{term-there, letters-other, letters-at, letters-end}
 use Rattle.wordeq.proofs.SidesTexts.{text-words}
 use Rattle.wordeq.proofs.SidesReady.{length-whole}

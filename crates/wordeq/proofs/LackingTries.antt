@@ -7,13 +7,13 @@ use lib.ListN.{length}
 use Rattle.records.specs.declared.State.{State}
 use Rattle.records.specs.View.{Lent, lent, storeOf, readIn, termed}
 use Rattle.records.specs.Rules.{listLimit}
-use Rattle.records.specs.Audited.{Ready}
+use Rattle.records.specs.Working.Audited.{Ready}
 use Rattle.records.proofs.ListLaws.{list-short}
 use Rattle.wordeq.specs.declared.StepResult.the-variants as step
 use Rattle.wordeq.specs.Wordeq.{fixed, lettersOf, letters, unequal, short, absent, constants}
-use Rattle.wordeq.specs.Sides.{Texts, Spelled}
-use Rattle.wordeq.specs.Lacking.{conflicts}
-use Rattle.wordeq.specs.Results.{BothLists, Tries}
+use Rattle.wordeq.specs.Working.Sides.{Texts, Spelled}
+use Rattle.wordeq.specs.Working.Lacking.{conflicts}
+use Rattle.wordeq.specs.Working.Results.{BothLists, Tries}
 use Rattle.wordeq.proofs.SidesReady.{ready-readIn, short-whole}
 
 -- the tests one after the other

@@ -14,7 +14,7 @@ use Rattle.records.specs.declared.Added.the-variants as adding
 use Rattle.records.specs.Lists.{if_then_else_, all}
 use Rattle.records.specs.Store.{Store, ok, andThen, termIn, within, classUp, isConstant, isString}
 use Rattle.records.specs.View.{Lent, lent, storeOf, termsView, termed}
-use Rattle.records.specs.Audited.{Audited, Ready, Closed}
+use Rattle.records.specs.Working.Audited.{Audited, Ready, Closed}
 use Rattle.records.specs.Calls.{Working, added}
 use Rattle.records.specs.Rules.{listLimit}
 use Rattle.records.proofs.Lists.{both-left, both-right, both-true, all-every, every-all, every-at, every-map}
@@ -24,9 +24,9 @@ use Rattle.engine.specs.Explain.{explain, explainArguments}
 use Rattle.wordeq.specs.declared.StepResult.{StepResult}
 use Rattle.wordeq.specs.declared.StepResult.the-variants as step
 use Rattle.wordeq.specs.Wordeq.{conflict, pass, answer, settled, _orElse_, occurrence, occursAt, occurs}
-use Rattle.wordeq.specs.Results.{BothLists, tried, Tries}
-use Rattle.wordeq.specs.Sides.{Texts}
-use Rattle.wordeq.specs.Occurring.{atPlace}
+use Rattle.wordeq.specs.Working.Results.{BothLists, tried, Tries}
+use Rattle.wordeq.specs.Working.Sides.{Texts}
+use Rattle.wordeq.specs.Working.Occurring.{atPlace}
 use Rattle.wordeq.proofs.SidesReady.{ready-readIn}
 use Rattle.records.proofs.Climbs.{string-within, ready-roots}
 use Rattle.records.proofs.Counts.{Higher, agree-below}

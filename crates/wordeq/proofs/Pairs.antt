@@ -11,12 +11,12 @@ use Rattle.records.specs.declared.Added.the-variants as adding
 use Rattle.records.specs.Lists.{all, sameWord}
 use Rattle.records.specs.Store.{Store, Out, ok, Work, andThen, isConstant, isString, text, sameClass}
 use Rattle.records.specs.View.{Lent, lent, storeOf, readIn}
-use Rattle.records.specs.Audited.{Ready}
+use Rattle.records.specs.Working.Audited.{Ready}
 use Rattle.records.specs.Calls.{Working, added}
 use Rattle.records.proofs.Lists.{both-true}
 use Rattle.engine.specs.Explain.{explain, explainArguments}
 use Rattle.wordeq.specs.Wordeq.{explainPair, nfExplain}
-use Rattle.wordeq.specs.Stripping.{Readable, Pair}
+use Rattle.wordeq.specs.Working.Stripping.{Readable, Pair}
 use Rattle.wordeq.proofs.Strips.{pair-of, drop-head}
 use Rattle.wordeq.proofs.Turning.{Turning, turning-none, turning-end, turning-refused, turning-on}
 use Rattle.wordeq.proofs.Equal.{pair-ends}

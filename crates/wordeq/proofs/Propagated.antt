@@ -15,7 +15,7 @@ use Rattle.records.specs.Lists.{all, firstOf, Every}
 use Rattle.records.specs.Store.{Store, andThen, within, kind, isVariable, isString}
 use Rattle.records.specs.View.{Lent, storeOf, readIn, termed}
 use Rattle.records.specs.Make.{makeConstant}
-use Rattle.records.specs.Audited.{Ready}
+use Rattle.records.specs.Working.Audited.{Ready}
 use Rattle.records.specs.Calls.{Working, made}
 use Rattle.records.proofs.Lists.{both-left, both-right, failed, passed, every-map, all-every}
 use Rattle.records.proofs.Grown.{grown-string}
@@ -23,9 +23,9 @@ use Rattle.records.proofs.Kept.{MadeIn, made-string}
 use Rattle.wordeq.specs.declared.StepResult.{StepResult}
 use Rattle.wordeq.specs.declared.StepResult.the-variants as step
 use Rattle.wordeq.specs.Wordeq.{same, fixed, letters, isPlain, empties, emptiesAt, assigns}
-use Rattle.wordeq.specs.Results.{tried, Tries}
-use Rattle.wordeq.specs.Stripping.{Readable, Pair}
-use Rattle.wordeq.specs.Propagates.{aliased, emptied, assigned, linked}
+use Rattle.wordeq.specs.Working.Results.{tried, Tries}
+use Rattle.wordeq.specs.Working.Stripping.{Readable, Pair}
+use Rattle.wordeq.specs.Working.Propagates.{aliased, emptied, assigned, linked}
 use Rattle.wordeq.proofs.Strips.{drop-head}
 use Rattle.records.proofs.Sequence.{made-is, made-stops}
 use Rattle.wordeq.proofs.Splitting.{constant-in, empty-ready}

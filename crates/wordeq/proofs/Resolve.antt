@@ -14,7 +14,7 @@ use Rattle.records.specs.Store.{Store, ok, stop, _>>=_, give, isConcat, isStrin
 use Rattle.records.specs.Make.{withReasons}
 use Rattle.records.specs.Meaning
 use Rattle.records.specs.Meaning.{Words, Reading, Holds, True}
-use Rattle.records.specs.Audited.{Audited}
+use Rattle.records.specs.Working.Audited.{Audited}
 use Rattle.records.proofs.Lists.{all-every, every-all, every-map}
 use Rattle.records.proofs.Grown.{Grown, grown-none, holds-before, Strings, holds-fewer}
 use Rattle.records.proofs.Beside.{reading-beside}

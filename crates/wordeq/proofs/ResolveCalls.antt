@@ -16,7 +16,7 @@ use Rattle.records.specs.Store.{Store, Out, ok, stop, andThen, isString}
 use Rattle.records.specs.View.{Lent, storeOf, pairsView}
 use Rattle.records.specs.Make.{withReasons}
 use Rattle.records.specs.Rules.{audit, listLimit, isList}
-use Rattle.records.specs.Audited.{Ready}
+use Rattle.records.specs.Working.Audited.{Ready}
 use Rattle.records.specs.Calls.{Working}
 use Rattle.records.proofs.Lists.{both-left, both-right, left-false, and-next}
 use Rattle.records.proofs.Public.{passed-ready}
@@ -25,9 +25,9 @@ use Rattle.normalize.proofs.FormCalls.{listed-short, listed-unready, listed-unf
 use Rattle.wordeq.specs.declared.StepResult.{StepResult}
 use Rattle.wordeq.specs.declared.StepResult.the-variants as step
 use Rattle.wordeq.specs.Wordeq.{Answer, done, saturated, split, closed, resolve, resolveArguments, isGuard}
-use Rattle.wordeq.specs.Results.{BothLists, resolved}
-use Rattle.wordeq.specs.Resolving.{closing, flatSteps, ran}
-use Rattle.wordeq.specs.Calls.{equalArguments, PublicResolve}
+use Rattle.wordeq.specs.Working.Results.{BothLists}
+use Rattle.wordeq.specs.Working.Resolving.{closing, flatSteps, ran}
+use Rattle.wordeq.specs.Calls.{equalArguments, PublicResolve, resolved}
 use Rattle.records.proofs.ListLaws.{list-strings}
 use Rattle.wordeq.proofs.Resolve.{resolve-sound, resolve-stops}
 

@@ -17,7 +17,7 @@ use Rattle.records.proofs.Lists.{and-stop, and-next, table-length, failed, pass
 use Rattle.records.proofs.Grown.{kind-term}
 use Rattle.records.proofs.Views.{term-is}
 use Rattle.wordeq.specs.Wordeq.{fixed, lettersOf, letters, short}
-use Rattle.wordeq.specs.Sides.{Texts, constantSide, otherSide}
+use Rattle.wordeq.specs.Working.Sides.{Texts, constantSide, otherSide}
 
 -- THE CONSTANT SIDE
 

@@ -10,10 +10,10 @@ use lib.Dec.{ltb}
 use Rattle.records.specs.declared.State.{State}
 use Rattle.records.specs.Lists.{joined}
 use Rattle.records.specs.View.{Lent, storeOf, readIn, termed}
-use Rattle.records.specs.Audited.{Ready}
+use Rattle.records.specs.Working.Audited.{Ready}
 use Rattle.records.proofs.Lists.{table-length}
 use Rattle.wordeq.specs.Wordeq.{fixed, lettersOf, letters, short}
-use Rattle.wordeq.specs.Sides.{Texts, Spelled, constantSide, otherSide}
+use Rattle.wordeq.specs.Working.Sides.{Texts, Spelled, constantSide, otherSide}
 use Rattle.wordeq.proofs.SidesWalk.{count-same}
 
 module _ (m : Lent) (c : State) where

@@ -17,7 +17,7 @@ use Rattle.records.specs.Make.{strk}
 use Rattle.records.proofs.Lists.{and-stop, and-next, both-left, both-right, both-true, failed, table-at, table-length, table-add, word-differs}
 use Rattle.records.proofs.Views.{text-span}
 use Rattle.wordeq.specs.Wordeq.{isPlain, differ}
-use Rattle.wordeq.specs.Sides.{Spelled}
+use Rattle.wordeq.specs.Working.Sides.{Spelled}
 use Rattle.wordeq.proofs.SidesLetters.{term-there}
 
 -- A CHARACTER THAT DIFFERS

@@ -16,7 +16,7 @@ use Rattle.records.specs.View.{charLimit, readIn, termed, termAt}
 use Rattle.records.proofs.Lists.{decide, left-false, clash}
 use Rattle.wordeq.specs.declared.sides.Cursor.{Cursor}
 use Rattle.wordeq.specs.Wordeq.{lettersOf, letters, filled}
-use Rattle.wordeq.specs.Sides.{Texts, Spelled, rest, next, There, Settled, headsAgree, fillCount, fillStart, fillSource, Tiling, Ended}
+use Rattle.wordeq.specs.Working.Sides.{Texts, Spelled, rest, next, There, Settled, headsAgree, fillCount, fillStart, fillSource, Tiling, Ended}
 use Rattle.wordeq.proofs.SidesLetters.{letters-at, count-some, whole-part}
 use Rattle.wordeq.proofs.SidesWalk.{count-same, place-limit, rest-end, heads-left, heads-right}
 

@@ -16,7 +16,7 @@ use Rattle.records.proofs.Lists.{decide, table-at, clash}
 use Rattle.records.proofs.Views.{text-span}
 use Rattle.wordeq.specs.declared.sides.Cursor.{Cursor}
 use Rattle.wordeq.specs.Wordeq.{lettersOf, letters}
-use Rattle.wordeq.specs.Sides.{Texts, Spelled, rest, There, Settled, headsAgree}
+use Rattle.wordeq.specs.Working.Sides.{Texts, Spelled, rest, There, Settled, headsAgree}
 use Rattle.wordeq.proofs.SidesLetters.{term-there, count-limit, letters-constant, letters-other, letters-at, letters-end}
 
 -- how many letters an atom has does not depend on what they are

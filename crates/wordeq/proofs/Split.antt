@@ -14,7 +14,7 @@ use Rattle.records.specs.Store.{Store, Term, count, term, kind, within, isConst
 use Rattle.records.specs.Rules.{isChar, isEquatable}
 use Rattle.records.specs.Make.{addKey, isKey, makeConcat, makeLength, makeEquation}
 use Rattle.records.specs.Meaning.{Words, Reading, True}
-use Rattle.records.specs.Audited.{Audited}
+use Rattle.records.specs.Working.Audited.{Audited}
 use Rattle.records.proofs.Lists.{both-left, both-right, both-true, or-left, or-right, every-all, all-drop}
 use Rattle.records.proofs.Readings.{text-characters}
 use Rattle.records.proofs.Grown.{Grown, grown-then, grown-kind, grown-string, present, string-here}

@@ -23,7 +23,7 @@ use Rattle.records.specs.Store.{Store, Out, ok, stop, andThen, _>>=_, _>>_, ref
 use Rattle.records.specs.View.{Lent, storeOf, pairsView, readIn, termed, termAt}
 use Rattle.records.specs.Rules.{isChar, isList, listLimit}
 use Rattle.records.specs.Make.{withKeys, ordered, samePair, addKey, isKey}
-use Rattle.records.specs.Audited.{Ready}
+use Rattle.records.specs.Working.Audited.{Ready}
 use Rattle.records.specs.Calls.{Working, added}
 use Rattle.records.proofs.Lists.{both-left, both-right, left-false, and-stop, and-next, clash, decide, table-at, table-length}
 use Rattle.records.proofs.Readings.{text-characters}
@@ -32,10 +32,10 @@ use Rattle.records.proofs.Passed.{ready-after}
 use Rattle.normalize.specs.declared.Form.{Form}
 use Rattle.normalize.specs.declared.Form.the-variants as form
 use Rattle.wordeq.specs.Wordeq.{Answer, saturated, conflict, split, Tried, _orElse_, isFull, differ, clashes, splitHeads, splitBy, splits, isGuard}
-use Rattle.wordeq.specs.Results.{BothLists}
-use Rattle.wordeq.specs.Sides.{Texts, Spelled}
-use Rattle.wordeq.specs.Splits.{listed, characterAtoms, headAtoms}
-use Rattle.wordeq.specs.Heads.{HeadsApart, HeadPair, atomsBy, atomsOf, splitNew}
+use Rattle.wordeq.specs.Working.Results.{BothLists}
+use Rattle.wordeq.specs.Working.Sides.{Texts, Spelled}
+use Rattle.wordeq.specs.Working.Splits.{listed, characterAtoms, headAtoms}
+use Rattle.wordeq.specs.Working.Heads.{HeadsApart, HeadPair, atomsBy, atomsOf, splitNew}
 use Rattle.records.proofs.Sequence.{grows-key, working-then, working-stop}
 use Rattle.wordeq.proofs.Strip.{Apart}
 use Rattle.wordeq.proofs.SidesTexts.{text-words}

@@ -17,7 +17,7 @@ use Rattle.records.specs.Store.{Store, Out, ok, stop, Work, andThen, _>>=_, giv
 use Rattle.records.specs.View.{Lent, storeOf}
 use Rattle.records.specs.Rules.{isChar, isEquatable, named}
 use Rattle.records.specs.Make.{lookup, makeConstant, makeVariable, makeConcat, makeLength, makeEquation, takeName}
-use Rattle.records.specs.Audited.{Audited, Ready}
+use Rattle.records.specs.Working.Audited.{Audited, Ready}
 use Rattle.records.specs.Calls.{Working, made, Taken}
 use Rattle.records.proofs.Lists.{both-true, every-all}
 use Rattle.records.proofs.Works.{via}
@@ -27,7 +27,7 @@ use Rattle.records.proofs.Passed.{ready-after}
 use Rattle.wordeq.specs.Wordeq.{split, Tried, answer, freshVariable, splitCharacter, splitHeads}
 use Rattle.normalize.specs.declared.Form.{Form}
 use Rattle.normalize.specs.declared.Form.the-variants as form
-use Rattle.wordeq.specs.Splits.{listed, prefixAtom, emptyAtom, characterAtom, lengthsAtom, characterAtoms, prefixAtoms, headAtoms}
+use Rattle.wordeq.specs.Working.Splits.{listed, prefixAtom, emptyAtom, characterAtom, lengthsAtom, characterAtoms, prefixAtoms, headAtoms}
 use Rattle.wordeq.proofs.Split.{equatable-strings, equatable-lengths}
 use Rattle.records.proofs.Sequence.{Grows, grows-then, grows-constant, grows-variable, grows-concat, grows-length, grows-equation, grows-name, working-then, working-stop, made-is, made-then, made-stop}
 

@@ -23,10 +23,11 @@ use Rattle.wordeq.specs.declared.StepResult.the-variants as step
 use Rattle.wordeq.specs.declared.Stripped.{Stripped}
 use Rattle.wordeq.specs.declared.Stripped.the-variants.{Parts, Refused}
 use Rattle.wordeq.specs.Wordeq.{Answer, done, Tried, answer, _orElse_, clashes, splits, after, isBare, orDone, strip, steps}
-use Rattle.wordeq.specs.Results.{resolved, tried, Tries}
-use Rattle.wordeq.specs.Sides.{Spelled}
-use Rattle.wordeq.specs.Heads.{HeadsApart}
-use Rattle.wordeq.specs.Stripping.{part, stripped, Inside, Strips}
+use Rattle.wordeq.specs.Working.Results.{tried, Tries}
+use Rattle.wordeq.specs.Calls.{resolved}
+use Rattle.wordeq.specs.Working.Sides.{Spelled}
+use Rattle.wordeq.specs.Working.Heads.{HeadsApart}
+use Rattle.wordeq.specs.Working.Stripping.{part, stripped, Inside, Strips}
 use Rattle.wordeq.proofs.LackingTries.{constants-need, constants-conflict, constants-pass}
 use Rattle.wordeq.proofs.Strip.{strip-ends}
 use Rattle.wordeq.proofs.Strip as strip
@@ -34,7 +35,7 @@ use Rattle.wordeq.proofs.SplitHeads.{heads-apart}
 use Rattle.records.proofs.Counts.{Higher, agree-below}
 use Rattle.wordeq.proofs.Trying.{Lined, Last, occursBoth, conflicts, propagates, tiles, grouped, occurs-goes, conflicts-goes, propagates-goes, after-groups, tiles-goes, done-is, else-works, else-tries, else-last}
 use Rattle.records.proofs.ListLaws.{list-short, list-every}
-use Rattle.wordeq.specs.Lacking.{conflicts as lacks}
+use Rattle.wordeq.specs.Working.Lacking.{conflicts as lacks}
 
 -- STEPS 2 AND 3
 

@@ -14,7 +14,7 @@ use Rattle.records.specs.declared.Added.the-variants as adding
 use Rattle.records.specs.Lists.{all}
 use Rattle.records.specs.Store.{Store, Room, Term, Out, ok, stop, andThen, within, termIn, isConstant, isString}
 use Rattle.records.specs.View.{Lent, lent, storeOf, pairAt, roomOf, termsView, cellsView, charsView, pairsView, readIn}
-use Rattle.records.specs.Audited.{Ready}
+use Rattle.records.specs.Working.Audited.{Ready}
 use Rattle.records.specs.Calls.{Working, added}
 use Rattle.records.proofs.Lists.{both-true, decide, all-every, every-at, table-same, table-length}
 use Rattle.records.proofs.Views.{table-is}
@@ -24,7 +24,7 @@ use Rattle.records.proofs.Later.{Added, added-none, added-then}
 use Rattle.wordeq.specs.declared.Rest.{Rest}
 use Rattle.wordeq.specs.declared.Stripped.the-variants.{Parts, Refused}
 use Rattle.wordeq.specs.Wordeq.{same, sameHeads, sameTails, matches, inner, rest, explainMatch, explainMatches, strip}
-use Rattle.wordeq.specs.Stripping.{Readable, Pair, part, Finds, Strips}
+use Rattle.wordeq.specs.Working.Stripping.{Readable, Pair, part, Finds, Strips}
 use Rattle.wordeq.proofs.Cited.{Cited}
 use Rattle.wordeq.proofs.Strip.{plainly, same-class, match-ends, matches-append, matches-end, off-heads}
 use Rattle.records.specs.declared.Added.{Added as Answered}

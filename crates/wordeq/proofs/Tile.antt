@@ -10,7 +10,7 @@ use borrow.Author.Tests.{eqb-true, eq-eqb, not-true}
 use Rattle.records.specs.Lists.{if_then_else_, all, keep, joined, sameWord, Every, none-left, and}
 use Rattle.records.specs.Store.{Store, isConstant, isString, text, root, sameClass}
 use Rattle.records.specs.Meaning.{Words, Reading}
-use Rattle.records.specs.Audited.{Audited}
+use Rattle.records.specs.Working.Audited.{Audited}
 use Rattle.records.proofs.Lists.{both-left, both-right, both-true, clash, all-every, word-refl}
 use Rattle.records.proofs.Grown.{grown-string, Strings, strings-later}
 use Rattle.records.proofs.Outcomes.{ends-give, ends-map, ends-if, ends-then}

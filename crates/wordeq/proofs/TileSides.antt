@@ -19,11 +19,11 @@ use Rattle.records.proofs.ListLaws.{list-strings, list-every}
 use Rattle.wordeq.specs.declared.StepResult.{StepResult}
 use Rattle.wordeq.specs.declared.StepResult.the-variants as step
 use Rattle.wordeq.specs.Wordeq.{conflict, Tried, answer, pass, settled, _orElse_, same, fixed, letters, fits, variables, explainAll, tileBy, tile}
-use Rattle.wordeq.specs.Results.{BothLists, Tries}
-use Rattle.wordeq.specs.Sides.{Spelled, constantSide, otherSide}
-use Rattle.wordeq.specs.Stripping.{Readable, Pair, part}
-use Rattle.wordeq.specs.Explaining.{OneClass}
-use Rattle.wordeq.specs.Spans.{FirstVariable, agrees, unfit}
+use Rattle.wordeq.specs.Working.Results.{BothLists, Tries}
+use Rattle.wordeq.specs.Working.Sides.{Spelled, constantSide, otherSide}
+use Rattle.wordeq.specs.Working.Stripping.{Readable, Pair, part}
+use Rattle.wordeq.specs.Working.Explaining.{OneClass}
+use Rattle.wordeq.specs.Working.Spans.{FirstVariable, agrees, unfit}
 use Rattle.wordeq.proofs.Strips.{part-whole}
 use Rattle.wordeq.proofs.SidesReady.{ready-readIn, constant-side-whole, other-side-whole}
 use Rattle.wordeq.proofs.ExplainingEach.{same-classes}

@@ -16,7 +16,7 @@ use Rattle.records.specs.Lists.{all, firstOf}
 use Rattle.records.specs.Store.{Store, Out, ok, andThen, _>>=_, isConstant, isVariable}
 use Rattle.records.specs.View.{Lent, storeOf}
 use Rattle.records.specs.Make.{makeConstant}
-use Rattle.records.specs.Audited.{Ready}
+use Rattle.records.specs.Working.Audited.{Ready}
 use Rattle.records.specs.Calls.{Working}
 use Rattle.records.proofs.Works.{via, branch}
 use Rattle.records.proofs.Passed.{ready-after}
@@ -24,7 +24,7 @@ use Rattle.engine.specs.Explain.{explain}
 use Rattle.wordeq.specs.declared.StepResult.{StepResult}
 use Rattle.wordeq.specs.declared.StepResult.the-variants as step
 use Rattle.wordeq.specs.Wordeq.{Answer, conflict, propagate, Tried, answer, pass, settled, _orElse_, same, fixed, letters, occurrence, occursAt, occurs, unequal, short, absent, constants, isPlain, alias, emptiesAt, empties, assigns, fits, explainAll, variables, tileBy, tile, clashes, splits, after}
-use Rattle.wordeq.specs.Results.{BothLists, tried, Tries}
+use Rattle.wordeq.specs.Working.Results.{BothLists, tried, Tries}
 use Rattle.wordeq.proofs.StepResult.{the-type}
 use Rattle.wordeq.proofs.Orelse.{else-assoc}
 use Rattle.wordeq.proofs.Good.{Good, passes, Step, step-else, step-flip}

@@ -8,7 +8,7 @@ use Rattle.records.specs.declared.Added.the-variants as adding
 use Rattle.records.specs.Store.{ok, Work, andThen}
 use Rattle.records.specs.View.{Lent, lent, storeOf}
 use Rattle.records.specs.Meaning.{Words}
-use Rattle.records.specs.Audited.{Ready}
+use Rattle.records.specs.Working.Audited.{Ready}
 use Rattle.records.specs.Calls.{Working, added}
 use Rattle.wordeq.proofs.Cited.{Cited}
 use Rattle.wordeq.proofs.Strips.{Going, going-none, going-then, kept-down}

@@ -2,6 +2,7 @@
 use mathlib.Core.Path.{_≡_}
 use mathlib.Core.Bool.{Bool, _&&_}
 use mathlib.Core.List.{List}
+use lib.ListN.{take}
 use Prim.Native.Nat.{ℕ, _<_}
 use lib.IntN.{ℤ}
 use Rattle.records.specs.declared.State.{State}
@@ -12,7 +13,9 @@ use Rattle.records.specs.Calls.{Public, call, fullAlone}
 use Rattle.normalize.specs.Calls.{listCall, PublicList}
 use Rattle.wordeq.specs.declared.Equality.{Equality}
 use Rattle.wordeq.specs.declared.Equality.the-variants as equality
-use Rattle.wordeq.specs.Wordeq.{Answer, resolve, resolveArguments, nfEqual, nfExplain, nfArguments}
+use Rattle.wordeq.specs.declared.StepResult.{StepResult}
+use Rattle.wordeq.specs.declared.StepResult.the-variants as step
+use Rattle.wordeq.specs.Wordeq.{Answer, done, saturated, conflict, propagate, split, resolve, resolveArguments, nfEqual, nfExplain, nfArguments}
 use Rattle.wordeq.specs.Meaning.{Sound, ExplainsEqual}
 
 -- NF_EQUAL
@@ -38,6 +41,15 @@ pub record PublicEqualExplain (l r : List ℕ) (m m′ : Lent) (c : State) (o : 
   pub full : (k : ℕ) → o ≡ stop k → fullAlone k
 
 -- RESOLVE_EQUATION
+
+-- a resolved equation's answer; a Split's atoms are the first words of the list's slice k
+abbrev pub resolved : StepResult → Lent → List ℕ → Out Answer
+resolved (step.Done c) m k = ok (storeOf m c) done
+resolved (step.Saturated c) m k = ok (storeOf m c) saturated
+resolved (step.Conflict c) m k = ok (storeOf m c) conflict
+resolved (step.Propagate c v w f) m k = ok (storeOf m c) (propagate v w f)
+resolved (step.Split c n g) m k = ok (storeOf m c) (split (take n k) g)
+resolved (step.Refused n) m k = stop n
 
 -- its answer, and what it is worth: demand 3
 pub record PublicResolve (l r : List ℕ) (g : ℤ) (m m′ : Lent) (k k′ : List ℕ) (c : State) (o : Out Answer) : Type 0 where

@@ -1,14 +1,4 @@
 pub mod Wordeq
 pub mod Meaning
-pub mod Stripping
-pub mod Sides
-pub mod Splits
-pub mod Explaining
-pub mod Results
 pub mod Calls
-pub mod Resolving
-pub mod Propagates
-pub mod Occurring
-pub mod Lacking
-pub mod Spans
-pub mod Heads
+pub mod Working

@@ -1,11 +1,11 @@
 // Departure B: the later variables of a side are explained with the first.
 ghost use Rattle.records.specs.Lists.{Every};
 ghost use Rattle.records.specs.View.{termsView, lends, across, readIn};
-ghost use Rattle.records.specs.Audited.{Ready};
+ghost use Rattle.records.specs.Working.Audited.{Ready};
 ghost use Rattle.records.specs.Calls.{added, Does};
 ghost use Rattle.wordeq.specs.Wordeq.{explainAll, variables};
-ghost use Rattle.wordeq.specs.Stripping.{Pair};
-ghost use Rattle.wordeq.specs.Explaining.{OneClass, explainAtom};
+ghost use Rattle.wordeq.specs.Working.Stripping.{Pair};
+ghost use Rattle.wordeq.specs.Working.Explaining.{OneClass, explainAtom};
 use records::Added;
 use records::State;
 use records::rules;

@@ -9,7 +9,7 @@ ghost use Rattle.records.specs.Store.{isConstant, text};
 ghost use Rattle.records.specs.View.{charLimit, span, readIn, termed};
 ghost use Rattle.records.specs.Rules.{listLimit};
 ghost use Rattle.wordeq.specs.Wordeq.{fixed, lettersOf, letters, unequal, short, isPlain, filled, differ};
-ghost use Rattle.wordeq.specs.Sides.{Texts, Spelled, constantSide, otherSide, rest, next, There, Settled, headsAgree, fillCount, fillStart, fillSource, Ended, Tiling};
+ghost use Rattle.wordeq.specs.Working.Sides.{Texts, Spelled, constantSide, otherSide, rest, next, There, Settled, headsAgree, fillCount, fillStart, fillSource, Ended, Tiling};
 use crate::stripping;
 use records::State;
 use records::fields;

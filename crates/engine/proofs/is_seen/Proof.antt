@@ -1,5 +1,5 @@
 use mathlib.Core.Path.{refl}
-use Rattle.engine.specs.Seen.{seenAt, bit}
+use Rattle.engine.specs.Working.Seen.{seenAt, bit}
 use borrow.Author.Needs.{needs}
 use Rattle.engine.proofs.is_seen.Statement.{statement}
 use Rattle.engine.proofs.is_seen.Tie as tie

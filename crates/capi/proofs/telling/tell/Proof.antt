@@ -1,5 +1,5 @@
 use Rattle.capi.proofs.Words.{told-by}
-use Rattle.capi.specs.Leaves.{madeTelling}
+use Rattle.capi.specs.Working.Leaves.{madeTelling}
 use mathlib.Core.Path.{ap}
 use borrow.Author.Needs.{needs}
 use Rattle.capi.proofs.telling.tell.Statement.{statement}

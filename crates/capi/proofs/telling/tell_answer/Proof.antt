@@ -1,6 +1,6 @@
 use Rattle.capi.proofs.AnswerExports.{told-flag, told-guard}
 use Rattle.capi.proofs.Words.{told-by, told-refuses}
-use Rattle.capi.specs.Leaves.{answerTelling}
+use Rattle.capi.specs.Working.Leaves.{answerTelling}
 use mathlib.Core.Path.{ap}
 use borrow.Author.Needs.{needs}
 use Rattle.capi.proofs.telling.tell_answer.Statement.{statement}

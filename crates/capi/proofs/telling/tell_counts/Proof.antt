@@ -1,5 +1,5 @@
 use Rattle.capi.proofs.Words.{told-by}
-use Rattle.capi.specs.Leaves.{addedTelling}
+use Rattle.capi.specs.Working.Leaves.{addedTelling}
 use mathlib.Core.Path.{refl, ap}
 use borrow.Author.Needs.{needs}
 use Rattle.capi.proofs.telling.tell_counts.Statement.{statement}

@@ -1,5 +1,5 @@
 use Rattle.capi.proofs.Words.{told-by}
-use Rattle.capi.specs.Leaves.{formTelling}
+use Rattle.capi.specs.Working.Leaves.{formTelling}
 use mathlib.Core.Path.{ap}
 use borrow.Author.Needs.{needs}
 use Rattle.capi.proofs.telling.tell_form.Statement.{statement}

@@ -1,5 +1,5 @@
 use Rattle.capi.proofs.Words.{told-by}
-use Rattle.capi.specs.Leaves.{outcomeTelling, NarrowOutcome}
+use Rattle.capi.specs.Working.Leaves.{outcomeTelling, NarrowOutcome}
 use mathlib.Core.Path.{ap, subst}
 use borrow.Author.Needs.{needs}
 use Rattle.capi.proofs.telling.tell_outcome.Statement.{statement}

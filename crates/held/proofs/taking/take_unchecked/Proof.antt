@@ -44,7 +44,7 @@ use denote.Triple.Walked.{says, needs, Stays, stay-ref, stay-none, stay-none-sli
 use denote.Exit.{yes}
 use denote.Triple.Clauses.{ensured, lasts}
 use Rattle.records.specs.View.{lent, namesAt}
-use Rattle.records.specs.Audited.{Ready}
+use Rattle.records.specs.Working.Audited.{Ready}
 use Rattle.records.specs.Calls.{Taken}
 use Rattle.records.specs.declared.State.{State}
 use Rattle.records.specs.declared.Named.{Named}

@@ -2,7 +2,7 @@ use lib.ListN.{getD}
 use Prim.Native.Nat.{ℕ, _-_, _≤_}
 use mathlib.Core.Bool.{false}
 use mathlib.Core.Path.{_≡_}
-use Rattle.normalize.specs.Deeps.{opensIn}
+use Rattle.normalize.specs.Working.Deeps.{opensIn}
 use Rattle.normalize.specs.Calls.{firstWords}
 use Rattle.records.specs.View.{termsView}
 use Rattle.records.specs.Lists.{any}

@@ -1,7 +1,7 @@
 use lib.ListN.{length, drop}
 use Prim.Native.Nat.{_-_, _≤_}
 use mathlib.Core.Path.{_≡_, refl}
-use Rattle.normalize.specs.Nodes.{withNodes}
+use Rattle.normalize.specs.Working.Nodes.{withNodes}
 use Rattle.records.specs.View.{termsView}
 use Rattle.records.proofs.Lists.{every-at}
 use Rattle.normalize.proofs.Represents.{nodes-turn, nodes-done}

@@ -1,10 +1,10 @@
 use lib.ListN.{length, drop}
 use Prim.Native.Nat.{_-_, _≤_}
 use mathlib.Core.Path.{_≡_, refl}
-use Rattle.normalize.specs.Nodes.{withNodes}
+use Rattle.normalize.specs.Working.Nodes.{withNodes}
 use Rattle.records.specs.View.{termsView}
 use Rattle.records.specs.Store.{classUp}
-use Rattle.records.specs.Ends.{Ends}
+use Rattle.records.specs.Working.Ends.{Ends}
 use Rattle.records.proofs.Ends.{ends-none}
 use Rattle.records.proofs.Lists.{every-at}
 use Rattle.normalize.proofs.Represents.{nodes-turn, nodes-done}

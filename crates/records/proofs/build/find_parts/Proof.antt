@@ -1,5 +1,5 @@
 use Prim.Native.Nat.{_-_}
-use Rattle.records.specs.Leaves.{Passed, hasParts}
+use Rattle.records.specs.Working.Leaves.{Passed, hasParts}
 use Rattle.records.specs.View.{cellsView}
 use Rattle.records.proofs.Making.{passed-one, passed-all, hit}
 use borrow.Author.Needs.{needs}

@@ -1,7 +1,7 @@
 use Rattle.records.proofs.Lists.{each-stop, each-turn, each-done}
 use Rattle.records.specs.View.{termAt, termed}
 use Rattle.records.proofs.Lists.{below-zero, within-is}
-use Rattle.records.specs.Leaves.{classTest}
+use Rattle.records.specs.Working.Leaves.{classTest}
 use Rattle.records.specs.Lists.{allBelow}
 use Prim.Native.Nat.{suc, _-_, _≤_}
 use mathlib.Core.Path.{_≡_}

@@ -1,6 +1,6 @@
 use Rattle.records.specs.View.{termed}
 use Rattle.records.proofs.PairLaws.{Chaining, chaining-begin, chaining-end, chaining-head, chaining-stop, chaining-turn, chaining-done}
-use Rattle.records.specs.Audited.{TermPair}
+use Rattle.records.specs.Working.Audited.{TermPair}
 use Rattle.records.specs.Rules.{fallsRule}
 use Prim.Native.Nat.{_-_}
 use borrow.Author.Needs.{needs}

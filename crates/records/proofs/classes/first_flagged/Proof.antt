@@ -3,7 +3,7 @@ use Rattle.records.proofs.Lists.{within-high}
 use Rattle.records.specs.View.{termsView}
 use Rattle.records.specs.Store.{aboveIn, orNone}
 use Rattle.records.specs.Lists.{firstOf}
-use Rattle.records.specs.Leaves.{isFlagged}
+use Rattle.records.specs.Working.Leaves.{isFlagged}
 use Prim.Native.Nat.{ℕ, suc, _-_}
 use mathlib.Core.List.{List}
 use mathlib.Core.Path.{sym, _∙_}

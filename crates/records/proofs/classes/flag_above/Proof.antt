@@ -2,7 +2,7 @@ use Rattle.records.proofs.Paths.{Rising, rising-begin, rising-root, ris
 use Rattle.records.proofs.Lists.{within-high}
 use Rattle.records.specs.View.{termsView}
 use Rattle.records.specs.Store.{aboveIn}
-use Rattle.records.specs.Leaves.{flagged}
+use Rattle.records.specs.Working.Leaves.{flagged}
 use lib.ListN.{set}
 use Prim.Native.Nat.{ℕ, suc, _-_}
 use mathlib.Core.List.{List}

@@ -1,5 +1,5 @@
 use Rattle.records.proofs.Making.{passed-none, passed-one, passed-all, hit}
-use Rattle.records.specs.Leaves.{Passed, hasText}
+use Rattle.records.specs.Working.Leaves.{Passed, hasText}
 use Prim.Native.Nat.{_-_}
 use borrow.Author.Needs.{needs}
 use Rattle.records.proofs.make.find_text_unchecked.Statement.{statement}

@@ -2,8 +2,8 @@ use mathlib.Core.Bool.{true}
 use mathlib.Core.Path.{_≡_}
 use Prim.Native.Nat.{suc, _-_, _≤_}
 use Rattle.records.specs.Lists.{allBelow}
-use Rattle.records.specs.Leaves.{classTest}
-use Rattle.records.specs.Ends.{Kept}
+use Rattle.records.specs.Working.Leaves.{classTest}
+use Rattle.records.specs.Working.Ends.{Kept}
 use Rattle.records.proofs.Ends.{kept-none}
 use Rattle.records.specs.View.{termAt, termed}
 use Rattle.records.proofs.Lists.{each-stop, each-turn, each-done, below-zero, within-is}

@@ -6,7 +6,7 @@ use lib.ListN.{length}
 use Rattle.records.specs.Lists.{allBelow}
 use Rattle.records.specs.View.{lent, storeOf, termAt}
 use Rattle.records.specs.Rules.{termRule}
-use Rattle.records.specs.Hashes.{Tables}
+use Rattle.records.specs.Working.Hashes.{Tables}
 use Rattle.records.proofs.Lists.{within-is, below-zero, each-stop, each-turn, each-done}
 use Rattle.records.proofs.NameLaws.{tables-start}
 use mathlib.Core.List.{[]}

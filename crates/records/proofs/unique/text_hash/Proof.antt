@@ -1,6 +1,6 @@
 use Prim.Native.Nat.{_+_}
 use Rattle.records.proofs.NameLaws.{hash-none, hash-turn, hash-done}
-use Rattle.records.specs.Hashes.{hashFrom}
+use Rattle.records.specs.Working.Hashes.{hashFrom}
 use Rattle.records.specs.View.{span}
 use Prim.Native.Nat.{_-_, _≤_, _<_}
 use mathlib.Core.Path.{_≡_}

@@ -1,4 +1,4 @@
-use Rattle.wordeq.specs.Resolving.{closing}
+use Rattle.wordeq.specs.Working.Resolving.{closing}
 use Rattle.wordeq.proofs.ResolveCalls.{split-same}
 use Rattle.wordeq.specs.declared.StepResult.the-variants as step
 use Rattle.wordeq.specs.declared.StepResult.{StepResult}

@@ -1,7 +1,7 @@
 use lib.ListN.{length}
 use mathlib.Core.Path.{_≡_}
 use Prim.Native.Nat.{_-_, _≤_}
-use Rattle.normalize.specs.Flat.{bare}
+use Rattle.normalize.specs.Working.Flat.{bare}
 use Rattle.wordeq.proofs.Flattening.{Flattening, flattening-end, flattening-turn, flattening-passes}
 use native.Mathlib.Omega.{arith}
 use borrow.Author.Needs.{needs}

@@ -1,4 +1,4 @@
-use Rattle.wordeq.specs.Resolving.{soft}
+use Rattle.wordeq.specs.Working.Resolving.{soft}
 use Rattle.wordeq.proofs.ResolveCalls.{split-same}
 use Rattle.wordeq.specs.declared.StepResult.{StepResult}
 use mathlib.Core.Path.{refl}

@@ -1,5 +1,5 @@
 use Rattle.records.specs.View.{readIn}
-use Rattle.wordeq.specs.Sides.{rest}
+use Rattle.wordeq.specs.Working.Sides.{rest}
 use mathlib.Core.Path.{refl}
 use Rattle.wordeq.proofs.SidesWalk.{heads-left, heads-right, heads-both}
 use borrow.Author.Needs.{needs}

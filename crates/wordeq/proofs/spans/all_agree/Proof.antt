@@ -6,7 +6,7 @@ use Prim.Native.Nat.{_-_, _≤_}
 use mathlib.Core.Path.{_≡_, refl}
 use lib.ListN.{length, drop}
 use Rattle.records.specs.Lists.{all}
-use Rattle.wordeq.specs.Spans.{agrees}
+use Rattle.wordeq.specs.Working.Spans.{agrees}
 use native.Mathlib.Omega.{arith}
 use borrow.Author.Needs.{needs}
 use Rattle.wordeq.proofs.spans.all_agree.Statement.{statement}

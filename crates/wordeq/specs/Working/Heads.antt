@@ -9,7 +9,7 @@ use Rattle.records.specs.Lists.{if_then_else_}
 use Rattle.records.specs.Store.{Store, Work, _>>=_, _>>_, store, isConstant, isString, text}
 use Rattle.records.specs.Make.{addKey}
 use Rattle.wordeq.specs.Wordeq.{split, Tried, answer}
-use Rattle.wordeq.specs.Splits.{characterAtoms, headAtoms}
+use Rattle.wordeq.specs.Working.Splits.{characterAtoms, headAtoms}
 
 -- what step 1 leaves: two heads are different terms. A key is 'two different string terms'
 pub record HeadsApart (l r : List ℕ) : Type 0 where

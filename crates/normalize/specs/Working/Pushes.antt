@@ -9,7 +9,7 @@ use Rattle.records.specs.Store.{Term, Store, Out, ok, stop, Work, _>>=_, give, 
 use Rattle.records.specs.View.{Lent, storeOf}
 use Rattle.engine.specs.Explain.{explain}
 use Rattle.normalize.specs.Normalize.{push}
-use Rattle.normalize.specs.Nodes.{isConstantIn, NodeOf}
+use Rattle.normalize.specs.Working.Nodes.{isConstantIn, NodeOf}
 use Rattle.normalize.specs.Calls.{firstWords}
 use Rattle.normalize.specs.declared.Form.{Form}
 use Rattle.normalize.specs.declared.Form.the-variants as form

@@ -11,12 +11,12 @@ use Rattle.records.specs.Lists.{upTo, oneMore}
 use Rattle.records.specs.Store.{Term, Store, Out, ok, stop, Work, isTerm, isEdge, top, aboveIn}
 use Rattle.records.specs.View.{Slice, termsView, cellsView, pairsView, reasonRoom}
 use Rattle.records.specs.Make.{withReasons}
-use Rattle.records.specs.Audited.{Audited}
+use Rattle.records.specs.Working.Audited.{Audited}
 use Rattle.engine.specs.declared.Walked.{Walked}
 use Rattle.engine.specs.declared.Plain.{Plain}
 use Rattle.engine.specs.declared.Plain.the-variants.{Ended}
 use Rattle.engine.specs.Explain.{Seen, edge, walked, explain}
-use Rattle.engine.specs.Seen.{Tables}
+use Rattle.engine.specs.Working.Seen.{Tables}
 
 -- an audited store with the lent terms and cells and the room of the lent reasons
 pub record Standing (terms cells reasons : List ℕ) (n k : ℕ) : Type 0 where

@@ -12,21 +12,12 @@ use Rattle.records.specs.Calls.{Working}
 use Rattle.records.specs.Rules.{isList}
 use Rattle.wordeq.specs.declared.StepResult.{StepResult}
 use Rattle.wordeq.specs.declared.StepResult.the-variants as step
-use Rattle.wordeq.specs.Wordeq.{Answer, done, saturated, conflict, propagate, split, Tried}
+use Rattle.wordeq.specs.Wordeq.{Answer, saturated, conflict, propagate, split, Tried}
 
 -- two lists of string terms, at most 1,024 each
 pub record BothLists (s : Store) (l r : List ℕ) : Type 0 where
   pub left : isList s l ≡ true
   pub right : isList s r ≡ true
-
--- a resolved equation's answer; a Split's atoms are the first words of the list's slice k
-abbrev pub resolved : StepResult → Lent → List ℕ → Out Answer
-resolved (step.Done c) m k = ok (storeOf m c) done
-resolved (step.Saturated c) m k = ok (storeOf m c) saturated
-resolved (step.Conflict c) m k = ok (storeOf m c) conflict
-resolved (step.Propagate c v w f) m k = ok (storeOf m c) (propagate v w f)
-resolved (step.Split c n g) m k = ok (storeOf m c) (split (take n k) g)
-resolved (step.Refused n) m k = stop n
 
 -- a single step's answer: after Done so far the next step is tried
 abbrev pub tried : StepResult → Lent → List ℕ → Out (Option Answer)

@@ -5,7 +5,7 @@ use mathlib.Core.List.{List}
 use Prim.Native.Nat.{ℕ}
 use lib.ListN.{length, getD}
 use Rattle.records.specs.Store.{Store, within, climb, classUp, forestUp}
-use Rattle.records.specs.Leaves.{classTest}
+use Rattle.records.specs.Working.Leaves.{classTest}
 
 -- n steps lead from t to r, and r is its own parent
 pub record End (up : ℕ → ℕ) (n t r : ℕ) : Type 0 where

@@ -7,7 +7,7 @@ use lib.ListN.{length, take, drop}
 use Rattle.records.specs.declared.State.{State}
 use Rattle.records.specs.Store.{Store, Out, ok, stop, isString}
 use Rattle.records.specs.View.{Lent, lent, storeOf}
-use Rattle.records.specs.Audited.{Ready}
+use Rattle.records.specs.Working.Audited.{Ready}
 use Rattle.records.specs.Calls.{Working}
 use Rattle.wordeq.specs.declared.Rest.{Rest}
 use Rattle.wordeq.specs.declared.Stripped.{Stripped}

@@ -7,7 +7,7 @@ use lib.ListN.{length, take}
 use Rattle.records.specs.Lists.{Every}
 use Rattle.records.specs.Store.{Store, isConcat, parts}
 use Rattle.records.specs.View.{lent, storeOf}
-use Rattle.records.specs.Audited.{Ascends}
+use Rattle.records.specs.Working.Audited.{Ascends}
 use Rattle.records.specs.Rules.{listLimit}
 
 -- n terms and m cells, with nothing else

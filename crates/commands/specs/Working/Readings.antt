@@ -14,9 +14,8 @@ use Rattle.commands.specs.declared.Listing.the-variants as listing
 use Rattle.commands.specs.declared.Char.{Char}
 use Rattle.commands.specs.declared.Char.the-variants as char
 use Rattle.commands.specs.declared.Parsed.{Parsed}
-use Rattle.commands.specs.declared.Parsed.the-variants as parsed
 use Rattle.commands.specs.Texts.{fields}
-use Rattle.commands.specs.Commands.{Command, constant, variable, concatenation, equation, merge, known, resolve, through, asResolve}
+use Rattle.commands.specs.Commands.{parsedIs, through, asResolve}
 
 abbrev pub numberIs : Number → Option ℕ
 numberIs (number.Fits x) = some x
@@ -43,17 +42,6 @@ countOf listing.Bad = 0
 pub record Listed (o : Option (List ℕ)) (r : Listing) (l : List ℕ) : Type 0 where
   pub says : listingIs r l ≡ o
   pub fits : countOf r ≤ length l
-
--- a command; a text, parts and a known list are the first words of a list
-abbrev pub parsedIs : Parsed → List ℕ → Option Command
-parsedIs (parsed.Constant n) l = some (constant (take n l))
-parsedIs (parsed.Variable n) l = some (variable (take n l))
-parsedIs (parsed.Concatenation n) l = some (concatenation (take n l))
-parsedIs (parsed.Equation t u) l = some (equation t u)
-parsedIs (parsed.Merge t u n) l = some (merge t u n)
-parsedIs (parsed.Known n) l = some (known (take n l))
-parsedIs (parsed.Resolve e g) l = some (resolve e g)
-parsedIs parsed.Bad l = none
 
 -- a term and a guard, which need no list
 pub record Resolves (rest : List ℕ) (r : Parsed) : Type 0 where
