@@ -30,10 +30,10 @@ use Rattle.normalize.specs.Normalize.{deepForm, formArguments}
 use Rattle.normalize.specs.Calls.{firstWords, deepened}
 use Rattle.normalize.specs.Working.Pushes.{Candidates}
 use Rattle.records.proofs.Later.{Later, later-below}
-use Rattle.normalize.proofs.Replacing.{candidates-later}
+use Rattle.normalize.proofs.Candidates.{candidates-later}
 use Rattle.normalize.proofs.Deep.{deep-gives, deep-kept}
 use Rattle.normalize.proofs.Carried.{Carried, carried-none, carried-then, carried-ready, carried-kept}
-use Rattle.normalize.proofs.FormCalls.{listed-short, listed-unready, listed-unfit, listed-works}
+use Rattle.normalize.proofs.ListCalls.{listed-short, listed-unready, listed-unfit, listed-works}
 use Rattle.wordeq.proofs.StepResult.{the-type}
 use Rattle.wordeq.specs.declared.StepResult.{StepResult}
 use Rattle.wordeq.specs.declared.StepResult.the-variants.{Done, Saturated, Conflict, Propagate, Split, Refused}

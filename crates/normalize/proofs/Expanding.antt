@@ -38,7 +38,7 @@ use Rattle.normalize.proofs.Formed.{form-ends}
 use Rattle.normalize.proofs.Deep.{expand-ends}
 use Rattle.normalize.proofs.Carried.{Carried, carried-none, carried-ready, carried-kept, carried-then}
 use Rattle.normalize.proofs.Represents.{drop-past}
-use Rattle.normalize.proofs.Replacing.{candidates-later}
+use Rattle.normalize.proofs.Candidates.{candidates-later}
 use Rattle.normalize.proofs.Words.{words-length, words-none, words-put}
 
 -- WHAT IS EXPANDED

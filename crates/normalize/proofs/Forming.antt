@@ -25,14 +25,12 @@ use Rattle.normalize.specs.Working.Nodes.{NodeOf, withNodes, Rooting}
 use Rattle.normalize.specs.Working.Pushes.{pushed, Candidates}
 use Rattle.normalize.specs.Calls.{firstWords, formed}
 use Rattle.normalize.proofs.Atoms.{same-atoms, atoms-plain, recorded-nested, atoms-strings, flatten-fits, flatten-full}
+use Rattle.normalize.proofs.FormReady.{known-list}
 use Rattle.normalize.proofs.Represents.{nodes-more, nodes-none}
 
 module _ {m : Lent} {c : State} (ready : Ready m c) where
   abbrev s : Store
   s = storeOf m c
-
-  pub ready-nested : Nested (bare (m .terms) (c .terms) (m .cells) (c .cells))
-  ready-nested = let n = recorded-nested s (ready .audited .recorded) in record { ascends = n .ascends; lower = n .lower }
 
   pub ready-rooting : Rooting (termsView (m .terms) (c .terms)) (c .terms)
   ready-rooting = record { stays = ready-roots m c (ready .audited .classed); ends = λ t w. ready .audited .classed .classEnds t (rw (view-count (m .terms) (c .terms)) w) }
@@ -49,17 +47,11 @@ module _ {m : Lent} {c : State} (ready : Ready m c) where
   pub strings-within : (l : List ℕ) → all (isString s) l ≡ true → Every (λ t. within (c .terms) t ≡ true) l
   strings-within l e = every-map (λ t i. term-within m c t (string-term s t i)) (all-every (isString s) l e)
 
-  pub known-list : (known : List ℕ) (t : ℕ) → formArguments known t s ≡ true → isList s known ≡ true
-  known-list known t e = both-left (isList s known) _ e
-
   pub list-strings : (known : List ℕ) → isList s known ≡ true → all (isString s) known ≡ true
   list-strings known e = both-right (leb (length known) listLimit) _ e
 
   pub known-strings : (known : List ℕ) (t : ℕ) → formArguments known t s ≡ true → all (isString s) known ≡ true
-  known-strings known t e = list-strings known (known-list known t e)
-
-  pub term-string : (known : List ℕ) (t : ℕ) → formArguments known t s ≡ true → isString s t ≡ true
-  term-string known t e = both-right (isList s known) _ e
+  known-strings known t e = list-strings known (known-list ready known t e)
 
   -- the table of the known list, and of it and more
   pub known-table : (known table : List ℕ) → isList s known ≡ true → length table ≡ 513 → ((i : ℕ) → i < length table → getD table i 0 ≡ 0) → (after : List ℕ) → after ≡ withNodes (s .terms) known table → Candidates s known after

@@ -8,8 +8,11 @@ pub mod Deep
 pub mod Words
 pub mod Pushing
 pub mod Carried
+pub mod Candidates
 pub mod Replacing
+pub mod FormReady
 pub mod Forming
 pub mod Expanding
 pub mod Rounding
+pub mod ListCalls
 pub mod FormCalls

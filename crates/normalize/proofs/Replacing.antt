@@ -27,7 +27,8 @@ use Rattle.normalize.specs.Normalize.{representative, substitute, push, 
 use Rattle.normalize.specs.Working.Nodes.{NodeOf, nodeAt}
 use Rattle.normalize.specs.Working.Pushes.{pushed, Candidates, cite, pushFor}
 use Rattle.normalize.specs.Calls.{firstWords}
-use Rattle.normalize.proofs.Represents.{drop-past, nodes-later, node-is}
+use Rattle.normalize.proofs.Represents.{drop-past}
+use Rattle.normalize.proofs.Candidates.{candidates-later, later-rep}
 use Rattle.records.proofs.Later.{Later}
 use Rattle.normalize.proofs.Formed.{Stands, representative-stands, replace-ends, atom-ends, Pushed}
 use Rattle.normalize.proofs.Carried.{Carried, carried-none, carried-ready, carried-kept, carried-then}
@@ -80,29 +81,6 @@ pub record Going (m₀ : Lent) (c : State) (cs flat : List ℕ) (m : Lent) (d : 
 pub going-none : {m : Lent} {c : State} (cs flat list : List ℕ) → Ready m c → Going m c cs flat m c list 0 0
 unfolding table
 going-none cs flat list r = record { carried = carried-none r; out = none-left; rest = refl; low = omega arith }
-
--- the candidates in a later store
-module _ {s s′ : Store} {cs table : List ℕ} (k : Candidates s cs table) (l : Later s s′) where
-  first-strings : Strings s cs
-  first-strings = all-every (isString s) cs (k .strings)
-
-  later-strings : Strings s′ cs
-  later-strings = strings-later (l .grown) first-strings
-
-  later-nodes : NodeOf (s′ .terms) cs table
-  later-nodes = nodes-later (s .terms) (s′ .terms) cs table (k .nodes) (every-map same first-strings)
-    where
-      same : (t : ℕ) → isString s t ≡ true → (rootIn (s′ .terms) t ≡ rootIn (s .terms) t) × (termIn (s′ .terms) t .kind ≡ termIn (s .terms) t .kind)
-      same t e = (l .grown .roots t (string-term s t e), ap (λ (x : Term). x .kind) (l .grown .old t (string-here s t e)))
-
-  pub candidates-later : Candidates s′ cs table
-  candidates-later = record { strings = every-all later-strings; nodes = later-nodes }
-
-  -- the table's answer for an atom is its representative
-  pub later-rep : (a : ℕ) → isString s′ a ≡ true → count s′ ≤ termLimit → nodeAt (s′ .terms) table a ≡ representative s′ cs a
-  later-rep a e h =
-      node-is s′ cs table a later-nodes (every-map (λ t i. within-low (count s′) t (string-term s′ t i)) later-strings)
-      (let r = within-high (count s′) _ (root-term s′ (l .audited .classed) a (string-term s′ a e)) in omega arith)
 
 -- an atom replaced and pushed, in two ways of saying it
 pub for-is : (cs : List ℕ) (a : ℕ) (out : List ℕ) (s : Store) → (substitute cs a >>= (λ r. push r out)) s ≡ pushFor a (representative s cs a) out s

@@ -37,7 +37,7 @@ use Rattle.normalize.proofs.Formed.{Pushed, push-ends, Formed, form-end
 use Rattle.normalize.proofs.Deep.{Answers, rounds-end}
 use Rattle.normalize.proofs.Carried.{Carried, carried-none, carried-ready, carried-kept, carried-then}
 use Rattle.normalize.proofs.Represents.{drop-past}
-use Rattle.normalize.proofs.Replacing.{candidates-later}
+use Rattle.normalize.proofs.Candidates.{candidates-later}
 use Rattle.normalize.proofs.Words.{words-length, words-none}
 use Rattle.normalize.proofs.Expanding.{met-none}
 

@@ -16,13 +16,6 @@ use Rattle.records.proofs.Lists.{left-false, word-append, every-at, tab
 use Rattle.records.proofs.Views.{part-span}
 use Rattle.records.proofs.Texts.{Copied, copied-one, copied-all, put-both}
 
-pub agree-part : (l : List ℕ) (p a n : ℕ) (r : Bool) → a + n ≤ length l
-    → r ≡ sameWord (span l p (length (take (a + n - a) (drop a l)))) (take (a + n - a) (drop a l)) → r ≡ sameWord (span l p n) (span l a n)
-agree-part l p a n r h e =
-    let q : a + n - a ≡ n = omega arith in
-    let f = rw (q, part-span l a n h) at e in
-    rw (table-length (λ i. getD l (a + i) 0) n) at f
-
 drop-all : (j : ℕ) (us : List ℕ) → length us ≤ j → drop j us ≡ []
 drop-all zero [] q = refl
 drop-all zero (u ∷ us) q = absurd (omega arith)

@@ -1,14 +1,14 @@
 -- The views: what a record of the store is in the lent words.
 use mathlib.Core.Path.{_≡_, refl, sym, ap, _∙_}
-use mathlib.Core.Bool.{true}
+use mathlib.Core.Bool.{Bool, true}
 use mathlib.Core.List.{List}
-use Prim.Native.Nat.{ℕ, zero, suc, _+_, _*_, _/_, _%_, _<_, _≤_}
+use Prim.Native.Nat.{ℕ, zero, suc, _+_, _-_, _*_, _/_, _%_, _<_, _≤_}
 use native.Mathlib.Nat.{mod-lt, mul-div-le, lt-mul-div-succ, lt-of-mul-lt-mul-left, div-add-mod}
 use native.Mathlib.Omega.{arith}
 use lib.ListN.{length, getD, take, drop, length-take, length-drop}
 use lib.Seq.{ext-getD, getD-take, getD-drop}
 use Rattle.records.specs.declared.State.{State}
-use Rattle.records.specs.Lists.{table}
+use Rattle.records.specs.Lists.{table, sameWord}
 use Rattle.records.specs.Store.{Term, Cell, noTerm, noCell, termIn, cellIn, textIn, within, Store}
 use Rattle.records.specs.View.{termAt, cellAt, termsView, cellsView, charsView, pairsView, span, Lent, storeOf, pairAt, zeroTerm, zeroCell}
 use Rattle.records.specs.Calls.{KeepsStore}
@@ -186,3 +186,11 @@ view-faithful m m′ c e = record {
   reasons = pairs-words (m′ .reasons) (m .reasons) (c .reasons) (ap (λ (s : Store). s .reasons) e);
   keys = pairs-words (m′ .keys) (m .keys) (c .keys) (ap (λ (s : Store). s .keys) e);
 }
+
+-- a span compared with a part of its slice
+pub agree-part : (l : List ℕ) (p a n : ℕ) (r : Bool) → a + n ≤ length l
+    → r ≡ sameWord (span l p (length (take (a + n - a) (drop a l)))) (take (a + n - a) (drop a l)) → r ≡ sameWord (span l p n) (span l a n)
+agree-part l p a n r h e =
+    let q : a + n - a ≡ n = omega arith in
+    let f = rw (q, part-span l a n h) at e in
+    rw (table-length (λ i. getD l (a + i) 0) n) at f

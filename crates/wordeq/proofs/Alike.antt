@@ -13,10 +13,9 @@ use Rattle.records.specs.Store.{Store, within, term, kind, classUp, rootIn, isC
 use Rattle.records.specs.View.{lent, termAt, termsView, span, readIn}
 use Rattle.records.specs.Working.Audited.{Closed}
 use Rattle.records.proofs.Lists.{both-left, both-right, left-false, table-length, word-differs}
-use Rattle.records.proofs.Views.{first-at, second-at, text-span}
+use Rattle.records.proofs.Views.{first-at, second-at, text-span, agree-part}
 use Rattle.records.proofs.Grown.{kind-term, string-term}
 use Rattle.records.proofs.Climbs.{ready-roots}
-use Rattle.records.proofs.Joins.{agree-part}
 use Rattle.wordeq.specs.Wordeq.{same}
 use Rattle.wordeq.specs.Working.Stripping.{Readable}
 

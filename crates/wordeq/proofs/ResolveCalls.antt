@@ -21,7 +21,7 @@ use Rattle.records.specs.Calls.{Working}
 use Rattle.records.proofs.Lists.{both-left, both-right, left-false, and-next}
 use Rattle.records.proofs.Public.{passed-ready}
 use Rattle.records.proofs.Works.{stop-not}
-use Rattle.normalize.proofs.FormCalls.{listed-short, listed-unready, listed-unfit, listed-works}
+use Rattle.normalize.proofs.ListCalls.{listed-short, listed-unready, listed-unfit, listed-works}
 use Rattle.wordeq.specs.declared.StepResult.{StepResult}
 use Rattle.wordeq.specs.declared.StepResult.the-variants as step
 use Rattle.wordeq.specs.Wordeq.{Answer, done, saturated, split, closed, resolve, resolveArguments, isGuard}

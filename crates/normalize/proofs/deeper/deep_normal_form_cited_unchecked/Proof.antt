@@ -1,4 +1,4 @@
-use Rattle.normalize.proofs.Forming.{known-list, term-string}
+use Rattle.normalize.proofs.FormReady.{known-list, term-string}
 use borrow.Author.Needs.{needs}
 use Rattle.normalize.proofs.deeper.deep_normal_form_cited_unchecked.Statement.{statement}
 use Rattle.normalize.proofs.deeper.deep_normal_form_cited_unchecked.Tie as tie

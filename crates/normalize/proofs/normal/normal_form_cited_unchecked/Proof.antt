@@ -1,4 +1,5 @@
-use Rattle.normalize.proofs.Forming.{known-list, known-strings, term-string}
+use Rattle.normalize.proofs.Forming.{known-strings}
+use Rattle.normalize.proofs.FormReady.{known-list, term-string}
 use lib.ListN.{replicate, getD-replicate}
 use mathlib.Core.Path.{refl}
 use Rattle.normalize.proofs.Forming.{ready-rooting}

@@ -1,4 +1,4 @@
-use Rattle.records.proofs.Joins.{agree-part}
+use Rattle.records.proofs.Views.{agree-part}
 use borrow.Author.Needs.{needs}
 use Rattle.records.proofs.text.spans_agree.Statement.{statement}
 use Rattle.records.proofs.text.spans_agree.Tie as tie
