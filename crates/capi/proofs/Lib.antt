@@ -1,11 +1,11 @@
-pub mod Words
-pub mod Exports
-pub mod Tellings
-pub mod Engines
-pub mod Listings
-pub mod FormExports
-pub mod AnswerExports
-pub mod CountExports
-pub mod EqualExports
-pub mod Complements
-pub mod StepExports
+mod Words
+mod Exports
+mod Tellings
+mod Engines
+mod Listings
+mod FormExports
+mod AnswerExports
+mod CountExports
+mod EqualExports
+mod Complements
+mod StepExports

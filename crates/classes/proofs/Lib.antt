@@ -1,4 +1,4 @@
-pub mod MovedClimbs
-pub mod MovedPaths
-pub mod MergeKept
-pub mod MergeCode
+mod MovedClimbs
+mod MovedPaths
+mod MergeKept
+mod Refines

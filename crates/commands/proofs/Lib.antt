@@ -1,6 +1,6 @@
-pub mod Listings
-pub mod Decoding
-pub mod Numbering
+mod Listings
+mod Decoding
+mod Numbering
 pub mod Guards
-pub mod Parsing
-pub mod Printing
+mod Parsing
+mod Printing

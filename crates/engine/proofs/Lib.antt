@@ -1,13 +1,8 @@
-pub mod Bits
-pub mod Paths
-pub mod Fits
-pub mod Cites
-pub mod Run
-pub mod Walk
-pub mod Equal
+mod Paths
+mod Fits
+mod Cites
+mod Run
+mod Walk
+mod Equal
 pub mod Sound
-pub mod Turns
-pub mod Rises
-pub mod Starts
-pub mod Plainly
-pub mod EngineCalls
+mod Refines

@@ -1,3 +1,3 @@
 pub mod Sound
-pub mod Ways
 pub mod FewAtoms
+mod Refines

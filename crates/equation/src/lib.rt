@@ -120,7 +120,7 @@ fn right_form(
 }
 
 // The step over the equation e.
-pub fn step_unchecked(
+pub(crate) fn step_unchecked(
     terms: &mut [u32],
     cells: &mut [u32],
     chars: &mut [u32],

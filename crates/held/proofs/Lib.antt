@@ -1,2 +1,2 @@
 pub mod Linking
-pub mod Counted
+mod Counted

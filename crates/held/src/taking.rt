@@ -12,7 +12,7 @@ pub struct Counter {
 }
 
 // The first free name from `next` on, by value.
-pub fn name_from_unchecked(
+pub(crate) fn name_from_unchecked(
     next: u32,
     terms: &[u32],
     cells: &[u32],
@@ -28,7 +28,7 @@ pub fn name_from_unchecked(
 }
 
 // Takes the next free name: the counter moves past it, and the name is handed back.
-pub fn take_unchecked(
+pub(crate) fn take_unchecked(
     counter: &mut Counter,
     terms: &[u32],
     cells: &[u32],

@@ -1,18 +1,11 @@
-pub mod Flats
-pub mod Represents
+mod Represents
 pub mod Atoms
-pub mod Ends
-pub mod Rewritten
+mod Ends
+mod Rewritten
 pub mod Formed
 pub mod Deep
-pub mod Words
-pub mod Pushing
 pub mod Carried
 pub mod Candidates
-pub mod Replacing
 pub mod FormReady
-pub mod Forming
-pub mod Expanding
-pub mod Rounding
 pub mod ListCalls
-pub mod FormCalls
+mod Refines

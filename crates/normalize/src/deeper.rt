@@ -263,7 +263,7 @@ pub fn deep_form_by_unchecked(
 }
 
 // The deep form of t over the known list, with the reasons of each atom that was replaced in any round.
-pub fn deep_normal_form_cited_unchecked(
+pub(crate) fn deep_normal_form_cited_unchecked(
     terms: &mut [u32],
     cells: &[u32],
     chars: &mut [u32],

@@ -224,7 +224,7 @@ pub(crate) fn form_by(
 }
 
 // The normal form of t over the known list, with the reasons of each atom that was replaced.
-pub fn normal_form_cited_unchecked(
+pub(crate) fn normal_form_cited_unchecked(
     terms: &mut [u32],
     cells: &[u32],
     chars: &mut [u32],

@@ -18,7 +18,7 @@ use Rattle.records.specs.Working.Ends.{End, Ends, Kept, Tested}
 use Rattle.records.proofs.Lists.{decide, within-high}
 use Rattle.records.proofs.Climbs.{climb-add, Climbing, view-count}
 use Rattle.records.proofs.Repeats.{climb-one, climb-enough}
-use Rattle.records.proofs.ClassLaws.{root-ends, top-ends, root-alike, top-alike, Four, four-of, root-here, top-here}
+use Rattle.records.proofs.Refines.ClassLaws.{root-ends, top-ends, root-alike, top-alike, Four, four-of, root-here, top-here}
 
 -- a number of a term is a place of a table
 pub term-place : (n t : ℕ) → n ≤ termLimit → within n t ≡ true → t < 513

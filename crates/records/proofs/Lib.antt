@@ -3,38 +3,23 @@ pub mod Views
 pub mod Climbs
 pub mod Repeats
 pub mod Paths
-pub mod RuleLaws
-pub mod NameLaws
-pub mod TermLaws
-pub mod Rooms
-pub mod Puts
-pub mod Adds
-pub mod Texts
-pub mod Making
-pub mod Joins
-pub mod Joining
 pub mod Public
-pub mod MakeCalls
 pub mod Readings
 pub mod Grown
 pub mod Works
 pub mod Chains
-pub mod ClassLaws
 pub mod Ends
 pub mod Passed
-pub mod Append
-pub mod Extend
+mod Append
+mod Extend
 pub mod Beside
 pub mod Kept
-pub mod PairLaws
 pub mod Meant
-pub mod Builds
 pub mod Naming
-pub mod BuildCalls
-pub mod Auditing
 pub mod Outcomes
 pub mod Counts
 pub mod Sequence
 pub mod Later
 pub mod Loops
 pub mod ListLaws
+mod Refines

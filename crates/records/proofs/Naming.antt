@@ -24,7 +24,7 @@ use Rattle.records.specs.Calls.{Taken}
 use Rattle.records.specs.Working.Leaves.{Free}
 use Rattle.records.specs.Working.Puts.{Written}
 use Rattle.records.proofs.Lists.{clash, first-same}
-use Rattle.records.proofs.Making.{texts-within, found-text}
+use Rattle.records.proofs.Refines.Making.{texts-within, found-text}
 
 -- DECIMALS
 

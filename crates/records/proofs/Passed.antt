@@ -15,7 +15,7 @@ use Rattle.records.specs.View.{Lent, storeOf, sizes}
 use Rattle.records.specs.Rules.{eachTerm, isNumber, cellRule, textRule, named, nameRule, partRule, concatRule, lengthRule, isEquatable, equationRule, termRule, recordsRule, parentsRule, endsRule, alikeRule, aloneRule, edgeLabel, labelRule, classesRule, pairsOf, fallsRule, congruenceRule, isCongruence, congruencesRule, auditStore, audit}
 use Rattle.records.specs.Working.Audited.{Part, Next, last, later, Label, asserted, interface, congruence, definitional, Unlabelled, Falls, Pairs, Congruent, Recorded, Classed, Congruences, Roomy, Audited, Sized, Ready, Verdict, ready, short, unrecorded, unclassed, incongruent}
 use Rattle.records.proofs.Lists.{both-left, both-right, both-true, either, or-left, or-right, clash, decide, within-low, within-high, within-is, below-at, below-all, table-length, word-is, word-same, every-map, all-every, every-all}
-use Rattle.records.proofs.RuleLaws.{sized-of, sizes-of}
+use Rattle.records.proofs.Refines.RuleLaws.{sized-of, sizes-of}
 use Rattle.records.proofs.Grown.{used, kind-term}
 
 -- TESTS

@@ -34,7 +34,7 @@ pub fn root_unchecked(terms: &[u32], n: usize, t: u32) -> u32
 }
 
 // The root of a term's tree in the forest, likewise.
-pub fn top_unchecked(terms: &[u32], n: usize, t: u32) -> u32
+pub(crate) fn top_unchecked(terms: &[u32], n: usize, t: u32) -> u32
     requires { ⌜ (within n t ≡ true) × Closed (forestUp (termsView (now terms) n)) n ⌝ }
     ensures { λ r. ⌜ r ≡ topIn (termsView (now (terms .entry)) n) t ⌝ }
 {

@@ -131,7 +131,7 @@ pub fn make_constant_unchecked(
     make_text(terms, cells, chars, reasons, keys, c, 1, w)
 }
 
-pub fn make_variable_unchecked(
+pub(crate) fn make_variable_unchecked(
     terms: &mut [u32],
     cells: &[u32],
     chars: &mut [u32],

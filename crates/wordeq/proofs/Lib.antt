@@ -1,42 +1,13 @@
-pub mod Words
+mod Words
 pub mod Ends
-pub mod Cited
+mod Cited
 pub mod Good
-pub mod Strip
-pub mod Occurs
-pub mod Tile
-pub mod Constants
-pub mod Split
+mod Strip
+mod Occurs
+mod Tile
+mod Constants
+mod Split
 pub mod Resolve
 pub mod Equal
-pub mod Alike
-pub mod Strips
-pub mod SidesLetters
-pub mod SidesWalk
-pub mod SidesTexts
-pub mod SidesReady
-pub mod Listed
-pub mod Splitting
-pub mod SidesTile
-pub mod SidesUnequal
-pub mod Turning
-pub mod ExplainingEach
-pub mod Propagating
-pub mod Pairs
-pub mod EqualCalls
-pub mod Flattening
-pub mod ResolveCalls
-pub mod Trying
-pub mod Orelse
-pub mod Propagated
-pub mod Choices
-pub mod Elsewhere
-pub mod Lone
-pub mod LackingPlaces
-pub mod LackingSides
-pub mod LackingTries
-pub mod Fitting
-pub mod TileSides
-pub mod SplitHeads
-pub mod Steps
 pub mod FewAtoms
+mod Refines

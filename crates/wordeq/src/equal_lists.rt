@@ -14,7 +14,7 @@ use records::Added;
 use records::State;
 
 // Whether two lists of string terms are atom by atom the same.
-pub fn nf_equal_unchecked(terms: &[u32], chars: &[u32], c: State, lhs: &[u32], rhs: &[u32]) -> bool
+pub(crate) fn nf_equal_unchecked(terms: &[u32], chars: &[u32], c: State, lhs: &[u32], rhs: &[u32]) -> bool
     requires { ⌜ Readable (now terms) (now chars) c ⌝ }
     requires { ⌜ all (isString (readIn (now terms) (now chars) c)) (now lhs) ≡ true ⌝ }
     requires { ⌜ all (isString (readIn (now terms) (now chars) c)) (now rhs) ≡ true ⌝ }
@@ -73,7 +73,7 @@ fn explain_pair(
 }
 
 // The reasons why two lists of equal length are equal, pair by pair.
-pub fn nf_equal_explain_unchecked(
+pub(crate) fn nf_equal_explain_unchecked(
     terms: &[u32],
     cells: &[u32],
     chars: &[u32],

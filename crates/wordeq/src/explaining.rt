@@ -32,7 +32,7 @@ fn explain_atom(
 }
 
 // The reasons why each variable of a side equals v, in place order.
-pub fn explain_all_unchecked(
+pub(crate) fn explain_all_unchecked(
     terms: &[u32],
     cells: &[u32],
     chars: &[u32],

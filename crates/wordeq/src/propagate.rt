@@ -25,7 +25,7 @@ use records::make;
 use records::rules;
 
 // The constant of a constant side, "" for none.
-pub fn side_word_unchecked(
+pub(crate) fn side_word_unchecked(
     terms: &mut [u32],
     cells: &[u32],
     chars: &mut [u32],

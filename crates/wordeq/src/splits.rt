@@ -40,7 +40,7 @@ fn make_named(
 }
 
 // A variable of the next free name.
-pub fn fresh_str_unchecked(
+pub(crate) fn fresh_str_unchecked(
     terms: &mut [u32],
     cells: &[u32],
     chars: &mut [u32],
@@ -69,7 +69,7 @@ pub fn fresh_str_unchecked(
 }
 
 // v = h ++ z for a fresh variable z.
-pub fn prefix_unchecked(
+pub(crate) fn prefix_unchecked(
     terms: &mut [u32],
     cells: &mut [u32],
     chars: &mut [u32],
@@ -115,7 +115,7 @@ pub fn prefix_unchecked(
 }
 
 // v = "".
-pub fn empty_unchecked(
+pub(crate) fn empty_unchecked(
     terms: &mut [u32],
     cells: &[u32],
     chars: &mut [u32],
@@ -145,7 +145,7 @@ pub fn empty_unchecked(
 }
 
 // v = ch ++ z for a fresh variable z.
-pub fn character_unchecked(
+pub(crate) fn character_unchecked(
     terms: &mut [u32],
     cells: &mut [u32],
     chars: &mut [u32],
@@ -167,7 +167,7 @@ pub fn character_unchecked(
 }
 
 // Equal lengths of a and b.
-pub fn lengths_unchecked(
+pub(crate) fn lengths_unchecked(
     terms: &mut [u32],
     cells: &[u32],
     chars: &[u32],
@@ -205,7 +205,7 @@ pub fn lengths_unchecked(
 }
 
 // The atoms v = "" and v = ch ++ z.
-pub fn split_character_unchecked(
+pub(crate) fn split_character_unchecked(
     terms: &mut [u32],
     cells: &mut [u32],
     chars: &mut [u32],
@@ -277,7 +277,7 @@ fn put_prefixes(
 }
 
 // The atoms of equal lengths, a = b ++ z and b = a ++ z.
-pub fn split_heads_unchecked(
+pub(crate) fn split_heads_unchecked(
     terms: &mut [u32],
     cells: &mut [u32],
     chars: &mut [u32],

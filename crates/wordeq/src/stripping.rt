@@ -55,7 +55,7 @@ pub(crate) fn same_class(terms: &[u32], chars: &[u32], c: State, a: u32, b: u32)
 }
 
 // Whether two string terms are the same: one number, or two constants of equal characters, or else one class.
-pub fn same_unchecked(terms: &[u32], chars: &[u32], c: State, a: u32, b: u32) -> bool
+pub(crate) fn same_unchecked(terms: &[u32], chars: &[u32], c: State, a: u32, b: u32) -> bool
     requires { ⌜ Readable (now terms) (now chars) c ⌝ ∗ ⌜ Pair (readIn (now terms) (now chars) c) a b ⌝ }
     ensures { λ r. ⌜ r ≡ same (readIn (now (terms .entry)) (now (chars .entry)) c) a b ⌝ }
 {
@@ -69,7 +69,7 @@ pub fn same_unchecked(terms: &[u32], chars: &[u32], c: State, a: u32, b: u32) ->
 }
 
 // The reasons why two same string terms are equal: none for one number or two constants.
-pub fn explain_match_unchecked(
+pub(crate) fn explain_match_unchecked(
     terms: &[u32],
     cells: &[u32],
     chars: &[u32],
@@ -149,7 +149,7 @@ fn count_tails(
 }
 
 // What is left of two lists of string terms without their same heads and then their same tails. It writes nothing.
-pub fn find_rest_unchecked(terms: &[u32], chars: &[u32], c: State, lhs: &[u32], rhs: &[u32]) -> Rest
+pub(crate) fn find_rest_unchecked(terms: &[u32], chars: &[u32], c: State, lhs: &[u32], rhs: &[u32]) -> Rest
     requires { ⌜ Readable (now terms) (now chars) c ⌝ }
     requires { ⌜ all (isString (readIn (now terms) (now chars) c)) (now lhs) ≡ true ⌝ }
     requires { ⌜ all (isString (readIn (now terms) (now chars) c)) (now rhs) ≡ true ⌝ }
@@ -272,7 +272,7 @@ fn explain_stripped(
 }
 
 // Step 1 on two lists of string terms: what is left is found, and then each match is explained.
-pub fn strip_unchecked(
+pub(crate) fn strip_unchecked(
     terms: &[u32],
     cells: &[u32],
     chars: &[u32],

@@ -1,4 +1,4 @@
-use Rattle.classes.proofs.MergeCode.{cannot-1, cannot-2, cannot-3, cannot-4, can-last, string-within, can-climb}
+use Rattle.classes.proofs.Refines.Merge.{cannot-1, cannot-2, cannot-3, cannot-4, can-last, string-within, can-climb}
 use Rattle.records.specs.View.{lent}
 use borrow.Author.Needs.{needs}
 use Rattle.classes.proofs.can_merge_unchecked.Statement.{statement}

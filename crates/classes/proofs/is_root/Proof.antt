@@ -1,4 +1,4 @@
-use Rattle.classes.proofs.MergeCode.{root-not, root-by}
+use Rattle.classes.proofs.Refines.Merge.{root-not, root-by}
 use borrow.Author.Needs.{needs}
 use Rattle.classes.proofs.is_root.Statement.{statement}
 use Rattle.classes.proofs.is_root.Tie as tie

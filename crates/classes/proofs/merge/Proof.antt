@@ -1,4 +1,4 @@
-use Rattle.classes.proofs.MergeCode.{merge-unready, merge-unfit, merge-room, merge-is}
+use Rattle.classes.proofs.Refines.Merge.{merge-unready, merge-unfit, merge-room, merge-is}
 use Rattle.records.proofs.Public.{passed-ready}
 use Rattle.records.specs.View.{lent}
 use borrow.Author.Needs.{needs}

@@ -1,4 +1,4 @@
-use Rattle.classes.proofs.MergeCode.{put-room, put-under}
+use Rattle.classes.proofs.Refines.Merge.{put-room, put-under}
 use borrow.Author.Needs.{needs}
 use Rattle.classes.proofs.put_under_unchecked.Statement.{statement}
 use Rattle.classes.proofs.put_under_unchecked.Tie as tie

@@ -1,5 +1,5 @@
-use Rattle.engine.proofs.Turns.{pairing-walkable, pairing-low, pairing-less, Pairing, pairing-begin, pairing-turn, pairing-stop, pairing-done, edge-gives, edge-nothing, edge-other}
-use Rattle.engine.proofs.Rises.{rising-walkable, rising-low, pair-same, pair-seen, place-inside, nearest-fit, Rising, rising-begin, rising-switch, rising-turn, rising-stop, rising-done, far, far-switch, far-turn}
+use Rattle.engine.proofs.Refines.Turns.{pairing-walkable, pairing-low, pairing-less, Pairing, pairing-begin, pairing-turn, pairing-stop, pairing-done, edge-gives, edge-nothing, edge-other}
+use Rattle.engine.proofs.Refines.Rises.{rising-walkable, rising-low, pair-same, pair-seen, place-inside, nearest-fit, Rising, rising-begin, rising-switch, rising-turn, rising-stop, rising-done, far, far-switch, far-turn}
 use mathlib.Core.Logic.{inl, inr}
 use mathlib.Core.Path.{refl, sym, _∙_}
 use lib.ListN.{length}

@@ -1,4 +1,4 @@
-use Rattle.engine.proofs.EngineCalls.{can-here, can-not-first, can-not-second, can-classes}
+use Rattle.engine.proofs.Refines.EngineCalls.{can-here, can-not-first, can-not-second, can-classes}
 use borrow.Author.Needs.{needs}
 use Rattle.engine.proofs.can_explain.Statement.{statement}
 use Rattle.engine.proofs.can_explain.Tie as tie

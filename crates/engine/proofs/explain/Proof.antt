@@ -1,6 +1,6 @@
 use mathlib.Core.Path.{sym, _∙_}
 use Rattle.records.proofs.Passed.{ready-of}
-use Rattle.engine.proofs.EngineCalls.{explain-unready, explain-unfit, explain-fit, explain-called}
+use Rattle.engine.proofs.Refines.EngineCalls.{explain-unready, explain-unfit, explain-fit, explain-called}
 use borrow.Author.Needs.{needs}
 use Rattle.engine.proofs.explain.Statement.{statement}
 use Rattle.engine.proofs.explain.Tie as tie

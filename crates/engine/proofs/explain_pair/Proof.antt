@@ -1,4 +1,4 @@
-use Rattle.engine.proofs.Plainly.{explainable-on, explained-anew}
+use Rattle.engine.proofs.Refines.Plainly.{explainable-on, explained-anew}
 use native.Mathlib.Omega.{arith}
 use borrow.Author.Needs.{needs}
 use Rattle.engine.proofs.explain_pair.Statement.{statement}

@@ -1,8 +1,8 @@
 use mathlib.Core.Path.{refl, _∙_}
 use mathlib.Core.List.{[]}
 use Rattle.records.specs.View.{termsView}
-use Rattle.engine.proofs.Rises.{nearest-fit, rising-begin, rising-switch, rising-turn, far, far-switch, far-turn}
-use Rattle.engine.proofs.Plainly.{Walking, plain-walkable, plain-same, plain-done, plain-met, plain-stop}
+use Rattle.engine.proofs.Refines.Rises.{nearest-fit, rising-begin, rising-switch, rising-turn, far, far-switch, far-turn}
+use Rattle.engine.proofs.Refines.Plainly.{Walking, plain-walkable, plain-same, plain-done, plain-met, plain-stop}
 use borrow.Author.Needs.{needs}
 use Rattle.engine.proofs.explain_plain.Statement.{statement}
 use Rattle.engine.proofs.explain_plain.Tie as tie

@@ -1,4 +1,4 @@
-use Rattle.engine.proofs.Starts.{explained-by, explainable-walk}
+use Rattle.engine.proofs.Refines.Starts.{explained-by, explainable-walk}
 use native.Mathlib.Omega.{arith}
 use borrow.Author.Needs.{needs}
 use Rattle.engine.proofs.explain_some.Statement.{statement}

@@ -1,4 +1,4 @@
-use Rattle.engine.proofs.Starts.{explainable-of, explain-came, explain-refused}
+use Rattle.engine.proofs.Refines.Starts.{explainable-of, explain-came, explain-refused}
 use borrow.Author.Needs.{needs}
 use Rattle.engine.proofs.explain_unchecked.Statement.{statement}
 use Rattle.engine.proofs.explain_unchecked.Tie as tie

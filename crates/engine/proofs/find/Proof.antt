@@ -1,4 +1,4 @@
-use Rattle.engine.proofs.EngineCalls.{find-unready, find-unfit, find-here, find-gives}
+use Rattle.engine.proofs.Refines.EngineCalls.{find-unready, find-unfit, find-here, find-gives}
 use borrow.Author.Needs.{needs}
 use Rattle.engine.proofs.find.Statement.{statement}
 use Rattle.engine.proofs.find.Tie as tie

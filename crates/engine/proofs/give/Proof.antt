@@ -1,4 +1,4 @@
-use Rattle.engine.proofs.Turns.{gives-counts, gives-refused}
+use Rattle.engine.proofs.Refines.Turns.{gives-counts, gives-refused}
 use borrow.Author.Needs.{needs}
 use Rattle.engine.proofs.give.Statement.{statement}
 use Rattle.engine.proofs.give.Tie as tie

@@ -1,5 +1,5 @@
 use Prim.Native.Nat.{_/_}
-use Rattle.engine.proofs.Bits.{shifted-fits, note-shifted}
+use Rattle.engine.proofs.Refines.Bits.{shifted-fits, note-shifted}
 use Rattle.engine.specs.Working.Seen.{seenAt}
 use borrow.Author.Needs.{needs}
 use Rattle.engine.proofs.note_seen.Statement.{statement}

@@ -1,4 +1,4 @@
-use Rattle.engine.proofs.Bits.{product-fits, place-first, place-second}
+use Rattle.engine.proofs.Refines.Bits.{product-fits, place-first, place-second}
 use native.Mathlib.Omega.{arith}
 use borrow.Author.Needs.{needs}
 use Rattle.engine.proofs.place.Statement.{statement}

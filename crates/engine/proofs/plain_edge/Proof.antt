@@ -1,6 +1,6 @@
 use mathlib.Core.Path.{refl}
 use mathlib.Core.Logic.{inl, inr}
-use Rattle.engine.proofs.Plainly.{plainly-met, plain-gives, plain-nothing}
+use Rattle.engine.proofs.Refines.Plainly.{plainly-met, plain-gives, plain-nothing}
 use borrow.Author.Needs.{needs}
 use Rattle.engine.proofs.plain_edge.Statement.{statement}
 use Rattle.engine.proofs.plain_edge.Tie as tie

@@ -1,6 +1,6 @@
 use mathlib.Core.List.{[]}
 use Rattle.records.specs.View.{lent, storeOf}
-use Rattle.normalize.proofs.FormCalls.{arguments-stop, arguments-last}
+use Rattle.normalize.proofs.Refines.FormCalls.{arguments-stop, arguments-last}
 use borrow.Author.Needs.{needs}
 use Rattle.normalize.proofs.can_form.Statement.{statement}
 use Rattle.normalize.proofs.can_form.Tie as tie

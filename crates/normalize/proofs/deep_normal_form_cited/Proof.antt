@@ -1,4 +1,4 @@
-use Rattle.normalize.proofs.FormCalls.{deep-short, deep-unready, deep-unfit, form-ready, form-fit, deep-called}
+use Rattle.normalize.proofs.Refines.FormCalls.{deep-short, deep-unready, deep-unfit, form-ready, form-fit, deep-called}
 use borrow.Author.Needs.{needs}
 use Rattle.normalize.proofs.deep_normal_form_cited.Statement.{statement}
 use Rattle.normalize.proofs.deep_normal_form_cited.Tie as tie

@@ -1,4 +1,4 @@
-use Rattle.normalize.proofs.FormCalls.{form-short, form-unready, form-unfit, form-ready, form-fit, form-called}
+use Rattle.normalize.proofs.Refines.FormCalls.{form-short, form-unready, form-unfit, form-ready, form-fit, form-called}
 use borrow.Author.Needs.{needs}
 use Rattle.normalize.proofs.normal_form_cited.Statement.{statement}
 use Rattle.normalize.proofs.normal_form_cited.Tie as tie

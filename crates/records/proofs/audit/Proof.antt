@@ -1,4 +1,4 @@
-use Rattle.records.proofs.Auditing.{audit-short, audit-sized, audit-unrecorded, audit-unclassed, audit-congruable, audit-incongruent, audit-passed}
+use Rattle.records.proofs.Refines.Auditing.{audit-short, audit-sized, audit-unrecorded, audit-unclassed, audit-congruable, audit-incongruent, audit-passed}
 use borrow.Author.Needs.{needs}
 use Rattle.records.proofs.audit.Statement.{statement}
 use Rattle.records.proofs.audit.Tie as tie

@@ -1,4 +1,4 @@
-use Rattle.wordeq.proofs.EqualCalls.{pair-stop, pair-last}
+use Rattle.wordeq.proofs.Refines.EqualCalls.{pair-stop, pair-last}
 use Rattle.records.specs.View.{lent, storeOf}
 use mathlib.Core.List.{[]}
 use borrow.Author.Needs.{needs}

@@ -1,4 +1,4 @@
-use Rattle.wordeq.proofs.ResolveCalls.{guard-stop, guard-last}
+use Rattle.wordeq.proofs.Refines.ResolveCalls.{guard-stop, guard-last}
 use Rattle.records.specs.View.{lent, storeOf}
 use mathlib.Core.List.{[]}
 use borrow.Author.Needs.{needs}

@@ -1,4 +1,4 @@
-use Rattle.wordeq.proofs.ResolveCalls.{guard-zero, guard-lowest, guard-good}
+use Rattle.wordeq.proofs.Refines.ResolveCalls.{guard-zero, guard-lowest, guard-good}
 use Rattle.wordeq.proofs.is_guard.Statement.{statement}
 use Rattle.wordeq.proofs.is_guard.Tie as tie
 

@@ -1,5 +1,5 @@
 use Rattle.records.specs.View.{lent}
-use Rattle.wordeq.proofs.EqualCalls.{equal-unready, equal-unfit, equal-readable, equal-left, equal-right, equal-gives}
+use Rattle.wordeq.proofs.Refines.EqualCalls.{equal-unready, equal-unfit, equal-readable, equal-left, equal-right, equal-gives}
 use borrow.Author.Needs.{needs}
 use Rattle.wordeq.proofs.nf_equal.Statement.{statement}
 use Rattle.wordeq.proofs.nf_equal.Tie as tie

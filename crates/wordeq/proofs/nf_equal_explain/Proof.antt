@@ -1,5 +1,5 @@
 use Rattle.records.specs.View.{lent}
-use Rattle.wordeq.proofs.EqualCalls.{explain-unready, explain-unfit, explain-ready, explain-left, explain-right, explain-lengths, explain-called}
+use Rattle.wordeq.proofs.Refines.EqualCalls.{explain-unready, explain-unfit, explain-ready, explain-left, explain-right, explain-lengths, explain-called}
 use borrow.Author.Needs.{needs}
 use Rattle.wordeq.proofs.nf_equal_explain.Statement.{statement}
 use Rattle.wordeq.proofs.nf_equal_explain.Tie as tie

@@ -1,5 +1,5 @@
-use Rattle.wordeq.proofs.ResolveCalls.{resolve-short, resolve-unready, resolve-unfit, resolve-ready, resolve-lists, resolve-guard, resolve-called}
-use Rattle.wordeq.proofs.Flattening.{guard-passed}
+use Rattle.wordeq.proofs.Refines.ResolveCalls.{resolve-short, resolve-unready, resolve-unfit, resolve-ready, resolve-lists, resolve-guard, resolve-called}
+use Rattle.wordeq.proofs.Refines.Flattening.{guard-passed}
 use Rattle.records.specs.View.{lent}
 use borrow.Author.Needs.{needs}
 use Rattle.wordeq.proofs.resolve_equation.Statement.{statement}

@@ -1,4 +1,4 @@
-use Rattle.normalize.proofs.Rounding.{deep-stopped, deep-long, deep-carried, deep-strings, deep-candidates, deep-done}
+use Rattle.normalize.proofs.Refines.Rounding.{deep-stopped, deep-long, deep-carried, deep-strings, deep-candidates, deep-done}
 use Rattle.normalize.proofs.Carried.{carried-ready}
 use mathlib.Core.Path.{refl}
 use native.Mathlib.Omega.{arith}

@@ -1,4 +1,4 @@
-use Rattle.normalize.proofs.Forming.{ready-rooting, strings-within, known-table, list-strings}
+use Rattle.normalize.proofs.Refines.Forming.{ready-rooting, strings-within, known-table, list-strings}
 use lib.ListN.{replicate, getD-replicate}
 use mathlib.Core.Path.{refl}
 use Rattle.normalize.proofs.deeper.known_table_unchecked.Statement.{statement}

@@ -3,7 +3,7 @@ use Prim.Native.Nat.{_-_, _≤_}
 use mathlib.Core.Path.{_≡_, refl}
 use Rattle.normalize.specs.Calls.{firstWords}
 use Rattle.records.specs.View.{lent}
-use Rattle.normalize.proofs.Rounding.{Heaping, heaping-none, heap-ready, heaping-turn, heaping-stopped, heaping-done}
+use Rattle.normalize.proofs.Refines.Rounding.{Heaping, heaping-none, heap-ready, heaping-turn, heaping-stopped, heaping-done}
 use native.Mathlib.Omega.{arith}
 use borrow.Author.Needs.{needs}
 use Rattle.normalize.proofs.deeper.push_all.Statement.{statement}

@@ -2,8 +2,8 @@ use lib.Dec.{lit≤}
 use lib.ListN.{replicate}
 use mathlib.Core.Path.{refl}
 use Rattle.normalize.proofs.Carried.{carried-ready}
-use Rattle.normalize.proofs.Expanding.{round-carried, round-strings, round-short}
-use Rattle.normalize.proofs.Rounding.{round-stands, round-ended, round-settled}
+use Rattle.normalize.proofs.Refines.Expanding.{round-carried, round-strings, round-short}
+use Rattle.normalize.proofs.Refines.Rounding.{round-stands, round-ended, round-settled}
 use native.Mathlib.Omega.{arith}
 use borrow.Author.Needs.{needs}
 use Rattle.normalize.proofs.deeper.round.Statement.{statement}

@@ -3,7 +3,7 @@ use Prim.Native.Nat.{_-_, _≤_}
 use mathlib.Core.Path.{_≡_, refl}
 use Rattle.normalize.specs.Calls.{firstWords}
 use Rattle.records.specs.View.{lent}
-use Rattle.normalize.proofs.Rounding.{Rounding, rounding-none, rounding-ready, rounding-candidates, rounding-met, rounds-ended, rounding-turn, rounds-done}
+use Rattle.normalize.proofs.Refines.Rounding.{Rounding, rounding-none, rounding-ready, rounding-candidates, rounding-met, rounds-ended, rounding-turn, rounds-done}
 use native.Mathlib.Omega.{arith}
 use borrow.Author.Needs.{needs}
 use Rattle.normalize.proofs.deeper.rounds.Statement.{statement}

@@ -1,5 +1,5 @@
 use mathlib.Core.Path.{refl}
-use Rattle.normalize.proofs.Rounding.{settle-long, settle-same, settle-other, settle-stopped}
+use Rattle.normalize.proofs.Refines.Rounding.{settle-long, settle-same, settle-other, settle-stopped}
 use native.Mathlib.Omega.{arith}
 use borrow.Author.Needs.{needs}
 use Rattle.normalize.proofs.deeper.settle.Statement.{statement}

@@ -3,7 +3,7 @@ use Prim.Native.Nat.{_-_, _≤_}
 use mathlib.Core.Path.{_≡_, refl}
 use Rattle.normalize.specs.Calls.{firstWords}
 use Rattle.records.specs.View.{lent}
-use Rattle.normalize.proofs.Expanding.{Walking, walking-none, walk-ready, walk-candidates, walk-string, walk-low, walking-turn, walking-ended, walking-done}
+use Rattle.normalize.proofs.Refines.Expanding.{Walking, walking-none, walk-ready, walk-candidates, walk-string, walk-low, walking-turn, walking-ended, walking-done}
 use native.Mathlib.Omega.{arith}
 use borrow.Author.Needs.{needs}
 use Rattle.normalize.proofs.expands.expand.Statement.{statement}

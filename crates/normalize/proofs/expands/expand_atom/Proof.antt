@@ -1,4 +1,4 @@
-use Rattle.normalize.proofs.Expanding.{form-short, atom-none, atom-some, atom-stopped}
+use Rattle.normalize.proofs.Refines.Expanding.{form-short, atom-none, atom-some, atom-stopped}
 use native.Mathlib.Omega.{arith}
 use borrow.Author.Needs.{needs}
 use Rattle.normalize.proofs.expands.expand_atom.Statement.{statement}

@@ -1,4 +1,4 @@
-use Rattle.normalize.proofs.Expanding.{atom-place, one-plain, one-again, one-opened}
+use Rattle.normalize.proofs.Refines.Expanding.{atom-place, one-plain, one-again, one-opened}
 use native.Mathlib.Omega.{arith}
 use borrow.Author.Needs.{needs}
 use Rattle.normalize.proofs.expands.expand_one.Statement.{statement}

@@ -1,4 +1,4 @@
-use Rattle.normalize.proofs.Expanding.{opens-other, opens-concat}
+use Rattle.normalize.proofs.Refines.Expanding.{opens-other, opens-concat}
 use borrow.Author.Needs.{needs}
 use Rattle.normalize.proofs.expands.opens.Statement.{statement}
 use Rattle.normalize.proofs.expands.opens.Tie as tie

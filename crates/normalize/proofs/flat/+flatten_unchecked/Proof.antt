@@ -1,7 +1,7 @@
 use mathlib.Core.Bool.{true, false}
 use mathlib.Core.Path.{_≡_, refl, sym, ap, _∙_}
 use Rattle.held.proofs.Linking.{isCell, other-tag, step-words, words-none}
-use Rattle.normalize.proofs.Flats.{one-atom, Left, begin, ended, part-lower, part-passes, part-done, chain-falls}
+use Rattle.normalize.proofs.Refines.Flats.{one-atom, Left, begin, ended, part-lower, part-passes, part-done, chain-falls}
 use Rattle.normalize.specs.Working.Flat.{bare}
 use Rattle.records.specs.Store.{chain}
 use lib.ListN.{length}

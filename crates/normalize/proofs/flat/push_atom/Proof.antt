@@ -1,5 +1,5 @@
 use borrow.Author.Needs.{needs}
-use Rattle.normalize.proofs.Flats.{atom-fits, atom-passes}
+use Rattle.normalize.proofs.Refines.Flats.{atom-fits, atom-passes}
 use Rattle.normalize.proofs.flat.push_atom.Statement.{statement}
 use Rattle.normalize.proofs.flat.push_atom.Tie as tie
 

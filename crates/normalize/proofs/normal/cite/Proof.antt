@@ -1,4 +1,4 @@
-use Rattle.normalize.proofs.Replacing.{cite-same, cite-other}
+use Rattle.normalize.proofs.Refines.Replacing.{cite-same, cite-other}
 use borrow.Author.Needs.{needs}
 use Rattle.normalize.proofs.normal.cite.Statement.{statement}
 use Rattle.normalize.proofs.normal.cite.Tie as tie

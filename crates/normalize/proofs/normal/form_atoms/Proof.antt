@@ -1,4 +1,4 @@
-use Rattle.normalize.proofs.Forming.{ready-rooting, strings-within, more-table}
+use Rattle.normalize.proofs.Refines.Forming.{ready-rooting, strings-within, more-table}
 use borrow.Author.Needs.{needs}
 use Rattle.normalize.proofs.normal.form_atoms.Statement.{statement}
 use Rattle.normalize.proofs.normal.form_atoms.Tie as tie

@@ -1,4 +1,4 @@
-use Rattle.normalize.proofs.Forming.{one-string, one-done}
+use Rattle.normalize.proofs.Refines.Forming.{one-string, one-done}
 use native.Mathlib.Omega.{arith}
 use borrow.Author.Needs.{needs}
 use Rattle.normalize.proofs.normal.form_by.Statement.{statement}

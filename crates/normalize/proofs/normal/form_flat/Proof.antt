@@ -1,4 +1,4 @@
-use Rattle.normalize.proofs.Forming.{form-passes, flat-length, flat-strings, form-done}
+use Rattle.normalize.proofs.Refines.Forming.{form-passes, flat-length, flat-strings, form-done}
 use Rattle.normalize.proofs.FormReady.{ready-nested}
 use mathlib.Core.Path.{sym}
 use lib.Seq.{length-take-le}

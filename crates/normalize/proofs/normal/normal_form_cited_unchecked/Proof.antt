@@ -1,9 +1,9 @@
-use Rattle.normalize.proofs.Forming.{known-strings}
+use Rattle.normalize.proofs.Refines.Forming.{known-strings}
 use Rattle.normalize.proofs.FormReady.{known-list, term-string}
 use lib.ListN.{replicate, getD-replicate}
 use mathlib.Core.Path.{refl}
-use Rattle.normalize.proofs.Forming.{ready-rooting}
-use Rattle.normalize.proofs.Forming.{strings-within, known-table}
+use Rattle.normalize.proofs.Refines.Forming.{ready-rooting}
+use Rattle.normalize.proofs.Refines.Forming.{strings-within, known-table}
 use borrow.Author.Needs.{needs}
 use Rattle.normalize.proofs.normal.normal_form_cited_unchecked.Statement.{statement}
 use Rattle.normalize.proofs.normal.normal_form_cited_unchecked.Tie as tie

@@ -1,5 +1,5 @@
 use mathlib.Core.Path.{refl}
-use Rattle.normalize.proofs.Replacing.{cited-ready, push-for-done, push-for-stopped}
+use Rattle.normalize.proofs.Refines.Replacing.{cited-ready, push-for-done, push-for-stopped}
 use borrow.Author.Needs.{needs}
 use Rattle.normalize.proofs.normal.push_for.Statement.{statement}
 use Rattle.normalize.proofs.normal.push_for.Tie as tie

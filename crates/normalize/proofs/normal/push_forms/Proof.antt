@@ -4,7 +4,7 @@ use mathlib.Core.List.{_++_}
 use mathlib.Core.Path.{_≡_, refl}
 use Rattle.records.specs.View.{lent}
 use Rattle.records.proofs.Lists.{all-every, every-right}
-use Rattle.normalize.proofs.Replacing.{Going, going-none, now-ready, rep-requires as going-rep, for-arguments, going-turn, going-stopped, going-done}
+use Rattle.normalize.proofs.Refines.Replacing.{Going, going-none, now-ready, rep-requires as going-rep, for-arguments, going-turn, going-stopped, going-done}
 use native.Mathlib.Omega.{arith}
 use borrow.Author.Needs.{needs}
 use Rattle.normalize.proofs.normal.push_forms.Statement.{statement}

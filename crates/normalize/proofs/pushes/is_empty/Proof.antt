@@ -1,4 +1,4 @@
-use Rattle.normalize.proofs.Pushing.{empty-other, empty-constant}
+use Rattle.normalize.proofs.Refines.Pushing.{empty-other, empty-constant}
 use borrow.Author.Needs.{needs}
 use Rattle.normalize.proofs.pushes.is_empty.Statement.{statement}
 use Rattle.normalize.proofs.pushes.is_empty.Tie as tie

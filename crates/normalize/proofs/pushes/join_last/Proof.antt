@@ -1,5 +1,5 @@
 use Prim.Native.Nat.{_-_}
-use Rattle.normalize.proofs.Pushing.{pair-constants, join-made, join-stopped}
+use Rattle.normalize.proofs.Refines.Pushing.{pair-constants, join-made, join-stopped}
 use native.Mathlib.Omega.{arith}
 use borrow.Author.Needs.{needs}
 use Rattle.normalize.proofs.pushes.join_last.Statement.{statement}

@@ -1,4 +1,4 @@
-use Rattle.normalize.proofs.Pushing.{joins-none, joins-other, joins-last}
+use Rattle.normalize.proofs.Refines.Pushing.{joins-none, joins-other, joins-last}
 use borrow.Author.Needs.{needs}
 use Rattle.normalize.proofs.pushes.joins.Statement.{statement}
 use Rattle.normalize.proofs.pushes.joins.Tie as tie

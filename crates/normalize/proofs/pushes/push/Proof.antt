@@ -1,5 +1,5 @@
 use mathlib.Core.Path.{sym, refl, _∙_}
-use Rattle.normalize.proofs.Pushing.{push-empty, push-joined, push-plain, joins-some}
+use Rattle.normalize.proofs.Refines.Pushing.{push-empty, push-joined, push-plain, joins-some}
 use native.Mathlib.Omega.{arith}
 use borrow.Author.Needs.{needs}
 use Rattle.normalize.proofs.pushes.push.Statement.{statement}

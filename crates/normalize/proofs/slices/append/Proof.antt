@@ -3,7 +3,7 @@ use Prim.Native.Nat.{_+_, _-_, _≤_}
 use mathlib.Core.List.{_++_}
 use mathlib.Core.Path.{_≡_, refl}
 use Rattle.normalize.specs.Calls.{firstWords}
-use Rattle.normalize.proofs.Words.{append-none, append-turn, append-done}
+use Rattle.normalize.proofs.Refines.Words.{append-none, append-turn, append-done}
 use native.Mathlib.Omega.{arith}
 use borrow.Author.Needs.{needs}
 use Rattle.normalize.proofs.slices.append.Statement.{statement}

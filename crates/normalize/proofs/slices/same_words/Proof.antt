@@ -1,7 +1,7 @@
 use Prim.Native.Nat.{_-_, _≤_}
 use mathlib.Core.Path.{_≡_}
 use Rattle.normalize.specs.Calls.{firstWords}
-use Rattle.normalize.proofs.Words.{compare-none, compare-turn, compare-other, compare-stop, compare-done}
+use Rattle.normalize.proofs.Refines.Words.{compare-none, compare-turn, compare-other, compare-stop, compare-done}
 use native.Mathlib.Omega.{arith}
 use borrow.Author.Needs.{needs}
 use Rattle.normalize.proofs.slices.same_words.Statement.{statement}

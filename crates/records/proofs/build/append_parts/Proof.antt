@@ -1,4 +1,4 @@
-use Rattle.records.proofs.Builds.{one-limit, one-words, one-later, append-long, append-limit, append-words, append-full, append-made}
+use Rattle.records.proofs.Refines.Builds.{one-limit, one-words, one-later, append-long, append-limit, append-words, append-full, append-made}
 use borrow.Author.Needs.{needs}
 use Rattle.records.proofs.build.append_parts.Statement.{statement}
 use Rattle.records.proofs.build.append_parts.Tie as tie

@@ -1,4 +1,4 @@
-use Rattle.records.proofs.Builds.{Walked, walked-none, walk-ends, walk-differs, walk-on, walk-over}
+use Rattle.records.proofs.Refines.Builds.{Walked, walked-none, walk-ends, walk-differs, walk-on, walk-over}
 use lib.ListN.{length}
 use Prim.Native.Nat.{_-_}
 use borrow.Author.Needs.{needs}

@@ -1,7 +1,7 @@
 use Prim.Native.Nat.{_-_}
 use Rattle.records.specs.Working.Leaves.{Passed, hasParts}
 use Rattle.records.specs.View.{cellsView}
-use Rattle.records.proofs.Making.{passed-one, passed-all, hit}
+use Rattle.records.proofs.Refines.Making.{passed-one, passed-all, hit}
 use borrow.Author.Needs.{needs}
 use Rattle.records.proofs.build.find_parts.Statement.{statement}
 use Rattle.records.proofs.build.find_parts.Tie as tie

@@ -1,6 +1,6 @@
 use Prim.Native.Nat.{_-_}
 use Rattle.records.specs.Working.Leaves.{Passed, hasSides}
-use Rattle.records.proofs.Making.{passed-one, passed-all, hit}
+use Rattle.records.proofs.Refines.Making.{passed-one, passed-all, hit}
 use borrow.Author.Needs.{needs}
 use Rattle.records.proofs.build.find_sides.Statement.{statement}
 use Rattle.records.proofs.build.find_sides.Tie as tie

@@ -1,4 +1,4 @@
-use Rattle.records.proofs.Builds.{parts-kind, parts-are}
+use Rattle.records.proofs.Refines.Builds.{parts-kind, parts-are}
 use borrow.Author.Needs.{needs}
 use Rattle.records.proofs.build.has_parts.Statement.{statement}
 use Rattle.records.proofs.build.has_parts.Tie as tie

@@ -1,4 +1,4 @@
-use Rattle.records.proofs.Builds.{sides-kind, sides-first, sides-second}
+use Rattle.records.proofs.Refines.Builds.{sides-kind, sides-first, sides-second}
 use borrow.Author.Needs.{needs}
 use Rattle.records.proofs.build.has_sides.Statement.{statement}
 use Rattle.records.proofs.build.has_sides.Tie as tie

@@ -1,4 +1,4 @@
-use Rattle.records.proofs.BuildCalls.{concat-few, concat-unfit, concat-called}
+use Rattle.records.proofs.Refines.BuildCalls.{concat-few, concat-unfit, concat-called}
 use Rattle.records.proofs.Public.{call-unready, passed-ready}
 use borrow.Author.Needs.{needs}
 use Rattle.records.proofs.build.make_concatenation.Statement.{statement}

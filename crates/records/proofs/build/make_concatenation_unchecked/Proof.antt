@@ -1,4 +1,4 @@
-use Rattle.records.proofs.Builds.{parts-from, concat-old, concat-new}
+use Rattle.records.proofs.Refines.Builds.{parts-from, concat-old, concat-new}
 use borrow.Author.Needs.{needs}
 use Rattle.records.proofs.build.make_concatenation_unchecked.Statement.{statement}
 use Rattle.records.proofs.build.make_concatenation_unchecked.Tie as tie

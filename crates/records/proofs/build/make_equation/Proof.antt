@@ -1,4 +1,4 @@
-use Rattle.records.proofs.BuildCalls.{equation-unfit, equation-called}
+use Rattle.records.proofs.Refines.BuildCalls.{equation-unfit, equation-called}
 use Rattle.records.proofs.Public.{call-unready, passed-ready}
 use borrow.Author.Needs.{needs}
 use Rattle.records.proofs.build.make_equation.Statement.{statement}

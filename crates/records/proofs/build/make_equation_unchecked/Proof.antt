@@ -1,6 +1,6 @@
 use mathlib.Core.Logic.{inr}
 use mathlib.Core.Path.{refl}
-use Rattle.records.proofs.Builds.{equation-made}
+use Rattle.records.proofs.Refines.Builds.{equation-made}
 use borrow.Author.Needs.{needs}
 use Rattle.records.proofs.build.make_equation_unchecked.Statement.{statement}
 use Rattle.records.proofs.build.make_equation_unchecked.Tie as tie

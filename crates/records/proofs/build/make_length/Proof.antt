@@ -1,4 +1,4 @@
-use Rattle.records.proofs.BuildCalls.{length-unfit, length-called}
+use Rattle.records.proofs.Refines.BuildCalls.{length-unfit, length-called}
 use Rattle.records.proofs.Public.{call-unready, passed-ready}
 use borrow.Author.Needs.{needs}
 use Rattle.records.proofs.build.make_length.Statement.{statement}

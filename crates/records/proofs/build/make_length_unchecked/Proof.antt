@@ -1,6 +1,6 @@
 use mathlib.Core.Logic.{inl}
 use mathlib.Core.Path.{refl}
-use Rattle.records.proofs.Builds.{length-made}
+use Rattle.records.proofs.Refines.Builds.{length-made}
 use borrow.Author.Needs.{needs}
 use Rattle.records.proofs.build.make_length_unchecked.Statement.{statement}
 use Rattle.records.proofs.build.make_length_unchecked.Tie as tie

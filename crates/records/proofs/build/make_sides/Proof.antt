@@ -1,5 +1,5 @@
-use Rattle.records.proofs.Rooms.{fits-limit, fits-words}
-use Rattle.records.proofs.Builds.{sides-from, sides-old, sides-full, sides-made}
+use Rattle.records.proofs.Refines.Rooms.{fits-limit, fits-words}
+use Rattle.records.proofs.Refines.Builds.{sides-from, sides-old, sides-full, sides-made}
 use borrow.Author.Needs.{needs}
 use Rattle.records.proofs.build.make_sides.Statement.{statement}
 use Rattle.records.proofs.build.make_sides.Tie as tie

@@ -1,4 +1,4 @@
-use Rattle.records.proofs.Builds.{last-none}
+use Rattle.records.proofs.Refines.Builds.{last-none}
 use borrow.Author.Needs.{needs}
 use Rattle.records.proofs.build.up_to_last.Statement.{statement}
 use Rattle.records.proofs.build.up_to_last.Tie as tie

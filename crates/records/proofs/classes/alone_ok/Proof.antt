@@ -1,4 +1,4 @@
-use Rattle.records.proofs.ClassLaws.{alone-root, alone-child, alone-parent}
+use Rattle.records.proofs.Refines.ClassLaws.{alone-root, alone-child, alone-parent}
 use borrow.Author.Needs.{needs}
 use Rattle.records.proofs.classes.alone_ok.Statement.{statement}
 use Rattle.records.proofs.classes.alone_ok.Tie as tie

@@ -1,4 +1,4 @@
-use Rattle.records.proofs.ClassLaws.{seen-roots, seen-tops, seen-rooted, root-here, top-here}
+use Rattle.records.proofs.Refines.ClassLaws.{seen-roots, seen-tops, seen-rooted, root-here, top-here}
 use Rattle.records.proofs.classes.class_ok.Statement.{statement}
 use Rattle.records.proofs.classes.class_ok.Tie as tie
 

@@ -1,5 +1,5 @@
 use Rattle.records.specs.View.{termed}
-use Rattle.records.proofs.ClassLaws.{classes-is, classes-not}
+use Rattle.records.proofs.Refines.ClassLaws.{classes-is, classes-not}
 use Rattle.records.proofs.Lists.{failed, passed}
 use mathlib.Core.Path.{_∙_}
 use borrow.Author.Needs.{needs}

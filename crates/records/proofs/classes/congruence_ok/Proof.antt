@@ -1,4 +1,4 @@
-use Rattle.records.proofs.PairLaws.{pathed-seen, congruent-child, congruent-parent, congruent-pairs, congruent-terms, congruent-last}
+use Rattle.records.proofs.Refines.PairLaws.{pathed-seen, congruent-child, congruent-parent, congruent-pairs, congruent-terms, congruent-last}
 use borrow.Author.Needs.{needs}
 use Rattle.records.proofs.classes.congruence_ok.Statement.{statement}
 use Rattle.records.proofs.classes.congruence_ok.Tie as tie

@@ -1,4 +1,4 @@
-use Rattle.records.proofs.ClassLaws.{label-reason, label-congruence, label-definitional, label-low, label-high}
+use Rattle.records.proofs.Refines.ClassLaws.{label-reason, label-congruence, label-definitional, label-low, label-high}
 use borrow.Author.Needs.{needs}
 use Rattle.records.proofs.classes.edge_label_ok.Statement.{statement}
 use Rattle.records.proofs.classes.edge_label_ok.Tie as tie

@@ -1,4 +1,4 @@
-use Rattle.records.proofs.PairLaws.{edge-root, edge-other, edge-congruence}
+use Rattle.records.proofs.Refines.PairLaws.{edge-root, edge-other, edge-congruence}
 use borrow.Author.Needs.{needs}
 use Rattle.records.proofs.classes.edge_ok.Statement.{statement}
 use Rattle.records.proofs.classes.edge_ok.Tie as tie

@@ -1,4 +1,4 @@
-use Rattle.records.proofs.ClassLaws.{ends-stop, ends-last}
+use Rattle.records.proofs.Refines.ClassLaws.{ends-stop, ends-last}
 use borrow.Author.Needs.{needs}
 use Rattle.records.proofs.classes.ends_ok.Statement.{statement}
 use Rattle.records.proofs.classes.ends_ok.Tie as tie

@@ -1,4 +1,4 @@
-use Rattle.records.proofs.PairLaws.{falls-none, falls-stop, falls-last}
+use Rattle.records.proofs.Refines.PairLaws.{falls-none, falls-stop, falls-last}
 use Rattle.records.proofs.classes.falls_ok.Statement.{statement}
 use Rattle.records.proofs.classes.falls_ok.Tie as tie
 

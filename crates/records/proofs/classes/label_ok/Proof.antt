@@ -1,4 +1,4 @@
-use Rattle.records.proofs.ClassLaws.{label-edge, root-kind, root-value, root-stamp}
+use Rattle.records.proofs.Refines.ClassLaws.{label-edge, root-kind, root-value, root-stamp}
 use borrow.Author.Needs.{needs}
 use Rattle.records.proofs.classes.label_ok.Statement.{statement}
 use Rattle.records.proofs.classes.label_ok.Tie as tie

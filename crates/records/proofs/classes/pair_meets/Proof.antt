@@ -1,4 +1,4 @@
-use Rattle.records.proofs.PairLaws.{meets-one, meets-other, meets-value, meets-last}
+use Rattle.records.proofs.Refines.PairLaws.{meets-one, meets-other, meets-value, meets-last}
 use Rattle.records.proofs.Lists.{passed}
 use borrow.Author.Needs.{needs}
 use Rattle.records.proofs.classes.pair_meets.Statement.{statement}

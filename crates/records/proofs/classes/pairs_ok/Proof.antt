@@ -1,4 +1,4 @@
-use Rattle.records.proofs.PairLaws.{Linking, linking-begin, linking-end, linking-stop, linking-turn, linking-done}
+use Rattle.records.proofs.Refines.PairLaws.{Linking, linking-begin, linking-end, linking-stop, linking-turn, linking-done}
 use Rattle.records.proofs.Lists.{passed}
 use Prim.Native.Nat.{_-_}
 use borrow.Author.Needs.{needs}

@@ -1,4 +1,4 @@
-use Rattle.records.proofs.ClassLaws.{parents-stop, parents-last}
+use Rattle.records.proofs.Refines.ClassLaws.{parents-stop, parents-last}
 use borrow.Author.Needs.{needs}
 use Rattle.records.proofs.classes.parents_ok.Statement.{statement}
 use Rattle.records.proofs.classes.parents_ok.Tie as tie

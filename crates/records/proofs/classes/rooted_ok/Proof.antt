@@ -1,5 +1,5 @@
 use Rattle.records.specs.View.{termed}
-use Rattle.records.proofs.ClassLaws.{alike-is, test-ends, test-alike, test-label, test-alone}
+use Rattle.records.proofs.Refines.ClassLaws.{alike-is, test-ends, test-alike, test-label, test-alone}
 use mathlib.Core.Path.{_∙_}
 use borrow.Author.Needs.{needs}
 use Rattle.records.proofs.classes.rooted_ok.Statement.{statement}

@@ -1,5 +1,5 @@
 use mathlib.Core.Path.{refl}
-use Rattle.records.proofs.Making.{text-long, text-full, text-made, long-limit, long-room, one-limit, one-room, next-limit}
+use Rattle.records.proofs.Refines.Making.{text-long, text-full, text-made, long-limit, long-room, one-limit, one-room, next-limit}
 use native.Mathlib.Omega.{arith}
 use borrow.Author.Needs.{needs}
 use Rattle.records.proofs.make.append_text.Statement.{statement}

@@ -1,4 +1,4 @@
-use Rattle.records.proofs.Making.{passed-none, passed-one, passed-all, hit}
+use Rattle.records.proofs.Refines.Making.{passed-none, passed-one, passed-all, hit}
 use Rattle.records.specs.Working.Leaves.{Passed, hasText}
 use Rattle.records.specs.View.{textAt}
 use Rattle.records.specs.Lists.{joined}

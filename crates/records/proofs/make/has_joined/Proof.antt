@@ -1,5 +1,5 @@
-use Rattle.records.proofs.Joining.{joined-other, joined-equal}
-use Rattle.records.proofs.Making.{other-kind}
+use Rattle.records.proofs.Refines.JoinConstants.{joined-other, joined-equal}
+use Rattle.records.proofs.Refines.Making.{other-kind}
 use borrow.Author.Needs.{needs}
 use Rattle.records.proofs.make.has_joined.Statement.{statement}
 use Rattle.records.proofs.make.has_joined.Tie as tie

@@ -1,4 +1,4 @@
-use Rattle.records.proofs.Making.{other-kind, other-length, same-kind}
+use Rattle.records.proofs.Refines.Making.{other-kind, other-length, same-kind}
 use borrow.Author.Needs.{needs}
 use Rattle.records.proofs.make.has_text.Statement.{statement}
 use Rattle.records.proofs.make.has_text.Tie as tie

@@ -1,5 +1,5 @@
-use Rattle.records.proofs.Joining.{texts-counted, texts-there, joined-made, total-long, total-room}
-use Rattle.records.proofs.Making.{text-found, text-new, text-long, text-full, text-made, long-limit, one-limit, one-room, next-limit}
+use Rattle.records.proofs.Refines.JoinConstants.{texts-counted, texts-there, joined-made, total-long, total-room}
+use Rattle.records.proofs.Refines.Making.{text-found, text-new, text-long, text-full, text-made, long-limit, one-limit, one-room, next-limit}
 use mathlib.Core.Path.{refl}
 use Rattle.records.specs.Store.{within}
 use native.Mathlib.Omega.{arith}

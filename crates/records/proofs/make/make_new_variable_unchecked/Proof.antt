@@ -1,4 +1,4 @@
-use Rattle.records.proofs.Making.{variable-new}
+use Rattle.records.proofs.Refines.Making.{variable-new}
 use borrow.Author.Needs.{needs}
 use Rattle.records.proofs.make.make_new_variable_unchecked.Statement.{statement}
 use Rattle.records.proofs.make.make_new_variable_unchecked.Tie as tie

@@ -1,4 +1,4 @@
-use Rattle.records.proofs.Making.{text-found, text-new}
+use Rattle.records.proofs.Refines.Making.{text-found, text-new}
 use borrow.Author.Needs.{needs}
 use Rattle.records.proofs.make.make_text.Statement.{statement}
 use Rattle.records.proofs.make.make_text.Tie as tie

@@ -1,4 +1,4 @@
-use Rattle.records.proofs.MakeCalls.{variable-unready, variable-empty, variable-unfit, variable-called}
+use Rattle.records.proofs.Refines.MakeCalls.{variable-unready, variable-empty, variable-unfit, variable-called}
 use Rattle.records.proofs.Passed.{ready-of}
 use mathlib.Core.Path.{sym, _∙_}
 use borrow.Author.Needs.{needs}

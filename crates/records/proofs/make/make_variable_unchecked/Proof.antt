@@ -1,4 +1,4 @@
-use Rattle.records.proofs.Making.{variable-made}
+use Rattle.records.proofs.Refines.Making.{variable-made}
 use Rattle.records.specs.Store.{within}
 use mathlib.Core.Path.{refl}
 use borrow.Author.Needs.{needs}

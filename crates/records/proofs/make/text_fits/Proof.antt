@@ -1,4 +1,4 @@
-use Rattle.records.proofs.Making.{text-over, text-test}
+use Rattle.records.proofs.Refines.Making.{text-over, text-test}
 use borrow.Author.Needs.{needs}
 use Rattle.records.proofs.make.text_fits.Statement.{statement}
 use Rattle.records.proofs.make.text_fits.Tie as tie

@@ -1,5 +1,5 @@
-use Rattle.records.proofs.Adds.{key-added, key-refused}
-use Rattle.records.proofs.Rooms.{pair-room, pair-limit}
+use Rattle.records.proofs.Refines.Adds.{key-added, key-refused}
+use Rattle.records.proofs.Refines.Rooms.{pair-room, pair-limit}
 use borrow.Author.Needs.{needs}
 use Rattle.records.proofs.put.add_key_unchecked.Statement.{statement}
 use Rattle.records.proofs.put.add_key_unchecked.Tie as tie

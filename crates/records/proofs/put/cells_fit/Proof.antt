@@ -1,4 +1,4 @@
-use Rattle.records.proofs.Rooms.{cells-test, cells-none}
+use Rattle.records.proofs.Refines.Rooms.{cells-test, cells-none}
 use borrow.Author.Needs.{needs}
 use Rattle.records.proofs.put.cells_fit.Statement.{statement}
 use Rattle.records.proofs.put.cells_fit.Tie as tie

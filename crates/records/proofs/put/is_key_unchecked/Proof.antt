@@ -1,4 +1,4 @@
-use Rattle.records.proofs.Adds.{key-known}
+use Rattle.records.proofs.Refines.Adds.{key-known}
 use borrow.Author.Needs.{needs}
 use Rattle.records.proofs.put.is_key_unchecked.Statement.{statement}
 use Rattle.records.proofs.put.is_key_unchecked.Tie as tie

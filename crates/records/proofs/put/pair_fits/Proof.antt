@@ -1,4 +1,4 @@
-use Rattle.records.proofs.Rooms.{pair-test, pair-over}
+use Rattle.records.proofs.Refines.Rooms.{pair-test, pair-over}
 use Rattle.records.proofs.put.pair_fits.Statement.{statement}
 use Rattle.records.proofs.put.pair_fits.Tie as tie
 

@@ -1,4 +1,4 @@
-use Rattle.records.proofs.Adds.{pair-same, pair-other}
+use Rattle.records.proofs.Refines.Adds.{pair-same, pair-other}
 use borrow.Author.Needs.{needs}
 use Rattle.records.proofs.put.pair_is.Statement.{statement}
 use Rattle.records.proofs.put.pair_is.Tie as tie

@@ -1,4 +1,4 @@
-use Rattle.records.proofs.Puts.{pair-put}
+use Rattle.records.proofs.Refines.Puts.{pair-put}
 use lib.ListN.{length-set}
 use native.Mathlib.Omega.{arith}
 use borrow.Author.Needs.{needs}

@@ -1,5 +1,5 @@
-use Rattle.records.proofs.Puts.{pushed, not-pushed}
-use Rattle.records.proofs.Rooms.{pair-room, pair-limit}
+use Rattle.records.proofs.Refines.Puts.{pushed, not-pushed}
+use Rattle.records.proofs.Refines.Rooms.{pair-room, pair-limit}
 use borrow.Author.Needs.{needs}
 use Rattle.records.proofs.put.push_reason_unchecked.Statement.{statement}
 use Rattle.records.proofs.put.push_reason_unchecked.Tie as tie

@@ -1,4 +1,4 @@
-use Rattle.records.proofs.Puts.{cell-put}
+use Rattle.records.proofs.Refines.Puts.{cell-put}
 use lib.ListN.{length-set}
 use native.Mathlib.Omega.{arith}
 use borrow.Author.Needs.{needs}

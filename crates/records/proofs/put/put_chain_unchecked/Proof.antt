@@ -1,4 +1,4 @@
-use Rattle.records.proofs.Puts.{Chained, chained-none, chained-turn, chained-end, chain-empty}
+use Rattle.records.proofs.Refines.Puts.{Chained, chained-none, chained-turn, chained-end, chain-empty}
 use lib.ListN.{length}
 use Prim.Native.Nat.{_≤_, _-_, _+_}
 use mathlib.Core.Path.{_≡_}

@@ -1,4 +1,4 @@
-use Rattle.records.proofs.Puts.{class-set}
+use Rattle.records.proofs.Refines.Puts.{class-set}
 use borrow.Author.Needs.{needs}
 use Rattle.records.proofs.put.put_class_parent_unchecked.Statement.{statement}
 use Rattle.records.proofs.put.put_class_parent_unchecked.Tie as tie

@@ -1,5 +1,5 @@
 use lib.ListN.{length-set}
-use Rattle.records.proofs.Puts.{edge-set}
+use Rattle.records.proofs.Refines.Puts.{edge-set}
 use native.Mathlib.Omega.{arith}
 use borrow.Author.Needs.{needs}
 use Rattle.records.proofs.put.put_edge_unchecked.Statement.{statement}

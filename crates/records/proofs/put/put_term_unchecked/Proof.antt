@@ -1,5 +1,5 @@
 use lib.ListN.{length-set}
-use Rattle.records.proofs.Puts.{term-put}
+use Rattle.records.proofs.Refines.Puts.{term-put}
 use native.Mathlib.Omega.{arith}
 use borrow.Author.Needs.{needs}
 use Rattle.records.proofs.put.put_term_unchecked.Statement.{statement}

@@ -1,4 +1,4 @@
-use Rattle.records.proofs.Rooms.{term-test, term-over}
+use Rattle.records.proofs.Refines.Rooms.{term-test, term-over}
 use borrow.Author.Needs.{needs}
 use Rattle.records.proofs.put.term_fits.Statement.{statement}
 use Rattle.records.proofs.put.term_fits.Tie as tie

@@ -1,4 +1,4 @@
-use Rattle.records.proofs.ClassLaws.{seen-roots, seen-tops, seen-rooted, root-here, top-here}
+use Rattle.records.proofs.Refines.ClassLaws.{seen-roots, seen-tops, seen-rooted, root-here, top-here}
 use Rattle.records.proofs.Lists.{failed, passed}
 use Rattle.records.proofs.Ends.{term-place, tested-more}
 use mathlib.Core.Path.{sym}

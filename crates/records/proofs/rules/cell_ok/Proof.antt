@@ -1,6 +1,6 @@
 use Rattle.records.proofs.Lists.{table-length}
 use Rattle.records.proofs.Views.{next-at}
-use Rattle.records.proofs.RuleLaws.{cell-ends, cell-back, cell-test}
+use Rattle.records.proofs.Refines.RuleLaws.{cell-ends, cell-back, cell-test}
 use borrow.Author.Needs.{needs}
 use Rattle.records.proofs.rules.cell_ok.Statement.{statement}
 use Rattle.records.proofs.rules.cell_ok.Tie as tie

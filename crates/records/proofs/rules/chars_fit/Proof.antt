@@ -1,4 +1,4 @@
-use Rattle.records.proofs.RuleLaws.{limit-past, limit-is}
+use Rattle.records.proofs.Refines.RuleLaws.{limit-past, limit-is}
 use Rattle.records.proofs.rules.chars_fit.Statement.{statement}
 use Rattle.records.proofs.rules.chars_fit.Tie as tie
 

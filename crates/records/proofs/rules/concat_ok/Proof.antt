@@ -1,4 +1,4 @@
-use Rattle.records.proofs.RuleLaws.{concat-second, concat-is}
+use Rattle.records.proofs.Refines.RuleLaws.{concat-second, concat-is}
 use Rattle.records.proofs.Views.{first-at, second-at}
 use borrow.Author.Needs.{needs}
 use Rattle.records.proofs.rules.concat_ok.Statement.{statement}

@@ -1,5 +1,5 @@
 use Rattle.records.proofs.Views.{first-at, second-at}
-use Rattle.records.proofs.RuleLaws.{equation-first, equation-second, equation-is}
+use Rattle.records.proofs.Refines.RuleLaws.{equation-first, equation-second, equation-is}
 use borrow.Author.Needs.{needs}
 use Rattle.records.proofs.rules.equation_ok.Statement.{statement}
 use Rattle.records.proofs.rules.equation_ok.Tie as tie

@@ -1,4 +1,4 @@
-use Rattle.records.proofs.RuleLaws.{char-low, char-gap, char-high}
+use Rattle.records.proofs.Refines.RuleLaws.{char-low, char-gap, char-high}
 use Rattle.records.proofs.rules.is_char.Statement.{statement}
 use Rattle.records.proofs.rules.is_char.Tie as tie
 

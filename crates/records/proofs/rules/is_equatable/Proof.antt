@@ -1,4 +1,4 @@
-use Rattle.records.proofs.RuleLaws.{equatable-strings, equatable-none, equatable-lengths}
+use Rattle.records.proofs.Refines.RuleLaws.{equatable-strings, equatable-none, equatable-lengths}
 use borrow.Author.Needs.{needs}
 use Rattle.records.proofs.rules.is_equatable.Statement.{statement}
 use Rattle.records.proofs.rules.is_equatable.Tie as tie

@@ -1,4 +1,4 @@
-use Rattle.records.proofs.BuildCalls.{list-long, list-stop, list-done}
+use Rattle.records.proofs.Refines.BuildCalls.{list-long, list-stop, list-done}
 use Rattle.records.proofs.Lists.{below-zero, below-turn}
 use Rattle.records.specs.View.{lent, storeOf}
 use Rattle.records.specs.Store.{isString}

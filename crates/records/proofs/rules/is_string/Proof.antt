@@ -1,4 +1,4 @@
-use Rattle.records.proofs.RuleLaws.{string-none, string-is}
+use Rattle.records.proofs.Refines.RuleLaws.{string-none, string-is}
 use borrow.Author.Needs.{needs}
 use Rattle.records.proofs.rules.is_string.Statement.{statement}
 use Rattle.records.proofs.rules.is_string.Tie as tie

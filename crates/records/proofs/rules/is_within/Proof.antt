@@ -1,4 +1,4 @@
-use Rattle.records.proofs.RuleLaws.{within-none, within-test}
+use Rattle.records.proofs.Refines.RuleLaws.{within-none, within-test}
 use borrow.Author.Needs.{needs}
 use Rattle.records.proofs.rules.is_within.Statement.{statement}
 use Rattle.records.proofs.rules.is_within.Tie as tie

@@ -1,4 +1,4 @@
-use Rattle.records.proofs.RuleLaws.{key-order, key-first, key-is}
+use Rattle.records.proofs.Refines.RuleLaws.{key-order, key-first, key-is}
 use borrow.Author.Needs.{needs}
 use Rattle.records.proofs.rules.key_ok.Statement.{statement}
 use Rattle.records.proofs.rules.key_ok.Tie as tie

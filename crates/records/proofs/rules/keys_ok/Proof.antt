@@ -1,5 +1,5 @@
 use mathlib.Core.List.{[]}
-use Rattle.records.proofs.RuleLaws.{pair-test}
+use Rattle.records.proofs.Refines.RuleLaws.{pair-test}
 use Rattle.records.proofs.Lists.{below-zero, table-stop, below-turn, table-done}
 use Rattle.records.specs.Rules.{keyRule}
 use Rattle.records.specs.View.{lent, storeOf, pairAt}

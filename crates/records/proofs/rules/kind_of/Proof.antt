@@ -1,4 +1,4 @@
-use Rattle.records.proofs.RuleLaws.{kind-none, kind-past, kind-is}
+use Rattle.records.proofs.Refines.RuleLaws.{kind-none, kind-past, kind-is}
 use borrow.Author.Needs.{needs}
 use Rattle.records.proofs.rules.kind_of.Statement.{statement}
 use Rattle.records.proofs.rules.kind_of.Tie as tie

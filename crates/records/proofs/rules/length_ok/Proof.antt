@@ -1,5 +1,5 @@
 use Rattle.records.proofs.Views.{first-at, second-at}
-use Rattle.records.proofs.RuleLaws.{length-second, length-upper, length-is}
+use Rattle.records.proofs.Refines.RuleLaws.{length-second, length-upper, length-is}
 use borrow.Author.Needs.{needs}
 use Rattle.records.proofs.rules.length_ok.Statement.{statement}
 use Rattle.records.proofs.rules.length_ok.Tie as tie

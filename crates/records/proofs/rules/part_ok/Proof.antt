@@ -1,5 +1,5 @@
 use Rattle.records.proofs.Views.{value-at, other-at}
-use Rattle.records.proofs.RuleLaws.{part-other, part-upper, part-is}
+use Rattle.records.proofs.Refines.RuleLaws.{part-other, part-upper, part-is}
 use borrow.Author.Needs.{needs}
 use Rattle.records.proofs.rules.part_ok.Statement.{statement}
 use Rattle.records.proofs.rules.part_ok.Tie as tie

@@ -1,4 +1,4 @@
-use Rattle.records.proofs.RuleLaws.{Walked, walk-start, walk-over, walk-end, walk-stop, walk-turn}
+use Rattle.records.proofs.Refines.RuleLaws.{Walked, walk-start, walk-over, walk-end, walk-stop, walk-turn}
 use Rattle.records.proofs.Lists.{passed}
 use Prim.Native.Nat.{_-_}
 use borrow.Author.Needs.{needs}

@@ -1,4 +1,4 @@
-use Rattle.records.proofs.RuleLaws.{reason-is, reason-low, reason-high}
+use Rattle.records.proofs.Refines.RuleLaws.{reason-is, reason-low, reason-high}
 use borrow.Author.Needs.{needs}
 use Rattle.records.proofs.rules.reason_ok.Statement.{statement}
 use Rattle.records.proofs.rules.reason_ok.Tie as tie

@@ -1,4 +1,4 @@
-use Rattle.records.proofs.RuleLaws.{pair-test}
+use Rattle.records.proofs.Refines.RuleLaws.{pair-test}
 use Rattle.records.proofs.Lists.{below-zero, table-stop, below-turn, table-done}
 use Rattle.records.specs.Rules.{reasonRule}
 use Rattle.records.specs.View.{pairAt}

@@ -1,4 +1,4 @@
-use Rattle.records.proofs.TermLaws.{records-terms, records-cells, records-chars, records-reasons, records-is}
+use Rattle.records.proofs.Refines.TermLaws.{records-terms, records-cells, records-chars, records-reasons, records-is}
 use borrow.Author.Needs.{needs}
 use Rattle.records.proofs.rules.records_ok.Statement.{statement}
 use Rattle.records.proofs.rules.records_ok.Tie as tie

@@ -1,4 +1,4 @@
-use Rattle.records.proofs.RuleLaws.{sizes-terms, sizes-cells, sizes-chars, sizes-reasons, sizes-is}
+use Rattle.records.proofs.Refines.RuleLaws.{sizes-terms, sizes-cells, sizes-chars, sizes-reasons, sizes-is}
 use borrow.Author.Needs.{needs}
 use Rattle.records.proofs.rules.sizes.Statement.{statement}
 use Rattle.records.proofs.rules.sizes.Tie as tie

@@ -2,8 +2,8 @@ use mathlib.Core.Path.{_∙_, sym}
 use borrow.Author.Tests.{eq-eqb}
 use Rattle.records.specs.View.{lent, storeOf}
 use Rattle.records.proofs.Views.{kind-at}
-use Rattle.records.proofs.TermLaws.{term-constant, term-variable, term-concat, term-length, term-equation, term-other, variable-of, concat-of, length-of, equation-of}
-use Rattle.records.proofs.NameLaws.{text-anywhere, passing-not, passing-other}
+use Rattle.records.proofs.Refines.TermLaws.{term-constant, term-variable, term-concat, term-length, term-equation, term-other, variable-of, concat-of, length-of, equation-of}
+use Rattle.records.proofs.Refines.NameLaws.{text-anywhere, passing-not, passing-other}
 use mathlib.Core.List.{[]}
 use native.Mathlib.Omega.{arith}
 use borrow.Author.Needs.{needs}

@@ -8,7 +8,7 @@ use Rattle.records.specs.View.{lent, storeOf, termAt}
 use Rattle.records.specs.Rules.{termRule}
 use Rattle.records.specs.Working.Hashes.{Tables}
 use Rattle.records.proofs.Lists.{within-is, below-zero, each-stop, each-turn, each-done}
-use Rattle.records.proofs.NameLaws.{tables-start}
+use Rattle.records.proofs.Refines.NameLaws.{tables-start}
 use mathlib.Core.List.{[]}
 use native.Mathlib.Omega.{arith}
 use borrow.Author.Needs.{needs}

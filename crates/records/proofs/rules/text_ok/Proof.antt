@@ -1,6 +1,6 @@
 use Rattle.records.proofs.Lists.{table-length}
 use Rattle.records.proofs.Views.{first-at, second-at}
-use Rattle.records.proofs.RuleLaws.{text-test}
+use Rattle.records.proofs.Refines.RuleLaws.{text-test}
 use borrow.Author.Needs.{needs}
 use Rattle.records.proofs.rules.text_ok.Statement.{statement}
 use Rattle.records.proofs.rules.text_ok.Tie as tie

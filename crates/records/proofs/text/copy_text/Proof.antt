@@ -1,5 +1,5 @@
-use Rattle.records.proofs.Joins.{moved-one, moved-all}
-use Rattle.records.proofs.Texts.{Copied, copied-none}
+use Rattle.records.proofs.Refines.JoinedTexts.{moved-one, moved-all}
+use Rattle.records.proofs.Refines.Texts.{Copied, copied-none}
 use Rattle.records.specs.View.{span}
 use Prim.Native.Nat.{_-_}
 use borrow.Author.Needs.{needs}

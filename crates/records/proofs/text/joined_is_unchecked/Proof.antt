@@ -1,4 +1,4 @@
-use Rattle.records.proofs.Joins.{Matched, matched-none, matched-one, matched-stop, matched-all, within-at}
+use Rattle.records.proofs.Refines.JoinedTexts.{Matched, matched-none, matched-one, matched-stop, matched-all, within-at}
 use lib.ListN.{length}
 use Prim.Native.Nat.{_-_}
 use native.Mathlib.Omega.{arith}

@@ -1,4 +1,4 @@
-use Rattle.records.proofs.Joins.{Summed, summed-none, summed-one, summed-all}
+use Rattle.records.proofs.Refines.JoinedTexts.{Summed, summed-none, summed-one, summed-all}
 use lib.ListN.{length}
 use Prim.Native.Nat.{_-_}
 use native.Mathlib.Omega.{arith}

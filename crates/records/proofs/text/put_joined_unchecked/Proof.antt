@@ -1,4 +1,4 @@
-use Rattle.records.proofs.Joins.{Joined, joined-none, joined-below, joined-room, joined-one, joined-all}
+use Rattle.records.proofs.Refines.JoinedTexts.{Joined, joined-none, joined-below, joined-room, joined-one, joined-all}
 use lib.ListN.{length}
 use Prim.Native.Nat.{_-_}
 use native.Mathlib.Omega.{arith}

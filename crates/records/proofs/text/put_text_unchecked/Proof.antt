@@ -1,4 +1,4 @@
-use Rattle.records.proofs.Texts.{Copied, copied-none, copied-one, copied-all}
+use Rattle.records.proofs.Refines.Texts.{Copied, copied-none, copied-one, copied-all}
 use mathlib.Core.Path.{refl}
 use lib.ListN.{length}
 use Prim.Native.Nat.{_-_}

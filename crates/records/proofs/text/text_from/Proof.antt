@@ -1,4 +1,4 @@
-use Rattle.records.proofs.Texts.{Agreed, agreed-none, agreed-one, agreed-all, disagree}
+use Rattle.records.proofs.Refines.Texts.{Agreed, agreed-none, agreed-one, agreed-all, disagree}
 use lib.ListN.{length}
 use Prim.Native.Nat.{_-_}
 use borrow.Author.Needs.{needs}

@@ -1,5 +1,5 @@
 use mathlib.Core.Path.{_∙_}
-use Rattle.records.proofs.NameLaws.{named-other, named-test, name-ends, name-part}
+use Rattle.records.proofs.Refines.NameLaws.{named-other, named-test, name-ends, name-part}
 use borrow.Author.Needs.{needs}
 use Rattle.records.proofs.unique.is_named.Statement.{statement}
 use Rattle.records.proofs.unique.is_named.Tie as tie

@@ -1,5 +1,5 @@
 use mathlib.Core.Path.{_∙_}
-use Rattle.records.proofs.NameLaws.{name-ends, hash-is}
+use Rattle.records.proofs.Refines.NameLaws.{name-ends, hash-is}
 use borrow.Author.Needs.{needs}
 use Rattle.records.proofs.unique.name_hash.Statement.{statement}
 use Rattle.records.proofs.unique.name_hash.Tie as tie

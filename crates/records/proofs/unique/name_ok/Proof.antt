@@ -1,6 +1,6 @@
 use mathlib.Core.List.{[]}
 use Rattle.records.specs.View.{lent, storeOf}
-use Rattle.records.proofs.NameLaws.{Walk, walk-start, walk-hashed, tables-room, walk-less, walk-turn, name-empty, name-taken, name-free}
+use Rattle.records.proofs.Refines.NameLaws.{Walk, walk-start, walk-hashed, tables-room, walk-less, walk-turn, name-empty, name-taken, name-free}
 use native.Mathlib.Omega.{arith}
 use borrow.Author.Needs.{needs}
 use Rattle.records.proofs.unique.name_ok.Statement.{statement}

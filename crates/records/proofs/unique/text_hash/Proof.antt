@@ -1,5 +1,5 @@
 use Prim.Native.Nat.{_+_}
-use Rattle.records.proofs.NameLaws.{hash-none, hash-turn, hash-done}
+use Rattle.records.proofs.Refines.NameLaws.{hash-none, hash-turn, hash-done}
 use Rattle.records.specs.Working.Hashes.{hashFrom}
 use Rattle.records.specs.View.{span}
 use Prim.Native.Nat.{_-_, _≤_, _<_}

@@ -1,7 +1,7 @@
 use mathlib.Core.Path.{sym, _∙_}
 use mathlib.Core.List.{[]}
 use Rattle.records.proofs.Lists.{and-stop, and-next, failed, passed}
-use Rattle.records.proofs.NameLaws.{variable-within, text-anywhere, tables-room, tables-keep, passing-not}
+use Rattle.records.proofs.Refines.NameLaws.{variable-within, text-anywhere, tables-room, tables-keep, passing-not}
 use borrow.Author.Needs.{needs}
 use Rattle.records.proofs.unique.variable_ok.Statement.{statement}
 use Rattle.records.proofs.unique.variable_ok.Tie as tie

@@ -1,4 +1,4 @@
-use Rattle.wordeq.proofs.Pairs.{ready-readable, pair-number, pair-alike, pair-apart, pair-arguments, pair-explained}
+use Rattle.wordeq.proofs.Refines.Pairs.{ready-readable, pair-number, pair-alike, pair-apart, pair-arguments, pair-explained}
 use borrow.Author.Needs.{needs}
 use Rattle.wordeq.proofs.equal_lists.explain_pair.Statement.{statement}
 use Rattle.wordeq.proofs.equal_lists.explain_pair.Tie as tie

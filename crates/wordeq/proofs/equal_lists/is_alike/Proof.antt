@@ -1,5 +1,5 @@
 use Rattle.records.specs.View.{readIn}
-use Rattle.wordeq.proofs.Pairs.{alike-not, alike-text}
+use Rattle.wordeq.proofs.Refines.Pairs.{alike-not, alike-text}
 use borrow.Author.Tests.{not-false}
 use mathlib.Core.Path.{sym, _∙_}
 use borrow.Author.Needs.{needs}

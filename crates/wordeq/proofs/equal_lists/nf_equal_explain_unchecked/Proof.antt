@@ -1,4 +1,4 @@
-use Rattle.wordeq.proofs.Pairs.{Pairing, pairing-none, pairing-end, pairing-pair, pairing-refused, pairing-turn}
+use Rattle.wordeq.proofs.Refines.Pairs.{Pairing, pairing-none, pairing-end, pairing-pair, pairing-refused, pairing-turn}
 use Prim.Native.Nat.{_-_, _≤_}
 use mathlib.Core.Path.{_≡_, refl}
 use lib.ListN.{length}

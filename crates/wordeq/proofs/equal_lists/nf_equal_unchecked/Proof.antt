@@ -1,6 +1,6 @@
 use Rattle.records.specs.View.{readIn}
-use Rattle.wordeq.proofs.Strips.{strings-pair}
-use Rattle.wordeq.proofs.Listed.{unequal-lengths, equal-stop, equal-turn, equal-end}
+use Rattle.wordeq.proofs.Refines.Stripping.{strings-pair}
+use Rattle.wordeq.proofs.Refines.Listed.{unequal-lengths, equal-stop, equal-turn, equal-end}
 use Rattle.wordeq.specs.Wordeq.{nfEqual}
 use lib.ListN.{length, drop}
 use Prim.Native.Nat.{_-_, _≤_}

@@ -1,6 +1,6 @@
 use lib.ListN.{length}
 use mathlib.Core.Path.{_≡_, refl}
-use Rattle.wordeq.proofs.ExplainingEach.{Citing, citing-none, citing-end, citing-pair, citing-class, citing-refused, citing-turn}
+use Rattle.wordeq.proofs.Refines.ExplainingEach.{Citing, citing-none, citing-end, citing-pair, citing-class, citing-refused, citing-turn}
 use Prim.Native.Nat.{_-_, _≤_}
 use native.Mathlib.Omega.{arith}
 use borrow.Author.Needs.{needs}

@@ -1,4 +1,4 @@
-use Rattle.wordeq.proofs.ExplainingEach.{atom-constant, atom-arguments, atom-explained}
+use Rattle.wordeq.proofs.Refines.ExplainingEach.{atom-constant, atom-arguments, atom-explained}
 use borrow.Author.Needs.{needs}
 use Rattle.wordeq.proofs.explaining.explain_atom.Statement.{statement}
 use Rattle.wordeq.proofs.explaining.explain_atom.Tie as tie

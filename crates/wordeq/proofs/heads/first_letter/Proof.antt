@@ -1,4 +1,4 @@
-use Rattle.wordeq.proofs.SplitHeads.{letter-first}
+use Rattle.wordeq.proofs.Refines.Heads.{letter-first}
 use borrow.Author.Needs.{needs}
 use Rattle.wordeq.proofs.heads.first_letter.Statement.{statement}
 use Rattle.wordeq.proofs.heads.first_letter.Tie as tie

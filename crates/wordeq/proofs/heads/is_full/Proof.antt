@@ -1,5 +1,5 @@
 use mathlib.Core.Path.{refl}
-use Rattle.wordeq.proofs.SplitHeads.{full-none, full-some}
+use Rattle.wordeq.proofs.Refines.Heads.{full-none, full-some}
 use borrow.Author.Needs.{needs}
 use Rattle.wordeq.proofs.heads.is_full.Statement.{statement}
 use Rattle.wordeq.proofs.heads.is_full.Tie as tie

@@ -1,4 +1,4 @@
-use Rattle.wordeq.proofs.SplitHeads.{opposite-fits, opposite-is}
+use Rattle.wordeq.proofs.Refines.Heads.{opposite-fits, opposite-is}
 use Rattle.wordeq.proofs.heads.negated.Statement.{statement}
 use Rattle.wordeq.proofs.heads.negated.Tie as tie
 

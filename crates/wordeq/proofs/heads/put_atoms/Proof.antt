@@ -1,5 +1,5 @@
 use mathlib.Core.Path.{sym, _∙_}
-use Rattle.wordeq.proofs.SplitHeads.{readIn-of, texts-of, full-at, first-char, atoms-right, atoms-left, atoms-heads}
+use Rattle.wordeq.proofs.Refines.Heads.{readIn-of, texts-of, full-at, first-char, atoms-right, atoms-left, atoms-heads}
 use native.Mathlib.Omega.{arith}
 use borrow.Author.Needs.{needs}
 use Rattle.wordeq.proofs.heads.put_atoms.Statement.{statement}

@@ -1,5 +1,5 @@
 use mathlib.Core.Path.{refl}
-use Rattle.wordeq.proofs.SplitHeads.{opposite-kept, new-ready, new-pair, new-done, new-stop, new-stop-2}
+use Rattle.wordeq.proofs.Refines.Heads.{opposite-kept, new-ready, new-pair, new-done, new-stop, new-stop-2}
 use borrow.Author.Needs.{needs}
 use Rattle.wordeq.proofs.heads.split_new.Statement.{statement}
 use Rattle.wordeq.proofs.heads.split_new.Tie as tie

@@ -5,7 +5,7 @@ use mir.Syntax.{w32}
 use Rattle.wordeq.specs.Wordeq.{isGuard}
 use Rattle.records.proofs.Lists.{or-left}
 use Rattle.records.specs.View.{lent}
-use Rattle.wordeq.proofs.SplitHeads.{readIn-of, left-none, right-none, heads-clash, heads-constant, heads-saturated, heads-new, pair-of, key-read}
+use Rattle.wordeq.proofs.Refines.Heads.{readIn-of, left-none, right-none, heads-clash, heads-constant, heads-saturated, heads-new, pair-of, key-read}
 use native.Mathlib.Omega.{arith}
 use borrow.Author.Needs.{needs}
 use Rattle.wordeq.proofs.heads.split_unchecked.Statement.{statement}

@@ -1,7 +1,7 @@
 use mathlib.Core.Path.{_∙_}
 use Prim.Native.Nat.{ℕ}
 use lib.ListN.{length-replicate}
-use Rattle.wordeq.proofs.LackingSides.{absent-not, absent-bare, absent-is}
+use Rattle.wordeq.proofs.Refines.LackingSides.{absent-not, absent-bare, absent-is}
 use borrow.Author.Needs.{needs}
 use Rattle.wordeq.proofs.lacking.absent.Statement.{statement}
 use Rattle.wordeq.proofs.lacking.absent.Tie as tie

@@ -1,4 +1,4 @@
-use Rattle.wordeq.proofs.LackingTries.{conflicts-1, conflicts-2, conflicts-3, conflicts-4, conflicts-5}
+use Rattle.wordeq.proofs.Refines.LackingTries.{conflicts-1, conflicts-2, conflicts-3, conflicts-4, conflicts-5}
 use Rattle.wordeq.proofs.lacking.constants.Statement.{statement}
 use Rattle.wordeq.proofs.lacking.constants.Tie as tie
 

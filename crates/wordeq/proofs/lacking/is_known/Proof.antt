@@ -1,4 +1,4 @@
-use Rattle.wordeq.proofs.LackingPlaces.{seen-here}
+use Rattle.wordeq.proofs.Refines.LackingPlaces.{seen-here}
 use borrow.Author.Needs.{needs}
 use Rattle.wordeq.proofs.lacking.is_known.Statement.{statement}
 use Rattle.wordeq.proofs.lacking.is_known.Tie as tie

@@ -1,4 +1,4 @@
-use Rattle.wordeq.proofs.LackingPlaces.{Unseen, unseen-none, unseen-stop, unseen-one, unseen-done}
+use Rattle.wordeq.proofs.Refines.LackingPlaces.{Unseen, unseen-none, unseen-stop, unseen-one, unseen-done}
 use Prim.Native.Nat.{_-_}
 use borrow.Author.Needs.{needs}
 use Rattle.wordeq.proofs.lacking.is_seen.Statement.{statement}

@@ -1,4 +1,4 @@
-use Rattle.wordeq.proofs.LackingSides.{lack-atom-none, lack-atom-is, text-fits}
+use Rattle.wordeq.proofs.Refines.LackingSides.{lack-atom-none, lack-atom-is, text-fits}
 use borrow.Author.Needs.{needs}
 use Rattle.wordeq.proofs.lacking.lacks_atom.Statement.{statement}
 use Rattle.wordeq.proofs.lacking.lacks_atom.Tie as tie

@@ -1,5 +1,5 @@
 use Rattle.records.specs.View.{readIn}
-use Rattle.wordeq.proofs.LackingSides.{Found, found-none, found-stop, found-one, found-done}
+use Rattle.wordeq.proofs.Refines.LackingSides.{Found, found-none, found-stop, found-one, found-done}
 use lib.ListN.{length}
 use mathlib.Core.Path.{_∙_}
 use Prim.Native.Nat.{_-_}

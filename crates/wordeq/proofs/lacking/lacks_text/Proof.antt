@@ -1,4 +1,4 @@
-use Rattle.wordeq.proofs.LackingSides.{Looked, looked-none, looked-stop, looked-one, looked-done}
+use Rattle.wordeq.proofs.Refines.LackingSides.{Looked, looked-none, looked-stop, looked-one, looked-done}
 use Prim.Native.Nat.{_-_}
 use borrow.Author.Needs.{needs}
 use Rattle.wordeq.proofs.lacking.lacks_text.Statement.{statement}

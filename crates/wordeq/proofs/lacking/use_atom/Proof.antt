@@ -1,4 +1,4 @@
-use Rattle.wordeq.proofs.LackingSides.{use-atom-none, use-atom-is, text-limit}
+use Rattle.wordeq.proofs.Refines.LackingSides.{use-atom-none, use-atom-is, text-limit}
 use borrow.Author.Needs.{needs}
 use Rattle.wordeq.proofs.lacking.use_atom.Statement.{statement}
 use Rattle.wordeq.proofs.lacking.use_atom.Tie as tie

@@ -1,4 +1,4 @@
-use Rattle.wordeq.proofs.LackingSides.{UsingSide, using-side-none, using-side-one, using-side-done}
+use Rattle.wordeq.proofs.Refines.LackingSides.{UsingSide, using-side-none, using-side-one, using-side-done}
 use lib.ListN.{length}
 use mathlib.Core.Path.{_∙_}
 use Prim.Native.Nat.{_-_}

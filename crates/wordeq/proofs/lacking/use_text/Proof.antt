@@ -1,4 +1,4 @@
-use Rattle.wordeq.proofs.LackingPlaces.{Using, using-none, using-one, using-done}
+use Rattle.wordeq.proofs.Refines.LackingPlaces.{Using, using-none, using-one, using-done}
 use Prim.Native.Nat.{_-_}
 use borrow.Author.Needs.{needs}
 use Rattle.wordeq.proofs.lacking.use_text.Statement.{statement}

@@ -1,4 +1,4 @@
-use Rattle.wordeq.proofs.LackingPlaces.{used-none, used-is}
+use Rattle.wordeq.proofs.Refines.LackingPlaces.{used-none, used-is}
 use borrow.Author.Needs.{needs}
 use Rattle.wordeq.proofs.lacking.used_at.Statement.{statement}
 use Rattle.wordeq.proofs.lacking.used_at.Tie as tie

@@ -1,7 +1,7 @@
 use Prim.Native.Nat.{_-_}
 use lib.ListN.{length}
 use Rattle.records.specs.View.{termed}
-use Rattle.wordeq.proofs.Elsewhere.{Fulls, fulls-none, fulls-turn, fulls-all}
+use Rattle.wordeq.proofs.Refines.Elsewhere.{Fulls, fulls-none, fulls-turn, fulls-all}
 use native.Mathlib.Omega.{arith}
 use borrow.Author.Needs.{needs}
 use Rattle.wordeq.proofs.occurring.count_full.Statement.{statement}

@@ -2,7 +2,7 @@ use Prim.Native.Nat.{_-_}
 use lib.ListN.{length}
 use Rattle.records.specs.View.{termed}
 use Rattle.records.proofs.Lists.{all-every, every-at}
-use Rattle.wordeq.proofs.Elsewhere.{Seeking, seeking-none, seeking-hit, seeking-turn, seeking-end}
+use Rattle.wordeq.proofs.Refines.Elsewhere.{Seeking, seeking-none, seeking-hit, seeking-turn, seeking-end}
 use borrow.Author.Needs.{needs}
 use Rattle.wordeq.proofs.occurring.find.Statement.{statement}
 use Rattle.wordeq.proofs.occurring.find.Tie as tie

@@ -1,6 +1,6 @@
 use mathlib.Core.Path.{refl}
 use Rattle.records.specs.View.{termed}
-use Rattle.wordeq.proofs.Elsewhere.{here-not, here-is}
+use Rattle.wordeq.proofs.Refines.Elsewhere.{here-not, here-is}
 use Rattle.wordeq.proofs.occurring.occurs_here.Statement.{statement}
 use Rattle.wordeq.proofs.occurring.occurs_here.Tie as tie
 

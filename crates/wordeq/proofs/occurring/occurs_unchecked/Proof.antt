@@ -1,7 +1,7 @@
 use mathlib.Core.Path.{refl, ap}
 use denote.Enum.Declared
 use Rattle.wordeq.proofs.StepResult
-use Rattle.wordeq.proofs.Lone.{not-done, first-answers, second-ready, second-lists, second-tries}
+use Rattle.wordeq.proofs.Refines.Lone.{not-done, first-answers, second-ready, second-lists, second-tries}
 use borrow.Author.Needs.{needs}
 use Rattle.wordeq.proofs.occurring.occurs_unchecked.Statement.{statement}
 use Rattle.wordeq.proofs.occurring.occurs_unchecked.Tie as tie

@@ -1,4 +1,4 @@
-use Rattle.wordeq.proofs.Elsewhere.{own-other, own-full, own-empty}
+use Rattle.wordeq.proofs.Refines.Elsewhere.{own-other, own-full, own-empty}
 use borrow.Author.Needs.{needs}
 use Rattle.wordeq.proofs.occurring.own_count.Statement.{statement}
 use Rattle.wordeq.proofs.occurring.own_count.Tie as tie

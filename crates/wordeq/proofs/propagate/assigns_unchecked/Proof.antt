@@ -1,4 +1,4 @@
-use Rattle.wordeq.proofs.Propagated.{side-fixed, assigned-done, assigned-stop}
+use Rattle.wordeq.proofs.Refines.Propagate.{side-fixed, assigned-done, assigned-stop}
 use Rattle.records.specs.View.{lent}
 use borrow.Author.Needs.{needs}
 use Rattle.wordeq.proofs.propagate.assigns_unchecked.Statement.{statement}

@@ -1,4 +1,4 @@
-use Rattle.wordeq.proofs.Propagated.{empties-able, empties-pairs, empties-done, empties-stop}
+use Rattle.wordeq.proofs.Refines.Propagate.{empties-able, empties-pairs, empties-done, empties-stop}
 use mathlib.Core.Path.{refl}
 use borrow.Author.Needs.{needs}
 use Rattle.wordeq.proofs.propagate.empties_unchecked.Statement.{statement}

@@ -1,5 +1,5 @@
 use Rattle.records.specs.View.{readIn}
-use Rattle.wordeq.proofs.Propagated.{aliased-left, aliased-right, aliased-first, aliased-last}
+use Rattle.wordeq.proofs.Refines.Propagate.{aliased-left, aliased-right, aliased-first, aliased-last}
 use borrow.Author.Needs.{needs}
 use Rattle.wordeq.proofs.propagate.is_alias.Statement.{statement}
 use Rattle.wordeq.proofs.propagate.is_alias.Tie as tie

@@ -1,5 +1,5 @@
 use Rattle.records.specs.View.{termed}
-use Rattle.wordeq.proofs.Propagated.{assigned-left, assigned-kind, assigned-last}
+use Rattle.wordeq.proofs.Refines.Propagate.{assigned-left, assigned-kind, assigned-last}
 use borrow.Author.Needs.{needs}
 use Rattle.wordeq.proofs.propagate.is_assigned.Statement.{statement}
 use Rattle.wordeq.proofs.propagate.is_assigned.Tie as tie

@@ -1,5 +1,5 @@
 use Rattle.records.specs.View.{termed}
-use Rattle.wordeq.proofs.Propagated.{emptied-left, emptied-short, emptied-last}
+use Rattle.wordeq.proofs.Refines.Propagate.{emptied-left, emptied-short, emptied-last}
 use borrow.Author.Needs.{needs}
 use Rattle.wordeq.proofs.propagate.is_emptied.Statement.{statement}
 use Rattle.wordeq.proofs.propagate.is_emptied.Tie as tie

@@ -1,5 +1,5 @@
 use Rattle.records.specs.View.{readIn}
-use Rattle.wordeq.proofs.Propagated.{linked-first, linked-turn, linked-none}
+use Rattle.wordeq.proofs.Refines.Propagate.{linked-first, linked-turn, linked-none}
 use Rattle.wordeq.specs.Wordeq.{same}
 use Rattle.records.proofs.Lists.{every-at}
 use Rattle.records.specs.Lists.{firstOf}

@@ -1,4 +1,4 @@
-use Rattle.wordeq.proofs.Propagating.{fixed-all, word-made}
+use Rattle.wordeq.proofs.Refines.PropagateMakes.{fixed-all, word-made}
 use borrow.Author.Needs.{needs}
 use Rattle.wordeq.proofs.propagate.side_word_unchecked.Statement.{statement}
 use Rattle.wordeq.proofs.propagate.side_word_unchecked.Tie as tie

@@ -1,5 +1,5 @@
 use Rattle.wordeq.specs.Working.Resolving.{closing}
-use Rattle.wordeq.proofs.ResolveCalls.{split-same}
+use Rattle.wordeq.proofs.Refines.ResolveCalls.{split-same}
 use Rattle.wordeq.specs.declared.StepResult.the-variants as step
 use Rattle.wordeq.specs.declared.StepResult.{StepResult}
 use Rattle.records.specs.declared.State.{State}

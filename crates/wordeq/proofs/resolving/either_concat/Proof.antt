@@ -1,5 +1,5 @@
 use Rattle.records.specs.View.{termed}
-use Rattle.wordeq.proofs.Flattening.{either-left, either-right}
+use Rattle.wordeq.proofs.Refines.Flattening.{either-left, either-right}
 use borrow.Author.Needs.{needs}
 use Rattle.wordeq.proofs.resolving.either_concat.Statement.{statement}
 use Rattle.wordeq.proofs.resolving.either_concat.Tie as tie

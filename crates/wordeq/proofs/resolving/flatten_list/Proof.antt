@@ -2,7 +2,7 @@ use lib.ListN.{length}
 use mathlib.Core.Path.{_≡_}
 use Prim.Native.Nat.{_-_, _≤_}
 use Rattle.normalize.specs.Working.Flat.{bare}
-use Rattle.wordeq.proofs.Flattening.{Flattening, flattening-end, flattening-turn, flattening-passes}
+use Rattle.wordeq.proofs.Refines.Flattening.{Flattening, flattening-end, flattening-turn, flattening-passes}
 use native.Mathlib.Omega.{arith}
 use borrow.Author.Needs.{needs}
 use Rattle.wordeq.proofs.resolving.flatten_list.Statement.{statement}

@@ -1,5 +1,5 @@
-use Rattle.wordeq.proofs.ResolveCalls.{resolve-closed}
-use Rattle.wordeq.proofs.Flattening.{guard-passed}
+use Rattle.wordeq.proofs.Refines.ResolveCalls.{resolve-closed}
+use Rattle.wordeq.proofs.Refines.Flattening.{guard-passed}
 use borrow.Author.Needs.{needs}
 use Rattle.wordeq.proofs.resolving.resolve_unchecked.Statement.{statement}
 use Rattle.wordeq.proofs.resolving.resolve_unchecked.Tie as tie

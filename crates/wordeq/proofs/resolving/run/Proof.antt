@@ -1,4 +1,4 @@
-use Rattle.wordeq.proofs.Flattening.{guard-passed, ran-flat, ran-plain}
+use Rattle.wordeq.proofs.Refines.Flattening.{guard-passed, ran-flat, ran-plain}
 use borrow.Author.Needs.{needs}
 use Rattle.wordeq.proofs.resolving.run.Statement.{statement}
 use Rattle.wordeq.proofs.resolving.run.Tie as tie

@@ -1,4 +1,4 @@
-use Rattle.wordeq.proofs.SidesLetters.{constant-left, constant-right, constant-none}
+use Rattle.wordeq.proofs.Refines.SideLetters.{constant-left, constant-right, constant-none}
 use borrow.Author.Needs.{needs}
 use Rattle.wordeq.proofs.sides.constant_side.Statement.{statement}
 use Rattle.wordeq.proofs.sides.constant_side.Tie as tie

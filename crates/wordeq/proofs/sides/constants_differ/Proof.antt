@@ -1,6 +1,6 @@
 use mathlib.Core.Path.{_∙_}
 use Rattle.records.proofs.Lists.{passed}
-use Rattle.wordeq.proofs.SidesTexts.{one-room, other-room, differ-is, differ-not}
+use Rattle.wordeq.proofs.Refines.SideTexts.{one-room, other-room, differ-is, differ-not}
 use native.Mathlib.Omega.{arith}
 use borrow.Author.Needs.{needs}
 use Rattle.wordeq.proofs.sides.constants_differ.Statement.{statement}

@@ -1,5 +1,5 @@
 use mathlib.Core.Path.{refl}
-use Rattle.wordeq.proofs.SidesTile.{ended-before, ended-after}
+use Rattle.wordeq.proofs.Refines.TileWalk.{ended-before, ended-after}
 use borrow.Author.Needs.{needs}
 use Rattle.wordeq.proofs.sides.ended.Statement.{statement}
 use Rattle.wordeq.proofs.sides.ended.Tie as tie

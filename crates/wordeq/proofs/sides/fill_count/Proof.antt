@@ -1,4 +1,4 @@
-use Rattle.wordeq.proofs.SidesTile.{count-variable, count-constant}
+use Rattle.wordeq.proofs.Refines.TileWalk.{count-variable, count-constant}
 use borrow.Author.Needs.{needs}
 use Rattle.wordeq.proofs.sides.fill_count.Statement.{statement}
 use Rattle.wordeq.proofs.sides.fill_count.Tie as tie

@@ -1,4 +1,4 @@
-use Rattle.wordeq.proofs.SidesTile.{source-variable, source-constant}
+use Rattle.wordeq.proofs.Refines.TileWalk.{source-variable, source-constant}
 use borrow.Author.Needs.{needs}
 use Rattle.wordeq.proofs.sides.fill_source.Statement.{statement}
 use Rattle.wordeq.proofs.sides.fill_source.Tie as tie

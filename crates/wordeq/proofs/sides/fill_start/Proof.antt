@@ -1,4 +1,4 @@
-use Rattle.wordeq.proofs.SidesTile.{start-variable, start-constant}
+use Rattle.wordeq.proofs.Refines.TileWalk.{start-variable, start-constant}
 use borrow.Author.Needs.{needs}
 use Rattle.wordeq.proofs.sides.fill_start.Statement.{statement}
 use Rattle.wordeq.proofs.sides.fill_start.Tie as tie

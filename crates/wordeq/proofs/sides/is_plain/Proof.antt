@@ -1,5 +1,5 @@
 use mathlib.Core.Path.{refl}
-use Rattle.wordeq.proofs.SidesTexts.{plain-kind, plain-short, plain-is}
+use Rattle.wordeq.proofs.Refines.SideTexts.{plain-kind, plain-short, plain-is}
 use borrow.Author.Needs.{needs}
 use Rattle.wordeq.proofs.sides.is_plain.Statement.{statement}
 use Rattle.wordeq.proofs.sides.is_plain.Tie as tie

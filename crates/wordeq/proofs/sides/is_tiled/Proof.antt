@@ -2,7 +2,7 @@ use mathlib.Core.Logic.{⊎-elim}
 use Prim.Native.Nat.{_-_}
 use mathlib.Core.Path.{refl}
 use lib.ListN.{length}
-use Rattle.wordeq.proofs.SidesTile.{Walked, walked-none, Filling, filling-start, filling-one, filling-end, filling-differs, word-limit, source-limit, tiled-end, tiled-break}
+use Rattle.wordeq.proofs.Refines.TileWalk.{Walked, walked-none, Filling, filling-start, filling-one, filling-end, filling-differs, word-limit, source-limit, tiled-end, tiled-break}
 use borrow.Author.Needs.{needs}
 use Rattle.wordeq.proofs.sides.is_tiled.Statement.{statement}
 use Rattle.wordeq.proofs.sides.is_tiled.Tie as tie

@@ -1,5 +1,5 @@
-use Rattle.wordeq.proofs.SidesWalk.{place-limit}
-use Rattle.wordeq.proofs.SidesWalk.{letter-is}
+use Rattle.wordeq.proofs.Refines.SideWalk.{place-limit}
+use Rattle.wordeq.proofs.Refines.SideWalk.{letter-is}
 use native.Mathlib.Omega.{arith}
 use borrow.Author.Needs.{needs}
 use Rattle.wordeq.proofs.sides.letter.Statement.{statement}

@@ -1,4 +1,4 @@
-use Rattle.wordeq.proofs.SidesLetters.{count-none, count-some}
+use Rattle.wordeq.proofs.Refines.SideLetters.{count-none, count-some}
 use borrow.Author.Needs.{needs}
 use Rattle.wordeq.proofs.sides.letter_count.Statement.{statement}
 use Rattle.wordeq.proofs.sides.letter_count.Tie as tie

@@ -1,7 +1,7 @@
 use Prim.Native.Nat.{_-_}
 use lib.ListN.{length}
 use Rattle.records.specs.View.{termed}
-use Rattle.wordeq.proofs.SidesLetters.{Counted, counted-none, counted-one, counted-all}
+use Rattle.wordeq.proofs.Refines.SideLetters.{Counted, counted-none, counted-one, counted-all}
 use native.Mathlib.Omega.{arith}
 use borrow.Author.Needs.{needs}
 use Rattle.wordeq.proofs.sides.letters_length.Statement.{statement}

@@ -1,4 +1,4 @@
-use Rattle.wordeq.proofs.SidesLetters.{other-left, other-right, other-none}
+use Rattle.wordeq.proofs.Refines.SideLetters.{other-left, other-right, other-none}
 use borrow.Author.Needs.{needs}
 use Rattle.wordeq.proofs.sides.other_side.Statement.{statement}
 use Rattle.wordeq.proofs.sides.other_side.Tie as tie

@@ -1,7 +1,7 @@
 use Rattle.records.specs.View.{readIn}
 use Rattle.wordeq.specs.Working.Sides.{rest}
 use mathlib.Core.Path.{refl}
-use Rattle.wordeq.proofs.SidesWalk.{heads-left, heads-right, heads-both}
+use Rattle.wordeq.proofs.Refines.SideWalk.{heads-left, heads-right, heads-both}
 use borrow.Author.Needs.{needs}
 use Rattle.wordeq.proofs.sides.same_letter.Statement.{statement}
 use Rattle.wordeq.proofs.sides.same_letter.Tie as tie

@@ -1,6 +1,6 @@
 use Prim.Native.Nat.{_-_}
 use lib.ListN.{length}
-use Rattle.wordeq.proofs.SidesWalk.{Onward, onward-none, onward-here, onward-atom, onward-end}
+use Rattle.wordeq.proofs.Refines.SideWalk.{Onward, onward-none, onward-here, onward-atom, onward-end}
 use borrow.Author.Needs.{needs}
 use Rattle.wordeq.proofs.sides.settle.Statement.{statement}
 use Rattle.wordeq.proofs.sides.settle.Tie as tie

@@ -1,5 +1,5 @@
 use mathlib.Core.Path.{refl}
-use Rattle.wordeq.proofs.SidesLetters.{short-not, short-is}
+use Rattle.wordeq.proofs.Refines.SideLetters.{short-not, short-is}
 use borrow.Author.Needs.{needs}
 use Rattle.wordeq.proofs.sides.short.Statement.{statement}
 use Rattle.wordeq.proofs.sides.short.Tie as tie

@@ -1,5 +1,5 @@
 use Prim.Native.Nat.{_-_}
-use Rattle.wordeq.proofs.SidesTexts.{Alike, alike-none, alike-short, alike-differ, alike-one, alike-all}
+use Rattle.wordeq.proofs.Refines.SideTexts.{Alike, alike-none, alike-short, alike-differ, alike-one, alike-all}
 use borrow.Author.Needs.{needs}
 use Rattle.wordeq.proofs.sides.spans_differ.Statement.{statement}
 use Rattle.wordeq.proofs.sides.spans_differ.Tie as tie

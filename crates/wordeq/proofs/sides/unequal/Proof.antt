@@ -1,4 +1,4 @@
-use Rattle.wordeq.proofs.SidesUnequal.{unequal-left, unequal-right, unequal-is}
+use Rattle.wordeq.proofs.Refines.SideUnequal.{unequal-left, unequal-right, unequal-is}
 use native.Mathlib.Omega.{arith}
 use borrow.Author.Needs.{needs}
 use Rattle.wordeq.proofs.sides.unequal.Statement.{statement}

@@ -1,7 +1,7 @@
 use Rattle.records.specs.View.{readIn}
 use Rattle.records.proofs.Lists.{failed, passed}
 use Rattle.records.proofs.Loops.{all-stop, all-turn, all-done}
-use Rattle.wordeq.proofs.Fitting.{pair-at}
+use Rattle.wordeq.proofs.Refines.Fitting.{pair-at}
 use Prim.Native.Nat.{_-_, _≤_}
 use mathlib.Core.Path.{_≡_, refl}
 use lib.ListN.{length, drop}

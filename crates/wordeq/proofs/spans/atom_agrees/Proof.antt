@@ -1,5 +1,5 @@
 use Rattle.records.specs.View.{readIn}
-use Rattle.wordeq.proofs.Fitting.{agrees-constant, agrees-other}
+use Rattle.wordeq.proofs.Refines.Fitting.{agrees-constant, agrees-other}
 use borrow.Author.Needs.{needs}
 use Rattle.wordeq.proofs.spans.atom_agrees.Statement.{statement}
 use Rattle.wordeq.proofs.spans.atom_agrees.Tie as tie

@@ -1,5 +1,5 @@
 use Rattle.records.specs.View.{termed}
-use Rattle.wordeq.proofs.Fitting.{first-start, first-here, first-turn, first-none}
+use Rattle.wordeq.proofs.Refines.Fitting.{first-start, first-here, first-turn, first-none}
 use Prim.Native.Nat.{_-_, _≤_}
 use mathlib.Core.Path.{_≡_}
 use mathlib.Core.Bool.{true}

@@ -1,4 +1,4 @@
-use Rattle.wordeq.proofs.Fitting.{fits-over, fits-uneven, span-there, fits-tiled}
+use Rattle.wordeq.proofs.Refines.Fitting.{fits-over, fits-uneven, span-there, fits-tiled}
 use borrow.Author.Needs.{needs}
 use Rattle.wordeq.proofs.spans.fits.Statement.{statement}
 use Rattle.wordeq.proofs.spans.fits.Tie as tie

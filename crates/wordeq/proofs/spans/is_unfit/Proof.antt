@@ -1,5 +1,5 @@
 use Rattle.records.specs.View.{readIn, termed}
-use Rattle.wordeq.proofs.TileSides.{list-string, after-strings, after-short, readable-readIn, unfit-apart, unfit-is}
+use Rattle.wordeq.proofs.Refines.TileCalls.{list-string, after-strings, after-short, readable-readIn, unfit-apart, unfit-is}
 use Rattle.records.proofs.ListLaws.{list-short}
 use native.Mathlib.Omega.{arith}
 use borrow.Author.Needs.{needs}

@@ -1,4 +1,4 @@
-use Rattle.wordeq.proofs.TileSides.{tile-none, tile-fits, tile-pairs, tile-classes, tile-conflict, tile-refused}
+use Rattle.wordeq.proofs.Refines.TileCalls.{tile-none, tile-fits, tile-pairs, tile-classes, tile-conflict, tile-refused}
 use Rattle.records.proofs.ListLaws.{list-short}
 use Rattle.records.specs.View.{lent, storeOf}
 use borrow.Author.Needs.{needs}

@@ -1,4 +1,4 @@
-use Rattle.wordeq.proofs.TileSides.{sides-lists, sides-tried}
+use Rattle.wordeq.proofs.Refines.TileCalls.{sides-lists, sides-tried}
 use Rattle.records.specs.View.{lent}
 use borrow.Author.Needs.{needs}
 use Rattle.wordeq.proofs.spans.tile_unchecked.Statement.{statement}

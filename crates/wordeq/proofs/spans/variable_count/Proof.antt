@@ -1,5 +1,5 @@
 use Rattle.records.specs.View.{termed}
-use Rattle.wordeq.proofs.Fitting.{count-no, count-one}
+use Rattle.wordeq.proofs.Refines.Fitting.{count-no, count-one}
 use borrow.Author.Needs.{needs}
 use Rattle.wordeq.proofs.spans.variable_count.Statement.{statement}
 use Rattle.wordeq.proofs.spans.variable_count.Tie as tie

@@ -1,7 +1,7 @@
 use Prim.Native.Nat.{_-_}
 use lib.ListN.{length}
 use Rattle.records.specs.View.{termed}
-use Rattle.wordeq.proofs.Fitting.{Tallied, tallied-none, tallied-one, tallied-all}
+use Rattle.wordeq.proofs.Refines.Fitting.{Tallied, tallied-none, tallied-one, tallied-all}
 use native.Mathlib.Omega.{arith}
 use borrow.Author.Needs.{needs}
 use Rattle.wordeq.proofs.spans.variables_length.Statement.{statement}

@@ -1,4 +1,4 @@
-use Rattle.wordeq.proofs.Splitting.{character-ready, character-string, character-done, character-stop}
+use Rattle.wordeq.proofs.Refines.SplitAtoms.{character-ready, character-string, character-done, character-stop}
 use mathlib.Core.Path.{refl}
 use borrow.Author.Needs.{needs}
 use Rattle.wordeq.proofs.splits.character_unchecked.Statement.{statement}

@@ -1,4 +1,4 @@
-use Rattle.wordeq.proofs.Splitting.{empty-ready, empty-done, empty-stop}
+use Rattle.wordeq.proofs.Refines.SplitAtoms.{empty-ready, empty-done, empty-stop}
 use mathlib.Core.Path.{refl}
 use borrow.Author.Needs.{needs}
 use Rattle.wordeq.proofs.splits.empty_unchecked.Statement.{statement}

@@ -1,4 +1,4 @@
-use Rattle.wordeq.proofs.Splitting.{named-stop, named-ready, named-new, named-then}
+use Rattle.wordeq.proofs.Refines.SplitAtoms.{named-stop, named-ready, named-new, named-then}
 use borrow.Author.Needs.{needs}
 use Rattle.wordeq.proofs.splits.fresh_str_unchecked.Statement.{statement}
 use Rattle.wordeq.proofs.splits.fresh_str_unchecked.Tie as tie

@@ -1,4 +1,4 @@
-use Rattle.wordeq.proofs.Splitting.{lengths-ready, lengths-ready-2, lengths-done, lengths-stop, lengths-stop-2}
+use Rattle.wordeq.proofs.Refines.SplitAtoms.{lengths-ready, lengths-ready-2, lengths-done, lengths-stop, lengths-stop-2}
 use mathlib.Core.Path.{refl}
 use borrow.Author.Needs.{needs}
 use Rattle.wordeq.proofs.splits.lengths_unchecked.Statement.{statement}

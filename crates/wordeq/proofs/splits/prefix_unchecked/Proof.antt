@@ -1,4 +1,4 @@
-use Rattle.wordeq.proofs.Splitting.{prefix-ready, prefix-ready-2, prefix-done, prefix-stop, prefix-stop-2}
+use Rattle.wordeq.proofs.Refines.SplitAtoms.{prefix-ready, prefix-ready-2, prefix-done, prefix-stop, prefix-stop-2}
 use mathlib.Core.Path.{refl, _∙_}
 use borrow.Author.Needs.{needs}
 use Rattle.wordeq.proofs.splits.prefix_unchecked.Statement.{statement}

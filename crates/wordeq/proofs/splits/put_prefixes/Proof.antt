@@ -1,4 +1,4 @@
-use Rattle.wordeq.proofs.Splitting.{prefixes-ready, prefixes-string, prefixes-done, prefixes-stop, prefixes-stop-2}
+use Rattle.wordeq.proofs.Refines.SplitAtoms.{prefixes-ready, prefixes-string, prefixes-done, prefixes-stop, prefixes-stop-2}
 use lib.ListN.{length-set}
 use native.Mathlib.Omega.{arith}
 use borrow.Author.Needs.{needs}

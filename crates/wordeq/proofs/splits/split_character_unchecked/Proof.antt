@@ -1,4 +1,4 @@
-use Rattle.wordeq.proofs.Splitting.{characters-ready, characters-done, characters-stop, characters-stop-2}
+use Rattle.wordeq.proofs.Refines.SplitAtoms.{characters-ready, characters-done, characters-stop, characters-stop-2}
 use lib.ListN.{length-set}
 use mathlib.Core.Path.{refl}
 use native.Mathlib.Omega.{arith}

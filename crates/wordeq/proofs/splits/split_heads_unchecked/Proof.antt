@@ -1,4 +1,4 @@
-use Rattle.wordeq.proofs.Splitting.{heads-ready, heads-string, heads-string-2, heads-done, heads-stop}
+use Rattle.wordeq.proofs.Refines.SplitAtoms.{heads-ready, heads-string, heads-string-2, heads-done, heads-stop}
 use mathlib.Core.Path.{refl}
 use borrow.Author.Needs.{needs}
 use Rattle.wordeq.proofs.splits.split_heads_unchecked.Statement.{statement}

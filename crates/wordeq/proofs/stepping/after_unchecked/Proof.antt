@@ -1,8 +1,8 @@
 use mathlib.Core.Path.{refl, ap, _∙_}
 use Rattle.wordeq.specs.Wordeq.{isGuard}
 use mir.Facts.{toZ-ofZ}
-use Rattle.wordeq.proofs.Steps.{after-early, after-known, after-tiled, after-split}
-use Rattle.wordeq.proofs.Trying.{lined, passed-on, conflicts-goes, propagates-goes, tiles-goes, last-of}
+use Rattle.wordeq.proofs.Refines.Steps.{after-early, after-known, after-tiled, after-split}
+use Rattle.wordeq.proofs.Refines.Trying.{lined, passed-on, conflicts-goes, propagates-goes, tiles-goes, last-of}
 use borrow.Author.Needs.{needs}
 use Rattle.wordeq.proofs.stepping.after_unchecked.Statement.{statement}
 use Rattle.wordeq.proofs.stepping.after_unchecked.Tie as tie

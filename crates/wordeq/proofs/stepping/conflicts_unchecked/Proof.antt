@@ -1,6 +1,6 @@
 use mathlib.Core.Path.{refl}
-use Rattle.wordeq.proofs.Steps.{lined-readIn, conflicts-found, conflicts-none}
-use Rattle.wordeq.proofs.Trying.{lined, passed-on, occurs-goes, last-of, else-last}
+use Rattle.wordeq.proofs.Refines.Steps.{lined-readIn, conflicts-found, conflicts-none}
+use Rattle.wordeq.proofs.Refines.Trying.{lined, passed-on, occurs-goes, last-of, else-last}
 use Rattle.wordeq.specs.Wordeq.{constants}
 use borrow.Author.Needs.{needs}
 use Rattle.wordeq.proofs.stepping.conflicts_unchecked.Statement.{statement}

@@ -1,4 +1,4 @@
-use Rattle.wordeq.proofs.Steps.{not-bare, bare-right}
+use Rattle.wordeq.proofs.Refines.Steps.{not-bare, bare-right}
 use Rattle.wordeq.proofs.stepping.is_bare.Statement.{statement}
 use Rattle.wordeq.proofs.stepping.is_bare.Tie as tie
 

@@ -1,4 +1,4 @@
-use Rattle.wordeq.proofs.Alike.{both-other, both-last}
+use Rattle.wordeq.proofs.Refines.Alike.{both-other, both-last}
 use borrow.Author.Needs.{needs}
 use Rattle.wordeq.proofs.stripping.both_constant.Statement.{statement}
 use Rattle.wordeq.proofs.stripping.both_constant.Tie as tie

@@ -1,7 +1,7 @@
 use Prim.Native.Nat.{_-_, _≤_}
 use lib.ListN.{drop}
 use Rattle.records.specs.View.{readIn}
-use Rattle.wordeq.proofs.Strips.{strings-pair, drop-head, Counted, counted-none, count-stop, count-turn, below-left, below-right, heads-all}
+use Rattle.wordeq.proofs.Refines.Stripping.{strings-pair, drop-head, Counted, counted-none, count-stop, count-turn, below-left, below-right, heads-all}
 use native.Mathlib.Omega.{arith}
 use borrow.Author.Needs.{needs}
 use Rattle.wordeq.proofs.stripping.count_heads.Statement.{statement}

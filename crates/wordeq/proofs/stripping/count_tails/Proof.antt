@@ -2,7 +2,7 @@ use Prim.Native.Nat.{_-_, _≤_}
 use mathlib.Core.Path.{ap, _∙_}
 use lib.ListN.{length}
 use Rattle.records.specs.View.{readIn}
-use Rattle.wordeq.proofs.Strips.{strings-pair, tail, tail-head, Counted, counted-none, count-stop, count-turn, below-tails, last-below, tails-are, tails-all}
+use Rattle.wordeq.proofs.Refines.Stripping.{strings-pair, tail, tail-head, Counted, counted-none, count-stop, count-turn, below-tails, last-below, tails-are, tails-all}
 use native.Mathlib.Omega.{arith}
 use borrow.Author.Needs.{needs}
 use Rattle.wordeq.proofs.stripping.count_tails.Statement.{statement}

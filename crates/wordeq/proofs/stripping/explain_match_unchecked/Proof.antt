@@ -1,4 +1,4 @@
-use Rattle.wordeq.proofs.Strips.{match-number, match-constants, match-arguments, match-explained}
+use Rattle.wordeq.proofs.Refines.Stripping.{match-number, match-constants, match-arguments, match-explained}
 use borrow.Author.Needs.{needs}
 use Rattle.wordeq.proofs.stripping.explain_match_unchecked.Statement.{statement}
 use Rattle.wordeq.proofs.stripping.explain_match_unchecked.Tie as tie

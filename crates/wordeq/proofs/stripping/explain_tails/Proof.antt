@@ -2,7 +2,7 @@ use mathlib.Core.Path.{_≡_, refl}
 use Prim.Native.Nat.{_-_, _≤_}
 use lib.ListN.{length}
 use Rattle.records.specs.View.{readIn}
-use Rattle.wordeq.proofs.Strips.{pair-of, tail, tail-head, Matching, matching-none, matching-end, matching-same, matching-refused, matching-turn, last-below, tails-within, tails-total, tails-explained}
+use Rattle.wordeq.proofs.Refines.Stripping.{pair-of, tail, tail-head, Matching, matching-none, matching-end, matching-same, matching-refused, matching-turn, last-below, tails-within, tails-total, tails-explained}
 use native.Mathlib.Omega.{arith}
 use borrow.Author.Needs.{needs}
 use Rattle.wordeq.proofs.stripping.explain_tails.Statement.{statement}

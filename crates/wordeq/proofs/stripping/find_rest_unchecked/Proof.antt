@@ -1,5 +1,5 @@
 use Rattle.records.specs.View.{readIn}
-use Rattle.wordeq.proofs.Strips.{heads-least, tails-least, found}
+use Rattle.wordeq.proofs.Refines.Stripping.{heads-least, tails-least, found}
 use native.Mathlib.Omega.{arith}
 use borrow.Author.Needs.{needs}
 use Rattle.wordeq.proofs.stripping.find_rest_unchecked.Statement.{statement}

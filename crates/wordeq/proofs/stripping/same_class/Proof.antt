@@ -1,4 +1,4 @@
-use Rattle.wordeq.proofs.Alike.{string-within, roots-closed, classes-compared}
+use Rattle.wordeq.proofs.Refines.Alike.{string-within, roots-closed, classes-compared}
 use Rattle.wordeq.proofs.stripping.same_class.Statement.{statement}
 use Rattle.wordeq.proofs.stripping.same_class.Tie as tie
 

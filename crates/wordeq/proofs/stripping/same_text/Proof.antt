@@ -1,4 +1,4 @@
-use Rattle.wordeq.proofs.Alike.{texts-apart, text-inside, texts-compared}
+use Rattle.wordeq.proofs.Refines.Alike.{texts-apart, text-inside, texts-compared}
 use borrow.Author.Needs.{needs}
 use Rattle.wordeq.proofs.stripping.same_text.Statement.{statement}
 use Rattle.wordeq.proofs.stripping.same_text.Tie as tie

@@ -1,4 +1,4 @@
-use Rattle.wordeq.proofs.Alike.{same-number, same-constants, same-classes}
+use Rattle.wordeq.proofs.Refines.Alike.{same-number, same-constants, same-classes}
 use mathlib.Core.Path.{sym, _∙_}
 use borrow.Author.Needs.{needs}
 use Rattle.wordeq.proofs.stripping.same_unchecked.Statement.{statement}

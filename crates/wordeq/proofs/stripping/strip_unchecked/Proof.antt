@@ -1,5 +1,5 @@
-use Rattle.wordeq.proofs.Strips.{strip-refused, strip-parts}
-use Rattle.wordeq.proofs.Pairs.{ready-readable}
+use Rattle.wordeq.proofs.Refines.Stripping.{strip-refused, strip-parts}
+use Rattle.wordeq.proofs.Refines.Pairs.{ready-readable}
 use native.Mathlib.Omega.{arith}
 use borrow.Author.Needs.{needs}
 use Rattle.wordeq.proofs.stripping.strip_unchecked.Statement.{statement}

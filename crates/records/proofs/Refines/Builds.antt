@@ -1,0 +1,285 @@
+-- Making concatenations, lengths and equations.
+use mathlib.Core.Path.{_≡_, refl, sym, ap, subst, _∙_}
+use mathlib.Core.Bool.{Bool, true, false, not, _&&_}
+use mathlib.Core.List.{List, [], _∷_}
+use mathlib.Core.Logic.{_⊎_, inl, inr}
+use Prim.Native.Nat.{ℕ, suc, _+_, _-_, _<_, _≤_, min, max}
+use native.Mathlib.Numerals.{add-one}
+use native.Mathlib.Omega.{arith}
+use lib.ListN.{length, getD, drop, drop-of-length-le}
+use lib.Seq.{drop-cons}
+use lib.Dec.{eqb, ltb, leb}
+use borrow.Author.Tests.{not-true, not-false, eqb-true, eq-eqb, ne-eqb}
+use Rattle.records.specs.Lists.{sameWord, firsts, firstBelow, Every}
+use Rattle.records.specs.declared.State.{State}
+use Rattle.records.specs.declared.Made.the-variants.{Term, Refused}
+use Rattle.records.specs.Store.{Term as Record, Cell, Store, Out, ok, stop, Work, term, kind, count, within, chainIn}
+use Rattle.records.specs.View.{Lent, lent, storeOf, termWords, cellWords, termLimit, cellLimit, termRoom, cellRoom, termAt, cellAt, cellsView, oneTerm, moreCells}
+use Rattle.records.specs.Make.{lookup, lowest, addChain, addTerm, concatOf, makeConcat, lengthOf, equationOf, makeLength, makeEquation}
+use Rattle.records.specs.Working.Leaves.{numberOf, Passed, appendParts, hasParts, sidesOf, hasSides, makeSides}
+use Rattle.records.specs.Working.Puts.{TermPut, ChainPut}
+use Rattle.records.specs.Working.Audited.{Ready, Sized, Recorded, Ascends}
+use Rattle.records.specs.Calls.{Working, made}
+use Rattle.records.proofs.Lists.{left-false, right-false, both-left, both-right, decide, within-low, within-high, table-length, first-same, word-is, every-at, firsts-length, every-firsts}
+use Rattle.records.proofs.Views.{term-is, cell-is}
+use Rattle.records.proofs.Chains.{chain-none, chain-is}
+use Rattle.records.proofs.Refines.Making.{passed-up-to, lowest-old, lowest-new}
+use Rattle.records.proofs.Refines.Rooms.{term-limit, term-room, cells-limit, cells-room}
+
+-- ONE TERM MORE
+
+-- what a test of terms that passed says, of counts with as many terms too
+module _ (t : List ℕ) (n : ℕ) (g : Bool) (term-here : g ≡ ltb n (termRoom t)) (p : not g ≡ false) where
+  pub one-limit : n < termLimit
+  one-limit = term-limit t n (sym term-here ∙ not-false g p)
+
+  pub one-words : termWords (n + 1) ≤ length t
+  one-words = term-room t n (sym term-here ∙ not-false g p)
+
+  pub one-later : (c d : State) (k : ℕ) → d ≡ moreCells c k → c .terms ≡ n → d .terms < termLimit
+  one-later c d k e f = let h = one-limit in let q : d .terms ≡ c .terms = ap (λ (x : State). x .terms) e in omega arith
+
+module _ (t e h r ks : List ℕ) (c : State) (k a b : ℕ) (fits : Bool) (room : fits ≡ ltb (c .terms) (termRoom t)) where
+  pub term-added : (t′ : List ℕ) → TermPut t t′ (c .terms) k a b → length t′ ≡ length t → fits ≡ true
+      → addTerm k a b (storeOf (lent t e h r ks) c) ≡ ok (storeOf (lent t′ e h r ks) (oneTerm c)) (c .terms + 1)
+  unfolding addTerm
+  term-added t′ p n f =
+      rw (table-length (λ i. termAt t (suc i)) (c .terms), ← room, f, n, add-one (c .terms), p .grown, p .zero)
+
+  pub term-refused : fits ≡ false → addTerm k a b (storeOf (lent t e h r ks) c) ≡ stop 8
+  unfolding addTerm
+  term-refused f = rw (table-length (λ i. termAt t (suc i)) (c .terms), ← room, f)
+
+-- LENGTHS AND EQUATIONS
+
+module _ (l : List ℕ) (k a b t x : ℕ) (ex : x ≡ termAt l t .kind) where
+  pub sides-kind : (x ≡ k → ⊥) → false ≡ hasSides l k a b t
+  unfolding hasSides
+  sides-kind d = sym (left-false _ (eqb (termAt l t .second) b) (left-false _ (eqb (termAt l t .first) a) (ne-eqb (termAt l t .kind) k (λ e. d (ex ∙ e)))))
+
+  module _ (y : ℕ) (ey : y ≡ termAt l t .first) where
+    pub sides-first : (y ≡ a → ⊥) → false ≡ hasSides l k a b t
+    unfolding hasSides
+    sides-first d = sym (left-false _ (eqb (termAt l t .second) b) (right-false (eqb (termAt l t .kind) k) _ (ne-eqb (termAt l t .first) a (λ e. d (ey ∙ e)))))
+
+    pub sides-second : (z : ℕ) → x ≡ k → y ≡ a → z ≡ termAt l t .second → eqb z b ≡ hasSides l k a b t
+    unfolding hasSides
+    sides-second z e f g =
+        let p : eqb (termAt l t .kind) k ≡ true = eq-eqb _ _ (sym ex ∙ e) in
+        let q : eqb (termAt l t .first) a ≡ true = eq-eqb _ _ (sym ey ∙ f) in
+        rw (p, q, g)
+
+module _ (m : Lent) (c : State) where
+  sides-found : (k a b : ℕ) → firstBelow (λ i. hasSides (m .terms) k a b (suc i)) (c .terms) ≡ lookup (sidesOf k a b) (storeOf m c)
+  unfolding lookup hasSides sidesOf
+  sides-found k a b =
+      rw (table-length (λ i. termAt (m .terms) (suc i)) (c .terms))
+      (first-same (λ i. hasSides (m .terms) k a b (suc i)) (λ i. sidesOf k a b (storeOf m c) (suc i)) (c .terms) (λ i h.
+      ap (λ (y : Record). eqb (y .kind) k && eqb (y .first) a && eqb (y .second) b) (sym (term-is (m .terms) (c .terms) (suc i) (omega arith) h))))
+
+-- a length's or an equation's sides are below it
+sides-lower : (s : Store) → Recorded s → (k t : ℕ) → (k ≡ 4) ⊎ (k ≡ 5) → kind s t ≡ k → (term s t .first < t) × (term s t .second < t)
+sides-lower s good k t (inl e) q = let f = good .lengthLower t (q ∙ e) in let z = good .lengthSecond t (q ∙ e) in (f, omega arith)
+sides-lower s good k t (inr e) q = (good .equationFirst t (q ∙ e), good .equationSecond t (q ∙ e))
+
+pub sides-from : (m : Lent) (c : State) (k a b x r : ℕ) → Ready m c → (k ≡ 4) ⊎ (k ≡ 5) → x ≡ max a b → r ≡ min (c .terms) x → Passed (hasSides (m .terms) k a b) (c .terms) r
+unfolding hasSides
+sides-from m c k a b x r good two e f = passed-up-to (hasSides (m .terms) k a b) (c .terms) x r f (λ i h l q.
+    let is = term-is (m .terms) (c .terms) (suc i) (omega arith) h in
+    let y = both-left _ _ q in
+    let low = sides-lower (storeOf m c) (good .audited .recorded) k (suc i) two (ap (λ (z : Record). z .kind) is ∙ eqb-true _ _ (both-left _ _ y)) in
+    let p : term (storeOf m c) (suc i) .first ≡ a = ap (λ (z : Record). z .first) is ∙ eqb-true _ _ (both-right (eqb (termAt (m .terms) (suc i) .kind) k) _ y) in
+    let g : term (storeOf m c) (suc i) .second ≡ b = ap (λ (z : Record). z .second) is ∙ eqb-true _ _ (both-right (eqb (termAt (m .terms) (suc i) .kind) k && eqb (termAt (m .terms) (suc i) .first) a) _ q) in
+    let n₁ = low .0 in
+    let n₂ = low .1 in
+    omega arith)
+
+module _ (t e h r ks : List ℕ) (c : State) (k a b : ℕ) (u : ℕ) (look : u ≡ numberOf (firstBelow (λ i. hasSides t k a b (suc i)) (c .terms))) where
+  looked : u ≡ numberOf (lookup (sidesOf k a b) (storeOf (lent t e h r ks) c))
+  looked = look ∙ ap numberOf (sides-found (lent t e h r ks) c k a b)
+
+  pub sides-old : (u ≡ 0 → ⊥) → Working (makeSides k a b) (lent t e h r ks) (lent t e h r ks) c (made (Term u c) (lent t e h r ks))
+  unfolding makeSides
+  sides-old d = record { says = lowest-old (sidesOf k a b) (addTerm k a b) (storeOf (lent t e h r ks) c) u looked d; kept = refl }
+
+  module _ (z : u ≡ 0) (fits : Bool) (room : fits ≡ ltb (c .terms) (termRoom t)) where
+    pub sides-full : fits ≡ false → Working (makeSides k a b) (lent t e h r ks) (lent t e h r ks) c (made (Refused 8) (lent t e h r ks))
+    unfolding makeSides
+    sides-full f =
+        record {
+          says = lowest-new (sidesOf k a b) (addTerm k a b) (storeOf (lent t e h r ks) c) u looked z ∙ term-refused t e h r ks c k a b fits room f;
+          kept = refl;
+        }
+
+    pub sides-made : (t′ : List ℕ) (d : State) → fits ≡ true → TermPut t t′ (c .terms) k a b → length t′ ≡ length t → d ≡ oneTerm c
+        → Working (makeSides k a b) (lent t e h r ks) (lent t′ e h r ks) c (made (Term (c .terms + 1) d) (lent t′ e h r ks))
+    unfolding makeSides
+    sides-made t′ d f p n q =
+        record {
+          says =
+              lowest-new (sidesOf k a b) (addTerm k a b) (storeOf (lent t e h r ks) c) u looked z
+              ∙ rw q (term-added t e h r ks c k a b fits room t′ p n f);
+          kept = rw (p .kept, n, p .zero);
+        }
+
+-- another test that agrees on every term finds the same
+lowest-same : (p q : Store → ℕ → Bool) (make : Work ℕ) (s : Store) → ((t : ℕ) → p s t ≡ q s t) → lowest p make s ≡ lowest q make s
+unfolding lowest lookup
+lowest-same p q make s f = rw (first-same (λ i. p s (suc i)) (λ i. q s (suc i)) (count s) (λ i h. f (suc i)))
+
+length-is : (s : Store) (a : ℕ) → Recorded s → makeLength a s ≡ makeSides 4 a 0 s
+unfolding makeLength makeSides lengthOf sidesOf
+length-is s a good = lowest-same (lengthOf a) (sidesOf 4 a 0) (addTerm 4 a 0) s (λ t. decide (eqb (kind s t) 4)
+    (λ e. rw (good .lengthSecond t (eqb-true _ _ e), e) (go (eqb (term s t .first) a)))
+    (λ e. rw e))
+  where
+    go : (b : Bool) → b ≡ (b && true)
+    go true = refl
+    go false = refl
+
+equation-is : (s : Store) (a b : ℕ) → makeEquation a b s ≡ makeSides 5 a b s
+unfolding makeEquation makeSides equationOf sidesOf
+equation-is s a b = lowest-same (equationOf a b) (sidesOf 5 a b) (addTerm 5 a b) s (λ t. refl)
+
+module _ (m m′ : Lent) (c : State) (o : Out ℕ) where
+  pub length-made : (a : ℕ) → Ready m c → Working (makeSides 4 a 0) m m′ c o → Working (makeLength a) m m′ c o
+  length-made a good w = record { says = length-is (storeOf m c) a (good .audited .recorded) ∙ w .says; kept = w .kept }
+
+  pub equation-made : (a b : ℕ) → Working (makeSides 5 a b) m m′ c o → Working (makeEquation a b) m m′ c o
+  equation-made a b w = record { says = equation-is (storeOf m c) a b ∙ w .says; kept = w .kept }
+
+-- CHAINS: `Walked` says that i values are passed, and what is left of the chain decides
+
+pub record Walked (e : List ℕ) (n : ℕ) (w : List ℕ) (c at i : ℕ) : Type 0 where
+  pub upto : i ≤ length w
+  pub rest : sameWord (firsts (chainIn (cellsView e n) at)) (drop i w) ≡ sameWord (firsts (chainIn (cellsView e n) c)) w
+
+pub walked-none : (e : List ℕ) (n : ℕ) (w : List ℕ) (c : ℕ) → Walked e n w c c 0
+walked-none e n w c = record { upto = omega arith; rest = refl }
+
+module _ (e : List ℕ) (n : ℕ) (w : List ℕ) (c at i : ℕ) (up : Ascends (cellsView e n)) (h : Walked e n w c at i) (b : Bool) (in-it : b ≡ within n at) where
+  size : length (cellsView e n) ≡ n
+  size = table-length (λ j. cellAt e (suc j)) n
+
+  none-here : b ≡ false → chainIn (cellsView e n) at ≡ []
+  none-here f = chain-none (cellsView e n) at (rw size (sym in-it ∙ f))
+
+  one-here : b ≡ true → chainIn (cellsView e n) at ≡ (cellAt e at .value, cellAt e at .other) ∷ chainIn (cellsView e n) (cellAt e at .next)
+  one-here f =
+      let q = sym in-it ∙ f in
+      let s = cell-is e n at (within-low n at q) (within-high n at q) in
+      chain-is (cellsView e n) at up (rw size q) ∙ ap (λ (x : Cell). (x .value, x .other) ∷ chainIn (cellsView e n) (x .next)) s
+
+  pub walk-ends : i < length w → not b ≡ true → false ≡ sameWord (firsts (chainIn (cellsView e n) c)) w
+  unfolding firsts sameWord
+  walk-ends l f =
+      let z : sameWord (firsts (chainIn (cellsView e n) at)) (drop i w) ≡ false = rw (none-here (not-true b f), drop-cons w i 0 l) in
+      sym z ∙ h .rest
+
+  pub walk-differs : (v : ℕ) → i < length w → not b ≡ false → v ≡ cellAt e at .value → (v ≡ getD w i 0 → ⊥) → false ≡ sameWord (firsts (chainIn (cellsView e n) c)) w
+  unfolding firsts sameWord
+  walk-differs v l f q d =
+      let z : sameWord (firsts (chainIn (cellsView e n) at)) (drop i w) ≡ false
+      = rw (one-here (not-false b f), drop-cons w i 0 l) (left-false _ _ (ne-eqb _ _ (λ p. d (q ∙ p)))) in
+      sym z ∙ h .rest
+
+  pub walk-on : (v x : ℕ) → i < length w → not b ≡ false → v ≡ cellAt e at .value → v ≡ getD w i 0 → x ≡ cellAt e at .next → Walked e n w c x (i + 1)
+  unfolding firsts sameWord
+  walk-on v x l f q p y =
+      let z : sameWord (firsts (chainIn (cellsView e n) at)) (drop i w) ≡ sameWord (firsts (chainIn (cellsView e n) x)) (drop (i + 1) w)
+      = rw (one-here (not-false b f), drop-cons w i 0 l, ← y, add-one i, ← p, ← q, eq-eqb v v refl) in
+      record { upto = omega arith; rest = sym z ∙ h .rest }
+
+  pub walk-over : length w ≤ i → not b ≡ sameWord (firsts (chainIn (cellsView e n) c)) w
+  unfolding firsts sameWord
+  walk-over l = decide b
+      (λ f. let z : sameWord (firsts (chainIn (cellsView e n) at)) (drop i w) ≡ false = rw (one-here f, drop-of-length-le w {i = i} l) in rw f (sym z ∙ h .rest))
+      (λ f. let z : sameWord (firsts (chainIn (cellsView e n) at)) (drop i w) ≡ true = rw (none-here f, drop-of-length-le w {i = i} l) in rw f (sym z ∙ h .rest))
+
+-- CONCATENATIONS
+
+-- no part is the last of none
+pub last-none : (w : List ℕ) (n : ℕ) → length w ≡ 0 → 0 ≡ min n (getD w (length w - 1) 0)
+last-none [] n e = omega arith
+last-none (x ∷ w) n e = absurd (omega arith)
+
+module _ (l : List ℕ) (cs : List Cell) (w : List ℕ) (t x : ℕ) (ex : x ≡ termAt l t .kind) where
+  pub parts-kind : (x ≡ 3 → ⊥) → false ≡ hasParts l cs w t
+  unfolding hasParts
+  parts-kind d = sym (left-false _ _ (ne-eqb _ _ (λ e. d (ex ∙ e))))
+
+  pub parts-are : (y : ℕ) (b : Bool) → x ≡ 3 → y ≡ termAt l t .first → b ≡ sameWord (firsts (chainIn cs y)) w → b ≡ hasParts l cs w t
+  unfolding hasParts
+  parts-are y b e f q =
+      let p : eqb (termAt l t .kind) 3 ≡ true = eq-eqb _ _ (sym ex ∙ e) in
+      rw (p, ← f) q
+
+module _ (m : Lent) (c : State) (w : List ℕ) where
+  parts-found : firstBelow (λ i. hasParts (m .terms) (cellsView (m .cells) (c .cells)) w (suc i)) (c .terms) ≡ lookup (concatOf w) (storeOf m c)
+  unfolding lookup hasParts concatOf
+  parts-found =
+      rw (table-length (λ i. termAt (m .terms) (suc i)) (c .terms))
+      (first-same (λ i. hasParts (m .terms) (cellsView (m .cells) (c .cells)) w (suc i)) (λ i. concatOf w (storeOf m c) (suc i)) (c .terms) (λ i h.
+      ap (λ (y : Record). eqb (y .kind) 3 && sameWord (firsts (chainIn (cellsView (m .cells) (c .cells)) (y .first))) w)
+      (sym (term-is (m .terms) (c .terms) (suc i) (omega arith) h))))
+
+pub parts-from : (m : Lent) (c : State) (w : List ℕ) (r : ℕ) → Ready m c → r ≡ min (c .terms) (getD w (length w - 1) 0)
+    → Passed (hasParts (m .terms) (cellsView (m .cells) (c .cells)) w) (c .terms) r
+unfolding hasParts
+parts-from m c w r good e = passed-up-to (hasParts (m .terms) (cellsView (m .cells) (c .cells)) w) (c .terms) (getD w (length w - 1) 0) r e (λ i h l q.
+    let is = term-is (m .terms) (c .terms) (suc i) (omega arith) h in
+    let k : kind (storeOf m c) (suc i) ≡ 3 = ap (λ (z : Record). z .kind) is ∙ eqb-true _ _ (both-left _ _ q) in
+    let p : firsts (chainIn (cellsView (m .cells) (c .cells)) (termAt (m .terms) (suc i) .first)) ≡ w = word-is _ w (both-right (eqb (termAt (m .terms) (suc i) .kind) 3) _ q) in
+    let two = rw is at (good .audited .recorded .twoParts (suc i) k) in
+    let low : Every (λ x. x < suc i) w = subst (Every (λ x. x < suc i)) p (every-firsts (λ x a. a .lower) (rw is at (good .audited .recorded .partsGood (suc i) k))) in
+    let n = firsts-length (chainIn (cellsView (m .cells) (c .cells)) (termAt (m .terms) (suc i) .first)) in
+    let j = ap length p in
+    let v = every-at w (length w - 1) 0 low (omega arith) in
+    omega arith)
+
+module _ (t e h r ks : List ℕ) (c : State) (w : List ℕ) (f : Bool) (cells-here : f ≡ leb (c .cells + length w) (cellRoom e)) where
+  pub append-long : not f ≡ true → Working (appendParts w) (lent t e h r ks) (lent t e h r ks) c (made (Refused 8) (lent t e h r ks))
+  unfolding addChain
+  append-long q = record { says = rw (table-length (λ i. cellAt e (suc i)) (c .cells), ← cells-here, not-true f q); kept = refl }
+
+  -- what a test of cells that passed says
+  pub append-limit : Sized (lent t e h r ks) c → not f ≡ false → c .cells + length w ≤ cellLimit
+  append-limit z q = cells-limit e (c .cells) (length w) (z .cellRoom) (sym cells-here ∙ not-false f q)
+
+  pub append-words : Sized (lent t e h r ks) c → not f ≡ false → cellWords (c .cells + length w) ≤ length e
+  append-words z q = cells-room e (c .cells) (length w) (z .cellRoom) (sym cells-here ∙ not-false f q)
+
+  module _ (q : not f ≡ false) (g : Bool) (term-here : g ≡ ltb (c .terms) (termRoom t)) where
+    pub append-full : not g ≡ true → Working (appendParts w) (lent t e h r ks) (lent t e h r ks) c (made (Refused 8) (lent t e h r ks))
+    unfolding addChain addTerm
+    append-full p = record {
+      says =
+          rw (table-length (λ i. cellAt e (suc i)) (c .cells), ← cells-here, not-false f q, table-length (λ i. termAt t (suc i)) (c .terms), ← term-here, not-true g p);
+      kept = refl;
+    }
+
+    pub append-made : (t′ e′ : List ℕ) (d d′ : State) → not g ≡ false → ChainPut e e′ (c .cells) w → length e′ ≡ length e
+        → TermPut t t′ (c .terms) 3 (c .cells + 1) 0 → length t′ ≡ length t → d ≡ moreCells c (length w) → d′ ≡ oneTerm d
+        → Working (appendParts w) (lent t e h r ks) (lent t′ e′ h r ks) c (made (Term (c .terms + 1) d′) (lent t′ e′ h r ks))
+    unfolding addChain
+    append-made t′ e′ d d′ p a la b lb x y = record { says = chained ∙ termed; kept = rw (a .kept, b .kept, la, lb, a .zero, b .zero) }
+      where
+        chained : appendParts w (storeOf (lent t e h r ks) c) ≡ addTerm 3 (c .cells + 1) 0 (storeOf (lent t e′ h r ks) (moreCells c (length w)))
+        chained =
+            rw (table-length (λ i. cellAt e (suc i)) (c .cells), ← cells-here, not-false f q, add-one (c .cells), a .grown, la, a .zero)
+
+        termed : addTerm 3 (c .cells + 1) 0 (storeOf (lent t e′ h r ks) (moreCells c (length w))) ≡ ok (storeOf (lent t′ e′ h r ks) d′) (c .terms + 1)
+        termed = rw (y, x) (term-added t e′ h r ks (moreCells c (length w)) 3 (c .cells + 1) 0 g term-here t′ b lb (not-false g p))
+
+module _ (t e h r ks : List ℕ) (c : State) (w : List ℕ) (u : ℕ)
+    (look : u ≡ numberOf (firstBelow (λ i. hasParts t (cellsView e (c .cells)) w (suc i)) (c .terms))) where
+  sought : u ≡ numberOf (lookup (concatOf w) (storeOf (lent t e h r ks) c))
+  sought = look ∙ ap numberOf (parts-found (lent t e h r ks) c w)
+
+  pub concat-old : (u ≡ 0 → ⊥) → Working (makeConcat w) (lent t e h r ks) (lent t e h r ks) c (made (Term u c) (lent t e h r ks))
+  unfolding makeConcat
+  concat-old d = record { says = lowest-old (concatOf w) (appendParts w) (storeOf (lent t e h r ks) c) u sought d; kept = refl }
+
+  pub concat-new : (m′ : Lent) (o : Out ℕ) → u ≡ 0 → Working (appendParts w) (lent t e h r ks) m′ c o → Working (makeConcat w) (lent t e h r ks) m′ c o
+  unfolding makeConcat
+  concat-new m′ o z p = record { says = lowest-new (concatOf w) (appendParts w) (storeOf (lent t e h r ks) c) u sought z ∙ p .says; kept = p .kept }

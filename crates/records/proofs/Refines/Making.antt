@@ -1,0 +1,227 @@
+-- Making constants and variables.
+use mathlib.Core.Path.{_≡_, refl, sym, ap, _∙_}
+use mathlib.Core.Bool.{Bool, true, false, not, _&&_}
+use mathlib.Core.List.{List, [], _∷_, _++_}
+use mathlib.Core.Option.{Option, none, some}
+use Prim.Native.Nat.{ℕ, zero, suc, _+_, _-_, _<_, _≤_, min}
+use native.Mathlib.Numerals.{add-one}
+use native.Mathlib.Nat.{le-antisymm}
+use native.Mathlib.Omega.{arith}
+use lib.ListN.{length, getD}
+use lib.Dec.{eqb, ltb, leb}
+use borrow.Author.Tests.{not-true, not-false, leb-true, le-leb, eqb-true, eq-eqb, ne-eqb}
+use Rattle.records.specs.Lists.{sameWord, firstBelow}
+use Rattle.records.specs.declared.State.{State}
+use Rattle.records.specs.Store.{Term as Record, Store, Out, ok, stop, Work, count, within, term, kind, termIn, textIn}
+use Rattle.records.specs.declared.Made.the-variants.{Term, Refused}
+use Rattle.records.specs.View.{lent, termWords, termLimit, charLimit, charRoom, termRoom, oneTerm, moreChars, Lent, storeOf, termAt, termsView, charsView, span}
+use Rattle.records.specs.Working.Audited.{Ready, Sized}
+use Rattle.records.specs.Calls.{Working, made}
+use Rattle.records.specs.Working.Puts.{CharsPut, TermPut}
+use Rattle.records.specs.Make.{lookup, orMake, lowest, addText, addTerm, withChars, withTerms, own, makeConstant, makeVariable, constantOf}
+use Rattle.records.specs.Working.Leaves.{numberOf, Passed, textOf, hasText, appendText, makeText}
+use Rattle.records.specs.Rules.{named}
+use Rattle.records.proofs.Views.{term-is, text-span}
+use Rattle.records.proofs.Refines.Rooms.{chars-fit, chars-limit, chars-room, chars-over, term-limit, term-room}
+use Rattle.records.proofs.Lists.{same-test, decide, within-low, within-high, first-same, left-false, right-false, word-differs, table-length, first-zero, first-pass, first-hit, first-stays, first-absent}
+
+-- WHETHER A TERM HAS A TEXT
+
+module _ (l h : List ℕ) (k : ℕ) (w : List ℕ) (t x : ℕ) (ex : x ≡ termAt l t .kind) where
+  pub other-kind : (x ≡ k → ⊥) → false ≡ hasText l h k w t
+  unfolding hasText
+  other-kind d = sym (left-false _ _ (ne-eqb _ _ (λ e. d (ex ∙ e))))
+
+  module _ (y : ℕ) (ey : y ≡ termAt l t .second) where
+    pub other-length : (y ≡ length w → ⊥) → false ≡ hasText l h k w t
+    unfolding hasText
+    other-length d =
+        sym (right-false (eqb (termAt l t .kind) k) _ (word-differs _ w (λ e.
+        d (ey ∙ sym (table-length (λ i. getD h (termAt l t .first + i) 0) (termAt l t .second)) ∙ ap length e))))
+
+    pub same-kind : (z : ℕ) (b : Bool) → x ≡ k → y ≡ length w → z ≡ termAt l t .first → b ≡ sameWord (span h z (length w)) w → b ≡ hasText l h k w t
+    unfolding hasText
+    same-kind z b e q ez r =
+        let a : eqb (termAt l t .kind) k ≡ true = eq-eqb _ _ (sym ex ∙ e) in
+        let v : length w ≡ termAt l t .second = sym q ∙ ey in
+        rw (a, ← v, ← ez) r
+
+-- THE LOWEST-NUMBERED of n terms that passes: t terms are passed by
+
+module _ (p : ℕ → Bool) where
+  pub passed-none : (n : ℕ) → Passed p n 0
+  passed-none n = record { upto = omega arith; none-yet = first-zero (λ i. p (suc i)) }
+
+  -- a search starts past terms none of which passes
+  pub passed-up-to : (n x r : ℕ) → r ≡ min n x → ((i : ℕ) → i < n → i < x → p (suc i) ≡ true → ⊥) → Passed p n r
+  passed-up-to n x r e f = record {
+    upto = omega arith;
+    none-yet = first-absent (λ i. p (suc i)) r (λ i h. decide (p (suc i)) (λ q. absurd (f i (omega arith) (omega arith) q)) (λ q. q));
+  }
+
+  module _ (n t : ℕ) (a : Passed p n t) where
+    pub passed-one : (b : Bool) → t < n → b ≡ p (t + 1) → b ≡ false → Passed p n (t + 1)
+    passed-one b q e f =
+        let g = rw add-one at e in
+        record { upto = omega arith; none-yet = rw add-one (first-pass (λ i. p (suc i)) t (a .none-yet) (sym g ∙ f)) }
+
+    pub passed-all : n ≤ t → 0 ≡ numberOf (firstBelow (λ i. p (suc i)) n)
+    passed-all q = let e : t ≡ n = le-antisymm (a .upto) q in sym (ap numberOf (rw e at (a .none-yet)))
+
+    pub hit : (b : Bool) → t < n → b ≡ p (t + 1) → b ≡ true → t + 1 ≡ numberOf (firstBelow (λ i. p (suc i)) n)
+    hit b q e f =
+        let g = rw add-one at e in
+        add-one t ∙ sym (ap numberOf (first-stays (λ i. p (suc i)) (suc t) n t (first-hit (λ i. p (suc i)) t (a .none-yet) (sym g ∙ f)) (omega arith)))
+
+-- THE LOWEST-NUMBERED in the store
+
+-- each text of kind k is within the characters
+abbrev pub Texts : Lent → State → ℕ → Type 0
+Texts m c k = (t : ℕ) → kind (storeOf m c) t ≡ k → term (storeOf m c) t .first + term (storeOf m c) t .second ≤ length (storeOf m c .chars)
+
+pub texts-within : (m : Lent) (c : State) (k : ℕ) → Ready m c → within 2 k ≡ true → Texts m c k
+texts-within m c k a h t e = go k (within-low 2 k h) (within-high 2 k h) e
+  where
+    go : (j : ℕ) → 0 < j → j ≤ 2 → kind (storeOf m c) t ≡ j → term (storeOf m c) t .first + term (storeOf m c) t .second ≤ length (storeOf m c .chars)
+    go zero p q e = absurd (omega arith)
+    go (suc zero) p q e = a .audited .recorded .constants t e
+    go (suc (suc zero)) p q e = a .audited .recorded .variables t e
+    go (suc (suc (suc j))) p q e = absurd (omega arith)
+
+module _ (m : Lent) (c : State) (k : ℕ) (w : List ℕ) where
+  has-text : Texts m c k → (i : ℕ) → i < c .terms → hasText (m .terms) (m .chars) k w (suc i) ≡ textOf k w (storeOf m c) (suc i)
+  unfolding hasText textOf
+  has-text texts i b = decide (eqb (x .kind) k)
+      (λ q. let h = texts (suc i) (ap (λ (y : Record). y .kind) e ∙ eqb-true _ _ q) in
+      let g : x .first + x .second ≤ c .chars = rw table-length at (rw e at h) in
+      rw (text-span (m .chars) (c .chars) x g))
+      (λ q. rw q)
+      ∙ sym (ap (λ (y : Record). eqb (y .kind) k && sameWord (textIn (charsView (m .chars) (c .chars)) y) w) e)
+    where
+      x : Record
+      x = termAt (m .terms) (suc i)
+
+      e : termIn (termsView (m .terms) (c .terms)) (suc i) ≡ x
+      e = term-is (m .terms) (c .terms) (suc i) (omega arith) b
+
+  pub found-text : Texts m c k → firstBelow (λ i. hasText (m .terms) (m .chars) k w (suc i)) (c .terms) ≡ lookup (textOf k w) (storeOf m c)
+  unfolding lookup
+  found-text texts =
+      rw (table-length (λ i. termAt (m .terms) (suc i)) (c .terms))
+      (first-same (λ i. hasText (m .terms) (m .chars) k w (suc i)) (λ i. textOf k w (storeOf m c) (suc i)) (c .terms) (has-text texts))
+
+-- THE LOWEST EQUAL RECORD, OR A NEW ONE
+
+module _ (equal : Store → ℕ → Bool) (make : Work ℕ) (s : Store) (t : ℕ) (look : t ≡ numberOf (lookup equal s)) where
+  pub lowest-old : (t ≡ 0 → ⊥) → lowest equal make s ≡ ok s t
+  unfolding lowest
+  lowest-old d = go (lookup equal s) look
+    where
+      go : (o : Option ℕ) → t ≡ numberOf o → orMake make o s ≡ ok s t
+      go none e = absurd (d e)
+      go (some i) e = rw e
+
+  pub lowest-new : t ≡ 0 → lowest equal make s ≡ make s
+  unfolding lowest
+  lowest-new z = go (lookup equal s) look
+    where
+      go : (o : Option ℕ) → t ≡ numberOf o → orMake make o s ≡ make s
+      go none e = refl
+      go (some i) e = absurd (omega arith)
+
+-- A NEW TEXT in the store
+
+module _ (k : ℕ) (w : List ℕ) (s : Store) where
+  append-long : leb (length (s .chars) + length w) (s .room .chars) ≡ false → appendText k w s ≡ stop 8
+  unfolding addText
+  append-long e = rw e
+
+  module _ (e : leb (length (s .chars) + length w) (s .room .chars) ≡ true) where
+    append-full : ltb (count s) (s .room .terms) ≡ false → appendText k w s ≡ stop 8
+    unfolding addText addTerm
+    append-full f = rw (e, f)
+
+    append-new : ltb (count s) (s .room .terms) ≡ true
+        → appendText k w s
+        ≡ ok (withTerms (withChars s (s .chars ++ w)) (s .terms ++ (own (suc (count s)) k (length (s .chars)) (length w) ∷ []))) (suc (count s))
+    unfolding addText addTerm
+    append-new f = rw (e, f)
+
+-- ROOM for k characters more
+
+module _ (l : List ℕ) (n k : ℕ) (limit : n ≤ charLimit) where
+  pub text-over : charLimit - n < k → false ≡ leb (n + k) (charRoom l)
+  text-over h = sym (chars-over l n k (omega arith))
+
+  pub text-test : k ≤ charLimit - n → leb (n + k) (length l) ≡ leb (n + k) (charRoom l)
+  text-test h =
+      same-test _ _ (λ e. chars-fit l n k (omega arith) (leb-true (n + k) (length l) e)) (λ e. le-leb (n + k) (length l) (chars-room l n k e))
+
+-- A NEW TEXT in the words: the tests of room, for n characters
+
+module _ {t e h r ks : List ℕ} {c : State} (k : ℕ) (w : List ℕ) (n : ℕ) (long : n ≡ length w) (f : Bool) (fits : f ≡ leb (c .chars + n) (charRoom h)) where
+  pub text-long : not f ≡ true → Working (appendText k w) (lent t e h r ks) (lent t e h r ks) c (made (Refused 8) (lent t e h r ks))
+  text-long q = record { says = append-long k w _ (rw (table-length, ← long) (sym fits ∙ not-true f q)); kept = refl }
+
+  module _ (q : not f ≡ false) (g : Bool) (one : g ≡ ltb (c .terms) (termRoom t)) where
+    pub text-full : not g ≡ true → Working (appendText k w) (lent t e h r ks) (lent t e h r ks) c (made (Refused 8) (lent t e h r ks))
+    text-full u =
+        record { says = append-full k w _ (rw (table-length, ← long) (sym fits ∙ not-false f q)) (rw table-length (sym one ∙ not-true g u)); kept = refl }
+
+    pub text-made : not g ≡ false → {t′ h′ : List ℕ} {d d′ : State} → CharsPut h h′ (c .chars) w → length h′ ≡ length h
+        → TermPut t t′ (c .terms) k (c .chars) n → length t′ ≡ length t → d ≡ moreChars c n → d′ ≡ oneTerm d
+        → Working (appendText k w) (lent t e h r ks) (lent t′ e h′ r ks) c (made (Term (c .terms + 1) d′) (lent t′ e h′ r ks))
+    text-made u p lp v lv x y =
+        record {
+          says =
+              append-new k w _ (rw (table-length, ← long) (sym fits ∙ not-false f q)) (rw table-length (sym one ∙ not-false g u))
+              ∙ rw (y, x, add-one, v .grown, long, p .grown, v .zero, lp, lv, table-length, table-length);
+          kept = let a = v .kept in let b = p .kept in let z = v .zero in cc;
+        }
+
+-- THE TEXT SOUGHT in the words: t₀ is what the search found
+
+module _ {t e h r ks : List ℕ} {c : State} (ready : Ready (lent t e h r ks) c) (k : ℕ) (text : within 2 k ≡ true) (w : List ℕ) (t₀ : ℕ)
+    (look : t₀ ≡ numberOf (firstBelow (λ i. hasText t h k w (suc i)) (c .terms))) where
+  looked : t₀ ≡ numberOf (lookup (textOf k w) (storeOf (lent t e h r ks) c))
+  looked = look ∙ ap numberOf (found-text (lent t e h r ks) c k w (texts-within (lent t e h r ks) c k ready text))
+
+  pub text-found : (t₀ ≡ 0 → ⊥) → Working (makeText k w) (lent t e h r ks) (lent t e h r ks) c (made (Term t₀ c) (lent t e h r ks))
+  unfolding makeText
+  text-found d = record { says = lowest-old (textOf k w) (appendText k w) (storeOf (lent t e h r ks) c) t₀ looked d; kept = refl }
+
+  pub text-new : {m′ : Lent} {o : Out ℕ} → t₀ ≡ 0 → Working (appendText k w) (lent t e h r ks) m′ c o → Working (makeText k w) (lent t e h r ks) m′ c o
+  unfolding makeText
+  text-new z p = record { says = lowest-new (textOf k w) (appendText k w) (storeOf (lent t e h r ks) c) t₀ looked z ∙ p .says; kept = p .kept }
+
+-- what the tests of room say of the numbers
+module _ {t e h r ks : List ℕ} {c : State} (sized : Sized (lent t e h r ks) c) (f : Bool) (q : not f ≡ false) where
+  pub long-limit : (n : ℕ) → f ≡ leb (c .chars + n) (charRoom h) → c .chars + n ≤ charLimit
+  long-limit n e = chars-limit h (c .chars) n (sym e ∙ not-false f q)
+
+  pub long-room : (n : ℕ) → f ≡ leb (c .chars + n) (charRoom h) → c .chars + n ≤ length h
+  long-room n e = chars-room h (c .chars) n (sym e ∙ not-false f q)
+
+  pub one-limit : f ≡ ltb (c .terms) (termRoom t) → c .terms < termLimit
+  one-limit e = term-limit t (c .terms) (sym e ∙ not-false f q)
+
+  pub one-room : f ≡ ltb (c .terms) (termRoom t) → termWords (c .terms + 1) ≤ length t
+  one-room e = term-room t (c .terms) (sym e ∙ not-false f q)
+
+  pub next-limit : {d : State} (n : ℕ) → d ≡ moreChars c n → f ≡ ltb (c .terms) (termRoom t) → d .terms < termLimit
+  next-limit n x e = rw x (one-limit e)
+
+-- a constant is a text of kind 1, a variable one of kind 2
+module _ (w : List ℕ) {m m′ : Lent} {c : State} {o : Out ℕ} where
+  pub constant-made : Working (makeText 1 w) m m′ c o → Working (makeConstant w) m m′ c o
+  unfolding makeText makeConstant lowest lookup textOf constantOf
+  constant-made r = record { says = r .says; kept = r .kept }
+
+  pub variable-made : Working (makeText 2 w) m m′ c o → Working (makeVariable w) m m′ c o
+  unfolding makeText makeVariable lowest lookup textOf named
+  variable-made r = record { says = r .says; kept = r .kept }
+
+  -- a variable of a name that is not found
+  pub variable-new : lookup (named w) (storeOf m c) ≡ none → Working (appendText 2 w) m m′ c o → Working (makeVariable w) m m′ c o
+  unfolding makeVariable lowest
+  variable-new e r = record { says = rw e (r .says); kept = r .kept }

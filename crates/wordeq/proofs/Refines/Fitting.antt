@@ -1,0 +1,265 @@
+-- Step 5: the first variable of a side, how many variables there are, and whether one word for all of them fits.
+use mathlib.Core.Path.{_≡_, refl, sym, ap, _∙_}
+use mathlib.Core.Bool.{Bool, true, false, not, _&&_}
+use mathlib.Core.List.{List, [], _∷_, _++_}
+use Prim.Native.Nat.{ℕ, zero, suc, _+_, _*_, _-_, _/_, _%_, _<_, _≤_}
+use native.Mathlib.Nat.{mul-comm, div-le-self, div-add-mod'}
+use native.Mathlib.Numerals.{add-one}
+use native.Mathlib.Omega.{arith}
+use lib.ListN.{length, getD, take, drop, length-append, length-drop, drop-of-length-le, take-append-drop}
+use lib.Seq.{drop-cons, take-suc, take-all}
+use lib.Dec.{eqb}
+use borrow.Author.Tests.{eq-eqb, ne-eqb}
+use Rattle.records.specs.declared.State.{State}
+use Rattle.records.specs.Lists.{if_then_else_, all, keep, joined, sameWord}
+use Rattle.records.specs.Store.{Store, kind, isConstant, isString, text}
+use Rattle.records.specs.View.{lent, storeOf, readIn, termed}
+use Rattle.records.proofs.Lists.{both-left, both-right, both-true, left-false, and-next, or-stop, or-next, clash, decide, all-append, all-every, every-at, joined-append}
+use Rattle.wordeq.specs.Wordeq.{same, fixed, lettersOf, letters, filled, lead, forced, firstSpan, fits, variables}
+use Rattle.wordeq.specs.Working.Sides.{Spelled, rest, Tiling}
+use Rattle.wordeq.specs.Working.Stripping.{Pair}
+use Rattle.wordeq.specs.Working.Spans.{FirstVariable, agrees}
+use Rattle.wordeq.proofs.Refines.SideReady.{length-whole}
+
+-- THE FIRST VARIABLE
+
+pub first-start : (s : Store) (r : List ℕ) → fixed s (take 0 r) ≡ true
+unfolding fixed all
+first-start s r = refl
+
+module _ (s : Store) (r : List ℕ) (i : ℕ) (h : fixed s (take i r) ≡ true) where
+  module _ (k : ℕ) (b : i < length r) (e : k ≡ kind s (getD r i 0)) where
+    pub first-here : (k ≡ 1 → ⊥) → FirstVariable s r i
+    first-here n = record { within = omega arith; before = h; at = λ z. ne-eqb (kind s (getD r i 0)) 1 (λ q. n (e ∙ q)) }
+
+    one : k ≡ 1 → all (isConstant s) (getD r i 0 ∷ []) ≡ true
+    unfolding all
+    one n = rw (eq-eqb (kind s (getD r i 0)) 1 (sym e ∙ n))
+
+    pub first-turn : k ≡ 1 → fixed s (take (i + 1) r) ≡ true
+    unfolding fixed
+    first-turn n = rw add-one (ap (all (isConstant s)) (take-suc r i 0 b) ∙ all-append (isConstant s) (take i r) (getD r i 0 ∷ []) ∙ both-true _ _ h (one n))
+
+  pub first-none : i ≤ length r → length r ≤ i → FirstVariable s r i
+  first-none p q = record { within = p; before = h; at = λ z. absurd (omega arith) }
+
+module _ (s : Store) where
+  pub fixed-variables : (l : List ℕ) → fixed s l ≡ true → variables s l ≡ []
+  unfolding fixed all keep
+  fixed-variables [] e = refl
+  fixed-variables (a ∷ l) e =
+      let p = both-left (isConstant s a) (all (isConstant s) l) e in
+      let q = fixed-variables l (both-right (isConstant s a) (all (isConstant s) l) e) in
+      rw p q
+
+  lead-of : (r : List ℕ) (i : ℕ) → i ≤ length r → fixed s (take i r) ≡ true → (i < length r → isConstant s (getD r i 0) ≡ false) → lead s r ≡ letters s (take i r)
+  unfolding fixed all lead letters lettersOf joined
+  lead-of [] zero p h f = refl
+  lead-of [] (suc i) p h f = absurd (omega arith)
+  lead-of (a ∷ r) zero p h f = go (isConstant s a) (f (omega arith))
+    where
+      go : (b : Bool) → b ≡ false → _≡_ {A = List ℕ} (elim b as (λ x. List ℕ) [ true ↦ text s a ++ lead s r | false ↦ [] ]) []
+      go true e = clash refl e
+      go false e = refl
+  lead-of (a ∷ r) (suc i) p h f =
+      go (isConstant s a) (both-left (isConstant s a) (all (isConstant s) (take i r)) h)
+      (lead-of r i (omega arith) (both-right (isConstant s a) (all (isConstant s) (take i r)) h) (λ z. f (omega arith)))
+    where
+      go : (b : Bool) → b ≡ true → lead s r ≡ letters s (take i r) → _≡_ {A = List ℕ} (elim b as (λ x. List ℕ) [ true ↦ text s a ++ lead s r | false ↦ [] ]) ((if b then text s a else []) ++ letters s (take i r))
+      go true e g = ap (λ (x : List ℕ). text s a ++ x) g
+      go false e g = clash e refl
+
+  variables-of : (r : List ℕ) (i : ℕ) → fixed s (take i r) ≡ true → i < length r → isConstant s (getD r i 0) ≡ false → variables s r ≡ getD r i 0 ∷ variables s (drop (suc i) r)
+  unfolding fixed all keep
+  variables-of [] i h p f = absurd (omega arith)
+  variables-of (a ∷ r) zero h p f = let q : isConstant s a ≡ false = f in rw q
+  variables-of (a ∷ r) (suc i) h p f =
+      let q = both-left (isConstant s a) (all (isConstant s) (take i r)) h in
+      rw q (variables-of r i (both-right (isConstant s a) (all (isConstant s) (take i r)) h) (omega arith) f)
+
+  module _ (r : List ℕ) (i : ℕ) (x : FirstVariable s r i) where
+    pub lead-is : lead s r ≡ letters s (take i r)
+    lead-is = lead-of r i (x .within) (x .before) (x .at)
+
+    pub variables-from : i < length r → variables s r ≡ getD r i 0 ∷ variables s (drop (suc i) r)
+    variables-from b = variables-of r i (x .before) b (x .at b)
+
+    pub variables-none : length r ≤ i → variables s r ≡ []
+    variables-none b = fixed-variables r (ap (fixed s) (sym (take-all i r b)) ∙ x .before)
+
+    pub lead-short : length (lead s r) ≤ length (letters s r)
+    unfolding letters
+    lead-short =
+        let e = ap length lead-is in
+        let f : letters s r ≡ letters s (take i r) ++ letters s (drop i r) = ap (letters s) (sym (take-append-drop i r)) ∙ joined-append (lettersOf s) (take i r) (drop i r) in
+        let g = ap length f ∙ length-append (letters s (take i r)) (letters s (drop i r)) in
+        omega arith
+
+-- COUNTED
+
+pub variables-short : (s : Store) (l : List ℕ) → length (variables s l) ≤ length l
+unfolding keep
+variables-short s [] = omega arith
+variables-short s (a ∷ l) = go (isConstant s a) (variables-short s l)
+  where
+    go : (b : Bool) → length (variables s l) ≤ length l → length (if not b then (a ∷ variables s l) else variables s l) ≤ suc (length l)
+    go true e = omega arith
+    go false e = omega arith
+
+-- the variables of the first i atoms
+pub record Tallied (s : Store) (l : List ℕ) (total i : ℕ) : Type 0 where
+  pub within : i ≤ length l
+  pub small : total ≤ i
+  pub rest : total + length (variables s (drop i l)) ≡ length (variables s l)
+
+pub tallied-none : (s : Store) (l : List ℕ) → Tallied s l 0 0
+tallied-none s l = record { within = omega arith; small = omega arith; rest = omega arith }
+
+tally-at : (s : Store) (l : List ℕ) (i n : ℕ) → i < length l → n ≡ (if isConstant s (getD l i 0) then 0 else 1) → (n ≤ 1) × (length (variables s (drop i l)) ≡ n + length (variables s (drop (suc i) l)))
+unfolding keep
+tally-at s l i n q e =
+    decide (isConstant s (getD l i 0))
+    (λ z.
+    let d : n ≡ 0 = rw z at e in
+    let g : length (variables s (drop i l)) ≡ length (variables s (drop (suc i) l)) = rw (drop-cons l i 0 q, z) in (omega arith, omega arith))
+    (λ z.
+    let d : n ≡ 1 = rw z at e in
+    let g : length (variables s (drop i l)) ≡ suc (length (variables s (drop (suc i) l))) = rw (drop-cons l i 0 q, z) in (omega arith, omega arith))
+
+pub tallied-one : (s : Store) (l : List ℕ) (total i n : ℕ) → Tallied s l total i → i < length l → n ≡ (if isConstant s (getD l i 0) then 0 else 1) → Tallied s l (total + n) (i + 1)
+tallied-one s l total i n a q e =
+    let r = a .rest in
+    let k = a .small in
+    let f = tally-at s l i n q e .0 in
+    let g = tally-at s l i n q e .1 in
+    record { within = omega arith; small = omega arith; rest = rw add-one (omega arith) }
+
+variables-end : (s : Store) (l : List ℕ) (i : ℕ) → length l ≤ i → length (variables s (drop i l)) ≡ 0
+unfolding keep
+variables-end s l i h = rw (drop-of-length-le l h)
+
+pub tallied-all : (s : Store) (l : List ℕ) (total i : ℕ) → Tallied s l total i → length l ≤ i → total ≡ length (variables s l)
+tallied-all s l total i a h = let r = a .rest in let e = variables-end s l i h in omega arith
+
+module _ (s : Store) (a k : ℕ) (e : k ≡ kind s a) where
+  pub count-no : k ≡ 1 → _≡_ {A = ℕ} 0 (if isConstant s a then 0 else 1)
+  count-no n = rw (eq-eqb (kind s a) 1 (sym e ∙ n))
+
+  pub count-one : (k ≡ 1 → ⊥) → _≡_ {A = ℕ} 1 (if isConstant s a then 0 else 1)
+  count-one n = rw (ne-eqb (kind s a) 1 (λ z. n (e ∙ z)))
+
+  -- ONE CLASS
+
+  pub agrees-constant : (v : ℕ) → k ≡ 1 → true ≡ agrees s v a
+  unfolding agrees
+  agrees-constant v n = or-stop _ _ (eq-eqb (kind s a) 1 (sym e ∙ n))
+
+  pub agrees-other : (v : ℕ) (b : Bool) → (k ≡ 1 → ⊥) → b ≡ same s a v → b ≡ agrees s v a
+  unfolding agrees
+  agrees-other v b n f = or-next _ _ b (ne-eqb (kind s a) 1 (λ z. n (e ∙ z))) f
+
+pub pair-at : (s : Store) (l : List ℕ) → all (isString s) l ≡ true → (v : ℕ) → isString s v ≡ true → (i : ℕ) → i < length l → Pair s (getD l i 0) v
+pair-at s l e v f i b = record { one = every-at l i 0 (all-every _ l e) b; other = f }
+
+pub agree-variables : (s : Store) (v : ℕ) (l : List ℕ) → all (agrees s v) l ≡ all (λ u. same s u v) (variables s l)
+unfolding all keep agrees
+agree-variables s v [] = refl
+agree-variables s v (a ∷ l) =
+    decide (isConstant s a) (λ z. rw z (agree-variables s v l)) (λ z. rw z (ap (λ (x : Bool). same s a v && x) (agree-variables s v l)))
+
+-- THE FIT
+
+over : (y a b : ℕ) → b < a → y + a ≡ b → ⊥
+over y a b z e = omega arith
+
+less : (y a b : ℕ) → y + a ≡ b → y ≡ b - a
+less y a b e = omega arith
+
+more : (y a b : ℕ) → a ≤ b → y ≡ b - a → y + a ≡ b
+more y a b z e = omega arith
+
+left-over : (y z x : ℕ) → y + z ≡ x → y ≡ x → z ≡ 0
+left-over y z x e f = omega arith
+
+no-rest : (y z x : ℕ) → y + z ≡ x → z ≡ 0 → y ≡ x
+no-rest y z x e f = omega arith
+
+module _ (w h : List ℕ) (c : State) (word side : List ℕ) (k l n : ℕ) (x : Spelled w h c) (p : l ≡ length (letters (termed w c) word)) (q : n ≡ length (letters (termed w c) side)) where
+  abbrev s : Store
+  s = readIn w h c
+
+  long : l ≡ length (letters s word)
+  long = p ∙ length-whole (lent w [] h [] []) c (x .texts) word
+
+  wide : n ≡ length (letters s side)
+  wide = q ∙ length-whole (lent w [] h [] []) c (x .texts) side
+
+  pub fits-over : l < n → false ≡ fits s (letters s word) side k
+  unfolding fits
+  fits-over z =
+      let a = long in let b = wide in
+      sym (left-false _ _ (ne-eqb (k * forced s (letters s word) side k + length (letters s side)) (length (letters s word)) (over _ _ _ (omega arith))))
+
+  module _ (z : n ≤ l) where
+    span-length : (l - n) / k ≡ forced s (letters s word) side k
+    span-length = ap (λ (y : ℕ). (y - n) / k) long ∙ ap (λ (y : ℕ). (length (letters s word) - y) / k) wide
+
+    product : (l - n) / k * k ≡ k * forced s (letters s word) side k
+    product = mul-comm ((l - n) / k) k ∙ ap (λ (y : ℕ). k * y) span-length
+
+    apart : l - n ≡ length (letters s word) - length (letters s side)
+    apart = ap (λ (y : ℕ). y - n) long ∙ ap (λ (y : ℕ). length (letters s word) - y) wide
+
+    pub fits-uneven : ((l - n) % k ≡ 0 → ⊥) → false ≡ fits s (letters s word) side k
+    unfolding fits
+    fits-uneven f =
+        sym (left-false _ _ (ne-eqb (k * forced s (letters s word) side k + length (letters s side)) (length (letters s word)) (λ e. f (left-over _ _ _ (div-add-mod' (l - n) k) (product ∙ less _ _ _ e ∙ sym apart)))))
+
+    even : (l - n) % k ≡ 0 → k * forced s (letters s word) side k + length (letters s side) ≡ length (letters s word)
+    even f = let a = long in let b = wide in more _ _ _ (omega arith) (sym product ∙ no-rest _ _ _ (div-add-mod' (l - n) k) f ∙ apart)
+
+    module _ (i : ℕ) (first : FirstVariable (termed w c) side i) (place : ℕ) (g : place ≡ length (letters (termed w c) (take (i - 0) (drop 0 side)))) where
+      readIn-first : FirstVariable s side i
+      unfolding fixed
+      readIn-first = record { within = first .within; before = first .before; at = first .at }
+
+      place-is : place ≡ length (lead s side)
+      place-is =
+          let e : i - 0 ≡ i = omega arith in
+          g ∙ ap (λ (y : ℕ). length (letters (termed w c) (take y side))) e
+          ∙ length-whole (lent w [] h [] []) c (x .texts) (take i side) ∙ ap length (sym (lead-is s side i readIn-first))
+
+      pub span-there : Tiling w h c word (record { atom = 0; place = place }) ((l - n) / k)
+      span-there =
+          let a = long in let b = wide in
+          let e = place-is in
+          let f = lead-short s side i readIn-first in
+          let o = div-le-self (l - n) k in
+          let y = length-drop place (letters s word) in
+          record { known = x; fits = omega arith }
+
+      pub fits-tiled : (l - n) % k ≡ 0 → (b : Bool) → b ≡ sameWord (filled s (take ((l - n) / k) (rest s word 0 place)) side) (letters s word) → b ≡ fits s (letters s word) side k
+      unfolding fits firstSpan
+      fits-tiled f b e =
+          and-next _ _ b (eq-eqb _ (length (letters s word)) (even f))
+          (e ∙ ap (λ (u : List ℕ). sameWord (filled s u side) (letters s word))
+          (ap (λ (y : ℕ). take y (drop place (letters s word))) span-length ∙ ap (λ (y : ℕ). take (forced s (letters s word) side k) (drop y (letters s word))) place-is))
+
+-- the fit reads terms and characters alone
+module _ (t e h rs ks : List ℕ) (c : State) where
+  lead-whole : (r : List ℕ) → lead (readIn t h c) r ≡ lead (storeOf (lent t e h rs ks) c) r
+  unfolding lead
+  lead-whole [] = refl
+  lead-whole (a ∷ r) = go (isConstant (readIn t h c) a) (lead-whole r)
+    where
+      go : (b : Bool) → lead (readIn t h c) r ≡ lead (storeOf (lent t e h rs ks) c) r
+          → _≡_ {A = List ℕ} (elim b as (λ x. List ℕ) [ true ↦ text (readIn t h c) a ++ lead (readIn t h c) r | false ↦ [] ]) (elim b as (λ x. List ℕ) [ true ↦ text (readIn t h c) a ++ lead (storeOf (lent t e h rs ks) c) r | false ↦ [] ])
+      go true g = ap (λ (x : List ℕ). text (readIn t h c) a ++ x) g
+      go false g = refl
+
+  pub fits-whole : (word side : List ℕ) (k : ℕ) → fits (readIn t h c) (letters (readIn t h c) word) side k ≡ fits (storeOf (lent t e h rs ks) c) (letters (storeOf (lent t e h rs ks) c) word) side k
+  unfolding fits firstSpan filled letters lettersOf
+  fits-whole word side k =
+      let s = readIn t h c in
+      let w = letters s word in
+      ap (λ (x : List ℕ). eqb (k * forced s w side k + length (letters s side)) (length w) && sameWord (filled s (take (forced s w side k) (drop (length x) w)) side) w) (lead-whole side)
