@@ -6,7 +6,7 @@ use Prim.Native.Nat.{ℕ, suc, _≤_}
 use lib.ListN.{length, take}
 use lib.Dec.{eqb}
 use lib.IntN.{ℤ, pos, negsuc}
-use Rattle.records.specs.Lists.{if_then_else_, joined}
+use Rattle.records.specs.Lists.{if_then_else_, concatMap}
 use Rattle.records.specs.Make.{decimalBy}
 
 -- a number below 2^64 has at most twenty digits
@@ -36,11 +36,11 @@ reasonText r = 32 ∷ reasonLetter (r .0) ∷ decimal (r .1)
 
 -- 'count and reasons'
 unfoldable pub reasonsText : List (ℕ × ℕ) → List ℕ
-reasonsText rs = numberText (length rs) ++ joined reasonText rs
+reasonsText rs = numberText (length rs) ++ concatMap reasonText rs
 
 -- 'split with atom count, atoms'
 unfoldable pub atomsText : List ℕ → List ℕ
-atomsText l = numberText (length l) ++ joined numberText l
+atomsText l = numberText (length l) ++ concatMap numberText l
 
 -- what a line of input is answered by, where it is answered: the step's answers with their reasons; a refusal; `bad` and the
 -- line's number

@@ -6,22 +6,22 @@ use mathlib.Core.Logic.{_⊎_, inl, inr, ⊎-elim}
 use Prim.Native.Nat.{ℕ, zero, suc, min, max, _≤_, _<_}
 use native.Mathlib.Decide.{decLe}
 use native.Mathlib.Omega.{arith}
-use Rattle.records.specs.Lists.{joined, firsts, seconds, Every, none-left, and}
+use Rattle.records.specs.Lists.{concatMap, firsts, seconds, Every, none-left, and}
 use Rattle.records.specs.Store.{Store, term, chain, parts, path, isEdge}
 use Rattle.records.specs.Make.{ordered}
-use Rattle.records.specs.Meaning.{Words, Reading, Joins, Holds}
+use Rattle.records.specs.Meaning.{Words, Reading, EqualEnds, Holds}
 use Rattle.records.specs.Working.Audited.{Audited, Pairs, Congruent}
 use Rattle.records.proofs.Lists.{every-map, every-both}
 use Rattle.engine.specs.Explain.{Seen}
 use Rattle.engine.proofs.Paths.{path-edges, path-joins}
 use Rattle.engine.proofs.Fits.{Fit, fit-turned, pairs-fit}
-use Rattle.engine.proofs.Run.{Joined, Accounted, by-reason, by-pairs, by-definition, Settled}
+use Rattle.engine.proofs.Run.{EqualOrSeen, Accounted, by-reason, by-pairs, by-definition, Settled}
 
 -- pairs of equal words join to equal words
-pairs-joined : (w : Words) {l : List (ℕ × ℕ)} → Every (λ p. w (p .0) ≡ w (p .1)) l → joined w (firsts l) ≡ joined w (seconds l)
-unfolding joined firsts seconds
-pairs-joined w none-left = refl
-pairs-joined w (and e k) = let i = pairs-joined w k in cc
+pairs-concatMap : (w : Words) {l : List (ℕ × ℕ)} → Every (λ p. w (p .0) ≡ w (p .1)) l → concatMap w (firsts l) ≡ concatMap w (seconds l)
+unfolding concatMap firsts seconds
+pairs-concatMap w none-left = refl
+pairs-concatMap w (and e k) = let i = pairs-concatMap w k in cc
 
 same-pair : (a b c d : ℕ) → min a b ≡ min c d → max a b ≡ max c d → ((a ≡ c) × (b ≡ d)) ⊎ ((a ≡ d) × (b ≡ c))
 same-pair a b c d p q = go (decLe a b) (decLe c d)
@@ -37,18 +37,18 @@ module _ (s : Store) (d : Audited s) (l : List (ℕ × ℕ)) (seen : Seen) (sett
     (w : Words) (reading : Reading s w) (holds : Holds s l w) where
   -- a joined pair has equal words where the stamps of its path are below m
   abbrev Claim : ℕ → Type 0
-  Claim m = (p : ℕ × ℕ) → Fit s m p → Joined seen p → w (p .0) ≡ w (p .1)
+  Claim m = (p : ℕ × ℕ) → Fit s m p → EqualOrSeen seen p → w (p .0) ≡ w (p .1)
 
-  congruent : (t : ℕ) → Congruent s t → Every (λ p. w (p .0) ≡ w (p .1)) (chain s (term s t .labelValue)) → Joins s w t
+  congruent : (t : ℕ) → Congruent s t → Every (λ p. w (p .0) ≡ w (p .1)) (chain s (term s t .labelValue)) → EqualEnds s w t
   congruent t c k = reading .concats t (c .child) ∙ ⊎-elim one other (c .pairs) ∙ sym (reading .concats _ (c .parent))
     where
-      one : Pairs s (chain s (term s t .labelValue)) t (term s t .forestParent) → joined w (parts s t) ≡ joined w (parts s (term s t .forestParent))
-      one p = ap (joined w) (sym (p .one)) ∙ pairs-joined w k ∙ ap (joined w) (p .other)
+      one : Pairs s (chain s (term s t .labelValue)) t (term s t .forestParent) → concatMap w (parts s t) ≡ concatMap w (parts s (term s t .forestParent))
+      one p = ap (concatMap w) (sym (p .one)) ∙ pairs-concatMap w k ∙ ap (concatMap w) (p .other)
 
-      other : Pairs s (chain s (term s t .labelValue)) (term s t .forestParent) t → joined w (parts s t) ≡ joined w (parts s (term s t .forestParent))
-      other p = ap (joined w) (sym (p .other)) ∙ sym (pairs-joined w k) ∙ ap (joined w) (p .one)
+      other : Pairs s (chain s (term s t .labelValue)) (term s t .forestParent) t → concatMap w (parts s t) ≡ concatMap w (parts s (term s t .forestParent))
+      other p = ap (concatMap w) (sym (p .other)) ∙ sym (pairs-concatMap w k) ∙ ap (concatMap w) (p .one)
 
-  edge-equal : (m : ℕ) → ((j : ℕ) → j < m → Claim j) → (t : ℕ) → isEdge s t ≡ true → term s t .stamp < m → Accounted s l seen t → Joins s w t
+  edge-equal : (m : ℕ) → ((j : ℕ) → j < m → Claim j) → (t : ℕ) → isEdge s t ≡ true → term s t .stamp < m → Accounted s l seen t → EqualEnds s w t
   edge-equal m ih t e b (by-reason k) = holds .reasons t e k
   edge-equal m ih t e b (by-pairs k j) =
       let c = d .congruences t e k in

@@ -21,28 +21,28 @@ use Rattle.engine.proofs.Fits.{Fit, fit-zero, fit-more, pairs-fit}
 use Rattle.engine.proofs.Cites.{cites, citing, citing-then}
 
 -- equal, or seen
-abbrev pub Joined : Seen → ℕ × ℕ → Type 0
-Joined seen p = (p .0 ≡ p .1) ⊎ List·Memᴰ (ordered (p .0) (p .1)) seen
+abbrev pub EqualOrSeen : Seen → ℕ × ℕ → Type 0
+EqualOrSeen seen p = (p .0 ≡ p .1) ⊎ List·Memᴰ (ordered (p .0) (p .1)) seen
 
 -- more reasons and more pairs
 pub record More (l : List (ℕ × ℕ)) (seen : Seen) (l′ : List (ℕ × ℕ)) (seen′ : Seen) : Type 0 where
   pub reasons : (r : ℕ × ℕ) → List·Memᴰ r l → List·Memᴰ r l′
   pub pairs : (q : ℕ × ℕ) → List·Memᴰ q seen → List·Memᴰ q seen′
 
-pub joined-more : {l l′ : List (ℕ × ℕ)} {seen seen′ : Seen} → More l seen l′ seen′ → (p : ℕ × ℕ) → Joined seen p → Joined seen′ p
-joined-more m p (inl e) = inl e
-joined-more m p (inr k) = inr (m .pairs _ k)
+pub equal-more : {l l′ : List (ℕ × ℕ)} {seen seen′ : Seen} → More l seen l′ seen′ → (p : ℕ × ℕ) → EqualOrSeen seen p → EqualOrSeen seen′ p
+equal-more m p (inl e) = inl e
+equal-more m p (inr k) = inr (m .pairs _ k)
 
 module _ (s : Store) where
   -- how an edge is accounted for: by its reason, by its pairs, or it is definitional
   pub data Accounted (l : List (ℕ × ℕ)) (seen : Seen) (e : ℕ) : Type 0 where
     by-reason : IsUnder l (term s e) → Accounted l seen e
-    by-pairs : term s e .labelKind ≡ 3 → Every (Joined seen) (chain s (term s e .labelValue)) → Accounted l seen e
+    by-pairs : term s e .labelKind ≡ 3 → Every (EqualOrSeen seen) (chain s (term s e .labelValue)) → Accounted l seen e
     by-definition : term s e .labelKind ≡ 4 → Accounted l seen e
 
   accounted-more : {l l′ : List (ℕ × ℕ)} {seen seen′ : Seen} → More l seen l′ seen′ → (e : ℕ) → Accounted l seen e → Accounted l′ seen′ e
   accounted-more m e (by-reason k) = by-reason (record { labelled = k .labelled; listed = m .reasons _ (k .listed) })
-  accounted-more m e (by-pairs k j) = by-pairs k (every-map (joined-more m) j)
+  accounted-more m e (by-pairs k j) = by-pairs k (every-map (equal-more m) j)
   accounted-more m e (by-definition k) = by-definition k
 
   -- a pair seen, the way round that it was walked
@@ -121,7 +121,7 @@ reason-then (stop n) seen = refl
 
 module _ (s : Store) (d : Audited s) where
   abbrev pub Walks : ℕ → Type 0
-  Walks h = (p : ℕ × ℕ) → Fit s h p → (seen : Seen) → Run s (walk h p seen) seen (λ l v. Joined v p)
+  Walks h = (p : ℕ × ℕ) → Fit s h p → (seen : Seen) → Run s (walk h p seen) seen (λ l v. EqualOrSeen v p)
 
   reason-run : (h t : ℕ) (seen : Seen) → isEdge s t ≡ true → reasonRule (term s t .labelKind, term s t .labelValue) ≡ true
       → ((rs : List (ℕ × ℕ)) → edge (walk h) t seen (withReasons s rs) ≡ andThen (λ (u : Unit {0}). give seen) (addReason (term s t .labelKind) (term s t .labelValue) (withReasons s rs)))
@@ -147,11 +147,11 @@ module _ (s : Store) (d : Audited s) where
       go (interface k n) = reason-run h t seen e (rw k n) (λ rs. rw k)
       go (congruence k) =
           run-as s (edge (walk h) t seen) (λ rs. rw k) (λ l v. by-pairs k)
-          (each-run s (walk h) (Fit s h) (λ p l v. Joined v p) (λ l l′ v v′. joined-more) ih (every-map (λ p f. fit-more b f) (pairs-fit s d t (d .congruences t e k))) seen)
+          (each-run s (walk h) (Fit s h) (λ p l v. EqualOrSeen v p) (λ l l′ v v′. equal-more) ih (every-map (λ p f. fit-more b f) (pairs-fit s d t (d .congruences t e k))) seen)
       go (definitional k n) = run-as s (edge (walk h) t seen) (λ rs. rw k) (λ l v j. j) (run-give s seen (by-definition k))
 
   seen-run : (p : ℕ × ℕ) (seen : Seen) {f : Work Seen}
-      → Run s f (ordered (p .0) (p .1) ∷ seen) (λ l v. Every (Accounted s l v) (path s (p .0) (p .1))) → Run s f seen (λ l v. Joined v p)
+      → Run s f (ordered (p .0) (p .1) ∷ seen) (λ l v. Every (Accounted s l v) (path s (p .0) (p .1))) → Run s f seen (λ l v. EqualOrSeen v p)
   seen-run p seen x = record {
     cited = x .cited;
     after = x .after;
@@ -167,7 +167,7 @@ module _ (s : Store) (d : Audited s) where
   walk-run zero p f seen = run-give s seen (inl (fit-zero d f))
   walk-run (suc h) p f seen = go (walk-run h) (eqb (p .0) (p .1) || wasSeen p seen) refl
     where
-      go : Walks h → (b : Bool) → (eqb (p .0) (p .1) || wasSeen p seen) ≡ b → Run s (walk (suc h) p seen) seen (λ l v. Joined v p)
+      go : Walks h → (b : Bool) → (eqb (p .0) (p .1) || wasSeen p seen) ≡ b → Run s (walk (suc h) p seen) seen (λ l v. EqualOrSeen v p)
       go ih true e =
           run-as s (walk (suc h) p seen) (λ rs. rw e) (λ l v j. j)
           (run-give s seen (⊎-elim (λ q. inl (eqb-true _ _ q)) (λ q. inr (seen-is p seen q)) (either (eqb (p .0) (p .1)) _ e)))

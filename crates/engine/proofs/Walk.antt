@@ -16,7 +16,7 @@ use Rattle.engine.proofs.Paths.{Together, path-edges}
 use Rattle.engine.proofs.Fits.{Fit, fit-zero, fit-more, fit-height, height-fit, highest-high, pairs-fit}
 use Rattle.engine.proofs.Cites.{citing-same}
 use Rattle.records.proofs.Later.{Added}
-use Rattle.engine.proofs.Run.{Run, Joined, Accounted, edge-run, walk-run}
+use Rattle.engine.proofs.Run.{Run, EqualOrSeen, Accounted, edge-run, walk-run}
 
 module _ (s : Store) where
   -- two works do the same at each store with the terms, cells and room of s
@@ -48,7 +48,7 @@ module _ (s : Store) (d : Audited s) where
       go (asserted k n) = rw k
       go (interface k n) = rw k
       go (congruence k) =
-          rw k (each-same s (walk h) g (Fit s (term s t .stamp)) (λ p l v. Joined v p) (λ p f. walk-run s d h p (fit-more b f)) same (pairs-fit s d t (d .congruences t e k)) seen rs)
+          rw k (each-same s (walk h) g (Fit s (term s t .stamp)) (λ p l v. EqualOrSeen v p) (λ p f. walk-run s d h p (fit-more b f)) same (pairs-fit s d t (d .congruences t e k)) seen rs)
       go (definitional k n) = rw k
 
   level-same : (h : ℕ) (g : ℕ × ℕ → Seen → Work Seen) (p : ℕ × ℕ) → Fit s (suc h) p

@@ -8,7 +8,7 @@ use Prim.Native.Nat.{ℕ}
 use native.Mathlib.Omega.{arith}
 use lib.IntN.{ℤ}
 use borrow.Author.Tests.{eqb-true}
-use Rattle.records.specs.Lists.{joined}
+use Rattle.records.specs.Lists.{concatMap}
 use Rattle.records.specs.Store.{Store, ok, stop, _>>=_, term, kind, isString, isLength, isEquation, within}
 use Rattle.records.specs.Rules.{isEquatable, isList}
 use Rattle.records.specs.Make.{withReasons}
@@ -22,7 +22,7 @@ use Rattle.normalize.proofs.Deep.{DeepFormed, Deepened, deep-ends}
 use Rattle.wordeq.specs.Wordeq.{Answer, done, saturated, conflict, propagate, split, resolve}
 use Rattle.wordeq.specs.Meaning.{Worth}
 use Rattle.records.proofs.Outcomes.{ends-give, ends-wider, ends-then}
-use Rattle.wordeq.proofs.Ends.{Working, Ends}
+use Rattle.wordeq.proofs.Ends.{RefusedAtWork, Ends}
 use Rattle.wordeq.proofs.Good.{worth-back}
 use Rattle.records.proofs.Later.{Later, later-then, later-cut}
 use Rattle.wordeq.proofs.Resolve.{Resolved, resolve-ends}
@@ -42,7 +42,7 @@ form-ends : (known : List ℕ) (t : ℕ) (s : Store) → Audited s → Strings s
 form-ends known t s d h i = ends-wider (omega arith) (deep-ends known t s d h i)
 
 -- under the reasons of both forms, equal words of the terms are equal words of the lists
-forms-equal : {s s₁ s₂ : Store} {a b : ℕ} {l r : List ℕ} (rs : List (ℕ × ℕ)) → DeepFormed s s₁ a l → DeepFormed s₁ s₂ b r → (w : Words) → Reading s₂ w → Holds s₂ (s₂ .reasons ++ rs) w → w a ≡ w b → joined w l ≡ joined w r
+forms-equal : {s s₁ s₂ : Store} {a b : ℕ} {l r : List ℕ} (rs : List (ℕ × ℕ)) → DeepFormed s s₁ a l → DeepFormed s₁ s₂ b r → (w : Words) → Reading s₂ w → Holds s₂ (s₂ .reasons ++ rs) w → w a ≡ w b → concatMap w l ≡ concatMap w r
 forms-equal {s} {s₁} {s₂} {a} {b} rs p q w rd h e =
     let h₂ = holds-left (s₂ .reasons) rs h in
     let m₁ : List (ℕ × ℕ) = p .later .reasons .more in
@@ -93,7 +93,7 @@ module _ (known : List ℕ) (e : ℕ) (g : ℤ) (s : Store) (audited : Audited s
   resolved-ends {s₁} {s₂} {l} {r} p q s₃ x y =
       let k = later-then (p .later) (q .later) in
       returned-ends x s₃ (later-then k (y .later))
-      (worth-back x (λ w. w a) (λ w. w b) (λ w. joined w l) (λ w. joined w r) (k .grown) (λ t i. p .variables t (q .variables t i)) (y .later .grown) (λ w w₁ f. f a (string-here s a left)) (λ w w₁ f. f b (string-here s b right))
+      (worth-back x (λ w. w a) (λ w. w b) (λ w. concatMap w l) (λ w. concatMap w r) (k .grown) (λ t i. p .variables t (q .variables t i)) (y .later .grown) (λ w w₁ f. f a (string-here s a left)) (λ w w₁ f. f b (string-here s b right))
       (λ w rd h i. forms-equal (y .later .reasons .more) p q w rd (subst (λ (z : List (ℕ × ℕ)). Holds s₂ z w) (y .later .reasons .is) h) i) (y .sound))
 
   right-ends : {s₁ : Store} {l : List ℕ} → DeepFormed s s₁ a l → (s₂ : Store) (o : Option (List ℕ)) → Deepened s₁ b s₂ o
@@ -124,5 +124,5 @@ module _ (known : List ℕ) (e : ℕ) (g : ℤ) (s : Store) (audited : Audited s
   step-kept s′ x q = step-gives s′ x q .later .audited
 
   -- it stops only with 6 to 9
-  pub step-stops : (n : ℕ) → step known e g s ≡ stop n → Working n
+  pub step-stops : (n : ℕ) → step known e g s ≡ stop n → RefusedAtWork n
   step-stops n q = ends .stopped n q

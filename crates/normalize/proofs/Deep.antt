@@ -8,7 +8,7 @@ use Prim.Native.Nat.{ℕ, zero, suc, _≤_}
 use lib.ListN.{length}
 use lib.Dec.{ltb}
 use borrow.Author.Tests.{ltb-false}
-use Rattle.records.specs.Lists.{any, joined, sameWord, isIn, none-left, and}
+use Rattle.records.specs.Lists.{any, concatMap, sameWord, isIn, none-left, and}
 use Rattle.records.specs.Store.{Store, ok, stop, Work, isString}
 use Rattle.records.specs.Meaning.{Words, Reading, Holds}
 use Rattle.records.specs.Working.Audited.{Audited}
@@ -27,7 +27,7 @@ use Rattle.records.proofs.ListLaws.{list-every}
 -- ONE ROUND
 
 formed-rewritten : {s s′ : Store} {t : ℕ} {l : List ℕ} → Formed s s′ t l → Rewritten s s′ (t ∷ []) l
-unfolding joined
+unfolding concatMap
 formed-rewritten {t = t} f = record { later = f .later; variables = f .variables; strings = f .strings; words = λ w r h. append-nil (w t) ∙ f .word w r h }
 
 -- what a round that began with the list l leaves: None, or a list of the same word
@@ -108,14 +108,14 @@ pub record DeepFormed (s s′ : Store) (t : ℕ) (l : List ℕ) : Type 0 where
   pub variables : OldVariables s s′
   pub strings : Strings s′ l
   pub long : length l ≤ deepLimit
-  pub word : (w : Words) → Reading s′ w → Holds s (later .reasons .more) w → w t ≡ joined w l
+  pub word : (w : Words) → Reading s′ w → Holds s (later .reasons .more) w → w t ≡ concatMap w l
 
 abbrev pub Deepened : Store → ℕ → Store → Option (List ℕ) → Type 0
 Deepened s t s′ none = Later s s′
 Deepened s t s′ (some l) = DeepFormed s s′ t l
 
 deepened : (s : Store) (t : ℕ) (s′ : Store) (o : Option (List ℕ)) → Answers s (t ∷ []) s′ o → Deepened s t s′ o
-unfolding joined
+unfolding concatMap
 deepened s t s′ none x = x
 deepened s t s′ (some l) x = record { later = x .0 .later; variables = x .0 .variables; strings = x .0 .strings; long = x .1; word = λ w r h. sym (append-nil (w t)) ∙ x .0 .words w r h }
 

@@ -8,7 +8,7 @@ use native.Mathlib.Omega.{arith}
 use lib.ListN.{length, length-append, length-reverse}
 use lib.Dec.{eqb}
 use borrow.Author.Tests.{eqb-true, eq-eqb}
-use Rattle.records.specs.Lists.{if_then_else_, all, firstOf, joined, Every, none-left, and}
+use Rattle.records.specs.Lists.{if_then_else_, all, firstOf, concatMap, Every, none-left, and}
 use Rattle.records.specs.Store.{Store, ok, stop, Work, _>>=_, give, within, isString, isConstant, text, root, sameClass}
 use Rattle.records.specs.Rules.{isChar, listLimit, isList}
 use Rattle.records.specs.Make.{makeConstant}
@@ -82,7 +82,7 @@ substitute-ends cs a s audited k i =
 
 -- two constants joined
 joined-pair : (t u c : ℕ) (s s′ : Store) → Audited s → isConstant s t ≡ true → isConstant s u ≡ true → makeConstant (text s u ++ text s t) s ≡ ok s′ c → Rewritten s s′ (u ∷ t ∷ []) (c ∷ [])
-unfolding joined within
+unfolding concatMap within
 joined-pair t u c s s′ audited p q e =
     let good = all-append isChar (text s u) (text s t) ∙ both-true _ _ (text-characters s (audited .recorded) u) (text-characters s (audited .recorded) t) in
     let m = constant-kept (text s u ++ text s t) s s′ c audited good e in
@@ -125,7 +125,7 @@ empty [] e = refl
 empty (x ∷ l) e = absurd (omega arith)
 
 pub push-ends : (t : ℕ) (out : List ℕ) (s : Store) → Audited s → isString s t ≡ true → Strings s (reverse out) → Ends (λ s′ out′. Pushed s s′ (t ∷ []) out out′) (push t out s)
-unfolding push joined
+unfolding push concatMap
 push-ends t out s audited i k =
     ends-if (isConstant s t && eqb (length (text s t)) 0) _ _
     (λ b. ends-give (record {
@@ -189,11 +189,11 @@ pub record Formed (s s′ : Store) (t : ℕ) (l : List ℕ) : Type 0 where
   pub variables : OldVariables s s′
   pub strings : Strings s′ l
   pub long : length l ≤ listLimit
-  pub word : (w : Words) → Reading s′ w → Holds s (later .reasons .more) w → w t ≡ joined w l
+  pub word : (w : Words) → Reading s′ w → Holds s (later .reasons .more) w → w t ≡ concatMap w l
 
-form-of : (cs m : List ℕ) (t : ℕ) (s : Store) → Audited s → Strings s cs → Strings s m → length m ≤ listLimit → ((w : Words) → Reading s w → joined w (t ∷ []) ≡ joined w m)
+form-of : (cs m : List ℕ) (t : ℕ) (s : Store) → Audited s → Strings s cs → Strings s m → length m ≤ listLimit → ((w : Words) → Reading s w → concatMap w (t ∷ []) ≡ concatMap w m)
     → Ends (λ s′ l. Formed s s′ t l) ((pushForms cs m [] >>= (λ out. give (reverse out))) s)
-unfolding joined
+unfolding concatMap
 form-of cs m t s audited h k n f =
     ends-then (λ out. give (reverse out)) (pushForms cs m [] s) (forms-end cs m [] s audited h k none-left) (λ s′ out x.
     ends-give (record {

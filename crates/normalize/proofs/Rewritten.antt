@@ -4,11 +4,11 @@ use mathlib.Core.Path.{_≡_, refl, sym, ap, subst, _∙_}
 use mathlib.Core.Bool.{true}
 use mathlib.Core.List.{List, [], _∷_, _++_}
 use Prim.Native.Nat.{ℕ}
-use Rattle.records.specs.Lists.{joined, none-left, and}
+use Rattle.records.specs.Lists.{concatMap, none-left, and}
 use Rattle.records.specs.Store.{Store, isString}
 use Rattle.records.specs.Meaning.{Words, Reading, Holds}
 use Rattle.records.specs.Working.Audited.{Audited}
-use Rattle.records.proofs.Lists.{every-append, joined-append}
+use Rattle.records.proofs.Lists.{every-append, concatMap-append}
 use Rattle.records.proofs.Grown.{OldVariables, grown-string, holds-left, holds-right, Strings, strings-later}
 use Rattle.records.proofs.Later.{more-then, Later, later-none, later-then, later-added, variables-added}
 use Rattle.engine.proofs.Sound.{Gave}
@@ -18,7 +18,7 @@ pub record Rewritten (s s′ : Store) (l m : List ℕ) : Type 0 where
   pub later : Later s s′
   pub variables : OldVariables s s′
   pub strings : Strings s′ m
-  pub words : (w : Words) → Reading s′ w → Holds s (later .reasons .more) w → joined w l ≡ joined w m
+  pub words : (w : Words) → Reading s′ w → Holds s (later .reasons .more) w → concatMap w l ≡ concatMap w m
 
 pub rewritten-none : (s : Store) (l : List ℕ) → Audited s → Strings s l → Rewritten s s l l
 rewritten-none s l a k = record { later = later-none a; variables = λ t e. e; strings = k; words = λ w r h. refl }
@@ -40,7 +40,7 @@ rewritten-after {l = l} {m = m} k i p = record {
   later = p .later;
   variables = p .variables;
   strings = every-append (strings-later (p .later .grown) i) (p .strings);
-  words = λ w r h. joined-append w k l ∙ ap (λ (x : List ℕ). joined w k ++ x) (p .words w r h) ∙ sym (joined-append w k m);
+  words = λ w r h. concatMap-append w k l ∙ ap (λ (x : List ℕ). concatMap w k ++ x) (p .words w r h) ∙ sym (concatMap-append w k m);
 }
 
 pub rewritten-before : {s s′ : Store} {l m : List ℕ} (k : List ℕ) → Strings s k → Rewritten s s′ l m → Rewritten s s′ (l ++ k) (m ++ k)
@@ -48,12 +48,12 @@ rewritten-before {l = l} {m = m} k i p = record {
   later = p .later;
   variables = p .variables;
   strings = every-append (p .strings) (strings-later (p .later .grown) i);
-  words = λ w r h. joined-append w l k ∙ ap (λ (x : List ℕ). x ++ joined w k) (p .words w r h) ∙ sym (joined-append w m k);
+  words = λ w r h. concatMap-append w l k ∙ ap (λ (x : List ℕ). x ++ concatMap w k) (p .words w r h) ∙ sym (concatMap-append w m k);
 }
 
 -- a term replaced by an equal one
 pub rewritten-explained : {s s′ : Store} {a b : ℕ} → Gave s s′ a b → isString s b ≡ true → Rewritten s s′ (a ∷ []) (b ∷ [])
-unfolding later-added joined
+unfolding later-added concatMap
 rewritten-explained g i = record {
   later = later-added (g .added) (g .audited);
   variables = variables-added (g .added);

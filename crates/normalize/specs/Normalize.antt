@@ -5,7 +5,7 @@ use mathlib.Core.Option.{Option, none, some}
 use Prim.Native.Nat.{ℕ, zero, suc}
 use lib.ListN.{length}
 use lib.Dec.{eqb, ltb, leb}
-use Rattle.records.specs.Lists.{if_then_else_, any, firstOf, joined, sameWord, isIn}
+use Rattle.records.specs.Lists.{if_then_else_, any, firstOf, concatMap, sameWord, isIn}
 use Rattle.records.specs.Store.{Store, Work, _>>=_, _>>_, give, refuse, store, isConstant, isConcat, isString, text, parts, sameClass}
 use Rattle.records.specs.Rules.{listLimit, isList}
 use Rattle.records.specs.Make.{makeConstant}
@@ -15,7 +15,7 @@ use Rattle.engine.specs.Explain.{explain}
 -- (proofs/Atoms.antt has the equation without it)
 unfoldable pub atomsBy : ℕ → Store → ℕ → List ℕ
 atomsBy zero s t = t ∷ []
-atomsBy (suc n) s t = elim (isConcat s t) [ true ↦ joined (atomsBy n s) (parts s t) | false ↦ t ∷ [] ]
+atomsBy (suc n) s t = elim (isConcat s t) [ true ↦ concatMap (atomsBy n s) (parts s t) | false ↦ t ∷ [] ]
 
 abbrev pub atoms : Store → ℕ → List ℕ
 atoms s t = atomsBy t s t
@@ -24,7 +24,7 @@ atoms s t = atomsBy t s t
 unfoldable pub flatten : List ℕ → Work (List ℕ)
 flatten l = do
   s ← store
-  if leb (length (joined (atoms s) l)) listLimit then give (joined (atoms s) l) else refuse 6
+  if leb (length (concatMap (atoms s) l)) listLimit then give (concatMap (atoms s) l) else refuse 6
 
 -- the first of the two that is there, else the atom itself
 abbrev pub orFirst : Option ℕ → Option ℕ → ℕ → ℕ

@@ -7,13 +7,13 @@ use native.Mathlib.Omega.{arith}
 use native.Mathlib.Decide.{decLe}
 use lib.Dec.{eqb}
 use borrow.Author.Tests.{eq-eqb, ne-eqb}
-use Rattle.records.specs.Lists.{if_then_else_, all, joined, firsts, Every}
+use Rattle.records.specs.Lists.{if_then_else_, all, concatMap, firsts, Every}
 use Rattle.records.specs.Store.{Term, Cell, Store, term, count, kind, textIn, text, chainIn, parts, isEdge}
 use Rattle.records.specs.Rules.{isChar}
 use Rattle.records.specs.Make.{own}
-use Rattle.records.specs.Meaning.{Words, Reading, Joins, IsUnder, Holds}
+use Rattle.records.specs.Meaning.{Words, Reading, EqualEnds, IsUnder, Holds}
 use Rattle.records.specs.Working.Audited.{Audited}
-use Rattle.records.proofs.Lists.{clash, every-map, every-firsts, all-take, all-drop, all-joined, joined-same, within-is, within-high}
+use Rattle.records.proofs.Lists.{clash, every-map, every-firsts, all-take, all-drop, all-concatMap, concatMap-same, within-is, within-high}
 use Rattle.records.proofs.Readings.{parts-lower}
 use Rattle.records.proofs.Grown.{term-past, term-zero, present, string-here, Extends, Grown}
 use Rattle.records.proofs.Append
@@ -29,8 +29,8 @@ but-same w t u = rw (eq-eqb t t refl)
 but-other : (w : Words) (t x : ℕ) (u : List ℕ) → (x ≡ t → ⊥) → but w t u x ≡ w x
 but-other w t x u d = rw (ne-eqb x t d)
 
-joined-but : (w : Words) (t : ℕ) (u : List ℕ) (l : List ℕ) → Every (λ p. p < t) l → joined (but w t u) l ≡ joined w l
-joined-but w t u l k = joined-same (but w t u) w (every-map (λ p h. but-other w t p u (λ e. omega arith)) k)
+concatMap-but : (w : Words) (t : ℕ) (u : List ℕ) (l : List ℕ) → Every (λ p. p < t) l → concatMap (but w t u) l ≡ concatMap w l
+concatMap-but w t u l k = concatMap-same (but w t u) w (every-map (λ p h. but-other w t p u (λ e. omega arith)) k)
 
 -- words for s′ that agree with w on the terms of s, with u for z
 pub record Chosen (s s′ : Store) (w : Words) (z : ℕ) (u : List ℕ) : Type 0 where
@@ -62,7 +62,7 @@ module _ (s : Store) (ds : List Cell) (hs : List ℕ) (k a b : ℕ) (audited : A
       go (no h) = subst (λ (x : Term). x .forestParent ≤ count s) (sym (term-past s (suc t) (omega arith))) (omega arith)
 
   -- an edge that held holds for words that differ at the new term alone
-  edges : (Q : Term → Type 0) (w v : Words) → ((t : ℕ) → (t ≡ n → ⊥) → v t ≡ w t) → ((t : ℕ) → isEdge s t ≡ true → Q (term s t) → Joins s w t) → (t : ℕ) → isEdge s′ t ≡ true → Q (term s′ t) → Joins s′ v t
+  edges : (Q : Term → Type 0) (w v : Words) → ((t : ℕ) → (t ≡ n → ⊥) → v t ≡ w t) → ((t : ℕ) → isEdge s t ≡ true → Q (term s t) → EqualEnds s w t) → (t : ℕ) → isEdge s′ t ≡ true → Q (term s′ t) → EqualEnds s′ v t
   edges Q w v same held t q r =
       let d = edge-old t q in
       let e = other-term t d in
@@ -83,11 +83,11 @@ module _ (s : Store) (ds : List Cell) (hs : List ℕ) (k a b : ℕ) (audited : A
   down w r = record {
     characters = r .characters;
     constants = λ t e. r .constants t (old-kind t 0 e) ∙ old-constant s ds hs k a b (audited .recorded) more t e;
-    concats = λ t e. r .concats t (old-kind t 2 e) ∙ ap (joined w) (old-parts s ds hs k a b (audited .recorded) more t e);
+    concats = λ t e. r .concats t (old-kind t 2 e) ∙ ap (concatMap w) (old-parts s ds hs k a b (audited .recorded) more t e);
   }
 
   -- words for s with u for the new term
-  extend-by : (w : Words) (u : List ℕ) → Reading s w → all isChar u ≡ true → (k ≡ 1 → u ≡ textIn hs (own n k a b)) → (k ≡ 3 → u ≡ joined w (firsts (chainIn ds a))) → Chosen s s′ w n u
+  extend-by : (w : Words) (u : List ℕ) → Reading s w → all isChar u ≡ true → (k ≡ 1 → u ≡ textIn hs (own n k a b)) → (k ≡ 3 → u ≡ concatMap w (firsts (chainIn ds a))) → Chosen s s′ w n u
   extend-by w u r good is-text is-parts =
       record { extends = record { words = v; reading = reading; agree = λ t h. same t (λ e. omega arith); held = holds-by w v same }; word = but-same w n u }
     where
@@ -110,14 +110,14 @@ module _ (s : Store) (ds : List Cell) (hs : List ℕ) (k a b : ℕ) (audited : A
         constants = Append.each-kind s ds hs k a b {P = λ t. v t ≡ text s′ t} 0
             (λ t e. let h = present s t 0 e in same t (λ z. omega arith) ∙ r .constants t e ∙ sym (old-constant s ds hs k a b (audited .recorded) more t e))
             (λ i. but-same w n u ∙ is-text i ∙ sym (ap (textIn hs) (Append.new-term s ds hs k a b)));
-        concats = Append.each-kind s ds hs k a b {P = λ t. v t ≡ joined v (parts s′ t)} 2
+        concats = Append.each-kind s ds hs k a b {P = λ t. v t ≡ concatMap v (parts s′ t)} 2
             (λ t e. let h = present s t 2 e in
             same t (λ z. omega arith) ∙ r .concats t e
-            ∙ sym (joined-but w n u (parts s t) (every-map (λ p l. omega arith) (parts-lower s (audited .recorded) t e)))
-            ∙ ap (joined v) (sym (old-parts s ds hs k a b (audited .recorded) more t e)))
+            ∙ sym (concatMap-but w n u (parts s t) (every-map (λ p l. omega arith) (parts-lower s (audited .recorded) t e)))
+            ∙ ap (concatMap v) (sym (old-parts s ds hs k a b (audited .recorded) more t e)))
             (λ i. but-same w n u ∙ is-parts i
-            ∙ sym (joined-but w n u (firsts (chainIn ds a)) (every-firsts (λ p l. let h = string-here s (p .0) l in omega arith) (new .concat i .strings)))
-            ∙ ap (λ (x : Term). joined v (firsts (chainIn ds (x .first)))) (sym (Append.new-term s ds hs k a b)));
+            ∙ sym (concatMap-but w n u (firsts (chainIn ds a)) (every-firsts (λ p l. let h = string-here s (p .0) l in omega arith) (new .concat i .strings)))
+            ∙ ap (λ (x : Term). concatMap v (firsts (chainIn ds (x .first)))) (sym (Append.new-term s ds hs k a b)));
       }
 
   -- a variable's word is any
@@ -126,13 +126,13 @@ module _ (s : Store) (ds : List Cell) (hs : List ℕ) (k a b : ℕ) (audited : A
 
   new-word : Words → Bool → Bool → List ℕ
   new-word w true c = textIn hs (own n k a b)
-  new-word w false true = joined w (firsts (chainIn ds a))
+  new-word w false true = concatMap w (firsts (chainIn ds a))
   new-word w false false = []
 
   new-characters : (w : Words) → Reading s w → (c d : Bool) → all isChar (new-word w c d) ≡ true
   unfolding textIn all new-word
   new-characters w r true d = all-take isChar b _ (all-drop isChar a hs (more .characters))
-  new-characters w r false true = all-joined isChar w _ (r .characters)
+  new-characters w r false true = all-concatMap isChar w _ (r .characters)
   new-characters w r false false = refl
 
   extend : (w : Words) → Reading s w → Extends s s′ w

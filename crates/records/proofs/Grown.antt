@@ -10,7 +10,7 @@ use lib.ListN.{List·getD-eq-default}
 use lib.Dec.{eqb}
 use Rattle.records.specs.Lists.{Every}
 use Rattle.records.specs.Store.{Term, noTerm, Store, termIn, term, count, kind, within, isTerm, isString, text, parts, root, isEdge}
-use Rattle.records.specs.Meaning.{Words, Reading, Joins, IsUnder, Holds}
+use Rattle.records.specs.Meaning.{Words, Reading, EqualEnds, IsUnder, Holds}
 use Rattle.records.proofs.Lists.{clash, every-map, within-low, within-high, within-is}
 
 -- NUMBERS OF TERMS
@@ -121,10 +121,10 @@ grown-then {s} {s₁} {s₂} p q = record {
 
 -- what holds of the edges later on holds of those before
 module _ {s s′ : Store} {w : Words} (g : Grown s s′) where
-  edge-before : (Q : Term → Type 0) → (Q noTerm → ⊥) → ((t : ℕ) → isEdge s′ t ≡ true → Q (term s′ t) → Joins s′ w t) → (t : ℕ) → isEdge s t ≡ true → Q (term s t) → Joins s w t
+  edge-before : (Q : Term → Type 0) → (Q noTerm → ⊥) → ((t : ℕ) → isEdge s′ t ≡ true → Q (term s′ t) → EqualEnds s′ w t) → (t : ℕ) → isEdge s t ≡ true → Q (term s t) → EqualEnds s w t
   edge-before Q none held t i q = go (decLe t (count s))
     where
-      go : Dec (t ≤ count s) → Joins s w t
+      go : Dec (t ≤ count s) → EqualEnds s w t
       go (yes l) =
           let e = g .old t l in
           held t (ap (λ (x : Term). not (eqb (x .forestParent) t)) e ∙ i) (subst Q (sym e) q) ∙ ap (λ (x : Term). w (x .forestParent)) e

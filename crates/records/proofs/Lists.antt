@@ -12,7 +12,7 @@ use lib.ListN.{length, take, drop, getD, length-append, List·getD-append, List�
 use lib.Seq.{getD-at}
 use lib.Dec.{eqb, ltb}
 use borrow.Author.Tests.{not-true, not-false, eqb-true, eq-eqb, ltb-true, leb-true, lt-ltb, le-leb, le-ltb, lt-leb}
-use Rattle.records.specs.Lists.{if_then_else_, all, any, joined, table, sameWord, firsts, seconds, allBelow, firstBelow, lastBelow, Every, none-left, and}
+use Rattle.records.specs.Lists.{if_then_else_, all, any, concatMap, table, sameWord, firsts, seconds, allBelow, firstBelow, lastBelow, Every, none-left, and}
 use Rattle.records.specs.Store.{within}
 
 -- TESTS
@@ -419,10 +419,10 @@ word-append (x ∷ v) (y ∷ w) v′ w′ e = go (eqb x y) (word-append v w v′
     go false q = refl
 
 module _ {A B : Type 0} (f : A → List B) where
-  pub joined-append : (l m : List A) → joined f (l ++ m) ≡ joined f l ++ joined f m
-  unfolding joined
-  joined-append [] m = refl
-  joined-append (x ∷ l) m = rw (joined-append l m, append-assoc)
+  pub concatMap-append : (l m : List A) → concatMap f (l ++ m) ≡ concatMap f l ++ concatMap f m
+  unfolding concatMap
+  concatMap-append [] m = refl
+  concatMap-append (x ∷ l) m = rw (concatMap-append l m, append-assoc)
 
 -- EACH ELEMENT
 
@@ -474,15 +474,15 @@ module _ {A : Type 0} where
   all-drop p (suc n) [] e = e
   all-drop p (suc n) (x ∷ l) e = all-drop p n l (both-right (p x) _ e)
 
-  pub joined-same : {B : Type 0} (f g : A → List B) {l : List A} → Every (λ a. f a ≡ g a) l → joined f l ≡ joined g l
-  unfolding joined
-  joined-same f g none-left = refl
-  joined-same f g (and {a} {l} e k) = let h = joined-same f g k in cc
+  pub concatMap-same : {B : Type 0} (f g : A → List B) {l : List A} → Every (λ a. f a ≡ g a) l → concatMap f l ≡ concatMap g l
+  unfolding concatMap
+  concatMap-same f g none-left = refl
+  concatMap-same f g (and {a} {l} e k) = let h = concatMap-same f g k in cc
 
-  pub all-joined : {B : Type 0} (p : B → Bool) (f : A → List B) (l : List A) → ((a : A) → all p (f a) ≡ true) → all p (joined f l) ≡ true
-  unfolding all joined
-  all-joined p f [] h = refl
-  all-joined p f (x ∷ l) h = all-append p (f x) (joined f l) ∙ both-true _ _ (h x) (all-joined p f l h)
+  pub all-concatMap : {B : Type 0} (p : B → Bool) (f : A → List B) (l : List A) → ((a : A) → all p (f a) ≡ true) → all p (concatMap f l) ≡ true
+  unfolding all concatMap
+  all-concatMap p f [] h = refl
+  all-concatMap p f (x ∷ l) h = all-append p (f x) (concatMap f l) ∙ both-true _ _ (h x) (all-concatMap p f l h)
 
 pub firsts-length : (l : List (ℕ × ℕ)) → length (firsts l) ≡ length l
 unfolding firsts

@@ -5,7 +5,7 @@ use mathlib.Core.List.{List}
 use Prim.Native.Nat.{ℕ}
 use native.Mathlib.Omega.{arith}
 use lib.ListN.{length}
-use Rattle.records.specs.Lists.{joined}
+use Rattle.records.specs.Lists.{concatMap}
 use Rattle.records.specs.Store.{Term, Store, term, kind, isString}
 use Rattle.records.specs.Meaning
 use Rattle.records.specs.Meaning.{Words, Reading, True}
@@ -20,8 +20,8 @@ use Rattle.records.proofs.Kept.{ConstantMade, ConcatMade, EquationMade}
 pub constant-word : {c : List ℕ} {s s′ : Store} {t : ℕ} {w : Words} → ConstantMade c s s′ t → Reading s′ w → w t ≡ c
 constant-word m r = r .constants _ (m .made .kind-is) ∙ m .text-is
 
-pub concat-word : {l : List ℕ} {s s′ : Store} {t : ℕ} {w : Words} → ConcatMade l s s′ t → Reading s′ w → w t ≡ joined w l
-concat-word {w = w} m r = r .concats _ (m .made .kind-is) ∙ ap (joined w) (m .parts-is)
+pub concat-word : {l : List ℕ} {s s′ : Store} {t : ℕ} {w : Words} → ConcatMade l s s′ t → Reading s′ w → w t ≡ concatMap w l
+concat-word {w = w} m r = r .concats _ (m .made .kind-is) ∙ ap (concatMap w) (m .parts-is)
 
 -- EQUATIONS
 

@@ -8,12 +8,12 @@ use Prim.Native.Nat.{ℕ, zero, suc, _≤_, _<_}
 use native.Mathlib.Omega.{arith}
 use lib.Dec.{eqb}
 use borrow.Author.Tests.{eqb-true, eq-eqb}
-use Rattle.records.specs.Lists.{if_then_else_, all, joined, Every, none-left, and}
+use Rattle.records.specs.Lists.{if_then_else_, all, concatMap, Every, none-left, and}
 use Rattle.records.specs.Store.{Store, term, kind, isTerm, isString, isConstant, isConcat, textIn, text, chain, parts}
 use Rattle.records.specs.Rules.{isChar}
 use Rattle.records.specs.Meaning.{Words, Reading}
 use Rattle.records.specs.Working.Audited.{Pairs, Congruent, Recorded}
-use Rattle.records.proofs.Lists.{within-low, within-high, every-map, every-both, every-firsts, firsts-every, seconds-every, all-take, all-drop, all-joined, joined-same}
+use Rattle.records.proofs.Lists.{within-low, within-high, every-map, every-both, every-firsts, firsts-every, seconds-every, all-take, all-drop, all-concatMap, concatMap-same}
 use Rattle.records.proofs.Grown.{string-term}
 
 -- the characters of a text
@@ -46,7 +46,7 @@ pairs-terms s r t c = ⊎-elim (of t u (c .child) (c .parent)) (of u t (c .paren
 -- the word of a term, at most f deep
 val : ℕ → Store → Words → ℕ → List ℕ
 val zero s v t = []
-val (suc f) s v t = if isConstant s t then text s t else (if isConcat s t then joined (val f s v) (parts s t) else v t)
+val (suc f) s v t = if isConstant s t then text s t else (if isConcat s t then concatMap (val f s v) (parts s t) else v t)
 
 -- the words that the words v of the variables give
 pub wordsOf : Store → Words → Words
@@ -68,9 +68,9 @@ module _ (s : Store) (v : Words) (recorded : Recorded s) where
   enough (suc f) (suc g) t h k = go (enough f g) (isConstant s t) (isConcat s t) refl
     where
       go : ((p : ℕ) → p < f → p < g → val f s v p ≡ val g s v p) → (b c : Bool) → isConcat s t ≡ c
-          → (if b then text s t else (if c then joined (val f s v) (parts s t) else v t)) ≡ (if b then text s t else (if c then joined (val g s v) (parts s t) else v t))
+          → (if b then text s t else (if c then concatMap (val f s v) (parts s t) else v t)) ≡ (if b then text s t else (if c then concatMap (val g s v) (parts s t) else v t))
       go ih true c q = refl
-      go ih false true q = joined-same (val f s v) (val g s v) (every-map (λ p i. ih p (omega arith) (omega arith)) (parts-lower s recorded t (eqb-true _ _ q)))
+      go ih false true q = concatMap-same (val f s v) (val g s v) (every-map (λ p i. ih p (omega arith) (omega arith)) (parts-lower s recorded t (eqb-true _ _ q)))
       go ih false false q = refl
 
   val-characters : ((t : ℕ) → all isChar (v t) ≡ true) → (f t : ℕ) → all isChar (val f s v t) ≡ true
@@ -78,9 +78,9 @@ module _ (s : Store) (v : Words) (recorded : Recorded s) where
   val-characters good zero t = refl
   val-characters good (suc f) t = go (isConstant s t) (isConcat s t) (val-characters good f)
     where
-      go : (b c : Bool) → ((t : ℕ) → all isChar (val f s v t) ≡ true) → all isChar (if b then text s t else (if c then joined (val f s v) (parts s t) else v t)) ≡ true
+      go : (b c : Bool) → ((t : ℕ) → all isChar (val f s v t) ≡ true) → all isChar (if b then text s t else (if c then concatMap (val f s v) (parts s t) else v t)) ≡ true
       go true c ih = text-characters s recorded t
-      go false true ih = all-joined isChar (val f s v) (parts s t) ih
+      go false true ih = all-concatMap isChar (val f s v) (parts s t) ih
       go false false ih = good t
 
   pub reading-exists : ((t : ℕ) → all isChar (v t) ≡ true) → Reading s (wordsOf s v)
@@ -89,7 +89,7 @@ module _ (s : Store) (v : Words) (recorded : Recorded s) where
     characters = λ t. val-characters good (suc t) t;
     constants = λ t e. rw (eq-eqb (kind s t) 1 e);
     concats = λ t e. rw (ap (λ (k : ℕ). eqb k 1) e, eq-eqb (kind s t) 3 e)
-        (joined-same (val t s v) (wordsOf s v) (every-map (λ p i. enough t (suc p) p i (omega arith)) (parts-lower s recorded t e)));
+        (concatMap-same (val t s v) (wordsOf s v) (every-map (λ p i. enough t (suc p) p i (omega arith)) (parts-lower s recorded t e)));
   }
 
   pub reading-variables : (t : ℕ) → kind s t ≡ 2 → wordsOf s v t ≡ v t
@@ -104,7 +104,7 @@ module _ (s : Store) (recorded : Recorded s) (w w′ : Words) (reads : Reading s
       string-kinds (λ k. kind s t ≡ k → w t ≡ w′ t) (kind s t)
       (λ k. reads .constants t k ∙ sym (reads′ .constants t k))
       (agree t)
-      (λ k. reads .concats t k ∙ joined-same w w′ (both (unique-below n) (parts-lower s recorded t k) (parts-strings s recorded t k)) ∙ sym (reads′ .concats t k))
+      (λ k. reads .concats t k ∙ concatMap-same w w′ (both (unique-below n) (parts-lower s recorded t k) (parts-strings s recorded t k)) ∙ sym (reads′ .concats t k))
       (within-low 3 (kind s t) e) (within-high 3 (kind s t) e) refl
     where
       both : ((p : ℕ) → p < n → isString s p ≡ true → w p ≡ w′ p) → {l : List ℕ} → Every (λ p. p < t) l → Every (λ p. isString s p ≡ true) l → Every (λ p. w p ≡ w′ p) l

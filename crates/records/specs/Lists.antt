@@ -29,9 +29,9 @@ module _ {A : Type 0} where
   keep p (x ∷ l) = if p x then (x ∷ keep p l) else keep p l
 
   -- the words of each, one after the other
-  unfoldable pub joined : {B : Type 0} → (A → List B) → List A → List B
-  joined f [] = []
-  joined f (x ∷ l) = f x ++ joined f l
+  unfoldable pub concatMap : {B : Type 0} → (A → List B) → List A → List B
+  concatMap f [] = []
+  concatMap f (x ∷ l) = f x ++ concatMap f l
 
   -- f 0, f 1, .. : n of them
   unfoldable pub table : (ℕ → A) → ℕ → List A

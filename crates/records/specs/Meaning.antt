@@ -4,11 +4,11 @@ use mathlib.Core.Bool.{true}
 use mathlib.Core.List.{List, List·Memᴰ}
 use Prim.Native.Nat.{ℕ}
 use lib.ListN.{length}
-use Rattle.records.specs.Lists.{all, joined}
+use Rattle.records.specs.Lists.{all, concatMap}
 use Rattle.records.specs.Store.{Term, Store, term, kind, text, parts, isEdge}
 use Rattle.records.specs.Rules.{isChar, isReasonKind}
 
--- a word for each term; 'a concatenation's or a list's is its parts' words in order': `joined w l`
+-- a word for each term; 'a concatenation's or a list's is its parts' words in order': `concatMap w l`
 abbrev pub Words : Type 0
 Words = ℕ → List ℕ
 
@@ -18,11 +18,11 @@ Words = ℕ → List ℕ
 pub record Reading (s : Store) (w : Words) : Type 0 where
   pub characters : (t : ℕ) → all isChar (w t) ≡ true
   pub constants : (t : ℕ) → kind s t ≡ 1 → w t ≡ text s t
-  pub concats : (t : ℕ) → kind s t ≡ 3 → w t ≡ joined w (parts s t)
+  pub concats : (t : ℕ) → kind s t ≡ 3 → w t ≡ concatMap w (parts s t)
 
 -- an edge holds when its two ends have equal words
-abbrev pub Joins : Store → Words → ℕ → Type 0
-Joins s w t = w t ≡ w (term s t .forestParent)
+abbrev pub EqualEnds : Store → Words → ℕ → Type 0
+EqualEnds s w t = w t ≡ w (term s t .forestParent)
 
 -- 'The edges under a reason are those at entry labelled with its kind and number': x is the child of an edge under a reason of the list.
 -- A congruence edge is under none, whatever number its pair chain has
@@ -33,8 +33,8 @@ pub record IsUnder (rs : List (ℕ × ℕ)) (x : Term) : Type 0 where
 -- 'A reason holds for given words when the two ends of every edge under it have equal words; a definitional merge (label 4) holds when
 -- its two ends do'
 pub record Holds (s : Store) (rs : List (ℕ × ℕ)) (w : Words) : Type 0 where
-  pub merges : (t : ℕ) → isEdge s t ≡ true → term s t .labelKind ≡ 4 → Joins s w t
-  pub reasons : (t : ℕ) → isEdge s t ≡ true → IsUnder rs (term s t) → Joins s w t
+  pub merges : (t : ℕ) → isEdge s t ≡ true → term s t .labelKind ≡ 4 → EqualEnds s w t
+  pub reasons : (t : ℕ) → isEdge s t ≡ true → IsUnder rs (term s t) → EqualEnds s w t
 
 -- 'A listed atom, an equation in Split's list, is true when its two words are equal or, between lengths, equally long'
 pub data True (s : Store) (w : Words) (e : ℕ) : Type 0 where

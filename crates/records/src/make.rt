@@ -5,7 +5,7 @@ ghost use mathlib.Core.Path.{_≡_};
 ghost use Prim.Native.Nat.{suc, _+_, _≤_};
 ghost use lib.Dec.{leb};
 ghost use lib.ListN.{length};
-ghost use Rattle.records.specs.Lists.{all, joined, firstBelow};
+ghost use Rattle.records.specs.Lists.{all, concatMap, firstBelow};
 ghost use Rattle.records.specs.Store.{within, isConstant, text};
 ghost use Rattle.records.specs.View.{termLimit, charLimit, charRoom, storeOf, textAt, lengths, lends, across};
 ghost use Rattle.records.specs.Rules.{listLimit, named};
@@ -168,7 +168,7 @@ fn has_joined(terms: &[u32], chars: &[u32], t: u32, list: &[u32], total: usize) 
     requires { ⌜ length (now list) ≤ listLimit ⌝ }
     requires { ⌜ TextsWithin (now terms) (length (now chars)) (now list) ⌝ }
     requires { ⌜ total ≡ lengths (now terms) (now list) ⌝ }
-    ensures { λ r. ⌜ r ≡ hasText (now (terms .entry)) (now (chars .entry)) 1 (joined (textAt (now (terms .entry)) (now (chars .entry))) (now (list .entry))) t ⌝ }
+    ensures { λ r. ⌜ r ≡ hasText (now (terms .entry)) (now (chars .entry)) 1 (concatMap (textAt (now (terms .entry)) (now (chars .entry))) (now (list .entry))) t ⌝ }
 {
     if kind(terms, t) != 1 {
         return false;
@@ -187,7 +187,7 @@ fn find_joined(terms: &[u32], chars: &[u32], n: usize, list: &[u32], total: usiz
     requires { ⌜ TextsWithin (now terms) (length (now chars)) (now list) ⌝ }
     requires { ⌜ total ≡ lengths (now terms) (now list) ⌝ }
     ensures { λ r. do
-      let w = joined (textAt (now (terms .entry)) (now (chars .entry))) (now (list .entry))
+      let w = concatMap (textAt (now (terms .entry)) (now (chars .entry))) (now (list .entry))
       ⌜ r ≡ numberOf (firstBelow (λ i. hasText (now (terms .entry)) (now (chars .entry)) 1 w (suc i)) n) ⌝ }
 {
     let mut t: u32 = 0;
@@ -213,7 +213,7 @@ pub fn join_constants_unchecked(
     requires { ⌜ Ready (lends terms cells chars reasons keys) c ⌝ }
     requires { ⌜ length (now list) ≤ listLimit ⌝ }
     requires { ⌜ all (isConstant (storeOf (lends terms cells chars reasons keys) c)) (now list) ≡ true ⌝ }
-    ensures { λ r. ⌜ Does (λ s. makeConstant (joined (text s) (now (list .entry))) s) (across terms cells chars reasons keys) c (made r) ⌝ }
+    ensures { λ r. ⌜ Does (λ s. makeConstant (concatMap (text s) (now (list .entry))) s) (across terms cells chars reasons keys) c (made r) ⌝ }
 {
     let total = joined_length_unchecked(terms, list);
     let t = find_joined(terms, chars, c.terms, list, total);

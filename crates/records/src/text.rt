@@ -2,7 +2,7 @@
 ghost use mathlib.Core.Path.{_≡_};
 ghost use Prim.Native.Nat.{_+_, _≤_};
 ghost use lib.ListN.{length};
-ghost use Rattle.records.specs.Lists.{sameWord, joined};
+ghost use Rattle.records.specs.Lists.{sameWord, concatMap};
 ghost use Rattle.records.specs.View.{span, textAt, lengths};
 ghost use Rattle.records.specs.Rules.{listLimit};
 ghost use Rattle.records.specs.Working.Puts.{CharsPut, TextsWithin};
@@ -88,7 +88,7 @@ fn spans_agree(chars: &[u32], at: usize, from: usize, n: usize) -> bool
 pub(crate) fn joined_is_unchecked(terms: &[u32], chars: &[u32], p: u32, list: &[u32]) -> bool
     requires { ⌜ length (now list) ≤ listLimit ⌝ ∗ ⌜ TextsWithin (now terms) (length (now chars)) (now list) ⌝ }
     ensures { λ r. do
-      let w = joined (textAt (now (terms .entry)) (now (chars .entry))) (now (list .entry))
+      let w = concatMap (textAt (now (terms .entry)) (now (chars .entry))) (now (list .entry))
       ⌜ r ≡ sameWord (span (now (chars .entry)) p (lengths (now (terms .entry)) (now (list .entry)))) w ⌝ }
 {
     let mut at = p as usize;
@@ -122,7 +122,7 @@ fn copy_text(chars: &mut [u32], from: usize, n: usize, at: usize)
 pub(crate) fn put_joined_unchecked(terms: &[u32], chars: &mut [u32], list: &[u32], to: usize)
     requires { ⌜ TextsWithin (now terms) to (now list) ⌝ }
     requires { ⌜ to + lengths (now terms) (now list) ≤ length (now chars) ⌝ }
-    ensures { λ _. ⌜ CharsPut (now (chars .entry)) (now (chars .exit)) to (joined (textAt (now (terms .entry)) (now (chars .entry))) (now (list .entry))) ⌝ }
+    ensures { λ _. ⌜ CharsPut (now (chars .entry)) (now (chars .exit)) to (concatMap (textAt (now (terms .entry)) (now (chars .entry))) (now (list .entry))) ⌝ }
 {
     let mut at = to;
     let mut i: usize = 0;

@@ -8,13 +8,13 @@ use Prim.Native.Nat.{ℕ, _≤_}
 use native.Mathlib.Omega.{arith}
 use lib.ListN.{length}
 use borrow.Author.Tests.{eqb-true, ltb-true, not-true}
-use Rattle.records.specs.Lists.{if_then_else_, all, firstOf, joined, isIn}
+use Rattle.records.specs.Lists.{if_then_else_, all, firstOf, concatMap, isIn}
 use Rattle.records.specs.Store.{Store, kind, isConstant, isVariable, text}
 use Rattle.records.specs.Rules.{isChar}
 use Rattle.records.specs.Make.{makeConstant}
 use Rattle.records.specs.Meaning.{Words, Reading}
 use Rattle.records.specs.Working.Audited.{Audited}
-use Rattle.records.proofs.Lists.{both-left, both-right, either, clash, all-every, all-joined, word-same}
+use Rattle.records.proofs.Lists.{both-left, both-right, either, clash, all-every, all-concatMap, word-same}
 use Rattle.records.proofs.Paths.{first-has}
 use Rattle.records.proofs.Readings.{text-characters}
 use Rattle.records.proofs.Kept.{ConstantMade, constant-kept, constant-stops}
@@ -30,15 +30,15 @@ use Rattle.wordeq.proofs.Tile.{fixed-word}
 
 -- no words make the sides equal
 abbrev Never : Store → List ℕ → List ℕ → Type 0
-Never s l r = (w : Words) → Reading s w → joined w l ≡ joined w r → ⊥
+Never s l r = (w : Words) → Reading s w → concatMap w l ≡ concatMap w r → ⊥
 
 -- 3
 
-letters-within : (s : Store) (w : Words) (l : List ℕ) → Reading s w → length (letters s l) ≤ length (joined w l)
+letters-within : (s : Store) (w : Words) (l : List ℕ) → Reading s w → length (letters s l) ≤ length (concatMap w l)
 unfolding letters lettersOf
 letters-within s w l rd = fill-within (isConstant s) (text s) w (λ a e. rd .constants a (eqb-true _ _ e)) l
 
-letters-in : (s : Store) (w : Words) (l : List ℕ) (c : ℕ) → Reading s w → isIn c (letters s l) ≡ true → isIn c (joined w l) ≡ true
+letters-in : (s : Store) (w : Words) (l : List ℕ) (c : ℕ) → Reading s w → isIn c (letters s l) ≡ true → isIn c (concatMap w l) ≡ true
 unfolding letters lettersOf
 letters-in s w l c rd e = fill-in (isConstant s) (text s) w (λ a e. rd .constants a (eqb-true _ _ e)) l c e
 
@@ -48,7 +48,7 @@ short-never s l r e w rd z =
     let p = fixed-word s w l rd (both-left _ _ e) in
     let q = ltb-true (length (letters s l)) (length (letters s r)) (both-right (fixed s l) _ e) in
     let k = letters-within s w r rd in
-    let n : length (letters s l) ≡ length (joined w r) = ap length (sym p ∙ z) in
+    let n : length (letters s l) ≡ length (concatMap w r) = ap length (sym p ∙ z) in
     omega arith
 
 absent-never : (s : Store) (l r : List ℕ) → absent s l r ≡ true → Never s l r
@@ -88,7 +88,7 @@ unfolding isPlain
 plain-variable s v e = eqb-true _ _ (both-left (isVariable s v) _ e)
 
 pub alias-step : {added : Bool} (l r : List ℕ) → Step added l r (alias l r)
-unfolding alias joined
+unfolding alias concatMap
 alias-step (a ∷ []) (b ∷ []) s d hl hr =
     ends-if (isPlain s a && isPlain s b) _ _ (λ c. step-propagate a b false (later-none d) (plain-variable s a (both-left (isPlain s a) _ c)) (λ w rd h z. sym (append-nil (w a)) ∙ z ∙ append-nil (w b))) (λ c. step-pass d)
 alias-step (a ∷ []) [] s d hl hr = step-pass d
@@ -100,7 +100,7 @@ pub constant-ends : (c : List ℕ) (s : Store) → Audited s → all isChar c �
 constant-ends c s d good = ends-by 8 (omega arith) (omega arith) (λ s′ t e. constant-kept c s s′ t d good e) (constant-stops c s)
 
 pub empties-step : {added : Bool} (l r : List ℕ) → Step added l r (empties l r)
-unfolding empties all joined
+unfolding empties all concatMap
 empties-step [] [] s d hl hr = step-pass d
 empties-step [] (a ∷ []) s d hl hr = step-pass d
 empties-step (x ∷ l) r s d hl hr = step-pass d
@@ -116,14 +116,14 @@ empties-step {added} [] (a ∷ b ∷ r) s d hl hr =
 -- constants' characters are characters
 letters-characters : (s : Store) (l : List ℕ) → Audited s → all isChar (letters s l) ≡ true
 unfolding letters lettersOf all
-letters-characters s l d = all-joined isChar (lettersOf s) l (λ a. go a (isConstant s a))
+letters-characters s l d = all-concatMap isChar (lettersOf s) l (λ a. go a (isConstant s a))
   where
     go : (a : ℕ) (b : Bool) → all isChar (if b then text s a else []) ≡ true
     go a true = text-characters s (d .recorded) a
     go a false = refl
 
 pub assigns-step : {added : Bool} (l r : List ℕ) → Step added l r (assigns l r)
-unfolding assigns joined
+unfolding assigns concatMap
 assigns-step [] r s d hl hr = step-pass d
 assigns-step (a ∷ b ∷ l) r s d hl hr = step-pass d
 assigns-step (a ∷ []) r s d hl hr =
@@ -136,7 +136,7 @@ assigns-step (a ∷ []) r s d hl hr =
 -- 6
 
 pub clashes-step : {added : Bool} (l r : List ℕ) → Step added l r (clashes l r)
-unfolding clashes joined
+unfolding clashes concatMap
 clashes-step [] r s d hl hr = step-pass d
 clashes-step (a ∷ l) [] s d hl hr = step-pass d
 clashes-step (a ∷ l) (b ∷ r) s d hl hr =
@@ -145,6 +145,6 @@ clashes-step (a ∷ l) (b ∷ r) s d hl hr =
     never : isConstant s a && isConstant s b && differ (text s a) (text s b) ≡ true → Never s (a ∷ l) (b ∷ r)
     never c w rd z =
         let h = both-left (isConstant s a && isConstant s b) _ c in
-        differ-apart (text s a) (text s b) (joined w l) (joined w r) (both-right (isConstant s a && isConstant s b) _ c)
-        (ap (λ (y : List ℕ). y ++ joined w l) (sym (rd .constants a (eqb-true _ _ (both-left _ _ h))))
-        ∙ z ∙ ap (λ (y : List ℕ). y ++ joined w r) (rd .constants b (eqb-true _ _ (both-right (isConstant s a) _ h))))
+        differ-apart (text s a) (text s b) (concatMap w l) (concatMap w r) (both-right (isConstant s a && isConstant s b) _ c)
+        (ap (λ (y : List ℕ). y ++ concatMap w l) (sym (rd .constants a (eqb-true _ _ (both-left _ _ h))))
+        ∙ z ∙ ap (λ (y : List ℕ). y ++ concatMap w r) (rd .constants b (eqb-true _ _ (both-right (isConstant s a) _ h))))

@@ -8,7 +8,7 @@ use lib.Seq.{drop-append-seam}
 use native.Mathlib.Omega.{arith}
 use lib.Dec.{eqb}
 use borrow.Author.Tests.{not-false}
-use Rattle.records.specs.Lists.{if_then_else_, all, joined, sameWord, and}
+use Rattle.records.specs.Lists.{if_then_else_, all, concatMap, sameWord, and}
 use Rattle.records.specs.Store.{Store, Out, ok, stop, andThen, give, isConstant, isString, text, sameClass}
 use Rattle.records.specs.Make.{withReasons}
 use Rattle.records.specs.Meaning.{Words}
@@ -64,8 +64,8 @@ equal-beside s rs (a ∷ l) (b ∷ r) = ap (λ (x : Bool). same s a b && x) (equ
 equal-added : {s s₁ : Store} (l r : List ℕ) → Added s s₁ → nfEqual s₁ l r ≡ nfEqual s l r
 equal-added {s} l r a = ap (λ (x : Store). nfEqual x l r) (a .is) ∙ equal-beside s (s .reasons ++ a .more) l r
 
-pub explain-equal-ends : (l r : List ℕ) (s : Store) → Audited s → Strings s l → Strings s r → Ends (λ s′ u. Cited (λ w. nfEqual s l r ≡ true → joined w l ≡ joined w r) s s′) (nfExplain l r s)
-unfolding nfExplain nfEqual joined
+pub explain-equal-ends : (l r : List ℕ) (s : Store) → Audited s → Strings s l → Strings s r → Ends (λ s′ u. Cited (λ w. nfEqual s l r ≡ true → concatMap w l ≡ concatMap w r) s s′) (nfExplain l r s)
+unfolding nfExplain nfEqual concatMap
 explain-equal-ends [] [] s d hl hr = ends-give (cited-none s d (λ w rd e. refl))
 explain-equal-ends [] (b ∷ r) s d hl hr = ends-give (cited-none s d (λ w rd e. clash e refl))
 explain-equal-ends (a ∷ l) [] s d hl hr = ends-give (cited-none s d (λ w rd e. clash e refl))
@@ -74,7 +74,7 @@ explain-equal-ends (a ∷ l) (b ∷ r) s d (and p hl) (and q hr) =
     ends-map (λ s′ v k. cited-then (λ w f h e. both w (f (both-left (same s a b) _ e)) (h (equal-added l r (m .added) ∙ both-right (same s a b) _ e))) m k)
     (explain-equal-ends l r s₁ (m .audited) (strings-later (m .grown) hl) (strings-later (m .grown) hr)))
   where
-    both : (w : Words) → w a ≡ w b → joined w l ≡ joined w r → w a ++ joined w l ≡ w b ++ joined w r
+    both : (w : Words) → w a ≡ w b → concatMap w l ≡ concatMap w r → w a ++ concatMap w l ≡ w b ++ concatMap w r
     both w e f = cc
 
 pair-stops : (a b : ℕ) (s : Store) → Audited s → isString s a ≡ true → isString s b ≡ true → (n : ℕ) → explainPair a b s ≡ stop n → n ≡ 7
@@ -98,16 +98,16 @@ stops-seven (a ∷ l) (b ∷ r) s d (and p hl) (and q hr) n e = go (stops-seven 
     go ih (stop k) f i = let j : k ≡ n = cc in sym j ∙ pair-stops a b s d p q k f
 
 module _ (l r : List ℕ) (s : Store) (audited : Audited s) (left : all (isString s) l ≡ true) (right : all (isString s) r ≡ true) where
-  ends : Ends (λ s′ u. Cited (λ w. nfEqual s l r ≡ true → joined w l ≡ joined w r) s s′) (nfExplain l r s)
+  ends : Ends (λ s′ u. Cited (λ w. nfEqual s l r ≡ true → concatMap w l ≡ concatMap w r) s s′) (nfExplain l r s)
   ends = explain-equal-ends l r s audited (all-every _ l left) (all-every _ r right)
 
-  pub explain-equal-gives : (s′ : Store) (u : Unit {0}) → nfExplain l r s ≡ ok s′ u → Cited (λ w. nfEqual s l r ≡ true → joined w l ≡ joined w r) s s′
+  pub explain-equal-gives : (s′ : Store) (u : Unit {0}) → nfExplain l r s ≡ ok s′ u → Cited (λ w. nfEqual s l r ≡ true → concatMap w l ≡ concatMap w r) s s′
   explain-equal-gives s′ u e = ends .given s′ u e
 
   pub explain-equal-sound : (s′ : Store) (u : Unit {0}) → nfExplain l r s ≡ ok s′ u → ExplainsEqual s s′ l r
   explain-equal-sound s′ u e f w rd h = go (explain-equal-gives s′ u e)
     where
-      go : Cited (λ w. nfEqual s l r ≡ true → joined w l ≡ joined w r) s s′ → joined w l ≡ joined w r
+      go : Cited (λ w. nfEqual s l r ≡ true → concatMap w l ≡ concatMap w r) s s′ → concatMap w l ≡ concatMap w r
       go c =
           let k : drop (length (s .reasons)) (s′ .reasons) ≡ c .added .more =
           ap (drop (length (s .reasons))) (added-reasons (c .added)) ∙ drop-append-seam (s .reasons) (c .added .more) in

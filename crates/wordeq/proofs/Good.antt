@@ -4,11 +4,11 @@ use mathlib.Core.Bool.{Bool, false}
 use mathlib.Core.List.{List}
 use mathlib.Core.Option.{Option, none, some}
 use Prim.Native.Nat.{ℕ, _≤_}
-use Rattle.records.specs.Lists.{joined}
+use Rattle.records.specs.Lists.{concatMap}
 use Rattle.records.specs.Store.{Store, count, kind}
 use Rattle.records.specs.Meaning.{Words}
 use Rattle.records.specs.Working.Audited.{Audited}
-use Rattle.records.proofs.Lists.{joined-same, every-map}
+use Rattle.records.proofs.Lists.{concatMap-same, every-map}
 use Rattle.records.proofs.Grown.{Grown, OldVariables, grown-kind, present, string-here, Strings, strings-later}
 use Rattle.records.proofs.Later.{Later, later-none, later-then, later-added}
 use Rattle.records.proofs.Outcomes.{ends-give, ends-map, ends-then}
@@ -26,8 +26,8 @@ later-cited c = later-added (c .added) (c .audited)
 abbrev pub Local : Store → (Words → List ℕ) → Type 0
 Local s L = (w w₁ : Words) → ((t : ℕ) → t ≤ count s → w₁ t ≡ w t) → L w₁ ≡ L w
 
-pub joined-local : (s : Store) {l : List ℕ} → Strings s l → Local s (λ w. joined w l)
-joined-local s k w w₁ f = joined-same w₁ w (every-map (λ t h. f t (string-here s t h)) k)
+pub concatMap-local : (s : Store) {l : List ℕ} → Strings s l → Local s (λ w. concatMap w l)
+concatMap-local s k w w₁ f = concatMap-same w₁ w (every-map (λ t h. f t (string-here s t h)) k)
 
 pub worth-back : (x : Answer) {s s₁ s′ : Store} (L R L₁ R₁ : Words → List ℕ) → Grown s s₁ → OldVariables s s₁ → Grown s₁ s′ → Local s L → Local s R
     → Under s₁ (s′ .reasons) (λ w. L w ≡ R w → L₁ w ≡ R₁ w) → Worth s₁ s′ L₁ R₁ x → Worth s s′ L R x
@@ -90,10 +90,10 @@ module _ {added : Bool} {l r : List ℕ} where
   pub step-pass : {s : Store} → Audited s → Ends (Good added l r s) (pass s)
   step-pass d = ends-give (passes (later-none d) (λ t e. e) refl)
 
-  pub step-conflict : {s s₁ : Store} → Cited (λ w. joined w l ≡ joined w r → ⊥) s s₁ → Ends (Good added l r s) (answer conflict s₁)
+  pub step-conflict : {s s₁ : Store} → Cited (λ w. concatMap w l ≡ concatMap w r → ⊥) s s₁ → Ends (Good added l r s) (answer conflict s₁)
   step-conflict c = ends-give (answers (later-cited c) (cited-all c) tt)
 
-  pub step-propagate : {s s₁ : Store} (v y : ℕ) (f : Bool) → Later s s₁ → kind s v ≡ 2 → Under s₁ (s₁ .reasons) (λ w. joined w l ≡ joined w r → w v ≡ w y)
+  pub step-propagate : {s s₁ : Store} (v y : ℕ) (f : Bool) → Later s s₁ → kind s v ≡ 2 → Under s₁ (s₁ .reasons) (λ w. concatMap w l ≡ concatMap w r → w v ≡ w y)
       → Ends (Good added l r s) (answer (propagate v y f) s₁)
   step-propagate {s₁ = s₁} v y f k i h = ends-give (answers k (record { variable = i; equal = λ w rd u e. h w rd (k .grown .holds w (s₁ .reasons) u) e }) tt)
 
@@ -102,7 +102,7 @@ module _ {added : Bool} {l r : List ℕ} where
   good-after hl hr k v n (passes h u e) = passes (later-then k h) (λ t i. v t (u t i)) (e ∙ n)
   good-after {s} {s₁} {s′} hl hr k v n (answers {x} h e c) =
       answers (later-then k h)
-      (worth-back x (λ w. joined w l) (λ w. joined w r) (λ w. joined w l) (λ w. joined w r) (k .grown) v (h .grown) (joined-local s hl) (joined-local s hr) (λ w rd u z. z) e)
+      (worth-back x (λ w. concatMap w l) (λ w. concatMap w r) (λ w. concatMap w l) (λ w. concatMap w r) (k .grown) v (h .grown) (concatMap-local s hl) (concatMap-local s hr) (λ w rd u z. z) e)
       (calm-after x added s s₁ s′ n c)
 
   pub step-else : (m n : Tried) → Step added l r m → Step added l r n → Step added l r (m orElse n)
@@ -115,7 +115,7 @@ module _ {added : Bool} {l r : List ℕ} where
 
 pub good-flip : {added : Bool} {l r : List ℕ} {s s′ : Store} {o : Option Answer} → Good added r l s s′ o → Good added l r s s′ o
 good-flip (passes k v e) = passes k v e
-good-flip {added} {l} {r} {s} {s′} (answers {x} k h c) = answers k (worth-flip x s s′ (λ w. joined w l) (λ w. joined w r) h) c
+good-flip {added} {l} {r} {s} {s′} (answers {x} k h c) = answers k (worth-flip x s s′ (λ w. concatMap w l) (λ w. concatMap w r) h) c
 
 pub step-flip : {added : Bool} {l r : List ℕ} {m : Tried} → Step added r l m → Step added l r m
 step-flip g s d hl hr = ends-map (λ s′ o h. good-flip h) (g s d hr hl)

@@ -7,7 +7,7 @@ use Prim.Native.Nat.{ℕ, _<_}
 use native.Mathlib.Omega.{arith}
 use lib.ListN.{length}
 use borrow.Author.Tests.{eqb-true, ltb-true}
-use Rattle.records.specs.Lists.{any, joined, Every, and}
+use Rattle.records.specs.Lists.{any, concatMap, Every, and}
 use Rattle.records.specs.Store.{Store, isConstant, text, sameClass}
 use Rattle.records.specs.Meaning.{Words, Reading}
 use Rattle.records.proofs.Lists.{both-left, both-right}
@@ -47,7 +47,7 @@ full-long s w rd a f =
     rw (rd .constants a (eqb-true _ _ (both-left (isConstant s a) _ f))) (ltb-true 0 (length (text s a)) (both-right (isConstant s a) _ f))
 
 -- a list with y and a character elsewhere is longer than y
-longer : (s : Store) (w : Words) (x : ℕ) (l : List ℕ) (y : ℕ) → Reading s w → Found s x l y → length (w y) < length (joined w l)
+longer : (s : Store) (w : Words) (x : ℕ) (l : List ℕ) (y : ℕ) → Reading s w → Found s x l y → length (w y) < length (concatMap w l)
 longer s w x l y rd f = rw (f .is) (inside-longer w (f .past) (f .rest) y (some-long w (isFull s) (f .past ++ f .rest) (full-long s w rd) (f .other)))
 
 -- what holds of each holds of the one found
@@ -56,18 +56,18 @@ at-found [] rest y (and p k) = p
 at-found (x ∷ past) rest y (and p k) = at-found past rest y k
 
 pub occurs-step : {added : Bool} (l r : List ℕ) → Step added l r (occurs l r)
-unfolding occurs joined
+unfolding occurs concatMap
 occurs-step [] r s d hl hr = step-pass d
 occurs-step (a ∷ b ∷ l) r s d hl hr = step-pass d
 occurs-step {added} (a ∷ []) r s d (and p hl) hr = ends-if (isConstant s a) _ _ (λ c. step-pass d) (λ c. by (occurrence s a [] r) refl)
   where
-    never : (y : ℕ) → Found s a r y → (w : Words) → Reading s w → w y ≡ w a → joined w (a ∷ []) ≡ joined w r → ⊥
+    never : (y : ℕ) → Found s a r y → (w : Words) → Reading s w → w y ≡ w a → concatMap w (a ∷ []) ≡ concatMap w r → ⊥
     never y f w rd e z =
         let k = longer s w a r y rd f in
-        let n : length (joined w r) ≡ length (w y) = ap length (sym z) ∙ ap length (append-nil (w a)) ∙ ap length (sym e) in
+        let n : length (concatMap w r) ≡ length (w y) = ap length (sym z) ∙ ap length (append-nil (w a)) ∙ ap length (sym e) in
         omega arith
 
-    against : (y : ℕ) → Found s a r y → {s₁ : Store} → Cited (λ w. w y ≡ w a) s s₁ → Cited (λ w. joined w (a ∷ []) ≡ joined w r → ⊥) s s₁
+    against : (y : ℕ) → Found s a r y → {s₁ : Store} → Cited (λ w. w y ≡ w a) s s₁ → Cited (λ w. concatMap w (a ∷ []) ≡ concatMap w r → ⊥) s s₁
     against y f m = record { added = m .added; audited = m .audited; grown = m .grown; holds = λ w rd h. never y f w rd (m .holds w rd h) }
 
     by : (y : Option ℕ) → occurrence s a [] r ≡ y → Ends (Good added (a ∷ []) r s) (occursAt a y s)

@@ -9,7 +9,7 @@ use lib.ListN.{length, length-append}
 use lib.IntN.{ℤ}
 use lib.Dec.{ltb}
 use borrow.Author.Tests.{ltb-false}
-use Rattle.records.specs.Lists.{if_then_else_, all, any, joined}
+use Rattle.records.specs.Lists.{if_then_else_, all, any, concatMap}
 use Rattle.records.specs.Store.{Store, ok, stop, _>>=_, give, isConcat, isString}
 use Rattle.records.specs.Make.{withReasons}
 use Rattle.records.specs.Meaning
@@ -23,9 +23,9 @@ use Rattle.normalize.proofs.Atoms.{Flat, flatten-flat, flatten-stops, flatten-a
 use Rattle.records.proofs.Outcomes.{ends-give, ends-map, ends-by, ends-if, ends-then}
 use Rattle.wordeq.specs.Wordeq.{Answer, done, saturated, conflict, propagate, split, answer, after, isBare, orDone, steps, softened, closed, resolve}
 use Rattle.wordeq.specs.Meaning.{Chosen, Sound}
-use Rattle.wordeq.proofs.Ends.{Working, Ends}
+use Rattle.wordeq.proofs.Ends.{RefusedAtWork, Ends}
 use Rattle.wordeq.proofs.Cited.{Under, added-reasons}
-use Rattle.wordeq.proofs.Good.{joined-local, worth-back, Calm, Good, passes, answers, Step, step-else, step-flip, later-cited}
+use Rattle.wordeq.proofs.Good.{concatMap-local, worth-back, Calm, Good, passes, answers, Step, step-else, step-flip, later-cited}
 use Rattle.records.proofs.Later.{More, Later, later-then, later-cut, variables-added}
 use Rattle.wordeq.proofs.Strip.{Apart, Stripped, strip-ends}
 use Rattle.wordeq.proofs.Occurs.{occurs-step}
@@ -77,7 +77,7 @@ module _ (l r : List ℕ) (s : Store) (hl : Strings s l) (hr : Strings s r) wher
   stepped added s₁ v t a s′ (some x) (answers k h c) =
       something (record {
         later = later-then (later-cited (t .cited)) k;
-        sound = worth-back x (λ w. joined w l) (λ w. joined w r) (λ w. joined w (v .0)) (λ w. joined w (v .1)) (t .cited .grown) (variables-added (t .cited .added)) (k .grown) (joined-local s hl) (joined-local s hr) sides h;
+        sound = worth-back x (λ w. concatMap w l) (λ w. concatMap w r) (λ w. concatMap w (v .0)) (λ w. concatMap w (v .1)) (t .cited .grown) (variables-added (t .cited .added)) (k .grown) (concatMap-local s hl) (concatMap-local s hr) sides h;
         calm = calmed x c;
       })
     where
@@ -85,7 +85,7 @@ module _ (l r : List ℕ) (s : Store) (hl : Strings s l) (hr : Strings s r) wher
       cited-here q m =
           subst (List·Memᴰ q) (sym (k .reasons .is)) (Memᴰ·append-left (k .reasons .more) (subst (List·Memᴰ q) (sym (added-reasons (t .cited .added))) (Memᴰ·append-right (s .reasons) m)))
 
-      sides : Under s₁ (s′ .reasons) (λ w. joined w l ≡ joined w r → joined w (v .0) ≡ joined w (v .1))
+      sides : Under s₁ (s′ .reasons) (λ w. concatMap w l ≡ concatMap w r → concatMap w (v .0) ≡ concatMap w (v .1))
       sides w rd u = t .cited .holds w (t .cited .grown .down w rd) (holds-fewer cited-here (holds-before (t .cited .grown) (s′ .reasons) u))
 
       calmed : (x : Answer) → Calm added s₁ s′ x → Calm false s s′ x
@@ -122,9 +122,9 @@ flatten-ends l s d h =
     (λ s′ m e. record { flat = flatten-flat l s s′ m e; strings = every-map (λ a k. k .string) (flatten-atoms l s s′ m d (every-all h) e) })
     (λ n e. flatten-stops l s n e .0)
 
-module _ (l r m n : List ℕ) (s : Store) (hl : Strings s l) (hr : Strings s r) (fl : (w : Words) → Reading s w → joined w l ≡ joined w m) (fr : (w : Words) → Reading s w → joined w r ≡ joined w n) where
+module _ (l r m n : List ℕ) (s : Store) (hl : Strings s l) (hr : Strings s r) (fl : (w : Words) → Reading s w → concatMap w l ≡ concatMap w m) (fr : (w : Words) → Reading s w → concatMap w r ≡ concatMap w n) where
   ran-flat : (s′ : Store) (x : Answer) → Ran m n s s′ x → Ran l r s s′ (softened x)
-  ran-flat s′ x k = soft x (k .calm) (worth-back x (λ w. joined w l) (λ w. joined w r) (λ w. joined w m) (λ w. joined w n) (grown-none s) (λ t e. e) (k .later .grown) (joined-local s hl) (joined-local s hr)
+  ran-flat s′ x k = soft x (k .calm) (worth-back x (λ w. concatMap w l) (λ w. concatMap w r) (λ w. concatMap w m) (λ w. concatMap w n) (grown-none s) (λ t e. e) (k .later .grown) (concatMap-local s hl) (concatMap-local s hr)
       (λ w rd h e. sym (fl w rd) ∙ e ∙ fr w rd) (k .sound))
     where
       soft : (x : Answer) → Calm false s s′ x → Sound s s′ l r x → Ran l r s s′ (softened x)
@@ -212,5 +212,5 @@ module _ (l r : List ℕ) (g : ℤ) (s : Store) (audited : Audited s) (left : al
   resolve-grown s′ x e = resolve-gives s′ x e .later .grown
 
   -- it stops only with 6 to 9
-  pub resolve-stops : (n : ℕ) → resolve l r g s ≡ stop n → Working n
+  pub resolve-stops : (n : ℕ) → resolve l r g s ≡ stop n → RefusedAtWork n
   resolve-stops n e = ends .stopped n e

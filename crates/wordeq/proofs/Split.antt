@@ -9,7 +9,7 @@ use native.Mathlib.Decide.{decLe, ℕ-discrete}
 use lib.ListN.{length, drop}
 use lib.IntN.{ℤ, negℤ}
 use borrow.Author.Tests.{eqb-true, eq-eqb}
-use Rattle.records.specs.Lists.{if_then_else_, all, joined, none-left, and}
+use Rattle.records.specs.Lists.{if_then_else_, all, concatMap, none-left, and}
 use Rattle.records.specs.Store.{Store, Term, count, term, kind, within, isConstant, isString, text}
 use Rattle.records.specs.Rules.{isChar, isEquatable}
 use Rattle.records.specs.Make.{addKey, isKey, makeConcat, makeLength, makeEquation}
@@ -60,7 +60,7 @@ equatable-lengths s a b p q = or-right (isString s a && isString s b) _ (both-tr
 
 -- a concatenation of two made has their words in each later store
 pair-word : {a b : ℕ} {s s₁ s₂ : Store} {t : ℕ} (w : Words) → ConcatMade (a ∷ b ∷ []) s s₁ t → Grown s₁ s₂ → Reading s₂ w → w t ≡ w a ++ w b
-unfolding joined
+unfolding concatMap
 pair-word {a} {b} w m g rd = concat-word m (g .down w rd) ∙ ap (λ (x : List ℕ). w a ++ x) (append-nil (w b))
 
 -- CHOOSING
@@ -129,7 +129,7 @@ three-ways : (a b : ℕ) (l r : List ℕ) (e₁ e₂ e₃ z₁ z₂ : ℕ) (g : 
     → ((w : Words) → Reading s₉ w → w a ≡ w b ++ w z₁ → True s₉ w e₂)
     → ((w : Words) → Reading s₉ w → w b ≡ w a ++ w z₂ → True s₉ w e₃)
     → Sound s s₉ (a ∷ l) (b ∷ r) (split (e₁ ∷ e₂ ∷ e₃ ∷ []) g)
-unfolding joined all
+unfolding concatMap all
 three-ways a b l r e₁ e₂ e₃ z₁ z₂ g s s₉ ha hb pick is-long is-first is-second w rd h e =
     go (ℕ-discrete (length (w a)) (length (w b))) (decLe (length (w b)) (length (w a)))
   where
@@ -142,11 +142,11 @@ three-ways a b l r e₁ e₂ e₃ z₁ z₂ g s s₉ ha hb pick is-long is-first
         chosen t e₁ (List·Memᴰ·head refl) (is-long (t .words) (t .reading) (rw (t .agree a ha, t .agree b hb) p))
     go (no p) (yes d) =
         let t = pick w rd (drop (length (w b)) (w a)) [] (all-drop isChar (length (w b)) (w a) (rd .characters a)) refl in
-        chosen t e₂ (List·Memᴰ·tail (List·Memᴰ·head refl)) (is-first (t .words) (t .reading) (rw (t .agree a ha, t .agree b hb, t .one) (longer-is (w a) (w b) (joined w l) (joined w r) e d)))
+        chosen t e₂ (List·Memᴰ·tail (List·Memᴰ·head refl)) (is-first (t .words) (t .reading) (rw (t .agree a ha, t .agree b hb, t .one) (longer-is (w a) (w b) (concatMap w l) (concatMap w r) e d)))
     go (no p) (no d) =
         let t = pick w rd [] (drop (length (w a)) (w b)) refl (all-drop isChar (length (w a)) (w b) (rd .characters b)) in
         chosen t e₃ (List·Memᴰ·tail (List·Memᴰ·tail (List·Memᴰ·head refl)))
-        (is-second (t .words) (t .reading) (rw (t .agree a ha, t .agree b hb, t .two) (longer-is (w b) (w a) (joined w r) (joined w l) (sym e) (omega arith))))
+        (is-second (t .words) (t .reading) (rw (t .agree a ha, t .agree b hb, t .two) (longer-is (w b) (w a) (concatMap w r) (concatMap w l) (sym e) (omega arith))))
 
 -- a word is empty, or begins with the character
 two-ways : (v b c : ℕ) (cs l r : List ℕ) (e₁ e₂ z : ℕ) (g : ℤ) (s s₉ : Store) → v ≤ count s → kind s b ≡ 1 → text s b ≡ c ∷ cs
@@ -154,20 +154,20 @@ two-ways : (v b c : ℕ) (cs l r : List ℕ) (e₁ e₂ z : ℕ) (g : ℤ) (s s�
     → ((w : Words) → Reading s₉ w → w v ≡ [] → True s₉ w e₁)
     → ((w : Words) → Reading s₉ w → w v ≡ (c ∷ []) ++ w z → True s₉ w e₂)
     → Sound s s₉ (v ∷ l) (b ∷ r) (split (e₁ ∷ e₂ ∷ []) g)
-unfolding joined all
+unfolding concatMap all
 two-ways v b c cs l r e₁ e₂ z g s s₉ hv kb tb pick is-empty is-char w rd h e =
-    go (w v) refl (e ∙ ap (λ (y : List ℕ). y ++ joined w r) (rd .constants b kb ∙ tb))
+    go (w v) refl (e ∙ ap (λ (y : List ℕ). y ++ concatMap w r) (rd .constants b kb ∙ tb))
   where
     chosen : {u : List ℕ} (t : One s s₉ w z u) (x : ℕ) → List·Memᴰ x (e₁ ∷ e₂ ∷ []) → True s₉ (t .words) x → Chosen s s₉ w (e₁ ∷ e₂ ∷ [])
     chosen t x m k = record { words = t .words; reading = t .reading; agree = variables-agree s (t .agree); atom = x; listed = m; holds = k }
 
-    go : (y : List ℕ) → w v ≡ y → w v ++ joined w l ≡ (c ∷ cs) ++ joined w r → Chosen s s₉ w (e₁ ∷ e₂ ∷ [])
+    go : (y : List ℕ) → w v ≡ y → w v ++ concatMap w l ≡ (c ∷ cs) ++ concatMap w r → Chosen s s₉ w (e₁ ∷ e₂ ∷ [])
     go [] p k =
         let t = pick w rd [] refl in
         chosen t e₁ (List·Memᴰ·head refl) (is-empty (t .words) (t .reading) (t .agree v hv ∙ p))
     go (y ∷ ys) p k =
         let t = pick w rd ys (both-right (isChar y) _ (ap (all isChar) (sym p) ∙ rd .characters v)) in
-        let o = first-is y c (ys ++ joined w l) (cs ++ joined w r) (ap (λ (x : List ℕ). x ++ joined w l) (sym p) ∙ k) in
+        let o = first-is y c (ys ++ concatMap w l) (cs ++ concatMap w r) (ap (λ (x : List ℕ). x ++ concatMap w l) (sym p) ∙ k) in
         chosen t e₂ (List·Memᴰ·tail (List·Memᴰ·head refl))
         (is-char (t .words) (t .reading) (t .agree v hv ∙ p ∙ ap (λ (x : ℕ). x ∷ ys) o ∙ ap (λ (x : List ℕ). c ∷ x) (sym (t .is))))
 

@@ -6,7 +6,7 @@ use Prim.Native.Nat.{ℕ}
 use lib.ListN.{length, drop}
 use lib.Dec.{eqb}
 use borrow.Author.Tests.{eqb-true, eq-eqb}
-use Rattle.records.specs.Lists.{if_then_else_, joined, sameWord, firsts, seconds, Every, none-left, and}
+use Rattle.records.specs.Lists.{if_then_else_, concatMap, sameWord, firsts, seconds, Every, none-left, and}
 use Rattle.records.specs.Store.{Store, Out, ok, stop, andThen, isConstant, isString, text, sameClass}
 use Rattle.records.specs.Make.{withReasons}
 use Rattle.records.specs.Meaning.{Words, Reading}
@@ -133,7 +133,7 @@ off-heads s (a ∷ l) (b ∷ r) (and p hl) (and q hr) = go (same s a b) refl (of
 -- BOTH ENDS
 
 pub record Stripped (l r : List ℕ) (s s′ : Store) (v : List ℕ × List ℕ) : Type 0 where
-  pub cited : Cited (λ w. joined w l ≡ joined w r → joined w (v .0) ≡ joined w (v .1)) s s′
+  pub cited : Cited (λ w. concatMap w l ≡ concatMap w r → concatMap w (v .0) ≡ concatMap w (v .1)) s s′
   pub left : Strings s′ (v .0)
   pub right : Strings s′ (v .1)
   pub apart : Apart (v .0) (v .1)
@@ -181,11 +181,11 @@ module _ (s : Store) (l r : List ℕ) (hl : Strings s l) (hr : Strings s r) wher
   turned-right : r₁ ≡ r₂ ++ reverse (seconds tails)
   turned-right = unturn r₁ (seconds tails) (drop (length tails) (reverse r₁)) (tails-off .right)
 
-  front-back : (w : Words) → Alike w (firsts heads) (seconds heads) → Alike w (firsts tails) (seconds tails) → joined w l ≡ joined w r → joined w l₂ ≡ joined w r₂
+  front-back : (w : Words) → Alike w (firsts heads) (seconds heads) → Alike w (firsts tails) (seconds tails) → concatMap w l ≡ concatMap w r → concatMap w l₂ ≡ concatMap w r₂
   front-back w k k₂ e =
-      let f : joined w l₁ ≡ joined w r₁ = cancel-front w (firsts heads) (seconds heads) l₁ r₁ k (ap (joined w) (sym (heads-off .left)) ∙ e ∙ ap (joined w) (heads-off .right)) in
+      let f : concatMap w l₁ ≡ concatMap w r₁ = cancel-front w (firsts heads) (seconds heads) l₁ r₁ k (ap (concatMap w) (sym (heads-off .left)) ∙ e ∙ ap (concatMap w) (heads-off .right)) in
       cancel-back w (reverse (firsts tails)) (reverse (seconds tails)) l₂ r₂ (alike-reverse w k₂)
-      (ap (joined w) (sym turned-left) ∙ f ∙ ap (joined w) turned-right)
+      (ap (concatMap w) (sym turned-left) ∙ f ∙ ap (concatMap w) turned-right)
 
   both-off : (s₁ s₂ : Store) → Cited (λ w. Alike w (firsts heads) (seconds heads)) s s₁ → Cited (λ w. Alike w (firsts tails) (seconds tails)) s₁ s₂ → Stripped l r s s₂ (l₂, r₂)
   both-off s₁ s₂ c₁ c₂ = record {

@@ -7,7 +7,7 @@ use native.Mathlib.Omega.{arith}
 use lib.ListN.{length}
 use lib.Dec.{eqb}
 use borrow.Author.Tests.{eqb-true, eq-eqb, not-true}
-use Rattle.records.specs.Lists.{if_then_else_, all, keep, joined, sameWord, Every, none-left, and}
+use Rattle.records.specs.Lists.{if_then_else_, all, keep, concatMap, sameWord, Every, none-left, and}
 use Rattle.records.specs.Store.{Store, isConstant, isString, text, root, sameClass}
 use Rattle.records.specs.Meaning.{Words, Reading}
 use Rattle.records.specs.Working.Audited.{Audited}
@@ -23,7 +23,7 @@ use Rattle.wordeq.proofs.Strip.{same-class}
 
 -- WORDS OF A SIDE
 
-pub fixed-word : (s : Store) (w : Words) (l : List ℕ) → Reading s w → fixed s l ≡ true → joined w l ≡ letters s l
+pub fixed-word : (s : Store) (w : Words) (l : List ℕ) → Reading s w → fixed s l ≡ true → concatMap w l ≡ letters s l
 unfolding fixed letters lettersOf
 fixed-word s w l rd f = fill-all (isConstant s) (text s) w [] (λ a e. rd .constants a (eqb-true _ _ e)) l f
 
@@ -57,7 +57,7 @@ kept-pass p (x ∷ l) = go (kept-pass p l) (p x) refl
 
 -- where the first variable stands
 filled-lead : (s : Store) (u r : List ℕ) (v : ℕ) (vs : List ℕ) → variables s r ≡ v ∷ vs → (rest : List ℕ) × (filled s u r ≡ lead s r ++ (u ++ rest))
-unfolding joined filled lead keep
+unfolding concatMap filled lead keep
 filled-lead s u [] v vs e = let z : _≡_ {A = ℕ} 0 1 = cc in absurd (omega arith)
 filled-lead s u (a ∷ r) v vs e = go (filled-lead s u r v vs) (isConstant s a) e
   where
@@ -111,7 +111,7 @@ every-tail (and q k) = (q, k)
 -- THE STEP
 
 no-fit : (l r : List ℕ) (s : Store) (v : ℕ) (vs : List ℕ) → variables s r ≡ v ∷ vs → fixed s l ≡ true → fits s (letters s l) r (suc (length vs)) ≡ false
-    → (w : Words) → Reading s w → Every (λ u. w u ≡ w v) vs → joined w l ≡ joined w r → ⊥
+    → (w : Words) → Reading s w → Every (λ u. w u ≡ w v) vs → concatMap w l ≡ concatMap w r → ⊥
 unfolding filled
 no-fit l r s v vs p f n w rd k e =
     let kept : Every (λ a. w a ≡ w v) (variables s r) = subst (Every (λ a. w a ≡ w v)) (sym p) (and refl k) in
@@ -119,7 +119,7 @@ no-fit l r s v vs p f n w rd k e =
     let z : letters s l ≡ filled s (w v) r = sym (fixed-word s w l rd f) ∙ e ∙ q in
     clash (filled-fits s (w v) r v vs p) (rw z at n)
   where
-    filled-word : Every (λ a. not (isConstant s a) ≡ true → w a ≡ w v) r → joined w r ≡ filled s (w v) r
+    filled-word : Every (λ a. not (isConstant s a) ≡ true → w a ≡ w v) r → concatMap w r ≡ filled s (w v) r
     filled-word h = fill-is (isConstant s) (text s) w (w v) (λ a e. rd .constants a (eqb-true _ _ e)) h
 
 pub tile-step : {added : Bool} (l r : List ℕ) → Step added l r (tile l r)
@@ -127,7 +127,7 @@ unfolding tile tileBy
 tile-step {added} l r s d hl hr = ends-if (fixed s l) _ _ (λ f. by f (variables s r) refl) (λ f. step-pass d)
   where
     against : (v : ℕ) (vs : List ℕ) → variables s r ≡ v ∷ vs → fixed s l ≡ true → fits s (letters s l) r (suc (length vs)) ≡ false
-        → {s₁ : Store} → Cited (λ w. Every (λ u. w u ≡ w v) vs) s s₁ → Cited (λ w. joined w l ≡ joined w r → ⊥) s s₁
+        → {s₁ : Store} → Cited (λ w. Every (λ u. w u ≡ w v) vs) s s₁ → Cited (λ w. concatMap w l ≡ concatMap w r → ⊥) s s₁
     against v vs p f n m = record { added = m .added; audited = m .audited; grown = m .grown; holds = λ w rd h. no-fit l r s v vs p f n w rd (m .holds w rd h) }
 
     by : fixed s l ≡ true → (vs : List ℕ) → variables s r ≡ vs → Ends (Good added l r s) (tileBy s l r vs s)

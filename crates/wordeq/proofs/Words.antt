@@ -10,8 +10,8 @@ use lib.ListN.{length, take, drop, length-append, take-append-drop}
 use lib.Seq.{take-append-le, take-at, drop-at}
 use lib.Dec.{eqb}
 use borrow.Author.Tests.{not-true, eq-eqb}
-use Rattle.records.specs.Lists.{if_then_else_, all, any, keep, joined, isIn, Every, none-left, and}
-use Rattle.records.proofs.Lists.{either, or-left, or-right, clash, any-append, joined-append}
+use Rattle.records.specs.Lists.{if_then_else_, all, any, keep, concatMap, isIn, Every, none-left, and}
+use Rattle.records.proofs.Lists.{either, or-left, or-right, clash, any-append, concatMap-append}
 use Rattle.wordeq.specs.Wordeq.{differ}
 
 -- LISTS OF ONE LENGTH WITH EQUAL WORDS
@@ -22,10 +22,10 @@ module _ {A : Type 0} (w : A → List ℕ) where
     nothing : Alike [] []
     pair : {a b : A} {l r : List A} → w a ≡ w b → Alike l r → Alike (a ∷ l) (b ∷ r)
 
-  pub alike-joined : {l r : List A} → Alike l r → joined w l ≡ joined w r
-  unfolding joined
-  alike-joined nothing = refl
-  alike-joined (pair e k) = let h = alike-joined k in cc
+  pub alike-concatMap : {l r : List A} → Alike l r → concatMap w l ≡ concatMap w r
+  unfolding concatMap
+  alike-concatMap nothing = refl
+  alike-concatMap (pair e k) = let h = alike-concatMap k in cc
 
   alike-append : {l r m n : List A} → Alike l r → Alike m n → Alike (l ++ m) (r ++ n)
   alike-append nothing k = k
@@ -37,40 +37,40 @@ module _ {A : Type 0} (w : A → List ℕ) where
 
   -- CANCELLING
 
-  pub cancel-front : (p q l r : List A) → Alike p q → joined w (p ++ l) ≡ joined w (q ++ r) → joined w l ≡ joined w r
+  pub cancel-front : (p q l r : List A) → Alike p q → concatMap w (p ++ l) ≡ concatMap w (q ++ r) → concatMap w l ≡ concatMap w r
   cancel-front p q l r k e =
-      append-cancel-left (joined w p) (joined w l) (joined w r)
-      (sym (joined-append w p l) ∙ e ∙ joined-append w q r ∙ ap (λ (x : List ℕ). x ++ joined w r) (sym (alike-joined k)))
+      append-cancel-left (concatMap w p) (concatMap w l) (concatMap w r)
+      (sym (concatMap-append w p l) ∙ e ∙ concatMap-append w q r ∙ ap (λ (x : List ℕ). x ++ concatMap w r) (sym (alike-concatMap k)))
 
-  pub cancel-back : (p q l r : List A) → Alike p q → joined w (l ++ p) ≡ joined w (r ++ q) → joined w l ≡ joined w r
+  pub cancel-back : (p q l r : List A) → Alike p q → concatMap w (l ++ p) ≡ concatMap w (r ++ q) → concatMap w l ≡ concatMap w r
   cancel-back p q l r k e =
-      append-cancel-right (joined w l) (joined w r) (joined w p)
-      (sym (joined-append w l p) ∙ e ∙ joined-append w r q ∙ ap (λ (x : List ℕ). joined w r ++ x) (sym (alike-joined k)))
+      append-cancel-right (concatMap w l) (concatMap w r) (concatMap w p)
+      (sym (concatMap-append w l p) ∙ e ∙ concatMap-append w r q ∙ ap (λ (x : List ℕ). concatMap w r ++ x) (sym (alike-concatMap k)))
 
   -- A WORD INSIDE A LONGER ONE
 
   -- a list with y, and a character elsewhere, is longer than y
-  pub inside-longer : (past rest : List A) (y : A) → 0 < length (joined w (past ++ rest)) → length (w y) < length (joined w (past ++ y ∷ rest))
-  unfolding joined
+  pub inside-longer : (past rest : List A) (y : A) → 0 < length (concatMap w (past ++ rest)) → length (w y) < length (concatMap w (past ++ y ∷ rest))
+  unfolding concatMap
   inside-longer past rest y h =
-      let p : length (joined w (past ++ rest)) ≡ length (joined w past) + length (joined w rest) = ap length (joined-append w past rest) ∙ length-append (joined w past) (joined w rest) in
-      rw (joined-append w past (y ∷ rest), length-append (joined w past) (w y ++ joined w rest), length-append (w y) (joined w rest)) (omega arith)
+      let p : length (concatMap w (past ++ rest)) ≡ length (concatMap w past) + length (concatMap w rest) = ap length (concatMap-append w past rest) ∙ length-append (concatMap w past) (concatMap w rest) in
+      rw (concatMap-append w past (y ∷ rest), length-append (concatMap w past) (w y ++ concatMap w rest), length-append (w y) (concatMap w rest)) (omega arith)
 
   -- a list with a word that is not empty
-  pub some-long : (p : A → Bool) (l : List A) → ((a : A) → p a ≡ true → 0 < length (w a)) → any p l ≡ true → 0 < length (joined w l)
-  unfolding any joined
+  pub some-long : (p : A → Bool) (l : List A) → ((a : A) → p a ≡ true → 0 < length (w a)) → any p l ≡ true → 0 < length (concatMap w l)
+  unfolding any concatMap
   some-long p [] f e = clash e refl
   some-long p (a ∷ l) f e =
-      rw (length-append (w a) (joined w l))
+      rw (length-append (w a) (concatMap w l))
       (⊎-elim (λ h. let k = f a h in omega arith) (λ h. let k = some-long p l f h in omega arith) (either (p a) (any p l) e))
 
   -- each word of an empty list of words is empty
-  pub empty-each : (l : List A) → joined w l ≡ [] → Every (λ a. w a ≡ []) l
-  unfolding joined
+  pub empty-each : (l : List A) → concatMap w l ≡ [] → Every (λ a. w a ≡ []) l
+  unfolding concatMap
   empty-each [] e = none-left
   empty-each (a ∷ l) e = go (empty-each l) (w a) refl e
     where
-      go : (joined w l ≡ [] → Every (λ a. w a ≡ []) l) → (v : List ℕ) → w a ≡ v → v ++ joined w l ≡ [] → Every (λ a. w a ≡ []) (a ∷ l)
+      go : (concatMap w l ≡ [] → Every (λ a. w a ≡ []) l) → (v : List ℕ) → w a ≡ v → v ++ concatMap w l ≡ [] → Every (λ a. w a ≡ []) (a ∷ l)
       go ih [] p e = and p (ih e)
       go ih (x ∷ v) p e = let z : _≡_ {A = ℕ} 0 1 = cc in absurd (omega arith)
 
@@ -84,68 +84,68 @@ module _ {A : Type 0} (p : A → Bool) (t : A → List ℕ) where
   fill u a = if p a then t a else u
 
   -- the words of a list whose elements have the word t, or u
-  pub fill-is : (w : A → List ℕ) (u : List ℕ) → ((a : A) → p a ≡ true → w a ≡ t a) → {l : List A} → Every (λ a. not (p a) ≡ true → w a ≡ u) l → joined w l ≡ joined (fill u) l
-  unfolding joined
+  pub fill-is : (w : A → List ℕ) (u : List ℕ) → ((a : A) → p a ≡ true → w a ≡ t a) → {l : List A} → Every (λ a. not (p a) ≡ true → w a ≡ u) l → concatMap w l ≡ concatMap (fill u) l
+  unfolding concatMap
   fill-is w u is none-left = refl
   fill-is w u is (and {a} {l} e k) = go (fill-is w u is k) (p a) refl e
     where
-      go : joined w l ≡ joined (fill u) l → (b : Bool) → p a ≡ b → (not b ≡ true → w a ≡ u) → w a ++ joined w l ≡ (if b then t a else u) ++ joined (fill u) l
+      go : concatMap w l ≡ concatMap (fill u) l → (b : Bool) → p a ≡ b → (not b ≡ true → w a ≡ u) → w a ++ concatMap w l ≡ (if b then t a else u) ++ concatMap (fill u) l
       go ih true q f = let r = is a q in cc
       go ih false q f = let r = f refl in cc
 
   -- where each passes
-  pub fill-all : (w : A → List ℕ) (u : List ℕ) → ((a : A) → p a ≡ true → w a ≡ t a) → (l : List A) → all p l ≡ true → joined w l ≡ joined (fill u) l
-  unfolding joined all
+  pub fill-all : (w : A → List ℕ) (u : List ℕ) → ((a : A) → p a ≡ true → w a ≡ t a) → (l : List A) → all p l ≡ true → concatMap w l ≡ concatMap (fill u) l
+  unfolding concatMap all
   fill-all w u is [] e = refl
   fill-all w u is (a ∷ l) e = go (fill-all w u is l) (p a) refl e
     where
-      go : (all p l ≡ true → joined w l ≡ joined (fill u) l) → (b : Bool) → p a ≡ b → b && all p l ≡ true
-          → w a ++ joined w l ≡ (if b then t a else u) ++ joined (fill u) l
+      go : (all p l ≡ true → concatMap w l ≡ concatMap (fill u) l) → (b : Bool) → p a ≡ b → b && all p l ≡ true
+          → w a ++ concatMap w l ≡ (if b then t a else u) ++ concatMap (fill u) l
       go ih true q f = let r = is a q in let h = ih f in cc
       go ih false q f = clash f refl
 
   -- k × m + c
-  pub fill-length : (u : List ℕ) (l : List A) → length (joined (fill u) l) ≡ length (keep (λ a. not (p a)) l) * length u + length (joined (fill []) l)
-  unfolding joined keep
+  pub fill-length : (u : List ℕ) (l : List A) → length (concatMap (fill u) l) ≡ length (keep (λ a. not (p a)) l) * length u + length (concatMap (fill []) l)
+  unfolding concatMap keep
   fill-length u [] = omega arith
   fill-length u (a ∷ l) = go (fill-length u l) (p a)
     where
       rest : List A
       rest = keep (λ a. not (p a)) l
 
-      go : length (joined (fill u) l) ≡ length rest * length u + length (joined (fill []) l) → (b : Bool)
-          → length ((if b then t a else u) ++ joined (fill u) l)
-          ≡ length (if not b then (a ∷ rest) else rest) * length u + length ((if b then t a else []) ++ joined (fill []) l)
-      go ih true = rw (length-append (t a) (joined (fill u) l), length-append (t a) (joined (fill []) l)) (omega arith)
-      go ih false = rw (length-append u (joined (fill u) l), suc-mul (length rest) (length u)) (omega arith)
+      go : length (concatMap (fill u) l) ≡ length rest * length u + length (concatMap (fill []) l) → (b : Bool)
+          → length ((if b then t a else u) ++ concatMap (fill u) l)
+          ≡ length (if not b then (a ∷ rest) else rest) * length u + length ((if b then t a else []) ++ concatMap (fill []) l)
+      go ih true = rw (length-append (t a) (concatMap (fill u) l), length-append (t a) (concatMap (fill []) l)) (omega arith)
+      go ih false = rw (length-append u (concatMap (fill u) l), suc-mul (length rest) (length u)) (omega arith)
 
   module _ (w : A → List ℕ) (is : (a : A) → p a ≡ true → w a ≡ t a) where
     -- the characters of those that pass are among all
-    pub fill-within : (l : List A) → length (joined (fill []) l) ≤ length (joined w l)
-    unfolding joined
+    pub fill-within : (l : List A) → length (concatMap (fill []) l) ≤ length (concatMap w l)
+    unfolding concatMap
     fill-within [] = omega arith
     fill-within (a ∷ l) = go (fill-within l) (p a) refl
       where
-        go : length (joined (fill []) l) ≤ length (joined w l) → (b : Bool) → p a ≡ b → length ((if b then t a else []) ++ joined (fill []) l) ≤ length (w a ++ joined w l)
-        go ih true q = rw (is a q, length-append (t a) (joined (fill []) l), length-append (t a) (joined w l)) (omega arith)
-        go ih false q = rw (length-append (w a) (joined w l)) (omega arith)
+        go : length (concatMap (fill []) l) ≤ length (concatMap w l) → (b : Bool) → p a ≡ b → length ((if b then t a else []) ++ concatMap (fill []) l) ≤ length (w a ++ concatMap w l)
+        go ih true q = rw (is a q, length-append (t a) (concatMap (fill []) l), length-append (t a) (concatMap w l)) (omega arith)
+        go ih false q = rw (length-append (w a) (concatMap w l)) (omega arith)
 
-    pub fill-in : (l : List A) (c : ℕ) → isIn c (joined (fill []) l) ≡ true → isIn c (joined w l) ≡ true
-    unfolding joined isIn
+    pub fill-in : (l : List A) (c : ℕ) → isIn c (concatMap (fill []) l) ≡ true → isIn c (concatMap w l) ≡ true
+    unfolding concatMap isIn
     fill-in [] c e = e
     fill-in (a ∷ l) c e = go (fill-in l c) (p a) refl e
       where
-        in-right : any (eqb c) (joined w l) ≡ true → any (eqb c) (w a ++ joined w l) ≡ true
-        in-right h = any-append (eqb c) (w a) (joined w l) ∙ or-right (any (eqb c) (w a)) _ h
+        in-right : any (eqb c) (concatMap w l) ≡ true → any (eqb c) (w a ++ concatMap w l) ≡ true
+        in-right h = any-append (eqb c) (w a) (concatMap w l) ∙ or-right (any (eqb c) (w a)) _ h
 
-        in-left : any (eqb c) (w a) ≡ true → any (eqb c) (w a ++ joined w l) ≡ true
-        in-left h = any-append (eqb c) (w a) (joined w l) ∙ or-left (any (eqb c) (w a)) _ h
+        in-left : any (eqb c) (w a) ≡ true → any (eqb c) (w a ++ concatMap w l) ≡ true
+        in-left h = any-append (eqb c) (w a) (concatMap w l) ∙ or-left (any (eqb c) (w a)) _ h
 
-        go : (any (eqb c) (joined (fill []) l) ≡ true → any (eqb c) (joined w l) ≡ true) → (b : Bool) → p a ≡ b
-            → any (eqb c) ((if b then t a else []) ++ joined (fill []) l) ≡ true → any (eqb c) (w a ++ joined w l) ≡ true
+        go : (any (eqb c) (concatMap (fill []) l) ≡ true → any (eqb c) (concatMap w l) ≡ true) → (b : Bool) → p a ≡ b
+            → any (eqb c) ((if b then t a else []) ++ concatMap (fill []) l) ≡ true → any (eqb c) (w a ++ concatMap w l) ≡ true
         go ih true q e =
             ⊎-elim (λ h. in-left (ap (any (eqb c)) (is a q) ∙ h)) (λ h. in-right (ih h))
-            (either (any (eqb c) (t a)) _ (sym (any-append (eqb c) (t a) (joined (fill []) l)) ∙ e))
+            (either (any (eqb c) (t a)) _ (sym (any-append (eqb c) (t a) (concatMap (fill []) l)) ∙ e))
         go ih false q e = in-right (ih e)
 
 -- the first span: u stands in the word behind the lead, and the word's length is k × m + c for u's length m

@@ -6,7 +6,7 @@ use Prim.Native.Nat.{ℕ, suc, _+_, _-_, _*_, _/_}
 use lib.ListN.{length, take, drop}
 use lib.IntN.{ℤ, pos, negsuc, negℤ}
 use lib.Dec.{eqb, ltb}
-use Rattle.records.specs.Lists.{if_then_else_, all, any, firstOf, keep, joined, sameWord, isIn}
+use Rattle.records.specs.Lists.{if_then_else_, all, any, firstOf, keep, concatMap, sameWord, isIn}
 use Rattle.records.specs.Store.{Store, ok, Work, _>>=_, _>>_, give, store, isConstant, isVariable, isConcat, text, sameClass}
 use Rattle.records.specs.Make.{withReasons, addKey, isKey, makeConstant, makeVariable, makeConcat, makeLength, makeEquation, strk, takeName}
 use Rattle.engine.specs.Explain.{explain}
@@ -52,7 +52,7 @@ unfoldable pub lettersOf : Store → ℕ → List ℕ
 lettersOf s a = if isConstant s a then text s a else []
 
 unfoldable pub letters : Store → List ℕ → List ℕ
-letters s l = joined (lettersOf s) l
+letters s l = concatMap (lettersOf s) l
 
 -- 1. 'Strip same heads, then same tails, explaining class matches. Nothing left: Done'
 
@@ -181,7 +181,7 @@ assigns (a ∷ b ∷ l) r = pass
 
 -- the side with u for each variable
 unfoldable pub filled : Store → List ℕ → List ℕ → List ℕ
-filled s u r = joined (λ a. if isConstant s a then text s a else u) r
+filled s u r = concatMap (λ a. if isConstant s a then text s a else u) r
 
 -- the characters before the first variable
 unfoldable pub lead : Store → List ℕ → List ℕ

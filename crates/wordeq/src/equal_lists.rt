@@ -14,7 +14,13 @@ use records::Added;
 use records::State;
 
 // Whether two lists of string terms are atom by atom the same.
-pub(crate) fn nf_equal_unchecked(terms: &[u32], chars: &[u32], c: State, lhs: &[u32], rhs: &[u32]) -> bool
+pub(crate) fn nf_equal_unchecked(
+    terms: &[u32],
+    chars: &[u32],
+    c: State,
+    lhs: &[u32],
+    rhs: &[u32],
+) -> bool
     requires { ⌜ Readable (now terms) (now chars) c ⌝ }
     requires { ⌜ all (isString (readIn (now terms) (now chars) c)) (now lhs) ≡ true ⌝ }
     requires { ⌜ all (isString (readIn (now terms) (now chars) c)) (now rhs) ≡ true ⌝ }

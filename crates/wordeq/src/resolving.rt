@@ -4,7 +4,7 @@ ghost use mathlib.Core.Bool.{true};
 ghost use mathlib.Core.List.{_++_};
 ghost use Prim.Native.Nat.{_≤_};
 ghost use lib.ListN.{length};
-ghost use Rattle.records.specs.Lists.{any, joined};
+ghost use Rattle.records.specs.Lists.{any, concatMap};
 ghost use Rattle.records.specs.Store.{isConcat};
 ghost use Rattle.records.specs.View.{storeOf, lends, across, termed};
 ghost use Rattle.records.specs.Working.Audited.{Ready};
@@ -49,7 +49,7 @@ fn either_concat(terms: &[u32], c: State, lhs: &[u32], rhs: &[u32]) -> bool
 // The atoms of each term of a list, from the start of `out`. Nothing is walked past the first atom that does not fit.
 fn flatten_list(terms: &[u32], cells: &[u32], c: State, l: &[u32], out: &mut [u32]) -> usize
     requires { ⌜ Nested (bare (now terms) (c .terms) (now cells) (c .cells)) ⌝ ∗ ⌜ listLimit ≤ length (now out) ⌝ }
-    ensures { λ r. ⌜ Appended (now (out .entry)) (now (out .exit)) 0 (joined (atoms (bare (now (terms .entry)) (c .terms) (now (cells .entry)) (c .cells))) (now (l .entry))) r ⌝ }
+    ensures { λ r. ⌜ Appended (now (out .entry)) (now (out .exit)) 0 (concatMap (atoms (bare (now (terms .entry)) (c .terms) (now (cells .entry)) (c .cells))) (now (l .entry))) r ⌝ }
 {
     let mut n: usize = 0;
     let mut i: usize = 0;

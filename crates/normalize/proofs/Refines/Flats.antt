@@ -8,7 +8,7 @@ use native.Mathlib.Omega.{arith}
 use lib.ListN.{length, take, set, length-append, length-take}
 use lib.Seq.{take-suc-set}
 use borrow.Author.Tests.{eq-eqb, ne-eqb}
-use Rattle.records.specs.Lists.{joined, firsts, Every, and}
+use Rattle.records.specs.Lists.{concatMap, firsts, Every, and}
 use Rattle.records.specs.Store.{Store, within, kind, isTerm, cellIn, isConcat, chain, parts}
 use Rattle.records.specs.View.{cellAt, termAt}
 use Rattle.records.proofs.Lists.{table-length}
@@ -38,7 +38,7 @@ module _ (l : List ℕ) (n : ℕ) (e : List ℕ) (m : ℕ) where
   -- what is left of the chain, after the atoms so far, is what is asked
   pub record Left (out₀ out : List ℕ) (count t at k : ℕ) : Type 0 where
     pub from : k ≤ listLimit
-    pub words : take k out ++ joined (λ x. atoms s x) (firsts (chain s at)) ≡ take count out₀ ++ atoms s t
+    pub words : take k out ++ concatMap (λ x. atoms s x) (firsts (chain s at)) ≡ take count out₀ ++ atoms s t
     pub lower : Every (λ p. p < t) (firsts (chain s at))
 
   cells-are : length (s .cells) ≡ m
@@ -57,7 +57,7 @@ module _ (l : List ℕ) (n : ℕ) (e : List ℕ) (m : ℕ) where
         let p : firsts (chain s at) ≡ parts s t = ap (λ (x : ℕ). firsts (chain s x)) (first-at l n t at (counted t (kind-term s t 2 (sym i ∙ d))) f) in
         record {
           from = h;
-          words = ap (λ (w : List ℕ). take count out ++ w) (ap (joined (λ x. atoms s x)) p ∙ sym (nested-atoms s nested t q));
+          words = ap (λ (w : List ℕ). take count out ++ w) (ap (concatMap (λ x. atoms s x)) p ∙ sym (nested-atoms s nested t q));
           lower = subst (Every (λ p. p < t)) (sym p) (nested .lower t q);
         }
 
@@ -68,7 +68,7 @@ module _ (l : List ℕ) (n : ℕ) (e : List ℕ) (m : ℕ) where
 
     module _ {out₀ out : List ℕ} {count t at k : ℕ} (p : Left out₀ out count t at k) where
       pub ended : (b : Bool) → b ≡ within m at → b ≡ false → Appended out₀ out count (atoms s t) k
-      unfolding joined firsts
+      unfolding concatMap firsts
       ended b i j =
           let e = chain-none (s .cells) at (within-cells at false (sym i ∙ j)) in
           record {
@@ -92,15 +92,15 @@ module _ (l : List ℕ) (n : ℕ) (e : List ℕ) (m : ℕ) where
         pub part-lower : x < t
         part-lower = head-lower _ (subst (Every (λ p. p < t)) parts-are (p .lower))
 
-        words-are : take k out ++ (atoms s x ++ joined (λ z. atoms s z) rest) ≡ take count out₀ ++ atoms s t
-        unfolding joined
+        words-are : take k out ++ (atoms s x ++ concatMap (λ z. atoms s z) rest) ≡ take count out₀ ++ atoms s t
+        unfolding concatMap
         words-are = rw parts-are at (p .words)
 
         pub part-passes : (out′ : List ℕ) (r : ℕ) → count ≤ length out₀ → k ≤ length out → Appended out out′ k (atoms s x) r → listLimit < r → Appended out₀ out′ count (atoms s t) r
         part-passes out′ r h h′ a z =
             let q = ap length words-are in
-            let f = length-append (take k out) (atoms s x ++ joined (λ z. atoms s z) rest) in
-            let g = length-append (atoms s x) (joined (λ z. atoms s z) rest) in
+            let f = length-append (take k out) (atoms s x ++ concatMap (λ z. atoms s z) rest) in
+            let g = length-append (atoms s x) (concatMap (λ z. atoms s z) rest) in
             let d = length-append (take count out₀) (atoms s t) in
             let u = length-take k out in
             let u′ = length-take count out₀ in
@@ -114,7 +114,7 @@ module _ (l : List ℕ) (n : ℕ) (e : List ℕ) (m : ℕ) where
           pub part-done : (out′ : List ℕ) (r : ℕ) → Appended out out′ k (atoms s x) r → r ≤ listLimit → Left out₀ out′ count t y r
           part-done out′ r a z = record {
             from = z;
-            words = rw (a .fits z, next-is) (append-assoc (take k out) (atoms s x) (joined (λ z. atoms s z) rest) ∙ words-are);
+            words = rw (a .fits z, next-is) (append-assoc (take k out) (atoms s x) (concatMap (λ z. atoms s z) rest) ∙ words-are);
             lower = rw next-is (rest-lower _ (subst (Every (λ p. p < t)) parts-are (p .lower)));
           }
 

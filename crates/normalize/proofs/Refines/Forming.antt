@@ -8,7 +8,7 @@ use lib.ListN.{length, take, getD, length-take}
 use lib.Dec.{leb}
 use borrow.Author.Tests.{ne-eqb}
 use Rattle.records.specs.declared.State.{State}
-use Rattle.records.specs.Lists.{all, joined, Every, none-left, and}
+use Rattle.records.specs.Lists.{all, concatMap, Every, none-left, and}
 use Rattle.records.specs.Store.{Store, ok, stop, andThen, _>>=_, give, kind, count, within, rootIn, isString}
 use Rattle.records.specs.View.{Lent, storeOf, termsView, termLimit}
 use Rattle.records.specs.Working.Audited.{Ready}
@@ -67,7 +67,7 @@ module _ {m : Lent} {c : State} (ready : Ready m c) where
   }
 
   -- from the atoms on, where they are within the limit
-  atoms-done : {m′ : Lent} (known : List ℕ) (t : ℕ) (flat list : List ℕ) (x : Form) → joined (atoms s) (t ∷ []) ≡ flat → length flat ≤ listLimit → Working (pushForms (known ++ flat) flat []) m m′ c (pushed x m′ list) → Working (normalForm known t) m m′ c (formed x m′ list)
+  atoms-done : {m′ : Lent} (known : List ℕ) (t : ℕ) (flat list : List ℕ) (x : Form) → concatMap (atoms s) (t ∷ []) ≡ flat → length flat ≤ listLimit → Working (pushForms (known ++ flat) flat []) m m′ c (pushed x m′ list) → Working (normalForm known t) m m′ c (formed x m′ list)
   unfolding normalForm
   atoms-done {m′} known t flat list x e h w = record {
     says = ap (andThen (λ l. pushForms (known ++ l) l [] >>= (λ out. give (reverse out)))) (flatten-fits (t ∷ []) s (let k = ap length e in omega arith) ∙ ap (λ (l : List ℕ). ok s l) e)
@@ -84,13 +84,13 @@ module _ {m : Lent} {c : State} (ready : Ready m c) where
   one-string t e = every-all (and e none-left)
 
   pub one-done : {m′ : Lent} (known : List ℕ) (t : ℕ) (list : List ℕ) (x : Form) (k : ℕ) → k ≡ kind s t → (k ≡ 3 → ⊥) → Working (pushForms (known ++ t ∷ []) (t ∷ []) []) m m′ c (pushed x m′ list) → Working (normalForm known t) m m′ c (formed x m′ list)
-  unfolding joined
+  unfolding concatMap
   one-done known t list x k i d = atoms-done known t (t ∷ []) list x (append-nil (atoms s t) ∙ atoms-plain s t (ne-eqb (kind s t) 3 (λ q. d (i ∙ q)))) (omega arith)
 
   -- flattened
   module _ (t : ℕ) (l l′ : List ℕ) (n : ℕ) (a : Appended l l′ 0 (atoms (bare (m .terms) (c .terms) (m .cells) (c .cells)) t) n) where
-    atoms-are : joined (atoms s) (t ∷ []) ≡ atoms (bare (m .terms) (c .terms) (m .cells) (c .cells)) t
-    unfolding joined
+    atoms-are : concatMap (atoms s) (t ∷ []) ≡ atoms (bare (m .terms) (c .terms) (m .cells) (c .cells)) t
+    unfolding concatMap
     atoms-are = append-nil (atoms s t) ∙ sym (same-atoms s (bare (m .terms) (c .terms) (m .cells) (c .cells)) refl refl t)
 
     pub form-passes : listLimit < n → (known : List ℕ) → Working (normalForm known t) m m c (stop 6)
@@ -101,14 +101,14 @@ module _ {m : Lent} {c : State} (ready : Ready m c) where
         record { says = ap (andThen (λ flat. pushForms (known ++ flat) flat [] >>= (λ out. give (reverse out)))) (flatten-full (t ∷ []) s (omega arith)); kept = refl }
 
     module _ (h : n ≤ listLimit) where
-      flat-is : joined (atoms s) (t ∷ []) ≡ take n l′
+      flat-is : concatMap (atoms s) (t ∷ []) ≡ take n l′
       flat-is = atoms-are ∙ sym (a .fits h)
 
       pub flat-length : length (take n l′) ≤ listLimit
       flat-length = let k = length-take n l′ in omega arith
 
       pub flat-strings : isString s t ≡ true → all (isString s) (take n l′) ≡ true
-      unfolding joined
+      unfolding concatMap
       flat-strings e = every-all (subst (Every (λ x. isString s x ≡ true)) flat-is (subst (Every (λ x. isString s x ≡ true)) (sym (append-nil (atoms s t))) (every-map (λ x i. i .string) (atoms-strings s (ready .audited) t e))))
 
       pub form-done : {m′ : Lent} (known list : List ℕ) (x : Form) → Working (pushForms (known ++ take n l′) (take n l′) []) m m′ c (pushed x m′ list) → Working (normalForm known t) m m′ c (formed x m′ list)

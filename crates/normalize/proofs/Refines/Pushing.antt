@@ -11,7 +11,7 @@ use borrow.Author.Tests.{eqb-true, eq-eqb, ne-eqb}
 use Rattle.records.specs.declared.State.{State}
 use Rattle.records.specs.declared.Made.{Made}
 use Rattle.records.specs.declared.Made.the-variants.{Term, Refused}
-use Rattle.records.specs.Lists.{all, joined, table}
+use Rattle.records.specs.Lists.{all, concatMap, table}
 use Rattle.records.specs.Store.{Store, Term as TermOf, Out, ok, stop, Work, andThen, give, within, kind, term, termIn, isConstant, text}
 use Rattle.records.specs.View.{Lent, storeOf, termsView, termAt}
 use Rattle.records.specs.Make.{makeConstant}
@@ -85,13 +85,13 @@ module _ (s : Store) (t u : ℕ) (out : List ℕ) (h : joinsIn (s .terms) t (u �
   unfolding joinsIn all
   joins-all = both-true _ _ (both-right (isConstant s t) _ h) (both-true _ true (both-left (isConstant s t) _ h) refl)
 
-  pub join-is : join t (u ∷ out) s ≡ andThen (λ (x : ℕ). give (x ∷ out)) (makeConstant (joined (text s) (u ∷ t ∷ [])) s)
-  unfolding join joinsIn joined
+  pub join-is : join t (u ∷ out) s ≡ andThen (λ (x : ℕ). give (x ∷ out)) (makeConstant (concatMap (text s) (u ∷ t ∷ [])) s)
+  unfolding join joinsIn concatMap
   join-is = rw (h, append-nil (text s t))
 
 module _ {m : Lent} {c : State} (ready : Ready m c) (t n : ℕ) (l : List ℕ) (p : 0 < n) (q : n ≤ length l) (h : joinsIn (storeOf m c .terms) t (reverse (firstWords l n)) ≡ true) where
   abbrev w : Work ℕ
-  w = λ s. makeConstant (joined (text s) (getD l (n - 1) 0 ∷ t ∷ [])) s
+  w = λ s. makeConstant (concatMap (text s) (getD l (n - 1) 0 ∷ t ∷ [])) s
 
   split : joinsIn (storeOf m c .terms) t (getD l (n - 1) 0 ∷ reverse (firstWords l (n - 1))) ≡ true
   split = rw (last-first l n p) at h

@@ -8,7 +8,7 @@ use lib.ListN.{length}
 use lib.Dec.{leb}
 use borrow.Author.Tests.{eqb-true}
 use Rattle.records.specs.declared.State.{State}
-use Rattle.records.specs.Lists.{all, joined, sameWord, Every}
+use Rattle.records.specs.Lists.{all, concatMap, sameWord, Every}
 use Rattle.records.specs.Store.{Out, isConstant, kind, termIn, textIn, text}
 use Rattle.records.specs.View.{lent, Lent, storeOf, charRoom, termAt, textAt, termsView, charsView, span, lengths}
 use Rattle.records.specs.Make.{makeConstant}
@@ -16,23 +16,23 @@ use Rattle.records.specs.Working.Leaves.{hasText, makeText}
 use Rattle.records.specs.Working.Puts.{TextsWithin}
 use Rattle.records.specs.Working.Audited.{Ready}
 use Rattle.records.specs.Calls.{Working}
-use Rattle.records.proofs.Lists.{within-low, within-high, all-every, every-map, joined-same, table-length}
+use Rattle.records.proofs.Lists.{within-low, within-high, all-every, every-map, concatMap-same, table-length}
 use Rattle.records.proofs.Views.{term-is, text-span}
 use Rattle.records.proofs.Grown.{kind-term}
-use Rattle.records.proofs.Refines.JoinedTexts.{lengths-joined}
+use Rattle.records.proofs.Refines.JoinedTexts.{lengths-concatMap}
 use Rattle.records.proofs.Refines.Making.{other-length, same-kind, constant-made, long-room}
 
 -- WHETHER A TERM HAS THE JOINED TEXT
 
 module _ (l h ts : List ℕ) (t x : ℕ) (ex : x ≡ termAt l t .kind) (y total : ℕ) (ey : y ≡ termAt l t .second) (sum : total ≡ lengths l ts) where
-  pub joined-other : (y ≡ total → ⊥) → false ≡ hasText l h 1 (joined (textAt l h) ts) t
-  joined-other d = other-length l h 1 (joined (textAt l h) ts) t x ex y ey (λ e. d (e ∙ lengths-joined l h ts ∙ sym sum))
+  pub joined-other : (y ≡ total → ⊥) → false ≡ hasText l h 1 (concatMap (textAt l h) ts) t
+  joined-other d = other-length l h 1 (concatMap (textAt l h) ts) t x ex y ey (λ e. d (e ∙ lengths-concatMap l h ts ∙ sym sum))
 
-  pub joined-equal : (z : ℕ) (b : Bool) → x ≡ 1 → y ≡ total → z ≡ termAt l t .first → b ≡ sameWord (span h z (lengths l ts)) (joined (textAt l h) ts)
-      → b ≡ hasText l h 1 (joined (textAt l h) ts) t
+  pub joined-equal : (z : ℕ) (b : Bool) → x ≡ 1 → y ≡ total → z ≡ termAt l t .first → b ≡ sameWord (span h z (lengths l ts)) (concatMap (textAt l h) ts)
+      → b ≡ hasText l h 1 (concatMap (textAt l h) ts) t
   joined-equal z b k e ez r =
-      let n = lengths-joined l h ts in
-      same-kind l h 1 (joined (textAt l h) ts) t x ex y ey z b k (e ∙ sum ∙ sym n) ez (rw n r)
+      let n = lengths-concatMap l h ts in
+      same-kind l h 1 (concatMap (textAt l h) ts) t x ex y ey z b k (e ∙ sum ∙ sym n) ez (rw n r)
 
 -- CONSTANTS of the store
 
@@ -67,17 +67,17 @@ module _ {t e h r ks : List ℕ} {c : State} (ready : Ready (lent t e h r ks) c)
     pub texts-there : TextsWithin t (length h) ts
     texts-there = every-map (λ x a. let w = a .within in let s = ready .sized .charRoom in omega arith) each
 
-    pub joined-made : {m : Lent} {o : Out ℕ} → Working (makeText 1 (joined (textAt t h) ts)) (lent t e h r ks) m c o
-        → Working (λ s. makeConstant (joined (text s) ts) s) (lent t e h r ks) m c o
+    pub joined-made : {m : Lent} {o : Out ℕ} → Working (makeText 1 (concatMap (textAt t h) ts)) (lent t e h r ks) m c o
+        → Working (λ s. makeConstant (concatMap (text s) ts) s) (lent t e h r ks) m c o
     joined-made w =
-        let v = constant-made (joined (textAt t h) ts) w in
-        let p = joined-same (textAt t h) (text (storeOf (lent t e h r ks) c)) (every-map (λ x a. a .same) each) in
+        let v = constant-made (concatMap (textAt t h) ts) w in
+        let p = concatMap-same (textAt t h) (text (storeOf (lent t e h r ks) c)) (every-map (λ x a. a .same) each) in
         record { says = rw p at (v .says); kept = v .kept }
 
 -- the counted length is that of the joined word, and fits where the test says so
 module _ {t e h r ks : List ℕ} {c : State} (ready : Ready (lent t e h r ks) c) (ts : List ℕ) (total : ℕ) (sum : total ≡ lengths t ts) where
-  pub total-long : total ≡ length (joined (textAt t h) ts)
-  total-long = sum ∙ sym (lengths-joined t h ts)
+  pub total-long : total ≡ length (concatMap (textAt t h) ts)
+  total-long = sum ∙ sym (lengths-concatMap t h ts)
 
   pub total-room : (f : Bool) → not f ≡ false → f ≡ leb (c .chars + total) (charRoom h) → c .chars + lengths t ts ≤ length h
   total-room f q e = rw sum at (long-room (ready .sized) f q total e)

@@ -9,10 +9,10 @@ use native.Mathlib.Omega.{arith}
 use lib.ListN.{length, getD, set, take, drop, length-append}
 use lib.Seq.{drop-cons, take-suc, take-all, split-at}
 use borrow.Author.Tests.{not-true, not-false}
-use Rattle.records.specs.Lists.{table, joined, sameWord}
+use Rattle.records.specs.Lists.{table, concatMap, sameWord}
 use Rattle.records.specs.View.{span, textAt, termAt, lengths, charsView}
 use Rattle.records.specs.Working.Puts.{CharsPut, TextsWithin}
-use Rattle.records.proofs.Lists.{left-false, word-append, every-at, table-at, table-same, table-add, table-length, joined-append}
+use Rattle.records.proofs.Lists.{left-false, word-append, every-at, table-at, table-same, table-add, table-length, concatMap-append}
 use Rattle.records.proofs.Views.{part-span}
 use Rattle.records.proofs.Refines.Texts.{Copied, copied-one, copied-all, put-both}
 
@@ -29,12 +29,12 @@ unfolding lengths
 lengths-append l [] us = omega arith
 lengths-append l (t ∷ ts) us = let e = lengths-append l ts us in omega arith
 
-pub lengths-joined : (l h ts : List ℕ) → length (joined (textAt l h) ts) ≡ lengths l ts
-unfolding lengths joined
-lengths-joined l h [] = refl
-lengths-joined l h (t ∷ ts) =
-    length-append (textAt l h t) (joined (textAt l h) ts)
-    ∙ (let e = lengths-joined l h ts in let f = table-length (λ i. getD h (termAt l t .first + i) 0) (termAt l t .second) in omega arith)
+pub lengths-concatMap : (l h ts : List ℕ) → length (concatMap (textAt l h) ts) ≡ lengths l ts
+unfolding lengths concatMap
+lengths-concatMap l h [] = refl
+lengths-concatMap l h (t ∷ ts) =
+    length-append (textAt l h t) (concatMap (textAt l h) ts)
+    ∙ (let e = lengths-concatMap l h ts in let f = table-length (λ i. getD h (termAt l t .first + i) 0) (termAt l t .second) in omega arith)
 
 -- the term at i, and those after it
 pub lengths-at : (l ts : List ℕ) (i : ℕ) → i < length ts → lengths l (drop i ts) ≡ termAt l (getD ts i 0) .second + lengths l (drop (suc i) ts)
@@ -87,15 +87,15 @@ span-add h p n m =
 
 -- what is left to compare from place p on, where i terms are done
 abbrev pub leftFrom : List ℕ → List ℕ → List ℕ → ℕ → ℕ → Bool
-leftFrom l h ts p i = sameWord (span h p (lengths l (drop i ts))) (joined (textAt l h) (drop i ts))
+leftFrom l h ts p i = sameWord (span h p (lengths l (drop i ts))) (concatMap (textAt l h) (drop i ts))
 
 pub left-at : (l h ts : List ℕ) (p i a n : ℕ) → i < length ts → a ≡ termAt l (getD ts i 0) .first → n ≡ termAt l (getD ts i 0) .second
     → leftFrom l h ts p i ≡ (sameWord (span h p n) (span h a n) && leftFrom l h ts (p + n) (suc i))
-unfolding joined
+unfolding concatMap
 left-at l h ts p i a n b ea en =
     let t = getD ts i 0 in
     rw (lengths-at l ts i b, drop-cons ts i 0 b, ← ea, ← en, span-add h p n (lengths l (drop (suc i) ts)))
-    (word-append (span h p n) (span h a n) (span h (p + n) (lengths l (drop (suc i) ts))) (joined (textAt l h) (drop (suc i) ts))
+    (word-append (span h p n) (span h a n) (span h (p + n) (lengths l (drop (suc i) ts))) (concatMap (textAt l h) (drop (suc i) ts))
     (table-length (λ j. getD h (p + j) 0) n ∙ sym (table-length (λ j. getD h (a + j) 0) n)))
 
 -- i terms agree, up to place q
@@ -109,7 +109,7 @@ matched-none l h ts p = record { within = omega arith; small = omega arith; rest
 
 module _ (l h ts : List ℕ) (p q i : ℕ) (m : Matched l h ts p q i) where
   pub matched-all : length ts ≤ i → true ≡ leftFrom l h ts p 0
-  unfolding lengths joined sameWord table
+  unfolding lengths concatMap sameWord table
   matched-all b = let z : drop i ts ≡ [] = drop-all i ts b in rw z at (m .rest)
 
   module _ (b : i < length ts) (a n : ℕ) (ea : a ≡ termAt l (getD ts i 0) .first) (en : n ≡ termAt l (getD ts i 0) .second) (r : Bool) (same : r ≡ sameWord (span h q n) (span h a n)) where
@@ -138,15 +138,15 @@ pub record Joined (l h ts : List ℕ) (to : ℕ) (h′ : List ℕ) (at i : ℕ) 
   pub within : i ≤ length ts
   pub long : length h′ ≡ length h
   pub place : at ≡ to + lengths l (take i ts)
-  pub put : CharsPut h h′ to (joined (textAt l h) (take i ts))
+  pub put : CharsPut h h′ to (concatMap (textAt l h) (take i ts))
 
 pub joined-none : (l h ts : List ℕ) (to : ℕ) → Joined l h ts to h to 0
-unfolding lengths joined
+unfolding lengths concatMap
 joined-none l h ts to =
     record { within = omega arith; long = refl; place = omega arith; put = record { grown = rw (add-zero to) (sym (append-nil (charsView h to))); kept = refl } }
 
 module _ (l h ts : List ℕ) (to : ℕ) (h′ : List ℕ) (at i : ℕ) (j : Joined l h ts to h′ at i) where
-  pub joined-all : length ts ≤ i → CharsPut h h′ to (joined (textAt l h) ts)
+  pub joined-all : length ts ≤ i → CharsPut h h′ to (concatMap (textAt l h) ts)
   joined-all b = rw (take-all i ts b) at (j .put)
 
   module _ (texts : TextsWithin l to ts) (room : to + lengths l ts ≤ length h) (b : i < length ts) (a n : ℕ)
@@ -163,20 +163,20 @@ module _ (l h ts : List ℕ) (to : ℕ) (h′ : List ℕ) (at i : ℕ) (j : Join
         let k = j .long in omega arith
 
     pub joined-one : (h″ : List ℕ) → CharsPut h′ h″ at (span h′ a n) → length h″ ≡ length h′ → Joined l h ts to h″ (at + n) (i + 1)
-    unfolding lengths joined
+    unfolding lengths concatMap
     joined-one h″ c k =
         let s = take-suc ts i 0 b in
-        let m = lengths-joined l h (take i ts) in
+        let m = lengths-concatMap l h (take i ts) in
         let p = j .place in
-        let e : joined (textAt l h) (take (suc i) ts) ≡ joined (textAt l h) (take i ts) ++ span h′ a n
-        = ap (joined (textAt l h)) s ∙ joined-append (textAt l h) (take i ts) (getD ts i 0 ∷ []) ∙ ap (λ (w : List ℕ). joined (textAt l h) (take i ts) ++ w) last-is in
+        let e : concatMap (textAt l h) (take (suc i) ts) ≡ concatMap (textAt l h) (take i ts) ++ span h′ a n
+        = ap (concatMap (textAt l h)) s ∙ concatMap-append (textAt l h) (take i ts) (getD ts i 0 ∷ []) ∙ ap (λ (w : List ℕ). concatMap (textAt l h) (take i ts) ++ w) last-is in
         record {
           within = omega arith;
           long = k ∙ j .long;
           place = rw (add-one i, s, lengths-append) (omega arith);
-          put = rw (add-one i, e) (put-both h h′ h″ to at (joined (textAt l h) (take i ts)) (span h′ a n) (omega arith) (j .put) c);
+          put = rw (add-one i, e) (put-both h h′ h″ to at (concatMap (textAt l h) (take i ts)) (span h′ a n) (omega arith) (j .put) c);
         }
       where
-        last-is : joined (textAt l h) (getD ts i 0 ∷ []) ≡ span h′ a n
+        last-is : concatMap (textAt l h) (getD ts i 0 ∷ []) ≡ span h′ a n
         last-is =
             append-nil (textAt l h (getD ts i 0)) ∙ rw (← ea, ← en) (sym (kept-span h h′ to a n (j .put .kept) (within-at l ts to i a n texts b ea en)))

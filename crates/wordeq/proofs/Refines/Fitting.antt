@@ -11,10 +11,10 @@ use lib.Seq.{drop-cons, take-suc, take-all}
 use lib.Dec.{eqb}
 use borrow.Author.Tests.{eq-eqb, ne-eqb}
 use Rattle.records.specs.declared.State.{State}
-use Rattle.records.specs.Lists.{if_then_else_, all, keep, joined, sameWord}
+use Rattle.records.specs.Lists.{if_then_else_, all, keep, concatMap, sameWord}
 use Rattle.records.specs.Store.{Store, kind, isConstant, isString, text}
 use Rattle.records.specs.View.{lent, storeOf, readIn, termed}
-use Rattle.records.proofs.Lists.{both-left, both-right, both-true, left-false, and-next, or-stop, or-next, clash, decide, all-append, all-every, every-at, joined-append}
+use Rattle.records.proofs.Lists.{both-left, both-right, both-true, left-false, and-next, or-stop, or-next, clash, decide, all-append, all-every, every-at, concatMap-append}
 use Rattle.wordeq.specs.Wordeq.{same, fixed, lettersOf, letters, filled, lead, forced, firstSpan, fits, variables}
 use Rattle.wordeq.specs.Working.Sides.{Spelled, rest, Tiling}
 use Rattle.wordeq.specs.Working.Stripping.{Pair}
@@ -53,7 +53,7 @@ module _ (s : Store) where
       rw p q
 
   lead-of : (r : List ℕ) (i : ℕ) → i ≤ length r → fixed s (take i r) ≡ true → (i < length r → isConstant s (getD r i 0) ≡ false) → lead s r ≡ letters s (take i r)
-  unfolding fixed all lead letters lettersOf joined
+  unfolding fixed all lead letters lettersOf concatMap
   lead-of [] zero p h f = refl
   lead-of [] (suc i) p h f = absurd (omega arith)
   lead-of (a ∷ r) zero p h f = go (isConstant s a) (f (omega arith))
@@ -91,7 +91,7 @@ module _ (s : Store) where
     unfolding letters
     lead-short =
         let e = ap length lead-is in
-        let f : letters s r ≡ letters s (take i r) ++ letters s (drop i r) = ap (letters s) (sym (take-append-drop i r)) ∙ joined-append (lettersOf s) (take i r) (drop i r) in
+        let f : letters s r ≡ letters s (take i r) ++ letters s (drop i r) = ap (letters s) (sym (take-append-drop i r)) ∙ concatMap-append (lettersOf s) (take i r) (drop i r) in
         let g = ap length f ∙ length-append (letters s (take i r)) (letters s (drop i r)) in
         omega arith
 

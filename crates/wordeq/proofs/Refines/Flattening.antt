@@ -12,13 +12,13 @@ use mir.Syntax.{w32}
 use mir.Val.{toZ, ofZ, SFits}
 use mir.ValLaws.{toZ-ofZ}
 use Rattle.records.specs.declared.State.{State}
-use Rattle.records.specs.Lists.{any, joined}
+use Rattle.records.specs.Lists.{any, concatMap}
 use Rattle.records.specs.Store.{Store, Out, ok, stop, andThen, _>>=_, give, isConcat}
 use Rattle.records.specs.View.{Lent, storeOf}
 use Rattle.records.specs.Rules.{listLimit, isList}
 use Rattle.records.specs.Working.Audited.{Ready}
 use Rattle.records.specs.Calls.{Working}
-use Rattle.records.proofs.Lists.{any-append, joined-same, both-true, both-right, every-all, every-map}
+use Rattle.records.proofs.Lists.{any-append, concatMap-same, both-true, both-right, every-all, every-map}
 use Rattle.normalize.specs.Normalize.{atoms, flatten}
 use Rattle.normalize.specs.Working.Flat.{bare, Appended}
 use Rattle.normalize.proofs.Atoms.{every-of, same-atoms, flatten-fits, flatten-full, flatten-atoms}
@@ -44,59 +44,59 @@ module _ (s : Store) (l out₀ : List ℕ) where
   -- the atoms of the first i terms are the first n words
   pub record Flattening (out : List ℕ) (i n : ℕ) : Type 0 where
     pub from : n ≤ listLimit
-    pub words : take n out ++ joined (λ x. atoms s x) (drop i l) ≡ joined (λ x. atoms s x) l
+    pub words : take n out ++ concatMap (λ x. atoms s x) (drop i l) ≡ concatMap (λ x. atoms s x) l
 
   pub flattening-none : Flattening out₀ 0 0
   flattening-none = record { from = omega arith; words = refl }
 
   module _ {out : List ℕ} {i n : ℕ} (g : Flattening out i n) where
-    empty : (k : List ℕ) → length k ≡ 0 → joined (λ x. atoms s x) k ≡ []
-    unfolding joined
+    empty : (k : List ℕ) → length k ≡ 0 → concatMap (λ x. atoms s x) k ≡ []
+    unfolding concatMap
     empty [] e = refl
     empty (a ∷ k) e = absurd (omega arith)
 
-    pub flattening-end : length l ≤ i → Appended out₀ out 0 (joined (atoms s) l) n
+    pub flattening-end : length l ≤ i → Appended out₀ out 0 (concatMap (atoms s) l) n
     flattening-end h =
         let k = length-drop i l in
-        let z : joined (λ x. atoms s x) (drop i l) ≡ [] = empty (drop i l) (omega arith) in
+        let z : concatMap (λ x. atoms s x) (drop i l) ≡ [] = empty (drop i l) (omega arith) in
         record {
           fits = λ j. sym (append-nil (take n out)) ∙ ap (λ (w : List ℕ). take n out ++ w) (sym z) ∙ g .words;
           passes = λ j. let f = g .from in absurd (omega arith);
         }
 
     module _ (h : i < length l) (out′ : List ℕ) (r : ℕ) (a : Appended out out′ n (atoms s (getD l i 0)) r) where
-      rest : take n out ++ (atoms s (getD l i 0) ++ joined (λ x. atoms s x) (drop (i + 1) l)) ≡ joined (λ x. atoms s x) l
-      unfolding joined
-      rest = ap (λ (k : List ℕ). take n out ++ joined (λ x. atoms s x) k) (sym (drop-head l i h)) ∙ g .words
+      rest : take n out ++ (atoms s (getD l i 0) ++ concatMap (λ x. atoms s x) (drop (i + 1) l)) ≡ concatMap (λ x. atoms s x) l
+      unfolding concatMap
+      rest = ap (λ (k : List ℕ). take n out ++ concatMap (λ x. atoms s x) k) (sym (drop-head l i h)) ∙ g .words
 
       pub flattening-turn : r ≤ listLimit → Flattening out′ (i + 1) r
       flattening-turn z = record {
         from = z;
-        words = rw (a .fits z) (append-assoc (take n out) (atoms s (getD l i 0)) (joined (λ x. atoms s x) (drop (i + 1) l)) ∙ rest);
+        words = rw (a .fits z) (append-assoc (take n out) (atoms s (getD l i 0)) (concatMap (λ x. atoms s x) (drop (i + 1) l)) ∙ rest);
       }
 
-      pub flattening-passes : listLimit ≤ length out → listLimit < r → Appended out₀ out′ 0 (joined (atoms s) l) r
+      pub flattening-passes : listLimit ≤ length out → listLimit < r → Appended out₀ out′ 0 (concatMap (atoms s) l) r
       flattening-passes b z =
           let q = ap length rest in
-          let f = length-append (take n out) (atoms s (getD l i 0) ++ joined (λ x. atoms s x) (drop (i + 1) l)) in
-          let d = length-append (atoms s (getD l i 0)) (joined (λ x. atoms s x) (drop (i + 1) l)) in
+          let f = length-append (take n out) (atoms s (getD l i 0) ++ concatMap (λ x. atoms s x) (drop (i + 1) l)) in
+          let d = length-append (atoms s (getD l i 0)) (concatMap (λ x. atoms s x) (drop (i + 1) l)) in
           let u = length-take n out in
           let o = a .passes z in
           let y = g .from in
           record { fits = λ j. absurd (omega arith); passes = λ j. omega arith }
 
-module _ {m : Lent} {c : State} (ready : Ready m c) (l out out′ : List ℕ) (n : ℕ) (a : Appended out out′ 0 (joined (atoms (bare (m .terms) (c .terms) (m .cells) (c .cells))) l) n) where
+module _ {m : Lent} {c : State} (ready : Ready m c) (l out out′ : List ℕ) (n : ℕ) (a : Appended out out′ 0 (concatMap (atoms (bare (m .terms) (c .terms) (m .cells) (c .cells))) l) n) where
   abbrev s : Store
   s = storeOf m c
 
-  atoms-are : joined (atoms s) l ≡ joined (atoms (bare (m .terms) (c .terms) (m .cells) (c .cells))) l
-  atoms-are = sym (joined-same (λ t. atoms (bare (m .terms) (c .terms) (m .cells) (c .cells)) t) (λ t. atoms s t) (every-of l (λ t. same-atoms s (bare (m .terms) (c .terms) (m .cells) (c .cells)) refl refl t)))
+  atoms-are : concatMap (atoms s) l ≡ concatMap (atoms (bare (m .terms) (c .terms) (m .cells) (c .cells))) l
+  atoms-are = sym (concatMap-same (λ t. atoms (bare (m .terms) (c .terms) (m .cells) (c .cells)) t) (λ t. atoms s t) (every-of l (λ t. same-atoms s (bare (m .terms) (c .terms) (m .cells) (c .cells)) refl refl t)))
 
   pub list-passes : listLimit < n → flatten l s ≡ stop 6
   list-passes h = let e = ap length atoms-are in let p = a .passes h in flatten-full l s (omega arith)
 
   module _ (h : n ≤ listLimit) (room : listLimit ≤ length out′) where
-    list-is : joined (atoms s) l ≡ take n out′
+    list-is : concatMap (atoms s) l ≡ take n out′
     list-is = atoms-are ∙ sym (a .fits h)
 
     short : length (take n out′) ≤ listLimit

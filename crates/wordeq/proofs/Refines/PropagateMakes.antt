@@ -7,25 +7,25 @@ use Prim.Native.Nat.{ℕ}
 use Rattle.records.specs.declared.State.{State}
 use Rattle.records.specs.declared.Made.{Made}
 use Rattle.records.specs.declared.Made.the-variants.{Term, Refused}
-use Rattle.records.specs.Lists.{if_then_else_, all, joined}
+use Rattle.records.specs.Lists.{if_then_else_, all, concatMap}
 use Rattle.records.specs.Store.{Store, Out, ok, stop, andThen, isConstant, isVariable, text}
 use Rattle.records.specs.View.{Lent, storeOf}
 use Rattle.records.specs.Make.{makeConstant}
 use Rattle.records.specs.Calls.{Working, made}
-use Rattle.records.proofs.Lists.{all-every, every-map, joined-same}
+use Rattle.records.proofs.Lists.{all-every, every-map, concatMap-same}
 use Rattle.wordeq.specs.Wordeq.{propagate, answer, fixed, lettersOf, letters, assigns}
 use Rattle.records.proofs.Sequence.{made-is, made-stops}
 
 -- a side of constants: its constant characters are its characters
-pub letters-fixed : (s : Store) (l : List ℕ) → fixed s l ≡ true → letters s l ≡ joined (text s) l
+pub letters-fixed : (s : Store) (l : List ℕ) → fixed s l ≡ true → letters s l ≡ concatMap (text s) l
 unfolding letters fixed lettersOf
-letters-fixed s l h = joined-same (lettersOf s) (text s) (every-map (λ a e. ap (λ (b : Bool). if b then text s a else []) e) (all-every (isConstant s) l h))
+letters-fixed s l h = concatMap-same (lettersOf s) (text s) (every-map (λ a e. ap (λ (b : Bool). if b then text s a else []) e) (all-every (isConstant s) l h))
 
 pub fixed-all : (s : Store) (l : List ℕ) → fixed s l ≡ true → all (isConstant s) l ≡ true
 unfolding fixed
 fixed-all s l h = h
 
-pub word-made : {m m₁ : Lent} {c : State} {o : Out ℕ} (l : List ℕ) → fixed (storeOf m c) l ≡ true → Working (λ s. makeConstant (joined (text s) l) s) m m₁ c o → Working (λ s. makeConstant (letters s l) s) m m₁ c o
+pub word-made : {m m₁ : Lent} {c : State} {o : Out ℕ} (l : List ℕ) → fixed (storeOf m c) l ≡ true → Working (λ s. makeConstant (concatMap (text s) l) s) m m₁ c o → Working (λ s. makeConstant (letters s l) s) m m₁ c o
 word-made {m} {c = c} l h w = record { says = ap (λ (k : List ℕ). makeConstant k (storeOf m c)) (letters-fixed (storeOf m c) l h) ∙ w .says; kept = w .kept }
 
 -- a lone variable against constants

@@ -10,7 +10,7 @@ use lib.Seq.{drop-cons, take-all}
 use lib.Dec.{ltb}
 use borrow.Author.Tests.{eq-eqb, ne-eqb}
 use Rattle.records.specs.declared.State.{State}
-use Rattle.records.specs.Lists.{if_then_else_, joined}
+use Rattle.records.specs.Lists.{if_then_else_, concatMap}
 use Rattle.records.specs.Store.{Store, Term, textIn, kind, term, isConstant, text}
 use Rattle.records.specs.View.{charLimit, termAt, readIn, termed}
 use Rattle.records.proofs.Lists.{and-stop, and-next, table-length, failed, passed, within-low, within-high}
@@ -91,11 +91,11 @@ count-limit l h c a = go (isConstant (readIn l h c) a)
 
 -- the atom at i, and those after it
 pub letters-at : (s : Store) (l : List ℕ) (i : ℕ) → i < length l → letters s (drop i l) ≡ lettersOf s (getD l i 0) ++ letters s (drop (suc i) l)
-unfolding letters joined
+unfolding letters concatMap
 letters-at s l i h = rw (drop-cons l i 0 h)
 
 pub letters-end : (s : Store) (l : List ℕ) (i : ℕ) → length l ≤ i → letters s (drop i l) ≡ []
-unfolding letters joined
+unfolding letters concatMap
 letters-end s l i h = rw (drop-of-length-le l h)
 
 -- the sum of the first i

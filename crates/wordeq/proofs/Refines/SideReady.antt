@@ -8,7 +8,7 @@ use native.Mathlib.Omega.{arith}
 use lib.ListN.{length, getD, length-append}
 use lib.Dec.{ltb}
 use Rattle.records.specs.declared.State.{State}
-use Rattle.records.specs.Lists.{joined}
+use Rattle.records.specs.Lists.{concatMap}
 use Rattle.records.specs.View.{Lent, storeOf, readIn, termed}
 use Rattle.records.specs.Working.Audited.{Ready}
 use Rattle.records.proofs.Lists.{table-length}
@@ -50,13 +50,13 @@ module _ (m : Lent) (c : State) where
   -- how many letters there are does not depend on the characters
   module _ (x : Texts (m .terms) c) where
     count-all : (l : List ℕ) → length (letters (termed (m .terms) c) l) ≡ length (letters (readIn (m .terms) (m .chars) c) l)
-    unfolding letters joined
+    unfolding letters concatMap
     count-all [] = refl
     count-all (a ∷ l) =
-        length-append (lettersOf (termed (m .terms) c) a) (joined (lettersOf (termed (m .terms) c)) l)
+        length-append (lettersOf (termed (m .terms) c) a) (concatMap (lettersOf (termed (m .terms) c)) l)
         ∙ (let e = count-same (m .terms) (m .chars) c a x in
         let f = count-all l in
-        let g = length-append (lettersOf (readIn (m .terms) (m .chars) c) a) (joined (lettersOf (readIn (m .terms) (m .chars) c)) l) in omega arith)
+        let g = length-append (lettersOf (readIn (m .terms) (m .chars) c) a) (concatMap (lettersOf (readIn (m .terms) (m .chars) c)) l) in omega arith)
 
     pub length-whole : (l : List ℕ) → length (letters (termed (m .terms) c) l) ≡ length (letters (storeOf m c) l)
     length-whole l = count-all l ∙ ap length (letters-whole l)

@@ -5,14 +5,14 @@ use mathlib.Core.List.{List, [], _∷_}
 use Prim.Native.Nat.{ℕ}
 use Rattle.records.specs.View.{readIn, termed}
 use Rattle.records.specs.declared.State.{State}
-use Rattle.records.specs.Lists.{all, joined, sameWord}
+use Rattle.records.specs.Lists.{all, concatMap, sameWord}
 use Rattle.records.specs.Store.{Store, isConstant}
 use Rattle.records.proofs.Lists.{both-left, both-right, left-false, right-false, failed, passed, word-is, word-same, same-test}
 use Rattle.wordeq.specs.Wordeq.{fixed, lettersOf, letters, unequal, filled}
 
 -- a side of constants has no place to fill
 pub filled-fixed : (s : Store) (u l : List ℕ) → fixed s l ≡ true → filled s u l ≡ letters s l
-unfolding filled letters lettersOf fixed all joined
+unfolding filled letters lettersOf fixed all concatMap
 filled-fixed s u [] e = refl
 filled-fixed s u (a ∷ l) e =
     let p = both-left (isConstant s a) (all (isConstant s) l) e in

@@ -10,7 +10,7 @@ use lib.Seq.{drop-cons, take-append-seam}
 use lib.Dec.{eqb, leb, T, nleb→lt}
 use borrow.Author.Tests.{eqb-true, eq-eqb, ne-eqb, not-true, not-false, leb-true}
 use Rattle.records.specs.declared.State.{State}
-use Rattle.records.specs.Lists.{if_then_else_, joined, sameWord}
+use Rattle.records.specs.Lists.{if_then_else_, concatMap, sameWord}
 use Rattle.records.specs.Store.{Store, kind, isConstant, text}
 use Rattle.records.specs.View.{charLimit, readIn, termed, termAt}
 use Rattle.records.proofs.Lists.{decide, left-false, clash}
@@ -82,11 +82,11 @@ module _ (w : List ℕ) (c : State) (a k : ℕ) (e : k ≡ kind (termed w c) a) 
 
 filled-at : (s : Store) (u side : List ℕ) (i : ℕ) → i < length side
     → filled s u (drop i side) ≡ (if isConstant s (getD side i 0) then text s (getD side i 0) else u) ++ filled s u (drop (suc i) side)
-unfolding filled joined
+unfolding filled concatMap
 filled-at s u side i l = rw (drop-cons side i 0 l)
 
 filled-end : (s : Store) (u side : List ℕ) (i : ℕ) → length side ≤ i → filled s u (drop i side) ≡ []
-unfolding filled joined
+unfolding filled concatMap
 filled-end s u side i l = rw (drop-of-length-le side l)
 
 none-left : sameWord [] [] ≡ true

@@ -1,14 +1,14 @@
 use Rattle.records.proofs.Refines.Making.{passed-none, passed-one, passed-all, hit}
 use Rattle.records.specs.Working.Leaves.{Passed, hasText}
 use Rattle.records.specs.View.{textAt}
-use Rattle.records.specs.Lists.{joined}
+use Rattle.records.specs.Lists.{concatMap}
 use Prim.Native.Nat.{_-_}
 use borrow.Author.Needs.{needs}
 use Rattle.records.proofs.make.find_joined.Statement.{statement}
 use Rattle.records.proofs.make.find_joined.Tie as tie
 
 abbrev Inv-loop : tie.InvT-loop
-Inv-loop terms chars n list total t₀ t = Passed (hasText terms chars 1 (joined (textAt terms chars) list)) n t
+Inv-loop terms chars n list total t₀ t = Passed (hasText terms chars 1 (concatMap (textAt terms chars) list)) n t
 
 abbrev μ-loop : tie.MeasureT-loop
 μ-loop terms chars n list total t₀ t = n - t
