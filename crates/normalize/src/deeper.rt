@@ -120,7 +120,9 @@ fn round(
     requires { ⌜ all (isString (storeOf (lends terms cells chars reasons keys) c)) (firstWords (now list) count) ≡ true ⌝ }
     requires { ⌜ (count ≤ deepLimit) × (listLimit ≤ length (now list)) ⌝ }
     requires { ⌜ MetTable (now met) ⌝ }
-    ensures { λ x. ⌜ Between (Turns (now (known .entry)) t (firstWords (now (list .entry)) count) (now (met .entry))) (across terms cells chars reasons keys) c (now (list .exit)) (now (met .exit)) x ⌝ }
+    ensures { λ x. do
+      let l = firstWords (now (list .entry)) count
+      ⌜ Between (Turns (now (known .entry)) t l (now (met .entry))) (across terms cells chars reasons keys) c (now (list .exit)) (now (met .exit)) x ⌝ }
 {
     if !expands::any_opens(terms, c.terms, t, list, count) {
         return Turn::Ends(DeepForm::List(count, c));

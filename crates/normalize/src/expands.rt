@@ -157,7 +157,9 @@ pub(crate) fn expand(
     requires { ⌜ Ready (lends terms cells chars reasons keys) c ⌝ }
     requires { ⌜ Candidates (storeOf (lends terms cells chars reasons keys) c) (now known) (now table) ⌝ }
     requires { ⌜ RoundOf (storeOf (lends terms cells chars reasons keys) c) (now list) count (now met) (now next) ⌝ }
-    ensures { λ x. ⌜ Between (Expands (now (known .entry)) t (firstWords (now (list .entry)) count) (now (next .entry)) 0 (now (met .entry))) (across terms cells chars reasons keys) c (now (next .exit)) (now (met .exit)) x ⌝ }
+    ensures { λ x. do
+      let l = firstWords (now (list .entry)) count
+      ⌜ Between (Expands (now (known .entry)) t l (now (next .entry)) 0 (now (met .entry))) (across terms cells chars reasons keys) c (now (next .exit)) (now (met .exit)) x ⌝ }
 {
     let mut d = c;
     let mut k: usize = 0;
