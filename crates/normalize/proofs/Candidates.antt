@@ -19,7 +19,7 @@ module _ {s s′ : Store} {cs table : List ℕ} (k : Candidates s cs table) (l :
   first-strings : Strings s cs
   first-strings = all-every (isString s) cs (k .strings)
 
-  later-strings : Strings s′ cs
+  pub later-strings : Strings s′ cs
   later-strings = strings-later (l .grown) first-strings
 
   later-nodes : NodeOf (s′ .terms) cs table

@@ -28,7 +28,7 @@ use Rattle.normalize.specs.Working.Nodes.{NodeOf, nodeAt}
 use Rattle.normalize.specs.Working.Pushes.{pushed, Candidates, cite, pushFor}
 use Rattle.normalize.specs.Calls.{firstWords}
 use Rattle.normalize.proofs.Represents.{drop-past}
-use Rattle.normalize.proofs.Candidates.{candidates-later, later-rep}
+use Rattle.normalize.proofs.Candidates.{later-strings, candidates-later, later-rep}
 use Rattle.records.proofs.Later.{Later}
 use Rattle.normalize.proofs.Formed.{Stands, representative-stands, replace-ends, atom-ends, Pushed}
 use Rattle.normalize.proofs.Carried.{Carried, carried-none, carried-ready, carried-kept, carried-then}
