@@ -9,12 +9,19 @@ pub labels-deep-normal-form-spec : {M : Type 1} → statement M
 labels-deep-normal-form-spec =
     tie.close
     (tie.spec
+    -- is-roomy-requires
     (λ c κs. search needs)
+    -- same-length
     (λ c. search needs)
+    -- same-length-2
     (λ c. search needs)
+    -- returns
     (λ c. deep-untold _ _ _ _ _ _ (sym (c .before .is-roomy .ensures) ∙ not-true _ (c .if1 .taken)))
+    -- state-of-requires
     (λ c κs. search needs)
+    -- deep-normal-form-cited-requires
     (λ c κs. search needs)
+    -- tell-deep-form-requires
     (λ c κs.
     let at-deep-normal-form-cited = c .before .before .before .before .before .before .before .before .before .before in
     let at-if1 = at-deep-normal-form-cited .before .before .before .before .before .before .before in
@@ -23,12 +30,19 @@ labels-deep-normal-form-spec =
       deep-tellable (at-deep-normal-form-cited .deep-normal-form-cited .ensures),
       none-tellable (at-deep-normal-form-cited .deep-normal-form-cited .ensures),
     ))
+    -- same-length-3
     (λ c. search needs)
+    -- same-length-4
     (λ c. search needs)
+    -- same-length-5
     (λ c. search needs)
+    -- same-length-6
     (λ c. search needs)
+    -- same-length-7
     (λ c. search needs)
+    -- same-length-8
     (λ c. search needs)
+    -- returns-2
     (λ c.
     let at-tell-deep-form = c .before .before .before .before in
     let at-deep-normal-form-cited = at-tell-deep-form .before .before .before .before .before .before .before .before .before .before .before in

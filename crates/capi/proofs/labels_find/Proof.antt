@@ -12,18 +12,28 @@ pub labels-find-spec : {M : Type 1} → statement M
 labels-find-spec =
     tie.close
     (tie.spec
+    -- is-roomy-requires
     (λ c κs. search needs)
+    -- same-length
     (λ c. search needs)
+    -- returns
     (λ c. untold _ _ _ _ _ _ (sym (c .before .is-roomy .ensures) ∙ not-true _ (c .if1 .taken)))
+    -- state-of-requires
     (λ c κs. search needs)
+    -- find-requires
     (λ c κs. search needs)
+    -- enum-known-found
     (λ c. search needs)
+    -- slice-write-answer
     (λ c.
     let at-if1 = c .before .before .before .before .before in
     let at-is-roomy = at-if1 .before in
     let h = roomy-answer _ _ (sym (at-is-roomy .is-roomy .ensures) ∙ not-false _ (at-if1 .if1 .left)) in omega arith)
+    -- enum-known-found-2
     (λ c. search needs)
+    -- same-length-2
     (λ c. search needs)
+    -- returns-2
     (λ c.
     let at-find = c .before .before .before in
     let at-state-of = at-find .before in
@@ -31,7 +41,9 @@ labels-find-spec =
     let at-is-roomy = at-if1 .before in
     find-told _ _ _ _ (at-find .find .ensures) _ _ (sym (at-is-roomy .is-roomy .ensures) ∙ not-false _ (at-if1 .if1 .left)) (at-state-of .state-of .ensures) _
     (c .before .found .given .1))
+    -- same-length-3
     (λ c. search needs)
+    -- returns-3
     (λ c.
     let at-find = c .before .before .before in
     let at-state-of = at-find .before in

@@ -10,12 +10,19 @@ pub labels-make-concatenation-spec : {M : Type 1} → statement M
 labels-make-concatenation-spec =
     tie.close
     (tie.spec
+    -- is-roomy-requires
     (λ c κs. search needs)
+    -- same-length
     (λ c. search needs)
+    -- same-length-2
     (λ c. search needs)
+    -- returns
     (λ c. untold _ _ _ _ _ _ (sym (c .before .is-roomy .ensures) ∙ not-true _ (c .if1 .taken)))
+    -- state-of-requires
     (λ c κs. search needs)
+    -- make-concatenation-requires
     (λ c κs. search needs)
+    -- tell-requires
     (λ c κs.
     let at-make-concatenation = c .before .before .before .before .before .before in
     let at-if1 = at-make-concatenation .before .before .before .before .before in
@@ -24,10 +31,15 @@ labels-make-concatenation-spec =
       sym (at-is-roomy .is-roomy .ensures) ∙ not-false _ (at-if1 .if1 .left),
       tellable (concat-tells (at-start .args .parts .now)) (at-make-concatenation .make-concatenation .ensures),
     ))
+    -- same-length-3
     (λ c. search needs)
+    -- same-length-4
     (λ c. search needs)
+    -- same-length-5
     (λ c. search needs)
+    -- same-length-6
     (λ c. search needs)
+    -- returns-2
     (λ c.
     let at-tell = c .before .before .before .before in
     let at-make-concatenation = at-tell .before .before .before .before .before .before .before in

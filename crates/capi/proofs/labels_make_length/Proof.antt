@@ -10,20 +10,31 @@ pub labels-make-length-spec : {M : Type 1} → statement M
 labels-make-length-spec =
     tie.close
     (tie.spec
+    -- is-roomy-requires
     (λ c κs. search needs)
+    -- same-length
     (λ c. search needs)
+    -- same-length-2
     (λ c. search needs)
+    -- returns
     (λ c. untold _ _ _ _ _ _ (sym (c .before .is-roomy .ensures) ∙ not-true _ (c .if1 .taken)))
+    -- state-of-requires
     (λ c κs. search needs)
+    -- make-length-requires
     (λ c κs. search needs)
+    -- tell-requires
     (λ c κs.
     let at-make-length = c .before .before .before .before in
     let at-if1 = at-make-length .before .before .before .before in
     let at-is-roomy = at-if1 .before in
     (sym (at-is-roomy .is-roomy .ensures) ∙ not-false _ (at-if1 .if1 .left), tellable (length-tells _) (at-make-length .make-length .ensures)))
+    -- same-length-3
     (λ c. search needs)
+    -- same-length-4
     (λ c. search needs)
+    -- same-length-5
     (λ c. search needs)
+    -- returns-2
     (λ c.
     let at-tell = c .before .before .before .before in
     let at-make-length = at-tell .before .before .before .before .before in

@@ -11,19 +11,30 @@ pub labels-nf-equal-spec : {M : Type 1} → statement M
 labels-nf-equal-spec =
     tie.close
     (tie.spec
+    -- is-roomy-requires
     (λ c κs. search needs)
+    -- same-length
     (λ c. search needs)
+    -- returns
     (λ c. equal-short _ _ _ _ _ (sym (c .before .is-roomy .ensures) ∙ not-true _ (c .if1 .taken)))
+    -- state-of-requires
     (λ c κs. search needs)
+    -- nf-equal-requires
     (λ c κs. search needs)
+    -- enum-known-compared
     (λ c. search needs)
+    -- flag-of-requires
     (λ c κs. search needs)
+    -- slice-write-answer
     (λ c.
     let at-if1 = c .before .before .before .before .before .before in
     let at-is-roomy = at-if1 .before in
     let h = roomy-answer _ _ (sym (at-is-roomy .is-roomy .ensures) ∙ not-false _ (at-if1 .if1 .left)) in omega arith)
+    -- enum-known-compared-2
     (λ c. search needs)
+    -- same-length-2
     (λ c. search needs)
+    -- returns-2
     (λ c.
     let at-nf-equal = c .before .before .before .before in
     let at-state-of = at-nf-equal .before in
@@ -31,7 +42,9 @@ labels-nf-equal-spec =
     let at-is-roomy = at-if1 .before in
     equal-told _ _ _ _ _ (at-nf-equal .nf-equal .ensures) _ _ (sym (at-is-roomy .is-roomy .ensures) ∙ not-false _ (at-if1 .if1 .left)) (at-state-of .state-of .ensures) _
     (c .before .before .compared .given .1) _ (c .flag-of .ensures))
+    -- same-length-3
     (λ c. search needs)
+    -- returns-3
     (λ c.
     let at-nf-equal = c .before .before .before in
     let at-state-of = at-nf-equal .before in

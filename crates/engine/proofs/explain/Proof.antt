@@ -9,20 +9,29 @@ pub explain-spec : {M : Type 1} → statement M
 explain-spec =
     tie.close
     (tie.spec
+    -- audit-requires
     (λ c κs. search needs)
+    -- same-length
     (λ c. search needs)
+    -- returns
     (λ c. explain-unready _ _ _ _ _ (c .before .audit .ensures) (c .if1 .taken))
+    -- can-explain-requires
     (λ c κs. ready-of _ _ (sym (c .before .before .audit .ensures) ∙ c .before .if1 .left))
+    -- same-length-2
     (λ c. search needs)
+    -- returns-2
     (λ c.
     let at-if1 = c .before .before .before in
     let at-audit = at-if1 .before in
     explain-unfit _ _ _ _ _ (at-audit .audit .ensures) (at-if1 .if1 .left) _ (c .before .can-explain .ensures) (c .if2 .taken))
+    -- explain-unchecked-requires
     (λ c κs.
     let at-if1 = c .before .before .before .before in
     let at-audit = at-if1 .before in
     explain-fit _ _ _ _ _ (at-audit .audit .ensures) (at-if1 .if1 .left) _ (c .before .before .can-explain .ensures) (c .before .if2 .left))
+    -- same-length-3
     (λ c. search needs)
+    -- returns-3
     (λ c.
     let at-if2 = c .before .before .before .before in
     let at-can-explain = at-if2 .before in

@@ -9,4 +9,13 @@ unfolding seenAt bit
 returns c = refl
 
 pub is-seen-spec : {M : Type 1} → statement M
-is-seen-spec = tie.close (tie.spec (λ c. search needs) (λ c. search needs) (λ c. search needs) (λ c. search needs) returns)
+is-seen-spec = tie.close (tie.spec
+    -- mul-w
+    (λ c. search needs)
+    -- shared-slice-read-w
+    (λ c. search needs)
+    -- cast-result
+    (λ c. search needs)
+    -- shr-result
+    (λ c. search needs)
+    returns)

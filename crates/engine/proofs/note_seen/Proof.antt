@@ -13,12 +13,20 @@ pub note-seen-spec : {M : Type 1} → statement M
 note-seen-spec =
     tie.close
     (tie.spec
+    -- mul-w
     (λ c. search needs)
+    -- slice-read-w
     (λ c. search needs)
+    -- cast-table
     (λ c. search needs)
+    -- shl-table
     (λ c. search needs)
     add-table
+    -- mul-table
     (λ c. search needs)
+    -- slice-write-table
     (λ c. search needs)
+    -- same-length
     (λ c. search needs)
+    -- returns
     (λ c. note-shifted _ _ (c .before .pre .0) (c .before .pre .1)))

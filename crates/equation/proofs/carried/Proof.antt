@@ -8,9 +8,13 @@ pub carried-spec : {M : Type 1} → statement M
 carried-spec =
     tie.close
     (tie.spec
+    -- enum-known-o
     (λ c. search needs)
+    -- with-reasons-requires
     (λ c κs. search needs)
+    -- returns
     (λ c.
     let at-start = c .before .before .before .before in
     carried-done (at-start .args .o) (at-start .args .incoming) _ (c .before .before .o .given .1) (let r = c .with-reasons .ensures in cc))
+    -- returns-2
     (λ c. carried-same (c .before .args .o) (c .before .args .incoming) (c .match .keys2)))

@@ -14,11 +14,15 @@ pub right-form-spec : {M : Type 1} → statement M
 right-form-spec =
     tie.close
     (tie.spec
+    -- slice-aggregate-deep-form-by-unchecked
     (λ c. search needs)
+    -- deep-form-by-unchecked-requires
     (λ c κs.
     let at-start = c .before .before .before .before .before .before .before .before .before .before .before .before .before .before in
     (at-start .pre .0 .0, (at-start .pre .0 .1, (term-string (at-start .pre .0 .0) (at-start .args .known .now) (at-start .args .t) (at-start .pre .1 .0), omega arith))))
+    -- enum-known-n
     (λ c. search needs)
+    -- array-share-prefix-right
     (λ c.
     let at-n = c .before .before .before .before .before .before in
     let at-deep-form = at-n .before .before .before .before .before .before .before .before .before in
@@ -26,6 +30,7 @@ right-form-spec =
     (let h = form-short (at-deep-form .deep-form-by-unchecked .last .1 .1 .1 .1 .1 .1 .1 .1 .1 .0) (at-start .args .known .now) (at-start .args .t) _ (at-start .pre .0 .0) (at-start .pre .1 .0)
     (at-deep-form .deep-form-by-unchecked .ensures) (at-n .n .given .1) (at-deep-form .deep-form-by-unchecked .kept .0) refl in
     let k = at-deep-form .deep-form-by-unchecked .kept .1 .1 .1 .1 .1 .1 .1 .1 .1 .0 in omega arith))
+    -- slice-aggregate-resolve-forms
     (λ c.
     let at-n = c .before .before .before .before .before .before .before in
     let at-deep-form = at-n .before .before .before .before .before .before .before .before .before in
@@ -33,6 +38,7 @@ right-form-spec =
     (let h = form-short (at-deep-form .deep-form-by-unchecked .last .1 .1 .1 .1 .1 .1 .1 .1 .1 .0) (at-start .args .known .now) (at-start .args .t) _ (at-start .pre .0 .0) (at-start .pre .1 .0)
     (at-deep-form .deep-form-by-unchecked .ensures) (at-n .n .given .1) (at-deep-form .deep-form-by-unchecked .kept .0) refl in
     let k = at-deep-form .deep-form-by-unchecked .kept .1 .1 .1 .1 .1 .1 .1 .1 .1 .0 in sym (length-take-le _ (at-deep-form .deep-form-by-unchecked .last .1 .1 .1 .1 .1 .1 .1 .1 .1 .0) (omega arith))))
+    -- resolve-forms-requires
     (λ c κs.
     let at-n = c .before .before .before .before .before .before .before .before in
     let at-deep-form = at-n .before .before .before .before .before .before .before .before .before in
@@ -54,15 +60,25 @@ right-form-spec =
         ),
       ),
     ))
+    -- enum-known-d
     (λ c. search needs)
+    -- with-reasons-requires
     (λ c κs. search needs)
+    -- enum-known-k
     (λ c. search needs)
+    -- same-length
     (λ c. search needs)
+    -- same-length-2
     (λ c. search needs)
+    -- same-length-3
     (λ c. search needs)
+    -- same-length-4
     (λ c. search needs)
+    -- same-length-5
     (λ c. search needs)
+    -- same-length-6
     (λ c. search needs)
+    -- returns
     (λ c.
     let at-resolve-forms = c .before .before .before .before .before .before .before .before .before .before .before .before in
     let at-n = at-resolve-forms .before .before .before .before .before .before .before .before .before in
@@ -76,22 +92,34 @@ right-form-spec =
     (at-start .pre .1 .0) (at-deep-form .deep-form-by-unchecked .ensures) (at-n .n .given .1) (at-deep-form .deep-form-by-unchecked .kept .0) refl in
     let k = at-deep-form .deep-form-by-unchecked .kept .1 .1 .1 .1 .1 .1 .1 .1 .1 .0 in omega arith))
     _ (toZ-ofZ w32 (at-start .args .guard) (at-start .fits .guard)) (at-resolve-forms .resolve-forms .ensures))
+    -- same-length-7
     (λ c. search needs)
+    -- same-length-8
     (λ c. search needs)
+    -- same-length-9
     (λ c. search needs)
+    -- same-length-10
     (λ c. search needs)
+    -- same-length-11
     (λ c. search needs)
+    -- returns-2
     (λ c.
     let at-deep-form = c .before .before .before .before .before .before .before .before .before .before .before in
     let at-start = at-deep-form .before .before .before .before .before .before .before .before .before .before .before .before .before .before .before in
     right-none (at-deep-form .deep-form-by-unchecked .last .1 .1 .1 .1 .1 .1 .1 .1 .1 .0) (at-start .args .known .now) (at-start .args .t) (at-start .args .incoming) _
     (at-start .args .guard) (at-start .args .lhs .now) (at-start .pre .1 .1 .1 .1 .1) (at-start .pre .0 .0) (at-start .pre .1 .0) (at-deep-form .deep-form-by-unchecked .ensures)
     (c .before .before .d .given .1) (c .with-reasons .ensures))
+    -- same-length-12
     (λ c. search needs)
+    -- same-length-13
     (λ c. search needs)
+    -- same-length-14
     (λ c. search needs)
+    -- same-length-15
     (λ c. search needs)
+    -- same-length-16
     (λ c. search needs)
+    -- returns-3
     (λ c.
     let at-deep-form = c .before .before .before .before .before .before .before .before .before .before in
     let at-start = at-deep-form .before .before .before .before .before .before .before .before .before .before .before .before .before .before .before in

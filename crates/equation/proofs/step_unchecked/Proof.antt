@@ -14,8 +14,11 @@ pub step-unchecked-spec : {M : Type 1} → statement M
 step-unchecked-spec =
     tie.close
     (tie.spec
+    -- first-requires
     (λ c κs. search needs)
+    -- second-requires
     (λ c κs. search needs)
+    -- known-table-unchecked-requires
     (λ c κs.
     let at-first = c .before .before .before .before .before .before .before in
     let at-start = at-first .before .before .before .before .before .before .before .before .before in (
@@ -23,7 +26,9 @@ step-unchecked-spec =
       known-list (at-start .pre .0) (at-start .args .known .now) _
           (left-fits (at-start .args .known .now) (at-start .args .e) (at-start .args .guard) _ _ (at-start .pre .0) (at-start .pre .1 .0) _ (at-first .first .ensures)),
     ))
+    -- slice-aggregate-deep-form-by-unchecked
     (λ c. search needs)
+    -- deep-form-by-unchecked-requires
     (λ c κs.
     let at-known-table-unchecked = c .before .before .before .before .before .before .before in
     let at-first = at-known-table-unchecked .before .before .before .before .before .before .before .before in
@@ -38,7 +43,9 @@ step-unchecked-spec =
         ),
       ),
     ))
+    -- enum-known-n
     (λ c. search needs)
+    -- array-share-prefix-left
     (λ c.
     let at-n = c .before .before .before .before .before .before .before in
     let at-deep-form = at-n .before .before .before .before .before .before .before .before .before in
@@ -48,6 +55,7 @@ step-unchecked-spec =
     (left-fits (at-start .args .known .now) (at-start .args .e) (at-start .args .guard) _ _ (at-start .pre .0) (at-start .pre .1 .0) _ (at-first .first .ensures))
     (at-deep-form .deep-form-by-unchecked .ensures) (at-n .n .given .1) (at-deep-form .deep-form-by-unchecked .kept .0) refl in
     let k = at-deep-form .deep-form-by-unchecked .kept .1 .1 .1 .1 .1 .1 .1 .1 .1 .0 in omega arith))
+    -- slice-aggregate-right-form
     (λ c.
     let at-n = c .before .before .before .before .before .before .before .before in
     let at-deep-form = at-n .before .before .before .before .before .before .before .before .before in
@@ -57,6 +65,7 @@ step-unchecked-spec =
     (left-fits (at-start .args .known .now) (at-start .args .e) (at-start .args .guard) _ _ (at-start .pre .0) (at-start .pre .1 .0) _ (at-first .first .ensures))
     (at-deep-form .deep-form-by-unchecked .ensures) (at-n .n .given .1) (at-deep-form .deep-form-by-unchecked .kept .0) refl in
     let k = at-deep-form .deep-form-by-unchecked .kept .1 .1 .1 .1 .1 .1 .1 .1 .1 .0 in sym (length-take-le _ (at-deep-form .deep-form-by-unchecked .last .1 .1 .1 .1 .1 .1 .1 .1 .1 .0) (omega arith))))
+    -- right-form-requires
     (λ c κs.
     let at-n = c .before .before .before .before .before .before .before .before .before in
     let at-deep-form = at-n .before .before .before .before .before .before .before .before .before in
@@ -97,15 +106,25 @@ step-unchecked-spec =
         ),
       ),
     ))
+    -- enum-known-d
     (λ c. search needs)
+    -- with-reasons-requires
     (λ c κs. search needs)
+    -- enum-known-k
     (λ c. search needs)
+    -- same-length
     (λ c. search needs)
+    -- same-length-2
     (λ c. search needs)
+    -- same-length-3
     (λ c. search needs)
+    -- same-length-4
     (λ c. search needs)
+    -- same-length-5
     (λ c. search needs)
+    -- same-length-6
     (λ c. search needs)
+    -- returns
     (λ c.
     let at-right-form = c .before .before .before .before .before .before .before .before .before .before .before .before in
     let at-n = at-right-form .before .before .before .before .before .before .before .before .before .before in
@@ -123,11 +142,17 @@ step-unchecked-spec =
     (at-deep-form .deep-form-by-unchecked .ensures) (at-n .n .given .1) (at-deep-form .deep-form-by-unchecked .kept .0) refl in
     let k = at-deep-form .deep-form-by-unchecked .kept .1 .1 .1 .1 .1 .1 .1 .1 .1 .0 in omega arith))
     _ (toZ-ofZ w32 (at-start .args .guard) (at-start .fits .guard)) (at-right-form .right-form .ensures))
+    -- same-length-7
     (λ c. search needs)
+    -- same-length-8
     (λ c. search needs)
+    -- same-length-9
     (λ c. search needs)
+    -- same-length-10
     (λ c. search needs)
+    -- same-length-11
     (λ c. search needs)
+    -- returns-2
     (λ c.
     let at-deep-form = c .before .before .before .before .before .before .before .before .before .before .before in
     let at-second = at-deep-form .before .before .before .before .before .before .before .before .before .before .before .before .before .before in
@@ -136,11 +161,17 @@ step-unchecked-spec =
     left-none (at-start .args .known .now) (at-start .args .e) (at-start .args .guard) _ _ (at-start .pre .0) (at-start .pre .1 .0)
     (at-deep-form .deep-form-by-unchecked .last .1 .1 .1 .1 .1 .1 .1 .1 .1 .0) _ (at-first .first .result) (at-second .second .result) (at-first .first .ensures)
     (at-second .second .ensures) (at-deep-form .deep-form-by-unchecked .ensures) (c .before .before .d .given .1) (c .with-reasons .ensures))
+    -- same-length-12
     (λ c. search needs)
+    -- same-length-13
     (λ c. search needs)
+    -- same-length-14
     (λ c. search needs)
+    -- same-length-15
     (λ c. search needs)
+    -- same-length-16
     (λ c. search needs)
+    -- returns-3
     (λ c.
     let at-deep-form = c .before .before .before .before .before .before .before .before .before .before in
     let at-second = at-deep-form .before .before .before .before .before .before .before .before .before .before .before .before .before .before in

@@ -7,27 +7,39 @@ pub normal-form-cited-spec : {M : Type 1} → statement M
 normal-form-cited-spec =
     tie.close
     (tie.spec
+    -- returns
     (λ c.
     let at-start = c .before .before .before .before .before .before .before .before in
     form-short _ _ _ _ (at-start .args .list .now) (c .if1 .taken))
+    -- audit-requires
     (λ c κs. search needs)
+    -- same-length
     (λ c. search needs)
+    -- same-length-2
     (λ c. search needs)
+    -- same-length-3
     (λ c. search needs)
+    -- returns-2
     (λ c.
     let at-if1 = c .before .before .before .before .before in
     let at-start = at-if1 .before .before .before .before .before .before .before .before in
     form-unready _ _ _ _ (at-start .args .list .now) (at-if1 .if1 .left) _ (c .before .audit .ensures) (c .if2 .taken))
+    -- can-form-requires
     (λ c κs. search needs)
+    -- same-length-4
     (λ c. search needs)
+    -- same-length-5
     (λ c. search needs)
+    -- same-length-6
     (λ c. search needs)
+    -- returns-3
     (λ c.
     let at-if2 = c .before .before .before in
     let at-audit = at-if2 .before in
     let at-if1 = at-audit .before .before .before .before in
     let at-start = at-if1 .before .before .before .before .before .before .before .before in
     form-unfit _ _ _ _ (at-start .args .list .now) (at-if1 .if1 .left) _ (at-audit .audit .ensures) (at-if2 .if2 .left) _ (c .before .can-form .ensures) (c .if3 .taken))
+    -- normal-form-cited-unchecked-requires
     (λ c κs.
     let at-if3 = c .before .before .before .before in
     let at-can-form = at-if3 .before in
@@ -43,10 +55,15 @@ normal-form-cited-spec =
         at-if1 .if1 .left,
       ),
     ))
+    -- same-length-7
     (λ c. search needs)
+    -- same-length-8
     (λ c. search needs)
+    -- same-length-9
     (λ c. search needs)
+    -- same-length-10
     (λ c. search needs)
+    -- returns-4
     (λ c.
     let at-normal-form-cited-unchecked = c .before .before .before .before .before .before .before .before in
     let at-if3 = at-normal-form-cited-unchecked .before .before .before .before .before in

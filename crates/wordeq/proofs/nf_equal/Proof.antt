@@ -8,16 +8,21 @@ pub nf-equal-spec : {M : Type 1} → statement M
 nf-equal-spec =
     tie.close
     (tie.spec
+    -- audit-requires
     (λ c κs. search needs)
+    -- returns
     (λ c.
     let at-start = c .before .before .before .before .before .before .before .before .before in
     equal-unready _ _ (at-start .args .lhs .now) (at-start .args .rhs .now) _ (c .before .audit .ensures) (c .if1 .taken))
+    -- are-lists-requires
     (λ c κs. search needs)
+    -- returns-2
     (λ c.
     let at-audit = c .before .before .before in
     let at-start = at-audit .before .before .before .before .before .before .before .before in
     equal-unfit _ _ (at-start .args .lhs .now) (at-start .args .rhs .now) _ (at-audit .audit .ensures) (c .before .before .if1 .left) _ (c .before .are-lists .ensures)
     (c .if2 .taken))
+    -- nf-equal-unchecked-requires
     (λ c κs.
     let at-if1 = c .before .before in
     let at-audit = at-if1 .before in
@@ -32,6 +37,7 @@ nf-equal-spec =
             (c .before .are-lists .ensures) (c .if2 .left),
       ),
     ))
+    -- returns-3
     (λ c.
     let at-if1 = c .before .before .before in
     let at-audit = at-if1 .before in

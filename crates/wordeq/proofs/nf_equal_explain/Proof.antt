@@ -8,14 +8,21 @@ pub nf-equal-explain-spec : {M : Type 1} → statement M
 nf-equal-explain-spec =
     tie.close
     (tie.spec
+    -- audit-requires
     (λ c κs. search needs)
+    -- same-length
     (λ c. search needs)
+    -- returns
     (λ c. explain-unready _ _ _ _ _ (c .before .audit .ensures) (c .if1 .taken))
+    -- can-pair-requires
     (λ c κs. search needs)
+    -- same-length-2
     (λ c. search needs)
+    -- returns-2
     (λ c.
     let at-audit = c .before .before .before in
     explain-unfit _ _ _ _ _ (at-audit .audit .ensures) (c .before .before .if1 .left) _ (c .before .can-pair .ensures) (c .if2 .taken))
+    -- nf-equal-explain-unchecked-requires
     (λ c κs.
     let at-can-pair = c .before .before in
     let at-if1 = at-can-pair .before in
@@ -35,7 +42,9 @@ nf-equal-explain-spec =
         ),
       ),
     ))
+    -- same-length-3
     (λ c. search needs)
+    -- returns-3
     (λ c.
     let at-if2 = c .before .before .before .before in
     let at-can-pair = at-if2 .before in

@@ -9,25 +9,40 @@ pub resolve-equation-spec : {M : Type 1} → statement M
 resolve-equation-spec =
     tie.close
     (tie.spec
+    -- returns
     (λ c.
     let at-start = c .before .before .before .before .before .before .before .before .before in
     resolve-short _ _ _ _ _ (at-start .args .list .now) (c .if1 .taken))
+    -- audit-requires
     (λ c κs. search needs)
+    -- same-length
     (λ c. search needs)
+    -- same-length-2
     (λ c. search needs)
+    -- same-length-3
     (λ c. search needs)
+    -- same-length-4
     (λ c. search needs)
+    -- same-length-5
     (λ c. search needs)
+    -- returns-2
     (λ c.
     let at-if1 = c .before .before .before .before .before .before .before in
     let at-start = at-if1 .before .before .before .before .before .before .before .before .before in
     resolve-unready _ _ _ _ _ (at-start .args .list .now) (at-if1 .if1 .left) _ (c .before .audit .ensures) (c .if2 .taken))
+    -- can-resolve-requires
     (λ c κs. search needs)
+    -- same-length-6
     (λ c. search needs)
+    -- same-length-7
     (λ c. search needs)
+    -- same-length-8
     (λ c. search needs)
+    -- same-length-9
     (λ c. search needs)
+    -- same-length-10
     (λ c. search needs)
+    -- returns-3
     (λ c.
     let at-if2 = c .before .before .before in
     let at-audit = at-if2 .before in
@@ -35,6 +50,7 @@ resolve-equation-spec =
     let at-start = at-if1 .before .before .before .before .before .before .before .before .before in
     resolve-unfit (at-start .args .lhs .now) (at-start .args .rhs .now) (at-start .args .guard) _ _ (at-start .args .list .now) (at-if1 .if1 .left) _ (at-audit .audit .ensures)
     (at-if2 .if2 .left) (at-start .fits .guard) _ (c .before .can-resolve .ensures) (c .if3 .taken))
+    -- resolve-unchecked-requires
     (λ c κs.
     let at-if3 = c .before .before .before .before .before .before in
     let at-can-resolve = at-if3 .before in
@@ -56,12 +72,19 @@ resolve-equation-spec =
         ),
       ),
     ))
+    -- same-length-11
     (λ c. search needs)
+    -- same-length-12
     (λ c. search needs)
+    -- same-length-13
     (λ c. search needs)
+    -- same-length-14
     (λ c. search needs)
+    -- same-length-15
     (λ c. search needs)
+    -- same-length-16
     (λ c. search needs)
+    -- returns-4
     (λ c.
     let at-resolve-unchecked = c .before .before .before .before .before .before .before .before .before .before .before .before in
     let at-if3 = at-resolve-unchecked .before .before .before .before .before .before .before in

@@ -4,4 +4,8 @@ use Rattle.capi.proofs.telling.is_roomy.Statement.{statement}
 use Rattle.capi.proofs.telling.is_roomy.Tie as tie
 
 pub is-roomy-spec : {M : Type 1} → statement M
-is-roomy-spec = tie.close (tie.spec (λ c. search (unroomy, needs)) (λ c. search (roomy-is, needs)))
+is-roomy-spec = tie.close (tie.spec
+    -- returns
+    (λ c. search (unroomy, needs))
+    -- returns-2
+    (λ c. search (roomy-is, needs)))

@@ -9,31 +9,44 @@ pub tell-deep-form-spec : {M : Type 1} → statement M
 tell-deep-form-spec =
     tie.close
     (tie.spec
+    -- enum-known-made
     (λ c. search needs)
+    -- cast-tell-two
     (λ c.
     let at-made = c .before .before .before in
     let at-start = at-made .before .before .before .before in
     record { fits = at-start .pre .1 _ _ (at-made .made .given .1) .list })
+    -- tell-two-requires
     (λ c κs.
     let at-made = c .before .before .before in
     let at-start = at-made .before .before .before .before in
     (at-start .pre .0, at-start .pre .1 _ _ (at-made .made .given .1) .counts))
+    -- enum-known-made-2
     (λ c. search needs)
+    -- tell-two-requires-2
     (λ c κs.
     let at-made2 = c .before .before .before in
     let at-start = at-made2 .before .before .before .before in
     (at-start .pre .0, at-start .pre .2 _ (at-made2 .made2 .given .1)))
+    -- enum-known-made-3
     (λ c. search needs)
+    -- same-length
     (λ c. search needs)
+    -- same-length-2
     (λ c. search needs)
+    -- returns
     (λ c.
     let at-tell-two = c .before .before .before .before in
     let at-made = at-tell-two .before .before .before .before in
     told-by (ap deepTelling (at-made .made .given .1)) (at-tell-two .tell-two .ensures))
+    -- same-length-3
     (λ c. search needs)
+    -- same-length-4
     (λ c. search needs)
+    -- returns-2
     (λ c.
     let at-tell-two2 = c .before .before .before .before in
     let at-made2 = at-tell-two2 .before .before .before .before in
     told-by (ap deepTelling (at-made2 .made2 .given .1)) (at-tell-two2 .tell-two2 .ensures))
+    -- returns-3
     (λ c. search needs))

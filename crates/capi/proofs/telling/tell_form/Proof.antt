@@ -9,20 +9,28 @@ pub tell-form-spec : {M : Type 1} → statement M
 tell-form-spec =
     tie.close
     (tie.spec
+    -- enum-known-made
     (λ c. search needs)
+    -- cast-tell-two
     (λ c.
     let at-made = c .before .before .before in
     let at-start = at-made .before .before .before .before in
     record { fits = at-start .pre .1 _ _ (at-made .made .given .1) .list })
+    -- tell-two-requires
     (λ c κs.
     let at-made = c .before .before .before in
     let at-start = at-made .before .before .before .before in
     (at-start .pre .0, at-start .pre .1 _ _ (at-made .made .given .1) .counts))
+    -- enum-known-made-2
     (λ c. search needs)
+    -- same-length
     (λ c. search needs)
+    -- same-length-2
     (λ c. search needs)
+    -- returns
     (λ c.
     let at-tell-two = c .before .before .before .before in
     let at-made = at-tell-two .before .before .before .before in
     told-by (ap formTelling (at-made .made .given .1)) (at-tell-two .tell-two .ensures))
+    -- returns-2
     (λ c. search needs))

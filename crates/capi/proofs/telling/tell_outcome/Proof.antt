@@ -9,24 +9,34 @@ pub tell-outcome-spec : {M : Type 1} → statement M
 tell-outcome-spec =
     tie.close
     (tie.spec
+    -- enum-known-made
     (λ c. search needs)
+    -- tell-answer-requires
     (λ c κs.
     let at-made = c .before .before .before in
     let at-start = at-made .before .before .before .before in
     (at-start .pre .0, subst NarrowOutcome (at-made .made .given .1) (at-start .pre .1)))
+    -- enum-known-made-2
     (λ c. search needs)
+    -- tell-one-requires
     (λ c κs.
     let at-made2 = c .before .before .before in
     let at-start = at-made2 .before .before .before .before in
     (at-start .pre .0, subst NarrowOutcome (at-made2 .made2 .given .1) (at-start .pre .1)))
+    -- same-length
     (λ c. search needs)
+    -- same-length-2
     (λ c. search needs)
+    -- returns
     (λ c.
     let at-tell-answer = c .before .before .before .before in
     let at-made = at-tell-answer .before .before .before .before in
     told-by (ap outcomeTelling (at-made .made .given .1)) (at-tell-answer .tell-answer .ensures .is))
+    -- same-length-3
     (λ c. search needs)
+    -- same-length-4
     (λ c. search needs)
+    -- returns-2
     (λ c.
     let at-tell-one = c .before .before .before .before in
     let at-made2 = at-tell-one .before .before .before .before in

@@ -17,10 +17,17 @@ field-end-spec =
     (tie.spec
     Inv-loop
     μ-loop
+    -- loop-holds
     (λ c. passed-none _ _ (c .pre))
+    -- shared-slice-read-if1
     (λ c. search needs)
+    -- returns
     (λ c. let at-loop = c .before .before .before in passed-here _ _ _ (at-loop .loop .inv) (c .before .before .loop-test .taken) (c .if1 .taken))
+    -- add-i
     (λ c. search needs)
+    -- loop-less
     (λ c. search needs)
+    -- loop-again
     (λ c. let at-loop = c .before .before .before in passed-one _ _ _ (at-loop .loop .inv) (c .before .before .loop-test .taken) (c .if1 .left))
+    -- returns-2
     (λ c. passed-all _ _ _ (c .before .loop .inv) (c .loop-test .left)))

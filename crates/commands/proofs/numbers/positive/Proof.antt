@@ -4,4 +4,8 @@ use Rattle.commands.proofs.numbers.positive.Statement.{statement}
 use Rattle.commands.proofs.numbers.positive.Tie as tie
 
 pub positive-spec : {M : Type 1} → statement M
-positive-spec = tie.close (tie.spec (λ c. search needs) (λ c. positive-is (c .args .x) (c .pre)))
+positive-spec = tie.close (tie.spec
+    -- cast-result
+    (λ c. search needs)
+    -- returns
+    (λ c. positive-is (c .args .x) (c .pre)))

@@ -53,21 +53,33 @@ pub +put-digits-spec : {M : Type 1} → statement M
 )
     (put-digits-at t)
     put-digits.Post
+    -- returns
     (put-digits-returns t)
+    -- cast-out
     (put-digits-cast-out t)
+    -- add-out
     (put-digits-add-out t)
+    -- slice-write-out
     (λ c. search needs)
+    -- add-result
     (λ c. search needs)
+    -- same-length
     (λ c. search needs)
+    -- returns-2
     (λ c. search decimal-one)
+    -- sub-put-digits
     (λ c. search needs)
+    -- put-digits-requires
     (λ c κs. (omega arith, omega arith))
+    -- cast-out-2
     (λ c.
     let at-start = c .before .before .before .before .before .before .before in
     let h = mod-lt (at-start .args .x) {m = 10} (omega arith) in record { fits = omega arith })
+    -- add-out-2
     (λ c.
     let at-start = c .before .before .before .before .before .before .before in
     let h = mod-lt (at-start .args .x) {m = 10} (omega arith) in record { fits = omega arith })
+    -- slice-write-out-2
     (λ c.
     let at-put-digits = c .before .before in
     let at-if1 = at-put-digits .before .before .before in
@@ -75,6 +87,7 @@ pub +put-digits-spec : {M : Type 1} → statement M
     let a = at-start .args in
     decimal-room (a .out .now) (at-put-digits .put-digits .last .0) (a .at) (a .n) (a .x) (at-put-digits .put-digits .result) (at-if1 .if1 .left) (at-start .pre .1)
     (at-put-digits .put-digits .kept .0) (at-put-digits .put-digits .ensures))
+    -- add-result-2
     (λ c.
     let at-put-digits = c .before .before in
     let at-if1 = at-put-digits .before .before .before in
@@ -85,5 +98,7 @@ pub +put-digits-spec : {M : Type 1} → statement M
       decimal-room (a .out .now) (at-put-digits .put-digits .last .0) (a .at) (a .n) (a .x) (at-put-digits .put-digits .result) (at-if1 .if1 .left) (at-start .pre .1)
           (at-put-digits .put-digits .kept .0) (at-put-digits .put-digits .ensures),
     ))
+    -- same-length-2
     (λ c. search needs)
+    -- returns-3
     (λ c. search decimal-more)

@@ -4,4 +4,8 @@ use Rattle.commands.proofs.print.put_guard.Statement.{statement}
 use Rattle.commands.proofs.print.put_guard.Tie as tie
 
 pub put-guard-spec : {M : Type 1} → statement M
-put-guard-spec = tie.close (tie.spec (λ c κs. search needs) (λ c. let at-start = c .before .before in guard-same _ _ (at-start .args .g) (at-start .fits .g) (c .guard-into .ensures)))
+put-guard-spec = tie.close (tie.spec
+    -- guard-into-requires
+    (λ c κs. search needs)
+    -- returns
+    (λ c. let at-start = c .before .before in guard-same _ _ (at-start .args .g) (at-start .fits .g) (c .guard-into .ensures)))

@@ -10,11 +10,17 @@ pub reason-into-spec : {M : Type 1} → statement M
 reason-into-spec =
     tie.close
     (tie.spec
+    -- slice-write-out
     (λ c. search needs)
+    -- reason-letter-requires
     (λ c κs. search needs)
+    -- slice-write-out-2
     (λ c. simp length-set (omega arith))
+    -- put-digits-requires
     (λ c κs. simp length-set (omega arith))
+    -- same-length
     (λ c. c .before .before .put-digits .kept .0 ∙ simp length-set)
+    -- returns
     (λ c.
     let at-put-digits = c .before .before in
     let at-reason-letter = at-put-digits .before .before in

@@ -7,14 +7,23 @@ pub char-at-spec : {M : Type 1} → statement M
 char-at-spec =
     tie.close
     (tie.spec
+    -- byte-requires
     (λ c κs. search needs)
+    -- add-byte
     (λ c. search needs)
+    -- byte-requires-2
     (λ c κs. search needs)
+    -- add-byte-2
     (λ c. search needs)
+    -- byte-requires-3
     (λ c κs. search needs)
+    -- add-byte-3
     (λ c. search needs)
+    -- byte-requires-4
     (λ c κs. search needs)
+    -- char-by-requires
     (λ c κs. search needs)
+    -- returns
     (λ c.
     let at-byte2 = c .before .before .before in
     let at-byte = at-byte2 .before in

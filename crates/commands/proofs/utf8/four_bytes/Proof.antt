@@ -13,27 +13,40 @@ pub four-bytes-spec : {M : Type 1} → statement M
 four-bytes-spec =
     tie.close
     (tie.spec
+    -- is-next-requires
     (λ c κs. search needs)
+    -- returns
     (λ c.
     let at-start = c .before .before in
     unshaped _ _ _ _
     (sym (three-1 (isNext (at-start .args .b)) (isNext (at-start .args .c)) (isNext (at-start .args .d)) (failed _ _ (c .before .is-next .ensures) (c .if1 .taken)))))
+    -- is-next-requires-2
     (λ c κs. search needs)
+    -- returns-2
     (λ c.
     let at-start = c .before .before .before .before in
     unshaped _ _ _ _
     (sym (three-2 (isNext (at-start .args .b)) (isNext (at-start .args .c)) (isNext (at-start .args .d)) (failed _ _ (c .before .is-next2 .ensures) (c .if2 .taken)))))
+    -- is-next-requires-3
     (λ c κs. search needs)
+    -- returns-3
     (λ c.
     let at-start = c .before .before .before .before .before .before in
     unshaped _ _ _ _
     (sym (three-3 (isNext (at-start .args .b)) (isNext (at-start .args .c)) (isNext (at-start .args .d)) (failed _ _ (c .before .is-next3 .ensures) (c .if3 .taken)))))
+    -- sub-six-more
     (λ c. search needs)
+    -- cast-six-more
     (λ c. search needs)
+    -- six-more-requires
     (λ c κs. search needs)
+    -- six-more-requires-2
     (λ c κs. let e = c .six-more .ensures in omega arith)
+    -- six-more-requires-3
     (λ c κs. let e = c .before .six-more .ensures in let f = c .six-more2 .ensures in omega arith)
+    -- shape-requires
     (λ c κs. search needs)
+    -- returns-4
     (λ c.
     let at-six-more = c .before .before .before in
     let at-if3 = at-six-more .before in

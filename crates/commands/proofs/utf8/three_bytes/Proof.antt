@@ -16,21 +16,31 @@ pub three-bytes-spec : {M : Type 1} → statement M
 three-bytes-spec =
     tie.close
     (tie.spec
+    -- is-next-requires
     (λ c κs. search needs)
+    -- returns
     (λ c.
     let at-start = c .before .before in
     unshaped 3 0x800 (isNext (at-start .args .b) && isNext (at-start .args .c)) (sixMore (sixMore (at-start .args .a - 0xE0) (at-start .args .b)) (at-start .args .c))
     (left-false (isNext (at-start .args .b)) (isNext (at-start .args .c)) (failed _ _ (c .before .is-next .ensures) (c .if1 .taken))))
+    -- is-next-requires-2
     (λ c κs. search needs)
+    -- returns-2
     (λ c.
     let at-start = c .before .before .before .before in
     unshaped 3 0x800 (isNext (at-start .args .b) && isNext (at-start .args .c)) (sixMore (sixMore (at-start .args .a - 0xE0) (at-start .args .b)) (at-start .args .c))
     (right-false (isNext (at-start .args .b)) (isNext (at-start .args .c)) (failed _ _ (c .before .is-next2 .ensures) (c .if2 .taken))))
+    -- sub-six-more
     (λ c. search needs)
+    -- cast-six-more
     (λ c. search needs)
+    -- six-more-requires
     (λ c κs. search needs)
+    -- six-more-requires-2
     (λ c κs. let e = c .six-more .ensures in omega arith)
+    -- shape-requires
     (λ c κs. search needs)
+    -- returns-3
     (λ c.
     let at-if2 = c .before .before .before in
     let at-is-next2 = at-if2 .before in

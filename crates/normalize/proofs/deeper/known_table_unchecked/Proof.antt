@@ -5,4 +5,8 @@ use Rattle.normalize.proofs.deeper.known_table_unchecked.Statement.{sta
 use Rattle.normalize.proofs.deeper.known_table_unchecked.Tie as tie
 
 pub known-table-unchecked-spec : {M : Type 1} → statement M
-known-table-unchecked-spec = tie.close (tie.spec (λ c κs. let at-start = c .before .before .before .before .before .before .before in (at-start .pre .0 .sized .termLimited, (strings-within (at-start .pre .0) _ (list-strings (at-start .pre .0) _ (at-start .pre .1)), ready-rooting (at-start .pre .0)))) (λ c. let at-start = c .before .before .before .before .before .before .before .before in known-table (at-start .pre .0) _ (replicate 513 0) (at-start .pre .1) refl (λ i h. getD-replicate 513 i 0 0 h) _ (c .build-node-of .ensures)))
+known-table-unchecked-spec = tie.close (tie.spec
+    -- build-node-of-requires
+    (λ c κs. let at-start = c .before .before .before .before .before .before .before in (at-start .pre .0 .sized .termLimited, (strings-within (at-start .pre .0) _ (list-strings (at-start .pre .0) _ (at-start .pre .1)), ready-rooting (at-start .pre .0))))
+    -- returns
+    (λ c. let at-start = c .before .before .before .before .before .before .before .before in known-table (at-start .pre .0) _ (replicate 513 0) (at-start .pre .1) refl (λ i h. getD-replicate 513 i 0 0 h) _ (c .build-node-of .ensures)))

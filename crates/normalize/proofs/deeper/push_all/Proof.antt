@@ -21,11 +21,15 @@ push-all-spec =
     (tie.spec
     Inv-loop
     μ-loop
+    -- loop-holds
     (λ c.
     let at-start = c .before .before .before .before .before .before .before in
     (omega arith, refl, refl, refl, heaping-none _ _ (at-start .pre .0)))
+    -- mul-push
     (λ c. search needs)
+    -- shared-slice-read-push
     (λ c. search needs)
+    -- push-requires
     (λ c κs.
     let at-loop-test = c .before .before .before .before in
     let at-loop = at-loop-test .before in
@@ -36,11 +40,17 @@ push-all-spec =
         (let l = at-loop .loop .inv .3 in let p = at-start .pre .1 .1 .1 .1 in omega arith),
       ),
     ))
+    -- enum-known-form
     (λ c. search needs)
+    -- enum-known-form-2
     (λ c. search needs)
+    -- same-length
     (λ c. search needs)
+    -- same-length-2
     (λ c. search needs)
+    -- same-length-3
     (λ c. search needs)
+    -- returns
     (λ c.
     let at-push = c .before .before .before .before .before .before .before .before .before in
     let at-loop-test = at-push .before .before .before .before .before in
@@ -48,11 +58,14 @@ push-all-spec =
     let at-start = at-loop .before .before .before .before .before .before .before .before in
     heaping-stopped (at-start .args .next .now) (at-start .args .k) (at-loop .loop .inv .4) (at-start .pre .0) (at-start .pre .1 .0) (at-loop-test .loop-test .taken) _ _
     (at-push .push .kept .0) refl (at-push .push .ensures) _ (c .before .form2 .given .1))
+    -- add-i
     (λ c.
     let at-loop-test = c .before .before .before .before .before .before .before .before .before .before .before .before .before .before in
     let at-start = at-loop-test .before .before .before .before .before .before .before .before .before in
     (let h = at-loop-test .loop-test .taken in let p = at-start .pre .1 .1 .1 .0 in omega arith))
+    -- loop-less
     (λ c. search needs)
+    -- loop-again
     (λ c. (
       omega arith,
       search needs,
@@ -65,9 +78,13 @@ push-all-spec =
           heaping-turn (at-start .args .next .now) (at-start .args .k) (at-loop .loop .inv .4) (at-start .pre .0) (at-start .pre .1 .0) (at-loop-test .loop-test .taken) _ _
           (at-push .push .kept .0) refl (at-push .push .ensures) _ _ (c .before .form .given .1),
     ))
+    -- same-length-4
     (λ c. search needs)
+    -- same-length-5
     (λ c. search needs)
+    -- same-length-6
     (λ c. search needs)
+    -- returns-2
     (λ c.
     let at-start = c .before .before .before .before .before .before .before .before .before in
     heaping-done (at-start .args .next .now) (at-start .args .k) (c .before .loop .inv .4) (c .loop-test .left)))

@@ -21,6 +21,7 @@ rounds-spec =
     (tie.spec
     Inv-loop
     μ-loop
+    -- loop-holds
     (λ c.
     let at-start = c .before .before .before .before .before .before .before in (
       omega arith,
@@ -31,6 +32,7 @@ rounds-spec =
       rounding-none _ _ (at-start .args .list .now) (at-start .args .count) (replicate 513 0) (at-start .pre .0) (at-start .pre .1 .1 .0) (at-start .pre .1 .1 .1 .0) refl
           (λ i h. getD-replicate 513 i 0 0 h),
     ))
+    -- round-requires
     (λ c κs.
     let at-loop = c .before .before .before .before .before .before in
     let at-start = at-loop .before .before .before .before .before .before .before .before in (
@@ -46,12 +48,19 @@ rounds-spec =
         ),
       ),
     ))
+    -- enum-known-turn
     (λ c. search needs)
+    -- enum-known-turn-2
     (λ c. search needs)
+    -- same-length
     (λ c. search needs)
+    -- same-length-2
     (λ c. search needs)
+    -- same-length-3
     (λ c. search needs)
+    -- same-length-4
     (λ c. search needs)
+    -- returns
     (λ c.
     let at-round = c .before .before .before .before .before .before .before .before .before .before .before in
     let at-loop-test = at-round .before .before .before .before .before .before in
@@ -59,8 +68,11 @@ rounds-spec =
     let at-start = at-loop .before .before .before .before .before .before .before .before in
     rounds-ended (at-loop .loop .inv .5) (at-start .pre .0) _ (at-start .pre .1 .0) (at-loop-test .loop-test .taken) _ _ _ (at-round .round .ensures) _
     (c .before .turn2 .given .1))
+    -- add-i
     (λ c. search needs)
+    -- loop-less
     (λ c. search needs)
+    -- loop-again
     (λ c. (
       omega arith,
       search needs,
@@ -74,10 +86,15 @@ rounds-spec =
           rounding-turn (at-loop .loop .inv .5) (at-start .pre .0) _ (at-start .pre .1 .0) (at-loop-test .loop-test .taken) _ _ _ (at-round .round .ensures) _ _
           (c .before .turn .given .1) (at-round .round .kept .0) refl,
     ))
+    -- same-length-5
     (λ c. search needs)
+    -- same-length-6
     (λ c. search needs)
+    -- same-length-7
     (λ c. search needs)
+    -- same-length-8
     (λ c. search needs)
+    -- returns-2
     (λ c.
     let at-start = c .before .before .before .before .before .before .before .before .before in
     rounds-done (c .before .loop .inv .5) (at-start .pre .0) _ (at-start .pre .1 .0) (c .loop-test .left)))

@@ -24,19 +24,27 @@ any-opens-spec =
     (tie.spec
     Inv-loop
     μ-loop
+    -- loop-holds
     (λ c.
     let at-start = c .before .before in
     (omega arith, any-zero (opensIn (termsView (at-start .args .terms .now) (at-start .args .n)) (at-start .args .t)) (λ (j : ℕ). getD (at-start .args .list .now) j 0)))
+    -- mul-opens
     (λ c. search needs)
+    -- shared-slice-read-opens
     (λ c. search needs)
+    -- opens-requires
     (λ c κs. search needs)
+    -- returns
     (λ c.
     let at-loop-test = c .before .before .before in
     let at-start = at-loop-test .before .before .before .before in
     any-stop (opensIn (termsView (at-start .args .terms .now) (at-start .args .n)) (at-start .args .t)) (λ (j : ℕ). getD (at-start .args .list .now) j 0) _ _ _
     (c .before .opens .ensures) (c .if1 .taken) (at-loop-test .loop-test .taken))
+    -- add-i
     (λ c. search needs)
+    -- loop-less
     (λ c. search needs)
+    -- loop-again
     (λ c.
     let at-loop = c .before .before .before .before in
     let at-start = at-loop .before .before .before in (
@@ -44,6 +52,7 @@ any-opens-spec =
       any-turn (opensIn (termsView (at-start .args .terms .now) (at-start .args .n)) (at-start .args .t)) (λ (j : ℕ). getD (at-start .args .list .now) j 0) _ _
           (c .before .opens .ensures) (c .if1 .left) (at-loop .loop .inv .1),
     ))
+    -- returns-2
     (λ c.
     let at-start = c .before .before .before .before in
     any-done (opensIn (termsView (at-start .args .terms .now) (at-start .args .n)) (at-start .args .t)) (λ (j : ℕ). getD (at-start .args .list .now) j 0) _ _

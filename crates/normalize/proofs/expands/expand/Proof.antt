@@ -21,14 +21,18 @@ expand-spec =
     (tie.spec
     Inv-loop
     μ-loop
+    -- loop-holds
     (λ c.
     let at-start = c .before .before .before .before .before .before .before .before in
     (omega arith, refl, refl, refl, refl, walking-none _ _ _ _ _ (at-start .pre .0)))
+    -- mul-expand-one
     (λ c. search needs)
+    -- shared-slice-read-expand-one
     (λ c.
     let at-loop-test = c .before .before .before .before in
     let at-start = at-loop-test .before .before .before .before .before .before .before .before .before .before in
     (let h = at-loop-test .loop-test .taken in let w = at-start .pre .1 .1 .within in omega arith))
+    -- expand-one-requires
     (λ c κs.
     let at-loop-test = c .before .before .before .before .before .before in
     let at-loop = at-loop-test .before in
@@ -50,11 +54,17 @@ expand-spec =
         ),
       ),
     ))
+    -- enum-known-made
     (λ c. search needs)
+    -- same-length
     (λ c. search needs)
+    -- same-length-2
     (λ c. search needs)
+    -- same-length-3
     (λ c. search needs)
+    -- same-length-4
     (λ c. search needs)
+    -- returns
     (λ c.
     let at-expand-one = c .before .before .before .before .before .before .before .before .before in
     let at-loop-test = at-expand-one .before .before .before .before .before .before .before in
@@ -62,11 +72,14 @@ expand-spec =
     let at-start = at-loop .before .before .before .before .before .before .before .before .before in
     walking-ended (at-start .args .list .now) (at-start .args .count) (at-loop .loop .inv .5) (at-start .pre .0) _ (at-start .pre .1 .0) (at-start .pre .1 .1)
     (at-loop-test .loop-test .taken) _ _ _ (at-expand-one .expand-one .kept .0) refl (at-expand-one .expand-one .ensures) (c .match .keys2))
+    -- add-i
     (λ c.
     let at-loop-test = c .before .before .before .before .before .before .before .before .before .before .before .before .before .before .before .before .before .before in
     let at-start = at-loop-test .before .before .before .before .before .before .before .before .before .before in
     (let h = at-loop-test .loop-test .taken in let p = at-start .pre .1 .1 .short in omega arith))
+    -- loop-less
     (λ c. search needs)
+    -- loop-again
     (λ c. (
       omega arith,
       search needs,
@@ -80,10 +93,15 @@ expand-spec =
           walking-turn (at-start .args .list .now) (at-start .args .count) (at-loop .loop .inv .5) (at-start .pre .0) _ (at-start .pre .1 .0) (at-start .pre .1 .1)
           (at-loop-test .loop-test .taken) _ _ _ (at-expand-one .expand-one .kept .0) refl (at-expand-one .expand-one .ensures) _ _ (c .before .made .given .1),
     ))
+    -- same-length-5
     (λ c. search needs)
+    -- same-length-6
     (λ c. search needs)
+    -- same-length-7
     (λ c. search needs)
+    -- same-length-8
     (λ c. search needs)
+    -- returns-2
     (λ c.
     let at-start = c .before .before .before .before .before .before .before .before .before .before in
     walking-done (at-start .args .list .now) (at-start .args .count) (c .before .loop .inv .5) (c .loop-test .left)))

@@ -8,38 +8,55 @@ pub expand-one-spec : {M : Type 1} → statement M
 expand-one-spec =
     tie.close
     (tie.spec
+    -- opens-requires
     (λ c κs. search needs)
+    -- mul-next
     (λ c. search needs)
+    -- slice-write-next
     (λ c. search needs)
+    -- add-t18
     (λ c. search needs)
+    -- same-length
     (λ c. search needs)
+    -- same-length-2
     (λ c. search needs)
+    -- returns
     (λ c.
     let at-start = c .before .before .before .before .before .before .before .before .before .before in
     one-plain (at-start .pre .0) _ _ _ (at-start .pre .1 .1 .0) _ _ _ _ (c .before .opens .ensures) (c .if1 .taken) (at-start .pre .1 .1 .1 .0))
+    -- element-copy-out-if2
     (λ c.
     let at-start = c .before .before .before .before .before .before .before .before .before .before in
     (let h = atom-place (at-start .pre .0) (at-start .args .known .now) (at-start .args .t) (at-start .args .a) (at-start .pre .1 .1 .0) (at-start .args .next .now)
     (at-start .args .k) (at-start .args .met .now) _ (c .before .opens .ensures) in
     omega arith))
+    -- same-length-3
     (λ c. search needs)
+    -- returns-2
     (λ c.
     let at-opens = c .before .before .before in
     let at-start = at-opens .before .before .before .before .before .before .before .before .before in
     one-again (at-start .pre .0) _ _ _ (at-start .pre .1 .1 .0) _ _ _ _ (at-opens .opens .ensures) (c .before .before .if1 .left) (c .if2 .taken))
+    -- element-write-met
     (λ c.
     let at-opens = c .before .before .before in
     let at-start = at-opens .before .before .before .before .before .before .before .before .before in
     (let h = atom-place (at-start .pre .0) (at-start .args .known .now) (at-start .args .t) (at-start .args .a) (at-start .pre .1 .1 .0) (at-start .args .next .now)
     (at-start .args .k) (at-start .args .met .now) _ (at-opens .opens .ensures) in
     omega arith))
+    -- expand-atom-requires
     (λ c κs.
     let at-start = c .before .before .before .before .before .before .before .before .before .before .before .before .before .before .before .before in
     (at-start .pre .0, (at-start .pre .1 .0, (at-start .pre .1 .1 .0, (at-start .pre .1 .1 .1 .0, at-start .pre .1 .1 .1 .1)))))
+    -- same-length-4
     (λ c. search needs)
+    -- same-length-5
     (λ c. search needs)
+    -- same-length-6
     (λ c. search needs)
+    -- same-length-7
     (λ c. search needs)
+    -- returns-3
     (λ c.
     let at-expand-atom = c .before .before .before .before .before .before .before .before in
     let at-if2 = at-expand-atom .before .before .before .before .before in

@@ -4,4 +4,10 @@ use Rattle.normalize.proofs.expands.opens.Statement.{statement}
 use Rattle.normalize.proofs.expands.opens.Tie as tie
 
 pub opens-spec : {M : Type 1} → statement M
-opens-spec = tie.close (tie.spec (λ c κs. search needs) (λ c. opens-other _ _ _ _ (c .before .kind-of .ensures) (c .if1 .taken)) (λ c. opens-concat _ _ _ _ (c .before .kind-of .ensures) (c .if1 .left)))
+opens-spec = tie.close (tie.spec
+    -- kind-of-requires
+    (λ c κs. search needs)
+    -- returns
+    (λ c. opens-other _ _ _ _ (c .before .kind-of .ensures) (c .if1 .taken))
+    -- returns-2
+    (λ c. opens-concat _ _ _ _ (c .before .kind-of .ensures) (c .if1 .left)))

@@ -90,23 +90,36 @@ pub +flatten-unchecked-spec : {M : Type 1} → statement M
     flatten-unchecked.Post
     flatten-unchecked-Inv-loop
     flatten-unchecked-μ-loop
+    -- kind-of-requires
     (λ c κs. search needs)
+    -- push-atom-requires
     (λ c κs. search needs)
+    -- same-length
     (λ c. search needs)
+    -- returns
     (λ c. search one-atom)
+    -- first-requires
     (λ c κs. search needs)
+    -- loop-holds
     (λ c. (refl, search begin))
+    -- next-link-requires
     (λ c κs. search needs)
+    -- enum-known-link
     (λ c. search needs)
+    -- same-length-2
     (λ c. search needs)
+    -- returns-2
     (λ c.
     let at-start = c .before .before .before .before .before .before .before .before .before in
     ended _ _ _ _ (at-start .pre .1 .0) (c .before .before .loop .inv .1) false
     (words-none (at-start .args .cells .now) (at-start .args .m) _ (at-start .pre .1 .0 .ascends)
     (ap isCell (sym (c .before .next-link .ensures)) ∙ other-tag (c .before .next-link .result) (c .match .keys2)))
     refl)
+    -- flatten-unchecked-requires
     (flatten-unchecked-flatten-unchecked-requires t)
+    -- same-length-3
     (λ c. search needs)
+    -- returns-3
     (λ c.
     let at-flatten-unchecked = c .before .before .before in
     let at-link = at-flatten-unchecked .before .before .before in
@@ -118,6 +131,7 @@ pub +flatten-unchecked-spec : {M : Type 1} → statement M
     part-passes _ _ _ _ (at-start .pre .1 .0) (at-loop .loop .inv .1) _ true (w .counted) refl (w .value) _ _ (omega arith)
     (let f = at-loop .loop .inv .1 .from in let l = at-loop .loop .inv .0 in let p = at-start .pre .1 in omega arith) (at-flatten-unchecked .flatten-unchecked .ensures)
     (c .if2 .taken))
+    -- loop-less
     (λ c.
     let at-link = c .before .before .before .before .before .before in
     let at-next-link = at-link .before .before in
@@ -126,6 +140,7 @@ pub +flatten-unchecked-spec : {M : Type 1} → statement M
     let w = step-words (at-start .args .cells .now) (at-start .args .m) _ (at-link .link .given .0 .0) (at-link .link .given .0 .1 .0) (at-link .link .given .0 .1 .1 .0)
     (sym (at-link .link .given .1) ∙ at-next-link .next-link .ensures) in
     chain-falls _ _ _ _ (at-start .pre .1 .0) (at-loop .loop .inv .1) _ true (w .counted) refl (w .value) _ (w .next))
+    -- loop-again
     (λ c.
     let at-flatten-unchecked = c .before .before .before in
     let at-link = at-flatten-unchecked .before .before .before in

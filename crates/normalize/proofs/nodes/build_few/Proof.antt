@@ -22,16 +22,24 @@ build-few-spec =
     (tie.spec
     Inv-loop
     μ-loop
+    -- loop-holds
     (λ c. (omega arith, refl))
+    -- mul-add-node
     (λ c. search needs)
+    -- shared-slice-read-add-node
     (λ c. search needs)
+    -- add-node-requires
     (λ c κs.
     let at-start = c .before .before .before .before .before .before in
     (at-start .pre .0, (every-at _ _ 0 (at-start .pre .1 .0) (c .before .before .loop-test .taken), at-start .pre .1 .1)))
+    -- add-i
     (λ c. search needs)
+    -- loop-less
     (λ c. search needs)
+    -- loop-again
     (λ c.
     let at-loop-test = c .before .before .before in
     let at-loop = at-loop-test .before in
     (omega arith, nodes-turn _ _ _ _ _ _ _ (at-loop-test .loop-test .taken) refl (c .add-node .ensures) (at-loop .loop .inv .1)))
+    -- returns
     (λ c. nodes-done _ _ _ _ _ (c .loop-test .left) (c .before .loop .inv .1)))

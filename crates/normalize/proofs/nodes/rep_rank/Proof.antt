@@ -4,4 +4,10 @@ use Rattle.normalize.proofs.nodes.rep_rank.Statement.{statement}
 use Rattle.normalize.proofs.nodes.rep_rank.Tie as tie
 
 pub rep-rank-spec : {M : Type 1} → statement M
-rep-rank-spec = tie.close (tie.spec (λ c κs. search needs) (λ c. search rank-one) (λ c. search rank-none))
+rep-rank-spec = tie.close (tie.spec
+    -- kind-of-requires
+    (λ c κs. search needs)
+    -- returns
+    (λ c. search rank-one)
+    -- returns-2
+    (λ c. search rank-none))

@@ -4,4 +4,12 @@ use Rattle.normalize.proofs.normal.cite.Statement.{statement}
 use Rattle.normalize.proofs.normal.cite.Tie as tie
 
 pub cite-spec : {M : Type 1} → statement M
-cite-spec = tie.close (tie.spec (λ c. cite-same _ _ (c .if1 .taken)) (λ c κs. search needs) (λ c. search needs) (λ c. let at-if1 = c .before .before .before .before in cite-other _ _ (at-if1 .if1 .left) (c .before .before .explain-unchecked .ensures)))
+cite-spec = tie.close (tie.spec
+    -- returns
+    (λ c. cite-same _ _ (c .if1 .taken))
+    -- explain-unchecked-requires
+    (λ c κs. search needs)
+    -- same-length
+    (λ c. search needs)
+    -- returns-2
+    (λ c. let at-if1 = c .before .before .before .before in cite-other _ _ (at-if1 .if1 .left) (c .before .before .explain-unchecked .ensures)))

@@ -7,17 +7,24 @@ pub form-atoms-spec : {M : Type 1} → statement M
 form-atoms-spec =
     tie.close
     (tie.spec
+    -- build-node-of-requires
     (λ c κs.
     let at-start = c .before .before .before .before .before .before .before .before .before .before .before in
     (at-start .pre .0 .sized .termLimited, (strings-within (at-start .pre .0) _ (at-start .pre .1 .1 .0), ready-rooting (at-start .pre .0))))
+    -- push-forms-requires
     (λ c κs.
     let at-build-node-of = c .before .before .before .before .before in
     let at-start = at-build-node-of .before .before .before .before .before .before .before .before .before .before .before .before in (
       at-start .pre .0,
       (more-table (at-start .pre .0) _ _ _ (at-start .pre .1 .0) (at-start .pre .1 .1 .0) _ (at-build-node-of .build-node-of .ensures), at-start .pre .1 .1 .1),
     ))
+    -- same-length
     (λ c. search needs)
+    -- same-length-2
     (λ c. search needs)
+    -- same-length-3
     (λ c. search needs)
+    -- same-length-4
     (λ c. search needs)
+    -- returns
     (λ c. search needs))

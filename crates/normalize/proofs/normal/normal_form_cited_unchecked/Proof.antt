@@ -12,6 +12,7 @@ pub normal-form-cited-unchecked-spec : {M : Type 1} → statement M
 normal-form-cited-unchecked-spec =
     tie.close
     (tie.spec
+    -- build-node-of-requires
     (λ c κs.
     let at-start = c .before .before .before .before .before .before .before .before .before in (
       at-start .pre .0 .sized .termLimited,
@@ -20,6 +21,7 @@ normal-form-cited-unchecked-spec =
         ready-rooting (at-start .pre .0),
       ),
     ))
+    -- form-by-requires
     (λ c κs.
     let at-build-node-of = c .before .before .before .before .before in
     let at-start = at-build-node-of .before .before .before .before .before .before .before .before .before .before in (
@@ -30,8 +32,13 @@ normal-form-cited-unchecked-spec =
         (term-string (at-start .pre .0) (at-start .args .known .now) (at-start .args .t) (at-start .pre .1 .0), at-start .pre .1 .1),
       ),
     ))
+    -- same-length
     (λ c. search needs)
+    -- same-length-2
     (λ c. search needs)
+    -- same-length-3
     (λ c. search needs)
+    -- same-length-4
     (λ c. search needs)
+    -- returns
     (λ c. search needs))

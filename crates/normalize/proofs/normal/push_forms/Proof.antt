@@ -22,16 +22,21 @@ push-forms-spec =
     (tie.spec
     Inv-loop
     μ-loop
+    -- loop-holds
     (λ c.
     let at-start = c .before .before .before .before .before .before .before .before in
     (omega arith, refl, refl, refl, refl, going-none _ _ _ (at-start .pre .0)))
+    -- mul-a
     (λ c. search needs)
+    -- shared-slice-read-a
     (λ c. search needs)
+    -- rep-requires
     (λ c κs.
     let at-loop = c .before .before .before in
     let at-start = at-loop .before .before .before .before .before .before .before .before .before in
     going-rep (at-loop .loop .inv .5) (at-start .pre .0) _ (at-start .pre .1 .0) (every-right (at-start .args .known .now) _ (all-every _ _ (at-start .pre .1 .0 .strings)))
     (c .before .before .loop-test .taken))
+    -- push-for-requires
     (λ c κs.
     let at-rep = c .before .before .before .before in
     let at-loop-test = at-rep .before .before .before in
@@ -48,12 +53,19 @@ push-forms-spec =
         ),
       ),
     ))
+    -- enum-known-form
     (λ c. search needs)
+    -- enum-known-form-2
     (λ c. search needs)
+    -- same-length
     (λ c. search needs)
+    -- same-length-2
     (λ c. search needs)
+    -- same-length-3
     (λ c. search needs)
+    -- same-length-4
     (λ c. search needs)
+    -- returns
     (λ c.
     let at-push-for = c .before .before .before .before .before .before .before .before .before .before .before in
     let at-rep = at-push-for .before .before .before .before .before in
@@ -62,11 +74,14 @@ push-forms-spec =
     let at-start = at-loop .before .before .before .before .before .before .before .before .before in
     going-stopped (at-loop .loop .inv .5) (at-start .pre .0) _ (at-start .pre .1 .0) (every-right (at-start .args .known .now) _ (all-every _ _ (at-start .pre .1 .0 .strings)))
     (at-loop-test .loop-test .taken) _ (at-rep .rep .ensures) _ _ (at-push-for .push-for .kept .0) refl (at-push-for .push-for .ensures) _ (c .before .form2 .given .1))
+    -- add-i
     (λ c.
     let at-loop-test = c .before .before .before .before .before .before .before .before .before .before .before .before .before .before .before .before .before .before .before in
     let at-start = at-loop-test .before .before .before .before .before .before .before .before .before .before in
     (let h = at-loop-test .loop-test .taken in let p = at-start .pre .1 .1 .0 in omega arith))
+    -- loop-less
     (λ c. search needs)
+    -- loop-again
     (λ c. (
       omega arith,
       search needs,
@@ -81,8 +96,13 @@ push-forms-spec =
           going-turn (at-loop .loop .inv .5) (at-start .pre .0) _ (at-start .pre .1 .0) (every-right (at-start .args .known .now) _ (all-every _ _ (at-start .pre .1 .0 .strings)))
           (at-loop-test .loop-test .taken) _ (at-rep .rep .ensures) _ _ (at-push-for .push-for .kept .0) refl (at-push-for .push-for .ensures) _ _ (c .before .form .given .1),
     ))
+    -- same-length-5
     (λ c. search needs)
+    -- same-length-6
     (λ c. search needs)
+    -- same-length-7
     (λ c. search needs)
+    -- same-length-8
     (λ c. search needs)
+    -- returns-2
     (λ c. going-done (c .before .loop .inv .5) (c .loop-test .left)))

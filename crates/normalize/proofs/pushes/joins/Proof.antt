@@ -7,13 +7,21 @@ pub joins-spec : {M : Type 1} → statement M
 joins-spec =
     tie.close
     (tie.spec
+    -- returns
     (λ c. let at-start = c .before .before .before in joins-none _ _ (at-start .args .list .now) _ (c .if1 .taken))
+    -- kind-of-requires
     (λ c κs. search needs)
+    -- returns-2
     (λ c. joins-other _ _ _ _ (c .before .kind-of .ensures) (c .if2 .taken))
+    -- sub-kind-of
     (λ c. search needs)
+    -- mul-kind-of
     (λ c. search needs)
+    -- shared-slice-read-kind-of
     (λ c. search needs)
+    -- kind-of-requires-2
     (λ c κs. search needs)
+    -- returns-3
     (λ c.
     let at-kind-of = c .before .before .before in
     let at-if1 = at-kind-of .before in

@@ -21,14 +21,23 @@ append-spec =
     (tie.spec
     Inv-loop
     μ-loop
+    -- loop-holds
     (λ c. (omega arith, refl, append-none (c .args .to .now) (c .args .k) (c .args .from .now)))
+    -- mul-to
     (λ c. search needs)
+    -- shared-slice-read-to
     (λ c. search needs)
+    -- add-to
     (λ c. search needs)
+    -- mul-to-2
     (λ c. search needs)
+    -- slice-write-to
     (λ c. search needs)
+    -- add-i
     (λ c. search needs)
+    -- loop-less
     (λ c. search needs)
+    -- loop-again
     (λ c. (
       omega arith,
       search needs,
@@ -36,7 +45,9 @@ append-spec =
           let at-start = at-loop .before in
           append-turn (at-start .args .to .now) (at-start .args .k) (at-start .args .from .now) (at-loop .loop .to) (at-loop .loop .i) (omega arith) (at-loop .loop .inv .2),
     ))
+    -- same-length
     (λ c. search needs)
+    -- returns
     (λ c.
     let at-start = c .before .before in
     append-done (at-start .args .to .now) (at-start .args .k) (at-start .args .from .now) (c .before .loop .to) (at-start .args .n) (c .before .loop .i)

@@ -7,13 +7,21 @@ pub append-parts-spec : {M : Type 1} → statement M
 append-parts-spec =
     tie.close
     (tie.spec
+    -- cells-fit-requires
     (λ c κs. search needs)
+    -- same-length
     (λ c. search needs)
+    -- returns
     (λ c. search append-long)
+    -- term-fits-requires
     (λ c κs. search needs)
+    -- same-length-2
     (λ c. search needs)
+    -- same-length-3
     (λ c. search needs)
+    -- returns-2
     (λ c. search append-full)
+    -- put-chain-unchecked-requires
     (λ c κs.
     let at-if1 = c .before .before .before .before in
     let at-cells-fit = at-if1 .before in
@@ -26,17 +34,27 @@ append-parts-spec =
     let k = a .keys .now in
     let p = at-cells-fit .cells-fit .ensures in
     let s = at-start .pre in (append-limit t e h r k (a .c) (a .l .now) _ p s (at-if1 .if1 .left), append-words t e h r k (a .c) (a .l .now) _ p s (at-if1 .if1 .left)))
+    -- add-put-term-unchecked
     (λ c. search needs)
+    -- cast-put-term-unchecked
     (λ c. search needs)
+    -- put-term-unchecked-requires
     (λ c κs.
     let at-if2 = c .before .before .before .before .before in
     let at-term-fits = at-if2 .before in
     let at-start = at-term-fits .before .before .before .before .before .before .before .before .before .before .before in
     let t = at-start .args .terms .now in let p = at-term-fits .term-fits .ensures in (one-limit t _ _ p (at-if2 .if2 .left), one-words t _ _ p (at-if2 .if2 .left)))
+    -- add-t13
     (λ c. search needs)
+    -- cast-t22
     (λ c. search needs)
+    -- with-cells-requires
     (λ c κs. search (needs, append-limit))
+    -- with-term-requires
     (λ c κs. search (needs, one-later))
+    -- same-length-4
     (λ c. search needs)
+    -- same-length-5
     (λ c. search needs)
+    -- returns-3
     (λ c. search append-made))

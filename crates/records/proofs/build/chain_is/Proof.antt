@@ -17,16 +17,29 @@ chain-is-spec =
     (tie.spec
     Inv-loop
     μ-loop
+    -- loop-holds
     (λ c. walked-none _ _ _ _)
+    -- is-within-requires
     (λ c κs. search needs)
+    -- returns
     (λ c. search walk-ends)
+    -- value-requires
     (λ c κs. search needs)
+    -- mul-if2
     (λ c. search needs)
+    -- shared-slice-read-if2
     (λ c. search needs)
+    -- returns-2
     (λ c. search walk-differs)
+    -- next-requires
     (λ c κs. search needs)
+    -- add-i
     (λ c. search needs)
+    -- loop-less
     (λ c. search needs)
+    -- loop-again
     (λ c. search walk-on)
+    -- is-within-requires-2
     (λ c κs. search needs)
+    -- returns-3
     (λ c. search walk-over))

@@ -5,4 +5,14 @@ use Rattle.records.proofs.build.has_parts.Tie as tie
 
 pub has-parts-spec : {M : Type 1} → statement M
 has-parts-spec =
-    tie.close (tie.spec (λ c κs. search needs) (λ c. search parts-kind) (λ c κs. search needs) (λ c κs. search needs) (λ c. search parts-are))
+    tie.close (tie.spec
+    -- kind-requires
+    (λ c κs. search needs)
+    -- returns
+    (λ c. search parts-kind)
+    -- first-requires
+    (λ c κs. search needs)
+    -- chain-is-requires
+    (λ c κs. search needs)
+    -- returns-2
+    (λ c. search parts-are))

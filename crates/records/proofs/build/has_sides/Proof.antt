@@ -5,4 +5,16 @@ use Rattle.records.proofs.build.has_sides.Tie as tie
 
 pub has-sides-spec : {M : Type 1} → statement M
 has-sides-spec =
-    tie.close (tie.spec (λ c κs. search needs) (λ c. search sides-kind) (λ c κs. search needs) (λ c. search sides-first) (λ c κs. search needs) (λ c. search sides-second))
+    tie.close (tie.spec
+    -- kind-requires
+    (λ c κs. search needs)
+    -- returns
+    (λ c. search sides-kind)
+    -- first-requires
+    (λ c κs. search needs)
+    -- returns-2
+    (λ c. search sides-first)
+    -- second-requires
+    (λ c κs. search needs)
+    -- returns-3
+    (λ c. search sides-second))

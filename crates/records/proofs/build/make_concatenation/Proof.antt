@@ -8,21 +8,36 @@ pub make-concatenation-spec : {M : Type 1} → statement M
 make-concatenation-spec =
     tie.close
     (tie.spec
+    -- audit-requires
     (λ c κs. search needs)
+    -- same-length
     (λ c. search needs)
+    -- same-length-2
     (λ c. search needs)
+    -- returns
     (λ c. search call-unready)
+    -- same-length-3
     (λ c. search needs)
+    -- same-length-4
     (λ c. search needs)
+    -- returns-2
     (λ c. search concat-few)
+    -- is-list-requires
     (λ c κs. search needs)
+    -- make-concatenation-unchecked-requires
     (λ c κs.
     let at-if1 = c .before .before .before .before .before .before in
     let at-audit = at-if1 .before in
     passed-ready _ _ _ (at-audit .audit .ensures) (at-if1 .if1 .left))
+    -- same-length-5
     (λ c. search needs)
+    -- same-length-6
     (λ c. search needs)
+    -- returns-3
     (λ c. search concat-called)
+    -- same-length-7
     (λ c. search needs)
+    -- same-length-8
     (λ c. search needs)
+    -- returns-4
     (λ c. search concat-unfit))

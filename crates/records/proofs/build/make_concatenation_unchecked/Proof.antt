@@ -7,14 +7,23 @@ pub make-concatenation-unchecked-spec : {M : Type 1} → statement M
 make-concatenation-unchecked-spec =
     tie.close
     (tie.spec
+    -- up-to-last-requires
     (λ c κs. search needs)
+    -- find-parts-requires
     (λ c κs.
     let at-start = c .before .before .before .before .before .before .before .before .before in
     (at-start .pre .sized .termLimited, (at-start .pre .audited .recorded .nexts, parts-from _ _ _ _ (at-start .pre) (c .before .before .up-to-last .ensures))))
+    -- same-length
     (λ c. search needs)
+    -- same-length-2
     (λ c. search needs)
+    -- returns
     (λ c. search concat-old)
+    -- append-parts-requires
     (λ c κs. search needs)
+    -- same-length-3
     (λ c. search needs)
+    -- same-length-4
     (λ c. search needs)
+    -- returns-2
     (λ c. search concat-new))

@@ -8,12 +8,21 @@ pub make-equation-spec : {M : Type 1} → statement M
 make-equation-spec =
     tie.close
     (tie.spec
+    -- audit-requires
     (λ c κs. search needs)
+    -- same-length
     (λ c. search needs)
+    -- returns
     (λ c. search call-unready)
+    -- is-equatable-requires
     (λ c κs. search needs)
+    -- make-equation-unchecked-requires
     (λ c κs. search passed-ready)
+    -- same-length-2
     (λ c. search needs)
+    -- returns-2
     (λ c. search equation-called)
+    -- same-length-3
     (λ c. search needs)
+    -- returns-3
     (λ c. search equation-unfit))

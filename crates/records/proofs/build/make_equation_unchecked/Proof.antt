@@ -6,4 +6,10 @@ use Rattle.records.proofs.build.make_equation_unchecked.Statement.{stat
 use Rattle.records.proofs.build.make_equation_unchecked.Tie as tie
 
 pub make-equation-unchecked-spec : {M : Type 1} → statement M
-make-equation-unchecked-spec = tie.close (tie.spec (λ c κs. let at-start = c .before .before .before .before .before .before in (at-start .pre, inr refl)) (λ c. search needs) (λ c. search equation-made))
+make-equation-unchecked-spec = tie.close (tie.spec
+    -- make-sides-requires
+    (λ c κs. let at-start = c .before .before .before .before .before .before in (at-start .pre, inr refl))
+    -- same-length
+    (λ c. search needs)
+    -- returns
+    (λ c. search equation-made))

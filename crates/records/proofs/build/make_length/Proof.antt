@@ -8,12 +8,21 @@ pub make-length-spec : {M : Type 1} → statement M
 make-length-spec =
     tie.close
     (tie.spec
+    -- audit-requires
     (λ c κs. search needs)
+    -- same-length
     (λ c. search needs)
+    -- returns
     (λ c. search call-unready)
+    -- is-string-requires
     (λ c κs. search needs)
+    -- make-length-unchecked-requires
     (λ c κs. search passed-ready)
+    -- same-length-2
     (λ c. search needs)
+    -- returns-2
     (λ c. search length-called)
+    -- same-length-3
     (λ c. search needs)
+    -- returns-3
     (λ c. search length-unfit))

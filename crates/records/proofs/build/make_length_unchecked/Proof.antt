@@ -6,4 +6,10 @@ use Rattle.records.proofs.build.make_length_unchecked.Statement.{statem
 use Rattle.records.proofs.build.make_length_unchecked.Tie as tie
 
 pub make-length-unchecked-spec : {M : Type 1} → statement M
-make-length-unchecked-spec = tie.close (tie.spec (λ c κs. let at-start = c .before .before .before .before .before .before in (at-start .pre, inl refl)) (λ c. search needs) (λ c. search length-made))
+make-length-unchecked-spec = tie.close (tie.spec
+    -- make-sides-requires
+    (λ c κs. let at-start = c .before .before .before .before .before .before in (at-start .pre, inl refl))
+    -- same-length
+    (λ c. search needs)
+    -- returns
+    (λ c. search length-made))

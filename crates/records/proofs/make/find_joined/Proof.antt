@@ -19,15 +19,23 @@ find-joined-spec =
     (tie.spec
     Inv-loop
     μ-loop
+    -- loop-holds
     (λ c. passed-none _ _)
+    -- cast-loop
     (λ c. search needs)
+    -- add-t
     (λ c. search needs)
+    -- has-joined-requires
     (λ c κs. search needs)
+    -- returns
     (λ c.
     let at-loop = c .before .before .before in
     hit _ _ _ (at-loop .loop .inv) _ (c .before .before .loop-test .taken) (c .before .has-joined .ensures) (c .if1 .taken))
+    -- loop-less
     (λ c. search needs)
+    -- loop-again
     (λ c.
     let at-loop = c .before .before .before in
     passed-one _ _ _ (at-loop .loop .inv) _ (c .before .before .loop-test .taken) (c .before .has-joined .ensures) (c .if1 .left))
+    -- returns-2
     (λ c. passed-all _ _ _ (c .before .loop .inv) (c .loop-test .left)))

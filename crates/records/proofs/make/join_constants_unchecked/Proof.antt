@@ -62,21 +62,32 @@ pub join-constants-unchecked-spec : {M : Type 1} → statement M
 join-constants-unchecked-spec =
     tie.close
     (tie.spec
+    -- joined-length-unchecked-requires
     (λ c κs. search needs)
+    -- find-joined-requires
     (λ c κs.
     let at-start = c .before .before .before .before .before .before .before .before .before .before in
     (at-start .pre .0 .sized .termLimited, (at-start .pre .1 .0, (texts-there (at-start .pre .0) _ (at-start .pre .1 .1), c .before .before .joined-length-unchecked .ensures))))
+    -- same-length
     (λ c. search needs)
+    -- same-length-2
     (λ c. search needs)
     returns
+    -- text-fits-requires
     (λ c κs. search needs)
+    -- same-length-3
     (λ c. search needs)
+    -- same-length-4
     (λ c. search needs)
     returns-2
+    -- term-fits-requires
     (λ c κs. search needs)
+    -- same-length-5
     (λ c. search needs)
+    -- same-length-6
     (λ c. search needs)
     returns-3
+    -- put-joined-unchecked-requires
     (λ c κs.
     let at-if2 = c .before .before .before .before .before in
     let at-text-fits = at-if2 .before in
@@ -85,14 +96,17 @@ join-constants-unchecked-spec =
       texts-counted (at-start .pre .0) _ (at-start .pre .1 .1),
       total-room (at-start .pre .0) _ _ (at-joined-length-unchecked .joined-length-unchecked .ensures) _ (at-if2 .if2 .left) (at-text-fits .text-fits .ensures),
     ))
+    -- cast-put-term-unchecked
     (λ c.
     let at-start = c .before .before .before .before .before .before .before .before .before .before .before .before .before .before .before .before .before .before .before .before .before .before .before .before .before in
     omega (arith, at-start .pre .0 .sized .charLimited))
+    -- cast-put-term-unchecked-2
     (λ c.
     let at-if2 = c .before .before .before .before .before .before .before .before .before .before in
     let at-text-fits = at-if2 .before in
     let at-start = at-text-fits .before .before .before .before .before .before .before .before .before .before .before .before .before .before in
     omega (arith, long-limit (at-start .pre .0 .sized) _ (at-if2 .if2 .left) _ (at-text-fits .text-fits .ensures)))
+    -- put-term-unchecked-requires
     (λ c κs.
     let at-if3 = c .before .before .before .before .before .before .before in
     let at-term-fits = at-if3 .before in
@@ -100,26 +114,32 @@ join-constants-unchecked-spec =
       one-limit (at-start .pre .0 .sized) _ (at-if3 .if3 .left) (at-term-fits .term-fits .ensures),
       one-room (at-start .pre .0 .sized) _ (at-if3 .if3 .left) (at-term-fits .term-fits .ensures),
     ))
+    -- with-chars-requires
     (λ c κs.
     let at-if2 = c .before .before .before .before .before .before .before .before .before .before .before .before .before in
     let at-text-fits = at-if2 .before in
     let at-start = at-text-fits .before .before .before .before .before .before .before .before .before .before .before .before .before .before in
     long-limit (at-start .pre .0 .sized) _ (at-if2 .if2 .left) _ (at-text-fits .text-fits .ensures))
+    -- add-t33
     (λ c.
     let at-if3 = c .before .before .before .before .before .before .before .before .before .before .before in
     let at-term-fits = at-if3 .before in
     let at-start = at-term-fits .before .before .before .before .before .before .before .before .before .before .before .before .before .before .before .before .before in
     omega (arith, one-limit (at-start .pre .0 .sized) _ (at-if3 .if3 .left) (at-term-fits .term-fits .ensures)))
+    -- cast-t31
     (λ c.
     let at-if3 = c .before .before .before .before .before .before .before .before .before .before .before in
     let at-term-fits = at-if3 .before in
     let at-start = at-term-fits .before .before .before .before .before .before .before .before .before .before .before .before .before .before .before .before .before in
     omega (arith, one-limit (at-start .pre .0 .sized) _ (at-if3 .if3 .left) (at-term-fits .term-fits .ensures)))
+    -- with-term-requires
     (λ c κs.
     let at-if3 = c .before .before .before .before .before .before .before .before .before .before .before in
     let at-term-fits = at-if3 .before in
     let at-start = at-term-fits .before .before .before .before .before .before .before .before .before .before .before .before .before .before .before .before .before in
     next-limit (at-start .pre .0 .sized) _ (at-if3 .if3 .left) _ (c .with-chars .ensures) (at-term-fits .term-fits .ensures))
+    -- same-length-7
     (λ c. search needs)
+    -- same-length-8
     (λ c. search needs)
     returns-4)

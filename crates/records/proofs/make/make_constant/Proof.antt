@@ -9,25 +9,37 @@ pub make-constant-spec : {M : Type 1} → statement M
 make-constant-spec =
     tie.close
     (tie.spec
+    -- audit-requires
     (λ c κs. search needs)
+    -- same-length
     (λ c. search needs)
+    -- same-length-2
     (λ c. search needs)
+    -- returns
     (λ c.
     let at-start = c .before .before .before .before .before .before .before .before .before .before in
     constant-unready (at-start .args .w .now) _ _ _ (c .before .audit .ensures) (c .if1 .taken))
+    -- chars-ok-requires
     (λ c κs. search needs)
+    -- same-length-3
     (λ c. search needs)
+    -- same-length-4
     (λ c. search needs)
+    -- returns-2
     (λ c.
     let at-audit = c .before .before .before in
     let at-start = at-audit .before .before .before .before .before .before .before .before .before in
     constant-unfit (at-start .args .w .now) _ _ _ (at-audit .audit .ensures) (c .before .before .if1 .left) _ (c .before .chars-ok .ensures) (c .if2 .taken))
+    -- make-constant-unchecked-requires
     (λ c κs.
     let at-if1 = c .before .before .before .before in
     let at-audit = at-if1 .before in
     ready-of _ _ (sym (at-audit .audit .ensures) ∙ at-if1 .if1 .left))
+    -- same-length-5
     (λ c. search needs)
+    -- same-length-6
     (λ c. search needs)
+    -- returns-3
     (λ c.
     let at-make-constant-unchecked = c .before .before .before .before in
     let at-if2 = at-make-constant-unchecked .before .before .before in

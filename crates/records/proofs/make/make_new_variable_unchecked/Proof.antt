@@ -7,9 +7,13 @@ pub make-new-variable-unchecked-spec : {M : Type 1} → statement M
 make-new-variable-unchecked-spec =
     tie.close
     (tie.spec
+    -- append-text-requires
     (λ c κs. let at-start = c .before .before .before .before .before .before .before .before in at-start .pre .0 .sized)
+    -- same-length
     (λ c. search needs)
+    -- same-length-2
     (λ c. search needs)
+    -- returns
     (λ c.
     let at-append-text = c .before .before .before .before in
     let at-start = at-append-text .before .before .before .before .before .before .before .before .before in

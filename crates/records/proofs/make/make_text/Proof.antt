@@ -7,15 +7,23 @@ pub make-text-spec : {M : Type 1} → statement M
 make-text-spec =
     tie.close
     (tie.spec
+    -- find-text-unchecked-requires
     (λ c κs. search needs)
+    -- same-length
     (λ c. search needs)
+    -- same-length-2
     (λ c. search needs)
+    -- returns
     (λ c.
     let at-start = c .before .before .before .before .before .before .before .before .before .before in
     text-found (at-start .pre .0) _ (at-start .pre .1) _ _ (c .before .find-text-unchecked .ensures) (c .if1 .taken))
+    -- append-text-requires
     (λ c κs. let at-start = c .before .before .before .before .before .before .before .before .before .before .before .before in at-start .pre .0 .sized)
+    -- same-length-3
     (λ c. search needs)
+    -- same-length-4
     (λ c. search needs)
+    -- returns-2
     (λ c.
     let at-append-text = c .before .before .before .before in
     let at-if1 = at-append-text .before .before .before in

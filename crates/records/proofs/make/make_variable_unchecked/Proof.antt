@@ -11,4 +11,11 @@ make-text-requires c κs = let at-start = c .before .before .before .before .bef
 
 pub make-variable-unchecked-spec : {M : Type 1} → statement M
 make-variable-unchecked-spec =
-    tie.close (tie.spec make-text-requires (λ c. search needs) (λ c. search needs) (λ c. let at-make-text = c .before .before .before .before in variable-made _ (at-make-text .make-text .ensures)))
+    tie.close (tie.spec
+    make-text-requires
+    -- same-length
+    (λ c. search needs)
+    -- same-length-2
+    (λ c. search needs)
+    -- returns
+    (λ c. let at-make-text = c .before .before .before .before in variable-made _ (at-make-text .make-text .ensures)))

@@ -28,16 +28,27 @@ pub +put-decimal-spec : {M : Type 1} → statement M
 )
     (put-decimal-at t)
     put-decimal.Post
+    -- returns
     (λ c. search decimal-none)
+    -- add-name
     (λ c. search needs)
+    -- mul-name
     (λ c. search needs)
+    -- slice-write-name
     (λ c. search needs)
+    -- add-result
     (λ c. search needs)
+    -- same-length
     (λ c. search needs)
+    -- returns-2
     (λ c. search decimal-one)
+    -- sub-put-decimal
     (λ c. search needs)
+    -- put-decimal-requires
     (λ c κs. (omega arith, omega arith))
+    -- add-name-2
     (λ c. search needs)
+    -- mul-name-2
     (λ c.
     let at-put-decimal = c .before .before in
     let at-if1 = at-put-decimal .before .before .before in
@@ -48,7 +59,9 @@ pub +put-decimal-spec : {M : Type 1} → statement M
       decimal-room (a .name .now) (at-put-decimal .put-decimal .last .0) (a .at) (a .n) (a .x) (at-put-decimal .put-decimal .result) (at-if1 .if1 .left) (at-start .pre .1)
           (at-put-decimal .put-decimal .kept .0) (at-put-decimal .put-decimal .ensures),
     ))
+    -- slice-write-name-2
     (λ c. search decimal-room)
+    -- add-result-2
     (λ c.
     let at-put-decimal = c .before .before in
     let at-if1 = at-put-decimal .before .before .before in
@@ -59,5 +72,7 @@ pub +put-decimal-spec : {M : Type 1} → statement M
       decimal-room (a .name .now) (at-put-decimal .put-decimal .last .0) (a .at) (a .n) (a .x) (at-put-decimal .put-decimal .result) (at-if1 .if1 .left) (at-start .pre .1)
           (at-put-decimal .put-decimal .kept .0) (at-put-decimal .put-decimal .ensures),
     ))
+    -- same-length-2
     (λ c. search needs)
+    -- returns-3
     (λ c. search decimal-more)

@@ -18,10 +18,17 @@ free-name-spec =
     (tie.spec
     Inv-loop
     μ-loop
+    -- loop-holds
     (λ c. passed-none _)
+    -- is-taken-requires
     (λ c κs. search needs)
+    -- returns
     (λ c. search free-here)
+    -- add-x
     (λ c. search needs)
+    -- loop-less
     (λ c. search needs)
+    -- loop-again
     (λ c. search passed-one)
+    -- returns-2
     (λ c. search free-none))

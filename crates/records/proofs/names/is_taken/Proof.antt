@@ -8,9 +8,15 @@ pub is-taken-spec : {M : Type 1} → statement M
 is-taken-spec =
     tie.close
     (tie.spec
+    -- slice-aggregate-put-name
     (λ c. search needs)
+    -- put-name-requires
     (λ c κs. search needs)
+    -- array-share-prefix-name
     (λ c. name-here _ _ _ _ refl (c .before .put-name .kept .0) (c .before .put-name .ensures))
+    -- slice-aggregate-find-text-unchecked
     (λ c. let at-put-name = c .before .before in name-part _ _ _ _ refl (at-put-name .put-name .kept .0) (at-put-name .put-name .ensures))
+    -- find-text-unchecked-requires
     (λ c κs. search needs)
+    -- returns
     (λ c. search taken-is))

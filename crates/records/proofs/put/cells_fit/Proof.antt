@@ -4,4 +4,16 @@ use Rattle.records.proofs.put.cells_fit.Statement.{statement}
 use Rattle.records.proofs.put.cells_fit.Tie as tie
 
 pub cells-fit-spec : {M : Type 1} → statement M
-cells-fit-spec = tie.close (tie.spec (λ c. search needs) (λ c. search needs) (λ c. search needs) (λ c. search needs) (λ c. search cells-test) (λ c. search cells-none))
+cells-fit-spec = tie.close (tie.spec
+    -- sub-if1
+    (λ c. search needs)
+    -- add-result
+    (λ c. search needs)
+    -- add-result-2
+    (λ c. search needs)
+    -- mul-result
+    (λ c. search needs)
+    -- returns
+    (λ c. search cells-test)
+    -- returns-2
+    (λ c. search cells-none))

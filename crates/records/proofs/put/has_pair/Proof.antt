@@ -22,10 +22,17 @@ has-pair-spec =
     (tie.spec
     Inv-loop
     μ-loop
+    -- loop-holds
     (λ c. (omega arith, any-zero _ _))
+    -- pair-is-requires
     (λ c κs. search needs)
+    -- returns
     (λ c. search any-stop)
+    -- add-i
     (λ c. search needs)
+    -- loop-less
     (λ c. search needs)
+    -- loop-again
     (λ c. (omega arith, search any-turn))
+    -- returns-2
     (λ c. search any-done))

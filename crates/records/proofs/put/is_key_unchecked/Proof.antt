@@ -5,4 +5,12 @@ use Rattle.records.proofs.put.is_key_unchecked.Tie as tie
 
 pub is-key-unchecked-spec : {M : Type 1} → statement M
 is-key-unchecked-spec =
-    tie.close (tie.spec (λ c κs. search needs) (λ c κs. search needs) (λ c κs. search needs) (λ c. search key-known))
+    tie.close (tie.spec
+    -- lower-requires
+    (λ c κs. search needs)
+    -- higher-requires
+    (λ c κs. search needs)
+    -- has-pair-requires
+    (λ c κs. search needs)
+    -- returns
+    (λ c. search key-known))

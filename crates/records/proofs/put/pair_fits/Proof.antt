@@ -3,4 +3,8 @@ use Rattle.records.proofs.put.pair_fits.Statement.{statement}
 use Rattle.records.proofs.put.pair_fits.Tie as tie
 
 pub pair-fits-spec : {M : Type 1} → statement M
-pair-fits-spec = tie.close (tie.spec (λ c. search pair-test) (λ c. search pair-over))
+pair-fits-spec = tie.close (tie.spec
+    -- returns
+    (λ c. search pair-test)
+    -- returns-2
+    (λ c. search pair-over))

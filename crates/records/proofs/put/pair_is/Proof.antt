@@ -7,12 +7,21 @@ pub pair-is-spec : {M : Type 1} → statement M
 pair-is-spec =
     tie.close
     (tie.spec
+    -- mul-if1
     (λ c. search needs)
+    -- mul-if1-2
     (λ c. search needs)
+    -- shared-slice-read-if1
     (λ c. search needs)
+    -- mul-result
     (λ c. search needs)
+    -- add-result
     (λ c. search needs)
+    -- mul-result-2
     (λ c. search needs)
+    -- shared-slice-read-result
     (λ c. search needs)
+    -- returns
     (λ c. search pair-same)
+    -- returns-2
     (λ c. search pair-other))

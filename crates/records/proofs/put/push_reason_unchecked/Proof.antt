@@ -8,10 +8,17 @@ pub push-reason-unchecked-spec : {M : Type 1} → statement M
 push-reason-unchecked-spec =
     tie.close
     (tie.spec
+    -- pair-fits-requires
     (λ c κs. search needs)
+    -- push-pair-requires
     (λ c κs. search (needs, pair-room))
+    -- with-reason-requires
     (λ c κs. search (needs, pair-limit))
+    -- same-length
     (λ c. search needs)
+    -- returns
     (λ c. search pushed)
+    -- same-length-2
     (λ c. search needs)
+    -- returns-2
     (λ c. search not-pushed))

@@ -9,15 +9,27 @@ pub put-cell-spec : {M : Type 1} → statement M
 put-cell-spec =
     tie.close
     (tie.spec
+    -- add-at
     (λ c. search needs)
+    -- mul-at
     (λ c. search needs)
+    -- mul-cells
     (λ c. search needs)
+    -- slice-write-cells
     (λ c. search needs)
+    -- add-cells
     (λ c. search needs)
+    -- mul-cells-2
     (λ c. search needs)
+    -- slice-write-cells-2
     (λ c. simp length-set (omega arith))
+    -- add-cells-2
     (λ c. search needs)
+    -- mul-cells-3
     (λ c. search needs)
+    -- slice-write-cells-3
     (λ c. simp length-set (omega arith))
+    -- same-length
     (λ c. search needs)
+    -- returns
     (λ c. search cell-put))

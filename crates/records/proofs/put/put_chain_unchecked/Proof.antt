@@ -19,22 +19,41 @@ put-chain-unchecked-spec =
     (tie.spec
     Inv-loop
     μ-loop
+    -- returns
     (λ c. search chain-empty)
+    -- sub-last
     (λ c. search needs)
+    -- loop-holds
     (λ c. (omega arith, omega arith, search chained-none))
+    -- add-put-cell
     (λ c. search needs)
+    -- mul-put-cell
     (λ c. search needs)
+    -- shared-slice-read-put-cell
     (λ c. search needs)
+    -- add-put-cell-2
     (λ c. search needs)
+    -- add-put-cell-3
     (λ c. search needs)
+    -- cast-put-cell
     (λ c. search needs)
+    -- put-cell-requires
     (λ c κs. search needs)
+    -- add-i
     (λ c. search needs)
+    -- loop-less
     (λ c. search needs)
+    -- loop-again
     (λ c. (omega arith, omega arith, chained-turn _ _ _ _ _ _ _ (c .before .before .before .before .before .before .loop .inv .2) (c .before .before .before .before .before .loop-test .taken) (c .before .before .before .before .before .before .loop .inv .1) (c .before .before .put-cell .ensures) (search needs)))
+    -- add-put-cell-4
     (λ c. search needs)
+    -- mul-put-cell-2
     (λ c. search needs)
+    -- shared-slice-read-put-cell-2
     (λ c. search needs)
+    -- put-cell-requires-2
     (λ c κs. search needs)
+    -- same-length
     (λ c. search needs)
+    -- returns-2
     (λ c. search chained-end))

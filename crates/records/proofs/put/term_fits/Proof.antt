@@ -4,4 +4,12 @@ use Rattle.records.proofs.put.term_fits.Statement.{statement}
 use Rattle.records.proofs.put.term_fits.Tie as tie
 
 pub term-fits-spec : {M : Type 1} → statement M
-term-fits-spec = tie.close (tie.spec (λ c. search needs) (λ c. search needs) (λ c. search term-test) (λ c. search term-over))
+term-fits-spec = tie.close (tie.spec
+    -- add-result
+    (λ c. search needs)
+    -- mul-result
+    (λ c. search needs)
+    -- returns
+    (λ c. search term-test)
+    -- returns-2
+    (λ c. search term-over))

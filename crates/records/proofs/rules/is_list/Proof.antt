@@ -25,13 +25,23 @@ is-list-spec =
     (tie.spec
     Inv-loop
     μ-loop
+    -- returns
     (λ c. search list-long)
+    -- loop-holds
     (λ c. (omega arith, below-zero _))
+    -- mul-is-string
     (λ c. search needs)
+    -- shared-slice-read-is-string
     (λ c. search needs)
+    -- is-string-requires
     (λ c κs. search needs)
+    -- returns-2
     (λ c. search list-stop)
+    -- add-i
     (λ c. search needs)
+    -- loop-less
     (λ c. search needs)
+    -- loop-again
     (λ c. (omega arith, search below-turn))
+    -- returns-3
     (λ c. search list-done))

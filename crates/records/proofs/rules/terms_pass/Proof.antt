@@ -27,17 +27,24 @@ terms-pass-spec =
     (tie.spec
     Inv-loop
     μ-loop
+    -- loop-holds
     (λ c.
     let at-start = c .before .before .before .before .before in
     let a = at-start .args in (omega arith, refl, refl, below-zero _, tables-start (a .terms .now) (a .chars .now) (a .c) _ _ (at-start .pre .2) (at-start .pre .3)))
+    -- add-t
     (λ c. search needs)
+    -- cast-t
     (λ c. search needs)
+    -- term-ok-requires
     (λ c κs.
     let at-loop = c .before .before .before .before .before in
     let at-start = at-loop .before .before .before .before .before .before in
     (within-is _ _ (omega arith) (omega arith), at-start .pre .1, at-loop .loop .inv .4))
+    -- same-length
     (λ c. search needs)
+    -- same-length-2
     (λ c. search needs)
+    -- returns
     (λ c.
     let at-term-ok = c .before .before .before .before .before in
     let at-if1 = at-term-ok .before .before .before .before in
@@ -46,11 +53,17 @@ terms-pass-spec =
     let a = at-start .args in
     each-stop (termRule (storeOf (lent (a .terms .now) (a .cells .now) (a .chars .now) [] []) (a .c))) (λ j. termAt (a .terms .now) (suc j)) (a .c .terms) (at-loop .loop .i) _
     (at-term-ok .term-ok .ensures .passes) (c .if2 .taken) (at-if1 .if1 .taken))
+    -- add-i
     (λ c. search needs)
+    -- loop-less
     (λ c. search needs)
+    -- loop-again
     (λ c. let a = c .before .before .before .before .before .before .before .before .before .before .before .before .before .before .before .before .before .args in let o = c .before .before .before .before .before .before .before .before .before .before .before .loop in (omega arith, search needs, search needs, each-turn (termRule (storeOf (lent (a .terms .now) (a .cells .now) (a .chars .now) [] []) (a .c))) (o .i) _ (c .before .before .before .before .before .term-ok .ensures .passes) (c .if2 .left) (o .inv .3), c .before .before .before .before .before .term-ok .ensures .tables (not-false _ (c .if2 .left))))
+    -- same-length-3
     (λ c. search needs)
+    -- same-length-4
     (λ c. search needs)
+    -- returns-2
     (λ c.
     let at-start = c .before .before .before .before .before .before .before .before in
     let a = at-start .args in

@@ -18,17 +18,29 @@ copy-text-spec =
     (tie.spec
     Inv-loop
     μ-loop
+    -- loop-holds
     (λ c. copied-none _ _ _)
+    -- add-chars
     (λ c. search needs)
+    -- mul-chars
     (λ c. search needs)
+    -- slice-read-chars
     (λ c. search needs)
+    -- add-chars-2
     (λ c. search needs)
+    -- mul-chars-2
     (λ c. search needs)
+    -- slice-write-chars
     (λ c. search needs)
+    -- add-i
     (λ c. search needs)
+    -- loop-less
     (λ c. search needs)
+    -- loop-again
     (λ c.
     let at-start = c .before .before .before in
     moved-one _ _ _ _ _ _ (c .before .before .loop .inv) (c .before .loop-test .taken) (at-start .pre .0) (at-start .pre .1))
+    -- same-length
     (λ c. search needs)
+    -- returns
     (λ c. moved-all _ _ _ _ _ _ (c .before .loop .inv) (c .loop-test .left)))

@@ -18,15 +18,25 @@ joined-length-unchecked-spec =
     (tie.spec
     Inv-loop
     μ-loop
+    -- loop-holds
     (λ c. summed-none _ _)
+    -- mul-second
     (λ c. search needs)
+    -- shared-slice-read-second
     (λ c. search needs)
+    -- second-requires
     (λ c κs. search needs)
+    -- cast-n
     (λ c. search needs)
+    -- add-total
     (λ c. search needs)
+    -- add-i
     (λ c. search needs)
+    -- loop-less
     (λ c. search needs)
+    -- loop-again
     (λ c.
     let at-loop = c .before .before .before in
     summed-one _ _ _ _ _ (at-loop .loop .inv) (c .before .before .loop-test .taken) (c .second .ensures) (omega arith))
+    -- returns
     (λ c. summed-all _ _ _ _ (c .before .loop .inv) (c .loop-test .left)))

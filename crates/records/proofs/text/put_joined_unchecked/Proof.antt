@@ -18,13 +18,21 @@ put-joined-unchecked-spec =
     (tie.spec
     Inv-loop
     μ-loop
+    -- loop-holds
     (λ c. joined-none _ _ _ _)
+    -- mul-t
     (λ c. search needs)
+    -- shared-slice-read-t
     (λ c. search needs)
+    -- first-requires
     (λ c κs. search needs)
+    -- cast-from
     (λ c. search needs)
+    -- second-requires
     (λ c κs. search needs)
+    -- cast-n
     (λ c. search needs)
+    -- copy-text-requires
     (λ c κs.
     let at-first = c .before .before in
     let at-loop-test = at-first .before .before in
@@ -35,6 +43,7 @@ put-joined-unchecked-spec =
       joined-room _ _ _ _ _ _ _ (at-loop .loop .inv) (at-start .pre .0) (at-start .pre .1) (at-loop-test .loop-test .taken) _ _ (at-first .first .ensures)
           (c .before .second .ensures),
     ))
+    -- add-at
     (λ c.
     let at-second = c .before .before .before .before in
     let at-first = at-second .before in
@@ -46,8 +55,11 @@ put-joined-unchecked-spec =
       joined-room _ _ _ _ _ _ _ (at-loop .loop .inv) (at-start .pre .0) (at-start .pre .1) (at-loop-test .loop-test .taken) _ _ (at-first .first .ensures)
           (at-second .second .ensures),
     ))
+    -- add-i
     (λ c. search needs)
+    -- loop-less
     (λ c. search needs)
+    -- loop-again
     (λ c.
     let at-copy-text = c .before .before in
     let at-second = at-copy-text .before .before in
@@ -57,5 +69,7 @@ put-joined-unchecked-spec =
     let at-start = at-loop .before .before .before .before in
     joined-one _ _ _ _ _ _ _ (at-loop .loop .inv) (at-start .pre .0) (at-start .pre .1) (at-loop-test .loop-test .taken) _ _ (at-first .first .ensures)
     (at-second .second .ensures) _ (at-copy-text .copy-text .ensures) (at-copy-text .copy-text .kept .0))
+    -- same-length
     (λ c. c .before .loop .inv .long)
+    -- returns
     (λ c. joined-all _ _ _ _ _ _ _ (c .before .loop .inv) (c .loop-test .left)))

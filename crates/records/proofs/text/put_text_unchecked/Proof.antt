@@ -19,16 +19,27 @@ put-text-unchecked-spec =
     (tie.spec
     Inv-loop
     μ-loop
+    -- loop-holds
     (λ c. copied-none _ _ _)
+    -- mul-chars
     (λ c. search needs)
+    -- shared-slice-read-chars
     (λ c. search needs)
+    -- add-chars
     (λ c. search needs)
+    -- mul-chars-2
     (λ c. search needs)
+    -- slice-write-chars
     (λ c. omega (arith, c .before .before .loop .inv .long))
+    -- add-i
     (λ c. search needs)
+    -- loop-less
     (λ c. search needs)
+    -- loop-again
     (λ c.
     let at-start = c .before .before .before in
     copied-one _ _ _ _ _ _ (c .before .before .loop .inv) (c .before .loop-test .taken) (at-start .pre) refl)
+    -- same-length
     (λ c. search needs)
+    -- returns
     (λ c. copied-all _ _ _ _ _ (c .before .loop .inv) (c .loop-test .left)))

@@ -17,23 +17,37 @@ text-from-spec =
     (tie.spec
     Inv-loop
     μ-loop
+    -- add-if1
     (λ c. search needs)
+    -- text-past-requires
     (λ c κs. search needs)
+    -- returns
     (λ c. search needs)
+    -- loop-holds
     (λ c. agreed-none _ _ _)
+    -- add-if2
     (λ c. search needs)
+    -- mul-if2
     (λ c. search needs)
+    -- shared-slice-read-if2
     (λ c. search needs)
+    -- mul-if2-2
     (λ c. search needs)
+    -- shared-slice-read-if2-2
     (λ c. search needs)
+    -- returns-2
     (λ c.
     let at-loop-test = c .before .before .before in
     let at-loop = at-loop-test .before in
     disagree _ _ _ _ (at-loop .loop .inv) (at-loop-test .loop-test .taken) (c .if2 .taken))
+    -- add-i
     (λ c. search needs)
+    -- loop-less
     (λ c. search needs)
+    -- loop-again
     (λ c.
     let at-loop-test = c .before .before .before in
     let at-loop = at-loop-test .before in
     agreed-one _ _ _ _ (at-loop .loop .inv) (at-loop-test .loop-test .taken) (c .if2 .left))
+    -- returns-3
     (λ c. agreed-all _ _ _ _ (c .before .loop .inv) (c .loop-test .left)))

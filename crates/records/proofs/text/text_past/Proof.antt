@@ -18,19 +18,29 @@ text-past-spec =
     (tie.spec
     Inv-loop
     μ-loop
+    -- loop-holds
     (λ c. agreed-none _ _ _)
+    -- add-word
     (λ c. search needs)
+    -- word-requires
     (λ c κs. search needs)
+    -- mul-if1
     (λ c. search needs)
+    -- shared-slice-read-if1
     (λ c. search needs)
+    -- returns
     (λ c.
     let at-loop-test = c .before .before .before in
     let at-loop = at-loop-test .before in
     disagree _ _ _ _ (at-loop .loop .inv) (at-loop-test .loop-test .taken) (λ e. c .if1 .taken (c .before .before .word .ensures ∙ e)))
+    -- add-i
     (λ c. search needs)
+    -- loop-less
     (λ c. search needs)
+    -- loop-again
     (λ c.
     let at-loop-test = c .before .before .before in
     let at-loop = at-loop-test .before in
     agreed-one _ _ _ _ (at-loop .loop .inv) (at-loop-test .loop-test .taken) (sym (c .before .before .word .ensures) ∙ c .if1 .left))
+    -- returns-2
     (λ c. agreed-all _ _ _ _ (c .before .loop .inv) (c .loop-test .left)))

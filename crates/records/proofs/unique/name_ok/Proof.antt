@@ -18,16 +18,23 @@ name-ok-spec =
     (tie.spec
     Inv-loop
     μ-loop
+    -- second-requires
     (λ c κs. search needs)
+    -- returns
     (λ c.
     let at-start = c .before .before .before .before .before .before in
     let a = at-start .args in name-empty (a .terms .now) (a .chars .now) (a .c) (a .m) (a .t) (at-start .pre .1) _ (c .before .second .ensures) (c .if1 .taken))
+    -- cast-u
     (λ c. search needs)
+    -- mul-u
     (λ c. search needs)
+    -- element-copy-out-u
     (λ c. search needs)
+    -- loop-holds
     (λ c.
     let at-start = c .before .before .before .before .before .before .before in
     let a = at-start .args in walk-start (a .terms .now) (a .chars .now) (a .c) (a .m) (a .t) (at-start .pre .1) _ _ _ (at-start .pre .2))
+    -- is-named-requires
     (λ c κs.
     let at-start = c .before .before .before .before .before .before .before .before .before in
     let a = at-start .args in
@@ -38,22 +45,27 @@ name-ok-spec =
       r .1,
       walk-hashed (a .terms .now) (a .chars .now) (a .c) (a .m) (a .t) (r .1) _ _ _ (r .2) (o .u) (o .inv) (c .loop-test .taken),
     ))
+    -- returns-2
     (λ c.
     let at-loop = c .before .before .before in
     let at-start = at-loop .before .before .before .before .before .before .before .before in
     let a = at-start .args in
     let o = at-loop .loop in name-taken (a .terms .now) (a .chars .now) (a .c) (a .m) (a .t) (at-start .pre .1) (o .u) (o .inv) _ (c .before .is-named .ensures) (c .if2 .taken))
+    -- cast-u-2
     (λ c. search needs)
+    -- mul-u-2
     (λ c.
     let at-loop = c .before .before .before in
     let at-start = at-loop .before .before .before .before .before .before .before .before in
     let a = at-start .args in
     let r = at-start .pre in let i = tables-room (a .terms .now) (a .chars .now) (a .c) _ _ _ (a .t) (r .2) (r .1 .variable) in omega (arith, at-loop .loop .inv .lower))
+    -- shared-slice-read-u
     (λ c.
     let at-loop = c .before .before .before .before in
     let at-start = at-loop .before .before .before .before .before .before .before .before in
     let a = at-start .args in
     let r = at-start .pre in let i = tables-room (a .terms .now) (a .chars .now) (a .c) _ _ _ (a .t) (r .2) (r .1 .variable) in omega (arith, at-loop .loop .inv .lower))
+    -- loop-less
     (λ c.
     let at-loop-test = c .before .before .before in
     let at-loop = at-loop-test .before in
@@ -61,6 +73,7 @@ name-ok-spec =
     let a = at-start .args in
     let r = at-start .pre in
     let o = at-loop .loop in walk-less (a .terms .now) (a .chars .now) (a .c) (a .m) (a .t) (r .1) _ _ _ (r .2) (o .u) (o .inv) (at-loop-test .loop-test .taken))
+    -- loop-again
     (λ c.
     let at-loop-test = c .before .before .before in
     let at-loop = at-loop-test .before in
@@ -70,6 +83,7 @@ name-ok-spec =
     let o = at-loop .loop in
     walk-turn (a .terms .now) (a .chars .now) (a .c) (a .m) (a .t) (r .1) _ _ _ (r .2) (o .u) (o .inv) (at-loop-test .loop-test .taken) _ (c .before .before .is-named .ensures)
     (c .before .if2 .left))
+    -- returns-3
     (λ c.
     let at-if1 = c .before .before .before in
     let at-second = at-if1 .before in

@@ -7,14 +7,20 @@ pub explain-pair-spec : {M : Type 1} → statement M
 explain-pair-spec =
     tie.close
     (tie.spec
+    -- returns
     (λ c. pair-number _ _ _ _ _ _ _ _ (c .if1 .taken))
+    -- is-alike-requires
     (λ c κs. let at-start = c .before .before .before .before .before .before in ready-readable (at-start .pre .0))
+    -- returns-2
     (λ c. pair-alike _ _ _ _ _ _ _ _ (c .before .before .if1 .left) _ (c .before .is-alike .ensures) (c .if2 .taken))
+    -- same-class-requires
     (λ c κs. let at-start = c .before .before .before .before .before .before .before .before in (ready-readable (at-start .pre .0), at-start .pre .1))
+    -- returns-3
     (λ c.
     let at-is-alike = c .before .before .before in
     let at-if1 = at-is-alike .before in
     pair-apart _ _ _ _ _ _ _ _ (at-if1 .if1 .left) _ (at-is-alike .is-alike .ensures) (c .before .before .if2 .left) _ (c .before .same-class .ensures) (c .if3 .taken))
+    -- explain-unchecked-requires
     (λ c κs.
     let at-if2 = c .before .before .before in
     let at-is-alike = at-if2 .before in
@@ -25,7 +31,9 @@ explain-pair-spec =
           (at-start .args .c) _ _ (at-if1 .if1 .left) _ (at-is-alike .is-alike .ensures) (at-if2 .if2 .left) _ (c .before .before .same-class .ensures) (c .before .if3 .left)
           (at-start .pre .1),
     ))
+    -- same-length
     (λ c. search needs)
+    -- returns-4
     (λ c.
     let at-if3 = c .before .before .before .before in
     let at-same-class = at-if3 .before in

@@ -19,6 +19,7 @@ nf-equal-explain-unchecked-spec =
     (tie.spec
     Inv-loop
     μ-loop
+    -- loop-holds
     (λ c.
     let at-start = c .before .before .before .before .before .before .before in (
       omega arith,
@@ -28,13 +29,18 @@ nf-equal-explain-unchecked-spec =
             (at-start .args .rhs .now) (at-start .pre .0),
       ),
     ))
+    -- mul-explain-pair
     (λ c. search needs)
+    -- shared-slice-read-explain-pair
     (λ c. search needs)
+    -- mul-explain-pair-2
     (λ c. search needs)
+    -- shared-slice-read-explain-pair-2
     (λ c.
     let at-loop-test = c .before .before .before in
     let at-start = at-loop-test .before .before .before .before .before .before .before .before .before in
     (let p = at-loop-test .loop-test .taken in let q = at-start .pre .1 .1 .1 in omega arith))
+    -- explain-pair-requires
     (λ c κs.
     let at-loop-test = c .before .before .before in
     let at-loop = at-loop-test .before in
@@ -43,9 +49,13 @@ nf-equal-explain-unchecked-spec =
       pairing-pair (at-start .args .terms .now) (at-start .args .cells .now) (at-start .args .chars .now) (at-start .args .keys .now) (at-start .args .lhs .now)
           (at-start .args .rhs .now) (at-loop .loop .inv .1 .1) (at-loop-test .loop-test .taken) (at-start .pre .1 .1 .1) (at-start .pre .1 .0) (at-start .pre .1 .1 .0),
     ))
+    -- enum-known-e
     (λ c. search needs)
+    -- enum-known-k
     (λ c. search needs)
+    -- same-length
     (λ c. search needs)
+    -- returns
     (λ c.
     let at-explain-pair = c .before .before .before .before .before in
     let at-loop-test = at-explain-pair .before .before .before .before in
@@ -54,10 +64,13 @@ nf-equal-explain-unchecked-spec =
     pairing-refused (at-start .args .terms .now) (at-start .args .cells .now) (at-start .args .chars .now) (at-start .args .keys .now) (at-start .args .lhs .now)
     (at-start .args .rhs .now) (at-loop .loop .inv .1 .1) (at-loop-test .loop-test .taken) (at-start .pre .1 .1 .1) (at-start .pre .1 .0) (at-start .pre .1 .1 .0) _ _
     (at-explain-pair .explain-pair .ensures) _ (c .before .k .given .1))
+    -- add-i
     (λ c. search (needs, c .before .before .before .before .before .before .before .before .before .loop-test .taken, c .before .before .before .before .before .before .before .before .before .before .before .before .before .before .before .before .before .before .good))
+    -- loop-less
     (λ c.
     let at-loop-test = c .before .before .before .before .before .before .before .before .before in
     (let p = at-loop-test .loop-test .taken in omega arith))
+    -- loop-again
     (λ c. (
       let at-loop-test = c .before .before .before .before .before .before .before .before .before in
           let p = at-loop-test .loop-test .taken in omega arith,
@@ -72,7 +85,9 @@ nf-equal-explain-unchecked-spec =
             (at-explain-pair .explain-pair .ensures) _ (c .before .e .given .1),
       ),
     ))
+    -- same-length-2
     (λ c. search needs)
+    -- returns-2
     (λ c.
     let at-start = c .before .before .before .before .before .before .before .before .before in
     pairing-end (at-start .args .terms .now) (at-start .args .cells .now) (at-start .args .chars .now) (at-start .args .keys .now) (at-start .args .lhs .now)

@@ -19,6 +19,7 @@ explain-all-unchecked-spec =
     (tie.spec
     Inv-loop
     μ-loop
+    -- loop-holds
     (λ c.
     let at-start = c .before .before .before .before .before .before in (
       omega arith,
@@ -28,8 +29,11 @@ explain-all-unchecked-spec =
             (at-start .args .v) (at-start .pre .0),
       ),
     ))
+    -- mul-explain-atom
     (λ c. search needs)
+    -- shared-slice-read-explain-atom
     (λ c. search needs)
+    -- explain-atom-requires
     (λ c κs.
     let at-loop-test = c .before .before in
     let at-loop = at-loop-test .before in
@@ -42,9 +46,13 @@ explain-all-unchecked-spec =
             (at-start .args .v) (at-loop .loop .inv .1 .1) (at-loop-test .loop-test .taken) (at-start .pre .1 .0) (at-start .pre .1 .1),
       ),
     ))
+    -- enum-known-e
     (λ c. search needs)
+    -- enum-known-k
     (λ c. search needs)
+    -- same-length
     (λ c. search needs)
+    -- returns
     (λ c.
     let at-explain-atom = c .before .before .before .before .before in
     let at-loop-test = at-explain-atom .before .before .before in
@@ -53,10 +61,13 @@ explain-all-unchecked-spec =
     citing-refused (at-start .args .terms .now) (at-start .args .cells .now) (at-start .args .chars .now) (at-start .args .keys .now) (at-start .args .side .now)
     (at-start .args .v) (at-loop .loop .inv .1 .1) (at-loop-test .loop-test .taken) (at-start .pre .1 .0) (at-start .pre .1 .1) _ _ (at-explain-atom .explain-atom .ensures) _
     (c .before .k .given .1))
+    -- add-i
     (λ c. search (needs, c .before .before .before .before .before .before .before .before .loop-test .taken, c .before .before .before .before .before .before .before .before .before .before .before .before .before .before .before .before .good))
+    -- loop-less
     (λ c.
     let at-loop-test = c .before .before .before .before .before .before .before .before in
     (let p = at-loop-test .loop-test .taken in omega arith))
+    -- loop-again
     (λ c. (
       let at-loop-test = c .before .before .before .before .before .before .before .before in let p = at-loop-test .loop-test .taken in omega arith,
       (
@@ -70,7 +81,9 @@ explain-all-unchecked-spec =
             _ (c .before .e .given .1),
       ),
     ))
+    -- same-length-2
     (λ c. search needs)
+    -- returns-2
     (λ c.
     let at-start = c .before .before .before .before .before .before .before .before in
     citing-end (at-start .args .terms .now) (at-start .args .cells .now) (at-start .args .chars .now) (at-start .args .keys .now) (at-start .args .side .now)

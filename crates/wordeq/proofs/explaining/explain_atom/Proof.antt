@@ -7,18 +7,23 @@ pub explain-atom-spec : {M : Type 1} → statement M
 explain-atom-spec =
     tie.close
     (tie.spec
+    -- kind-of-requires
     (λ c κs. search needs)
+    -- returns
     (λ c.
     let at-start = c .before .before .before .before .before .before .before in
     atom-constant (at-start .args .terms .now) (at-start .args .cells .now) (at-start .args .chars .now) (at-start .args .reasons .now) (at-start .args .keys .now)
     (at-start .args .c) _ _ _ (c .before .kind-of .ensures) (c .if1 .taken))
+    -- explain-unchecked-requires
     (λ c κs.
     let at-start = c .before .before .before .before .before .before .before .before in (
       at-start .pre .0,
       atom-arguments (at-start .args .terms .now) (at-start .args .cells .now) (at-start .args .chars .now) (at-start .args .reasons .now) (at-start .args .keys .now)
           (at-start .args .c) _ _ _ (c .before .before .kind-of .ensures) (c .before .if1 .left) (at-start .pre .1 .0) (at-start .pre .1 .1),
     ))
+    -- same-length
     (λ c. search needs)
+    -- returns-2
     (λ c.
     let at-if1 = c .before .before .before .before in
     let at-kind-of = at-if1 .before in

@@ -19,18 +19,27 @@ count-full-spec =
     (tie.spec
     Inv-loop
     μ-loop
+    -- loop-holds
     (λ c. fulls-none _ _)
+    -- mul-own-count
     (λ c. search needs)
+    -- shared-slice-read-own-count
     (λ c. search needs)
+    -- own-count-requires
     (λ c κs. let at-start = c .before .before .before .before .before in at-start .pre .0)
+    -- add-n
     (λ c.
     let at-loop = c .before .before .before in
     let at-start = at-loop .before .before .before in
     let z = fulls-turn _ _ _ _ _ (at-loop .loop .inv) (c .before .before .loop-test .taken) (c .own-count .ensures) in
     let y = z .small in let x = z .within in let v = at-start .pre .1 in omega arith)
+    -- add-i
     (λ c. search needs)
+    -- loop-less
     (λ c. search needs)
+    -- loop-again
     (λ c.
     let at-loop = c .before .before .before in
     fulls-turn _ _ _ _ _ (at-loop .loop .inv) (c .before .before .loop-test .taken) (c .own-count .ensures))
+    -- returns
     (λ c. fulls-all _ _ _ _ (c .before .loop .inv) (c .loop-test .left)))

@@ -23,18 +23,27 @@ are-variables-spec =
     (tie.spec
     Inv-loop
     μ-loop
+    -- loop-holds
     (λ c. (omega arith, refl))
+    -- mul-kind-of
     (λ c. search needs)
+    -- shared-slice-read-kind-of
     (λ c. search needs)
+    -- kind-of-requires
     (λ c κs. search needs)
+    -- returns
     (λ c.
     let at-loop-test = c .before .before .before in
     let at-loop = at-loop-test .before in
     all-stop _ _ _ (at-loop .loop .inv .1) (at-loop-test .loop-test .taken) (ne-eqb _ 2 (λ z. c .if1 .taken (c .before .kind-of .ensures ∙ z))))
+    -- add-i
     (λ c. search needs)
+    -- loop-less
     (λ c. search needs)
+    -- loop-again
     (λ c.
     let at-loop-test = c .before .before .before in
     let at-loop = at-loop-test .before in
     (omega arith, all-turn _ _ _ (at-loop .loop .inv .1) (at-loop-test .loop-test .taken) (eq-eqb _ 2 (sym (c .before .kind-of .ensures) ∙ c .if1 .left))))
+    -- returns-2
     (λ c. all-done _ _ _ (c .before .loop .inv .1) (c .loop-test .left)))

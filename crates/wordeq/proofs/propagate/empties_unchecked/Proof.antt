@@ -8,9 +8,13 @@ pub empties-unchecked-spec : {M : Type 1} → statement M
 empties-unchecked-spec =
     tie.close
     (tie.spec
+    -- slice-aggregate-make-constant-unchecked
     (λ c. search needs)
+    -- make-constant-unchecked-requires
     (λ c κs. search needs)
+    -- enum-known-empty
     (λ c. search needs)
+    -- link-first-requires
     (λ c κs.
     let at-empty = c .before .before .before in
     let at-make-constant-unchecked = at-empty .before .before .before .before .before .before in
@@ -19,17 +23,24 @@ empties-unchecked-spec =
           (at-make-constant-unchecked .make-constant-unchecked .kept .0) refl,
       empties-pairs (at-start .args .side .now) (at-start .pre .1) (at-make-constant-unchecked .make-constant-unchecked .ensures) (at-empty .empty .given .1) (at-start .pre .0),
     ))
+    -- enum-known-empty-2
     (λ c. search needs)
+    -- same-length
     (λ c. search needs)
+    -- same-length-2
     (λ c. search needs)
+    -- returns
     (λ c.
     let at-empty = c .before .before .before .before in
     let at-make-constant-unchecked = at-empty .before .before .before .before .before .before in
     let at-start = at-make-constant-unchecked .before .before .before .before .before .before .before .before .before .before in
     empties-done (at-start .args .side .now) (at-start .pre .1) (at-make-constant-unchecked .make-constant-unchecked .ensures) (at-empty .empty .given .1)
     (c .link-first .ensures))
+    -- same-length-3
     (λ c. search needs)
+    -- same-length-4
     (λ c. search needs)
+    -- returns-2
     (λ c.
     let at-make-constant-unchecked = c .before .before .before .before .before .before .before in
     let at-start = at-make-constant-unchecked .before .before .before .before .before .before .before .before .before .before in

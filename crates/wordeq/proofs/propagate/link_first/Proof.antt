@@ -24,20 +24,28 @@ link-first-spec =
     (tie.spec
     Inv-loop
     μ-loop
+    -- loop-holds
     (λ c. (omega arith, refl))
+    -- mul-v
     (λ c. search needs)
+    -- shared-slice-read-v
     (λ c. search needs)
+    -- same-unchecked-requires
     (λ c κs.
     let at-start = c .before .before .before .before .before .before in
     (at-start .pre .0, every-at (at-start .args .side .now) _ 0 (at-start .pre .1) (c .before .loop-test .taken)))
+    -- returns
     (λ c.
     let at-loop-test = c .before .before .before in
     let at-loop = at-loop-test .before in
     let at-start = at-loop .before .before .before .before in
     linked-first (readIn (at-start .args .terms .now) (at-start .args .chars .now) (at-start .args .c)) (at-start .args .c) (at-start .args .side .now) (at-start .args .word) _
     (at-loop .loop .inv .1) (at-loop-test .loop-test .taken) _ (c .before .same-unchecked .ensures) (c .if1 .taken))
+    -- add-i
     (λ c. search needs)
+    -- loop-less
     (λ c. search needs)
+    -- loop-again
     (λ c.
     let at-loop-test = c .before .before .before in
     let at-loop = at-loop-test .before in
@@ -46,6 +54,7 @@ link-first-spec =
       linked-turn (readIn (at-start .args .terms .now) (at-start .args .chars .now) (at-start .args .c)) (at-start .args .c) (at-start .args .side .now) (at-start .args .word)
           _ (at-loop .loop .inv .1) (at-loop-test .loop-test .taken) _ (c .before .same-unchecked .ensures) (c .if1 .left),
     ))
+    -- returns-2
     (λ c.
     let at-start = c .before .before .before .before .before in
     linked-none (readIn (at-start .args .terms .now) (at-start .args .chars .now) (at-start .args .c)) (at-start .args .c) (at-start .args .side .now) (at-start .args .word) _

@@ -11,29 +11,37 @@ pub propagate-unchecked-spec : {M : Type 1} → statement M
 propagate-unchecked-spec =
     tie.close
     (tie.spec
+    -- is-alias-requires
     (λ c κs.
     let at-start = c .before .before .before .before .before .before .before .before .before in
     ready-readIn (lent (at-start .args .terms .now) (at-start .args .cells .now) (at-start .args .chars .now) (at-start .args .reasons .now) (at-start .args .keys .now))
     (at-start .args .c) (at-start .pre .0))
+    -- shared-slice-read-t15
     (λ c.
     let at-start = c .before .before .before .before .before .before .before .before .before .before .before .before in
     (let n = aliased-lengths (readIn (at-start .args .terms .now) (at-start .args .chars .now) (at-start .args .c)) (at-start .args .lhs .now) (at-start .args .rhs .now) _
     (c .before .if1 .taken) (c .before .before .is-alias .ensures) .0 in
     omega arith))
+    -- shared-slice-read-t17
     (λ c.
     let at-is-alias = c .before .before .before in
     let at-start = at-is-alias .before .before .before .before .before .before .before .before .before .before in
     (let n = aliased-lengths (readIn (at-start .args .terms .now) (at-start .args .chars .now) (at-start .args .c)) (at-start .args .lhs .now) (at-start .args .rhs .now) _
     (c .before .before .if1 .taken) (at-is-alias .is-alias .ensures) .1 in
     omega arith))
+    -- same-length
     (λ c. search needs)
+    -- same-length-2
     (λ c. search needs)
+    -- returns
     (λ c.
     let at-is-alias = c .before .before .before in
     let at-start = at-is-alias .before .before .before .before .before .before .before .before .before .before in
     choice-alias (lent (at-start .args .terms .now) (at-start .args .cells .now) (at-start .args .chars .now) (at-start .args .reasons .now) (at-start .args .keys .now))
     (at-start .args .c) (at-start .args .lhs .now) (at-start .args .rhs .now) _ (at-is-alias .is-alias .ensures) (c .before .before .if1 .taken))
+    -- is-emptied-requires
     (λ c κs. search needs)
+    -- empties-unchecked-requires
     (λ c κs.
     let at-is-emptied = c .before .before .before in
     let at-start = at-is-emptied .before .before .before .before .before .before .before .before .before .before .before .before .before in (
@@ -41,8 +49,11 @@ propagate-unchecked-spec =
       emptied-bare (termed (at-start .args .terms .now) (at-start .args .c)) (at-start .args .lhs .now) (at-start .args .rhs .now) _ (c .before .before .if2 .taken)
           (at-is-emptied .is-emptied .ensures),
     ))
+    -- same-length-3
     (λ c. search needs)
+    -- same-length-4
     (λ c. search needs)
+    -- returns-2
     (λ c.
     let at-empties-unchecked = c .before .before .before .before in
     let at-if2 = at-empties-unchecked .before .before .before in
@@ -53,7 +64,9 @@ propagate-unchecked-spec =
     choice-left (lent (at-start .args .terms .now) (at-start .args .cells .now) (at-start .args .chars .now) (at-start .args .reasons .now) (at-start .args .keys .now))
     (at-start .args .c) (at-start .args .lhs .now) (at-start .args .rhs .now) _ (at-is-alias .is-alias .ensures) (at-if1 .if1 .left) _ (at-is-emptied .is-emptied .ensures)
     (at-if2 .if2 .taken) (at-empties-unchecked .empties-unchecked .ensures))
+    -- is-emptied-requires-2
     (λ c κs. search needs)
+    -- empties-unchecked-requires-2
     (λ c κs.
     let at-is-emptied2 = c .before .before .before in
     let at-start = at-is-emptied2 .before .before .before .before .before .before .before .before .before .before .before .before .before .before .before .before in (
@@ -61,8 +74,11 @@ propagate-unchecked-spec =
       emptied-bare (termed (at-start .args .terms .now) (at-start .args .c)) (at-start .args .rhs .now) (at-start .args .lhs .now) _ (c .before .before .if3 .taken)
           (at-is-emptied2 .is-emptied2 .ensures),
     ))
+    -- same-length-5
     (λ c. search needs)
+    -- same-length-6
     (λ c. search needs)
+    -- returns-3
     (λ c.
     let at-empties-unchecked2 = c .before .before .before .before in
     let at-if3 = at-empties-unchecked2 .before .before .before in
@@ -75,7 +91,9 @@ propagate-unchecked-spec =
     choice-right (lent (at-start .args .terms .now) (at-start .args .cells .now) (at-start .args .chars .now) (at-start .args .reasons .now) (at-start .args .keys .now))
     (at-start .args .c) (at-start .args .lhs .now) (at-start .args .rhs .now) _ (at-is-alias .is-alias .ensures) (at-if1 .if1 .left) _ (at-is-emptied .is-emptied .ensures)
     (at-if2 .if2 .left) _ (at-is-emptied2 .is-emptied2 .ensures) (at-if3 .if3 .taken) (at-empties-unchecked2 .empties-unchecked2 .ensures))
+    -- is-assigned-requires
     (λ c κs. search needs)
+    -- shared-slice-read-assigns-unchecked
     (λ c.
     let at-if4 = c .before .before .before in
     let at-is-assigned = at-if4 .before in
@@ -83,6 +101,7 @@ propagate-unchecked-spec =
     (let n = assigned-length (termed (at-start .args .terms .now) (at-start .args .c)) (at-start .args .lhs .now) (at-start .args .rhs .now) _ (at-if4 .if4 .taken)
     (at-is-assigned .is-assigned .ensures) in
     omega arith))
+    -- assigns-unchecked-requires
     (λ c κs.
     let at-if4 = c .before .before .before in
     let at-is-assigned = at-if4 .before in
@@ -97,8 +116,11 @@ propagate-unchecked-spec =
             (at-is-assigned .is-assigned .ensures),
       ),
     ))
+    -- same-length-7
     (λ c. search needs)
+    -- same-length-8
     (λ c. search needs)
+    -- returns-4
     (λ c.
     let at-assigns-unchecked = c .before .before .before .before in
     let at-if4 = at-assigns-unchecked .before .before .before .before in
@@ -114,7 +136,9 @@ propagate-unchecked-spec =
     (at-start .args .c) (at-start .args .lhs .now) (at-start .args .rhs .now) _ (at-is-alias .is-alias .ensures) (at-if1 .if1 .left) _ (at-is-emptied .is-emptied .ensures)
     (at-if2 .if2 .left) _ (at-is-emptied2 .is-emptied2 .ensures) (at-if3 .if3 .left) _ (at-is-assigned .is-assigned .ensures) (at-if4 .if4 .taken)
     (at-assigns-unchecked .assigns-unchecked .ensures))
+    -- is-assigned-requires-2
     (λ c κs. search needs)
+    -- shared-slice-read-assigns-unchecked-2
     (λ c.
     let at-if5 = c .before .before .before in
     let at-is-assigned2 = at-if5 .before in
@@ -122,6 +146,7 @@ propagate-unchecked-spec =
     (let n = assigned-length (termed (at-start .args .terms .now) (at-start .args .c)) (at-start .args .rhs .now) (at-start .args .lhs .now) _ (at-if5 .if5 .taken)
     (at-is-assigned2 .is-assigned2 .ensures) in
     omega arith))
+    -- assigns-unchecked-requires-2
     (λ c κs.
     let at-if5 = c .before .before .before in
     let at-is-assigned2 = at-if5 .before in
@@ -136,8 +161,11 @@ propagate-unchecked-spec =
             (at-is-assigned2 .is-assigned2 .ensures),
       ),
     ))
+    -- same-length-9
     (λ c. search needs)
+    -- same-length-10
     (λ c. search needs)
+    -- returns-5
     (λ c.
     let at-assigns-unchecked2 = c .before .before .before .before in
     let at-if5 = at-assigns-unchecked2 .before .before .before .before in
@@ -155,8 +183,11 @@ propagate-unchecked-spec =
     (at-start .args .c) (at-start .args .lhs .now) (at-start .args .rhs .now) _ (at-is-alias .is-alias .ensures) (at-if1 .if1 .left) _ (at-is-emptied .is-emptied .ensures)
     (at-if2 .if2 .left) _ (at-is-emptied2 .is-emptied2 .ensures) (at-if3 .if3 .left) _ (at-is-assigned .is-assigned .ensures) (at-if4 .if4 .left) _
     (at-is-assigned2 .is-assigned2 .ensures) (at-if5 .if5 .taken) (at-assigns-unchecked2 .assigns-unchecked2 .ensures))
+    -- same-length-11
     (λ c. search needs)
+    -- same-length-12
     (λ c. search needs)
+    -- returns-6
     (λ c.
     let at-if4 = c .before .before .before in
     let at-is-assigned = at-if4 .before in

@@ -13,25 +13,35 @@ pub flat-steps-spec : {M : Type 1} → statement M
 flat-steps-spec =
     tie.close
     (tie.spec
+    -- slice-aggregate-flatten-list
     (λ c. search needs)
+    -- flatten-list-requires
     (λ c κs. (
       let at-start = c .before .before .before .before .before .before .before .before .before .before .before in ready-nested (at-start .pre .0),
       search needs,
     ))
+    -- same-length
     (λ c. search needs)
+    -- same-length-2
     (λ c. search needs)
+    -- returns
     (λ c.
     let at-start = c .before .before .before .before .before .before .before .before .before .before .before .before .before .before in
     left-passes _ _ (at-start .args .lhs .now) (at-start .args .rhs .now) (at-start .args .guard)
     (list-passes (at-start .pre .0) (at-start .args .lhs .now) _ _ _ (c .before .before .flatten-list .ensures) (c .if1 .taken)))
+    -- slice-aggregate-flatten-list-2
     (λ c. search needs)
+    -- flatten-list-requires-2
     (λ c κs. (
       let at-start = c .before .before .before .before .before .before .before .before .before .before .before .before .before .before .before .before .before in
           ready-nested (at-start .pre .0),
       search needs,
     ))
+    -- same-length-3
     (λ c. search needs)
+    -- same-length-4
     (λ c. search needs)
+    -- returns-2
     (λ c.
     let at-if1 = c .before .before .before .before .before .before in
     let at-flatten-list = at-if1 .before .before in
@@ -40,18 +50,23 @@ flat-steps-spec =
     (list-says (at-start .pre .0) (at-start .args .lhs .now) _ _ _ (at-flatten-list .flatten-list .ensures) (at-if1 .if1 .left)
     (let k = at-flatten-list .flatten-list .kept .1 .1 .1 .1 .0 in omega arith))
     (list-passes (at-start .pre .0) (at-start .args .rhs .now) _ _ _ (c .before .before .flatten-list2 .ensures) (c .if2 .taken)))
+    -- array-share-prefix-left
     (λ c. search needs)
+    -- slice-aggregate-steps-unchecked
     (λ c.
     let at-if1 = c .before .before .before .before .before .before .before .before .before .before .before .before in
     let at-flatten-list = at-if1 .before .before in
     (let k = at-flatten-list .flatten-list .kept .1 .1 .1 .1 .0 in
     let h = at-if1 .if1 .left in sym (length-take-le _ (at-flatten-list .flatten-list .last .1 .1 .1 .1 .0) (omega arith))))
+    -- array-share-prefix-right
     (λ c. search needs)
+    -- slice-aggregate-steps-unchecked-2
     (λ c.
     let at-if2 = c .before .before .before .before .before .before .before in
     let at-flatten-list2 = at-if2 .before .before in
     (let k = at-flatten-list2 .flatten-list2 .kept .1 .1 .1 .1 .0 in
     let h = at-if2 .if2 .left in sym (length-take-le _ (at-flatten-list2 .flatten-list2 .last .1 .1 .1 .1 .0) (omega arith))))
+    -- steps-unchecked-requires
     (λ c κs.
     let at-if2 = c .before .before .before .before .before .before .before .before in
     let at-flatten-list2 = at-if2 .before .before in
@@ -64,13 +79,21 @@ flat-steps-spec =
         (guard-passed _ (at-start .fits .guard) (at-start .pre .1 .1 .0), at-start .pre .1 .1 .1),
       ),
     ))
+    -- soften-requires
     (λ c κs. search needs)
+    -- same-length-5
     (λ c. search needs)
+    -- same-length-6
     (λ c. search needs)
+    -- same-length-7
     (λ c. search needs)
+    -- same-length-8
     (λ c. search needs)
+    -- same-length-9
     (λ c. search needs)
+    -- same-length-10
     (λ c. search needs)
+    -- returns-3
     (λ c.
     let at-steps-unchecked = c .before .before .before .before .before .before .before .before .before .before .before .before .before in
     let at-if2 = at-steps-unchecked .before .before .before .before .before .before .before .before .before in

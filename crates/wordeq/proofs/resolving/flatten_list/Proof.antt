@@ -20,11 +20,17 @@ flatten-list-spec =
     (tie.spec
     Inv-loop
     μ-loop
+    -- loop-holds
     (λ c. search needs)
+    -- mul-flatten-unchecked
     (λ c. search needs)
+    -- shared-slice-read-flatten-unchecked
     (λ c. search needs)
+    -- flatten-unchecked-requires
     (λ c κs. search needs)
+    -- same-length
     (λ c. search needs)
+    -- returns
     (λ c.
     let at-flatten-unchecked = c .before .before .before in
     let at-loop-test = at-flatten-unchecked .before .before .before in
@@ -33,8 +39,11 @@ flatten-list-spec =
     flattening-passes (bare (at-start .args .terms .now) (at-start .args .c .terms) (at-start .args .cells .now) (at-start .args .c .cells)) (at-start .args .l .now)
     (at-start .args .out .now) (at-loop .loop .inv .1 .1) (at-loop-test .loop-test .taken) _ _ (at-flatten-unchecked .flatten-unchecked .ensures)
     (let p = at-loop .loop .inv .1 .0 in let q = at-start .pre .1 in omega arith) (c .if1 .taken))
+    -- add-i
     (λ c. search needs)
+    -- loop-less
     (λ c. search needs)
+    -- loop-again
     (λ c. (
       let at-loop-test = c .before .before .before .before .before .before in let p = at-loop-test .loop-test .taken in omega arith,
       (
@@ -47,7 +56,9 @@ flatten-list-spec =
             (at-start .args .out .now) (at-loop .loop .inv .1 .1) (at-loop-test .loop-test .taken) _ _ (at-flatten-unchecked .flatten-unchecked .ensures) (c .if1 .left),
       ),
     ))
+    -- same-length-2
     (λ c. search needs)
+    -- returns-2
     (λ c.
     let at-start = c .before .before .before .before .before .before in
     flattening-end (bare (at-start .args .terms .now) (at-start .args .c .terms) (at-start .args .cells .now) (at-start .args .c .cells)) (at-start .args .l .now)

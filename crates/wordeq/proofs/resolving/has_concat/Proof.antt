@@ -23,20 +23,29 @@ has-concat-spec =
     (tie.spec
     Inv-loop
     μ-loop
+    -- loop-holds
     (λ c. (omega arith, refl))
+    -- mul-kind-of
     (λ c. search needs)
+    -- shared-slice-read-kind-of
     (λ c. search needs)
+    -- kind-of-requires
     (λ c κs. search needs)
+    -- returns
     (λ c.
     let at-loop-test = c .before .before .before in
     let at-loop = at-loop-test .before in
     any-stop _ _ _ (at-loop .loop .inv .1) (at-loop-test .loop-test .taken) (eq-eqb _ 3 (sym (c .before .kind-of .ensures) ∙ c .if1 .taken)))
+    -- add-i
     (λ c. search needs)
+    -- loop-less
     (λ c. let at-loop-test = c .before .before .before in (let p = at-loop-test .loop-test .taken in omega arith))
+    -- loop-again
     (λ c.
     let at-loop-test = c .before .before .before in
     let at-loop = at-loop-test .before in (
       let p = at-loop-test .loop-test .taken in omega arith,
       any-turn _ _ _ (at-loop .loop .inv .1) (at-loop-test .loop-test .taken) (ne-eqb _ 3 (λ z. c .if1 .left (c .before .kind-of .ensures ∙ z))),
     ))
+    -- returns-2
     (λ c. any-done _ _ _ (c .before .loop .inv .1) (c .loop-test .left)))

@@ -8,16 +8,25 @@ pub resolve-unchecked-spec : {M : Type 1} → statement M
 resolve-unchecked-spec =
     tie.close
     (tie.spec
+    -- run-requires
     (λ c κs.
     let at-start = c .before .before .before .before .before .before .before .before .before .before .before .before .before .before in
     (at-start .pre .0, (at-start .pre .1 .0, (guard-passed _ (at-start .fits .guard) (at-start .pre .1 .1 .0), at-start .pre .1 .1 .1))))
+    -- close-requires
     (λ c κs. search needs)
+    -- same-length
     (λ c. search needs)
+    -- same-length-2
     (λ c. search needs)
+    -- same-length-3
     (λ c. search needs)
+    -- same-length-4
     (λ c. search needs)
+    -- same-length-5
     (λ c. search needs)
+    -- same-length-6
     (λ c. search needs)
+    -- returns
     (λ c.
     let at-run = c .before .before .before .before .before .before .before .before .before .before .before .before .before in
     let at-start = at-run .before .before .before .before .before .before .before .before .before .before .before .before .before .before .before in

@@ -10,19 +10,30 @@ pub constants-differ-spec : {M : Type 1} → statement M
 constants-differ-spec =
     tie.close
     (tie.spec
+    -- both-constant-requires
     (λ c κs. search needs)
+    -- returns
     (λ c.
     let at-start = c .before .before .before .before in
     differ-not (at-start .args .terms .now) (at-start .args .chars .now) (at-start .args .c) (at-start .args .a) (at-start .args .b) _ (c .before .both-constant .ensures)
     (c .if1 .taken))
+    -- first-requires
     (λ c κs. search needs)
+    -- wide-requires
     (λ c κs. search needs)
+    -- second-requires
     (λ c κs. search needs)
+    -- wide-requires-2
     (λ c κs. search needs)
+    -- first-requires-2
     (λ c κs. search needs)
+    -- wide-requires-3
     (λ c κs. search needs)
+    -- second-requires-2
     (λ c κs. search needs)
+    -- wide-requires-4
     (λ c κs. search needs)
+    -- spans-differ-requires
     (λ c κs.
     let at-first2 = c .before .before .before in
     let at-wide2 = at-first2 .before in
@@ -38,6 +49,7 @@ constants-differ-spec =
       omega (arith, u, at-first .first .ensures, at-wide .wide .ensures, at-second .second .ensures, at-wide2 .wide2 .ensures),
       omega (arith, v, at-first2 .first2 .ensures, c .before .before .wide3 .ensures, c .before .second2 .ensures, c .wide4 .ensures),
     ))
+    -- returns-2
     (λ c.
     let at-wide3 = c .before .before .before in
     let at-first2 = at-wide3 .before in

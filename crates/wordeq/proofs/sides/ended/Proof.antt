@@ -5,4 +5,10 @@ use Rattle.wordeq.proofs.sides.ended.Statement.{statement}
 use Rattle.wordeq.proofs.sides.ended.Tie as tie
 
 pub ended-spec : {M : Type 1} → statement M
-ended-spec = tie.close (tie.spec (λ c. ended-before _ _ _ _ _ _ (c .if1 .taken)) (λ c κs. search needs) (λ c. let at-start = c .before .before .before .before .before .before in ended-after _ _ _ _ _ _ _ _ (at-start .pre) (c .before .before .if1 .left) (c .before .settle .ensures) refl))
+ended-spec = tie.close (tie.spec
+    -- returns
+    (λ c. ended-before _ _ _ _ _ _ (c .if1 .taken))
+    -- settle-requires
+    (λ c κs. search needs)
+    -- returns-2
+    (λ c. let at-start = c .before .before .before .before .before .before in ended-after _ _ _ _ _ _ _ _ (at-start .pre) (c .before .before .if1 .left) (c .before .settle .ensures) refl))

@@ -7,12 +7,17 @@ pub fill-count-spec : {M : Type 1} → statement M
 fill-count-spec =
     tie.close
     (tie.spec
+    -- kind-of-requires
     (λ c κs. search needs)
+    -- returns
     (λ c.
     let at-start = c .before .before .before in
     count-variable (at-start .args .terms .now) (at-start .args .c) (at-start .args .a) _ (c .before .kind-of .ensures) (c .if1 .taken) _)
+    -- second-requires
     (λ c κs. search needs)
+    -- wide-requires
     (λ c κs. search needs)
+    -- returns-2
     (λ c.
     let at-kind-of = c .before .before .before in
     let at-start = at-kind-of .before .before in

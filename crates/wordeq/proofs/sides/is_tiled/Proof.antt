@@ -27,40 +27,55 @@ is-tiled-spec =
     μ-loop
     Inv-atoms
     μ-atoms
+    -- atoms-holds
     (λ c. walked-none _ _ _ _ _ _ _)
+    -- mul-a
     (λ c. search needs)
+    -- shared-slice-read-a
     (λ c. search needs)
+    -- fill-count-requires
     (λ c κs. let at-start = c .before .before .before .before .before .before .before in at-start .pre .known .texts)
+    -- fill-start-requires
     (λ c κs. search needs)
+    -- fill-source-requires
     (λ c κs. search needs)
+    -- loop-holds
     (λ c.
     let at-atoms-test = c .before .before .before .before in
     let at-atoms = at-atoms-test .before in
     let at-start = at-atoms .before .before .before .before .before in
     filling-start _ _ _ _ _ _ _ _ _ _ _ _ _ (at-atoms .atoms .inv) (at-start .pre) (at-atoms-test .atoms-test .taken) refl (c .before .before .fill-count .ensures)
     (c .before .fill-start .ensures) (c .fill-source .ensures))
+    -- settle-requires
     (λ c κs.
     let at-start = c .before .before .before .before .before .before .before .before .before .before .before .before in
     at-start .pre .known .texts)
+    -- settle-requires-2
     (λ c κs.
     let at-start = c .before .before .before .before .before .before .before .before .before .before .before .before .before in
     at-start .pre .known .texts)
+    -- same-letter-requires
     (λ c κs.
     let at-start = c .before .before .before .before .before .before .before .before .before .before .before .before .before .before in
     (at-start .pre .known, c .before .settle .ensures .at, c .settle2 .ensures .at))
+    -- onward-requires
     (λ c κs.
     let at-settle = c .before .before .before in
     let at-start = at-settle .before .before .before .before .before .before .before .before .before .before .before .before .before in
     word-limit _ _ _ _ _ _ _ _ (at-start .pre .known) (c .before .same-letter .ensures) (c .if1 .left) (at-settle .settle .ensures .at)
     (c .before .before .settle2 .ensures .at))
+    -- onward-requires-2
     (λ c κs.
     let at-settle2 = c .before .before .before in
     let at-settle = at-settle2 .before in
     let at-start = at-settle .before .before .before .before .before .before .before .before .before .before .before .before .before in
     source-limit _ _ _ _ _ _ _ _ (at-start .pre .known) (c .before .before .same-letter .ensures) (c .before .if1 .left) (at-settle .settle .ensures .at)
     (at-settle2 .settle2 .ensures .at))
+    -- add-j
     (λ c. search needs)
+    -- loop-less
     (λ c. search needs)
+    -- loop-again
     (λ c.
     let at-same-letter = c .before .before .before in
     let at-settle2 = at-same-letter .before in
@@ -69,10 +84,15 @@ is-tiled-spec =
     let at-loop = at-loop-test .before in
     filling-one _ _ _ _ _ _ _ _ _ _ _ _ _ (at-loop .loop .inv) (at-loop-test .loop-test .taken) _ _ (at-settle .settle .ensures) (at-settle2 .settle2 .ensures) _
     (at-same-letter .same-letter .ensures) (c .before .before .if1 .left) _ _ (c .before .onward .ensures) (c .onward2 .ensures))
+    -- add-i
     (λ c. search needs)
+    -- atoms-less
     (λ c. search needs)
+    -- atoms-again
     (λ c. filling-end _ _ _ _ _ _ _ _ _ _ _ _ _ (c .before .loop .inv) (c .loop-test .left))
+    -- ended-requires
     (λ c κs. let at-start = c .before .before .before .before .before .before in at-start .pre .known .texts)
+    -- returns
     (λ c.
     let at-start = c .before .before .before .before .before .before .before in
     ⊎-elim (λ u. tiled-end _ _ _ _ _ _ _ _ _ _ (c .ended .ensures) _ (u .1) (c .before .before .atoms .inv) (u .0 .left))

@@ -19,19 +19,28 @@ letters-length-spec =
     (tie.spec
     Inv-loop
     μ-loop
+    -- loop-holds
     (λ c. counted-none _ _)
+    -- mul-letter-count
     (λ c. search needs)
+    -- shared-slice-read-letter-count
     (λ c. search needs)
+    -- letter-count-requires
     (λ c κs. search needs)
+    -- add-total
     (λ c.
     let at-loop = c .before .before .before in
     let at-start = at-loop .before .before .before in
     let z = counted-one _ _ _ _ _ _ (at-start .pre .0) (at-loop .loop .inv) (c .before .before .loop-test .taken) (c .letter-count .ensures) in
     let y = z .small in let x = z .within in let v = at-start .pre .1 in omega arith)
+    -- add-i
     (λ c. search needs)
+    -- loop-less
     (λ c. search needs)
+    -- loop-again
     (λ c.
     let at-loop = c .before .before .before in
     let at-start = at-loop .before .before .before in
     counted-one _ _ _ _ _ _ (at-start .pre .0) (at-loop .loop .inv) (c .before .before .loop-test .taken) (c .letter-count .ensures))
+    -- returns
     (λ c. counted-all _ _ _ _ (c .before .loop .inv) (c .loop-test .left)))

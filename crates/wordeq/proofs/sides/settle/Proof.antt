@@ -17,18 +17,27 @@ settle-spec =
     (tie.spec
     Inv-loop
     μ-loop
+    -- loop-holds
     (λ c. onward-none _ _ _ _ _)
+    -- mul-letter-count
     (λ c. search needs)
+    -- shared-slice-read-letter-count
     (λ c. search needs)
+    -- letter-count-requires
     (λ c κs. search needs)
+    -- returns
     (λ c.
     let at-loop = c .before .before .before .before in
     onward-here _ _ _ _ _ _ (at-loop .loop .inv) _ (c .before .letter-count .ensures) (c .if1 .taken))
+    -- add-i
     (λ c. search needs)
+    -- loop-less
     (λ c. search needs)
+    -- loop-again
     (λ c.
     let at-loop-test = c .before .before .before in
     let at-loop = at-loop-test .before in
     let at-start = at-loop .before .before .before in
     onward-atom _ _ _ (at-start .args .k) _ _ (at-loop .loop .inv) _ (c .before .letter-count .ensures) (at-start .pre) (at-loop-test .loop-test .taken) (c .if1 .left))
+    -- returns-2
     (λ c. onward-end _ _ _ _ _ _ (c .before .loop .inv) (c .loop-test .left)))

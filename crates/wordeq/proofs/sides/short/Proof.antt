@@ -8,10 +8,15 @@ pub short-spec : {M : Type 1} → statement M
 short-spec =
     tie.close
     (tie.spec
+    -- is-fixed-requires
     (λ c κs. search needs)
+    -- returns
     (λ c. short-not _ _ _ _ (c .before .is-fixed .ensures) (c .if1 .taken))
+    -- letters-length-requires
     (λ c κs. search needs)
+    -- letters-length-requires-2
     (λ c κs. search needs)
+    -- returns-2
     (λ c.
     let at-is-fixed = c .before .before .before in
     short-is _ _ _ _ (at-is-fixed .is-fixed .ensures) (c .before .before .if1 .left) _ _ (c .before .letters-length .ensures) (c .letters-length2 .ensures) _ refl))

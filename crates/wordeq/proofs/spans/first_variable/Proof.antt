@@ -22,20 +22,29 @@ first-variable-spec =
     (tie.spec
     Inv-loop
     μ-loop
+    -- loop-holds
     (λ c.
     let at-start = c .before .before in
     (omega arith, first-start (termed (at-start .args .terms .now) (at-start .args .c)) (at-start .args .side .now)))
+    -- mul-kind-of
     (λ c. search needs)
+    -- shared-slice-read-kind-of
     (λ c. search needs)
+    -- kind-of-requires
     (λ c κs. search needs)
+    -- returns
     (λ c.
     let at-loop-test = c .before .before .before in
     let at-loop = at-loop-test .before in
     first-here _ _ _ (at-loop .loop .inv .1) _ (at-loop-test .loop-test .taken) (c .before .kind-of .ensures) (c .if1 .taken))
+    -- add-i
     (λ c. search needs)
+    -- loop-less
     (λ c. search needs)
+    -- loop-again
     (λ c.
     let at-loop-test = c .before .before .before in
     let at-loop = at-loop-test .before in
     (omega arith, first-turn _ _ _ (at-loop .loop .inv .1) _ (at-loop-test .loop-test .taken) (c .before .kind-of .ensures) (c .if1 .left)))
+    -- returns-2
     (λ c. first-none _ _ _ (c .before .loop .inv .1) (c .before .loop .inv .0) (c .loop-test .left)))

@@ -7,23 +7,34 @@ pub fits-spec : {M : Type 1} → statement M
 fits-spec =
     tie.close
     (tie.spec
+    -- letters-length-requires
     (λ c κs. search needs)
+    -- letters-length-requires-2
     (λ c κs. search needs)
+    -- returns
     (λ c.
     let at-start = c .before .before .before .before .before .before .before in
     fits-over (at-start .args .terms .now) (at-start .args .chars .now) (at-start .args .c) (at-start .args .word .now) (at-start .args .side .now) (at-start .args .k) _ _
     (at-start .pre .0) (c .before .before .letters-length .ensures) (c .before .letters-length2 .ensures) (c .if1 .taken))
+    -- rem-if2
     (λ c. search needs)
+    -- returns-2
     (λ c.
     let at-letters-length = c .before .before .before in
     let at-start = at-letters-length .before .before .before .before .before in
     fits-uneven (at-start .args .terms .now) (at-start .args .chars .now) (at-start .args .c) (at-start .args .word .now) (at-start .args .side .now) (at-start .args .k) _ _
     (at-start .pre .0) (at-letters-length .letters-length .ensures) (c .before .before .letters-length2 .ensures) (c .before .if1 .left) (c .if2 .taken))
+    -- div-m
     (λ c. search needs)
+    -- sub-letters-length
     (λ c. search needs)
+    -- part-letters-length-start
     (λ c. search needs)
+    -- part-letters-length-end
     (λ c. search needs)
+    -- letters-length-requires-3
     (λ c κs. search needs)
+    -- is-tiled-requires
     (λ c κs.
     let at-if1 = c .before .before .before in
     let at-letters-length2 = at-if1 .before in
@@ -32,6 +43,7 @@ fits-spec =
     span-there (at-start .args .terms .now) (at-start .args .chars .now) (at-start .args .c) (at-start .args .word .now) (at-start .args .side .now) (at-start .args .k) _ _
     (at-start .pre .0) (at-letters-length .letters-length .ensures) (at-letters-length2 .letters-length2 .ensures) (at-if1 .if1 .left) (at-start .args .i) (at-start .pre .3) _
     (c .letters-length3 .ensures))
+    -- returns-3
     (λ c.
     let at-if2 = c .before .before .before in
     let at-if1 = at-if2 .before in

@@ -10,13 +10,21 @@ pub is-unfit-spec : {M : Type 1} → statement M
 is-unfit-spec =
     tie.close
     (tie.spec
+    -- add-later
     (λ c. search needs)
+    -- mul-later
     (λ c. search needs)
+    -- sub-later
     (λ c. search needs)
+    -- part-later-start
     (λ c. search needs)
+    -- part-later-end
     (λ c. search needs)
+    -- mul-all-agree
     (λ c. search needs)
+    -- shared-slice-read-all-agree
     (λ c. search needs)
+    -- all-agree-requires
     (λ c κs.
     let at-start = c .before .before .before .before .before .before in (
       at-start .pre .0,
@@ -27,16 +35,20 @@ is-unfit-spec =
             (at-start .pre .1 .3),
       ),
     ))
+    -- returns
     (λ c.
     let at-start = c .before .before .before .before .before .before .before .before in
     unfit-apart (at-start .args .terms .now) (at-start .args .chars .now) (at-start .args .c) (at-start .args .word .now) (at-start .args .side .now) (at-start .args .i) _
     (c .before .all-agree .ensures) (c .if1 .taken))
+    -- variables-length-requires
     (λ c κs. search needs)
+    -- add-k
     (λ c.
     let at-start = c .before .before .before .before .before .before .before .before .before in
     (let z = after-short (termed (at-start .args .terms .now) (at-start .args .c)) (at-start .args .side .now) (at-start .args .i) _ (at-start .pre .1 .3)
     (c .variables-length .ensures) in
     let y = list-short (readIn (at-start .args .terms .now) (at-start .args .chars .now) (at-start .args .c)) (at-start .args .side .now) (at-start .pre .1 .1) in omega arith))
+    -- fits-requires
     (λ c κs.
     let at-start = c .before .before .before .before .before .before .before .before .before in (
       readable-readIn (at-start .args .terms .now) (at-start .args .chars .now) (at-start .args .c) (at-start .pre .0),
@@ -45,6 +57,7 @@ is-unfit-spec =
       at-start .pre .1 .2,
       omega arith,
     ))
+    -- returns-2
     (λ c.
     let at-all-agree = c .before .before .before in
     let at-start = at-all-agree .before .before .before .before .before .before .before in

@@ -9,11 +9,14 @@ pub tile-sides-spec : {M : Type 1} → statement M
 tile-sides-spec =
     tie.close
     (tie.spec
+    -- first-variable-requires
     (λ c κs. search needs)
+    -- returns
     (λ c.
     let at-start = c .before .before .before .before .before .before .before .before .before in
     tile-none (at-start .args .terms .now) (at-start .args .cells .now) (at-start .args .chars .now) (at-start .args .reasons .now) (at-start .args .keys .now)
     (at-start .args .c) (at-start .args .word .now) (at-start .args .side .now) _ (c .before .first-variable .ensures) (c .if1 .taken))
+    -- is-unfit-requires
     (λ c κs.
     let at-start = c .before .before .before .before .before .before .before .before .before in (
       record { cells = at-start .args .cells .now; reasons = at-start .args .reasons .now; keys = at-start .args .keys .now; ready = at-start .pre .0 },
@@ -27,19 +30,28 @@ tile-sides-spec =
         c .if1 .left,
       ),
     ))
+    -- returns-2
     (λ c.
     let at-first-variable = c .before .before .before in
     let at-start = at-first-variable .before .before .before .before .before .before .before .before in
     tile-fits (at-start .args .terms .now) (at-start .args .cells .now) (at-start .args .chars .now) (at-start .args .reasons .now) (at-start .args .keys .now)
     (at-start .args .c) (at-start .args .word .now) (at-start .args .side .now) _ (at-first-variable .first-variable .ensures) (c .before .before .if1 .left) _
     (c .before .is-unfit .ensures) (c .if2 .taken))
+    -- add-later
     (λ c. search needs)
+    -- mul-later
     (λ c. search needs)
+    -- sub-later
     (λ c. search needs)
+    -- part-later-start
     (λ c. search needs)
+    -- part-later-end
     (λ c. search needs)
+    -- mul-explain-all-unchecked
     (λ c. search needs)
+    -- shared-slice-read-explain-all-unchecked
     (λ c. search needs)
+    -- explain-all-unchecked-requires
     (λ c κs.
     let at-if2 = c .before .before .before in
     let at-is-unfit = at-if2 .before in
@@ -56,9 +68,13 @@ tile-sides-spec =
             (at-is-unfit .is-unfit .ensures) (at-if2 .if2 .left),
       ),
     ))
+    -- enum-known-d
     (λ c. search needs)
+    -- enum-known-k
     (λ c. search needs)
+    -- same-length
     (λ c. search needs)
+    -- returns-3
     (λ c.
     let at-explain-all-unchecked = c .before .before .before .before .before in
     let at-if2 = at-explain-all-unchecked .before .before .before .before in
@@ -69,7 +85,9 @@ tile-sides-spec =
     tile-conflict (at-start .args .terms .now) (at-start .args .cells .now) (at-start .args .chars .now) (at-start .args .reasons .now) (at-start .args .keys .now)
     (at-start .args .c) (at-start .args .word .now) (at-start .args .side .now) _ (at-first-variable .first-variable .ensures) (at-if1 .if1 .left) _
     (at-is-unfit .is-unfit .ensures) (at-if2 .if2 .left) _ _ (at-explain-all-unchecked .explain-all-unchecked .ensures) _ (c .before .d .given .1))
+    -- same-length-2
     (λ c. search needs)
+    -- returns-4
     (λ c.
     let at-explain-all-unchecked = c .before .before .before .before .before in
     let at-if2 = at-explain-all-unchecked .before .before .before .before in

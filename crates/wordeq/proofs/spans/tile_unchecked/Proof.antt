@@ -8,8 +8,11 @@ pub tile-unchecked-spec : {M : Type 1} → statement M
 tile-unchecked-spec =
     tie.close
     (tie.spec
+    -- constant-side-requires
     (λ c κs. search needs)
+    -- other-side-requires
     (λ c κs. search needs)
+    -- tile-sides-requires
     (λ c κs.
     let at-start = c .before .before .before .before .before .before .before .before .before .before in (
       at-start .pre .0,
@@ -17,7 +20,9 @@ tile-unchecked-spec =
           (at-start .args .c) (at-start .args .lhs .now) (at-start .args .rhs .now) _ _ (c .before .before .constant-side .ensures) (c .before .other-side .ensures)
           (at-start .pre .1),
     ))
+    -- same-length
     (λ c. search needs)
+    -- returns
     (λ c.
     let at-other-side = c .before .before .before .before in
     let at-constant-side = at-other-side .before in

@@ -19,18 +19,27 @@ variables-length-spec =
     (tie.spec
     Inv-loop
     μ-loop
+    -- loop-holds
     (λ c. tallied-none _ _)
+    -- mul-variable-count
     (λ c. search needs)
+    -- shared-slice-read-variable-count
     (λ c. search needs)
+    -- variable-count-requires
     (λ c κs. search needs)
+    -- add-total
     (λ c.
     let at-loop = c .before .before .before in
     let at-start = at-loop .before .before .before in
     let z = tallied-one _ _ _ _ _ (at-loop .loop .inv) (c .before .before .loop-test .taken) (c .variable-count .ensures) in
     let y = z .small in let x = z .within in omega (arith, at-start .good))
+    -- add-i
     (λ c. search needs)
+    -- loop-less
     (λ c. search needs)
+    -- loop-again
     (λ c.
     let at-loop = c .before .before .before in
     tallied-one _ _ _ _ _ (at-loop .loop .inv) (c .before .before .loop-test .taken) (c .variable-count .ensures))
+    -- returns
     (λ c. tallied-all _ _ _ _ (c .before .loop .inv) (c .loop-test .left)))

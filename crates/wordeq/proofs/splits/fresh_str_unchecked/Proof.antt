@@ -7,10 +7,15 @@ pub fresh-str-unchecked-spec : {M : Type 1} → statement M
 fresh-str-unchecked-spec =
     tie.close
     (tie.spec
+    -- next-name-unchecked-requires
     (λ c κs. search needs)
+    -- same-length
     (λ c. search needs)
+    -- same-length-2
     (λ c. search needs)
+    -- returns
     (λ c. named-stop _ (c .before .before .next-name-unchecked .ensures) (c .if1 .taken))
+    -- make-named-requires
     (λ c κs.
     let at-if1 = c .before .before .before .before in
     let at-next-name-unchecked = at-if1 .before .before in
@@ -18,8 +23,11 @@ fresh-str-unchecked-spec =
       named-ready _ (at-next-name-unchecked .next-name-unchecked .ensures) (at-start .pre) (at-if1 .if1 .left),
       (at-next-name-unchecked .next-name-unchecked .ensures .fits, named-new _ (at-next-name-unchecked .next-name-unchecked .ensures) (at-if1 .if1 .left)),
     ))
+    -- same-length-3
     (λ c. search needs)
+    -- same-length-4
     (λ c. search needs)
+    -- returns-2
     (λ c.
     let at-make-named = c .before .before .before .before in
     let at-if1 = at-make-named .before .before .before .before .before in

@@ -12,16 +12,21 @@ pub prefix-unchecked-spec : {M : Type 1} → statement M
 prefix-unchecked-spec =
     tie.close
     (tie.spec
+    -- fresh-str-unchecked-requires
     (λ c κs. search needs)
+    -- enum-known-fresh
     (λ c. search needs)
     slice-aggregate-make-concatenation-unchecked
+    -- make-concatenation-unchecked-requires
     (λ c κs.
     let at-fresh = c .before .before .before .before .before in
     let at-fresh-str-unchecked = at-fresh .before .before .before .before .before .before in
     let at-start = at-fresh-str-unchecked .before .before .before .before .before .before .before .before .before in
     prefix-ready (at-start .pre .0) (at-fresh-str-unchecked .fresh-str-unchecked .kept .0) refl (at-fresh-str-unchecked .fresh-str-unchecked .ensures)
     (at-fresh .fresh .given .1))
+    -- enum-known-whole
     (λ c. search needs)
+    -- make-equation-unchecked-requires
     (λ c κs.
     let at-whole = c .before .before .before .before in
     let at-make-concatenation-unchecked = at-whole .before .before .before .before .before .before in
@@ -32,16 +37,22 @@ prefix-unchecked-spec =
     (at-fresh .fresh .given .1) _ (at-start .pre .1) (at-make-concatenation-unchecked .make-concatenation-unchecked .kept .0)
     (at-make-concatenation-unchecked .make-concatenation-unchecked .kept .1 .0) (at-make-concatenation-unchecked .make-concatenation-unchecked .ensures)
     (at-whole .whole .given .1))
+    -- enum-known-whole-2
     (λ c. search needs)
+    -- enum-known-fresh-2
     (λ c. search needs)
+    -- same-length
     (λ c.
     let at-make-concatenation-unchecked = c .before .before .before .before .before .before .before .before .before .before .before .before .before in
     let at-fresh-str-unchecked = at-make-concatenation-unchecked .before .before .before .before .before .before .before .before .before .before .before .before in
     c .before .before .make-equation-unchecked .kept .0
     ∙ at-make-concatenation-unchecked .make-concatenation-unchecked .kept .0
     ∙ at-fresh-str-unchecked .fresh-str-unchecked .kept .0)
+    -- same-length-2
     (λ c. search needs)
+    -- same-length-3
     (λ c. search needs)
+    -- returns
     (λ c.
     let at-whole = c .before .before .before .before .before .before .before in
     let at-make-concatenation-unchecked = at-whole .before .before .before .before .before .before in
@@ -49,18 +60,26 @@ prefix-unchecked-spec =
     let at-fresh-str-unchecked = at-fresh .before .before .before .before .before .before in
     prefix-done _ _ (at-fresh-str-unchecked .fresh-str-unchecked .ensures) (at-fresh .fresh .given .1) (at-make-concatenation-unchecked .make-concatenation-unchecked .ensures)
     (at-whole .whole .given .1) (c .before .before .make-equation-unchecked .ensures))
+    -- same-length-4
     (λ c. search needs)
+    -- same-length-5
     (λ c. search needs)
+    -- same-length-6
     (λ c. search needs)
+    -- returns-2
     (λ c.
     let at-make-concatenation-unchecked = c .before .before .before .before .before .before .before in
     let at-fresh = at-make-concatenation-unchecked .before .before .before .before .before .before in
     let at-fresh-str-unchecked = at-fresh .before .before .before .before .before .before in
     prefix-stop-2 _ _ (at-fresh-str-unchecked .fresh-str-unchecked .ensures) (at-fresh .fresh .given .1)
     (at-make-concatenation-unchecked .make-concatenation-unchecked .ensures) (c .before .whole2 .given .1))
+    -- same-length-7
     (λ c. search needs)
+    -- same-length-8
     (λ c. search needs)
+    -- same-length-9
     (λ c. search needs)
+    -- returns-3
     (λ c.
     let at-fresh-str-unchecked = c .before .before .before .before .before .before .before in
     prefix-stop _ _ (at-fresh-str-unchecked .fresh-str-unchecked .ensures) (c .before .fresh2 .given .1)))

@@ -9,8 +9,11 @@ pub put-prefixes-spec : {M : Type 1} → statement M
 put-prefixes-spec =
     tie.close
     (tie.spec
+    -- prefix-unchecked-requires
     (λ c κs. search needs)
+    -- enum-known-first
     (λ c. search needs)
+    -- prefix-unchecked-requires-2
     (λ c κs.
     let at-first = c .before .before .before .before in
     let at-prefix-unchecked = at-first .before .before .before .before .before .before .before .before in
@@ -19,22 +22,33 @@ put-prefixes-spec =
           (at-prefix-unchecked .prefix-unchecked .kept .0) (at-prefix-unchecked .prefix-unchecked .kept .1 .0),
       prefixes-string _ _ (at-start .pre .0) (at-start .pre .1 .0) (at-start .pre .1 .1 .0) (at-prefix-unchecked .prefix-unchecked .ensures) (at-first .first .given .1),
     ))
+    -- enum-known-second
     (λ c. search needs)
+    -- slice-write-list
     (λ c.
     let at-start = c .before .before .before .before .before .before .before .before .before .before .before .before .before .before .before .before .before .before .before .before .before .before .before .before .before .before .before .before .before .before .before .before in
     let h = at-start .pre .1 .1 .1 in omega arith)
+    -- slice-write-list-2
     (λ c.
     let at-start = c .before .before .before .before .before .before .before .before .before .before .before .before .before .before .before .before .before .before .before .before .before .before .before .before .before .before .before .before .before .before .before .before in
     let h = at-start .pre .1 .1 .1 in simp length-set (omega arith))
+    -- slice-write-list-3
     (λ c.
     let at-start = c .before .before .before .before .before .before .before .before .before .before .before .before .before .before .before .before .before .before .before .before .before .before .before .before .before .before .before .before .before .before .before .before in
     let h = at-start .pre .1 .1 .1 in simp length-set (omega arith))
+    -- enum-known-second-2
     (λ c. search needs)
+    -- enum-known-first-2
     (λ c. search needs)
+    -- same-length
     (λ c. search needs)
+    -- same-length-2
     (λ c. search needs)
+    -- same-length-3
     (λ c. search needs)
+    -- same-length-4
     (λ c. search needs)
+    -- returns
     (λ c.
     let at-prefix-unchecked2 = c .before .before .before .before .before .before .before .before .before in
     let at-first = at-prefix-unchecked2 .before .before .before .before .before in
@@ -42,18 +56,26 @@ put-prefixes-spec =
     let at-start = at-prefix-unchecked .before .before .before .before .before .before .before .before .before .before in
     prefixes-done _ _ _ (at-prefix-unchecked .prefix-unchecked .ensures) (at-first .first .given .1) (at-prefix-unchecked2 .prefix-unchecked2 .ensures)
     (at-start .args .list .now) (at-start .pre .1 .1 .1) (c .before .second .given .1))
+    -- same-length-5
     (λ c. search needs)
+    -- same-length-6
     (λ c. search needs)
+    -- same-length-7
     (λ c. search needs)
+    -- returns-2
     (λ c.
     let at-prefix-unchecked2 = c .before .before .before .before .before .before .before .before .before in
     let at-first = at-prefix-unchecked2 .before .before .before .before .before in
     let at-prefix-unchecked = at-first .before .before .before .before .before .before .before .before in
     prefixes-stop-2 _ _ _ (at-prefix-unchecked .prefix-unchecked .ensures) (at-first .first .given .1) (at-prefix-unchecked2 .prefix-unchecked2 .ensures)
     (c .before .second2 .given .1))
+    -- same-length-8
     (λ c. search needs)
+    -- same-length-9
     (λ c. search needs)
+    -- same-length-10
     (λ c. search needs)
+    -- returns-3
     (λ c.
     let at-prefix-unchecked = c .before .before .before .before .before .before .before .before .before in
     prefixes-stop _ _ _ (at-prefix-unchecked .prefix-unchecked .ensures) (c .before .first2 .given .1)))

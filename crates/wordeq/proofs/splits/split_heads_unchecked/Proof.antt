@@ -8,8 +8,11 @@ pub split-heads-unchecked-spec : {M : Type 1} → statement M
 split-heads-unchecked-spec =
     tie.close
     (tie.spec
+    -- lengths-unchecked-requires
     (λ c κs. search needs)
+    -- enum-known-lengths
     (λ c. search needs)
+    -- put-prefixes-requires
     (λ c κs.
     let at-lengths = c .before .before .before .before .before in
     let at-lengths-unchecked = at-lengths .before .before .before .before in
@@ -25,19 +28,29 @@ split-heads-unchecked-spec =
         ),
       ),
     ))
+    -- enum-known-lengths-2
     (λ c. search needs)
+    -- same-length
     (λ c. search needs)
+    -- same-length-2
     (λ c. search needs)
+    -- same-length-3
     (λ c. search needs)
+    -- same-length-4
     (λ c. search needs)
+    -- returns
     (λ c.
     let at-put-prefixes = c .before .before .before .before .before .before .before .before in
     let at-lengths = at-put-prefixes .before .before .before .before .before .before in
     let at-lengths-unchecked = at-lengths .before .before .before .before in
     heads-done _ _ (at-lengths-unchecked .lengths-unchecked .ensures) (at-lengths .lengths .given .1) (at-put-prefixes .put-prefixes .ensures))
+    -- same-length-5
     (λ c. search needs)
+    -- same-length-6
     (λ c. search needs)
+    -- same-length-7
     (λ c. search needs)
+    -- returns-2
     (λ c.
     let at-lengths-unchecked = c .before .before .before .before .before in
     heads-stop _ _ (at-lengths-unchecked .lengths-unchecked .ensures) (c .before .lengths2 .given .1)))

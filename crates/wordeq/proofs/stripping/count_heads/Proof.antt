@@ -19,14 +19,21 @@ count-heads-spec =
     (tie.spec
     Inv-loop
     μ-loop
+    -- shorter-requires
     (λ c κs. search needs)
+    -- loop-holds
     (λ c.
     let at-start = c .before .before .before .before .before in
     (omega arith, counted-none _ (λ k. drop k (at-start .args .lhs .now)) (λ k. drop k (at-start .args .rhs .now))))
+    -- mul-same-unchecked
     (λ c. search needs)
+    -- shared-slice-read-same-unchecked
     (λ c. let at-shorter = c .before .before .before in below-left _ _ _ _ (at-shorter .shorter .ensures) (c .before .loop-test .taken))
+    -- mul-same-unchecked-2
     (λ c. search needs)
+    -- shared-slice-read-same-unchecked-2
     (λ c. let at-shorter = c .before .before .before .before in below-right _ _ _ _ (at-shorter .shorter .ensures) (c .before .before .loop-test .taken))
+    -- same-unchecked-requires
     (λ c κs.
     let at-loop-test = c .before .before in
     let at-shorter = at-loop-test .before .before in
@@ -35,6 +42,7 @@ count-heads-spec =
       strings-pair _ (at-start .args .lhs .now) (at-start .args .rhs .now) (at-start .pre .1 .0) (at-start .pre .1 .1) _ _
           (below-left _ _ _ _ (at-shorter .shorter .ensures) (at-loop-test .loop-test .taken)) (below-right _ _ _ _ (at-shorter .shorter .ensures) (at-loop-test .loop-test .taken)),
     ))
+    -- returns
     (λ c.
     let at-loop-test = c .before .before .before .before in
     let at-loop = at-loop-test .before in
@@ -43,8 +51,11 @@ count-heads-spec =
     count-stop _ (λ k. drop k (at-start .args .lhs .now)) (λ k. drop k (at-start .args .rhs .now)) (at-loop .loop .inv .1) _ _
     (drop-head _ _ (below-left _ _ _ _ (at-shorter .shorter .ensures) (at-loop-test .loop-test .taken)))
     (drop-head _ _ (below-right _ _ _ _ (at-shorter .shorter .ensures) (at-loop-test .loop-test .taken))) _ (c .before .same-unchecked .ensures) (c .if1 .taken))
+    -- add-i
     (λ c. search needs)
+    -- loop-less
     (λ c. let at-loop-test = c .before .before .before .before in (let p = at-loop-test .loop-test .taken in omega arith))
+    -- loop-again
     (λ c.
     let at-loop-test = c .before .before .before .before in
     let at-loop = at-loop-test .before in
@@ -55,6 +66,7 @@ count-heads-spec =
           (drop-head _ _ (below-left _ _ _ _ (at-shorter .shorter .ensures) (at-loop-test .loop-test .taken)))
           (drop-head _ _ (below-right _ _ _ _ (at-shorter .shorter .ensures) (at-loop-test .loop-test .taken))) _ (c .before .same-unchecked .ensures) (c .if1 .left),
     ))
+    -- returns-2
     (λ c.
     let at-start = c .before .before .before .before .before .before .before in
     heads-all (at-start .args .lhs .now) (at-start .args .rhs .now) _ _ _ (c .before .before .shorter .ensures) (c .before .loop .inv .0) (c .loop-test .left) (c .before .loop .inv .1)))

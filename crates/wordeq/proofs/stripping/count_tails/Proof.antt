@@ -20,35 +20,47 @@ count-tails-spec =
     (tie.spec
     Inv-loop
     μ-loop
+    -- shorter-requires
     (λ c κs. search needs)
+    -- loop-holds
     (λ c.
     let at-start = c .before .before .before .before .before in
     (omega arith, counted-none _ (tail (at-start .args .lhs .now) (at-start .args .from)) (tail (at-start .args .rhs .now) (at-start .args .from))))
+    -- sub-loop
     (λ c.
     let at-start = c .before .before .before .before .before .before in
     (let q = c .before .shorter .ensures in let o = at-start .pre .1 .1 .1 in omega arith))
+    -- sub-x
     (λ c.
     let at-shorter = c .before .before in
     (let p = (below-tails _ _ _ _ _ (at-shorter .shorter .ensures) (c .loop-test .taken)) .0 in omega arith))
+    -- sub-x-2
     (λ c.
     let at-shorter = c .before .before in
     (let p = (below-tails _ _ _ _ _ (at-shorter .shorter .ensures) (c .loop-test .taken)) .0 in omega arith))
+    -- mul-x
     (λ c. search needs)
+    -- shared-slice-read-x
     (λ c.
     let at-shorter = c .before .before .before in
     let at-start = at-shorter .before .before .before .before .before in
     last-below _ (at-start .args .from) _ ((below-tails _ _ _ _ _ (at-shorter .shorter .ensures) (c .before .loop-test .taken)) .0))
+    -- sub-y
     (λ c.
     let at-shorter = c .before .before .before in
     (let p = (below-tails _ _ _ _ _ (at-shorter .shorter .ensures) (c .before .loop-test .taken)) .1 in omega arith))
+    -- sub-y-2
     (λ c.
     let at-shorter = c .before .before .before in
     (let p = (below-tails _ _ _ _ _ (at-shorter .shorter .ensures) (c .before .loop-test .taken)) .1 in omega arith))
+    -- mul-y
     (λ c. search needs)
+    -- shared-slice-read-y
     (λ c.
     let at-shorter = c .before .before .before .before in
     let at-start = at-shorter .before .before .before .before .before in
     last-below _ (at-start .args .from) _ ((below-tails _ _ _ _ _ (at-shorter .shorter .ensures) (c .before .before .loop-test .taken)) .1))
+    -- same-unchecked-requires
     (λ c κs.
     let at-loop-test = c .before .before in
     let at-shorter = at-loop-test .before .before in
@@ -58,6 +70,7 @@ count-tails-spec =
       strings-pair _ (at-start .args .lhs .now) (at-start .args .rhs .now) (at-start .pre .1 .0) (at-start .pre .1 .1 .0) _ _
           (last-below _ (at-start .args .from) _ (within .0)) (last-below _ (at-start .args .from) _ (within .1)),
     ))
+    -- returns
     (λ c.
     let at-loop-test = c .before .before .before .before in
     let at-loop = at-loop-test .before in
@@ -67,8 +80,11 @@ count-tails-spec =
     count-stop _ (tail (at-start .args .lhs .now) (at-start .args .from)) (tail (at-start .args .rhs .now) (at-start .args .from)) (at-loop .loop .inv .1) _ _
     (tail-head (at-start .args .lhs .now) (at-start .args .from) _ (within .0)) (tail-head (at-start .args .rhs .now) (at-start .args .from) _ (within .1)) _
     (c .before .same-unchecked .ensures) (c .if1 .taken) ∙ ap length (tails-are (at-start .args .lhs .now) (at-start .args .rhs .now) (readIn (at-start .args .terms .now) (at-start .args .chars .now) (at-start .args .c)) (at-start .args .from)))
+    -- add-i
     (λ c. search needs)
+    -- loop-less
     (λ c. let at-loop-test = c .before .before .before .before in (let p = at-loop-test .loop-test .taken in omega arith))
+    -- loop-again
     (λ c.
     let at-loop-test = c .before .before .before .before in
     let at-loop = at-loop-test .before in
@@ -80,6 +96,7 @@ count-tails-spec =
           (tail-head (at-start .args .lhs .now) (at-start .args .from) _ (within .0)) (tail-head (at-start .args .rhs .now) (at-start .args .from) _ (within .1)) _
           (c .before .same-unchecked .ensures) (c .if1 .left),
     ))
+    -- returns-2
     (λ c.
     let at-shorter = c .before .before in
     let at-start = at-shorter .before .before .before .before .before in

@@ -20,33 +20,39 @@ explain-heads-spec =
     (tie.spec
     Inv-loop
     μ-loop
+    -- loop-holds
     (λ c.
     let at-start = c .before .before .before .before .before .before .before in
     (omega arith, (refl, matching-none (at-start .args .terms .now) (at-start .args .cells .now) (at-start .args .chars .now) (at-start .args .keys .now) (λ k. drop k (at-start .args .lhs .now)) (λ k. drop k (at-start .args .rhs .now)) (at-start .pre .0))))
+    -- mul-a
     (λ c.
     let at-loop-test = c in
     let at-loop = at-loop-test .before in
     let at-start = at-loop .before .before .before .before .before .before .before .before in
     let within = heads-within (at-start .args .lhs .now) (at-start .args .rhs .now) (readIn (at-start .args .terms .now) (at-start .args .chars .now) (at-start .args .c)) _ _ (at-start .pre .1 .1 .1) (at-loop-test .loop-test .taken) in
     let p = within .0 in search needs)
+    -- shared-slice-read-a
     (λ c.
     let at-loop-test = c .before in
     let at-loop = at-loop-test .before in
     let at-start = at-loop .before .before .before .before .before .before .before .before in
     let within = heads-within (at-start .args .lhs .now) (at-start .args .rhs .now) (readIn (at-start .args .terms .now) (at-start .args .chars .now) (at-start .args .c)) _ _ (at-start .pre .1 .1 .1) (at-loop-test .loop-test .taken) in
     (within .0))
+    -- mul-b
     (λ c.
     let at-loop-test = c .before in
     let at-loop = at-loop-test .before in
     let at-start = at-loop .before .before .before .before .before .before .before .before in
     let within = heads-within (at-start .args .lhs .now) (at-start .args .rhs .now) (readIn (at-start .args .terms .now) (at-start .args .chars .now) (at-start .args .c)) _ _ (at-start .pre .1 .1 .1) (at-loop-test .loop-test .taken) in
     let p = within .1 in search needs)
+    -- shared-slice-read-b
     (λ c.
     let at-loop-test = c .before .before in
     let at-loop = at-loop-test .before in
     let at-start = at-loop .before .before .before .before .before .before .before .before in
     let within = heads-within (at-start .args .lhs .now) (at-start .args .rhs .now) (readIn (at-start .args .terms .now) (at-start .args .chars .now) (at-start .args .c)) _ _ (at-start .pre .1 .1 .1) (at-loop-test .loop-test .taken) in
     (within .1))
+    -- explain-match-unchecked-requires
     (λ c κs.
     let at-loop-test = c .before .before .before in
     let at-loop = at-loop-test .before in
@@ -60,9 +66,13 @@ explain-heads-spec =
             (drop-head (at-start .args .lhs .now) _ (within .0)) (drop-head (at-start .args .rhs .now) _ (within .1)) (at-loop-test .loop-test .taken),
       ),
     ))
+    -- enum-known-e
     (λ c. search needs)
+    -- enum-known-k
     (λ c. search needs)
+    -- same-length
     (λ c. search needs)
+    -- returns
     (λ c.
     let at-explain-match-unchecked = c .before .before .before .before .before in
     let at-loop-test = at-explain-match-unchecked .before .before .before .before in
@@ -72,8 +82,11 @@ explain-heads-spec =
     matching-refused (at-start .args .terms .now) (at-start .args .cells .now) (at-start .args .chars .now) (at-start .args .keys .now)
     (λ k. drop k (at-start .args .lhs .now)) (λ k. drop k (at-start .args .rhs .now)) (at-loop .loop .inv .1 .1) _ (at-start .pre .1 .1 .1) _ _
     (drop-head (at-start .args .lhs .now) _ (within .0)) (drop-head (at-start .args .rhs .now) _ (within .1)) (at-loop-test .loop-test .taken) _ (at-explain-match-unchecked .explain-match-unchecked .ensures) _ (c .before .k .given .1))
+    -- add-i
     (λ c. search (needs, c .before .before .before .before .before .before .before .before .before .loop-test .taken, c .before .before .before .before .before .before .before .before .before .before .before .before .before .before .before .before .before .before .good))
+    -- loop-less
     (λ c. let at-loop-test = c .before .before .before .before .before .before .before .before .before in (let p = at-loop-test .loop-test .taken in omega arith))
+    -- loop-again
     (λ c. (
       let at-loop-test = c .before .before .before .before .before .before .before .before .before in let p = at-loop-test .loop-test .taken in omega arith,
       (
@@ -89,7 +102,9 @@ explain-heads-spec =
             (pair-of (at-start .args .terms .now) (at-start .args .cells .now) (at-start .args .chars .now) (at-start .args .keys .now) (at-loop .loop .inv .1 .1 .going) (at-start .args .lhs .now) (at-start .args .rhs .now) (at-start .pre .1 .0) (at-start .pre .1 .1 .0) _ _ (within .0) (within .1)),
       ),
     ))
+    -- same-length-2
     (λ c. search needs)
+    -- returns-2
     (λ c.
     let at-start = c .before .before .before .before .before .before .before .before .before in
     matching-end (at-start .args .terms .now) (at-start .args .cells .now) (at-start .args .chars .now) (at-start .args .keys .now)

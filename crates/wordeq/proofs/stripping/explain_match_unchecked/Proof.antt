@@ -7,9 +7,13 @@ pub explain-match-unchecked-spec : {M : Type 1} → statement M
 explain-match-unchecked-spec =
     tie.close
     (tie.spec
+    -- returns
     (λ c. match-number _ _ _ _ _ _ _ _ (c .if1 .taken))
+    -- both-constant-requires
     (λ c κs. search needs)
+    -- returns-2
     (λ c. match-constants _ _ _ _ _ _ _ _ (c .before .before .if1 .left) _ (c .before .both-constant .ensures) (c .if2 .taken))
+    -- explain-unchecked-requires
     (λ c κs.
     let at-if1 = c .before .before .before in
     let at-start = at-if1 .before .before .before .before .before .before in (
@@ -17,7 +21,9 @@ explain-match-unchecked-spec =
       match-arguments (at-start .args .terms .now) (at-start .args .cells .now) (at-start .args .chars .now) (at-start .args .reasons .now) (at-start .args .keys .now)
           (at-start .args .c) _ _ (at-if1 .if1 .left) _ (c .before .before .both-constant .ensures) (c .before .if2 .left) (at-start .pre .1 .0) (at-start .pre .1 .1),
     ))
+    -- same-length
     (λ c. search needs)
+    -- returns-3
     (λ c.
     let at-if2 = c .before .before .before .before in
     let at-both-constant = at-if2 .before in

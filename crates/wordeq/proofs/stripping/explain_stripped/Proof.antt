@@ -9,11 +9,15 @@ pub explain-stripped-spec : {M : Type 1} → statement M
 explain-stripped-spec =
     tie.close
     (tie.spec
+    -- sub-n
     (λ c. let at-start = c .before .before .before .before .before .before .before .before in let p = at-start .pre .1 .1 .1 .inside .1 in omega arith)
+    -- explain-heads-requires
     (λ c κs.
     let at-start = c .before .before .before .before .before .before .before .before .before in
     (at-start .pre .0, (at-start .pre .1 .0, (at-start .pre .1 .1 .0, at-start .pre .1 .1 .1 .heads))))
+    -- enum-known-d
     (λ c. search needs)
+    -- explain-tails-requires
     (λ c κs.
     let at-d = c .before .before in
     let at-explain-heads = at-d .before .before .before .before in
@@ -30,15 +34,20 @@ explain-stripped-spec =
         ),
       ),
     ))
+    -- enum-known-k
     (λ c. search needs)
+    -- same-length
     (λ c. search needs)
+    -- returns
     (λ c.
     let at-d = c .before .before .before .before .before in
     let at-explain-heads = at-d .before .before .before .before in
     let at-start = at-explain-heads .before .before .before .before .before .before .before .before .before .before in
     both-explained (at-start .args .terms .now) (at-start .args .cells .now) (at-start .args .chars .now) (at-start .args .keys .now)
     (at-start .args .lhs .now) (at-start .args .rhs .now) (at-start .args .rest) (at-start .pre .1 .1 .1) _ (at-explain-heads .explain-heads .ensures) _ (at-d .d .given .1) (at-start .pre .0) (at-start .pre .1 .0) (at-start .pre .1 .1 .0) _ (c .before .before .explain-tails .result) (c .before .before .explain-tails .ensures))
+    -- same-length-2
     (λ c. search needs)
+    -- returns-2
     (λ c.
     let at-explain-heads = c .before .before .before .before .before in
     let at-start = at-explain-heads .before .before .before .before .before .before .before .before .before .before in

@@ -20,47 +20,57 @@ explain-tails-spec =
     (tie.spec
     Inv-loop
     μ-loop
+    -- loop-holds
     (λ c.
     let at-start = c .before .before .before .before .before .before .before in
     (omega arith, (refl, matching-none (at-start .args .terms .now) (at-start .args .cells .now) (at-start .args .chars .now) (at-start .args .keys .now) (tail (at-start .args .lhs .now) (at-start .args .from)) (tail (at-start .args .rhs .now) (at-start .args .from)) (at-start .pre .0))))
+    -- sub-a
     (λ c.
     let at-loop-test = c in
     let at-loop = at-loop-test .before in
     let at-start = at-loop .before .before .before .before .before .before .before .before in
     let within = tails-within (at-start .args .lhs .now) (at-start .args .rhs .now) (readIn (at-start .args .terms .now) (at-start .args .chars .now) (at-start .args .c)) (at-start .args .from) _ _ (at-start .pre .1 .1 .1) (at-loop-test .loop-test .taken) in
     let p = within .0 in omega arith)
+    -- sub-a-2
     (λ c.
     let at-loop-test = c in
     let at-loop = at-loop-test .before in
     let at-start = at-loop .before .before .before .before .before .before .before .before in
     let within = tails-within (at-start .args .lhs .now) (at-start .args .rhs .now) (readIn (at-start .args .terms .now) (at-start .args .chars .now) (at-start .args .c)) (at-start .args .from) _ _ (at-start .pre .1 .1 .1) (at-loop-test .loop-test .taken) in
     let p = within .0 in omega arith)
+    -- mul-a
     (λ c. search needs)
+    -- shared-slice-read-a
     (λ c.
     let at-loop-test = c .before in
     let at-loop = at-loop-test .before in
     let at-start = at-loop .before .before .before .before .before .before .before .before in
     let within = tails-within (at-start .args .lhs .now) (at-start .args .rhs .now) (readIn (at-start .args .terms .now) (at-start .args .chars .now) (at-start .args .c)) (at-start .args .from) _ _ (at-start .pre .1 .1 .1) (at-loop-test .loop-test .taken) in
     (last-below _ (at-start .args .from) _ (within .0)))
+    -- sub-b
     (λ c.
     let at-loop-test = c .before in
     let at-loop = at-loop-test .before in
     let at-start = at-loop .before .before .before .before .before .before .before .before in
     let within = tails-within (at-start .args .lhs .now) (at-start .args .rhs .now) (readIn (at-start .args .terms .now) (at-start .args .chars .now) (at-start .args .c)) (at-start .args .from) _ _ (at-start .pre .1 .1 .1) (at-loop-test .loop-test .taken) in
     let p = within .1 in omega arith)
+    -- sub-b-2
     (λ c.
     let at-loop-test = c .before in
     let at-loop = at-loop-test .before in
     let at-start = at-loop .before .before .before .before .before .before .before .before in
     let within = tails-within (at-start .args .lhs .now) (at-start .args .rhs .now) (readIn (at-start .args .terms .now) (at-start .args .chars .now) (at-start .args .c)) (at-start .args .from) _ _ (at-start .pre .1 .1 .1) (at-loop-test .loop-test .taken) in
     let p = within .1 in omega arith)
+    -- mul-b
     (λ c. search needs)
+    -- shared-slice-read-b
     (λ c.
     let at-loop-test = c .before .before in
     let at-loop = at-loop-test .before in
     let at-start = at-loop .before .before .before .before .before .before .before .before in
     let within = tails-within (at-start .args .lhs .now) (at-start .args .rhs .now) (readIn (at-start .args .terms .now) (at-start .args .chars .now) (at-start .args .c)) (at-start .args .from) _ _ (at-start .pre .1 .1 .1) (at-loop-test .loop-test .taken) in
     (last-below _ (at-start .args .from) _ (within .1)))
+    -- explain-match-unchecked-requires
     (λ c κs.
     let at-loop-test = c .before .before .before in
     let at-loop = at-loop-test .before in
@@ -74,9 +84,13 @@ explain-tails-spec =
             (tail-head (at-start .args .lhs .now) (at-start .args .from) _ (within .0)) (tail-head (at-start .args .rhs .now) (at-start .args .from) _ (within .1)) (at-loop-test .loop-test .taken),
       ),
     ))
+    -- enum-known-e
     (λ c. search needs)
+    -- enum-known-k
     (λ c. search needs)
+    -- same-length
     (λ c. search needs)
+    -- returns
     (λ c.
     let at-explain-match-unchecked = c .before .before .before .before .before in
     let at-loop-test = at-explain-match-unchecked .before .before .before .before in
@@ -87,8 +101,11 @@ explain-tails-spec =
     (matching-refused (at-start .args .terms .now) (at-start .args .cells .now) (at-start .args .chars .now) (at-start .args .keys .now)
     (tail (at-start .args .lhs .now) (at-start .args .from)) (tail (at-start .args .rhs .now) (at-start .args .from)) (at-loop .loop .inv .1 .1) _ (tails-total (at-start .args .lhs .now) (at-start .args .rhs .now) (readIn (at-start .args .terms .now) (at-start .args .chars .now) (at-start .args .c)) (at-start .args .from) _ (at-start .pre .1 .1 .1)) _ _
     (tail-head (at-start .args .lhs .now) (at-start .args .from) _ (within .0)) (tail-head (at-start .args .rhs .now) (at-start .args .from) _ (within .1)) (at-loop-test .loop-test .taken) _ (at-explain-match-unchecked .explain-match-unchecked .ensures) _ (c .before .k .given .1)))
+    -- add-i
     (λ c. search (needs, c .before .before .before .before .before .before .before .before .before .loop-test .taken, c .before .before .before .before .before .before .before .before .before .before .before .before .before .before .before .before .before .before .good))
+    -- loop-less
     (λ c. let at-loop-test = c .before .before .before .before .before .before .before .before .before in (let p = at-loop-test .loop-test .taken in omega arith))
+    -- loop-again
     (λ c. (
       let at-loop-test = c .before .before .before .before .before .before .before .before .before in let p = at-loop-test .loop-test .taken in omega arith,
       (
@@ -104,7 +121,9 @@ explain-tails-spec =
             (pair-of (at-start .args .terms .now) (at-start .args .cells .now) (at-start .args .chars .now) (at-start .args .keys .now) (at-loop .loop .inv .1 .1 .going) (at-start .args .lhs .now) (at-start .args .rhs .now) (at-start .pre .1 .0) (at-start .pre .1 .1 .0) _ _ (last-below _ (at-start .args .from) _ (within .0)) (last-below _ (at-start .args .from) _ (within .1))),
       ),
     ))
+    -- same-length-2
     (λ c. search needs)
+    -- returns-2
     (λ c.
     let at-start = c .before .before .before .before .before .before .before .before .before in
     tails-explained (at-start .args .lhs .now) (at-start .args .rhs .now) (readIn (at-start .args .terms .now) (at-start .args .chars .now) (at-start .args .c)) (at-start .args .from)

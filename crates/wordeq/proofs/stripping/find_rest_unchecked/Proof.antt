@@ -9,7 +9,9 @@ pub find-rest-unchecked-spec : {M : Type 1} → statement M
 find-rest-unchecked-spec =
     tie.close
     (tie.spec
+    -- count-heads-requires
     (λ c κs. search needs)
+    -- count-tails-requires
     (λ c κs.
     let at-start = c .before .before .before .before .before in (
       at-start .pre .0,
@@ -21,12 +23,15 @@ find-rest-unchecked-spec =
         ),
       ),
     ))
+    -- sub-t9
     (λ c.
     let at-start = c .before .before .before .before .before .before in
     let p = tails-least (at-start .args .lhs .now) (at-start .args .rhs .now) (readIn (at-start .args .terms .now) (at-start .args .chars .now) (at-start .args .c)) (c .before .count-heads .result) _ (c .count-tails .ensures) .0 in omega arith)
+    -- sub-t11
     (λ c.
     let at-start = c .before .before .before .before .before .before in
     let p = tails-least (at-start .args .lhs .now) (at-start .args .rhs .now) (readIn (at-start .args .terms .now) (at-start .args .chars .now) (at-start .args .c)) (c .before .count-heads .result) _ (c .count-tails .ensures) .1 in omega arith)
+    -- returns
     (λ c.
     let at-start = c .before .before .before .before .before .before in
     found (at-start .args .lhs .now) (at-start .args .rhs .now) (readIn (at-start .args .terms .now) (at-start .args .chars .now) (at-start .args .c)) _ _ (c .before .count-heads .ensures) (c .count-tails .ensures)))

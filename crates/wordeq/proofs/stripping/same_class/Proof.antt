@@ -3,4 +3,10 @@ use Rattle.wordeq.proofs.stripping.same_class.Statement.{statement}
 use Rattle.wordeq.proofs.stripping.same_class.Tie as tie
 
 pub same-class-spec : {M : Type 1} → statement M
-same-class-spec = tie.close (tie.spec (λ c κs. let at-start = c .before .before in (string-within (at-start .pre .0) _ (at-start .pre .1 .one), roots-closed (at-start .pre .0))) (λ c κs. let at-start = c .before .before .before in (string-within (at-start .pre .0) _ (at-start .pre .1 .other), roots-closed (at-start .pre .0))) (λ c. let at-start = c .before .before .before .before in classes-compared (at-start .pre .0) _ _ _ _ (c .before .root-unchecked .ensures) (c .root-unchecked2 .ensures)))
+same-class-spec = tie.close (tie.spec
+    -- root-unchecked-requires
+    (λ c κs. let at-start = c .before .before in (string-within (at-start .pre .0) _ (at-start .pre .1 .one), roots-closed (at-start .pre .0)))
+    -- root-unchecked-requires-2
+    (λ c κs. let at-start = c .before .before .before in (string-within (at-start .pre .0) _ (at-start .pre .1 .other), roots-closed (at-start .pre .0)))
+    -- returns
+    (λ c. let at-start = c .before .before .before .before in classes-compared (at-start .pre .0) _ _ _ _ (c .before .root-unchecked .ensures) (c .root-unchecked2 .ensures)))
