@@ -6,21 +6,15 @@ use Prim.Native.Nat.{ℕ, zero, suc, _+_, _*_, _-_, _<_, _≤_}
 use native.Mathlib.Numerals.{add-one}
 use native.Mathlib.Nat.{add-assoc, add-zero}
 use native.Mathlib.Omega.{arith}
-use lib.ListN.{length, getD, set, take, drop, length-append}
+use lib.ListN.{length, getD, set, take, drop, length-append, drop-of-length-le}
 use lib.Seq.{drop-cons, take-suc, take-all, split-at}
 use borrow.Author.Tests.{not-true, not-false}
 use Rattle.records.specs.Lists.{table, concatMap, sameWord}
 use Rattle.records.specs.View.{span, textAt, termAt, lengths, charsView}
 use Rattle.records.specs.Working.Puts.{CharsPut, TextsWithin}
 use Rattle.records.proofs.Lists.{left-false, word-append, every-at, table-at, table-same, table-add, table-length, concatMap-append}
-use Rattle.records.proofs.Views.{part-span}
+use Rattle.records.proofs.Loops.{Summing, summing-turn}
 use Rattle.records.proofs.Refines.Texts.{Copied, copied-one, copied-all, put-both}
-
-drop-all : (j : ℕ) (us : List ℕ) → length us ≤ j → drop j us ≡ []
-drop-all zero [] q = refl
-drop-all zero (u ∷ us) q = absurd (omega arith)
-drop-all (suc j) [] q = refl
-drop-all (suc j) (u ∷ us) q = drop-all j us (omega arith)
 
 -- COUNTED
 
@@ -42,28 +36,17 @@ unfolding lengths
 lengths-at l ts i h = rw (drop-cons ts i 0 h)
 
 -- the sum of the first i
-pub record Summed (l ts : List ℕ) (total i : ℕ) : Type 0 where
-  pub within : i ≤ length ts
-  pub small : total ≤ 4294967295 * i
-  pub rest : total + lengths l (drop i ts) ≡ lengths l ts
-
-pub summed-none : (l ts : List ℕ) → Summed l ts 0 0
-summed-none l ts = record { within = omega arith; small = omega arith; rest = omega arith }
-
-pub summed-one : (l ts : List ℕ) (total i n : ℕ) → Summed l ts total i → i < length ts → n ≡ termAt l (getD ts i 0) .second → n ≤ 4294967295
-    → Summed l ts (total + n) (i + 1)
-summed-one l ts total i n a h e b =
-    let f = lengths-at l ts i h in
-    let g = a .rest in
-    let k = a .small in
-    record { within = omega arith; small = omega arith; rest = rw add-one (omega arith) }
-
-pub summed-all : (l ts : List ℕ) (total i : ℕ) → Summed l ts total i → length ts ≤ i → total ≡ lengths l ts
+pub lengths-none : (l : List ℕ) → lengths l [] ≡ 0
 unfolding lengths
-summed-all l ts total i a h =
-    let g : total + lengths l (drop i ts) ≡ lengths l ts = a .rest in
-    let z : drop i ts ≡ [] = drop-all i ts h in
-    let f : lengths l (drop i ts) ≡ 0 = rw z in omega arith
+lengths-none l = refl
+
+lengths-cons : (l : List ℕ) (t : ℕ) (ts : List ℕ) → lengths l (t ∷ ts) ≡ termAt l t .second + lengths l ts
+unfolding lengths
+lengths-cons l t ts = refl
+
+pub summed-one : (l ts : List ℕ) (total i n : ℕ) → Summing (lengths l) 4294967295 ts total i → i < length ts → n ≡ termAt l (getD ts i 0) .second → n ≤ 4294967295
+    → Summing (lengths l) 4294967295 ts (total + n) (i + 1)
+summed-one l ts total i n s h e b = summing-turn (lengths l) 4294967295 ts total i s (λ t. termAt l t .second) (lengths-cons l) n h e b
 
 -- COPIED within the slice, from below the place
 
@@ -110,7 +93,7 @@ matched-none l h ts p = record { within = omega arith; small = omega arith; rest
 module _ (l h ts : List ℕ) (p q i : ℕ) (m : Matched l h ts p q i) where
   pub matched-all : length ts ≤ i → true ≡ leftFrom l h ts p 0
   unfolding lengths concatMap sameWord table
-  matched-all b = let z : drop i ts ≡ [] = drop-all i ts b in rw z at (m .rest)
+  matched-all b = let z : drop i ts ≡ [] = drop-of-length-le ts b in rw z at (m .rest)
 
   module _ (b : i < length ts) (a n : ℕ) (ea : a ≡ termAt l (getD ts i 0) .first) (en : n ≡ termAt l (getD ts i 0) .second) (r : Bool) (same : r ≡ sameWord (span h q n) (span h a n)) where
     pub matched-stop : not r ≡ true → false ≡ leftFrom l h ts p 0

@@ -15,6 +15,7 @@ use Rattle.records.specs.Lists.{if_then_else_, any, keep}
 use Rattle.records.specs.Store.{Store, Term, kind, isConstant, text, root, sameClass}
 use Rattle.records.specs.View.{Lent, storeOf, readIn, termed, termAt}
 use Rattle.records.proofs.Lists.{both-left, decide}
+use Rattle.records.proofs.Loops.{Summing, summing-turn}
 use Rattle.wordeq.specs.Wordeq.{lettersOf, isFull, occurrence}
 use Rattle.wordeq.specs.Working.Sides.{Texts}
 use Rattle.wordeq.specs.Working.Occurring.{atPlace, ownCount}
@@ -73,25 +74,16 @@ module _ (p : ℕ → Bool) where
       go false ih = ih
 
 -- n of the first i
-pub record Fulls (s : Store) (l : List ℕ) (n i : ℕ) : Type 0 where
-  pub within : i ≤ length l
-  pub small : n ≤ i
-  pub rest : n + length (keep (isFull s) (drop i l)) ≡ length (keep (isFull s) l)
+abbrev pub fullCount : Store → List ℕ → ℕ
+fullCount s l = length (keep (isFull s) l)
 
-pub fulls-none : (s : Store) (l : List ℕ) → Fulls s l 0 0
-fulls-none s l = record { within = omega arith; small = omega arith; rest = omega arith }
-
-pub fulls-turn : (s : Store) (l : List ℕ) (n i k : ℕ) → Fulls s l n i → i < length l → k ≡ ownCount s (getD l i 0) → Fulls s l (n + k) (i + 1)
-fulls-turn s l n i k x q e =
-    let f : length (keep (isFull s) (drop i l)) ≡ ownCount s (getD l i 0) + length (keep (isFull s) (drop (i + 1) l)) = ap (λ (z : List ℕ). length (keep (isFull s) z)) (drop-head l i q) ∙ count-cons (isFull s) (getD l i 0) (drop (i + 1) l) in
-    let r = x .rest in
-    let m = x .small in
-    let b : k ≤ 1 = subst (λ (z : ℕ). z ≤ 1) (sym e) (one-most (isFull s) (getD l i 0)) in
-    record { within = omega arith; small = omega arith; rest = omega arith }
-
-pub fulls-all : (s : Store) (l : List ℕ) (n i : ℕ) → Fulls s l n i → length l ≤ i → n ≡ length (keep (isFull s) l)
+pub fulls-none : (s : Store) → fullCount s [] ≡ 0
 unfolding keep
-fulls-all s l n i x q = let r = x .rest in let e : length (keep (isFull s) (drop i l)) ≡ 0 = rw (drop-of-length-le l q) in omega arith
+fulls-none s = refl
+
+pub fulls-turn : (s : Store) (l : List ℕ) (n i k : ℕ) → Summing (fullCount s) 1 l n i → i < length l → k ≡ ownCount s (getD l i 0) → Summing (fullCount s) 1 l (n + k) (i + 1)
+fulls-turn s l n i k x q e =
+    summing-turn (fullCount s) 1 l n i x (ownCount s) (count-cons (isFull s)) k q e (subst (λ (z : ℕ). z ≤ 1) (sym e) (one-most (isFull s) (getD l i 0)))
 
 -- AT ANOTHER PLACE
 

@@ -15,6 +15,7 @@ use Rattle.records.specs.Lists.{if_then_else_, all, keep, concatMap, sameWord}
 use Rattle.records.specs.Store.{Store, kind, isConstant, isString, text}
 use Rattle.records.specs.View.{lent, storeOf, readIn, termed}
 use Rattle.records.proofs.Lists.{both-left, both-right, both-true, left-false, and-next, or-stop, or-next, clash, decide, all-append, all-every, every-at, concatMap-append}
+use Rattle.records.proofs.Loops.{Summing, summing-turn}
 use Rattle.wordeq.specs.Wordeq.{same, fixed, lettersOf, letters, filled, lead, forced, firstSpan, fits, variables}
 use Rattle.wordeq.specs.Working.Sides.{Spelled, rest, Tiling}
 use Rattle.wordeq.specs.Working.Stripping.{Pair}
@@ -107,39 +108,30 @@ variables-short s (a ∷ l) = go (isConstant s a) (variables-short s l)
     go false e = omega arith
 
 -- the variables of the first i atoms
-pub record Tallied (s : Store) (l : List ℕ) (total i : ℕ) : Type 0 where
-  pub within : i ≤ length l
-  pub small : total ≤ i
-  pub rest : total + length (variables s (drop i l)) ≡ length (variables s l)
+abbrev pub variableCount : Store → List ℕ → ℕ
+variableCount s l = length (variables s l)
 
-pub tallied-none : (s : Store) (l : List ℕ) → Tallied s l 0 0
-tallied-none s l = record { within = omega arith; small = omega arith; rest = omega arith }
-
-tally-at : (s : Store) (l : List ℕ) (i n : ℕ) → i < length l → n ≡ (if isConstant s (getD l i 0) then 0 else 1) → (n ≤ 1) × (length (variables s (drop i l)) ≡ n + length (variables s (drop (suc i) l)))
+pub tally-none : (s : Store) → variableCount s [] ≡ 0
 unfolding keep
-tally-at s l i n q e =
-    decide (isConstant s (getD l i 0))
-    (λ z.
-    let d : n ≡ 0 = rw z at e in
-    let g : length (variables s (drop i l)) ≡ length (variables s (drop (suc i) l)) = rw (drop-cons l i 0 q, z) in (omega arith, omega arith))
-    (λ z.
-    let d : n ≡ 1 = rw z at e in
-    let g : length (variables s (drop i l)) ≡ suc (length (variables s (drop (suc i) l))) = rw (drop-cons l i 0 q, z) in (omega arith, omega arith))
+tally-none s = refl
 
-pub tallied-one : (s : Store) (l : List ℕ) (total i n : ℕ) → Tallied s l total i → i < length l → n ≡ (if isConstant s (getD l i 0) then 0 else 1) → Tallied s l (total + n) (i + 1)
+tally-cons : (s : Store) (a : ℕ) (l : List ℕ) → variableCount s (a ∷ l) ≡ (if isConstant s a then 0 else 1) + variableCount s l
+unfolding keep
+tally-cons s a l = go (isConstant s a)
+  where
+    go : (b : Bool) → length (if not b then (a ∷ variables s l) else variables s l) ≡ (if b then 0 else 1) + length (variables s l)
+    go true = omega arith
+    go false = omega arith
+
+one-most : (b : Bool) → (if b then 0 else 1) ≤ 1
+one-most true = omega arith
+one-most false = omega arith
+
+pub tallied-one : (s : Store) (l : List ℕ) (total i n : ℕ) → Summing (variableCount s) 1 l total i → i < length l → n ≡ (if isConstant s (getD l i 0) then 0 else 1)
+    → Summing (variableCount s) 1 l (total + n) (i + 1)
 tallied-one s l total i n a q e =
-    let r = a .rest in
-    let k = a .small in
-    let f = tally-at s l i n q e .0 in
-    let g = tally-at s l i n q e .1 in
-    record { within = omega arith; small = omega arith; rest = rw add-one (omega arith) }
-
-variables-end : (s : Store) (l : List ℕ) (i : ℕ) → length l ≤ i → length (variables s (drop i l)) ≡ 0
-unfolding keep
-variables-end s l i h = rw (drop-of-length-le l h)
-
-pub tallied-all : (s : Store) (l : List ℕ) (total i : ℕ) → Tallied s l total i → length l ≤ i → total ≡ length (variables s l)
-tallied-all s l total i a h = let r = a .rest in let e = variables-end s l i h in omega arith
+    summing-turn (variableCount s) 1 l total i a (λ t. if isConstant s t then 0 else 1) (tally-cons s) n q e
+    (let b = one-most (isConstant s (getD l i 0)) in omega arith)
 
 module _ (s : Store) (a k : ℕ) (e : k ≡ kind s a) where
   pub count-no : k ≡ 1 → _≡_ {A = ℕ} 0 (if isConstant s a then 0 else 1)

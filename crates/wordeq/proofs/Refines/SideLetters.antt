@@ -1,7 +1,7 @@
 -- The constants of a side, and their characters counted.
-use mathlib.Core.Path.{_≡_, sym, ap, _∙_}
+use mathlib.Core.Path.{_≡_, sym, ap, _∙_, refl}
 use mathlib.Core.Bool.{Bool, true, false, not}
-use mathlib.Core.List.{List, [], _++_}
+use mathlib.Core.List.{List, [], _++_, _∷_}
 use Prim.Native.Nat.{ℕ, suc, _+_, _*_, _-_, _<_, _≤_}
 use native.Mathlib.Numerals.{add-one}
 use native.Mathlib.Omega.{arith}
@@ -16,6 +16,7 @@ use Rattle.records.specs.View.{charLimit, termAt, readIn, termed}
 use Rattle.records.proofs.Lists.{and-stop, and-next, table-length, failed, passed, within-low, within-high}
 use Rattle.records.proofs.Grown.{kind-term}
 use Rattle.records.proofs.Views.{term-is}
+use Rattle.records.proofs.Loops.{Summing, summing-turn}
 use Rattle.wordeq.specs.Wordeq.{fixed, lettersOf, letters, short}
 use Rattle.wordeq.specs.Working.Sides.{Texts, constantSide, otherSide}
 
@@ -99,31 +100,22 @@ unfolding letters concatMap
 letters-end s l i h = rw (drop-of-length-le l h)
 
 -- the sum of the first i
-pub record Counted (s : Store) (l : List ℕ) (total i : ℕ) : Type 0 where
-  pub within : i ≤ length l
-  pub small : total ≤ charLimit * i
-  pub rest : total + length (letters s (drop i l)) ≡ length (letters s l)
+abbrev pub letterCount : Store → List ℕ → ℕ
+letterCount s l = length (letters s l)
 
-pub counted-none : (s : Store) (l : List ℕ) → Counted s l 0 0
-counted-none s l = record { within = omega arith; small = omega arith; rest = omega arith }
+pub letters-none : (s : Store) → letterCount s [] ≡ 0
+unfolding letters concatMap
+letters-none s = refl
 
-pub counted-one : (w : List ℕ) (c : State) (l : List ℕ) (total i n : ℕ) → Texts w c → Counted (termed w c) l total i → i < length l
-    → n ≡ length (lettersOf (termed w c) (getD l i 0)) → Counted (termed w c) l (total + n) (i + 1)
-counted-one w c l total i n x a q e =
-    let f = letters-at (termed w c) l i q in
-    let g = length-append (lettersOf (termed w c) (getD l i 0)) (letters (termed w c) (drop (suc i) l)) in
-    let r = a .rest in
-    let k = a .small in
-    let b = count-limit w [] c (getD l i 0) in
-    let d = x .limited in
-    let y : length (letters (termed w c) (drop i l)) ≡ length (lettersOf (termed w c) (getD l i 0)) + length (letters (termed w c) (drop (suc i) l)) = ap length f ∙ g in
-    record { within = omega arith; small = omega arith; rest = rw add-one (omega arith) }
+letters-cons : (s : Store) (a : ℕ) (l : List ℕ) → letterCount s (a ∷ l) ≡ length (lettersOf s a) + letterCount s l
+unfolding letters concatMap
+letters-cons s a l = length-append (lettersOf s a) (concatMap (lettersOf s) l)
 
-pub counted-all : (s : Store) (l : List ℕ) (total i : ℕ) → Counted s l total i → length l ≤ i → total ≡ length (letters s l)
-counted-all s l total i a h =
-    let r = a .rest in
-    let e : length (letters s (drop i l)) ≡ 0 = ap length (letters-end s l i h) in
-    omega arith
+pub counted-one : (w : List ℕ) (c : State) (l : List ℕ) (total i n : ℕ) → Texts w c → Summing (letterCount (termed w c)) charLimit l total i → i < length l
+    → n ≡ length (lettersOf (termed w c) (getD l i 0)) → Summing (letterCount (termed w c)) charLimit l (total + n) (i + 1)
+counted-one w c l total i n x s q e =
+    summing-turn (letterCount (termed w c)) charLimit l total i s (λ t. length (lettersOf (termed w c) t)) (letters-cons (termed w c)) n q e
+    (let b = count-limit w [] c (getD l i 0) in let d = x .limited in omega arith)
 
 -- SHORT
 

@@ -1,4 +1,6 @@
-use Rattle.records.proofs.Refines.JoinedTexts.{Summed, summed-none, summed-one, summed-all}
+use Rattle.records.proofs.Loops.{Summing, summing-none, summing-all}
+use Rattle.records.proofs.Refines.JoinedTexts.{lengths-none, summed-one}
+use Rattle.records.specs.View.{lengths}
 use lib.ListN.{length}
 use Prim.Native.Nat.{_-_}
 use native.Mathlib.Omega.{arith}
@@ -7,7 +9,7 @@ use Rattle.records.proofs.text.joined_length_unchecked.Statement.{state
 use Rattle.records.proofs.text.joined_length_unchecked.Tie as tie
 
 abbrev Inv-loop : tie.InvT-loop
-Inv-loop terms list total₀ i₀ total i = Summed terms list total i
+Inv-loop terms list total₀ i₀ total i = Summing (lengths terms) 4294967295 list total i
 
 abbrev μ-loop : tie.MeasureT-loop
 μ-loop terms list total₀ i₀ total i = length list - i
@@ -19,7 +21,7 @@ joined-length-unchecked-spec =
     Inv-loop
     μ-loop
     -- loop-holds
-    (λ c. summed-none _ _)
+    (λ c. summing-none _ _ _)
     -- mul-second
     (λ c. search needs)
     -- shared-slice-read-second
@@ -39,4 +41,4 @@ joined-length-unchecked-spec =
     let at-loop = c .before .before .before in
     summed-one _ _ _ _ _ (at-loop .loop .inv) (c .before .before .loop-test .taken) (c .second .ensures) (omega arith))
     -- returns
-    (λ c. summed-all _ _ _ _ (c .before .loop .inv) (c .loop-test .left)))
+    (λ c. summing-all _ _ _ _ _ (c .before .loop .inv) (lengths-none _) (c .loop-test .left)))

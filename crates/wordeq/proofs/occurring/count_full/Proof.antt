@@ -1,14 +1,15 @@
 use Prim.Native.Nat.{_-_}
 use lib.ListN.{length}
 use Rattle.records.specs.View.{termed}
-use Rattle.wordeq.proofs.Refines.Elsewhere.{Fulls, fulls-none, fulls-turn, fulls-all}
+use Rattle.wordeq.proofs.Refines.Elsewhere.{fullCount, fulls-none, fulls-turn}
+use Rattle.records.proofs.Loops.{Summing, summing-none, summing-all}
 use native.Mathlib.Omega.{arith}
 use borrow.Author.Needs.{needs}
 use Rattle.wordeq.proofs.occurring.count_full.Statement.{statement}
 use Rattle.wordeq.proofs.occurring.count_full.Tie as tie
 
 abbrev Inv-loop : tie.InvT-loop
-Inv-loop terms c l n₀ i₀ n i = Fulls (termed terms c) l n i
+Inv-loop terms c l n₀ i₀ n i = Summing (fullCount (termed terms c)) 1 l n i
 
 abbrev μ-loop : tie.MeasureT-loop
 μ-loop terms c l n₀ i₀ n i = length l - i
@@ -20,7 +21,7 @@ count-full-spec =
     Inv-loop
     μ-loop
     -- loop-holds
-    (λ c. fulls-none _ _)
+    (λ c. summing-none _ _ _)
     -- mul-own-count
     (λ c. search needs)
     -- shared-slice-read-own-count
@@ -42,4 +43,4 @@ count-full-spec =
     let at-loop = c .before .before .before in
     fulls-turn _ _ _ _ _ (at-loop .loop .inv) (c .before .before .loop-test .taken) (c .own-count .ensures))
     -- returns
-    (λ c. fulls-all _ _ _ _ (c .before .loop .inv) (c .loop-test .left)))
+    (λ c. summing-all _ _ _ _ _ (c .before .loop .inv) (fulls-none _) (c .loop-test .left)))

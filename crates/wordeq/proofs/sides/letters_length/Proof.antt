@@ -1,14 +1,15 @@
 use Prim.Native.Nat.{_-_}
 use lib.ListN.{length}
-use Rattle.records.specs.View.{termed}
-use Rattle.wordeq.proofs.Refines.SideLetters.{Counted, counted-none, counted-one, counted-all}
+use Rattle.wordeq.proofs.Refines.SideLetters.{letterCount, letters-none, counted-one}
+use Rattle.records.proofs.Loops.{Summing, summing-none, summing-all}
+use Rattle.records.specs.View.{charLimit, termed}
 use native.Mathlib.Omega.{arith}
 use borrow.Author.Needs.{needs}
 use Rattle.wordeq.proofs.sides.letters_length.Statement.{statement}
 use Rattle.wordeq.proofs.sides.letters_length.Tie as tie
 
 abbrev Inv-loop : tie.InvT-loop
-Inv-loop terms c l total₀ i₀ total i = Counted (termed terms c) l total i
+Inv-loop terms c l total₀ i₀ total i = Summing (letterCount (termed terms c)) charLimit l total i
 
 abbrev μ-loop : tie.MeasureT-loop
 μ-loop terms c l total₀ i₀ total i = length l - i
@@ -20,7 +21,7 @@ letters-length-spec =
     Inv-loop
     μ-loop
     -- loop-holds
-    (λ c. counted-none _ _)
+    (λ c. summing-none _ _ _)
     -- mul-letter-count
     (λ c. search needs)
     -- shared-slice-read-letter-count
@@ -43,4 +44,4 @@ letters-length-spec =
     let at-start = at-loop .before .before .before in
     counted-one _ _ _ _ _ _ (at-start .pre .0) (at-loop .loop .inv) (c .before .before .loop-test .taken) (c .letter-count .ensures))
     -- returns
-    (λ c. counted-all _ _ _ _ (c .before .loop .inv) (c .loop-test .left)))
+    (λ c. summing-all _ _ _ _ _ (c .before .loop .inv) (letters-none _) (c .loop-test .left)))

@@ -1,14 +1,15 @@
 use Prim.Native.Nat.{_-_}
 use lib.ListN.{length}
 use Rattle.records.specs.View.{termed}
-use Rattle.wordeq.proofs.Refines.Fitting.{Tallied, tallied-none, tallied-one, tallied-all}
+use Rattle.wordeq.proofs.Refines.Fitting.{variableCount, tally-none, tallied-one}
+use Rattle.records.proofs.Loops.{Summing, summing-none, summing-all}
 use native.Mathlib.Omega.{arith}
 use borrow.Author.Needs.{needs}
 use Rattle.wordeq.proofs.spans.variables_length.Statement.{statement}
 use Rattle.wordeq.proofs.spans.variables_length.Tie as tie
 
 abbrev Inv-loop : tie.InvT-loop
-Inv-loop terms c l total₀ i₀ total i = Tallied (termed terms c) l total i
+Inv-loop terms c l total₀ i₀ total i = Summing (variableCount (termed terms c)) 1 l total i
 
 abbrev μ-loop : tie.MeasureT-loop
 μ-loop terms c l total₀ i₀ total i = length l - i
@@ -20,7 +21,7 @@ variables-length-spec =
     Inv-loop
     μ-loop
     -- loop-holds
-    (λ c. tallied-none _ _)
+    (λ c. summing-none _ _ _)
     -- mul-variable-count
     (λ c. search needs)
     -- shared-slice-read-variable-count
@@ -31,7 +32,7 @@ variables-length-spec =
     (λ c.
     let at-loop = c .before .before .before in
     let at-start = at-loop .before .before .before in
-    let z = tallied-one _ _ _ _ _ (at-loop .loop .inv) (c .before .before .loop-test .taken) (c .variable-count .ensures) in
+    let z = tallied-one (termed (at-start .args .terms .now) (at-start .args .c)) _ _ _ _ (at-loop .loop .inv) (c .before .before .loop-test .taken) (c .variable-count .ensures) in
     let y = z .small in let x = z .within in omega (arith, at-start .good))
     -- add-i
     (λ c. search needs)
@@ -40,6 +41,10 @@ variables-length-spec =
     -- loop-again
     (λ c.
     let at-loop = c .before .before .before in
-    tallied-one _ _ _ _ _ (at-loop .loop .inv) (c .before .before .loop-test .taken) (c .variable-count .ensures))
+    let at-start = at-loop .before .before .before in
+    tallied-one (termed (at-start .args .terms .now) (at-start .args .c)) _ _ _ _ (at-loop .loop .inv) (c .before .before .loop-test .taken) (c .variable-count .ensures))
     -- returns
-    (λ c. tallied-all _ _ _ _ (c .before .loop .inv) (c .loop-test .left)))
+    (λ c.
+    let at-loop = c .before in
+    let at-start = at-loop .before .before .before in
+    summing-all _ _ _ _ _ (at-loop .loop .inv) (tally-none (termed (at-start .args .terms .now) (at-start .args .c))) (c .loop-test .left)))
