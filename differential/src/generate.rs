@@ -397,7 +397,7 @@ pub fn worst() -> Vec<(&'static str, Lent, Call)> {
         s.add_term(VARIABLE, place, 8001);
     }
     list.push(("the audit: 511 names of 8,001 shared characters", s, Call::Audit));
-    list.push(("the audit: 510 names of 15,300 shared characters and one mark", one_mark(510, 15_300), Call::Audit));
+    list.push(("the audit: 510 names of 15,300 shared characters and one hash", one_hash(510, 15_300), Call::Audit));
     list.push(("the audit: 256 congruences of 682 pairs with paths of 254 edges", long_pairs(127, 682), Call::Audit));
 
     let mut random = Random::new(1);
@@ -638,19 +638,19 @@ pub fn long_request(random: &mut Random, s: &Lent, kind: usize) -> Request {
     r
 }
 
-/// Names that differ late and have one mark under the port's audit (`mixed` in the definitions of `records`), which so compares each two.
-fn one_mark(names: u32, length: usize) -> Lent {
+/// Names that differ late and have one hash under the port's audit (`mixed` in the definitions of `records`), which so compares each two.
+fn one_hash(names: u32, length: usize) -> Lent {
     let mixed = |h: u64, x: u32| (69069 * h + h / 65536 + x as u64) % 4294967291;
     let mut text = vec!['a' as u32; length - 2];
-    let mut mark = 0;
+    let mut hash = 0;
     for name in 0..names as usize {
         let h = text[2 * name..].iter().fold(1, |h, &x| mixed(h, x));
         let last = |x: u32| {
-            let y = (mark + 4294967291 - mixed(mixed(h, x), 0)) % 4294967291;
+            let y = (hash + 4294967291 - mixed(mixed(h, x), 0)) % 4294967291;
             (y < 0xD800).then_some(y as u32)
         };
         let (x, y) = if name == 0 {
-            mark = mixed(mixed(h, 'b' as u32), 'b' as u32);
+            hash = mixed(mixed(h, 'b' as u32), 'b' as u32);
             ('b' as u32, 'b' as u32)
         } else {
             (98..0xD800).chain(0xE000..0x110000).find_map(|x| last(x).map(|y| (x, y))).unwrap()
