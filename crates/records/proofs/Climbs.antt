@@ -17,6 +17,7 @@ use Rattle.records.specs.Working.Audited.{Closed, Classed}
 use Rattle.records.proofs.Lists.{both-left, both-right, clash, below-at, below-all, within-is, within-low, within-high, within-zero, table-length}
 use Rattle.records.proofs.Views.{term-is}
 use Rattle.records.proofs.Grown.{string-term}
+use Rattle.records.specs.Working.Leaves.{parentOf, upIn}
 
 -- STEPS
 
@@ -160,11 +161,21 @@ module _ (l : List ℕ) (n : ℕ) where
   pub view-forest : (t y : ℕ) → within n t ≡ true → y ≡ termAt l t .forestParent → y ≡ forestUp (termsView l n) t
   view-forest t y w e = e ∙ ap (λ (x : Term). x .forestParent) (sym (view-term t w))
 
+  pub view-up : (forest : Bool) (t y : ℕ) → within n t ≡ true → y ≡ parentOf forest (termAt l t) → y ≡ upIn forest (termsView l n) t
+  view-up forest t y w e = e ∙ ap (parentOf forest) (sym (view-term t w))
+
   pub root-counted : (t x : ℕ) → x ≡ climb (classUp (termsView l n)) n t → x ≡ rootIn (termsView l n) t
   root-counted t x e = rw view-count e
 
   pub top-counted : (t x : ℕ) → x ≡ climb (forestUp (termsView l n)) n t → x ≡ topIn (termsView l n) t
   top-counted t x e = rw view-count e
+
+-- the parent that the code reads
+pub parent-forest : (forest : Bool) (x : Term) (r : ℕ) → forest ≡ true → r ≡ x .forestParent → r ≡ parentOf forest x
+parent-forest forest x r e h = rw e h
+
+pub parent-class : (forest : Bool) (x : Term) (r : ℕ) → forest ≡ false → r ≡ x .classParent → r ≡ parentOf forest x
+parent-class forest x r e h = rw e h
 
 -- what the climbs require, of a store that passes the audit
 module _ (m : Lent) (c : State) where

@@ -4,8 +4,8 @@ ghost use mathlib.Core.Bool.{true, not, _&&_, _||_};
 ghost use Prim.Native.Nat.{_≤_};
 ghost use lib.Dec.{eqb};
 ghost use Rattle.records.specs.Lists.{all, firstOf, upTo, Every};
-ghost use Rattle.records.specs.Working.Leaves.{flagged, isFlagged};
-ghost use Rattle.records.specs.Store.{within, chainIn, classUp, forestUp, rootIn, topIn, root, top, aboveIn, orNone, nearestIn};
+ghost use Rattle.records.specs.Working.Leaves.{flagged, isFlagged, upIn};
+ghost use Rattle.records.specs.Store.{within, chainIn, classUp, forestUp, rootIn, topIn, root, top, aboveIn, orNone, nearestIn, climb};
 ghost use Rattle.records.specs.View.{termLimit, termsView, cellsView, termed, chained};
 ghost use Rattle.records.specs.Rules.{eachTerm, parentsRule, endsRule, edgeLabel, labelRule, classesRule, stampBelow, fallsRule, congruenceRule, edgeRule, congruencesRule};
 ghost use Rattle.records.specs.Working.Leaves.{aloneAt, classTest, pairWords, pairMeets};
@@ -15,15 +15,16 @@ use crate::fields;
 use crate::roots;
 use crate::rules;
 
-// The root of a term's class. A climb that does not end, in a store that fails the audit, stops after n steps.
-pub fn root_unchecked(terms: &[u32], n: usize, t: u32) -> u32
-    requires { ⌜ (within n t ≡ true) × Closed (classUp (termsView (now terms) n)) n ⌝ }
-    ensures { λ r. ⌜ r ≡ rootIn (termsView (now (terms .entry)) n) t ⌝ }
+// Where following parents ends, in the forest or in the class. A climb that does not end, in a store that fails the audit, stops after n
+// steps.
+fn climb_unchecked(terms: &[u32], n: usize, t: u32, forest: bool) -> u32
+    requires { ⌜ (within n t ≡ true) × Closed (upIn forest (termsView (now terms) n)) n ⌝ }
+    ensures { λ r. ⌜ r ≡ climb (upIn forest (termsView (now (terms .entry)) n)) n t ⌝ }
 {
     let mut x = t;
     let mut i: usize = 0;
     while i < n {
-        let y = fields::class_parent(terms, x);
+        let y = fields::parent(terms, x, forest);
         if y == x {
             return x;
         }
@@ -33,22 +34,20 @@ pub fn root_unchecked(terms: &[u32], n: usize, t: u32) -> u32
     x
 }
 
-// The root of a term's tree in the forest, likewise.
+// The root of a term's class.
+pub fn root_unchecked(terms: &[u32], n: usize, t: u32) -> u32
+    requires { ⌜ (within n t ≡ true) × Closed (classUp (termsView (now terms) n)) n ⌝ }
+    ensures { λ r. ⌜ r ≡ rootIn (termsView (now (terms .entry)) n) t ⌝ }
+{
+    climb_unchecked(terms, n, t, false)
+}
+
+// The root of a term's tree in the forest.
 pub(crate) fn top_unchecked(terms: &[u32], n: usize, t: u32) -> u32
     requires { ⌜ (within n t ≡ true) × Closed (forestUp (termsView (now terms) n)) n ⌝ }
     ensures { λ r. ⌜ r ≡ topIn (termsView (now (terms .entry)) n) t ⌝ }
 {
-    let mut x = t;
-    let mut i: usize = 0;
-    while i < n {
-        let y = fields::forest_parent(terms, x);
-        if y == x {
-            return x;
-        }
-        x = y;
-        i += 1;
-    }
-    x
+    climb_unchecked(terms, n, t, true)
 }
 
 // Flags b and what stands above it.

@@ -2,6 +2,7 @@
 ghost use mathlib.Core.Path.{_≡_};
 ghost use lib.ListN.{getD};
 ghost use Rattle.records.specs.View.{termAt, cellAt};
+ghost use Rattle.records.specs.Working.Leaves.{parentOf};
 use crate::CELL_WIDTH;
 use crate::TERM_WIDTH;
 
@@ -49,6 +50,16 @@ pub fn forest_parent(terms: &[u32], t: u32) -> u32
     ensures { λ r. ⌜ r ≡ termAt (now (terms .entry)) t .forestParent ⌝ }
 {
     word(terms, TERM_WIDTH * (t as usize) + 4)
+}
+
+// The parent in the forest, or in the class.
+pub(crate) fn parent(terms: &[u32], t: u32, forest: bool) -> u32
+    ensures { λ r. ⌜ r ≡ parentOf forest (termAt (now (terms .entry)) t) ⌝ }
+{
+    if forest {
+        return forest_parent(terms, t);
+    }
+    class_parent(terms, t)
 }
 
 pub fn label_kind(terms: &[u32], t: u32) -> u32

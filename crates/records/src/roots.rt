@@ -5,15 +5,40 @@ ghost use mathlib.Core.Bool.{true};
 ghost use mathlib.Core.List.{[]};
 ghost use Prim.Native.Nat.{_≤_, _<_};
 ghost use lib.ListN.{set};
-ghost use Rattle.records.specs.Store.{within, classUp, forestUp, rootIn, topIn};
+ghost use Rattle.records.specs.Store.{within, climb, classUp, forestUp, rootIn, topIn};
 ghost use Rattle.records.specs.View.{termLimit, termsView, termed};
 ghost use Rattle.records.specs.Rules.{eachTerm, parentsRule};
-ghost use Rattle.records.specs.Working.Leaves.{classTest};
+ghost use Rattle.records.specs.Working.Leaves.{classTest, upIn};
 ghost use Rattle.records.specs.Working.Audited.{Closed};
 ghost use Rattle.records.specs.Working.Ends.{Ends, Kept, Tested};
 use crate::State;
 use crate::classes;
 use crate::fields;
+
+// Where following parents ends, as climb_unchecked has it.
+fn kept_end_unchecked(terms: &[u32], n: usize, t: u32, ends: &[u32; 513], forest: bool) -> u32
+    requires { ⌜ n ≤ termLimit ⌝ }
+    requires { ⌜ within n t ≡ true ⌝ }
+    requires { ⌜ Closed (upIn forest (termsView (now terms) n)) n ⌝ }
+    requires { ⌜ Ends (upIn forest (termsView (now terms) n)) n (now ends) ⌝ }
+    ensures { λ r. ⌜ r ≡ climb (upIn forest (termsView (now (terms .entry)) n)) n t ⌝ }
+{
+    let mut x = t;
+    let mut i: usize = 0;
+    while i < n {
+        let r = ends[x as usize];
+        if r != 0 {
+            return r;
+        }
+        let y = fields::parent(terms, x, forest);
+        if y == x {
+            return x;
+        }
+        x = y;
+        i += 1;
+    }
+    x
+}
 
 // The root of t's class, as root_unchecked has it.
 pub fn kept_root_unchecked(terms: &[u32], n: usize, t: u32, roots: &[u32; 513]) -> u32
@@ -23,21 +48,7 @@ pub fn kept_root_unchecked(terms: &[u32], n: usize, t: u32, roots: &[u32; 513]) 
     requires { ⌜ Ends (classUp (termsView (now terms) n)) n (now roots) ⌝ }
     ensures { λ r. ⌜ r ≡ rootIn (termsView (now (terms .entry)) n) t ⌝ }
 {
-    let mut x = t;
-    let mut i: usize = 0;
-    while i < n {
-        let r = roots[x as usize];
-        if r != 0 {
-            return r;
-        }
-        let y = fields::class_parent(terms, x);
-        if y == x {
-            return x;
-        }
-        x = y;
-        i += 1;
-    }
-    x
+    kept_end_unchecked(terms, n, t, roots, false)
 }
 
 // The root of t's tree in the forest, likewise.
@@ -48,21 +59,7 @@ fn kept_top_unchecked(terms: &[u32], n: usize, t: u32, tops: &[u32; 513]) -> u32
     requires { ⌜ Ends (forestUp (termsView (now terms) n)) n (now tops) ⌝ }
     ensures { λ r. ⌜ r ≡ topIn (termsView (now (terms .entry)) n) t ⌝ }
 {
-    let mut x = t;
-    let mut i: usize = 0;
-    while i < n {
-        let r = tops[x as usize];
-        if r != 0 {
-            return r;
-        }
-        let y = fields::forest_parent(terms, x);
-        if y == x {
-            return x;
-        }
-        x = y;
-        i += 1;
-    }
-    x
+    kept_end_unchecked(terms, n, t, tops, true)
 }
 
 // One end for two terms.

@@ -1,13 +1,13 @@
 -- What the contracts of private functions cite, each tied by a law to the definition that it serves. No public contract cites these.
 use mathlib.Core.Path.{_≡_}
-use mathlib.Core.Bool.{Bool, _&&_, _||_}
+use mathlib.Core.Bool.{Bool, false, true, _&&_, _||_}
 use mathlib.Core.List.{List, [], _∷_}
 use mathlib.Core.Option.{Option, none, some}
 use Prim.Native.Nat.{ℕ, suc, _≤_, _<_}
 use lib.ListN.{length, getD, set}
 use lib.Dec.{eqb}
 use Rattle.records.specs.Lists.{sameWord, firsts, seconds, firstBelow}
-use Rattle.records.specs.Store.{Cell, Store, ok, stop, Work, _>>=_, term, kind, isString, within, cellIn, chainIn, text, root, top}
+use Rattle.records.specs.Store.{Cell, Store, ok, stop, Work, _>>=_, term, kind, isString, within, cellIn, chainIn, text, root, top, Term, termIn}
 use Rattle.records.specs.View.{termAt, textAt}
 use Rattle.records.specs.Rules.{endsRule, labelRule}
 use Rattle.records.specs.Make.{withNames, addText, addChain, addTerm, lowest, nameOf, nameLimit, takeName}
@@ -21,6 +21,16 @@ flagged (x ∷ l) s = flagged l (set s x 1)
 
 unfoldable pub isFlagged : List ℕ → ℕ → Bool
 isFlagged s x = eqb (getD s x 0) 1
+
+-- CLIMBS
+
+-- the parent in the forest, or in the class
+abbrev pub parentOf : Bool → Term → ℕ
+parentOf true x = x .forestParent
+parentOf false x = x .classParent
+
+abbrev pub upIn : Bool → List Term → ℕ → ℕ
+upIn forest ts t = parentOf forest (termIn ts t)
 
 -- CLASSES AND CONGRUENCE EDGES
 

@@ -1,82 +1,11 @@
-use Rattle.records.proofs.Climbs.{Climbing, climbing-begin, climbing-turn, climbing-here, climbing-done, view-forest, top-counted}
-use Rattle.records.proofs.Ends.{term-place, climbing-kept}
-use Rattle.records.specs.View.{termsView}
-use Rattle.records.specs.Store.{forestUp}
-use Prim.Native.Nat.{_-_}
-use native.Mathlib.Omega.{arith}
+use Rattle.records.proofs.Climbs.{top-counted}
 use borrow.Author.Needs.{needs}
 use Rattle.records.proofs.roots.kept_top_unchecked.Statement.{statement}
 use Rattle.records.proofs.roots.kept_top_unchecked.Tie as tie
 
-abbrev Inv-loop : tie.InvT-loop
-Inv-loop terms n t tops x₀ i₀ x i = Climbing (forestUp (termsView terms n)) n t x i
-
-abbrev μ-loop : tie.MeasureT-loop
-μ-loop terms n t tops x₀ i₀ x i = n - i
-
-loop-holds : tie.Need-loop-holds Inv-loop μ-loop
-loop-holds c = climbing-begin _ _ _ (c .before .pre .1 .0)
-
-cast-r : tie.Need-cast-r Inv-loop μ-loop
-cast-r c = let at-start = c .before .before .before in omega (arith, term-place _ _ (at-start .pre .0) (c .before .loop .inv .here))
-
-mul-r : tie.Need-mul-r Inv-loop μ-loop
-mul-r c = let at-start = c .before .before .before in omega (arith, term-place _ _ (at-start .pre .0) (c .before .loop .inv .here))
-
-element-copy-out-r : tie.Need-element-copy-out-r Inv-loop μ-loop
-element-copy-out-r c = let at-start = c .before .before .before in term-place _ _ (at-start .pre .0) (c .before .loop .inv .here)
-
-returns : tie.Need-returns Inv-loop μ-loop
-returns c =
-    let at-loop = c .before .before .before in
-    let at-start = at-loop .before .before in
-    top-counted (at-start .args .terms .now) (at-start .args .n) _ _
-    (climbing-kept _ _ _ _ _ _ (at-start .pre .1 .1 .0) (at-start .pre .1 .0) (at-loop .loop .inv) (at-start .pre .1 .1 .1 .entries _ (at-loop .loop .inv .here) (c .if1 .taken)))
-
-forest-parent-requires : tie.Need-forest-parent-requires Inv-loop μ-loop
-forest-parent-requires c κs = search needs
-
-returns-2 : tie.Need-returns-2 Inv-loop μ-loop
-returns-2 c =
-    let at-loop = c .before .before .before .before .before in
-    let at-start = at-loop .before .before in
-    let l = at-start .args .terms .now in
-    let n = at-start .args .n in
-    top-counted l n _ _ (climbing-here _ _ _ _ _ _ (at-loop .loop .inv) (view-forest l n _ _ (at-loop .loop .inv .here) (c .before .forest-parent .ensures)) (c .if2 .taken))
-
-add-i : tie.Need-add-i Inv-loop μ-loop
-add-i c = search needs
-
-loop-less : tie.Need-loop-less Inv-loop μ-loop
-loop-less c = search needs
-
-loop-again : tie.Need-loop-again Inv-loop μ-loop
-loop-again c =
-    let at-loop-test = c .before .before .before .before in
-    let at-loop = at-loop-test .before in
-    let at-start = at-loop .before .before in
-    let e = view-forest (at-start .args .terms .now) (at-start .args .n) _ _ (at-loop .loop .inv .here) (c .before .forest-parent .ensures) in
-    climbing-turn _ _ _ _ _ _ (at-loop .loop .inv) e (at-start .pre .1 .1 .0) (at-loop-test .loop-test .taken)
-
-returns-3 : tie.Need-returns-3 Inv-loop μ-loop
-returns-3 c =
-    let at-start = c .before .before .before in
-    top-counted (at-start .args .terms .now) (at-start .args .n) _ _ (climbing-done _ _ _ _ _ (c .before .loop .inv) (c .loop-test .left))
-
 pub kept-top-unchecked-spec : {M : Type 1} → statement M
-kept-top-unchecked-spec =
-    tie.close
-    (tie.spec
-    Inv-loop
-    μ-loop
-    loop-holds
-    cast-r
-    mul-r
-    element-copy-out-r
-    returns
-    forest-parent-requires
-    returns-2
-    add-i
-    loop-less
-    loop-again
-    returns-3)
+kept-top-unchecked-spec = tie.close (tie.spec
+    -- kept-end-unchecked-requires
+    (λ c κs. search needs)
+    -- returns
+    (λ c. search top-counted))
