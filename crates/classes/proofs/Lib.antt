@@ -1,4 +1,14 @@
 mod MovedClimbs
 mod MovedPaths
 mod MergeKept
+mod Tables
+mod Turning
+mod Undoing
+mod Appending
+mod Between
+mod Flips
+mod Rounds
+mod Dividing
+mod Under
+mod JoinKept
 mod Refines

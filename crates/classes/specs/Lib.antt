@@ -1,1 +1,4 @@
 pub mod Merge
+pub mod Joins
+pub mod JoinCases
+pub mod Working
