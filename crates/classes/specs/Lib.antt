@@ -1,4 +1,7 @@
 pub mod Merge
 pub mod Joins
+pub mod Marks
+pub mod Calls
+pub mod History
 pub mod JoinCases
 pub mod Working

@@ -95,3 +95,15 @@ pub fn merge(
     put_under_unchecked(terms, child, parent, n, stamp);
     0
 }
+
+// How many marks stand, and how many joins were recorded since the first of them.
+pub struct Standing {
+    pub marks: usize,
+    pub joins: usize,
+}
+
+// What joining, setting a mark and going back answer: a number, with the counts after the call; or the refusal.
+pub enum Answer {
+    Given(u32, Standing),
+    Refused(u32),
+}
