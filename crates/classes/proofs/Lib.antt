@@ -11,4 +11,5 @@ mod Rounds
 mod Dividing
 mod Under
 mod JoinKept
+mod Cutting
 mod Refines
