@@ -65,8 +65,8 @@ module _ (l : List ℕ) (n a b under over : ℕ) (h : Linkable l n a b under ove
     link-leaves l₂ k v q =
         subst (Becomes l l₂ n)
         (ap (λ (m : ℕ). carryBy (suc m) (termsView l₁ n) a (edge b k v 0)) (sym (view-count l₁ n)) ∙ carry-link (termsView l₁ n) forest₁ a (in-view l₁ n a (h .one)) b k v
-            ∙ ap (λ (ts : List Term). linkIn ts a b k v) (put .is) ∙ ap (λ (z : ℕ). linkIn (putClass (termsView l n) z over) a b k v) (h .under-is)
-            ∙ ap (λ (z : ℕ). linkIn (putClass (termsView l n) (rootIn (termsView l n) a) z) a b k v) (h .over-is))
+        ∙ ap (λ (ts : List Term). linkIn ts a b k v) (put .is) ∙ ap (λ (z : ℕ). linkIn (putClass (termsView l n) z over) a b k v) (h .under-is)
+        ∙ ap (λ (z : ℕ). linkIn (putClass (termsView l n) (rootIn (termsView l n) a) z) a b k v) (h .over-is))
         (becomes-then put q)
 
 -- CUTTING

@@ -4,7 +4,7 @@ use mathlib.Core.Bool.{Bool, true, false}
 use mathlib.Core.List.{List}
 use mathlib.Core.Option.{Option, none, some}
 use Prim.Native.Nat.{ℕ, zero, suc, _≤_}
-use lib.ListN.{length}
+use lib.ListN.{length, getD}
 use lib.Dec.{eqb}
 use Rattle.records.specs.declared.State.{State}
 use Rattle.records.specs.Lists.{Every}
@@ -13,7 +13,8 @@ use Rattle.records.specs.View.{termAt, termsView, termWords, termLimit, chained
 use Rattle.records.specs.Working.Audited.{Closed}
 use Rattle.classes.specs.declared.Standing.{Standing}
 use Rattle.classes.specs.Joins.{Edge, noEdge, edgeOf, putEdge, turned, Trace}
-use Rattle.classes.specs.Marks.{trailOf, tracePlace, joinLimit, markLimit, countsRule}
+use Rattle.classes.specs.Marks.{Trail, trailOf, tracePlace, joinLimit, markLimit}
+use Rattle.classes.specs.Calls.{isCounted}
 
 -- forest parents are terms and lead to a root, and roots are unlabelled
 pub record Forest (ts : List Term) : Type 0 where
@@ -76,3 +77,9 @@ pub record TrailSized (l : List ℕ) (d : Standing) : Type 0 where
   pub fewMarks : d .marks ≤ markLimit
   pub fewJoins : d .joins ≤ joinLimit
   pub room : tracePlace joinLimit 0 ≤ length l
+
+-- the words lent for marks now read as this trail, and words that are not counted stay
+pub record Trailed (l l′ : List ℕ) (x : Trail) (e : Standing) : Type 0 where
+  pub is : trailOf l′ e ≡ x
+  pub rest : (i : ℕ) → isCounted e i ≡ false → getD l′ i 0 ≡ getD l i 0
+  pub long : length l′ ≡ length l
