@@ -13,12 +13,12 @@ use Rattle.records.specs.View.{termAt, termsView, termWords}
 use Rattle.records.specs.Make.{withClass}
 use Rattle.records.specs.Working.Audited.{Closed}
 use Rattle.records.specs.Working.Puts.{TermSet}
-use Rattle.records.proofs.Lists.{within-high, both-left, both-right, failed, passed, five-1, five-2, five-3, five-4, five-last}
+use Rattle.records.proofs.Lists.{within-high, failed, passed, five-1, five-2, five-3, five-4, five-last}
 use Rattle.records.proofs.Climbs.{climb-within, view-count, view-class, view-forest}
 use Rattle.classes.specs.Joins.{Trace, cutIn, edge, noEdge, bearing, putEdge, putClass, rerootIn, linkIn, joinIn, trace, isTrace, undoIn}
 use Rattle.classes.specs.Working.Carries.{Forest, carryBy, Becomes, Carriable, Tabled, Linkable, Cuttable, Undoes, undone, no-table}
 use Rattle.classes.proofs.Undoing.{class-forest}
-use Rattle.classes.proofs.Cutting.{cut-first, cut-kept, cut-long, cut-classes}
+use Rattle.classes.proofs.Cutting.{Traced, trace-says, undo-is, cut-forest, cut-kept, cut-stays}
 use Rattle.classes.proofs.Refines.Carrying.{carry-link, carry-reroot}
 use Rattle.classes.proofs.Refines.CarryWords.{edge-becomes, class-becomes, becomes-then}
 
@@ -80,7 +80,7 @@ module _ (l : List ℕ) (n c r u : ℕ) (h : Cuttable l n (trace c r u)) where
     cut = edge-becomes n (h .child) (noEdge c) s
 
     cut-is : Forest (termsView l₁ n)
-    cut-is = subst Forest (sym (cut .is)) (cut-first (termsView l n) (trace c r u) (h .tabled .forest) (in-view l n c (h .child)) (in-view l n r (h .oldRoot)) (in-view l n u (h .under)))
+    cut-is = subst Forest (sym (cut .is)) (cut-forest (termsView l n) (h .tabled .forest) c (in-view l n c (h .child)))
 
     pub reroot-asked : Carriable l₁ n r r
     reroot-asked = record {
@@ -165,31 +165,20 @@ module _ (l : List ℕ) (n child old under : ℕ) where
     undo-not h = subst (λ (o : Option (List Term)). Undoes l l n o false) (sym (none-is h)) no-table
 
     module _ (h : not b ≡ false) (d : Tabled l n) where
-      is : isTrace ts x ≡ true
-      is = sym e ∙ not-false b h
-
-      in-terms : (first ≡ true) × (second ≡ true) × (third ≡ true)
-      unfolding isTrace
-      in-terms =
-          let three = both-left (first && second && third) fourth (both-left (first && second && third && fourth) fifth is) in
-          let two = both-left (first && second) third three in
-          (both-left first second two, both-right first second two, both-right (first && second) third three)
+      traced : Traced ts x
+      traced = trace-says ts x (sym e ∙ not-false b h)
 
       uncounted : (t : ℕ) → within (length ts) t ≡ true → within n t ≡ true
       uncounted t w = ap (λ (m : ℕ). within m t) (sym (view-count l n)) ∙ w
 
       pub undo-asked : Cuttable l n x
-      undo-asked = record { tabled = d; child = uncounted child (in-terms .0); oldRoot = uncounted old (in-terms .1); under = uncounted under (in-terms .2) }
+      undo-asked = record { tabled = d; child = uncounted child (traced .child); oldRoot = uncounted old (traced .oldRoot); under = uncounted under (traced .under) }
 
-      some-is : undoIn ts x ≡ some (cutIn ts x)
-      unfolding undoIn
-      some-is = rw is
-
-      pub undo-is : (l′ : List ℕ) → Becomes l l′ n (cutIn ts x) → Undoes l l′ n (undoIn ts x) true
-      undo-is l′ q = subst (λ (o : Option (List Term)). Undoes l l′ n o true) (sym some-is) (undone q record {
+      pub undo-done : (l′ : List ℕ) → Becomes l l′ n (cutIn ts x) → Undoes l l′ n (undoIn ts x) true
+      undo-done l′ q = subst (λ (o : Option (List Term)). Undoes l l′ n o true) (sym (undo-is ts (cutIn ts x) x record { traced = traced; is = refl })) (undone q record {
         few = d .few;
         room = (let z = q .long in let r = d .room in omega arith);
         classes = subst (λ (us : List Term). Closed (classUp us) n) (sym (q .is)) (subst (Closed (classUp (cutIn ts x))) (view-count l n)
-            (cut-classes ts x (d .forest) (in-terms .0) (in-terms .1) (in-terms .2) (subst (Closed (classUp ts)) (sym (view-count l n)) (d .classes))));
-        forest = subst Forest (sym (q .is)) (cut-kept ts x (d .forest) (in-terms .0) (in-terms .1) (in-terms .2));
+            (cut-stays ts x (d .forest) (traced .child) (traced .oldRoot) (traced .under) (subst (Closed (classUp ts)) (sym (view-count l n)) (d .classes))));
+        forest = subst Forest (sym (q .is)) (cut-kept ts x (d .forest) (traced .child) (traced .oldRoot) (traced .under));
       })

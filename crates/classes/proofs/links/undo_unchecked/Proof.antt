@@ -1,4 +1,4 @@
-use Rattle.classes.proofs.Refines.JoinWords.{undo-not, undo-asked, undo-is}
+use Rattle.classes.proofs.Refines.JoinWords.{undo-not, undo-asked, undo-done}
 use borrow.Author.Needs.{needs}
 use Rattle.classes.proofs.links.undo_unchecked.Statement.{statement}
 use Rattle.classes.proofs.links.undo_unchecked.Tie as tie
@@ -21,4 +21,4 @@ undo-unchecked-spec =
     (λ c.
     let at-if1 = c .before .before .before .before in
     let s = at-if1 .before .before .before .before in
-    undo-is (s .args .terms .now) (s .args .n) (s .args .child) (s .args .old) (s .args .under) _ (at-if1 .before .is-trace .ensures) (at-if1 .if1 .left) (s .pre) _ (c .before .before .cut-unchecked .ensures)))
+    undo-done (s .args .terms .now) (s .args .n) (s .args .child) (s .args .old) (s .args .under) _ (at-if1 .before .is-trace .ensures) (at-if1 .if1 .left) (s .pre) _ (c .before .before .cut-unchecked .ensures)))
