@@ -2,6 +2,7 @@ mod MovedClimbs
 mod MovedPaths
 mod MergeKept
 mod Tables
+mod Alike
 mod Turning
 mod Undoing
 mod Appending
@@ -11,4 +12,6 @@ mod Rounds
 mod Dividing
 mod Under
 mod JoinKept
+mod Undone
+mod Marking
 mod Refines
