@@ -3,7 +3,7 @@ use mathlib.Core.Path.{_≡_, refl, sym, ap, subst, _∙_}
 use mathlib.Core.Bool.{Bool, true, false, not, _&&_}
 use mathlib.Core.List.{List, [], _∷_, _++_}
 use mathlib.Core.Option.{Option, none, some}
-use Prim.Native.Nat.{ℕ, zero, suc, _+_, _-_, _≤_}
+use Prim.Native.Nat.{ℕ, zero, suc, _-_, _≤_}
 use native.Mathlib.Decide.{ℕ-discrete}
 use native.Mathlib.Omega.{arith}
 use lib.ListN.{length, set, length-append, List·getD-append}
@@ -22,7 +22,7 @@ use Rattle.records.specs.Make.{withClass}
 use Rattle.classes.specs.Joins.{Edge, noEdge, turned, bearing, putEdge, putClass, turn, turns, rerootIn, Trace, isTrace, cutIn, undoIn}
 use Rattle.classes.proofs.Tables.{edge-long, edge-here, edge-away, turn-root, turn-flips}
 use Rattle.classes.proofs.Turning.{flip-words, flip-closed}
-use Rattle.classes.proofs.Alike.{Like, like-none, like-then, like-edge, like-class}
+use Rattle.classes.proofs.Alike.{Like, like-none, like-then}
 
 -- ONE RECORD
 

@@ -14,4 +14,5 @@ mod Under
 mod JoinKept
 mod Undone
 mod Marking
+mod Tracking
 mod Refines

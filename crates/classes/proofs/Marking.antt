@@ -1,7 +1,7 @@
 -- The audit of marks: each call keeps it, and where it passes going back to a standing mark gives a table that passes.
 use mathlib.Core.Path.{_≡_, refl, sym, ap, subst, _∙_}
-use mathlib.Core.Bool.{Bool, true, false, not, _&&_, false≢true}
-use mathlib.Core.List.{List, [], _∷_, _++_}
+use mathlib.Core.Bool.{true, false≢true}
+use mathlib.Core.List.{List, [], _∷_}
 use mathlib.Core.Option.{Option, none, some}
 use Prim.Native.Nat.{ℕ, zero, suc, _-_, _≤_, _<_}
 use native.Mathlib.Omega.{arith}
@@ -10,22 +10,21 @@ use lib.Seq.{length-take-le, drop-length, drop-append-le}
 use lib.Dec.{eqb, ltb, leb}
 use borrow.Author.Tests.{ltb-true, ltb-false, leb-true, le-leb}
 use Rattle.records.specs.Lists.{all, oneMore, Every, none-left, and}
-use Rattle.records.specs.Store.{Term, Store, within, isTerm, forestUp}
-use Rattle.records.specs.Rules.{recordsRule, classesRule, congruencesRule}
+use Rattle.records.specs.Store.{Term, Store, within}
+use Rattle.records.specs.Rules.{classesRule, congruencesRule}
 use Rattle.records.specs.Make.{withTerms}
-use Rattle.records.specs.Working.Audited.{Closed, Roomy, Audited}
-use Rattle.records.proofs.Lists.{both-left, both-right, both-true, clash, decide, all-append, all-take, all-every, every-all, every-map, every-both, every-at, within-low, within-high}
+use Rattle.records.specs.Working.Audited.{Audited}
+use Rattle.records.proofs.Lists.{both-left, both-right, both-true, decide, all-append, all-take, all-every, every-all, every-map, every-both, every-at, within-low, within-high}
 use Rattle.records.proofs.Climbs.{classed-tops}
 use Rattle.records.proofs.Grown.{string-term}
-use Rattle.records.proofs.Passed.{recorded-of, records-of, classed-of, classes-of, congruences-of, congruent-of}
+use Rattle.records.proofs.Passed.{classed-of, classes-of, congruences-of, congruent-of}
 use Rattle.classes.specs.Joins.{Trace, traceOf, joinIn, undoIn}
-use Rattle.classes.specs.Marks.{Trail, undoAll, tableAt, rises, countsRule, passes, marksRule, auditTrail}
+use Rattle.classes.specs.Marks.{Trail, undoAll, tableAt, rises, countsRule, passes, marksRule}
 use Rattle.classes.specs.Calls.{recorded, joinsAt, before}
-use Rattle.classes.proofs.Alike.{Like, like-none, like-then, recorded-like, roomy-like}
+use Rattle.classes.proofs.Alike.{Like, recorded-like, roomy-like}
 use Rattle.classes.proofs.Undoing.{undo-join}
-use Rattle.classes.proofs.Appending.{Stays}
 use Rattle.classes.proofs.Undone.{undo-append, undo-last, undone-stays}
-use Rattle.classes.proofs.JoinKept.{Joinable, join-kept}
+use Rattle.classes.proofs.JoinKept.{Joinable}
 
 -- COUNTS THAT DO NOT FALL
 
