@@ -2,7 +2,7 @@
 use mathlib.Core.Path.{_≡_, refl, sym, ap, subst, _∙_}
 use mathlib.Core.Bool.{Bool, true, false}
 use mathlib.Core.List.{List, [], _∷_, _++_}
-use mathlib.Core.Option.{some}
+use mathlib.Core.Option.{some, Option, none}
 use Prim.Native.Nat.{ℕ, zero, suc, _-_, _≤_}
 use native.Mathlib.Decide.{ℕ-discrete}
 use native.Mathlib.Omega.{arith}
@@ -18,10 +18,11 @@ use Rattle.records.proofs.Climbs.{above-step}
 use Rattle.records.proofs.Paths.{above-within}
 use Rattle.records.proofs.Rises.{Rise, ends, goes, rise-by}
 use Rattle.records.specs.Make.{withClass}
-use Rattle.classes.specs.Joins.{Edge, noEdge, turned, bearing, putEdge, putClass, turn, turns, rerootIn, Trace, cutIn, undoIn}
-use Rattle.classes.proofs.Tables.{edge-long, turn-root, turn-flips}
-use Rattle.classes.proofs.Turning.{flip-closed}
+use Rattle.classes.specs.Joins.{Edge, noEdge, turned, bearing, putEdge, putClass, turn, turns, rerootIn, Trace, cutIn, undoIn, isTrace}
+use Rattle.classes.proofs.Tables.{edge-long, turn-root, turn-flips, edge-here, edge-away}
+use Rattle.classes.proofs.Turning.{flip-closed, flip-words}
 use Rattle.classes.proofs.Cutting.{Traced, undo-cuts, undo-is, cut-within, cut-closed, cut-ends}
+use Rattle.classes.proofs.Alike.{Like, like-none, like-then}
 
 -- ONE RECORD
 
@@ -59,31 +60,34 @@ turn-more ts more t c w =
         ap (λ (us : List Term). putEdge us t (noEdge t)) (edge-more ts more (forestUp ts t) _ (c .stays t w))
         ∙ edge-more (putEdge ts (forestUp ts t) _) more t _ (ap (λ (n : ℕ). within n t) (edge-long ts (forestUp ts t) _) ∙ w)
 
-record Stays (ts us : List Term) : Type 0 where
-  long : length us ≡ length ts
-  closed : Closed (forestUp us) (length us)
+-- another table of the same terms, each parent in the forest a term
+pub record Stays (ts us : List Term) : Type 0 where
+  pub like : Like ts us
+  pub closed : Closed (forestUp us) (length us)
 
 turn-stays : (ts : List Term) (t : ℕ) → Closed (forestUp ts) (length ts) → within (length ts) t ≡ true → Stays ts (turn t ts)
 turn-stays ts t c w = go (ℕ-discrete (forestUp ts t) t)
   where
     go : Dec (forestUp ts t ≡ t) → Stays ts (turn t ts)
-    go (yes e) = subst (Stays ts) (sym (turn-root ts t e)) (record { long = refl; closed = c })
-    go (no d) = let f = turn-flips ts t (forestUp ts t) w (c .stays t w) refl d in record { long = f .long; closed = flip-closed f w c }
+    go (yes e) = subst (Stays ts) (sym (turn-root ts t e)) (record { like = like-none ts; closed = c })
+    go (no d) =
+        let f = turn-flips ts t (forestUp ts t) w (c .stays t w) refl d in
+        record { like = record { long = f .long; words = λ g p u. flip-words f g (p .edges) u }; closed = flip-closed f w c }
 
-turns-stays : (l : List ℕ) (ts : List Term) → Closed (forestUp ts) (length ts) → Every (λ t. within (length ts) t ≡ true) l → Stays ts (turns l ts)
+pub turns-stays : (l : List ℕ) (ts : List Term) → Closed (forestUp ts) (length ts) → Every (λ t. within (length ts) t ≡ true) l → Stays ts (turns l ts)
 unfolding turns
-turns-stays [] ts c none-left = record { long = refl; closed = c }
+turns-stays [] ts c none-left = record { like = like-none ts; closed = c }
 turns-stays (t ∷ l) ts c (and w h) =
     let k = turns-stays l ts c h in
-    let q = turn-stays (turns l ts) t (k .closed) (ap (λ (n : ℕ). within n t) (k .long) ∙ w) in
-    record { long = q .long ∙ k .long; closed = q .closed }
+    let q = turn-stays (turns l ts) t (k .closed) (ap (λ (n : ℕ). within n t) (k .like .long) ∙ w) in
+    record { like = like-then (k .like) (q .like); closed = q .closed }
 
 turns-more : (l : List ℕ) (ts more : List Term) → Closed (forestUp ts) (length ts) → Every (λ t. within (length ts) t ≡ true) l → turns l (ts ++ more) ≡ turns l ts ++ more
 unfolding turns
 turns-more [] ts more c none-left = refl
 turns-more (t ∷ l) ts more c (and w h) =
     let k = turns-stays l ts c h in
-    ap (turn t) (turns-more l ts more c h) ∙ turn-more (turns l ts) more t (k .closed) (ap (λ (n : ℕ). within n t) (k .long) ∙ w)
+    ap (turn t) (turns-more l ts more c h) ∙ turn-more (turns l ts) more t (k .closed) (ap (λ (n : ℕ). within n t) (k .like .long) ∙ w)
 
 -- THE WAY UP
 
@@ -124,7 +128,7 @@ module _ (ts more : List Term) (c : Closed (forestUp ts) (length ts)) (t : ℕ) 
   reroot-more = ap (λ (l : List ℕ). turns l (ts ++ more)) above-more ∙ turns-more (aboveIn ts t) ts more c (above-within ts (length ts) (suc (length ts)) t c w)
 
   pub reroot-long : length (rerootIn ts t) ≡ length ts
-  reroot-long = turns-stays (aboveIn ts t) ts c (above-within ts (length ts) (suc (length ts)) t c w) .long
+  reroot-long = turns-stays (aboveIn ts t) ts c (above-within ts (length ts) (suc (length ts)) t c w) .like .long
 
 -- UNDOING
 

@@ -10,8 +10,8 @@ use lib.ListN.{length}
 use lib.Dec.{eqb}
 use borrow.Author.Tests.{eqb-true, eq-eqb, ne-eqb}
 use Rattle.records.specs.Lists.{firsts, firstOf, isIn, upTo, Every}
-use Rattle.records.specs.Store.{Term, Store, termIn, term, count, kind, within, isTerm, isString, textIn, text, chain, parts, climb, classUp, forestUp, topIn, root, top, aboveBy, aboveIn, orNone, nearestIn, pathIn, isEdge}
-use Rattle.records.specs.Rules.{isNumber, isReasonKind, keyRule, isEquatable}
+use Rattle.records.specs.Store.{Term, Store, termIn, term, count, kind, within, isTerm, isString, chain, parts, climb, classUp, forestUp, topIn, root, top, aboveBy, aboveIn, orNone, nearestIn, pathIn, isEdge}
+use Rattle.records.specs.Rules.{isNumber, isReasonKind}
 use Rattle.records.specs.Make.{withTerms, withClass}
 use Rattle.records.specs.Working.Audited.{Closed, Part, Label, asserted, interface, congruence, definitional, Unlabelled, Falls, Pairs, Congruent, Recorded, Classed, Congruences, Roomy, Audited}
 use Rattle.records.proofs.Lists.{decide, clash, either, same-test, every-map, every-both, all-every, every-all, firsts-every, seconds-every}
@@ -24,6 +24,7 @@ use Rattle.classes.specs.Working.Carries.{Forest}
 use Rattle.classes.proofs.Tables.{edge-long, edge-here, edge-away, edge-words, class-long, class-here, class-away, class-words}
 use Rattle.classes.proofs.Turning.{Rerooted}
 use Rattle.classes.proofs.Undoing.{classed-forest, rerooted, class-up, class-top, class-forest}
+use Rattle.classes.proofs.Alike.{Like, kind-like, first-like, string-like, recorded-like, roomy-like}
 use Rattle.classes.proofs.Rounds.{Came, as-was, round, Same, reroot-same}
 use Rattle.classes.proofs.Under.{under-path}
 use Rattle.classes.proofs.Dividing.{Joint, were, across, back, joint-moved, moved-joint}
@@ -134,17 +135,11 @@ module _ (s : Store) (audited : Audited s) (a b k v : ℕ) (j : Joinable s a b k
   pub words : (f : Term → ℕ) → ((y : Term) (e : Edge) → f (bearing y e) ≡ f y) → ((y : Term) (p : ℕ) → f (withClass y p) ≡ f y) → (t : ℕ) → f (term s′ t) ≡ f (term s t)
   words f h g t = link-words f h t ∙ class-words ts (root s a) (root s b) wr f (λ y. g y (root s b)) t
 
+  pub like : Like ts js
+  like = record { long = long; words = λ f p t. words f (p .edges) (p .classes) t }
+
   kind-same : (t : ℕ) → kind s′ t ≡ kind s t
-  kind-same = words (λ x. x .kind) (λ y e. refl) (λ y p. refl)
-
-  first-same : (t : ℕ) → term s′ t .first ≡ term s t .first
-  first-same = words (λ x. x .first) (λ y e. refl) (λ y p. refl)
-
-  second-same : (t : ℕ) → term s′ t .second ≡ term s t .second
-  second-same = words (λ x. x .second) (λ y e. refl) (λ y p. refl)
-
-  string-same : (t : ℕ) → isString s′ t ≡ isString s t
-  string-same t = ap (within 3) (kind-same t)
+  kind-same = kind-like s js like
 
   -- CLASSES
 
@@ -370,7 +365,7 @@ module _ (s : Store) (audited : Audited s) (a b k v : ℕ) (j : Joinable s a b k
     classEnds = λ t w. subst (λ (r : ℕ). classUp js r ≡ r) (sym (root-counted t)) (moved-ends class-moved t (was-term t w));
     forestEnds = λ t w. subst (λ (r : ℕ). forestUp js r ≡ r) (sym (top-counted t)) (moved-ends forest-moved t (in-us t (was-term t w)));
     alike = λ t u w x. joined-alike t u (was-term t w) (was-term u x);
-    alone = λ t u w x f e. joined-alone t u (was-term t w) (was-term u x) (sym (string-same t) ∙ f) e;
+    alone = λ t u w x f e. joined-alone t u (was-term t w) (was-term u x) (sym (string-like s js like t) ∙ f) e;
     labels = λ t w e. joined-label t (was-term t w) e;
     roots = λ t w e. joined-root t (was-term t w) e;
   }
@@ -378,7 +373,7 @@ module _ (s : Store) (audited : Audited s) (a b k v : ℕ) (j : Joinable s a b k
   -- CONGRUENCE EDGES
 
   parts-same : (t : ℕ) → parts s′ t ≡ parts s t
-  parts-same t = ap (λ (x : ℕ). firsts (chain s x)) (first-same t)
+  parts-same t = ap (λ (x : ℕ). firsts (chain s x)) (first-like s js like t)
 
   pairs-same : (l : List (ℕ × ℕ)) (t u : ℕ) → Pairs s l t u → Pairs s′ l t u
   pairs-same l t u p = record { one = p .one ∙ sym (parts-same t); other = p .other ∙ sym (parts-same u) }
@@ -449,56 +444,8 @@ module _ (s : Store) (audited : Audited s) (a b k v : ℕ) (j : Joinable s a b k
           ⊎-elim (λ n. let i = eqb-true k 1 n in absurd (omega arith)) (λ n. let i = eqb-true k 2 n in absurd (omega arith)) (either (eqb k 1) (eqb k 2) (j .kinds))
       go (no d) = of (from t w e d)
 
-  -- RECORDS
-
-  text-same : (t : ℕ) → text s′ t ≡ text s t
-  unfolding textIn
-  text-same t = rw (first-same t, second-same t)
-
-  equatable-same : (x y : ℕ) → isEquatable s′ x y ≡ isEquatable s x y
-  unfolding isEquatable
-  equatable-same x y = rw (kind-same x, kind-same y)
-
-  key-same : (p : ℕ × ℕ) → keyRule s′ p ≡ keyRule s p
-  unfolding keyRule
-  key-same p = rw (kind-same (p .0), kind-same (p .1))
-
-  was : (t : ℕ) {n : ℕ} → kind s′ t ≡ n → kind s t ≡ n
-  was t e = sym (kind-same t) ∙ e
-
-  joined-recorded : Recorded s′
-  joined-recorded =
-      let r = audited .recorded in
-      record {
-        kinds = λ t w. ap (within 5) (kind-same t) ∙ r .kinds t (was-term t w);
-        constants = λ t e. let h = r .constants t (was t e) in let p = first-same t in let q = second-same t in omega arith;
-        variables = λ t e. let h = r .variables t (was t e) in let p = first-same t in let q = second-same t in omega arith;
-        longNames = λ t e. let h = r .longNames t (was t e) in let q = second-same t in omega arith;
-        uniqueNames = λ t u e f g. r .uniqueNames t u (was t e) (was u f) (sym (text-same t) ∙ g ∙ text-same u);
-        twoParts = λ t e. subst (λ (x : ℕ). 2 ≤ length (chain s x)) (sym (first-same t)) (r .twoParts t (was t e));
-        partsGood = λ t e. subst (λ (x : ℕ). Every (Part s′ t) (chain s x)) (sym (first-same t))
-            (every-map (λ p h. record { string = string-same (p .0) ∙ h .string; lower = h .lower; plain = h .plain }) (r .partsGood t (was t e)));
-        concatSecond = λ t e. second-same t ∙ r .concatSecond t (was t e);
-        lengthFirst = λ t e. ap (isString s′) (first-same t) ∙ string-same (term s t .first) ∙ r .lengthFirst t (was t e);
-        lengthLower = λ t e. subst (λ (x : ℕ). x < t) (sym (first-same t)) (r .lengthLower t (was t e));
-        lengthSecond = λ t e. second-same t ∙ r .lengthSecond t (was t e);
-        equationSides = λ t e. ap (λ (x : ℕ). isEquatable s′ x (term s′ t .second)) (first-same t) ∙ ap (isEquatable s′ (term s t .first)) (second-same t)
-            ∙ equatable-same (term s t .first) (term s t .second) ∙ r .equationSides t (was t e);
-        equationFirst = λ t e. subst (λ (x : ℕ). x < t) (sym (first-same t)) (r .equationFirst t (was t e));
-        equationSecond = λ t e. subst (λ (x : ℕ). x < t) (sym (second-same t)) (r .equationSecond t (was t e));
-        nexts = r .nexts;
-        characters = r .characters;
-        reasons = r .reasons;
-        keys = every-all (every-map (λ p h. key-same p ∙ h) (all-every (keyRule s) (s .keys) (r .keys)));
-      }
-
-  joined-roomy : Roomy s′
-  joined-roomy =
-      let r = audited .roomy in
-      record { terms = subst (λ (n : ℕ). n ≤ s .room .terms) (sym long) (r .terms); cells = r .cells; chars = r .chars; reasons = r .reasons; keys = r .keys }
-
   pub joined-audited : Audited s′
-  joined-audited = record { roomy = joined-roomy; recorded = joined-recorded; classed = joined-classed; congruences = joined-congruences }
+  joined-audited = record { roomy = roomy-like s js like (audited .roomy); recorded = recorded-like s js like (audited .recorded); classed = joined-classed; congruences = joined-congruences }
 
 -- THE THEOREMS
 
@@ -517,6 +464,10 @@ pub join-words : (s : Store) (a b k v : ℕ) → Audited s → Joinable s a b k 
     → (t : ℕ) → f (termIn (joinIn (s .terms) a b k v) t) ≡ f (term s t)
 unfolding joinIn
 join-words s a b k v au j f h g t = words s au a b k v j f h g t
+
+pub join-like : (s : Store) (a b k v : ℕ) → Audited s → Joinable s a b k v → Like (s .terms) (joinIn (s .terms) a b k v)
+unfolding joinIn
+join-like s a b k v au j = like s au a b k v j
 
 pub join-long : (s : Store) (a b k v : ℕ) → Audited s → Joinable s a b k v → length (joinIn (s .terms) a b k v) ≡ count s
 unfolding joinIn

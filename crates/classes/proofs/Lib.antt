@@ -2,6 +2,7 @@ mod MovedClimbs
 mod MovedPaths
 mod MergeKept
 mod Tables
+mod Alike
 mod Turning
 mod Undoing
 mod Appending
@@ -13,5 +14,7 @@ mod Enough
 mod Dividing
 mod Under
 mod JoinKept
-mod Cutting
+mod Undone
+mod Marking
+mod Tracking
 mod Refines
