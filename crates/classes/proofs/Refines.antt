@@ -6,3 +6,4 @@ pub mod JoinWords
 pub mod Trails
 pub mod Counting
 pub mod MarkTables
+pub mod AuditMarks

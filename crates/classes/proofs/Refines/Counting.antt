@@ -59,11 +59,11 @@ module _ (f : ℕ → ℕ) (b : ℕ) where
       unfolding rises
       rising-turn k = record { low = omega arith; left = rw (add-one i) (and-next (leb last n) _ (rises n (drop (suc i) (table f m)) b) (le-leb last n k) refl ∙ sym (ap (λ (l : List ℕ). rises last l b) one-left) ∙ r .left) }
 
-    pub rising-done : m ≤ i → leb last b ≡ countsRule (table f m) b
+    pub rising-done : m ≤ i → (x : ℕ) → x ≡ last → leb x b ≡ countsRule (table f m) b
     unfolding rises
-    rising-done k =
+    rising-done k x y =
         let e : i ≡ length (table f m) = (let q = table-length f m in let j = r .low in omega arith) in
-        sym (ap (λ (l : List ℕ). rises last l b) (ap (λ (x : ℕ). drop x (table f m)) e ∙ drop-length (table f m))) ∙ r .left
+        ap (λ (z : ℕ). leb z b) y ∙ sym (ap (λ (l : List ℕ). rises last l b) (ap (λ (z : ℕ). drop z (table f m)) e ∙ drop-length (table f m))) ∙ r .left
 
 -- the last count: those before it rise to it, and it is at most the joins recorded
 pub counts-step : (f : ℕ → ℕ) (m i b : ℕ) → m ≡ suc i → countsRule (table f m) b ≡ true → (countsRule (table f i) (f i) ≡ true) × (f i ≤ b)
