@@ -2,7 +2,7 @@
 use mathlib.Core.Path.{_≡_, refl, sym, ap, subst, _∙_}
 use mathlib.Core.Bool.{Bool, true, false}
 use mathlib.Core.List.{List, [], _∷_, _++_}
-use mathlib.Core.Option.{some, Option, none}
+use mathlib.Core.Option.{some}
 use Prim.Native.Nat.{ℕ, zero, suc, _-_, _≤_}
 use native.Mathlib.Decide.{ℕ-discrete}
 use native.Mathlib.Omega.{arith}
@@ -18,8 +18,8 @@ use Rattle.records.proofs.Climbs.{above-step}
 use Rattle.records.proofs.Paths.{above-within}
 use Rattle.records.proofs.Rises.{Rise, ends, goes, rise-by}
 use Rattle.records.specs.Make.{withClass}
-use Rattle.classes.specs.Joins.{Edge, noEdge, turned, bearing, putEdge, putClass, turn, turns, rerootIn, Trace, cutIn, undoIn, isTrace}
-use Rattle.classes.proofs.Tables.{edge-long, turn-root, turn-flips, edge-here, edge-away}
+use Rattle.classes.specs.Joins.{Edge, noEdge, turned, bearing, putEdge, putClass, turn, turns, rerootIn, Trace, cutIn, undoIn}
+use Rattle.classes.proofs.Tables.{edge-long, turn-root, turn-flips}
 use Rattle.classes.proofs.Turning.{flip-closed, flip-words}
 use Rattle.classes.proofs.Cutting.{Traced, undo-cuts, undo-is, cut-within, cut-closed, cut-ends}
 use Rattle.classes.proofs.Alike.{Like, like-none, like-then}
