@@ -81,7 +81,8 @@ pub(crate) fn record_mark_unchecked(marks: &mut [u32], d: Standing) -> Standing
       let x = trailOf (now (marks .entry)) d
       ⌜ Trailed (now (marks .entry)) (now (marks .exit)) (record { marks = oneMore (x .marks) (length (x .joins)); joins = x .joins }) r ⌝ }
 {
-    marks[d.marks] = d.joins as u32;
+    let at = d.marks;
+    marks[at] = d.joins as u32;
     Standing {
         marks: d.marks + 1,
         joins: d.joins,
@@ -109,7 +110,7 @@ pub(crate) fn undo_to_unchecked(
     joins: usize,
     first: usize,
 ) -> bool
-    requires { ⌜ Tabled (now terms) n ⌝ ∗ ⌜ joins ≤ joinLimit ⌝ }
+    requires { ⌜ Tabled (now terms) n ⌝ ∗ ⌜ first ≤ joins ⌝ ∗ ⌜ joins ≤ joinLimit ⌝ }
     ensures { λ r. ⌜ Undoes (now (terms .entry)) (now (terms .exit)) n (undoAll (drop first (table (traceAt (now (marks .entry))) joins)) (termsView (now (terms .entry)) n)) r ⌝ }
 {
     let mut j = joins;
