@@ -15,4 +15,6 @@ mod JoinKept
 mod Undone
 mod Marking
 mod Tracking
+mod Generating
+mod AlikeMade
 mod Refines
