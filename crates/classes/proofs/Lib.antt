@@ -17,4 +17,7 @@ mod Marking
 mod Tracking
 mod Generating
 mod AlikeMade
+mod Events
+mod Invariant
+mod Histories
 mod Refines

@@ -1,0 +1,1 @@
+-- What every list of calls leaves.
