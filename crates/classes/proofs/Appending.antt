@@ -1,8 +1,8 @@
 -- Terms appended since a join stay as they are when it is undone.
 use mathlib.Core.Path.{_≡_, refl, sym, ap, subst, _∙_}
-use mathlib.Core.Bool.{Bool, true, false, not, _&&_}
+use mathlib.Core.Bool.{Bool, true, false}
 use mathlib.Core.List.{List, [], _∷_, _++_}
-use mathlib.Core.Option.{Option, none, some}
+use mathlib.Core.Option.{some, Option, none}
 use Prim.Native.Nat.{ℕ, zero, suc, _-_, _≤_}
 use native.Mathlib.Decide.{ℕ-discrete}
 use native.Mathlib.Omega.{arith}
@@ -11,17 +11,17 @@ use lib.Seq.{set-append-left}
 use lib.Dec.{eqb}
 use borrow.Author.Tests.{eq-eqb}
 use Rattle.records.specs.Lists.{Every, none-left, and}
-use Rattle.records.specs.Store.{Term, noTerm, termIn, within, climb, forestUp, topIn, aboveBy, aboveIn}
+use Rattle.records.specs.Store.{Term, noTerm, termIn, within, forestUp, topIn, aboveBy, aboveIn}
 use Rattle.records.specs.Working.Audited.{Closed}
-use Rattle.records.proofs.Lists.{decide, both-left, both-right, both-true, within-low, within-high, within-is}
+use Rattle.records.proofs.Lists.{within-low, within-high, within-is}
 use Rattle.records.proofs.Climbs.{above-step}
-use Rattle.records.proofs.Repeats.{climb-enough}
 use Rattle.records.proofs.Paths.{above-within}
 use Rattle.records.proofs.Rises.{Rise, ends, goes, rise-by}
 use Rattle.records.specs.Make.{withClass}
-use Rattle.classes.specs.Joins.{Edge, noEdge, turned, bearing, putEdge, putClass, turn, turns, rerootIn, Trace, isTrace, cutIn, undoIn}
-use Rattle.classes.proofs.Tables.{edge-long, edge-here, edge-away, turn-root, turn-flips}
-use Rattle.classes.proofs.Turning.{flip-words, flip-closed}
+use Rattle.classes.specs.Joins.{Edge, noEdge, turned, bearing, putEdge, putClass, turn, turns, rerootIn, Trace, cutIn, undoIn, isTrace}
+use Rattle.classes.proofs.Tables.{edge-long, turn-root, turn-flips, edge-here, edge-away}
+use Rattle.classes.proofs.Turning.{flip-closed, flip-words}
+use Rattle.classes.proofs.Cutting.{Traced, undo-cuts, undo-is, cut-within, cut-closed, cut-ends}
 use Rattle.classes.proofs.Alike.{Like, like-none, like-then}
 
 -- ONE RECORD
@@ -130,93 +130,31 @@ module _ (ts more : List Term) (c : Closed (forestUp ts) (length ts)) (t : ℕ) 
   pub reroot-long : length (rerootIn ts t) ≡ length ts
   reroot-long = turns-stays (aboveIn ts t) ts c (above-within ts (length ts) (suc (length ts)) t c w) .like .long
 
--- AN EDGE CUT: every walk still ends
-
-module _ (up up′ : ℕ → ℕ) (c : ℕ) (here : up′ c ≡ c) (away : (t : ℕ) → (t ≡ c → ⊥) → up′ t ≡ up t) where
-  record Stops (t : ℕ) : Type 0 where
-    steps : ℕ
-    self : up′ (climb up′ steps t) ≡ climb up′ steps t
-
-  stops-here : (t : ℕ) → t ≡ c → Stops t
-  unfolding climb
-  stops-here t e = record { steps = 0; self = ap up′ e ∙ here ∙ sym e }
-
-  stops : (k t : ℕ) → up (climb up k t) ≡ climb up k t → Stops t
-  unfolding climb
-  stops zero t e = go (ℕ-discrete t c)
-    where
-      go : Dec (t ≡ c) → Stops t
-      go (yes q) = stops-here t q
-      go (no d) = record { steps = 0; self = away t d ∙ e }
-  stops (suc k) t e = go (ℕ-discrete t c) (stops k (up t) e)
-    where
-      go : Dec (t ≡ c) → Stops (up t) → Stops t
-      go (yes q) s = stops-here t q
-      go (no d) s = record { steps = suc (s .steps); self = subst (λ (z : ℕ). up′ (climb up′ (s .steps) z) ≡ climb up′ (s .steps) z) (sym (away t d)) (s .self) }
-
-module _ (ts : List Term) (c : Closed (forestUp ts) (length ts)) (e : (t : ℕ) → within (length ts) t ≡ true → forestUp ts (topIn ts t) ≡ topIn ts t) (child : ℕ) (w : within (length ts) child ≡ true) where
-  abbrev cut : List Term
-  cut = putEdge ts child (noEdge child)
-
-  cut-here : forestUp cut child ≡ child
-  cut-here = ap (λ (y : Term). y .forestParent) (edge-here ts child _ w)
-
-  cut-away : (t : ℕ) → (t ≡ child → ⊥) → forestUp cut t ≡ forestUp ts t
-  cut-away t d = ap (λ (y : Term). y .forestParent) (edge-away ts child _ w t d)
-
-  pub cut-within : (t : ℕ) → within (length cut) t ≡ within (length ts) t
-  cut-within t = ap (λ (n : ℕ). within n t) (edge-long ts child _)
-
-  pub cut-closed : Closed (forestUp cut) (length cut)
-  cut-closed = record { stays = λ t h. cut-within (forestUp cut t) ∙ go t (sym (cut-within t) ∙ h) (ℕ-discrete t child) }
-    where
-      go : (t : ℕ) → within (length ts) t ≡ true → Dec (t ≡ child) → within (length ts) (forestUp cut t) ≡ true
-      go t h (yes q) = ap (λ (z : ℕ). within (length ts) (forestUp cut z)) q ∙ ap (within (length ts)) cut-here ∙ w
-      go t h (no d) = ap (within (length ts)) (cut-away t d) ∙ c .stays t h
-
-  pub cut-ends : (t : ℕ) → within (length cut) t ≡ true → forestUp cut (topIn cut t) ≡ topIn cut t
-  cut-ends t h = let s = stops (forestUp ts) (forestUp cut) child cut-here cut-away (length ts) t (e t (sym (cut-within t) ∙ h)) in climb-enough (forestUp cut) (length cut) t cut-closed h (s .steps) (s .self)
-
 -- UNDOING
 
-module _ (ts more : List Term) (x : Trace) where
-  trace-more : isTrace ts x ≡ true → isTrace (ts ++ more) x ≡ true
-  unfolding isTrace
-  trace-more h =
-      let p = both-left (within (length ts) (x .child) && within (length ts) (x .oldRoot) && within (length ts) (x .under) && not (eqb (forestUp ts (x .child)) (x .child))) _ h in
-      let q = both-left (within (length ts) (x .child) && within (length ts) (x .oldRoot) && within (length ts) (x .under)) _ p in
-      let r = both-left (within (length ts) (x .child) && within (length ts) (x .oldRoot)) _ q in
-      let wc = both-left (within (length ts) (x .child)) _ r in
-      let wu = both-right (within (length ts) (x .child) && within (length ts) (x .oldRoot)) _ q in
-      both-true _ _ (both-true _ _ (both-true _ _ (both-true _ _ (within-more ts more _ wc) (within-more ts more _ (both-right (within (length ts) (x .child)) _ r))) (within-more ts more _ wu))
-      (ap (λ (y : Term). not (eqb (y .forestParent) (x .child))) (term-more ts more (x .child) wc) ∙ both-right (within (length ts) (x .child) && within (length ts) (x .oldRoot) && within (length ts) (x .under)) _ p))
-      (ap (λ (y : Term). not (eqb (y .classParent) (x .under))) (term-more ts more (x .under) wu) ∙ both-right (within (length ts) (x .child) && within (length ts) (x .oldRoot) && within (length ts) (x .under) && not (eqb (forestUp ts (x .child)) (x .child))) _ h)
+module _ (ts more : List Term) (x : Trace) (h : Traced ts x) where
+  traced-more : Traced (ts ++ more) x
+  traced-more = record {
+    child = within-more ts more _ (h .child);
+    oldRoot = within-more ts more _ (h .oldRoot);
+    under = within-more ts more _ (h .under);
+    linked = λ e. h .linked (sym (ap (λ (y : Term). y .forestParent) (term-more ts more (x .child) (h .child))) ∙ e);
+    put = λ e. h .put (sym (ap (λ (y : Term). y .classParent) (term-more ts more (x .under) (h .under))) ∙ e);
+  }
 
-  module _ (c : Closed (forestUp ts) (length ts)) (e : (t : ℕ) → within (length ts) t ≡ true → forestUp ts (topIn ts t) ≡ topIn ts t)
-      (wc : within (length ts) (x .child) ≡ true) (wo : within (length ts) (x .oldRoot) ≡ true) (wu : within (length ts) (x .under) ≡ true) where
-    cut-more : cutIn (ts ++ more) x ≡ cutIn ts x ++ more
-    cut-more =
-        let us = putEdge ts (x .child) (noEdge (x .child)) in
-        let k = cut-closed ts c e (x .child) wc in
-        let wo′ = cut-within ts c e (x .child) wc (x .oldRoot) ∙ wo in
-        let z = cut-ends ts c e (x .child) wc (x .oldRoot) wo′ in
-        ap (λ (y : List Term). putClass (rerootIn y (x .oldRoot)) (x .under) (x .under)) (edge-more ts more (x .child) _ wc)
-        ∙ ap (λ (y : List Term). putClass y (x .under) (x .under)) (reroot-more us more k (x .oldRoot) wo′ z)
-        ∙ class-more (rerootIn us (x .oldRoot)) more (x .under) (x .under) (ap (λ (n : ℕ). within n (x .under)) (reroot-long us more k (x .oldRoot) wo′ z ∙ edge-long ts (x .child) _) ∙ wu)
+  cut-more : Closed (forestUp ts) (length ts) → ((t : ℕ) → within (length ts) t ≡ true → forestUp ts (topIn ts t) ≡ topIn ts t) → cutIn (ts ++ more) x ≡ cutIn ts x ++ more
+  cut-more c e =
+      let us = putEdge ts (x .child) (noEdge (x .child)) in
+      let k = cut-closed ts c e (x .child) (h .child) in
+      let wo′ = cut-within ts c e (x .child) (h .child) (x .oldRoot) ∙ h .oldRoot in
+      let z = cut-ends ts c e (x .child) (h .child) (x .oldRoot) wo′ in
+      ap (λ (y : List Term). putClass (rerootIn y (x .oldRoot)) (x .under) (x .under)) (edge-more ts more (x .child) _ (h .child))
+      ∙ ap (λ (y : List Term). putClass y (x .under) (x .under)) (reroot-more us more k (x .oldRoot) wo′ z)
+      ∙ class-more (rerootIn us (x .oldRoot)) more (x .under) (x .under) (ap (λ (n : ℕ). within n (x .under)) (reroot-long us more k (x .oldRoot) wo′ z ∙ edge-long ts (x .child) _) ∙ h .under)
 
 -- 'Terms appended since then stay'
 pub undo-more : (ts more us : List Term) (x : Trace) → Closed (forestUp ts) (length ts) → ((t : ℕ) → within (length ts) t ≡ true → forestUp ts (topIn ts t) ≡ topIn ts t)
     → undoIn ts x ≡ some us → undoIn (ts ++ more) x ≡ some (us ++ more)
-unfolding undoIn isTrace
-undo-more ts more us x c e h = decide (isTrace ts x) (λ p. yes p (rw p at h)) (λ p. absurd (not-none (rw p at h)))
-  where
-    not-none : _≡_ {A = Option (List Term)} none (some us) → ⊥
-    not-none q = let z : _≡_ {A = ℕ} 0 1 = cc in absurd (omega arith)
-
-    yes : isTrace ts x ≡ true → some (cutIn ts x) ≡ some us → undoIn (ts ++ more) x ≡ some (us ++ more)
-    yes p q =
-        let p₁ = both-left (within (length ts) (x .child) && within (length ts) (x .oldRoot) && within (length ts) (x .under) && not (eqb (forestUp ts (x .child)) (x .child))) _ p in
-        let p₂ = both-left (within (length ts) (x .child) && within (length ts) (x .oldRoot) && within (length ts) (x .under)) _ p₁ in
-        let p₃ = both-left (within (length ts) (x .child) && within (length ts) (x .oldRoot)) _ p₂ in
-        let i : cutIn ts x ≡ us = cc in
-        rw (trace-more ts more x p) (ap some (cut-more ts more x c e (both-left _ _ p₃) (both-right (within (length ts) (x .child)) _ p₃) (both-right (within (length ts) (x .child) && within (length ts) (x .oldRoot)) _ p₂) ∙ ap (λ (y : List Term). y ++ more) i))
+undo-more ts more us x c e h =
+    let u = undo-cuts ts us x h in
+    undo-is (ts ++ more) (us ++ more) x (record { traced = traced-more ts more x (u .traced); is = cut-more ts more x (u .traced) c e ∙ ap (λ (y : List Term). y ++ more) (u .is) })

@@ -3,7 +3,7 @@ use mathlib.Core.Path.{_≡_, refl, sym, ap, subst, _∙_}
 use mathlib.Core.Bool.{Bool, true, false, not}
 use mathlib.Core.List.{List, [], _∷_, _++_}
 use mathlib.Core.Logic.{_⊎_, inl, inr, ⊎-elim}
-use Prim.Native.Nat.{ℕ, zero, suc, _<_}
+use Prim.Native.Nat.{ℕ, zero, suc, _≤_, _<_}
 use native.Mathlib.Decide.{ℕ-discrete}
 use native.Mathlib.Omega.{arith}
 use lib.ListN.{length}
@@ -13,18 +13,18 @@ use Rattle.records.specs.Lists.{firsts, firstOf, isIn, upTo, Every}
 use Rattle.records.specs.Store.{Term, Store, termIn, term, count, kind, within, isTerm, isString, chain, parts, climb, classUp, forestUp, topIn, root, top, aboveBy, aboveIn, orNone, nearestIn, pathIn, isEdge}
 use Rattle.records.specs.Rules.{isNumber, isReasonKind}
 use Rattle.records.specs.Make.{withTerms, withClass}
-use Rattle.records.specs.Working.Audited.{Closed, Label, asserted, interface, congruence, definitional, Unlabelled, Falls, Pairs, Congruent, Classed, Congruences, Audited}
-use Rattle.records.proofs.Lists.{decide, clash, either, same-test, every-map, every-both, firsts-every, seconds-every}
+use Rattle.records.specs.Working.Audited.{Closed, Part, Label, asserted, interface, congruence, definitional, Unlabelled, Falls, Pairs, Congruent, Recorded, Classed, Congruences, Roomy, Audited}
+use Rattle.records.proofs.Lists.{decide, clash, either, same-test, every-map, every-both, all-every, every-all, firsts-every, seconds-every}
 use Rattle.records.proofs.Climbs.{climb-stays, classed-roots, root-root, root-term}
 use Rattle.records.proofs.Grown.{used, string-term}
 use Rattle.records.proofs.Readings.{parts-strings}
 use Rattle.classes.proofs.MovedClimbs.{Moved, moved-ends}
 use Rattle.classes.specs.Joins.{Edge, edge, noEdge, edgeOf, turned, bearing, putClass, rerootIn, linkIn, joinIn, Stands, here, over, Linked}
 use Rattle.classes.specs.Working.Carries.{Forest}
-use Rattle.classes.proofs.Tables.{edge-long, edge-here, edge-away, class-long, class-here, class-away}
+use Rattle.classes.proofs.Tables.{edge-long, edge-here, edge-away, edge-words, class-long, class-here, class-away, class-words}
 use Rattle.classes.proofs.Turning.{Rerooted}
+use Rattle.classes.proofs.Undoing.{classed-forest, rerooted, class-up, class-top, class-forest}
 use Rattle.classes.proofs.Alike.{Like, kind-like, first-like, string-like, recorded-like, roomy-like}
-use Rattle.classes.proofs.Undoing.{classed-forest, rerooted, class-words, class-up, class-top, class-forest}
 use Rattle.classes.proofs.Rounds.{Came, as-was, round, Same, reroot-same}
 use Rattle.classes.proofs.Under.{under-path}
 use Rattle.classes.proofs.Dividing.{Joint, were, across, back, joint-moved, moved-joint}
@@ -130,11 +130,7 @@ module _ (s : Store) (audited : Audited s) (a b k v : ℕ) (j : Joinable s a b k
   -- WORDS THAT STAY
 
   link-words : (f : Term → ℕ) → ((y : Term) (e : Edge) → f (bearing y e) ≡ f y) → (t : ℕ) → f (term s′ t) ≡ f (termIn put t)
-  link-words f h t = go (ℕ-discrete t a) ∙ same .words f h t
-    where
-      go : Dec (t ≡ a) → f (term s′ t) ≡ f (termIn us t)
-      go (yes e) = subst (λ (z : ℕ). f (term s′ z) ≡ f (termIn us z)) (sym e) (ap f at-a ∙ h _ _)
-      go (no d) = ap f (away t d)
+  link-words f h t = edge-words us a _ (in-us a wa) f (λ y. h y _) t ∙ same .words f h t
 
   pub words : (f : Term → ℕ) → ((y : Term) (e : Edge) → f (bearing y e) ≡ f y) → ((y : Term) (p : ℕ) → f (withClass y p) ≡ f y) → (t : ℕ) → f (term s′ t) ≡ f (term s t)
   words f h g t = link-words f h t ∙ class-words ts (root s a) (root s b) wr f (λ y. g y (root s b)) t

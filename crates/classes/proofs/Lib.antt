@@ -9,6 +9,8 @@ mod Appending
 mod Between
 mod Flips
 mod Rounds
+mod Cutting
+mod Enough
 mod Dividing
 mod Under
 mod JoinKept

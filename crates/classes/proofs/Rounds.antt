@@ -1,7 +1,7 @@
 -- A tree re-rooted: every edge keeps its ends, label and stamp, the trees are the same, and so are the stamps on each path.
 use mathlib.Core.Path.{_≡_, refl, sym, ap, subst, _∙_}
 use mathlib.Core.Bool.{true}
-use mathlib.Core.List.{List, []}
+use mathlib.Core.List.{List}
 use Prim.Native.Nat.{ℕ, _<_}
 use native.Mathlib.Decide.{ℕ-discrete}
 use lib.ListN.{length}

@@ -1,7 +1,7 @@
 -- Tables of terms with an edge or a class parent put in, term by term.
 use mathlib.Core.Path.{_≡_, refl, sym, ap, subst, _∙_}
 use mathlib.Core.Bool.{true}
-use mathlib.Core.List.{List, [], _∷_}
+use mathlib.Core.List.{List, _∷_}
 use Prim.Native.Nat.{ℕ, zero, suc, _-_, _≤_, _<_}
 use native.Mathlib.Decide.{ℕ-discrete}
 use native.Mathlib.Omega.{arith}
@@ -29,6 +29,14 @@ module _ (ts : List Term) (t : ℕ) (x : Term) (w : within (length ts) t ≡ tru
   set-away zero d = refl
   set-away (suc j) d = let l = within-low (length ts) t w in getD-set-other ts (t - 1) j x noTerm (λ e. d (omega arith))
 
+  -- what the record put in reads as the one that it replaces
+  set-words : {A : Type 0} (g : Term → A) → g x ≡ g (termIn ts t) → (u : ℕ) → g (termIn (set ts (t - 1) x) u) ≡ g (termIn ts u)
+  set-words g h u = go (ℕ-discrete u t)
+    where
+      go : Dec (u ≡ t) → g (termIn (set ts (t - 1) x) u) ≡ g (termIn ts u)
+      go (yes e) = subst (λ (z : ℕ). g (termIn (set ts (t - 1) x) z) ≡ g (termIn ts z)) (sym e) (ap g set-in ∙ h)
+      go (no d) = ap g (set-away u d)
+
 -- two tables of one length are equal where each term is
 pub ext-term : (ts us : List Term) → length us ≡ length ts → ((t : ℕ) → within (length ts) t ≡ true → termIn us t ≡ termIn ts t) → us ≡ ts
 unfolding termIn
@@ -47,6 +55,11 @@ module _ (ts : List Term) (t : ℕ) (e : Edge) where
   unfolding putEdge
   edge-away w u d = set-away ts t _ w u d
 
+  -- words other than the edge's
+  pub edge-words : within (length ts) t ≡ true → {A : Type 0} (g : Term → A) → ((x : Term) → g (bearing x e) ≡ g x) → (u : ℕ) → g (termIn (putEdge ts t e) u) ≡ g (termIn ts u)
+  unfolding putEdge
+  edge-words w g h u = set-words ts t _ w g (h _) u
+
 module _ (ts : List Term) (t p : ℕ) where
   pub class-long : length (putClass ts t p) ≡ length ts
   unfolding putClass
@@ -59,6 +72,11 @@ module _ (ts : List Term) (t p : ℕ) where
   pub class-away : within (length ts) t ≡ true → (u : ℕ) → (u ≡ t → ⊥) → termIn (putClass ts t p) u ≡ termIn ts u
   unfolding putClass
   class-away w u d = set-away ts t _ w u d
+
+  -- words other than the class parent
+  pub class-words : within (length ts) t ≡ true → {A : Type 0} (g : Term → A) → ((x : Term) → g (withClass x p) ≡ g x) → (u : ℕ) → g (termIn (putClass ts t p) u) ≡ g (termIn ts u)
+  unfolding putClass
+  class-words w g h u = set-words ts t _ w g (h _) u
 
 -- an edge put in the place of another, and one that is there already
 pub edge-again : (ts : List Term) (t : ℕ) (e f : Edge) → within (length ts) t ≡ true → f ≡ edgeOf (termIn ts t) → putEdge (putEdge ts t e) t f ≡ ts

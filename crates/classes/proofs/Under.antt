@@ -1,8 +1,8 @@
 -- A root put under a term of another tree: the stamps on the path of two terms of one tree are those that were on it.
 use mathlib.Core.Path.{_≡_, sym, ap, subst, _∙_}
 use mathlib.Core.Bool.{true, false, _||_}
-use mathlib.Core.List.{List, [], _∷_, _++_, List·Memᴰ, List·Memᴰ·head, List·Memᴰ·tail, List·Memᴰ·cases-cons, List·Memᴰ·not-nil}
-use mathlib.Core.Logic.{_⊎_, ⊎-elim}
+use mathlib.Core.List.{List, _∷_, _++_, List·Memᴰ, List·Memᴰ·head, List·Memᴰ·tail, List·Memᴰ·cases-cons, List·Memᴰ·not-nil}
+use mathlib.Core.Logic.{⊎-elim}
 use Prim.Native.Nat.{ℕ, _<_}
 use native.Mathlib.Decide.{ℕ-discrete}
 use lib.ListN.{length}
@@ -13,7 +13,6 @@ use Rattle.records.proofs.Lists.{decide, clash, or-right, right-falsum, any-app
 use Rattle.records.proofs.Climbs.{climb-stays}
 use Rattle.records.proofs.Rises.{is-in, in-is, Rise, ends, goes, rise-by}
 use Rattle.classes.proofs.MovedClimbs.{Moved}
-use Rattle.classes.specs.Joins.{}
 use Rattle.classes.specs.Working.Carries.{Forest}
 use Rattle.classes.proofs.Turning.{rise-above}
 use Rattle.classes.proofs.Flips.{root-top, top-in}

@@ -1,22 +1,20 @@
 -- Going back restores every word: undoing a join gives the table before it.
-use mathlib.Core.Path.{_≡_, refl, sym, ap, subst, _∙_}
+use mathlib.Core.Path.{_≡_, refl, sym, ap, _∙_}
 use mathlib.Core.Bool.{true, not}
-use mathlib.Core.List.{List, []}
+use mathlib.Core.List.{List}
 use mathlib.Core.Option.{some}
-use Prim.Native.Nat.{ℕ, zero, suc, _-_}
-use native.Mathlib.Decide.{ℕ-discrete}
+use Prim.Native.Nat.{ℕ, zero, suc}
 use lib.ListN.{length}
 use borrow.Author.Tests.{eq-eqb, ne-eqb}
-use Rattle.records.specs.Store.{Term, Store, termIn, within, isTerm, climb, classUp, forestUp, rootIn, topIn, root, aboveIn}
+use Rattle.records.specs.Store.{Term, Store, within, isTerm, climb, classUp, forestUp, rootIn, topIn, root, aboveIn}
 use Rattle.records.specs.Working.Audited.{Classed}
 use Rattle.records.proofs.Lists.{both-true}
 use Rattle.records.proofs.Climbs.{climb-stays, classed-tops, root-term, top-term}
 use Rattle.records.proofs.Paths.{above-within, above-top}
 use Rattle.records.proofs.Rises.{rise-by}
-use Rattle.records.specs.Make.{withClass}
 use Rattle.classes.specs.Joins.{noEdge, edgeOf, putClass, turns, rerootIn, linkIn, joinIn, traceOf, isTrace, cutIn, undoIn}
 use Rattle.classes.specs.Working.Carries.{Forest}
-use Rattle.classes.proofs.Tables.{edge-long, edge-here, edge-away, edge-again, class-long, class-here, class-away, class-again}
+use Rattle.classes.proofs.Tables.{edge-long, edge-here, edge-words, edge-again, class-long, class-here, class-words, class-again}
 use Rattle.classes.proofs.Turning.{every-mem, rise-above, Rerooted, turned-way}
 
 pub classed-forest : (s : Store) → Classed s → Forest (s .terms)
@@ -50,16 +48,8 @@ climb-same up up′ e zero t = refl
 climb-same up up′ e (suc n) t = ap (climb up n) (e t) ∙ climb-same up up′ e n (up′ t)
 
 module _ (ts : List Term) (r q : ℕ) (w : within (length ts) r ≡ true) where
-  -- words other than the class parent
-  pub class-words : {A : Type 0} (g : Term → A) → ((x : Term) → g (withClass x q) ≡ g x) → (t : ℕ) → g (termIn (putClass ts r q) t) ≡ g (termIn ts t)
-  class-words g h t = go (ℕ-discrete t r)
-    where
-      go : Dec (t ≡ r) → g (termIn (putClass ts r q) t) ≡ g (termIn ts t)
-      go (yes e) = subst (λ (z : ℕ). g (termIn (putClass ts r q) z) ≡ g (termIn ts z)) (sym e) (ap g (class-here ts r q w) ∙ h _)
-      go (no d) = ap g (class-away ts r q w t d)
-
   pub class-up : (t : ℕ) → forestUp (putClass ts r q) t ≡ forestUp ts t
-  class-up = class-words (λ x. x .forestParent) (λ x. refl)
+  class-up = class-words ts r q w (λ x. x .forestParent) (λ x. refl)
 
   pub class-top : (t : ℕ) → topIn (putClass ts r q) t ≡ topIn ts t
   class-top t = ap (λ (n : ℕ). climb (forestUp (putClass ts r q)) n t) (class-long ts r q) ∙ climb-same _ _ class-up (length ts) t
@@ -71,7 +61,7 @@ module _ (ts : List Term) (r q : ℕ) (w : within (length ts) r ≡ true) where
   class-forest f = record {
     closed = record { stays = λ t h. class-within _ ∙ ap (within (length ts)) (class-up t) ∙ f .closed .stays t (sym (class-within t) ∙ h) };
     ended = λ t h. class-up _ ∙ ap (forestUp ts) (class-top t) ∙ f .ended t (sym (class-within t) ∙ h) ∙ sym (class-top t);
-    unlabelled = λ t h e. class-words edgeOf (λ x. refl) t ∙ f .unlabelled t (sym (class-within t) ∙ h) (sym (class-up t) ∙ e);
+    unlabelled = λ t h e. class-words ts r q w edgeOf (λ x. refl) t ∙ f .unlabelled t (sym (class-within t) ∙ h) (sym (class-up t) ∙ e);
   }
 
 -- A JOIN UNDONE
@@ -102,11 +92,7 @@ module _ (ts : List Term) (f : Forest ts) (a b k v : ℕ) (wa : within (length t
 
   -- the class parent of the old class root
   class-is : classUp (linkIn put a b k v) (rootIn ts a) ≡ rootIn ts b
-  class-is = words (ℕ-discrete (rootIn ts a) a) ∙ turned .words (λ x. x .classParent) (λ x e. refl) (rootIn ts a) ∙ ap (λ (x : Term). x .classParent) (class-here ts _ (rootIn ts b) wr)
-    where
-      words : Dec (rootIn ts a ≡ a) → classUp (linkIn put a b k v) (rootIn ts a) ≡ classUp (rerootIn put a) (rootIn ts a)
-      words (yes e) = subst (λ (z : ℕ). classUp (linkIn put a b k v) z ≡ classUp (rerootIn put a) z) (sym e) (ap (λ (x : Term). x .classParent) (edge-here (rerootIn put a) a _ wa″))
-      words (no d) = ap (λ (x : Term). x .classParent) (edge-away (rerootIn put a) a _ wa″ (rootIn ts a) d)
+  class-is = edge-words (rerootIn put a) a _ wa″ (λ x. x .classParent) (λ x. refl) (rootIn ts a) ∙ turned .words (λ x. x .classParent) (λ x e. refl) (rootIn ts a) ∙ ap (λ (x : Term). x .classParent) (class-here ts _ (rootIn ts b) wr)
 
   trace-is : within (length ts) (topIn ts a) ≡ true → isTrace (linkIn put a b k v) (traceOf ts a) ≡ true
   unfolding isTrace

@@ -13,12 +13,11 @@ use Rattle.records.specs.Working.Audited.{Closed}
 use Rattle.records.proofs.Lists.{within-high}
 use Rattle.records.proofs.Climbs.{climb-within, view-term, view-count}
 use Rattle.records.specs.Make.{withClass}
-use Rattle.classes.specs.Joins.{Trace, cutIn, edge, noEdge, edgeOf, putEdge, putClass, rerootIn, linkIn, joinIn, trace}
+use Rattle.classes.specs.Joins.{edge, noEdge, putEdge, putClass, rerootIn, linkIn, joinIn, trace}
 use Rattle.classes.specs.Working.Carries.{Forest, carryBy, EdgePut, ClassPut, Carriable, Carried, Linkable, JoinedIn, Cuttable, CutFrom}
-use Rattle.classes.proofs.Tables.{ext-term, edge-long, edge-here, edge-away, class-long, class-here, class-away}
+use Rattle.classes.proofs.Tables.{ext-term, class-long, class-here, class-away}
 use Rattle.classes.proofs.Undoing.{class-forest}
-use Rattle.classes.proofs.Appending.{cut-closed, cut-ends, cut-within}
-use Rattle.classes.proofs.Rounds.{Same, reroot-same}
+use Rattle.classes.proofs.Cutting.{cut-forest}
 use Rattle.classes.proofs.Refines.Carrying.{carry-link, carry-reroot}
 
 -- A CLASS PARENT
@@ -117,24 +116,6 @@ module _ (l : List ℕ) (n a b : ℕ) (h : Linkable l n a b) where
       }
 
 -- CUTTING
-
-cut-forest : (ts : List Term) → Forest ts → (c : ℕ) → within (length ts) c ≡ true → Forest (putEdge ts c (noEdge c))
-cut-forest ts f c w = record {
-  closed = cut-closed ts (f .closed) (f .ended) c w;
-  ended = cut-ends ts (f .closed) (f .ended) c w;
-  unlabelled = λ t h e. go t (sym (cut-within ts (f .closed) (f .ended) c w t) ∙ h) e (ℕ-discrete t c);
-}
-  where
-    go : (t : ℕ) → within (length ts) t ≡ true → forestUp (putEdge ts c (noEdge c)) t ≡ t → Dec (t ≡ c) → edgeOf (termIn (putEdge ts c (noEdge c)) t) ≡ noEdge t
-    go t h e (yes q) = subst (λ (z : ℕ). edgeOf (termIn (putEdge ts c (noEdge c)) z) ≡ noEdge z) (sym q) (ap edgeOf (edge-here ts c _ w))
-    go t h e (no d) = ap edgeOf (edge-away ts c _ w t d) ∙ f .unlabelled t h (sym (ap (λ (y : Term). y .forestParent) (edge-away ts c _ w t d)) ∙ e)
-
--- whatever the three terms, what is left is a forest again
-pub cut-kept : (ts : List Term) (x : Trace) → Forest ts → within (length ts) (x .child) ≡ true → within (length ts) (x .oldRoot) ≡ true → within (length ts) (x .under) ≡ true → Forest (cutIn ts x)
-cut-kept ts x f wc wr wu =
-    let e = edge-long ts (x .child) (noEdge (x .child)) in
-    let s = reroot-same (putEdge ts (x .child) (noEdge (x .child))) (cut-forest ts f (x .child) wc) (x .oldRoot) (ap (λ (n : ℕ). within n (x .oldRoot)) e ∙ wr) in
-    class-forest (rerootIn (putEdge ts (x .child) (noEdge (x .child))) (x .oldRoot)) (x .under) (x .under) (ap (λ (n : ℕ). within n (x .under)) (s .long ∙ e) ∙ wu) (s .forest)
 
 module _ (l : List ℕ) (n c r u : ℕ) (h : Cuttable l n (trace c r u)) where
   pub edge-room : 8 * c + 8 ≤ length l
