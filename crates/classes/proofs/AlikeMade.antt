@@ -1,7 +1,7 @@
 -- Making a term looks at no class and no edge: what can be made over a table can be made over a table of the same terms, and the two are
 -- again of the same terms.
 use mathlib.Core.Path.{_≡_, refl, sym, ap, subst, _∙_}
-use mathlib.Core.List.{List, [], _∷_, _++_}
+use mathlib.Core.List.{List}
 use Prim.Native.Nat.{ℕ, suc}
 use native.Mathlib.Omega.{arith}
 use lib.ListN.{length}

@@ -1,16 +1,16 @@
 -- What every list of joins, marks, goings back and makings leaves: the invariant, join by join and mark by mark, from the last back.
 use mathlib.Core.Path.{_≡_, refl, sym, ap, subst, _∙_}
 use mathlib.Core.Bool.{true}
-use mathlib.Core.List.{List, [], _∷_, _++_}
-use mathlib.Core.Option.{Option, none, some}
-use Prim.Native.Nat.{ℕ, zero, suc, _-_, _≤_, _<_}
+use mathlib.Core.List.{List, [], _∷_}
+use mathlib.Core.Option.{some}
+use Prim.Native.Nat.{ℕ, suc, _-_, _≤_, _<_}
 use native.Mathlib.Decide.{decLe}
 use native.Mathlib.Omega.{arith}
 use lib.ListN.{length, getD, take, drop, length-append, List·getD-append}
 use lib.Seq.{take-append-le, take-append-seam, take-length, drop-length, drop-append-le, getD-append-seam}
 use borrow.Author.Tests.{eq-eqb}
 use Rattle.records.specs.Lists.{all, oneMore}
-use Rattle.records.specs.Store.{Term, Cell, Store, count, within}
+use Rattle.records.specs.Store.{Term, Cell, Store, count}
 use Rattle.records.specs.Make.{own, withTerms, withNames}
 use Rattle.records.specs.Working.Audited.{Audited}
 use Rattle.records.proofs.Lists.{both-true}
@@ -20,7 +20,7 @@ use Rattle.records.proofs.Append.{grow, More, New, kept-audited}
 use Rattle.records.proofs.Kept.{names-audited, Appends, found, one-term, after-names}
 use Rattle.classes.specs.Joins.{Trace, joinIn, traceOf, undoIn}
 use Rattle.classes.specs.Marks.{undoAll, countsRule, marksRule}
-use Rattle.classes.specs.History.{Event, joined, marked, standing, cutAt, markedAt, Appended, nothing, one-more}
+use Rattle.classes.specs.History.{Event, joined, marked, standing, cutAt, markedAt, Appended, one-more}
 use Rattle.classes.proofs.Undoing.{undo-join}
 use Rattle.classes.proofs.Appending.{undo-more}
 use Rattle.classes.proofs.JoinKept.{Joinable, join-kept, join-like}
