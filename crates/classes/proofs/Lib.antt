@@ -17,4 +17,9 @@ mod MergeKept
 mod Undone
 mod Marking
 mod Tracking
+mod Generating
+mod AlikeMade
+mod Events
+mod Invariant
+mod Histories
 mod Refines

@@ -103,7 +103,7 @@ module _ (s : Store) (ts : List Term) (y : Trace) (x : Trail) (undo : undoIn ts 
   abbrev more : Trail
   more = record { marks = x .marks; joins = oneMore (x .joins) y }
 
-  rule-more : 0 < length (x .marks) → marksRule (withTerms s ts) more ≡ true
+  pub rule-more : 0 < length (x .marks) → marksRule (withTerms s ts) more ≡ true
   unfolding marksRule
   rule-more k =
       let e = length-append (x .joins) (y ∷ []) in
