@@ -29,7 +29,7 @@ use Rattle.classes.proofs.Undoing.{classed-forest, rerooted, class-up, 
 use Rattle.classes.proofs.Alike.{Like, kind-like, first-like, string-like, recorded-like, roomy-like}
 use Rattle.classes.proofs.Rounds.{Came, as-was, round, Same, reroot-same}
 use Rattle.classes.proofs.Under.{under-path}
-use Rattle.classes.proofs.Dividing.{Joint, were, across, back, joint-moved, moved-joint}
+use Rattle.classes.proofs.Dividing.{Joint, were, across, back, joint-at, joint-map, joint-moved, moved-joint}
 
 -- what is asked: two string terms of different classes, a reason, and a term of the second one's class
 pub record Attachable (s : Store) (a b place k v : ℕ) : Type 0 where
@@ -159,34 +159,24 @@ module _ (s : Store) (audited : Audited s) (a b place k v stamp : ℕ) (j : Atta
   -- the classes are the ones that the join makes
   module _ (t u : ℕ) (wt : isTerm s t ≡ true) (wu : isTerm s u ≡ true) where
     pub division : root s′ t ≡ root s′ u → Joint (root s) a b t u
-    division e = go (moved-joint class-moved t u wt wu (sym (root-counted t) ∙ e ∙ root-counted u))
-      where
-        go : Joint (root s) (root s a) place t u → Joint (root s) a b t u
-        go (were p) = were p
-        go (across p q) = across (p ∙ root-root s c a wa) (q ∙ j .beside)
-        go (back p q) = back (p ∙ j .beside) (q ∙ root-root s c a wa)
+    division e = joint-at (root-root s c a wa) (j .beside) (moved-joint class-moved t u wt wu (sym (root-counted t) ∙ e ∙ root-counted u))
 
     pub divided : Joint (root s) a b t u → root s′ t ≡ root s′ u
-    divided h = root-counted t ∙ joint-moved class-moved t u wt wu (go h) ∙ sym (root-counted u)
-      where
-        go : Joint (root s) a b t u → Joint (root s) (root s a) place t u
-        go (were p) = were p
-        go (across p q) = across (p ∙ sym (root-root s c a wa)) (q ∙ sym (j .beside))
-        go (back p q) = back (p ∙ sym (j .beside)) (q ∙ sym (root-root s c a wa))
+    divided h = root-counted t ∙ joint-moved class-moved t u wt wu (joint-at (sym (root-root s c a wa)) (sym (j .beside)) h) ∙ sym (root-counted u)
 
   -- TREES
 
-  put-top : (t : ℕ) → topIn put t ≡ top s t
-  put-top = class-top ts (root s a) place wr
+  put-top : (t : ℕ) → isTerm s t ≡ true → topIn put t ≡ top s t
+  put-top = class-top ts (root s a) place wr (classed-tops s c)
 
   self-a : forestUp us a ≡ a
   self-a = ap (λ (y : Edge). y .parent) (rooted .here)
 
   us-together : (t u : ℕ) → isTerm s t ≡ true → isTerm s u ≡ true → top s t ≡ top s u → topIn us t ≡ topIn us u
-  us-together t u wt wu e = same .together t u (in-put t wt) (in-put u wu) (put-top t ∙ e ∙ sym (put-top u))
+  us-together t u wt wu e = same .together t u (in-put t wt) (in-put u wu) (put-top t wt ∙ e ∙ sym (put-top u wu))
 
   us-apart : (t u : ℕ) → isTerm s t ≡ true → isTerm s u ≡ true → topIn us t ≡ topIn us u → top s t ≡ top s u
-  us-apart t u wt wu e = sym (put-top t) ∙ same .apart t u (in-put t wt) (in-put u wu) e ∙ put-top u
+  us-apart t u wt wu e = sym (put-top t wt) ∙ same .apart t u (in-put t wt) (in-put u wu) e ∙ put-top u wu
 
   to-root : (t u : ℕ) → isTerm s t ≡ true → isTerm s u ≡ true → top s t ≡ top s u → root s t ≡ root s u
   to-root t u wt wu e = eqb-true _ _ (c .alike t u wt wu ∙ eq-eqb _ _ e)
@@ -221,26 +211,13 @@ module _ (s : Store) (audited : Audited s) (a b place k v stamp : ℕ) (j : Atta
 
   module _ (t u : ℕ) (wt : isTerm s t ≡ true) (wu : isTerm s u ≡ true) where
     trees : top s′ t ≡ top s′ u → Joint (root s) a b t u
-    trees e = go (moved-joint forest-moved t u (in-us t wt) (in-us u wu) (sym (top-counted t) ∙ e ∙ top-counted u))
-      where
-        as-root : (x y : ℕ) → isTerm s x ≡ true → isTerm s y ≡ true → topIn us x ≡ topIn us y → root s x ≡ root s y
-        as-root x y wx wy q = to-root x y wx wy (us-apart x y wx wy q)
-
-        go : Joint (topIn us) a b t u → Joint (root s) a b t u
-        go (were p) = were (as-root t u wt wu p)
-        go (across p q) = across (as-root t a wt wa p) (as-root u b wu wb q)
-        go (back p q) = back (as-root t b wt wb p) (as-root u a wu wa q)
+    trees e = joint-map (count s) (λ x y wx wy q. to-root x y wx wy (us-apart x y wx wy q)) wa wb wt wu
+        (moved-joint forest-moved t u (in-us t wt) (in-us u wu) (sym (top-counted t) ∙ e ∙ top-counted u))
 
     treed : Joint (root s) a b t u → top s′ t ≡ top s′ u
-    treed h = top-counted t ∙ joint-moved forest-moved t u (in-us t wt) (in-us u wu) (go h) ∙ sym (top-counted u)
-      where
-        as-top : (x y : ℕ) → isTerm s x ≡ true → isTerm s y ≡ true → root s x ≡ root s y → topIn us x ≡ topIn us y
-        as-top x y wx wy q = us-together x y wx wy (to-top x y wx wy q)
-
-        go : Joint (root s) a b t u → Joint (topIn us) a b t u
-        go (were p) = were (as-top t u wt wu p)
-        go (across p q) = across (as-top t a wt wa p) (as-top u b wu wb q)
-        go (back p q) = back (as-top t b wt wb p) (as-top u a wu wa q)
+    treed h = top-counted t
+        ∙ joint-moved forest-moved t u (in-us t wt) (in-us u wu) (joint-map (count s) (λ x y wx wy q. us-together x y wx wy (to-top x y wx wy q)) wa wb wt wu h)
+        ∙ sym (top-counted u)
 
     attached-alike : eqb (root s′ t) (root s′ u) ≡ eqb (top s′ t) (top s′ u)
     attached-alike = same-test _ _ (λ e. eq-eqb _ _ (treed (division t u wt wu (eqb-true _ _ e)))) (λ e. eq-eqb _ _ (divided t u wt wu (trees (eqb-true _ _ e))))
@@ -381,7 +358,7 @@ module _ (s : Store) (audited : Audited s) (a b place k v stamp : ℕ) (j : Atta
     us-tree = us-together (p .0) (p .1) (w .0) (w .1) (f .tree)
 
     us-stamps : Every (λ e. termIn us e .stamp < m) (pathIn us (p .0) (p .1))
-    us-stamps = same .paths (p .0) (p .1) m (in-put (p .0) (w .0)) (in-put (p .1) (w .1)) (put-top (p .0) ∙ f .tree ∙ sym (put-top (p .1))) put-stamps
+    us-stamps = same .paths (p .0) (p .1) m (in-put (p .0) (w .0)) (in-put (p .1) (w .1)) (put-top (p .0) (w .0) ∙ f .tree ∙ sym (put-top (p .1) (w .1))) put-stamps
 
     attached-tree : top s′ (p .0) ≡ top s′ (p .1)
     attached-tree = treed (p .0) (p .1) (w .0) (w .1) (were (to-root (p .0) (p .1) (w .0) (w .1) (f .tree)))
