@@ -2,15 +2,14 @@
 -- standing mark leads back to the table that it was set at.
 use mathlib.Core.Bool.{Bool, true, false, not, _&&_, _||_}
 use mathlib.Core.List.{List, [], _∷_, _++_}
-use mathlib.Core.Option.{Option, none, some}
-use Prim.Native.Nat.{ℕ, zero, suc, _-_}
-use lib.ListN.{length, take, drop}
+use Prim.Native.Nat.{ℕ, suc, _-_}
+use lib.ListN.{length, take}
 use lib.Dec.{eqb, T}
 use Rattle.records.specs.Lists.{if_then_else_, all, any, firstOf, table, sameWord, isIn, firsts, seconds, upTo, allBelow, firstBelow, oneMore}
 use Rattle.records.specs.Store.{Term, noTerm, noCell, Store, termIn, cellIn, within, count, textIn, chainBy, climb, aboveBy, nearestIn, pathIn, sameClass}
 use Rattle.records.specs.Rules.{isChar, isNumber, reasonRule, keyRule, cellRule, textRule, named, nameRule, partRule, concatRule, lengthRule, isEquatable, equationRule, termRule, recordsRule, parentsRule, endsRule, alikeRule, aloneRule, edgeLabel, labelRule, classesRule, pairsOf, fallsRule, congruenceRule, congruencesRule}
 use Rattle.records.specs.Make.{own, addText, addChain, chainFrom, addTerm, lookup, lowest, constantOf, concatOf, lengthOf, equationOf, makeConstant, makeVariable, makeConcat, makeLength, makeEquation}
-use Rattle.classes.specs.Joins.{putEdge, putClass, turn, turns, joinIn, Trace, trace, isTrace, undoIn}
+use Rattle.classes.specs.Joins.{putEdge, putClass, turn, turns, joinIn, Trace, isTrace, undoIn}
 use Rattle.classes.specs.Marks.{Trail, undoAll, rises, countsRule, marksRule, auditTrail}
 use Rattle.classes.specs.Calls.{Outcome, gives, refuses, joinTerms, setMark, goBack}
 use Rattle.classes.specs.History.{Call, join, set-mark, go-back, constant, variable, concat, length-of, equation, World, step, run, start, cutAt, standing, markedAt}
@@ -114,21 +113,12 @@ atFirst = oneMore (joinIn letters 1 2 1 7) (own 5 2 4 1)
 abbrev pub atSecond : List Term
 atSecond = oneMore (joinIn (joinIn letters 1 2 1 7) 2 3 2 8) (own 5 2 4 1)
 
-pub both-trail : T (sameTrail (run both begun .trail) (0 ∷ 1 ∷ []) (2 ∷ 2 ∷ 2 ∷ 1 ∷ 3 ∷ 3 ∷ 5 ∷ 5 ∷ 5 ∷ []))
+pub runs-end : T (sameTrail (run both begun .trail) (0 ∷ 1 ∷ []) (2 ∷ 2 ∷ 2 ∷ 1 ∷ 3 ∷ 3 ∷ 5 ∷ 5 ∷ 5 ∷ [])
+    && sameTable (run second begun .store .terms) atSecond && sameTrail (run second begun .trail) (0 ∷ []) (2 ∷ 2 ∷ 2 ∷ [])
+    && sameTable (run first begun .store .terms) atFirst && sameTrail (run first begun .trail) [] []
+    && sameTable (run again begun .store .terms) atFirst && sameTrail (run again begun .trail) [] [])
 unfolding begun both second first again makes sameTable sameTerm sameTrail traces step run cutAt joinTerms setMark goBack undoAll putEdge putClass turn turns joinIn isTrace undoIn addText addChain chainFrom addTerm lookup lowest named constantOf concatOf lengthOf equationOf makeConstant makeVariable makeConcat makeLength makeEquation isEquatable isChar isNumber all any table sameWord firsts allBelow firstBelow termIn cellIn within textIn chainBy climb aboveBy
-both-trail = tt
-
-pub second-is : T (sameTable (run second begun .store .terms) atSecond && sameTrail (run second begun .trail) (0 ∷ []) (2 ∷ 2 ∷ 2 ∷ []))
-unfolding begun both second first again makes sameTable sameTerm sameTrail traces step run cutAt joinTerms setMark goBack undoAll putEdge putClass turn turns joinIn isTrace undoIn addText addChain chainFrom addTerm lookup lowest named constantOf concatOf lengthOf equationOf makeConstant makeVariable makeConcat makeLength makeEquation isEquatable isChar isNumber all any table sameWord firsts allBelow firstBelow termIn cellIn within textIn chainBy climb aboveBy
-second-is = tt
-
-pub first-is : T (sameTable (run first begun .store .terms) atFirst && sameTrail (run first begun .trail) [] [])
-unfolding begun both second first again makes sameTable sameTerm sameTrail traces step run cutAt joinTerms setMark goBack undoAll putEdge putClass turn turns joinIn isTrace undoIn addText addChain chainFrom addTerm lookup lowest named constantOf concatOf lengthOf equationOf makeConstant makeVariable makeConcat makeLength makeEquation isEquatable isChar isNumber all any table sameWord firsts allBelow firstBelow termIn cellIn within textIn chainBy climb aboveBy
-first-is = tt
-
-pub again-is : T (sameTable (run again begun .store .terms) atFirst && sameTrail (run again begun .trail) [] [])
-unfolding begun both second first again makes sameTable sameTerm sameTrail traces step run cutAt joinTerms setMark goBack undoAll putEdge putClass turn turns joinIn isTrace undoIn addText addChain chainFrom addTerm lookup lowest named constantOf concatOf lengthOf equationOf makeConstant makeVariable makeConcat makeLength makeEquation isEquatable isChar isNumber all any table sameWord firsts allBelow firstBelow termIn cellIn within textIn chainBy climb aboveBy
-again-is = tt
+runs-end = tt
 
 -- ANSWERS
 

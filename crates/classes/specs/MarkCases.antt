@@ -1,21 +1,21 @@
 -- The audit's answer on good trails and on trails with a rule broken, by computing.
 use mathlib.Core.Bool.{Bool, true, _&&_}
 use mathlib.Core.List.{List, [], _∷_}
-use Prim.Native.Nat.{ℕ, zero, suc}
+use Prim.Native.Nat.{ℕ}
 use lib.ListN.{replicate}
 use lib.Dec.{eqb, T}
-use Rattle.records.specs.Lists.{if_then_else_, all, any, firstOf, table, sameWord, isIn, firsts, seconds, upTo, allBelow, firstBelow}
+use Rattle.records.specs.Lists.{all, any, firstOf, table, sameWord, isIn, firsts, seconds, upTo, allBelow, firstBelow}
 use Rattle.records.specs.Store.{Term, Store, termIn, cellIn, within, textIn, chainBy, climb, aboveBy, nearestIn, pathIn}
 use Rattle.records.specs.View.{sizes}
 use Rattle.records.specs.Rules.{isChar, isNumber, reasonRule, keyRule, cellRule, textRule, named, nameRule, partRule, concatRule, lengthRule, isEquatable, equationRule, termRule, recordsRule, parentsRule, endsRule, alikeRule, aloneRule, edgeLabel, labelRule, classesRule, pairsOf, fallsRule, congruenceRule, congruencesRule}
-use Rattle.records.specs.Make.{withClass, withEdge, withTerms, addText, addTerm, lookup, lowest, makeVariable}
+use Rattle.records.specs.Make.{withClass, withEdge, addText, addTerm, lookup, lowest, makeVariable}
 use Rattle.records.specs.AuditCases.{good, goodTerms, goodCells, goodCounts}
 use Rattle.classes.specs.declared.Standing.{Standing}
 use Rattle.classes.specs.Joins.{putEdge, putClass, turn, turns, joinIn, Trace, trace, isTrace, undoIn}
 use Rattle.classes.specs.Marks.{Trail, trailSizes, undoAll, rises, countsRule, marksRule, auditTrail, auditMarks}
 use Rattle.classes.specs.Calls.{joinTerms, setMark}
 use Rattle.classes.specs.History.{step, run}
-use Rattle.classes.specs.HistoryCases.{letter, letters, lettered, abcd, begun, both}
+use Rattle.classes.specs.HistoryCases.{letter, lettered, abcd, begun, both}
 
 -- the trail of `both`: a mark, 2 joined with 3, a mark, 1 with 4, 5 with 3. Its tree has the root 4, and so has its class
 abbrev pub trailed : List ℕ → List Trace → Trail
