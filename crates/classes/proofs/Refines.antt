@@ -3,3 +3,4 @@ pub mod Merge
 pub mod Carrying
 pub mod CarryWords
 pub mod JoinWords
+pub mod Trails

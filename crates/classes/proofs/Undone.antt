@@ -73,6 +73,11 @@ unfolding undoAll
 undo-append [] m ts us e = e
 undo-append (x ∷ l) m ts us e = ap (λ (o : Option (List Term)). elim o [ none ↦ none | some vs ↦ undoIn vs x ]) (undo-append l m ts us e)
 
+pub undo-stops : (l m : List Trace) (ts : List Term) → undoAll m ts ≡ none → undoAll (l ++ m) ts ≡ none
+unfolding undoAll
+undo-stops [] m ts e = e
+undo-stops (x ∷ l) m ts e = ap (λ (o : Option (List Term)). elim o [ none ↦ none | some vs ↦ undoIn vs x ]) (undo-stops l m ts e)
+
 pub undo-last : (l : List Trace) (y : Trace) (ts us : List Term) → undoIn ts y ≡ some us → undoAll (oneMore l y) ts ≡ undoAll l us
 unfolding undoAll
 undo-last l y ts us e = undo-append l (y ∷ []) ts us e

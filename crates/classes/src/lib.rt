@@ -18,6 +18,9 @@ use records::put::put_edge_unchecked;
 use records::rules::is_number;
 use records::rules::is_string;
 
+mod links;
+pub mod trail;
+
 // Whether a term of the first n is its own parent, in its class and in the forest.
 fn is_root(terms: &[u32], n: usize, t: u32) -> bool
     requires { ⌜ within n t ≡ true ⌝ }

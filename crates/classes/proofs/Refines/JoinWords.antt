@@ -1,149 +1,184 @@
--- Joining and cutting over words: what each call asks, and what the last one leaves.
-use mathlib.Core.Path.{_≡_, sym, ap, subst, _∙_}
-use mathlib.Core.Bool.{true}
+-- Joining and undoing over words: what each call asks, and what the last one leaves.
+use mathlib.Core.Path.{_≡_, refl, sym, ap, subst, _∙_}
+use mathlib.Core.Bool.{Bool, true, false, not, _&&_}
 use mathlib.Core.List.{List}
+use mathlib.Core.Option.{Option, some, none}
 use Prim.Native.Nat.{ℕ, suc, _+_, _*_, _≤_, _<_}
-use native.Mathlib.Decide.{ℕ-discrete}
 use native.Mathlib.Omega.{arith}
-use lib.ListN.{length, getD, set, length-set}
-use lib.Seq.{getD-set-same, getD-set-other}
+use lib.ListN.{length}
+use lib.Dec.{eqb}
+use borrow.Author.Tests.{eq-eqb, ne-eqb, not-true, not-false}
 use Rattle.records.specs.Store.{Term, termIn, within, climb, classUp, forestUp, rootIn}
-use Rattle.records.specs.View.{termAt, termsView}
-use Rattle.records.specs.Working.Audited.{Closed}
-use Rattle.records.proofs.Lists.{within-high}
-use Rattle.records.proofs.Climbs.{climb-within, view-term, view-count}
+use Rattle.records.specs.View.{termAt, termsView, termWords}
 use Rattle.records.specs.Make.{withClass}
-use Rattle.classes.specs.Joins.{edge, noEdge, putEdge, putClass, rerootIn, linkIn, joinIn, trace}
-use Rattle.classes.specs.Working.Carries.{Forest, carryBy, EdgePut, ClassPut, Carriable, Carried, Linkable, JoinedIn, Cuttable, CutFrom}
-use Rattle.classes.proofs.Tables.{ext-term, class-long, class-here, class-away}
+use Rattle.records.specs.Working.Audited.{Closed}
+use Rattle.records.specs.Working.Puts.{TermSet}
+use Rattle.records.proofs.Lists.{within-high, failed, passed, five-1, five-2, five-3, five-4, five-last}
+use Rattle.records.proofs.Climbs.{climb-within, view-count, view-class, view-forest}
+use Rattle.classes.specs.Joins.{Trace, cutIn, edge, noEdge, bearing, putEdge, putClass, rerootIn, linkIn, joinIn, trace, isTrace, undoIn}
+use Rattle.classes.specs.Working.Carries.{Forest, carryBy, Becomes, Carriable, Tabled, Linkable, Cuttable, Undoes, undone, no-table}
 use Rattle.classes.proofs.Undoing.{class-forest}
-use Rattle.classes.proofs.Cutting.{cut-forest}
+use Rattle.classes.proofs.Cutting.{Traced, trace-says, undo-is, cut-forest, cut-kept, cut-stays}
 use Rattle.classes.proofs.Refines.Carrying.{carry-link, carry-reroot}
-
--- A CLASS PARENT
-
-module _ (l : List ℕ) (t p : ℕ) (room : 8 * t + 8 ≤ length l) where
-  abbrev put : List ℕ
-  put = set l (8 * t + 3) p
-
-  word-here : getD put (8 * t + 3) 0 ≡ p
-  word-here = getD-set-same l (8 * t + 3) p 0 (omega arith)
-
-  word-away : (j : ℕ) → (j ≡ 8 * t + 3 → ⊥) → getD put j 0 ≡ getD l j 0
-  word-away j d = getD-set-other l (8 * t + 3) j p 0 d
-
-  record-here : termAt put t ≡ withClass (termAt l t) p
-  record-here =
-      let a0 = word-away (8 * t + 0) (λ e. omega arith) in
-      let a1 = word-away (8 * t + 1) (λ e. omega arith) in
-      let a2 = word-away (8 * t + 2) (λ e. omega arith) in
-      let a3 = word-here in
-      let a4 = word-away (8 * t + 4) (λ e. omega arith) in
-      let a5 = word-away (8 * t + 5) (λ e. omega arith) in
-      let a6 = word-away (8 * t + 6) (λ e. omega arith) in
-      let a7 = word-away (8 * t + 7) (λ e. omega arith) in cc
-
-  record-away : (u : ℕ) → (u ≡ t → ⊥) → termAt put u ≡ termAt l u
-  record-away u z =
-      let q : (j : ℕ) → j < 8 → 8 * u + j ≡ 8 * t + 3 → ⊥ = λ j h e. z (omega arith) in
-      let a0 = word-away (8 * u + 0) (q 0 (omega arith)) in
-      let a1 = word-away (8 * u + 1) (q 1 (omega arith)) in
-      let a2 = word-away (8 * u + 2) (q 2 (omega arith)) in
-      let a3 = word-away (8 * u + 3) (q 3 (omega arith)) in
-      let a4 = word-away (8 * u + 4) (q 4 (omega arith)) in
-      let a5 = word-away (8 * u + 5) (q 5 (omega arith)) in
-      let a6 = word-away (8 * u + 6) (q 6 (omega arith)) in
-      let a7 = word-away (8 * u + 7) (q 7 (omega arith)) in cc
-
-  view-is : (n : ℕ) → within n t ≡ true → termsView put n ≡ putClass (termsView l n) t p
-  view-is n w =
-      let c = view-count l n in
-      let c′ = view-count put n in
-      let wl : within (length (termsView l n)) t ≡ true = ap (λ (m : ℕ). within m t) c ∙ w in
-      ext-term (putClass (termsView l n) t p) (termsView put n) (c′ ∙ sym (class-long (termsView l n) t p ∙ c))
-      (λ u h. each wl u (sym (ap (λ (m : ℕ). within m u) (class-long (termsView l n) t p ∙ c)) ∙ h) (ℕ-discrete u t))
-    where
-      each : within (length (termsView l n)) t ≡ true → (u : ℕ) → within n u ≡ true → Dec (u ≡ t) → termIn (termsView put n) u ≡ termIn (putClass (termsView l n) t p) u
-      each wl u h (yes e) = view-term put n u h ∙ subst (λ (z : ℕ). termAt put z ≡ termIn (putClass (termsView l n) t p) z) (sym e)
-          (record-here ∙ sym (class-here (termsView l n) t p wl ∙ ap (λ (y : Term). withClass y p) (view-term l n t w)))
-      each wl u h (no d) = view-term put n u h ∙ record-away u d ∙ sym (class-away (termsView l n) t p wl u d ∙ view-term l n u h)
-
-  pub class-put : ClassPut l put t p
-  class-put = record { long = length-set l (8 * t + 3) p; terms = view-is }
+use Rattle.classes.proofs.Refines.CarryWords.{edge-becomes, class-becomes, becomes-then}
 
 -- n terms of a view, counted either way
-in-view : (l : List ℕ) (n t : ℕ) → within n t ≡ true → within (length (termsView l n)) t ≡ true
+pub in-view : (l : List ℕ) (n t : ℕ) → within n t ≡ true → within (length (termsView l n)) t ≡ true
 in-view l n t w = ap (λ (m : ℕ). within m t) (view-count l n) ∙ w
 
 counted : (ts : List Term) (n : ℕ) → length ts ≡ n → Closed (forestUp ts) (length ts) → Closed (forestUp ts) n
 counted ts n e c = subst (Closed (forestUp ts)) e c
 
+-- a record of a table is within the slice
+pub tabled-room : (l : List ℕ) (n t : ℕ) → Tabled l n → within n t ≡ true → termWords t ≤ length l
+tabled-room l n t h w = let q = within-high n t w in let r = h .room in omega arith
+
 -- JOINING
 
-module _ (l : List ℕ) (n a b : ℕ) (h : Linkable l n a b) where
-  pub root-asked : (t : ℕ) → within n t ≡ true → (within n t ≡ true) × Closed (classUp (termsView l n)) n
-  root-asked t w = (w, h .tabled .classes)
+module _ (l : List ℕ) (n a b under over : ℕ) (h : Linkable l n a b under over) where
+  under-within : within n under ≡ true
+  under-within =
+      subst (λ (z : ℕ). within n z ≡ true) (sym (h .under-is ∙ ap (λ (m : ℕ). climb (classUp (termsView l n)) m a) (view-count l n)))
+      (climb-within (classUp (termsView l n)) n n a (h .tabled .classes) (h .one))
 
-  module _ (under over : ℕ) (eu : under ≡ rootIn (termsView l n) a) (eo : over ≡ rootIn (termsView l n) b) where
-    under-within : within n under ≡ true
-    under-within = subst (λ (z : ℕ). within n z ≡ true) (sym (eu ∙ ap (λ (m : ℕ). climb (classUp (termsView l n)) m a) (view-count l n))) (climb-within (classUp (termsView l n)) n n a (h .tabled .classes) (h .one))
+  pub under-room : termWords under ≤ length l
+  under-room = tabled-room l n under (h .tabled) under-within
 
-    pub class-room : 8 * under + 8 ≤ length l
-    class-room = let w = within-high n under under-within in let r = h .tabled .room in omega arith
+  module _ (l₁ : List ℕ) (s : TermSet l l₁ under (withClass (termAt l under) over)) where
+    put : Becomes l l₁ n (putClass (termsView l n) under over)
+    put = class-becomes n under-within over s
 
-    module _ (l₁ : List ℕ) (p : ClassPut l l₁ under over) where
-      view₁ : termsView l₁ n ≡ putClass (termsView l n) under over
-      view₁ = p .terms n under-within
+    forest₁ : Forest (termsView l₁ n)
+    forest₁ = subst Forest (sym (put .is)) (class-forest (termsView l n) under over (in-view l n under under-within) (h .tabled .forest))
 
-      forest₁ : Forest (termsView l₁ n)
-      forest₁ = subst Forest (sym view₁) (class-forest (termsView l n) under over (in-view l n under under-within) (h .tabled .forest))
+    pub carry-asked : Carriable l₁ n a b
+    carry-asked = record {
+      few = h .tabled .few;
+      room = (let q = put .long in let r = h .tabled .room in omega arith);
+      here = h .one;
+      over = h .other;
+      closed = counted (termsView l₁ n) n (view-count l₁ n) (forest₁ .closed);
+    }
 
-      pub carry-asked : Carriable l₁ n a b
-      carry-asked = record {
-        few = h .tabled .few;
-        room = (let q = p .long in let r = h .tabled .room in omega arith);
-        here = h .one;
-        over = h .other;
-        closed = counted (termsView l₁ n) n (view-count l₁ n) (forest₁ .closed);
-      }
-
-      pub join-leaves : (l₂ : List ℕ) (k v : ℕ) → Carried l₁ l₂ n a (edge b k v 0) → JoinedIn l l₂ n a b k v
-      unfolding joinIn
-      join-leaves l₂ k v q = record {
-        long = q .long ∙ p .long;
-        is = q .is ∙ ap (λ (m : ℕ). carryBy (suc m) (termsView l₁ n) a (edge b k v 0)) (sym (view-count l₁ n)) ∙ carry-link (termsView l₁ n) forest₁ a (in-view l₁ n a (h .one)) b k v
-            ∙ ap (λ (ts : List Term). linkIn ts a b k v) view₁ ∙ ap (λ (z : ℕ). linkIn (putClass (termsView l n) z over) a b k v) eu ∙ ap (λ (z : ℕ). linkIn (putClass (termsView l n) (rootIn (termsView l n) a) z) a b k v) eo;
-      }
+    pub link-leaves : (l₂ : List ℕ) (k v : ℕ) → Becomes l₁ l₂ n (carryBy (suc n) (termsView l₁ n) a (edge b k v 0)) → Becomes l l₂ n (joinIn (termsView l n) a b k v)
+    unfolding joinIn
+    link-leaves l₂ k v q =
+        subst (Becomes l l₂ n)
+        (ap (λ (m : ℕ). carryBy (suc m) (termsView l₁ n) a (edge b k v 0)) (sym (view-count l₁ n)) ∙ carry-link (termsView l₁ n) forest₁ a (in-view l₁ n a (h .one)) b k v
+        ∙ ap (λ (ts : List Term). linkIn ts a b k v) (put .is) ∙ ap (λ (z : ℕ). linkIn (putClass (termsView l n) z over) a b k v) (h .under-is)
+        ∙ ap (λ (z : ℕ). linkIn (putClass (termsView l n) (rootIn (termsView l n) a) z) a b k v) (h .over-is))
+        (becomes-then put q)
 
 -- CUTTING
 
 module _ (l : List ℕ) (n c r u : ℕ) (h : Cuttable l n (trace c r u)) where
-  pub edge-room : 8 * c + 8 ≤ length l
-  edge-room = let w = within-high n c (h .child) in let q = h .tabled .room in omega arith
+  pub edge-room : termWords c ≤ length l
+  edge-room = tabled-room l n c (h .tabled) (h .child)
 
-  module _ (l₁ : List ℕ) (p : EdgePut l l₁ c (noEdge c)) where
-    cut-view : termsView l₁ n ≡ putEdge (termsView l n) c (noEdge c)
-    cut-view = p .terms n (h .child)
+  module _ (l₁ : List ℕ) (s : TermSet l l₁ c (bearing (termAt l c) (noEdge c))) where
+    cut : Becomes l l₁ n (putEdge (termsView l n) c (noEdge c))
+    cut = edge-becomes n (h .child) (noEdge c) s
 
     cut-is : Forest (termsView l₁ n)
-    cut-is = subst Forest (sym cut-view) (cut-forest (termsView l n) (h .tabled .forest) c (in-view l n c (h .child)))
+    cut-is = subst Forest (sym (cut .is)) (cut-forest (termsView l n) (h .tabled .forest) c (in-view l n c (h .child)))
 
     pub reroot-asked : Carriable l₁ n r r
     reroot-asked = record {
       few = h .tabled .few;
-      room = (let q = p .long in let z = h .tabled .room in omega arith);
+      room = (let q = cut .long in let z = h .tabled .room in omega arith);
       here = h .oldRoot;
       over = h .oldRoot;
       closed = counted (termsView l₁ n) n (view-count l₁ n) (cut-is .closed);
     }
 
-    module _ (l₂ : List ℕ) (q : Carried l₁ l₂ n r (noEdge r)) where
-      pub class-asked : 8 * u + 8 ≤ length l₂
-      class-asked = let w = within-high n u (h .under) in let x = h .tabled .room in let y = p .long in let z = q .long in omega arith
+    module _ (l₂ : List ℕ) (q : Becomes l₁ l₂ n (carryBy (suc n) (termsView l₁ n) r (noEdge r))) where
+      pub class-asked : termWords u ≤ length l₂
+      class-asked = let w = within-high n u (h .under) in let x = h .tabled .room in let y = cut .long in let z = q .long in omega arith
 
-      pub cut-leaves : (l₃ : List ℕ) → ClassPut l₂ l₃ u u → CutFrom l l₃ n (trace c r u)
-      cut-leaves l₃ k = record {
-        long = k .long ∙ q .long ∙ p .long;
-        is = k .terms n (h .under) ∙ ap (λ (ts : List Term). putClass ts u u)
-            (q .is ∙ ap (λ (m : ℕ). carryBy (suc m) (termsView l₁ n) r (noEdge r)) (sym (view-count l₁ n)) ∙ carry-reroot (termsView l₁ n) cut-is r (in-view l₁ n r (h .oldRoot)) ∙ ap (λ (ts : List Term). rerootIn ts r) cut-view);
-      }
+      pub cut-leaves : (l₃ : List ℕ) → TermSet l₂ l₃ u (withClass (termAt l₂ u) u) → Becomes l l₃ n (cutIn (termsView l n) (trace c r u))
+      cut-leaves l₃ k =
+          subst (Becomes l l₃ n)
+          (ap (λ (ts : List Term). putClass ts u u)
+          (q .is ∙ ap (λ (m : ℕ). carryBy (suc m) (termsView l₁ n) r (noEdge r)) (sym (view-count l₁ n)) ∙ carry-reroot (termsView l₁ n) cut-is r (in-view l₁ n r (h .oldRoot)) ∙ ap (λ (ts : List Term). rerootIn ts r) (cut .is)))
+          (becomes-then cut (becomes-then q (class-becomes n (h .under) u k)))
+
+-- UNDOING
+
+module _ (l : List ℕ) (n child old under : ℕ) where
+  abbrev ts : List Term
+  ts = termsView l n
+
+  abbrev x : Trace
+  x = trace child old under
+
+  abbrev first : Bool
+  first = within (length ts) child
+
+  abbrev second : Bool
+  second = within (length ts) old
+
+  abbrev third : Bool
+  third = within (length ts) under
+
+  abbrev fourth : Bool
+  fourth = not (eqb (forestUp ts child) child)
+
+  abbrev fifth : Bool
+  fifth = not (eqb (classUp ts under) under)
+
+  counted-in : (t : ℕ) (b : Bool) → b ≡ within n t → b ≡ within (length ts) t
+  counted-in t b e = e ∙ ap (λ (m : ℕ). within m t) (sym (view-count l n))
+
+  module _ (b : Bool) where
+    pub no-child : b ≡ within n child → not b ≡ true → false ≡ isTrace ts x
+    unfolding isTrace
+    no-child e h = five-1 first second third fourth fifth (failed first b (counted-in child b e) h)
+
+    pub no-root : b ≡ within n old → not b ≡ true → false ≡ isTrace ts x
+    unfolding isTrace
+    no-root e h = five-2 first second third fourth fifth (failed second b (counted-in old b e) h)
+
+    pub no-class : b ≡ within n under → not b ≡ true → false ≡ isTrace ts x
+    unfolding isTrace
+    no-class e h = five-3 first second third fourth fifth (failed third b (counted-in under b e) h)
+
+  module _ (b₁ : Bool) (e₁ : b₁ ≡ within n child) (h₁ : not b₁ ≡ false) (y : ℕ) (f : y ≡ termAt l child .forestParent) where
+    up : y ≡ forestUp ts child
+    up = view-forest l n child y (passed (within n child) b₁ e₁ h₁) f
+
+    pub no-edge : y ≡ child → false ≡ isTrace ts x
+    unfolding isTrace
+    no-edge z = five-4 first second third fourth fifth (ap not (eq-eqb _ _ (sym up ∙ z)))
+
+    pub trace-last : (y ≡ child → ⊥) → (b₂ b₃ : Bool) → b₂ ≡ within n old → not b₂ ≡ false → b₃ ≡ within n under → not b₃ ≡ false → (z : ℕ) → z ≡ termAt l under .classParent → not (eqb z under) ≡ isTrace ts x
+    unfolding isTrace
+    trace-last d b₂ b₃ e₂ h₂ e₃ h₃ z g =
+        five-last first second third fourth fifth (not (eqb z under)) (passed first b₁ (counted-in child b₁ e₁) h₁) (passed second b₂ (counted-in old b₂ e₂) h₂) (passed third b₃ (counted-in under b₃ e₃) h₃)
+        (ap not (ne-eqb _ _ (λ q. d (up ∙ q)))) (ap (λ (c : ℕ). not (eqb c under)) (view-class l n under z (passed (within n under) b₃ e₃ h₃) g))
+
+  module _ (b : Bool) (e : b ≡ isTrace ts x) where
+    none-is : not b ≡ true → undoIn ts x ≡ none
+    unfolding undoIn
+    none-is h = rw (sym e ∙ not-true b h)
+
+    pub undo-not : not b ≡ true → Undoes l l n (undoIn ts x) false
+    undo-not h = subst (λ (o : Option (List Term)). Undoes l l n o false) (sym (none-is h)) no-table
+
+    module _ (h : not b ≡ false) (d : Tabled l n) where
+      traced : Traced ts x
+      traced = trace-says ts x (sym e ∙ not-false b h)
+
+      uncounted : (t : ℕ) → within (length ts) t ≡ true → within n t ≡ true
+      uncounted t w = ap (λ (m : ℕ). within m t) (sym (view-count l n)) ∙ w
+
+      pub undo-asked : Cuttable l n x
+      undo-asked = record { tabled = d; child = uncounted child (traced .child); oldRoot = uncounted old (traced .oldRoot); under = uncounted under (traced .under) }
+
+      pub undo-done : (l′ : List ℕ) → Becomes l l′ n (cutIn ts x) → Undoes l l′ n (undoIn ts x) true
+      undo-done l′ q = subst (λ (o : Option (List Term)). Undoes l l′ n o true) (sym (undo-is ts (cutIn ts x) x record { traced = traced; is = refl })) (undone q record {
+        few = d .few;
+        room = (let z = q .long in let r = d .room in omega arith);
+        classes = subst (λ (us : List Term). Closed (classUp us) n) (sym (q .is)) (subst (Closed (classUp (cutIn ts x))) (view-count l n)
+            (cut-stays ts x (d .forest) (traced .child) (traced .oldRoot) (traced .under) (subst (Closed (classUp ts)) (sym (view-count l n)) (d .classes))));
+        forest = subst Forest (sym (q .is)) (cut-kept ts x (d .forest) (traced .child) (traced .oldRoot) (traced .under));
+      })
