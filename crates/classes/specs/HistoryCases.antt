@@ -1,9 +1,9 @@
 -- Lists of calls, run on a small store: after each call the audit passes, the classes are what the joins left standing generate, and each
 -- standing mark leads back to the table that it was set at.
-use mathlib.Core.Bool.{Bool, true, false, not, _&&_, _||_}
+use mathlib.Core.Bool.{Bool, true, false, not, _&&_}
 use mathlib.Core.List.{List, [], _∷_, _++_}
 use Prim.Native.Nat.{ℕ, suc, _-_}
-use lib.ListN.{length, take}
+use lib.ListN.{length}
 use lib.Dec.{eqb, T}
 use Rattle.records.specs.Lists.{if_then_else_, all, any, firstOf, table, sameWord, isIn, firsts, seconds, upTo, allBelow, firstBelow, oneMore}
 use Rattle.records.specs.Store.{Term, noTerm, noCell, Store, termIn, cellIn, within, count, textIn, chainBy, climb, aboveBy, nearestIn, pathIn, sameClass}
@@ -12,7 +12,7 @@ use Rattle.records.specs.Make.{own, addText, addChain, chainFrom, addTerm, look
 use Rattle.classes.specs.Joins.{putEdge, putClass, turn, turns, joinIn, Trace, isTrace, undoIn}
 use Rattle.classes.specs.Marks.{Trail, undoAll, rises, countsRule, marksRule, auditTrail}
 use Rattle.classes.specs.Calls.{Outcome, gives, refuses, joinTerms, setMark, goBack}
-use Rattle.classes.specs.History.{Call, join, set-mark, go-back, constant, variable, concat, length-of, equation, World, step, run, start, cutAt, standing, markedAt}
+use Rattle.classes.specs.History.{Call, join, set-mark, go-back, constant, variable, concat, length-of, equation, World, step, run, start, cutAt, standing, markedAt, eachAlone, withLater}
 use Rattle.classes.specs.JoinCases.{sameTerm, sameTable}
 
 -- variables a, b, c and d, each its own class, and room for three terms more
@@ -53,19 +53,12 @@ same false b = not b
 unfoldable pub divided : List (ℕ × ℕ) → Store → Bool
 divided l s = allBelow (λ t. allBelow (λ u. same (sameClass s (suc t) (suc u)) (eqb (member l (suc t)) (member l (suc u)))) (count s)) (count s)
 
--- us is ts, and then terms that are alone
-abbrev pub isAlone : ℕ → Term → Bool
-isAlone t x = sameTerm x (own t (x .kind) (x .first) (x .second))
-
-unfoldable pub appended : List Term → List Term → Bool
-appended ts us = sameTable (take (length ts) us) ts && allBelow (λ i. within (length ts) (suc i) || isAlone (suc i) (termIn us (suc i))) (length us)
-
-abbrev pub leadsTo : List Term → ℕ → Outcome → Bool
-leadsTo ts n (gives s x i) = eqb (count s) n && appended ts (s .terms)
-leadsTo ts n (refuses k) = false
+abbrev pub leadsTo : List Term → Outcome → Bool
+leadsTo ts (gives s x i) = sameTable (s .terms) ts
+leadsTo ts (refuses k) = false
 
 unfoldable pub restored : World → Bool
-restored w = allBelow (λ i. leadsTo (markedAt (suc i) (w .history)) (count (w .store)) (goBack (suc i) (w .store) (w .trail))) (length (w .trail .marks))
+restored w = allBelow (λ i. leadsTo (withLater (markedAt (suc i) (w .history)) (w .store .terms)) (goBack (suc i) (w .store) (w .trail))) (length (w .trail .marks))
 
 unfoldable pub keeps : World → Bool
 keeps w = eqb (auditTrail (w .store) (w .trail)) 0 && divided (standing (w .history)) (w .store) && restored w
@@ -95,7 +88,7 @@ unfoldable pub makes : List Call
 makes = set-mark ∷ join 1 2 1 1 ∷ concat (1 ∷ 2 ∷ []) ∷ set-mark ∷ join 5 3 1 2 ∷ length-of 5 ∷ equation 5 1 ∷ concat (1 ∷ 2 ∷ []) ∷ join 6 1 1 1 ∷ constant [] ∷ go-back 2 ∷ go-back 1 ∷ []
 
 pub runs-kept : T (keepsAll again begun && keepsAll (first ++ (join 4 5 1 3 ∷ [])) begun && keepsAll makes begun)
-unfolding begun member divided appended restored keeps keepsAll both second first again makes sameTable sameTerm step run cutAt standing markedAt joinTerms setMark goBack undoAll rises countsRule marksRule auditTrail putEdge putClass turn turns joinIn isTrace undoIn addText addChain chainFrom addTerm lookup lowest named constantOf concatOf lengthOf equationOf makeConstant makeVariable makeConcat makeLength makeEquation recordsRule classesRule congruencesRule termRule cellRule textRule nameRule concatRule partRule lengthRule equationRule isEquatable isChar isNumber reasonRule keyRule parentsRule endsRule alikeRule aloneRule edgeLabel labelRule congruenceRule pairsOf fallsRule all any firstOf table sameWord isIn firsts seconds upTo allBelow firstBelow termIn cellIn within textIn chainBy climb aboveBy nearestIn pathIn
+unfolding begun member divided restored keeps keepsAll both second first again makes sameTable sameTerm step run cutAt standing markedAt eachAlone joinTerms setMark goBack undoAll rises countsRule marksRule auditTrail putEdge putClass turn turns joinIn isTrace undoIn addText addChain chainFrom addTerm lookup lowest named constantOf concatOf lengthOf equationOf makeConstant makeVariable makeConcat makeLength makeEquation recordsRule classesRule congruencesRule termRule cellRule textRule nameRule concatRule partRule lengthRule equationRule isEquatable isChar isNumber reasonRule keyRule parentsRule endsRule alikeRule aloneRule edgeLabel labelRule congruenceRule pairsOf fallsRule all any firstOf table sameWord isIn firsts seconds upTo allBelow firstBelow termIn cellIn within textIn chainBy climb aboveBy nearestIn pathIn
 runs-kept = tt
 
 -- what is left of the trail, each trace as three numbers
