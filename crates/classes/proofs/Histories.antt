@@ -1,6 +1,6 @@
 -- 'For every list of these and making calls from separate terms and no marks, nobody else writing: the table passes the audit, the division
 -- into classes is what the joins left standing generate, and going back restores every word of the terms counted at the mark'.
-use mathlib.Core.Path.{_≡_, refl, sym, subst}
+use mathlib.Core.Path.{_≡_, refl, sym, ap, subst, _∙_}
 use mathlib.Core.Bool.{Bool, true}
 use mathlib.Core.List.{List, [], _∷_}
 use Prim.Native.Nat.{ℕ, _-_, _≤_, _<_}
@@ -10,7 +10,7 @@ use lib.Dec.{ltb, leb}
 use borrow.Author.Tests.{ltb-true, ltb-false, leb-true}
 use Rattle.records.specs.declared.State.{State}
 use Rattle.records.specs.Lists.{oneMore, none-left}
-use Rattle.records.specs.Store.{Room, Store, Out, ok, stop, Work, within, root}
+use Rattle.records.specs.Store.{Term, Room, Store, Out, ok, stop, Work, within, root}
 use Rattle.records.specs.View.{Lent, storeOf, termLimit}
 use Rattle.records.specs.Rules.{audit}
 use Rattle.records.specs.Make.{withTerms, constantArguments, makeConstant, variableArguments, makeVariable, concatArguments, makeConcat, lengthArguments, makeLength, equationArguments, makeEquation}
@@ -24,13 +24,14 @@ use Rattle.records.proofs.Kept.{MadeIn, constant-kept, variable-kept, concat-ke
 use Rattle.records.proofs.Grown.{string-term}
 use Rattle.classes.specs.Joins.{joinIn, traceOf}
 use Rattle.classes.specs.Marks.{Trail, markLimit, joinLimit, marksRule}
-use Rattle.classes.specs.Calls.{Outcome, recorded, joinTerms, setMark, joinsAt, before, goBack}
-use Rattle.classes.specs.History.{Call, join, set-mark, go-back, constant, variable, concat, length-of, equation, joined, marked, World, joining, after, making, step, run, start, Separate, standing, Generated, itself, cutAt, markedAt, nothing, Kept}
+use Rattle.classes.specs.Calls.{Outcome, gives, recorded, joinTerms, setMark, joinsAt, before, goBack}
+use Rattle.classes.specs.History.{Call, join, set-mark, go-back, constant, variable, concat, length-of, equation, joined, marked, World, joining, after, making, step, run, start, Separate, standing, Generated, itself, cutAt, markedAt, Kept}
 use Rattle.classes.proofs.Tracking.{of-tracked, back-goes, Joining, wrong, together, joins, Marking, full, marks, marking}
 use Rattle.classes.proofs.Tracking as tracking
 use Rattle.classes.proofs.JoinKept.{Joinable}
 use Rattle.classes.proofs.Enough.{joins-fit}
 use Rattle.classes.proofs.Generating.{generated-same}
+use Rattle.classes.proofs.Later.{nothing, later-is}
 use Rattle.classes.proofs.Events.{marksIn}
 use Rattle.classes.proofs.Invariant.{Inv, bare, one-mark, inv-audited, inv-divides, inv-join, inv-unrecorded, inv-appends, Restored, inv-back, inv-marks}
 
@@ -61,11 +62,14 @@ module _ (w : World) (h : Holds w) where
   kept = record {
     audited = of-tracked s x (record { audited = audited; marked = tracked });
     termsFit = audited .roomy .terms;
+    cellsFit = audited .roomy .cells;
+    charsFit = audited .roomy .chars;
     marksFit = h .marksFit;
     joinsFit = h .joinsFit;
     divides = inv-divides (h .inv) .made;
     joins = λ t u g. generated-same (root s) (inv-divides (h .inv) .together) g;
-    restores = λ i k. let r = back i k in record { table = r .table; goes = back-goes i s x (r .table) k (r .is); restored = r .restored };
+    restores = λ i k. let r = back i k in
+        back-goes i s x (r .table) k (r .is) ∙ ap (λ (us : List Term). gives (withTerms s us) (before i x) i) (later-is (r .restored) (r .like));
   }
 
   -- GOING BACK AND MARKS

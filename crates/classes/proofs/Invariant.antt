@@ -19,11 +19,12 @@ use Rattle.records.proofs.Append.{grow, More, New, kept-audited}
 use Rattle.records.proofs.Kept.{names-audited, Appends, found, one-term, after-names}
 use Rattle.classes.specs.Joins.{Trace, joinIn, traceOf, undoIn}
 use Rattle.classes.specs.Marks.{undoAll, countsRule, marksRule}
-use Rattle.classes.specs.History.{Event, joined, marked, standing, cutAt, markedAt, Appended, one-more}
+use Rattle.classes.specs.History.{Event, joined, marked, standing, cutAt, markedAt}
 use Rattle.classes.proofs.Undoing.{classed-forest, undo-join}
 use Rattle.classes.proofs.Appending.{undo-more}
 use Rattle.classes.proofs.JoinKept.{Joinable, join-kept, join-like}
-use Rattle.classes.proofs.Alike.{Like, like-back}
+use Rattle.classes.proofs.Alike.{Like, like-none, like-then, like-back}
+use Rattle.classes.proofs.Later.{Appended, one-more}
 use Rattle.classes.proofs.AlikeMade.{more-like, new-like, grow-like}
 use Rattle.classes.proofs.Generating.{Divides, divides-names, divides-join, divides-grow}
 use Rattle.classes.proofs.Events.{marksIn, marks-join, marks-mark, stands-join, stands-mark, cut-early, marked-early, cut-last, marked-last}
@@ -103,6 +104,7 @@ pub record Restored (s : Store) (js : List Trace) (ms : List ℕ) (n : ℕ) (h :
   pub table : List Term
   pub is : undoAll (drop n js) (s .terms) ≡ some table
   pub kept : Inv (withTerms s table) ms (take n js) h
+  pub like : Like (s .terms) table
   pub restored : Appended ts table
 
 restored-at : {s : Store} {js : List Trace} {ms ms′ : List ℕ} {n n′ : ℕ} {h h′ : List Event} {ts ts′ : List Term} → ms ≡ ms′ → n ≡ n′ → h ≡ h′ → ts ≡ ts′
@@ -111,13 +113,14 @@ restored-at {s} {js} {ms} {ms′} {n} {n′} {h} {h′} {ts} {ts′} p q e f r =
     subst (λ (y : List Term). Restored s js ms′ n′ h′ y) f (subst (λ (y : List Event). Restored s js ms′ n′ y ts) e (subst (λ (y : ℕ). Restored s js ms′ y h ts) q (subst (λ (y : List ℕ). Restored s js y n h ts) p r)))
 
 -- past a join that was recorded since
-restored-join : {s : Store} {js : List Trace} {ms : List ℕ} {n : ℕ} {h : List Event} {ts : List Term} (x : Trace) (us : List Term) → undoIn (s .terms) x ≡ some us → Restored (withTerms s us) js ms n h ts
+restored-join : {s : Store} {js : List Trace} {ms : List ℕ} {n : ℕ} {h : List Event} {ts : List Term} (x : Trace) (us : List Term) → Like (s .terms) us → undoIn (s .terms) x ≡ some us → Restored (withTerms s us) js ms n h ts
     → Restored s (oneMore js x) ms n h ts
-restored-join {s} {js} {ms} {n} {h} x us e r = record {
+restored-join {s} {js} {ms} {n} {h} x us g e r = record {
   low = (let k = length-append js (x ∷ []) in let l = r .low in omega arith);
   table = r .table;
   is = ap (λ (l : List Trace). undoAll l (s .terms)) (drop-append-le n js (x ∷ []) (r .low)) ∙ undo-last (drop n js) x (s .terms) us e ∙ r .is;
   kept = subst (λ (l : List Trace). Inv (withTerms s (r .table)) ms l h) (sym (take-append-le n js (x ∷ []) (r .low))) (r .kept);
+  like = like-then g (r .like);
   restored = r .restored;
 }
 
@@ -129,6 +132,7 @@ restored-last {s} {js} {ms} {h} i p = record {
   table = s .terms;
   is = ap (λ (l : List Trace). undoAll l (s .terms)) (drop-length js);
   kept = subst (λ (l : List Trace). Inv s ms l h) (sym (take-length js)) i;
+  like = like-none (s .terms);
   restored = p;
 }
 
@@ -136,7 +140,7 @@ pub inv-back : {s : Store} {ms : List ℕ} {js : List Trace} {h : List Event} (i
 inv-back i (bare au d p q r) l k = absurd (omega arith)
 inv-back i (one-join {h = h} x a b us au d g e n z) l k =
     let c = inv-counts z in
-    restored-at refl refl (sym (cut-early i h (joined a b ∷ []) l (omega arith))) (sym (marked-early i h (joined a b ∷ []) l (omega arith))) (restored-join x us e (inv-back i z l k))
+    restored-at refl refl (sym (cut-early i h (joined a b ∷ []) l (omega arith))) (sym (marked-early i h (joined a b ∷ []) l (omega arith))) (restored-join x us g e (inv-back i z l k))
 inv-back {s} i (one-mark {ms = ms} {js = js} {h = h} ts p z) l k = go (decLe i (length ms)) (λ q. inv-back i z l q)
   where
     c : marksIn h ≡ length ms

@@ -19,6 +19,7 @@ mod Marking
 mod Tracking
 mod Generating
 mod AlikeMade
+mod Later
 mod Events
 mod Invariant
 mod Histories
