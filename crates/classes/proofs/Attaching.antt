@@ -16,11 +16,11 @@ use Rattle.records.specs.Rules.{isNumber, isReasonKind}
 use Rattle.records.specs.Make.{withTerms, withClass}
 use Rattle.records.specs.Working.Audited.{Closed, Label, asserted, interface, congruence, definitional, Unlabelled, Falls, Pairs, Congruent, Classed, Congruences, Audited}
 use Rattle.records.proofs.Lists.{decide, clash, either, same-test, every-map, every-both}
-use Rattle.records.proofs.Climbs.{climb-stays, classed-roots, classed-tops, root-root, root-term}
+use Rattle.records.proofs.Climbs.{top-self, classed-roots, classed-tops, root-root, root-term}
 use Rattle.records.proofs.Grown.{used, string-term}
 use Rattle.records.proofs.Readings.{pairs-terms}
 use Rattle.records.proofs.Append.{above-same, along}
-use Rattle.classes.proofs.MovedClimbs.{Moved, moved-ends}
+use Rattle.classes.proofs.MovedClimbs.{Moved, moved-closed, moved-ends}
 use Rattle.classes.specs.Joins.{Edge, edge, noEdge, edgeOf, turned, bearing, putEdge, putClass, rerootIn, Stands, here, over}
 use Rattle.classes.specs.Working.Carries.{Forest}
 use Rattle.classes.proofs.Tables.{edge-long, edge-here, edge-away, edge-words, class-long, class-here, class-away, class-words}
@@ -134,17 +134,9 @@ module _ (s : Store) (audited : Audited s) (a b place k v stamp : ℕ) (j : Atta
   class-other : (t : ℕ) → (t ≡ root s a → ⊥) → classUp js t ≡ classUp ts t
   class-other t d = link-words (λ x. x .classParent) (λ y e. refl) t ∙ ap (λ (x : Term). x .classParent) (class-away ts _ place wr t d)
 
-  class-stays : (t : ℕ) → isTerm s t ≡ true → isTerm s (classUp js t) ≡ true
-  class-stays t w = go (ℕ-discrete t (root s a))
-    where
-      go : Dec (t ≡ root s a) → isTerm s (classUp js t) ≡ true
-      go (yes e) = ap (λ (z : ℕ). isTerm s (classUp js z)) e ∙ ap (isTerm s) class-at ∙ j .here
-      go (no d) = ap (isTerm s) (class-other t d) ∙ c .classParents t w
-
   class-moved : Moved (classUp ts) (classUp js) (count s) (root s a) place
   class-moved = record {
     closed = classed-roots s c;
-    closed′ = record { stays = class-stays };
     ends = c .classEnds;
     self = c .classEnds a wa;
     at = class-at;
@@ -193,18 +185,13 @@ module _ (s : Store) (audited : Audited s) (a b place k v stamp : ℕ) (j : Atta
   forest-moved : Moved (forestUp us) (forestUp js) (length us) a b
   forest-moved = record {
     closed = same .forest .closed;
-    closed′ = record { stays = λ t w. go t w (ℕ-discrete t a) };
     ends = same .forest .ended;
     self = self-a;
     at = up-a;
     away = up-other;
     here = in-us b wb;
-    apart = λ e. j .apart (to-root a b wa wb (us-apart a b wa wb (climb-stays (forestUp us) (length us) a self-a ∙ sym e)));
+    apart = λ e. j .apart (to-root a b wa wb (us-apart a b wa wb (top-self us a self-a ∙ sym e)));
   }
-    where
-      go : (t : ℕ) → within (length us) t ≡ true → Dec (t ≡ a) → within (length us) (forestUp js t) ≡ true
-      go t w (yes e) = ap (λ (z : ℕ). within (length us) (forestUp js z)) e ∙ ap (within (length us)) up-a ∙ in-us b wb
-      go t w (no d) = ap (within (length us)) (up-other t d) ∙ same .forest .closed .stays t w
 
   top-counted : (t : ℕ) → top s′ t ≡ climb (forestUp js) (length us) t
   top-counted t = ap (λ (n : ℕ). climb (forestUp js) n t) js-us
@@ -307,7 +294,7 @@ module _ (s : Store) (audited : Audited s) (a b place k v stamp : ℕ) (j : Atta
 
   js-forest : Forest js
   js-forest = record {
-    closed = subst (Closed (forestUp js)) (sym js-us) (forest-moved .closed′);
+    closed = subst (Closed (forestUp js)) (sym js-us) (moved-closed forest-moved);
     ended = λ t w. subst (λ (r : ℕ). forestUp js r ≡ r) (sym (top-counted t)) (moved-ends forest-moved t (sym (ap (λ (n : ℕ). within n t) js-us) ∙ w));
     unlabelled = λ t w e. go t (sym (ap (λ (n : ℕ). within n t) js-us) ∙ w) e (ℕ-discrete t a);
   }
@@ -324,8 +311,8 @@ module _ (s : Store) (audited : Audited s) (a b place k v stamp : ℕ) (j : Atta
 
   attached-classed : Classed s′
   attached-classed = record {
-    classParents = λ t w. term-same (classUp js t) ∙ class-stays t (was-term t w);
-    forestParents = λ t w. term-same (forestUp js t) ∙ of-us (forestUp js t) (forest-moved .closed′ .stays t (in-us t (was-term t w)));
+    classParents = λ t w. term-same (classUp js t) ∙ moved-closed class-moved .stays t (was-term t w);
+    forestParents = λ t w. term-same (forestUp js t) ∙ of-us (forestUp js t) (moved-closed forest-moved .stays t (in-us t (was-term t w)));
     classEnds = λ t w. subst (λ (r : ℕ). classUp js r ≡ r) (sym (root-counted t)) (moved-ends class-moved t (was-term t w));
     forestEnds = λ t w. subst (λ (r : ℕ). forestUp js r ≡ r) (sym (top-counted t)) (moved-ends forest-moved t (in-us t (was-term t w)));
     alike = λ t u w x. attached-alike t u (was-term t w) (was-term u x);

@@ -15,6 +15,7 @@ use Rattle.records.proofs.Lists.{decide, both-left, both-right, both-true}
 use Rattle.records.proofs.Repeats.{climb-enough}
 use Rattle.classes.specs.Joins.{noEdge, edgeOf, putEdge, rerootIn, Trace, isTrace, cutIn, undoIn}
 use Rattle.classes.specs.Working.Carries.{Forest}
+use Rattle.classes.proofs.MovedClimbs.{closed-put}
 use Rattle.classes.proofs.Tables.{edge-long, edge-here, edge-away, edge-words, class-here, class-away}
 use Rattle.classes.proofs.Alike.{Like, like-then, like-edge, like-class}
 use Rattle.classes.proofs.Turning.{Stops}
@@ -56,22 +57,22 @@ module _ (ts : List Term) (x : Trace) where
   unfolding isTrace
   trace-is h = both-true _ _ (both-true _ _ (both-true _ _ (both-true _ _ (h .child) (h .oldRoot)) (h .under)) (ap not (ne-eqb _ _ (h .linked)))) (ap not (ne-eqb _ _ (h .put)))
 
--- a join that can be undone
-pub record Undone (ts us : List Term) (x : Trace) : Type 0 where
+-- us is what cutting leaves of ts, where the numbers are a trace
+pub record Cuts (ts us : List Term) (x : Trace) : Type 0 where
   pub traced : Traced ts x
   pub is : cutIn ts x ≡ us
 
-pub undo-cuts : (ts us : List Term) (x : Trace) → undoIn ts x ≡ some us → Undone ts us x
+pub undo-cuts : (ts us : List Term) (x : Trace) → undoIn ts x ≡ some us → Cuts ts us x
 unfolding undoIn
 undo-cuts ts us x h = decide (isTrace ts x) (λ p. yes p (rw p at h)) (λ p. absurd (not-none (rw p at h)))
   where
     not-none : _≡_ {A = Option (List Term)} none (some us) → ⊥
     not-none q = let z : _≡_ {A = ℕ} 0 1 = cc in absurd (omega arith)
 
-    yes : isTrace ts x ≡ true → some (cutIn ts x) ≡ some us → Undone ts us x
+    yes : isTrace ts x ≡ true → some (cutIn ts x) ≡ some us → Cuts ts us x
     yes p q = record { traced = trace-says ts x p; is = cc }
 
-pub undo-is : (ts us : List Term) (x : Trace) → Undone ts us x → undoIn ts x ≡ some us
+pub undo-is : (ts us : List Term) (x : Trace) → Cuts ts us x → undoIn ts x ≡ some us
 unfolding undoIn
 undo-is ts us x u = rw (trace-is ts x (u .traced)) (ap some (u .is))
 
@@ -109,11 +110,7 @@ module _ (ts : List Term) (f : Forest ts) (child : ℕ) (w : within (length ts) 
   cut-away t d = ap (λ (y : Term). y .forestParent) (edge-away ts child _ w t d)
 
   cut-closed : Closed (forestUp cut) (length cut)
-  cut-closed = record { stays = λ t h. cut-within (forestUp cut t) ∙ go t (sym (cut-within t) ∙ h) (ℕ-discrete t child) }
-    where
-      go : (t : ℕ) → within (length ts) t ≡ true → Dec (t ≡ child) → within (length ts) (forestUp cut t) ≡ true
-      go t h (yes q) = ap (λ (z : ℕ). within (length ts) (forestUp cut z)) q ∙ ap (within (length ts)) cut-here ∙ w
-      go t h (no d) = ap (within (length ts)) (cut-away t d) ∙ f .closed .stays t h
+  cut-closed = subst (Closed (forestUp cut)) (sym (edge-long ts child _)) (closed-put (f .closed) w cut-here cut-away)
 
   cut-ends : (t : ℕ) → within (length cut) t ≡ true → forestUp cut (topIn cut t) ≡ topIn cut t
   cut-ends t h =
@@ -161,8 +158,4 @@ module _ (ts : List Term) (x : Trace) (f : Forest ts) (wc : within (length ts) (
       ∙ same .words (λ y. y .classParent) (λ y e. refl) t ∙ edge-words ts (x .child) _ wc (λ y. y .classParent) (λ y. refl) t
 
   pub cut-stays : Closed (classUp ts) (length ts) → Closed (classUp (cutIn ts x)) (length ts)
-  cut-stays c = record { stays = λ t w. go t w (ℕ-discrete t (x .under)) }
-    where
-      go : (t : ℕ) → within (length ts) t ≡ true → Dec (t ≡ x .under) → within (length ts) (classUp (cutIn ts x) t) ≡ true
-      go t w (yes e) = subst (λ (z : ℕ). within (length ts) (classUp (cutIn ts x) z) ≡ true) (sym e) (ap (within (length ts)) cut-class ∙ wu)
-      go t w (no d) = ap (within (length ts)) (cut-classes t d) ∙ c .stays t w
+  cut-stays c = closed-put c wu cut-class cut-classes

@@ -20,7 +20,7 @@ use Rattle.classes.specs.Joins.{Trace, cutIn, undoIn}
 use Rattle.classes.specs.Marks.{Trail, joinLimit, undoAll, tableAt, countsRule, rises, passes, marksRule}
 use Rattle.classes.specs.Working.Carries.{Forest}
 use Rattle.classes.proofs.Undoing.{classed-forest}
-use Rattle.classes.proofs.Cutting.{Undone, undo-cuts, cut-kept, cut-like, cut-class, cut-classes}
+use Rattle.classes.proofs.Cutting.{Cuts, undo-cuts, cut-kept, cut-like, cut-class, cut-classes}
 use Rattle.classes.proofs.Undone.{undo-each, undone-stays}
 
 -- HOW MANY PASS
@@ -80,7 +80,7 @@ abbrev roots : List Term → ℕ
 roots ts = howMany (isOwn ts) (length ts)
 
 -- a join undone makes one more
-undo-roots : (ts us : List Term) (x : Trace) → Forest ts → Undone ts us x → roots us ≡ suc (roots ts)
+undo-roots : (ts us : List Term) (x : Trace) → Forest ts → Cuts ts us x → roots us ≡ suc (roots ts)
 undo-roots ts us x f u =
     let t = u .traced in
     let l = within-low (length ts) (x .under) (t .under) in

@@ -21,6 +21,7 @@ mem-last l m = ⊎-elim inl (λ n. inr (List·Memᴰ·eq-of-singleton n)) (List�
 
 -- WAYS UP
 
+-- it begins with the term itself
 pub rise-head : {ts : List Term} {t : ℕ} {l : List ℕ} → Rise ts t l → List·Memᴰ t l
 rise-head (ends e) = List·Memᴰ·head refl
 rise-head (goes d r) = List·Memᴰ·head refl
@@ -95,11 +96,13 @@ module _ {ts us : List Term} {x p : ℕ} (f : Flipped ts us x p) where
         let i : forestUp us t ≡ forestUp ts t = up-away t (λ z. n (List·Memᴰ·head (sym z))) (λ z. q (ap (forestUp ts) z ∙ e ∙ sym z)) in
         goes (λ z. q (sym i ∙ z)) (subst (λ (z : ℕ). Rise us z (l ++ (x ∷ []))) (sym i) k)
 
+  -- the edges of a way up to p turned round: us gives what ts gives, since turning p's edge there gives ts back
   flip-back : {t : ℕ} {w : List ℕ} → Rise ts t w → ((u : ℕ) → List·Memᴰ u w → forestUp ts u ≡ u → u ≡ p) → turn p us ≡ ts → turns w us ≡ turns w ts
   unfolding turns
   flip-back {t} (ends q) g b = ap (λ (z : ℕ). turn z us) (g t (List·Memᴰ·head refl) q) ∙ b ∙ sym (turn-root ts t q)
   flip-back {t} (goes q r) g b = ap (turn t) (flip-back r (λ u m. g u (List·Memᴰ·tail m)) b)
 
+-- a root at the end of a way is not turned
 turns-last : (w : List ℕ) (x : ℕ) (ts : List Term) → turn x ts ≡ ts → turns (w ++ (x ∷ [])) ts ≡ turns w ts
 unfolding turns
 turns-last [] x ts e = e
@@ -107,7 +110,8 @@ turns-last (t ∷ w) x ts e = ap (turn t) (turns-last w x ts e)
 
 -- A WHOLE WAY
 
--- us is ts with the edges of the way l from x to the root turned round
+-- us is ts with the edges of the way l from x to the root turned round: x is a root, what is not on the way is as it was, and the way
+-- from the old root leads to x, so that turning its edges round gives ts back
 pub record Rerooted (ts us : List Term) (x : ℕ) (l : List ℕ) : Type 0 where
   pub long : length us ≡ length ts
   pub here : edgeOf (termIn us x) ≡ noEdge x
@@ -124,6 +128,7 @@ pub record Rerooted (ts us : List Term) (x : ℕ) (l : List ℕ) : Type 0 where
   pub words : (f : Term → ℕ) → ((y : Term) (e : Edge) → f (bearing y e) ≡ f y) → (u : ℕ) → f (termIn us u) ≡ f (termIn ts u)
 
 module _ (ts : List Term) (closed : Closed (forestUp ts) (length ts)) (unlabelled : (t : ℕ) → within (length ts) t ≡ true → forestUp ts t ≡ t → edgeOf (termIn ts t) ≡ noEdge t) where
+  -- a way of no edge, a way of one more, and any
   turned-none : (x : ℕ) → forestUp ts x ≡ x → within (length ts) x ≡ true → Rerooted ts ts x (x ∷ [])
   unfolding turns
   turned-none x e w = record {

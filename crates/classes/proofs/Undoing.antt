@@ -9,7 +9,7 @@ use borrow.Author.Tests.{eq-eqb, ne-eqb}
 use Rattle.records.specs.Store.{Term, Store, within, isTerm, climb, classUp, forestUp, rootIn, topIn, root, aboveIn}
 use Rattle.records.specs.Working.Audited.{Closed, Classed}
 use Rattle.records.proofs.Lists.{both-true, every-mem}
-use Rattle.records.proofs.Climbs.{climb-stays, classed-tops, root-term, top-term}
+use Rattle.records.proofs.Climbs.{top-self, classed-tops, root-term, top-term}
 use Rattle.records.proofs.Paths.{above-within, above-top}
 use Rattle.records.proofs.Rises.{rise-by}
 use Rattle.records.proofs.Append.{climb-same}
@@ -18,6 +18,7 @@ use Rattle.classes.specs.Working.Carries.{Forest}
 use Rattle.classes.proofs.Tables.{edge-long, edge-here, edge-words, edge-again, class-long, class-here, class-words, class-again}
 use Rattle.classes.proofs.Turning.{rise-above, Rerooted, turned-way}
 
+-- what refusal 3 asks of the forest
 pub classed-forest : (s : Store) → Classed s → Forest (s .terms)
 classed-forest s c = record {
   closed = classed-tops s c;
@@ -31,8 +32,9 @@ module _ (ts : List Term) (f : Forest ts) (a : ℕ) (w : within (length ts) a �
   pub rerooted : Rerooted ts (rerootIn ts a) a (aboveIn ts a)
   rerooted = turned-way ts (f .closed) (f .unlabelled) (rise-by ts (length ts) a (f .ended a w)) w
 
+  -- the old root is a's, and a term
   old-top : rerooted .old ≡ topIn ts a
-  old-top = sym (climb-stays (forestUp ts) (length ts) (rerooted .old) (rerooted .old-root)) ∙ every-mem (above-top ts (f .closed) (f .ended) (suc (length ts)) a w) (rerooted .old-in)
+  old-top = sym (top-self ts (rerooted .old) (rerooted .old-root)) ∙ every-mem (above-top ts (f .closed) (f .ended) (suc (length ts)) a w) (rerooted .old-in)
 
   old-within : within (length (rerootIn ts a)) (rerooted .old) ≡ true
   old-within = ap (λ (n : ℕ). within n (rerooted .old)) (rerooted .long) ∙ every-mem (above-within ts (length ts) (suc (length ts)) a (f .closed) w) (rerooted .old-in)
@@ -44,6 +46,7 @@ module _ (ts : List Term) (f : Forest ts) (a : ℕ) (w : within (length ts) a �
 -- A CLASS PARENT CHANGED
 
 module _ (ts : List Term) (r q : ℕ) (w : within (length ts) r ≡ true) where
+  -- the forest is as it was
   pub class-up : (t : ℕ) → forestUp (putClass ts r q) t ≡ forestUp ts t
   class-up = class-words ts r q w (λ x. x .forestParent) (λ x. refl)
 
