@@ -69,7 +69,7 @@ unfolding countsRule rises
 counts-last b [] e = both-true _ _ e (le-leb b b (omega arith))
 counts-last b (n ∷ l) e = both-true _ _ (both-left (eqb n 0) _ e) (rises-last n b l (both-right (eqb n 0) _ e))
 
-counts-take : (b k : ℕ) (l : List ℕ) → k < length l → countsRule l b ≡ true → countsRule (take k l) (getD l k 0) ≡ true
+pub counts-take : (b k : ℕ) (l : List ℕ) → k < length l → countsRule l b ≡ true → countsRule (take k l) (getD l k 0) ≡ true
 unfolding countsRule
 counts-take b k [] h e = absurd (omega arith)
 counts-take b zero (n ∷ l) h e = both-left (eqb n 0) _ e

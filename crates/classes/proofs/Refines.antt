@@ -4,3 +4,5 @@ pub mod Carrying
 pub mod CarryWords
 pub mod JoinWords
 pub mod Trails
+pub mod Counting
+pub mod MarkTables

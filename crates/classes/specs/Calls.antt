@@ -9,7 +9,9 @@ use lib.Dec.{ltb, leb}
 use Rattle.records.specs.declared.State.{State}
 use Rattle.records.specs.Lists.{if_then_else_, oneMore}
 use Rattle.records.specs.Store.{Term, Store, within, isString, sameClass}
-use Rattle.records.specs.View.{Lent, storeOf, termAt}
+use denote.Ref.{now}
+use denote.Triple.Both.{Both}
+use Rattle.records.specs.View.{Lent, Slice, storeOf, termAt}
 use Rattle.records.specs.Rules.{isReasonKind, isNumber}
 use Rattle.records.specs.Make.{withTerms}
 use Rattle.classes.specs.declared.Standing.{Standing}
@@ -87,6 +89,10 @@ pub record Leaves (m m′ : Lent) (l l′ : List ℕ) (c : State) (e : Standing)
   pub termsLong : length (m′ .terms) ≡ length (m .terms)
   pub words : (i : ℕ) → isCounted e i ≡ false → getD l′ i 0 ≡ getD l i 0
   pub long : length l′ ≡ length l
+
+-- a call's promise names the words lent for marks beside the store's, at entry and at exit
+abbrev pub Marked : (Lent → Lent → List ℕ → List ℕ → State → Standing → Answer → Type 0) → Both Lent Lent → Slice → State → Standing → Answer → Type 0
+Marked P x l c d r = P (x .entry) (x .exit) (now (l .entry)) (now (l .exit)) c d r
 
 -- its answer, that a refusal writes nothing, what it leaves alone, and that store and marks pass the audit again
 pub record Tracks (work : Store → Trail → Outcome) (m m′ : Lent) (l l′ : List ℕ) (c : State) (d : Standing) (r : Answer) : Type 0 where

@@ -19,6 +19,7 @@ use records::classes::classes_ok_unchecked;
 use records::classes::congruences_ok_unchecked;
 use records::fields::wide;
 use records::fields::word;
+use records::rules::is_within;
 
 pub const MARK_LIMIT: usize = 64;
 
@@ -75,7 +76,7 @@ pub(crate) fn record_join_unchecked(
 }
 
 // Records a mark.
-pub(crate) fn record_mark_unchecked(marks: &mut [u32], d: Standing) -> Standing
+pub fn record_mark_unchecked(marks: &mut [u32], d: Standing) -> Standing
     requires { ⌜ TrailSized (now marks) d ⌝ ∗ ⌜ d .marks < markLimit ⌝ }
     ensures { λ r. do
       let x = trailOf (now (marks .entry)) d
@@ -121,4 +122,128 @@ pub(crate) fn undo_to_unchecked(
         }
     }
     true
+}
+
+// THE AUDIT OF MARKS
+
+// Whether the counts of joins start at 0, do not fall and are at most the joins recorded; and none are recorded where no mark stands.
+fn counts_ok(marks: &[u32], d: Standing) -> bool
+    requires { ⌜ TrailSized (now marks) d ⌝ }
+    ensures { λ r. ⌜ r ≡ countsRule (trailOf (now (marks .entry)) d .marks) (d .joins) ⌝ }
+{
+    if d.marks == 0 {
+        return d.joins == 0;
+    }
+    if word(marks, 0) != 0 {
+        return false;
+    }
+    let mut last: u32 = 0;
+    let mut i: usize = 0;
+    while i < d.marks {
+        let n = word(marks, i);
+        if n < last {
+            return false;
+        }
+        last = n;
+        i += 1;
+    }
+    wide(last) <= d.joins
+}
+
+// The words of n terms, record 0 too.
+fn copy_terms_unchecked(terms: &[u32], n: usize, table: &mut [u32; 4104])
+    requires { ⌜ n ≤ termLimit ⌝ ∗ ⌜ termWords n ≤ length (now terms) ⌝ ∗ ⌜ length (now table) ≡ termWords termLimit ⌝ }
+    ensures { λ _. ⌜ (termsView (now (table .exit)) n ≡ termsView (now (terms .entry)) n) × (length (now (table .exit)) ≡ termWords termLimit) ⌝ }
+{
+    let words = TERM_WIDTH * (n + 1);
+    let mut i: usize = 0;
+    while i < words {
+        table[i] = terms[i];
+        i += 1;
+    }
+}
+
+// Whether refusals 3 and 4 let a table pass.
+fn table_ok_unchecked(table: &[u32], cells: &[u32], c: State) -> bool
+    requires { ⌜ Markable (now table) (now cells) c ⌝ }
+    ensures { λ r. do
+      let s = chained (now (table .entry)) (now (cells .entry)) c
+      ⌜ r ≡ (classesRule s && congruencesRule s) ⌝ }
+{
+    if !classes_ok_unchecked(table, c) {
+        return false;
+    }
+    congruences_ok_unchecked(table, cells, c)
+}
+
+// Whether the table of every mark passes, from the last mark to the first.
+fn tables_ok_unchecked(
+    table: &mut [u32],
+    cells: &[u32],
+    c: State,
+    marks: &[u32],
+    d: Standing,
+) -> bool
+    requires { ⌜ Markable (now table) (now cells) c ⌝ ∗ ⌜ TrailSized (now marks) d ⌝ ∗ ⌜ countsRule (trailOf (now marks) d .marks) (d .joins) ≡ true ⌝ }
+    ensures { λ r. do
+      let s = chained (now (table .entry)) (now (cells .entry)) c
+      let x = trailOf (now (marks .entry)) d
+      ⌜ r ≡ all (λ n. passes s (tableAt n x (s .terms))) (x .marks) ⌝ }
+{
+    let mut joins = d.joins;
+    let mut i = d.marks;
+    while 0 < i {
+        i -= 1;
+        let first = wide(word(marks, i));
+        if !undo_to_unchecked(table, c.terms, marks, joins, first) {
+            return false;
+        }
+        if !table_ok_unchecked(table, cells, c) {
+            return false;
+        }
+        joins = first;
+    }
+    true
+}
+
+// Whether going back to each mark gives a table that passes. It is worked out on a copy.
+fn marks_ok_unchecked(terms: &[u32], cells: &[u32], c: State, marks: &[u32], d: Standing) -> bool
+    requires { ⌜ Markable (now terms) (now cells) c ⌝ ∗ ⌜ TrailSized (now marks) d ⌝ }
+    ensures { λ r. ⌜ r ≡ marksRule (chained (now (terms .entry)) (now (cells .entry)) c) (trailOf (now (marks .entry)) d) ⌝ }
+{
+    if !counts_ok(marks, d) {
+        return false;
+    }
+    if d.marks == 0 {
+        return true;
+    }
+    let mut table: [u32; 4104] = [0; 4104];
+    copy_terms_unchecked(terms, c.terms, &mut table);
+    tables_ok_unchecked(&mut table, cells, c, marks, d)
+}
+
+// The audit of store and marks: 0, or the first refusal of 1 to 4 that is due. Nothing is asked of the slices or of the counts.
+pub fn audit(
+    terms: &[u32],
+    cells: &[u32],
+    chars: &[u32],
+    reasons: &[u32],
+    keys: &[u32],
+    c: State,
+    marks: &[u32],
+    d: Standing,
+) -> u32
+    ensures { λ r. ⌜ r ≡ auditMarks (across terms cells chars reasons keys .entry) (now (marks .entry)) c d ⌝ }
+{
+    if !trail_sizes(marks, d) {
+        return 1;
+    }
+    let k = records::audit(terms, cells, chars, reasons, keys, c);
+    if is_within(3, k) {
+        return k;
+    }
+    if !marks_ok_unchecked(terms, cells, c, marks, d) {
+        return 3;
+    }
+    k
 }

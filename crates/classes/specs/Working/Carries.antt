@@ -3,7 +3,7 @@ use mathlib.Core.Path.{_≡_}
 use mathlib.Core.Bool.{Bool, true, false}
 use mathlib.Core.List.{List}
 use mathlib.Core.Option.{Option, none, some}
-use Prim.Native.Nat.{ℕ, zero, suc, _≤_}
+use Prim.Native.Nat.{ℕ, zero, suc, _≤_, _<_}
 use lib.ListN.{length, getD}
 use lib.Dec.{eqb}
 use Rattle.records.specs.declared.State.{State}
@@ -12,9 +12,11 @@ use Rattle.records.specs.Store.{Term, kind, parts, termIn, within, classUp, for
 use Rattle.records.specs.View.{termAt, termsView, termWords, termLimit, chained}
 use Rattle.records.specs.Working.Audited.{Closed}
 use Rattle.classes.specs.declared.Standing.{Standing}
-use Rattle.classes.specs.Joins.{Edge, noEdge, edgeOf, putEdge, turned, Trace}
-use Rattle.classes.specs.Marks.{Trail, trailOf, tracePlace, joinLimit, markLimit}
-use Rattle.classes.specs.Calls.{isCounted}
+use Rattle.classes.specs.declared.Answer.{Answer}
+use Rattle.classes.specs.declared.Answer.the-variants.{Given, Refused}
+use Rattle.classes.specs.Joins.{Edge, noEdge, edgeOf, putEdge, turned, Trace, joinIn, traceOf}
+use Rattle.classes.specs.Marks.{Trail, trailOf, tracePlace, joinLimit, markLimit, tableAt}
+use Rattle.classes.specs.Calls.{isCounted, recorded, joinsAt, before}
 
 -- forest parents are terms and lead to a root, and roots are unlabelled
 pub record Forest (ts : List Term) : Type 0 where
@@ -83,3 +85,29 @@ pub record Trailed (l l′ : List ℕ) (x : Trail) (e : Standing) : Type 0 where
   pub is : trailOf l′ e ≡ x
   pub rest : (i : ℕ) → isCounted e i ≡ false → getD l′ i 0 ≡ getD l i 0
   pub long : length l′ ≡ length l
+
+-- what joining two terms may rely on: 511 records are enough
+pub record CanJoin (l : List ℕ) (n : ℕ) (k : List ℕ) (d : Standing) (a b : ℕ) : Type 0 where
+  pub tabled : Tabled l n
+  pub trail : TrailSized k d
+  pub one : within n a ≡ true
+  pub other : within n b ≡ true
+  pub fits : (rootIn (termsView l n) a ≡ rootIn (termsView l n) b → ⊥) → d .joins < joinLimit
+
+-- two terms in one class already, or joined
+pub data Joined (l l′ : List ℕ) (n : ℕ) (k k′ : List ℕ) (d : Standing) (a b kind v : ℕ) : Answer → Type 0 where
+  in-one : rootIn (termsView l n) a ≡ rootIn (termsView l n) b → l′ ≡ l → k′ ≡ k → Joined l l′ n k k′ d a b kind v (Given 0 d)
+  of-two : {e : Standing} → (rootIn (termsView l n) a ≡ rootIn (termsView l n) b → ⊥) → Becomes l l′ n (joinIn (termsView l n) a b kind v)
+      → Trailed k k′ (recorded (traceOf (termsView l n) a) (trailOf k d)) e → Joined l l′ n k k′ d a b kind v (Given 1 e)
+
+-- what going back may rely on
+pub record CanGo (l : List ℕ) (n : ℕ) (k : List ℕ) (d : Standing) (i : ℕ) : Type 0 where
+  pub tabled : Tabled l n
+  pub trail : TrailSized k d
+  pub stands : within (d .marks) i ≡ true
+  pub low : joinsAt i (trailOf k d) ≤ d .joins
+
+-- the table of the mark, or none
+pub data Went (l l′ : List ℕ) (n : ℕ) (k : List ℕ) (d : Standing) (i : ℕ) : Answer → Type 0 where
+  to-mark : {ts : List Term} {e : Standing} → tableAt (joinsAt i (trailOf k d)) (trailOf k d) (termsView l n) ≡ some ts → Becomes l l′ n ts → trailOf k e ≡ before i (trailOf k d) → Went l l′ n k d i (Given i e)
+  nowhere : tableAt (joinsAt i (trailOf k d)) (trailOf k d) (termsView l n) ≡ none → Went l l′ n k d i (Refused 3)
