@@ -10,9 +10,8 @@ use lib.Seq.{drop-cons, drop-length, take-append-le, take-length}
 use lib.Dec.{eqb, leb}
 use borrow.Author.Tests.{eq-eqb, ne-eqb, le-leb, lt-leb}
 use Rattle.records.specs.Lists.{table}
-use Rattle.records.proofs.Lists.{and-stop, and-next, table-length, table-at, table-suc, table-add}
+use Rattle.records.proofs.Lists.{and-stop, and-next, table-length, table-at, table-suc, table-add, every-mem}
 use Rattle.classes.specs.Marks.{rises, countsRule}
-use Rattle.classes.proofs.Turning.{every-mem}
 use Rattle.classes.proofs.Marking.{counts-low, counts-take}
 
 -- a table that is not empty has a first

@@ -196,7 +196,7 @@ module _ (l₀ e : List ℕ) (c : State) (marks : List ℕ) (m n : ℕ) where
       back = here (some (termsView l′ (c .terms))) (came .is ∙ ap some (sym (came .becomes .is)))
 
       like : Like (termsView l (c .terms)) (termsView l′ (c .terms))
-      like = undone-stays (drop first (table (traceAt marks) joins)) (termsView l (c .terms)) (termsView l′ (c .terms)) (a .markable .tabled .forest .closed) (came .is ∙ ap some (sym (came .becomes .is))) .like
+      like = undone-stays (drop first (table (traceAt marks) joins)) (termsView l (c .terms)) (termsView l′ (c .terms)) (a .markable .tabled .forest) (came .is ∙ ap some (sym (came .becomes .is))) .like
 
       pub auditing-asks : Markable l′ e c
       auditing-asks = record {
