@@ -11,7 +11,7 @@ use borrow.Author.Tests.{eq-eqb, ne-eqb}
 use Rattle.records.specs.Lists.{any, isIn, Every}
 use Rattle.records.specs.Store.{Term, termIn, within, forestUp, topIn, aboveIn, pathIn}
 use Rattle.records.specs.Working.Audited.{Closed}
-use Rattle.records.proofs.Lists.{decide, clash, or-left}
+use Rattle.records.proofs.Lists.{decide, clash, or-left, every-mem}
 use Rattle.records.proofs.Climbs.{climb-stays}
 use Rattle.records.proofs.Repeats.{climb-enough}
 use Rattle.records.proofs.Paths.{above-top}
@@ -19,7 +19,7 @@ use Rattle.records.proofs.Rises.{is-in, in-is, Rise, ends, goes, rise-by, rise-
 use Rattle.classes.specs.Joins.{noEdge, edgeOf}
 use Rattle.classes.specs.Working.Carries.{Forest}
 use Rattle.classes.proofs.Tables.{Flipped}
-use Rattle.classes.proofs.Turning.{every-mem, rise-ends, rise-above, up-child, up-parent, up-away, flip-closed}
+use Rattle.classes.proofs.Turning.{rise-ends, rise-above, up-child, up-parent, up-away, flip-closed}
 use Rattle.classes.proofs.Between.{path-each, each-path}
 
 -- LISTS

@@ -9,7 +9,7 @@ use Rattle.records.specs.Lists.{oneMore, Every, none-left, and}
 use Rattle.records.specs.Store.{Term, Cell, Store, count, within, isTerm, root}
 use Rattle.records.specs.Make.{withTerms, withNames}
 use Rattle.records.specs.Working.Audited.{Audited}
-use Rattle.records.proofs.Lists.{within-low, within-high, within-is, every-map, every-both, every-append}
+use Rattle.records.proofs.Lists.{within-low, within-high, within-is, every-map, every-both, every-append, every-mem}
 use Rattle.records.proofs.Climbs.{root-self, root-term}
 use Rattle.records.proofs.Grown.{Grown, grown-term, string-term}
 use Rattle.records.proofs.Append
@@ -17,7 +17,6 @@ use Rattle.records.proofs.Append.{grow, More, New}
 use Rattle.records.proofs.Extend.{kept-grown}
 use Rattle.classes.specs.Joins.{joinIn}
 use Rattle.classes.specs.History.{Generated, itself, pair, turned, linked}
-use Rattle.classes.proofs.Turning.{every-mem}
 use Rattle.classes.proofs.Dividing.{Joint, were, across, back}
 use Rattle.classes.proofs.JoinKept.{Joinable, join-long, join-division, join-divided}
 

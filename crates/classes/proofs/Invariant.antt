@@ -14,14 +14,13 @@ use Rattle.records.specs.Store.{Term, Cell, Store, count}
 use Rattle.records.specs.Make.{own, withTerms, withNames}
 use Rattle.records.specs.Working.Audited.{Audited}
 use Rattle.records.proofs.Lists.{both-true}
-use Rattle.records.proofs.Climbs.{classed-tops}
 use Rattle.records.proofs.Grown.{string-term}
 use Rattle.records.proofs.Append.{grow, More, New, kept-audited}
 use Rattle.records.proofs.Kept.{names-audited, Appends, found, one-term, after-names}
 use Rattle.classes.specs.Joins.{Trace, joinIn, traceOf, undoIn}
 use Rattle.classes.specs.Marks.{undoAll, countsRule, marksRule}
 use Rattle.classes.specs.History.{Event, joined, marked, standing, cutAt, markedAt}
-use Rattle.classes.proofs.Undoing.{undo-join}
+use Rattle.classes.proofs.Undoing.{classed-forest, undo-join}
 use Rattle.classes.proofs.Appending.{undo-more}
 use Rattle.classes.proofs.JoinKept.{Joinable, join-kept, join-like}
 use Rattle.classes.proofs.Alike.{Like, like-none, like-then, like-back}
@@ -83,7 +82,7 @@ inv-make : {s : Store} {ms : List ℕ} {js : List Trace} {h : List Event} (ds : 
 inv-make {s} {h = h} ds hs k a b (bare au d p q r) m n = bare (kept-audited s ds hs k a b au m n) (divides-grow s ds hs k a b au m n (standing h) d) p q r
 inv-make {s} ds hs k a b (one-join {ms = ms} {js = js} {h = h} x c e us au d l q z i) m n =
     one-join x c e (oneMore us (own (suc (length us)) k a b)) (kept-audited s ds hs k a b au m n) (divides-grow s ds hs k a b au m n (standing (oneMore h (joined c e))) d) (grow-like s us l ds hs k a b)
-    (subst (λ (y : ℕ). undoIn (oneMore (s .terms) (own (suc (count s)) k a b)) x ≡ some (oneMore us (own (suc y) k a b))) (sym (l .long)) (undo-more (s .terms) _ us x (classed-tops s (au .classed)) (au .classed .forestEnds) q)) z
+    (subst (λ (y : ℕ). undoIn (oneMore (s .terms) (own (suc (count s)) k a b)) x ≡ some (oneMore us (own (suc y) k a b))) (sym (l .long)) (undo-more (s .terms) _ us x (classed-forest s (au .classed)) q)) z
     (inv-make ds hs k a b i (more-like s us l ds hs k a b m) (new-like s us l ds hs k a b n))
 inv-make ds hs k a b (one-mark ts p i) m n = one-mark ts (one-more k a b p) (inv-make ds hs k a b i m n)
 

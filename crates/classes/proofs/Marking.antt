@@ -15,14 +15,13 @@ use Rattle.records.specs.Rules.{classesRule, congruencesRule}
 use Rattle.records.specs.Make.{withTerms}
 use Rattle.records.specs.Working.Audited.{Audited}
 use Rattle.records.proofs.Lists.{both-left, both-right, both-true, decide, all-append, all-take, all-every, every-all, every-map, every-both, every-at, within-low, within-high}
-use Rattle.records.proofs.Climbs.{classed-tops}
 use Rattle.records.proofs.Grown.{string-term}
 use Rattle.records.proofs.Passed.{classed-of, classes-of, congruences-of, congruent-of}
 use Rattle.classes.specs.Joins.{Trace, traceOf, joinIn, undoIn}
 use Rattle.classes.specs.Marks.{Trail, undoAll, tableAt, rises, countsRule, passes, marksRule}
 use Rattle.classes.specs.Calls.{recorded, joinsAt, before}
 use Rattle.classes.proofs.Alike.{Like, recorded-like, roomy-like}
-use Rattle.classes.proofs.Undoing.{undo-join}
+use Rattle.classes.proofs.Undoing.{classed-forest, undo-join}
 use Rattle.classes.proofs.Undone.{undo-append, undo-last, undone-stays}
 use Rattle.classes.proofs.JoinKept.{Joinable}
 
@@ -185,7 +184,7 @@ module _ (s : Store) (x : Trail) (h : marksRule s x ≡ true) (i : ℕ) (w : wit
       go (some us) e p = record {
         table = us;
         is = e;
-        like = undone-stays (drop n (x .joins)) (s .terms) us (classed-tops s (au .classed)) e .like;
+        like = undone-stays (drop n (x .joins)) (s .terms) us (classed-forest s (au .classed)) e .like;
         classes = both-left _ _ p;
         congruences = both-right (classesRule (withTerms s us)) _ p;
         marks = marks-before us e;

@@ -20,13 +20,13 @@ pub record Moved (up up′ : ℕ → ℕ) (n child parent : ℕ) : Type 0 where
   pub apart : climb up n parent ≡ child → ⊥
 
 module _ {up up′ : ℕ → ℕ} {n child parent : ℕ} (m : Moved up up′ n child parent) where
-  pub other-not : (t : ℕ) → (climb up n t ≡ child → ⊥) → t ≡ child → ⊥
+  other-not : (t : ℕ) → (climb up n t ≡ child → ⊥) → t ≡ child → ⊥
   other-not t o e = o (ap (climb up n) e ∙ climb-stays up n child (m .self))
 
-  pub one-up : (t : ℕ) → within n t ≡ true → climb up n (up t) ≡ climb up n t
+  one-up : (t : ℕ) → within n t ≡ true → climb up n (up t) ≡ climb up n t
   one-up t w = climb-up up n t (m .ends t w)
 
-  pub other-up : (t : ℕ) → within n t ≡ true → (climb up n t ≡ child → ⊥) → climb up n (up t) ≡ child → ⊥
+  other-up : (t : ℕ) → within n t ≡ true → (climb up n t ≡ child → ⊥) → climb up n (up t) ≡ child → ⊥
   other-up t w o e = o (sym (one-up t w) ∙ e)
 
   -- a walk in another tree is as it was

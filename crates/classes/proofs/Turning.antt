@@ -1,13 +1,12 @@
 -- Re-rooting a tree, edge by edge: what it does to the table, and that re-rooting at the old root gives the table back.
 use mathlib.Core.Path.{_≡_, refl, sym, ap, subst, _∙_}
 use mathlib.Core.Bool.{true}
-use mathlib.Core.List.{List, [], _∷_, _++_, List·Memᴰ, List·Memᴰ·head, List·Memᴰ·tail, List·Memᴰ·cases-cons, List·Memᴰ·not-nil}
+use mathlib.Core.List.{List, [], _∷_, _++_, List·Memᴰ, List·Memᴰ·head, List·Memᴰ·tail, List·Memᴰ·cases-cons, List·Memᴰ·not-nil, List·Memᴰ·append-cases, List·Memᴰ·eq-of-singleton}
 use mathlib.Core.Logic.{_⊎_, inl, inr, ⊎-elim}
 use Prim.Native.Nat.{ℕ, suc}
 use native.Mathlib.Decide.{ℕ-discrete}
 use native.Mathlib.Omega.{arith}
 use lib.ListN.{length}
-use Rattle.records.specs.Lists.{Every, and}
 use Rattle.records.specs.Store.{Term, termIn, within, climb, forestUp, aboveIn}
 use Rattle.records.specs.Working.Audited.{Closed}
 use Rattle.records.proofs.Repeats.{climb-enough}
@@ -17,19 +16,21 @@ use Rattle.classes.proofs.Tables.{Flipped, turn-root, turn-flips, turn-
 
 -- LISTS
 
-pub mem-last : {u x : ℕ} (l : List ℕ) → List·Memᴰ u (l ++ (x ∷ [])) → List·Memᴰ u l ⊎ (u ≡ x)
-mem-last [] m = ⊎-elim (λ e. inr e) (λ n. absurd (List·Memᴰ·not-nil n)) (List·Memᴰ·cases-cons m)
-mem-last (y ∷ l) m = ⊎-elim (λ e. inl (List·Memᴰ·head e)) (λ n. ⊎-elim (λ k. inl (List·Memᴰ·tail k)) (λ e. inr e) (mem-last l n)) (List·Memᴰ·cases-cons m)
-
-pub every-mem : {A : Type 0} {P : A → Type 0} {l : List A} {u : A} → Every P l → List·Memᴰ u l → P u
-every-mem {A} {P} (and p k) (List·Memᴰ·head e) = subst P (sym e) p
-every-mem (and p k) (List·Memᴰ·tail m) = every-mem k m
+mem-last : {u x : ℕ} (l : List ℕ) → List·Memᴰ u (l ++ (x ∷ [])) → List·Memᴰ u l ⊎ (u ≡ x)
+mem-last l m = ⊎-elim inl (λ n. inr (List·Memᴰ·eq-of-singleton n)) (List·Memᴰ·append-cases l m)
 
 -- WAYS UP
 
 pub rise-head : {ts : List Term} {t : ℕ} {l : List ℕ} → Rise ts t l → List·Memᴰ t l
 rise-head (ends e) = List·Memᴰ·head refl
 rise-head (goes d r) = List·Memᴰ·head refl
+
+-- a way up is one in each table that has the same parents on it
+pub rise-same : {ts us : List Term} {t : ℕ} {l : List ℕ} → Rise ts t l → ((u : ℕ) → List·Memᴰ u l → forestUp us u ≡ forestUp ts u) → Rise us t l
+rise-same {t = t} (ends e) f = ends (f t (List·Memᴰ·head refl) ∙ e)
+rise-same {us = us} {t = t} (goes {l = l} d r) f =
+    let i = f t (List·Memᴰ·head refl) in
+    goes (λ z. d (sym i ∙ z)) (subst (λ (z : ℕ). Rise us z l) (sym i) (rise-same r (λ u m. f u (List·Memᴰ·tail m))))
 
 -- no term stands above its parent
 pub rise-fresh : {ts : List Term} {t : ℕ} {l : List ℕ} → (forestUp ts t ≡ t → ⊥) → Rise ts (forestUp ts t) l → List·Memᴰ t l → ⊥
@@ -40,11 +41,12 @@ rise-fresh {ts} {t} {l} d r m = go (rise-from ts r m)
         let e : length (k .from) ≡ suc (length l) = ap length (rise-one ts (k .rise) (goes d r)) in
         ⊎-elim (λ q. d (sym q)) (λ h. absurd (omega arith)) (k .shorter)
 
-pub record Ending (ts : List Term) (t : ℕ) : Type 0 where
+-- a walk that comes to its end
+pub record Stops (up : ℕ → ℕ) (t : ℕ) : Type 0 where
   pub steps : ℕ
-  pub self : forestUp ts (climb (forestUp ts) steps t) ≡ climb (forestUp ts) steps t
+  pub self : up (climb up steps t) ≡ climb up steps t
 
-pub rise-ends : {ts : List Term} {t : ℕ} {l : List ℕ} → Rise ts t l → Ending ts t
+pub rise-ends : {ts : List Term} {t : ℕ} {l : List ℕ} → Rise ts t l → Stops (forestUp ts) t
 unfolding climb
 rise-ends (ends e) = record { steps = 0; self = e }
 rise-ends (goes d r) = let k = rise-ends r in record { steps = suc (k .steps); self = k .self }

@@ -1,7 +1,7 @@
 -- A root put under a term of another tree: the stamps on the path of two terms of one tree are those that were on it.
 use mathlib.Core.Path.{_≡_, sym, ap, subst, _∙_}
 use mathlib.Core.Bool.{true, false, _||_}
-use mathlib.Core.List.{List, _∷_, _++_, List·Memᴰ, List·Memᴰ·head, List·Memᴰ·tail, List·Memᴰ·cases-cons, List·Memᴰ·not-nil}
+use mathlib.Core.List.{List, _∷_, _++_, List·Memᴰ, List·Memᴰ·cases-cons, List·Memᴰ·not-nil, Memᴰ·cast}
 use mathlib.Core.Logic.{⊎-elim}
 use Prim.Native.Nat.{ℕ, _<_}
 use native.Mathlib.Decide.{ℕ-discrete}
@@ -14,7 +14,7 @@ use Rattle.records.proofs.Climbs.{climb-stays}
 use Rattle.records.proofs.Rises.{is-in, in-is, Rise, ends, goes, rise-by}
 use Rattle.classes.proofs.MovedClimbs.{Moved}
 use Rattle.classes.specs.Working.Carries.{Forest}
-use Rattle.classes.proofs.Turning.{rise-above}
+use Rattle.classes.proofs.Turning.{rise-above, rise-same}
 use Rattle.classes.proofs.Flips.{root-top, top-in}
 use Rattle.classes.proofs.Between.{path-each, each-path}
 
@@ -24,10 +24,7 @@ in-append e l k = any-append (eqb e) l k
 
 module _ (us js : List Term) {a b : ℕ} (m : Moved (forestUp us) (forestUp js) (length us) a b) where
   rise-other : {t : ℕ} {l : List ℕ} → Rise us t l → (List·Memᴰ a l → ⊥) → Rise js t l
-  rise-other {t} (ends e) n = ends (m .away t (λ z. n (List·Memᴰ·head (sym z))) ∙ e)
-  rise-other {t} (goes {l = l} d r) n =
-      let i = m .away t (λ z. n (List·Memᴰ·head (sym z))) in
-      goes (λ z. d (sym i ∙ z)) (subst (λ (z : ℕ). Rise js z l) (sym i) (rise-other r (λ k. n (List·Memᴰ·tail k))))
+  rise-other r n = rise-same r (λ u k. m .away u (λ z. n (Memᴰ·cast (sym z) k)))
 
   not-self : b ≡ a → ⊥
   not-self e = m .apart (ap (topIn us) e ∙ climb-stays (forestUp us) (length us) a (m .self))
