@@ -7,3 +7,4 @@ pub mod Trails
 pub mod Counting
 pub mod MarkTables
 pub mod AuditMarks
+pub mod Calling
