@@ -151,7 +151,7 @@ module _ (s : Store) (x : Trail) (h : marksRule s x ≡ true) (i : ℕ) (w : wit
   place : i - 1 < length (x .marks)
   place = let p = within-low _ i w in let q = within-high _ i w in omega arith
 
-  n-low : n ≤ length (x .joins)
+  pub n-low : n ≤ length (x .joins)
   n-low = every-at (x .marks) (i - 1) 0 (counts-low (length (x .joins)) (x .marks) (counts-of s x h)) place
 
   n-joins : length (take n (x .joins)) ≡ n

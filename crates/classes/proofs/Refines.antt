@@ -8,3 +8,4 @@ pub mod Counting
 pub mod MarkTables
 pub mod AuditMarks
 pub mod Calling
+pub mod PublicCalls
