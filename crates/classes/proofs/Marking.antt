@@ -53,7 +53,7 @@ rises-take a b k [] h e = absurd (omega arith)
 rises-take a b zero (n ∷ l) h e = both-left (leb a n) _ e
 rises-take a b (suc k) (n ∷ l) h e = both-true _ _ (both-left (leb a n) _ e) (rises-take n b k l (omega arith) (both-right (leb a n) _ e))
 
--- no mark was set when more joins were recorded than are now
+-- no mark counts more joins than are recorded
 pub counts-low : (b : ℕ) (l : List ℕ) → countsRule l b ≡ true → Every (λ n. n ≤ b) l
 unfolding countsRule
 counts-low b [] e = none-left
