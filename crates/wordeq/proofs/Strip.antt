@@ -138,7 +138,7 @@ pub record Stripped (l r : List ℕ) (s s′ : Store) (v : List ℕ × List ℕ)
   pub right : Strings s′ (v .1)
   pub apart : Apart (v .0) (v .1)
 
-every-reverse : {A : Type 0} {P : A → Type 0} {l : List A} → Every P l → Every P (reverse l)
+pub every-reverse : {A : Type 0} {P : A → Type 0} {l : List A} → Every P l → Every P (reverse l)
 every-reverse none-left = none-left
 every-reverse (and {a} {l} p k) = rw (reverse-cons a l) (every-append (every-reverse k) (and p none-left))
 
