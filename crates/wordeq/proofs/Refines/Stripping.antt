@@ -1,5 +1,5 @@
 -- The loops of step 1: same heads and tails counted, and the matches explained one after the other.
-use mathlib.Core.Path.{_≡_, refl, sym, ap, subst, _∙_}
+use mathlib.Core.Path.{_≡_, refl, sym, ap, _∙_}
 use mathlib.Core.Bool.{Bool, true, false, not, _&&_}
 use mathlib.Core.List.{List, [], _∷_, _++_, append-assoc, reverse, reverse-append, reverse-cons, reverse-reverse}
 use Prim.Native.Nat.{ℕ, zero, suc, _+_, _-_, _≤_, _<_, min}
@@ -10,12 +10,12 @@ use lib.Seq.{take-all, drop-cons, drop-at, getD-at, getD-drop, split-at}
 use borrow.Author.Tests.{not-true, not-false, eq-eqb, ne-eqb}
 use Rattle.records.specs.declared.State.{State}
 use Rattle.records.specs.declared.Added.the-variants as adding
-use Rattle.records.specs.Lists.{all, Every}
+use Rattle.records.specs.Lists.{all}
 use Rattle.records.specs.Store.{Store, Out, ok, stop, Work, andThen, isConstant, isString}
 use Rattle.records.specs.View.{Lent, lent, storeOf, readIn}
 use Rattle.records.specs.Working.Audited.{Ready}
 use Rattle.records.specs.Calls.{Working, added}
-use Rattle.records.proofs.Lists.{both-true, all-every, every-at, every-right}
+use Rattle.records.proofs.Lists.{both-true, all-every, every-at}
 use Rattle.records.proofs.Passed.{ready-after}
 use Rattle.records.proofs.Grown.{Strings}
 use Rattle.engine.specs.Explain.{explain, explainArguments}
@@ -23,7 +23,7 @@ use Rattle.wordeq.specs.declared.Rest.{Rest}
 use Rattle.wordeq.specs.declared.Stripped.the-variants.{Parts, Refused}
 use Rattle.wordeq.specs.Wordeq.{same, sameHeads, sameTails, matches, inner, rest, explainMatch, explainMatches, strip}
 use Rattle.wordeq.specs.Working.Stripping.{Pair, part, Finds, Strips}
-use Rattle.wordeq.proofs.Strip.{plainly, same-class, match-ends, matches-append, matches-end, off-heads, every-reverse, Match}
+use Rattle.wordeq.proofs.Strip.{plainly, same-class, match-ends, matches-append, matches-end, off-heads, every-back, Match}
 use Rattle.wordeq.proofs.Refines.Going.{Going, going-pair, going-same, kept-down}
 use Rattle.wordeq.proofs.Refines.Turning.{Turning, turning-none, turning-end, turning-refused, turning-on}
 use Rattle.records.specs.declared.Added.{Added as Answered}
@@ -93,9 +93,6 @@ module _ (l : List ℕ) where
     where
       place : (n f i : ℕ) → f + i < n → f + (n - f - 1 - i) ≡ n - 1 - i
       place n f i h = omega arith
-
-  from-back : {P : ℕ → Type 0} (f : ℕ) → Every P l → Every P (back f)
-  from-back {P} f e = every-reverse (every-right (take f l) (drop f l) (subst (Every P) (sym (take-append-drop f l)) e))
 
   pub back-length : (f : ℕ) → length (back f) ≡ length l - f
   back-length f = length-reverse (drop f l) ∙ length-drop f l
@@ -322,7 +319,7 @@ module _ (l r : List ℕ) where
     unfolding sameTails
     tails-place f n i e h =
         let k = tails-within s f n i e h in
-        rw (back-at l f i (k .0), back-at r f i (k .1)) at (place s (back l f) (back r f) (from-back l f (all-every _ l p)) (from-back r f (all-every _ r q)) i (omega arith))
+        rw (back-at l f i (k .0), back-at r f i (k .1)) at (place s (back l f) (back r f) (every-back f l (all-every _ l p)) (every-back f r (all-every _ r q)) i (omega arith))
 
   -- what is left by its places
   pub found : (s : Store) (f n : ℕ) → f ≡ length (sameHeads s l r) → n ≡ length (sameTails s f l r) → Finds s l r (record { from = f; lhs = length l - n; rhs = length r - n })
