@@ -32,7 +32,7 @@ use Rattle.classes.proofs.Undone.{undo-last}
 use Rattle.classes.proofs.Marking.{rule-more, rule-mark}
 
 -- a store, the counts of its marks, its joins recorded and its history: the last join recorded can be undone, and what it leads to is such a
--- store again, with the cells and characters of now; so is what a mark was set at
+-- store again, with the same cells and characters; a mark has the table that it was set at, to which terms that are alone were appended
 pub data Inv : Store → List ℕ → List Trace → List Event → Type 0 where
   bare : {s : Store} {ms : List ℕ} {js : List Trace} {h : List Event} → Audited s → Divides s (standing h) → length ms ≡ 0 → length js ≡ 0 → marksIn h ≡ 0 → Inv s ms js h
   one-join : {s : Store} {ms : List ℕ} {js : List Trace} {h : List Event} (x : Trace) (a b : ℕ) (us : List Term) → Audited s → Divides s (standing (oneMore h (joined a b))) → Like (s .terms) us

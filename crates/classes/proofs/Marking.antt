@@ -53,7 +53,7 @@ rises-take a b k [] h e = absurd (omega arith)
 rises-take a b zero (n ∷ l) h e = both-left (leb a n) _ e
 rises-take a b (suc k) (n ∷ l) h e = both-true _ _ (both-left (leb a n) _ e) (rises-take n b k l (omega arith) (both-right (leb a n) _ e))
 
--- no mark was set when more joins were recorded than are now
+-- no mark counts more joins than are recorded
 pub counts-low : (b : ℕ) (l : List ℕ) → countsRule l b ≡ true → Every (λ n. n ≤ b) l
 unfolding countsRule
 counts-low b [] e = none-left
@@ -151,7 +151,7 @@ module _ (s : Store) (x : Trail) (h : marksRule s x ≡ true) (i : ℕ) (w : wit
   place : i - 1 < length (x .marks)
   place = let p = within-low _ i w in let q = within-high _ i w in omega arith
 
-  n-low : n ≤ length (x .joins)
+  pub n-low : n ≤ length (x .joins)
   n-low = every-at (x .marks) (i - 1) 0 (counts-low (length (x .joins)) (x .marks) (counts-of s x h)) place
 
   n-joins : length (take n (x .joins)) ≡ n

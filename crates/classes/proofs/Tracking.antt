@@ -43,7 +43,7 @@ pub data Joining (a b k v : ℕ) (s : Store) (x : Trail) : Outcome → Type 0 wh
   together : root s a ≡ root s b → Joining a b k v s x (gives s x 0)
   joins : Joinable s a b k v → Joining a b k v s x (gives (withTerms s (joinIn (s .terms) a b k v)) (recorded (traceOf (s .terms) a) x) 1)
 
-joinable-of : (a b k v : ℕ) (s : Store) → joinArguments a b k v s ≡ true → sameClass s a b ≡ false → Joinable s a b k v
+pub joinable-of : (a b k v : ℕ) (s : Store) → joinArguments a b k v s ≡ true → sameClass s a b ≡ false → Joinable s a b k v
 joinable-of a b k v s e d =
     let p = both-left (isString s a && isString s b && isReasonKind k) _ e in
     let q = both-left (isString s a && isString s b) _ p in
