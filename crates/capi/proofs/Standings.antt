@@ -9,16 +9,16 @@ use lib.ListN.{length, getD, set}
 use lib.Dec.{leb, ltb}
 use borrow.Author.Tests.{leb-true, lt-leb, le-leb}
 use Rattle.records.specs.declared.State.{State}
-use Rattle.records.specs.Lists.{table}
+use Rattle.records.specs.Lists.{table, oneMore}
 use Rattle.records.specs.Store.{Term, Store, within, sameClass}
 use Rattle.records.specs.View.{Lent, storeOf, sizes}
 use Rattle.records.proofs.Lists.{both-left, both-right, left-false, and-next, decide, table-length}
 use Rattle.classes.specs.declared.Standing.{Standing}
 use Rattle.classes.specs.declared.Answer.{Answer}
 use Rattle.classes.specs.declared.Answer.the-variants.{Given, Refused}
-use Rattle.classes.specs.Joins.{Trace}
-use Rattle.classes.specs.Marks.{Trail, trailOf, traceAt, trailSizes, tableAt, auditMarks}
-use Rattle.classes.specs.Calls.{Outcome, gives, refuses, joinArguments, recorded, joinTerms, setMark, markLimit, joinsAt, gone, goBack, unless, tracked, answered, Tracks, PublicJoin}
+use Rattle.classes.specs.Joins.{Trace, traceOf}
+use Rattle.classes.specs.Marks.{Trail, markLimit, trailOf, trailSizes, tableAt, auditMarks}
+use Rattle.classes.specs.Calls.{Outcome, gives, refuses, joinArguments, recorded, joinTerms, setMark, joinsAt, gone, goBack, unless, tracked, answered, Tracks, PublicJoin}
 use Rattle.capi.specs.Interface.{stateOf, Beyond}
 use Rattle.capi.specs.Marks.{standingOf, spacious, Inside, Promise, readAs, ExportedMarks}
 use Rattle.capi.specs.Working.Standings.{standingIn, NarrowStanding, NarrowGiven, codeOf, stateAfter, answerAfter, ToldStanding, ToldAnswer}
@@ -74,7 +74,7 @@ module _ (w a : List ℕ) where
   unfolding spacious
   spacious-is h = and-next (leb 8 (length w)) (leb 8 (length a)) _ (le-leb 8 (length w) h) refl
 
-pub standing-read : (w : List ℕ) {x y : ℕ} → x ≡ getD w 6 0 → y ≡ getD w 7 0 → record { marks = x; joins = y } ≡ standingOf w
+pub standing-read : (w : List ℕ) {x y : ℕ} → x ≡ getD w 6 0 → y ≡ getD w 7 0 → _≡_ {A = Standing} (record { marks = x; joins = y }) (standingOf w)
 standing-read w p q = rw (p, q)
 
 -- the answer's first word
@@ -197,7 +197,7 @@ module _ (a b k v : ℕ) (s : Store) (x : Trail) where
   join-marks s′ x′ n e = decide (joinArguments a b k v s)
       (λ p. decide (sameClass s a b)
       (λ q. let h = rw (p, q) at e in let z : x′ ≡ x = cc in ap (λ (y : Trail). y .marks) z)
-      (λ q. let h = rw (p, q) at e in let z : x′ ≡ recorded _ x = cc in ap (λ (y : Trail). y .marks) z ∙ recorded-marks _ x))
+      (λ q. let h = rw (p, q) at e in let z : x′ ≡ recorded (traceOf (s .terms) a) x = cc in ap (λ (y : Trail). y .marks) z ∙ recorded-marks (traceOf (s .terms) a) x))
       (λ p. let h = rw p at e in let z : _≡_ {A = ℕ} 0 1 = cc in absurd (omega arith))
 
   join-stops : joinTerms a b k v s x ≡ refuses 0 → ⊥
@@ -212,7 +212,7 @@ module _ (s : Store) (x : Trail) where
   mark-joins : (s′ : Store) (x′ : Trail) (n : ℕ) → setMark s x ≡ gives s′ x′ n → x′ .joins ≡ x .joins
   unfolding setMark
   mark-joins s′ x′ n e = decide (ltb (length (x .marks)) markLimit)
-      (λ p. let h = rw p at e in let z : x′ ≡ record { marks = _; joins = x .joins } = cc in ap (λ (y : Trail). y .joins) z)
+      (λ p. let h = rw p at e in let z : x′ ≡ record { marks = oneMore (x .marks) (length (x .joins)); joins = x .joins } = cc in ap (λ (y : Trail). y .joins) z)
       (λ p. let h = rw p at e in let z : _≡_ {A = ℕ} 0 1 = cc in absurd (omega arith))
 
   mark-stops : setMark s x ≡ refuses 0 → ⊥
