@@ -33,6 +33,8 @@ pub fn none() -> Counts {
         known: 0,
         short: 0,
         words: 0,
+        marks: 0,
+        joins: 0,
     }
 }
 

@@ -21,7 +21,7 @@
 //   k n a b         n times the key (a, b) more
 //   i n             n is the name counter
 //   W s n           n words are lent of slice s, and the others whole: 1 terms, 2 cells, 3 characters, 4 reasons, 5 keys, 6 the list that is
-//                   answered
+//                   answered, 7 marks
 //   M n             n terms are counted
 //   c n             n cells are counted
 //   T t i x         word i of term t becomes x
@@ -39,6 +39,13 @@
 //   s e g           the step over the equation e and the known list, with the guard g
 //   q p             nf_equal, the list's first p atoms and the rest
 //   Q p             nf_equal_explain of the same
+//   j a b k v       join a and b under the reason of kind k and number v
+//   m               set_mark
+//   g n             go_back to mark n
+//   w i x           word i of the words lent for marks becomes x
+//   z m j           m marks and j joins are counted
+//   p               the class words of each counted term that has others than a term alone
+//   t               the words lent for marks, as far as they are counted
 //   #               a remark, which is printed
 //
 // What is asked is printed with its answer: the root, or the refusal; the count of reasons and the reasons, with a3-5 for a3 a4 a5; for
@@ -46,10 +53,14 @@
 // after the call, and the texts of the constants made. What a form made is not counted from then on. For resolve_equation and the step: the
 // case with its values (the variable, the word and the link flag; the count of atoms, the atoms and the guard), the reasons, the counts
 // of terms, cells, characters and keys, the name counter, and each term made, a concatenation as t+u, a length as |t|, an equation as t=u.
+// For join, set_mark and go_back: the number answered, and how many marks and joins are counted from then on. A term's class words stand
+// as (t class-parent forest-parent label-kind label-value stamp), a recorded join as (child old-root class-root) after the marks' counts.
 use asking::ask;
 use asking::is_ask;
 use lending::part;
 use lending::words_of;
+use marking::is_mark;
+use marking::mark;
 use reading::letter;
 use reading::line_end;
 use reading::read;
@@ -58,13 +69,14 @@ pub mod adding;
 pub mod asking;
 pub mod building;
 pub mod lending;
+pub mod marking;
 pub mod reading;
 pub mod saying;
 pub mod solving;
 pub mod stating;
 
-// How many terms, cells, characters, reasons and keys are counted, the name counter, how many atoms the list has, and which slice is not
-// lent whole, and how many of its words are.
+// How many terms, cells, characters, reasons and keys are counted, the name counter, how many atoms the list has, which slice is not
+// lent whole, and how many of its words are; and how many marks stand and joins are recorded.
 pub struct Counts {
     pub terms: u32,
     pub cells: u32,
@@ -75,6 +87,8 @@ pub struct Counts {
     pub known: usize,
     pub short: u32,
     pub words: usize,
+    pub marks: usize,
+    pub joins: usize,
 }
 
 // With as many words lent of each slice as the counts say.
@@ -119,6 +133,7 @@ fn step(
     reasons: &mut [u32],
     keys: &mut [u32],
     known: &mut [u32],
+    marks: &mut [u32],
     c: Counts,
 ) -> Counts {
     let l = letter(line);
@@ -129,6 +144,9 @@ fn step(
     }
     let mut n: [u32; 256] = [0; 256];
     let last = read(l, line, &mut n);
+    if is_mark(l) {
+        return mark(l, line, &n, terms, cells, chars, reasons, keys, marks, c);
+    }
     if is_ask(l) {
         io::write_all(1, line);
         let mut list: [u32; 1024] = [0; 1024];
@@ -158,12 +176,23 @@ fn run(
     reasons: &mut [u32],
     keys: &mut [u32],
     known: &mut [u32],
+    marks: &mut [u32],
 ) {
     let mut c = adding::none();
     let mut at: usize = 0;
     while at < text.len() {
         let end = line_end(text, at);
-        c = step(&text[at..end], terms, cells, chars, reasons, keys, known, c);
+        c = step(
+            &text[at..end],
+            terms,
+            cells,
+            chars,
+            reasons,
+            keys,
+            known,
+            marks,
+            c,
+        );
         at = end + 1;
     }
 }
@@ -177,6 +206,7 @@ fn main() {
     let mut reasons: [u32; 8194] = [0; 8194];
     let mut keys: [u32; 8194] = [0; 8194];
     let mut known: [u32; 2304] = [0; 2304];
+    let mut marks: [u32; 1597] = [0; 1597];
     run(
         &text[..len],
         &mut terms,
@@ -185,5 +215,6 @@ fn main() {
         &mut reasons,
         &mut keys,
         &mut known,
+        &mut marks,
     );
 }
