@@ -125,6 +125,37 @@ fn ask_lent(
     )
 }
 
+// A command that asks is printed with its answer.
+fn ask_line(
+    l: u8,
+    line: &[u8],
+    n: &[u32],
+    terms: &mut [u32],
+    cells: &mut [u32],
+    chars: &mut [u32],
+    reasons: &mut [u32],
+    keys: &mut [u32],
+    known: &[u32],
+    c: Counts,
+) -> Counts {
+    let mut list: [u32; 1024] = [0; 1024];
+    io::write_all(1, line);
+    let d = ask_lent(
+        l,
+        n,
+        terms,
+        cells,
+        chars,
+        reasons,
+        keys,
+        known,
+        &mut list,
+        c,
+    );
+    io::write_all(1, b"\n");
+    d
+}
+
 fn step(
     line: &[u8],
     terms: &mut [u32],
@@ -148,22 +179,7 @@ fn step(
         return mark(l, line, &n, terms, cells, chars, reasons, keys, marks, c);
     }
     if is_ask(l) {
-        io::write_all(1, line);
-        let mut list: [u32; 1024] = [0; 1024];
-        let d = ask_lent(
-            l,
-            &n,
-            terms,
-            cells,
-            chars,
-            reasons,
-            keys,
-            known,
-            &mut list,
-            c,
-        );
-        io::write_all(1, b"\n");
-        return d;
+        return ask_line(l, line, &n, terms, cells, chars, reasons, keys, known, c);
     }
     adding::apply(l, &n, last, terms, cells, chars, reasons, keys, known, c)
 }
