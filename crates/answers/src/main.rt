@@ -1,7 +1,7 @@
 // Stores of many shapes, and what each call answers on them. Standard input has the cases, a command to a line: a
 // letter, then decimal numbers, each after one space, or a text after one space, a byte to a character.
 //
-//   N               no record counted
+//   N               no record counted, no mark and no join
 //   V n             n variables more, each alone in its class
 //   H n             n variables more, of one class: in the forest each below the next one, the edge of t with label at and stamp t;
 //                   in the class tree all below the first
@@ -75,8 +75,8 @@ pub mod saying;
 pub mod solving;
 pub mod stating;
 
-// How many terms, cells, characters, reasons and keys are counted, the name counter, how many atoms the list has, which slice is not
-// lent whole, and how many of its words are; and how many marks stand and joins are recorded.
+// How many terms, cells, characters, reasons and keys are counted, the name counter, how many atoms the list has, and which slice is not
+// lent whole, and how many of its words are.
 pub struct Counts {
     pub terms: u32,
     pub cells: u32,
@@ -87,8 +87,6 @@ pub struct Counts {
     pub known: usize,
     pub short: u32,
     pub words: usize,
-    pub marks: usize,
-    pub joins: usize,
 }
 
 // With as many words lent of each slice as the counts say.
@@ -222,7 +220,7 @@ fn main() {
     let mut reasons: [u32; 8194] = [0; 8194];
     let mut keys: [u32; 8194] = [0; 8194];
     let mut known: [u32; 2304] = [0; 2304];
-    let mut marks: [u32; 1597] = [0; 1597];
+    let mut marks: [u32; 1599] = [0; 1599];
     run(
         &text[..len],
         &mut terms,

@@ -1,38 +1,47 @@
 // The commands about joins and marks, and what is printed of them.
 use crate::Counts;
+use crate::adding::none;
 use crate::asking::state;
+use crate::building::narrow;
 use crate::building::put;
+use crate::lending::least;
 use crate::lending::part;
 use crate::lending::words_of;
 use crate::saying::say;
 use crate::stating::say_count;
 use classes::Answer;
 use classes::Standing;
+use records::State;
 use records::fields;
 use records::fields::word;
 use std::num::wrapping_add_usize;
 
-fn standing(c: Counts, marks: usize, joins: usize) -> Counts {
-    let mut d = c;
-    d.marks = marks;
-    d.joins = joins;
-    d
+// The words lent for marks stand first; after them how many marks stand, and how many joins are recorded.
+const LENT: usize = 1597;
+
+fn count(marks: &mut [u32], standing: u32, joins: u32) {
+    put(marks, LENT, standing);
+    put(marks, LENT + 1, joins);
 }
 
-// Prints the answer, with the counts of marks and of joins after the call. Answers what is counted from here on.
-fn say_answer(r: Answer, c: Counts) -> Counts {
+fn standing(marks: &[u32]) -> Standing {
+    Standing {
+        marks: word(marks, LENT) as usize,
+        joins: word(marks, LENT + 1) as usize,
+    }
+}
+
+// Prints the answer, with the counts of marks and of joins after the call, which are counted from here on.
+fn say_answer(r: Answer, marks: &mut [u32]) {
     match r {
         Answer::Given(n, d) => {
             say(b": ", n);
             io::write_all(1, b",");
             say_count(d.marks);
             say_count(d.joins);
-            standing(c, d.marks, d.joins)
+            count(marks, narrow(d.marks), narrow(d.joins));
         }
-        Answer::Refused(k) => {
-            say(b": refused ", k);
-            c
-        }
+        Answer::Refused(k) => say(b": refused ", k),
     }
 }
 
@@ -68,7 +77,6 @@ fn say_class(terms: &[u32], t: u32) {
 
 // The terms up to n.
 fn say_classes(terms: &[u32], n: u32) {
-    io::write_all(1, b":");
     let mut t: u32 = 0;
     while t < n {
         t += 1;
@@ -76,28 +84,41 @@ fn say_classes(terms: &[u32], n: u32) {
     }
 }
 
+fn say_word(marks: &[u32], i: usize) {
+    say(b" ", word(marks, i));
+}
+
 fn say_marks(marks: &[u32], n: usize) {
-    io::write_all(1, b":");
     let mut i: usize = 0;
     while i < n {
-        say(b" ", word(marks, i));
+        say_word(marks, i);
         i += 1;
     }
 }
 
-// n joins, three words each, from word 64 on.
+// Join j: three words, from word 64 + 3 j on.
+fn say_join(marks: &[u32], j: usize) {
+    let three = wrapping_add_usize(wrapping_add_usize(j, j), j);
+    let at = wrapping_add_usize(64, three);
+    say(b" (", word(marks, at));
+    say_word(marks, wrapping_add_usize(at, 1));
+    say_word(marks, wrapping_add_usize(at, 2));
+    io::write_all(1, b")");
+}
+
 fn say_joins(marks: &[u32], n: usize) {
-    io::write_all(1, b",");
-    let mut at: usize = 64;
     let mut j: usize = 0;
     while j < n {
-        say(b" (", word(marks, at));
-        say(b" ", word(marks, wrapping_add_usize(at, 1)));
-        say(b" ", word(marks, wrapping_add_usize(at, 2)));
-        io::write_all(1, b")");
-        at = wrapping_add_usize(at, 3);
+        say_join(marks, j);
         j += 1;
     }
+}
+
+fn say_trail(marks: &[u32]) {
+    let d = standing(marks);
+    say_marks(marks, d.marks);
+    io::write_all(1, b",");
+    say_joins(marks, d.joins);
 }
 
 fn ask(
@@ -108,28 +129,21 @@ fn ask(
     chars: &[u32],
     reasons: &[u32],
     keys: &[u32],
+    s: State,
     marks: &mut [u32],
-    c: Counts,
-) -> Counts {
+    d: Standing,
+) -> Answer {
     let a = word(n, 1);
     let b = word(n, 2);
     let k = word(n, 3);
     let v = word(n, 4);
-    let s = state(c);
-    let d = Standing {
-        marks: c.marks,
-        joins: c.joins,
-    };
     if l == 106 {
-        let r = classes::join(terms, cells, chars, reasons, keys, s, marks, d, a, b, k, v);
-        return say_answer(r, c);
+        return classes::join(terms, cells, chars, reasons, keys, s, marks, d, a, b, k, v);
     }
     if l == 109 {
-        let r = classes::set_mark(terms, cells, chars, reasons, keys, s, marks, d);
-        return say_answer(r, c);
+        return classes::set_mark(terms, cells, chars, reasons, keys, s, marks, d);
     }
-    let r = classes::go_back(terms, cells, chars, reasons, keys, s, marks, d, a);
-    say_answer(r, c)
+    classes::go_back(terms, cells, chars, reasons, keys, s, marks, d, a)
 }
 
 // With as many words lent of each slice as the counts say.
@@ -143,13 +157,14 @@ fn ask_lent(
     keys: &[u32],
     marks: &mut [u32],
     c: Counts,
-) -> Counts {
+) -> Answer {
     let t = part(words_of(c.short, c.words, 1), terms);
     let e = part(words_of(c.short, c.words, 2), cells);
     let h = part(words_of(c.short, c.words, 3), chars);
     let r = part(words_of(c.short, c.words, 4), reasons);
     let k = part(words_of(c.short, c.words, 5), keys);
-    let m = part(words_of(c.short, c.words, 7), marks);
+    let m = part(least(words_of(c.short, c.words, 7), LENT), marks);
+    let d = standing(marks);
     ask(
         l,
         n,
@@ -158,12 +173,13 @@ fn ask_lent(
         &chars[..h],
         &reasons[..r],
         &keys[..k],
+        state(c),
         &mut marks[..m],
-        c,
+        d,
     )
 }
 
-// A command that prints. Answers what is counted from here on.
+// A command that prints.
 fn tell(
     l: u8,
     n: &[u32],
@@ -174,22 +190,24 @@ fn tell(
     keys: &[u32],
     marks: &mut [u32],
     c: Counts,
-) -> Counts {
+) {
     match l {
         112 => {
+            io::write_all(1, b":");
             say_classes(terms, c.terms);
-            c
         }
         116 => {
-            say_marks(marks, c.marks);
-            say_joins(marks, c.joins);
-            c
+            io::write_all(1, b":");
+            say_trail(marks);
         }
-        _ => ask_lent(l, n, terms, cells, chars, reasons, keys, marks, c),
+        _ => {
+            let r = ask_lent(l, n, terms, cells, chars, reasons, keys, marks, c);
+            say_answer(r, marks);
+        }
     }
 }
 
-// One of these commands: w and z change words and counts, the others print.
+// One of these commands: N, w and z change words and counts, the others print. Answers what is counted from here on.
 pub fn mark(
     l: u8,
     line: &[u8],
@@ -202,22 +220,27 @@ pub fn mark(
     marks: &mut [u32],
     c: Counts,
 ) -> Counts {
-    if l == 119 {
-        put(marks, word(n, 1) as usize, word(n, 2));
-        return c;
+    let a = word(n, 1);
+    let b = word(n, 2);
+    match l {
+        78 => {
+            count(marks, 0, 0);
+            return none();
+        }
+        119 => put(marks, a as usize, b),
+        122 => count(marks, a, b),
+        _ => {
+            io::write_all(1, line);
+            tell(l, n, terms, cells, chars, reasons, keys, marks, c);
+            io::write_all(1, b"\n");
+        }
     }
-    if l == 122 {
-        return standing(c, word(n, 1) as usize, word(n, 2) as usize);
-    }
-    io::write_all(1, line);
-    let d = tell(l, n, terms, cells, chars, reasons, keys, marks, c);
-    io::write_all(1, b"\n");
-    d
+    c
 }
 
 pub fn is_mark(l: u8) -> bool {
     match l {
-        106 | 109 | 103 | 112 | 116 | 119 | 122 => true,
+        106 | 109 | 103 | 112 | 116 | 119 | 122 | 78 => true,
         _ => false,
     }
 }

@@ -4,10 +4,10 @@ use Rattle.answers.proofs.marking.say_joins.Statement.{statement}
 use Rattle.answers.proofs.marking.say_joins.Tie as tie
 
 abbrev Inv-loop : tie.InvT-loop
-Inv-loop marks n at₀ j₀ at j = Unit {0}
+Inv-loop marks n j₀ j = Unit {0}
 
 abbrev μ-loop : tie.MeasureT-loop
-μ-loop marks n at₀ j₀ at j = n - j
+μ-loop marks n j₀ j = n - j
 
 pub say-joins-spec : {M : Type 1} → statement M
 say-joins-spec =
