@@ -10,6 +10,8 @@ pub mod damage;
 pub mod draft;
 pub mod generate;
 pub mod lent;
+pub mod lists;
+pub mod marks;
 pub mod model;
 pub mod oracle;
 #[cfg(feature = "port")]
@@ -20,4 +22,5 @@ pub mod shrink;
 pub mod speed;
 #[cfg(feature = "port")]
 pub mod stack;
+pub mod trails;
 pub mod vectors;
