@@ -277,12 +277,8 @@ struct Manner {
 
 fn start(random: &mut Random) -> (Lent, Manner) {
     let steered = random.one_in(2);
-    let small = |random: &mut Random| generate::Profile {
-        terms: random.between(3, 9),
-        merges: random.between(2, 12),
-        letters: 2,
-        longest: 2,
-    };
+    let small =
+        |random: &mut Random| generate::Profile { terms: random.between(3, 9), merges: random.between(2, 12), letters: 2, longest: 2 };
     let manner = Manner { calls: random.between(10, 50), marks: 3, backs: 2, steered };
     match random.below(20) {
         // no term at all
@@ -374,7 +370,13 @@ fn shortened(random: &mut Random, s: &Marked) -> (Marked, usize) {
     (short, room)
 }
 
-fn described(what: &str, before: &Marked, call: &dyn std::fmt::Debug, expected: &dyn std::fmt::Display, given: &dyn std::fmt::Display) -> String {
+fn described(
+    what: &str,
+    before: &Marked,
+    call: &dyn std::fmt::Debug,
+    expected: &dyn std::fmt::Display,
+    given: &dyn std::fmt::Display,
+) -> String {
     format!("{what}\n{call:?}\n{before}\nexpected {expected}\ngiven {given}")
 }
 
