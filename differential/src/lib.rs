@@ -15,6 +15,8 @@ pub mod marks;
 pub mod model;
 pub mod oracle;
 #[cfg(feature = "port")]
+pub mod pace;
+#[cfg(feature = "port")]
 pub mod port;
 pub mod random;
 pub mod script;

@@ -65,7 +65,7 @@ struct Options {
 
 fn usage() -> ! {
     eprintln!(
-        "differential compare|damaged|claims|lists|trails|faults|vectors|speed|count|worst|stack [--seed S] [--count N] [--from ROUND] [--threads T] [--kinds A,B] [--of port|model|rust] [--out FOLDER]"
+        "differential compare|damaged|claims|lists|trails|faults|vectors|speed|count|pace|pace-count|worst|stack [--seed S] [--count N] [--from ROUND] [--threads T] [--kinds A,B] [--of port|model|rust] [--out FOLDER]"
     );
     exit(2);
 }
@@ -470,6 +470,10 @@ fn main() {
         "worst" => return speed::worst(),
         #[cfg(feature = "port")]
         "stack" => return differential::stack::table(),
+        #[cfg(feature = "port")]
+        "pace" => return differential::pace::table(o.seed),
+        #[cfg(feature = "port")]
+        "pace-count" => return differential::pace::counts(o.seed, "target/count"),
         #[cfg(feature = "port")]
         "count" => return differential::count::table(o.seed, &o.kinds, "target/count"),
         _ => usage(),
