@@ -4,7 +4,6 @@ use mathlib.Core.Path.{_≡_, refl, sym, ap, subst, _∙_}
 use mathlib.Core.Bool.{true}
 use mathlib.Core.List.{List}
 use Prim.Native.Nat.{ℕ, _≤_, _<_}
-use native.Mathlib.Decide.{ℕ-discrete}
 use native.Mathlib.Omega.{arith}
 use lib.ListN.{length}
 use Rattle.records.specs.Lists.{Every}
@@ -14,7 +13,7 @@ use Rattle.records.specs.Make.{withTerms, withClass}
 use Rattle.records.specs.Working.Audited.{Part, Recorded, Roomy}
 use Rattle.records.proofs.Lists.{every-map, all-every, every-all}
 use Rattle.classes.specs.Joins.{Edge, bearing, putEdge, putClass}
-use Rattle.classes.proofs.Tables.{edge-long, edge-here, edge-away, class-long, class-here, class-away}
+use Rattle.classes.proofs.Tables.{edge-long, edge-words, class-long, class-words}
 
 -- f reads no edge and no class parent
 pub record Plain (f : Term → ℕ) : Type 0 where
@@ -35,18 +34,10 @@ pub like-back : {ts us : List Term} → Like ts us → Like us ts
 like-back k = record { long = sym (k .long); words = λ f p t. sym (k .words f p t) }
 
 pub like-edge : (ts : List Term) (t : ℕ) (e : Edge) → within (length ts) t ≡ true → Like ts (putEdge ts t e)
-like-edge ts t e w = record { long = edge-long ts t e; words = λ f p u. go f p u (ℕ-discrete u t) }
-  where
-    go : (f : Term → ℕ) → Plain f → (u : ℕ) → Dec (u ≡ t) → f (termIn (putEdge ts t e) u) ≡ f (termIn ts u)
-    go f p u (yes q) = subst (λ (z : ℕ). f (termIn (putEdge ts t e) z) ≡ f (termIn ts z)) (sym q) (ap f (edge-here ts t e w) ∙ p .edges _ e)
-    go f p u (no d) = ap f (edge-away ts t e w u d)
+like-edge ts t e w = record { long = edge-long ts t e; words = λ f p u. edge-words ts t e w f (λ y. p .edges y e) u }
 
 pub like-class : (ts : List Term) (t q : ℕ) → within (length ts) t ≡ true → Like ts (putClass ts t q)
-like-class ts t q w = record { long = class-long ts t q; words = λ f p u. go f p u (ℕ-discrete u t) }
-  where
-    go : (f : Term → ℕ) → Plain f → (u : ℕ) → Dec (u ≡ t) → f (termIn (putClass ts t q) u) ≡ f (termIn ts u)
-    go f p u (yes d) = subst (λ (z : ℕ). f (termIn (putClass ts t q) z) ≡ f (termIn ts z)) (sym d) (ap f (class-here ts t q w) ∙ p .classes _ q)
-    go f p u (no d) = ap f (class-away ts t q w u d)
+like-class ts t q w = record { long = class-long ts t q; words = λ f p u. class-words ts t q w f (λ y. p .classes y q) u }
 
 -- A STORE WITH SUCH A TABLE
 

@@ -10,10 +10,9 @@ use lib.Dec.{eqb}
 use borrow.Author.Tests.{eqb-true, eqb-false, ne-eqb}
 use Rattle.records.specs.Lists.{isIn, firstOf, upTo, Every, none-left, and}
 use Rattle.records.specs.Store.{Term, within, topIn, aboveIn, orNone, nearestIn, pathIn}
-use Rattle.records.proofs.Lists.{decide, clash, every-append, every-left, every-right}
+use Rattle.records.proofs.Lists.{decide, clash, every-append, every-left, every-right, every-mem}
 use Rattle.records.proofs.Rises.{is-in, in-is, Rise, ends, goes, rise-by, rise-one, First, first-of, Above, above-each, top-by}
 use Rattle.classes.specs.Working.Carries.{Forest}
-use Rattle.classes.proofs.Turning.{every-mem}
 
 -- LISTS
 

@@ -15,7 +15,10 @@ use Rattle.records.proofs.Lists.{decide, both-left, both-right, both-true}
 use Rattle.records.proofs.Repeats.{climb-enough}
 use Rattle.classes.specs.Joins.{noEdge, edgeOf, putEdge, rerootIn, Trace, isTrace, cutIn, undoIn}
 use Rattle.classes.specs.Working.Carries.{Forest}
-use Rattle.classes.proofs.Tables.{edge-long, edge-here, edge-away, edge-words, class-long, class-here, class-away}
+use Rattle.classes.proofs.MovedClimbs.{closed-put}
+use Rattle.classes.proofs.Tables.{edge-long, edge-here, edge-away, edge-words, class-here, class-away}
+use Rattle.classes.proofs.Alike.{Like, like-then, like-edge, like-class}
+use Rattle.classes.proofs.Turning.{Stops}
 use Rattle.classes.proofs.Undoing.{class-forest}
 use Rattle.classes.proofs.Rounds.{Same, reroot-same}
 
@@ -54,52 +57,51 @@ module _ (ts : List Term) (x : Trace) where
   unfolding isTrace
   trace-is h = both-true _ _ (both-true _ _ (both-true _ _ (both-true _ _ (h .child) (h .oldRoot)) (h .under)) (ap not (ne-eqb _ _ (h .linked)))) (ap not (ne-eqb _ _ (h .put)))
 
--- a join that can be undone
-pub record Undone (ts us : List Term) (x : Trace) : Type 0 where
+-- us is what cutting leaves of ts, where the numbers are a trace
+pub record Cuts (ts us : List Term) (x : Trace) : Type 0 where
   pub traced : Traced ts x
   pub is : cutIn ts x ≡ us
 
-pub undo-cuts : (ts us : List Term) (x : Trace) → undoIn ts x ≡ some us → Undone ts us x
+pub undo-cuts : (ts us : List Term) (x : Trace) → undoIn ts x ≡ some us → Cuts ts us x
 unfolding undoIn
 undo-cuts ts us x h = decide (isTrace ts x) (λ p. yes p (rw p at h)) (λ p. absurd (not-none (rw p at h)))
   where
     not-none : _≡_ {A = Option (List Term)} none (some us) → ⊥
     not-none q = let z : _≡_ {A = ℕ} 0 1 = cc in absurd (omega arith)
 
-    yes : isTrace ts x ≡ true → some (cutIn ts x) ≡ some us → Undone ts us x
+    yes : isTrace ts x ≡ true → some (cutIn ts x) ≡ some us → Cuts ts us x
     yes p q = record { traced = trace-says ts x p; is = cc }
 
-pub undo-is : (ts us : List Term) (x : Trace) → Undone ts us x → undoIn ts x ≡ some us
+pub undo-is : (ts us : List Term) (x : Trace) → Cuts ts us x → undoIn ts x ≡ some us
 unfolding undoIn
 undo-is ts us x u = rw (trace-is ts x (u .traced)) (ap some (u .is))
 
 -- AN EDGE CUT: every walk still ends
 
 module _ (up up′ : ℕ → ℕ) (c : ℕ) (here : up′ c ≡ c) (away : (t : ℕ) → (t ≡ c → ⊥) → up′ t ≡ up t) where
-  record Stops (t : ℕ) : Type 0 where
-    steps : ℕ
-    self : up′ (climb up′ steps t) ≡ climb up′ steps t
-
-  stops-here : (t : ℕ) → t ≡ c → Stops t
+  stops-here : (t : ℕ) → t ≡ c → Stops up′ t
   unfolding climb
   stops-here t e = record { steps = 0; self = ap up′ e ∙ here ∙ sym e }
 
-  stops : (k t : ℕ) → up (climb up k t) ≡ climb up k t → Stops t
+  stops : (k t : ℕ) → up (climb up k t) ≡ climb up k t → Stops up′ t
   unfolding climb
   stops zero t e = go (ℕ-discrete t c)
     where
-      go : Dec (t ≡ c) → Stops t
+      go : Dec (t ≡ c) → Stops up′ t
       go (yes q) = stops-here t q
       go (no d) = record { steps = 0; self = away t d ∙ e }
   stops (suc k) t e = go (ℕ-discrete t c) (stops k (up t) e)
     where
-      go : Dec (t ≡ c) → Stops (up t) → Stops t
+      go : Dec (t ≡ c) → Stops up′ (up t) → Stops up′ t
       go (yes q) s = stops-here t q
       go (no d) s = record { steps = suc (s .steps); self = subst (λ (z : ℕ). up′ (climb up′ (s .steps) z) ≡ climb up′ (s .steps) z) (sym (away t d)) (s .self) }
 
-module _ (ts : List Term) (c : Closed (forestUp ts) (length ts)) (e : (t : ℕ) → within (length ts) t ≡ true → forestUp ts (topIn ts t) ≡ topIn ts t) (child : ℕ) (w : within (length ts) child ≡ true) where
+module _ (ts : List Term) (f : Forest ts) (child : ℕ) (w : within (length ts) child ≡ true) where
   abbrev cut : List Term
   cut = putEdge ts child (noEdge child)
+
+  cut-within : (t : ℕ) → within (length cut) t ≡ within (length ts) t
+  cut-within t = ap (λ (n : ℕ). within n t) (edge-long ts child _)
 
   cut-here : forestUp cut child ≡ child
   cut-here = ap (λ (y : Term). y .forestParent) (edge-here ts child _ w)
@@ -107,29 +109,20 @@ module _ (ts : List Term) (c : Closed (forestUp ts) (length ts)) (e : (t : ℕ) 
   cut-away : (t : ℕ) → (t ≡ child → ⊥) → forestUp cut t ≡ forestUp ts t
   cut-away t d = ap (λ (y : Term). y .forestParent) (edge-away ts child _ w t d)
 
-  pub cut-within : (t : ℕ) → within (length cut) t ≡ within (length ts) t
-  cut-within t = ap (λ (n : ℕ). within n t) (edge-long ts child _)
+  cut-closed : Closed (forestUp cut) (length cut)
+  cut-closed = subst (Closed (forestUp cut)) (sym (edge-long ts child _)) (closed-put (f .closed) w cut-here cut-away)
 
-  pub cut-closed : Closed (forestUp cut) (length cut)
-  cut-closed = record { stays = λ t h. cut-within (forestUp cut t) ∙ go t (sym (cut-within t) ∙ h) (ℕ-discrete t child) }
+  cut-ends : (t : ℕ) → within (length cut) t ≡ true → forestUp cut (topIn cut t) ≡ topIn cut t
+  cut-ends t h =
+      let s = stops (forestUp ts) (forestUp cut) child cut-here cut-away (length ts) t (f .ended t (sym (cut-within t) ∙ h)) in
+      climb-enough (forestUp cut) (length cut) t cut-closed h (s .steps) (s .self)
+
+  pub cut-forest : Forest cut
+  cut-forest = record { closed = cut-closed; ended = cut-ends; unlabelled = λ t h e. go t (sym (cut-within t) ∙ h) e (ℕ-discrete t child) }
     where
-      go : (t : ℕ) → within (length ts) t ≡ true → Dec (t ≡ child) → within (length ts) (forestUp cut t) ≡ true
-      go t h (yes q) = ap (λ (z : ℕ). within (length ts) (forestUp cut z)) q ∙ ap (within (length ts)) cut-here ∙ w
-      go t h (no d) = ap (within (length ts)) (cut-away t d) ∙ c .stays t h
-
-  pub cut-ends : (t : ℕ) → within (length cut) t ≡ true → forestUp cut (topIn cut t) ≡ topIn cut t
-  cut-ends t h = let s = stops (forestUp ts) (forestUp cut) child cut-here cut-away (length ts) t (e t (sym (cut-within t) ∙ h)) in climb-enough (forestUp cut) (length cut) t cut-closed h (s .steps) (s .self)
-
-pub cut-forest : (ts : List Term) → Forest ts → (c : ℕ) → within (length ts) c ≡ true → Forest (putEdge ts c (noEdge c))
-cut-forest ts f c w = record {
-  closed = cut-closed ts (f .closed) (f .ended) c w;
-  ended = cut-ends ts (f .closed) (f .ended) c w;
-  unlabelled = λ t h e. go t (sym (cut-within ts (f .closed) (f .ended) c w t) ∙ h) e (ℕ-discrete t c);
-}
-  where
-    go : (t : ℕ) → within (length ts) t ≡ true → forestUp (putEdge ts c (noEdge c)) t ≡ t → Dec (t ≡ c) → edgeOf (termIn (putEdge ts c (noEdge c)) t) ≡ noEdge t
-    go t h e (yes q) = subst (λ (z : ℕ). edgeOf (termIn (putEdge ts c (noEdge c)) z) ≡ noEdge z) (sym q) (ap edgeOf (edge-here ts c _ w))
-    go t h e (no d) = ap edgeOf (edge-away ts c _ w t d) ∙ f .unlabelled t h (sym (ap (λ (y : Term). y .forestParent) (edge-away ts c _ w t d)) ∙ e)
+      go : (t : ℕ) → within (length ts) t ≡ true → forestUp cut t ≡ t → Dec (t ≡ child) → edgeOf (termIn cut t) ≡ noEdge t
+      go t h e (yes q) = subst (λ (z : ℕ). edgeOf (termIn cut z) ≡ noEdge z) (sym q) (ap edgeOf (edge-here ts child _ w))
+      go t h e (no d) = ap edgeOf (edge-away ts child _ w t d) ∙ f .unlabelled t h (sym (cut-away t d) ∙ e)
 
 -- A JOIN UNDONE
 
@@ -138,33 +131,31 @@ module _ (ts : List Term) (x : Trace) (f : Forest ts) (wc : within (length ts) (
   abbrev opened : List Term
   opened = putEdge ts (x .child) (noEdge (x .child))
 
-  same : Same opened (rerootIn opened (x .oldRoot))
+  abbrev rooted : List Term
+  rooted = rerootIn opened (x .oldRoot)
+
+  same : Same opened rooted
   same = reroot-same opened (cut-forest ts f (x .child) wc) (x .oldRoot) (ap (λ (n : ℕ). within n (x .oldRoot)) (edge-long ts (x .child) _) ∙ wr)
 
-  same-long : length (rerootIn opened (x .oldRoot)) ≡ length ts
-  same-long = same .long ∙ edge-long ts (x .child) _
+  rooted-like : Like ts rooted
+  rooted-like = like-then (like-edge ts (x .child) _ wc) (record { long = same .long; words = λ g p t. same .words g (p .edges) t })
 
-  same-under : within (length (rerootIn opened (x .oldRoot))) (x .under) ≡ true
-  same-under = ap (λ (n : ℕ). within n (x .under)) same-long ∙ wu
+  rooted-under : within (length rooted) (x .under) ≡ true
+  rooted-under = ap (λ (n : ℕ). within n (x .under)) (rooted-like .long) ∙ wu
 
   pub cut-kept : Forest (cutIn ts x)
-  cut-kept = class-forest (rerootIn opened (x .oldRoot)) (x .under) (x .under) same-under (same .forest)
+  cut-kept = class-forest rooted (x .under) (x .under) rooted-under (same .forest)
 
-  pub cut-long : length (cutIn ts x) ≡ length ts
-  cut-long = class-long (rerootIn opened (x .oldRoot)) (x .under) (x .under) ∙ same-long
+  pub cut-like : Like ts (cutIn ts x)
+  cut-like = like-then rooted-like (like-class rooted (x .under) (x .under) rooted-under)
 
   pub cut-class : classUp (cutIn ts x) (x .under) ≡ x .under
-  cut-class = ap (λ (y : Term). y .classParent) (class-here (rerootIn opened (x .oldRoot)) (x .under) (x .under) same-under)
+  cut-class = ap (λ (y : Term). y .classParent) (class-here rooted (x .under) (x .under) rooted-under)
 
   pub cut-classes : (t : ℕ) → (t ≡ x .under → ⊥) → classUp (cutIn ts x) t ≡ classUp ts t
   cut-classes t d =
-      ap (λ (y : Term). y .classParent) (class-away (rerootIn opened (x .oldRoot)) (x .under) (x .under) same-under t d)
-      ∙ same .words (λ y. y .classParent) (λ y e. refl) t
-      ∙ edge-words ts (x .child) _ wc (λ y. y .classParent) (λ y. refl) t
+      ap (λ (y : Term). y .classParent) (class-away rooted (x .under) (x .under) rooted-under t d)
+      ∙ same .words (λ y. y .classParent) (λ y e. refl) t ∙ edge-words ts (x .child) _ wc (λ y. y .classParent) (λ y. refl) t
 
   pub cut-stays : Closed (classUp ts) (length ts) → Closed (classUp (cutIn ts x)) (length ts)
-  cut-stays c = record { stays = λ t w. go t w (ℕ-discrete t (x .under)) }
-    where
-      go : (t : ℕ) → within (length ts) t ≡ true → Dec (t ≡ x .under) → within (length ts) (classUp (cutIn ts x) t) ≡ true
-      go t w (yes e) = subst (λ (z : ℕ). within (length ts) (classUp (cutIn ts x) z) ≡ true) (sym e) (ap (within (length ts)) cut-class ∙ wu)
-      go t w (no d) = ap (within (length ts)) (cut-classes t d) ∙ c .stays t w
+  cut-stays c = closed-put c wu cut-class cut-classes

@@ -14,6 +14,19 @@ pub data Joint (f : ℕ → ℕ) (a b t u : ℕ) : Type 0 where
   across : f t ≡ f a → f u ≡ f b → Joint f a b t u
   back : f t ≡ f b → f u ≡ f a → Joint f a b t u
 
+-- named by other terms of the two
+pub joint-at : {f : ℕ → ℕ} {a b c d t u : ℕ} → f a ≡ f c → f b ≡ f d → Joint f a b t u → Joint f c d t u
+joint-at e g (were p) = were p
+joint-at e g (across p q) = across (p ∙ e) (q ∙ g)
+joint-at e g (back p q) = back (p ∙ g) (q ∙ e)
+
+-- told by another division that has together what this one has
+pub joint-map : {f g : ℕ → ℕ} {a b t u : ℕ} (n : ℕ) → ((x y : ℕ) → within n x ≡ true → within n y ≡ true → f x ≡ f y → g x ≡ g y)
+    → within n a ≡ true → within n b ≡ true → within n t ≡ true → within n u ≡ true → Joint f a b t u → Joint g a b t u
+joint-map n h wa wb wt wu (were p) = were (h _ _ wt wu p)
+joint-map n h wa wb wt wu (across p q) = across (h _ _ wt wa p) (h _ _ wu wb q)
+joint-map n h wa wb wt wu (back p q) = back (h _ _ wt wb p) (h _ _ wu wa q)
+
 module _ {up up′ : ℕ → ℕ} {n child parent : ℕ} (m : Moved up up′ n child parent) (t u : ℕ) (wt : within n t ≡ true) (wu : within n u ≡ true) where
   self : climb up n child ≡ child
   self = climb-stays up n child (m .self)

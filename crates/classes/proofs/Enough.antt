@@ -20,7 +20,8 @@ use Rattle.classes.specs.Joins.{Trace, cutIn, undoIn}
 use Rattle.classes.specs.Marks.{Trail, joinLimit, undoAll, tableAt, countsRule, rises, passes, marksRule}
 use Rattle.classes.specs.Working.Carries.{Forest}
 use Rattle.classes.proofs.Undoing.{classed-forest}
-use Rattle.classes.proofs.Cutting.{Undone, undo-cuts, cut-kept, cut-long, cut-class, cut-classes}
+use Rattle.classes.proofs.Cutting.{Cuts, undo-cuts, cut-kept, cut-like, cut-class, cut-classes}
+use Rattle.classes.proofs.Undone.{undo-each, undone-stays}
 
 -- HOW MANY PASS
 
@@ -79,44 +80,31 @@ abbrev roots : List Term → ℕ
 roots ts = howMany (isOwn ts) (length ts)
 
 -- a join undone makes one more
-undo-roots : (ts us : List Term) (x : Trace) → Forest ts → Undone ts us x → roots us ≡ suc (roots ts)
+undo-roots : (ts us : List Term) (x : Trace) → Forest ts → Cuts ts us x → roots us ≡ suc (roots ts)
 undo-roots ts us x f u =
     let t = u .traced in
     let l = within-low (length ts) (x .under) (t .under) in
     let h = within-high (length ts) (x .under) (t .under) in
     let e : suc (x .under - 1) ≡ x .under = omega arith in
     subst (λ (vs : List Term). roots vs ≡ suc (roots ts)) (u .is)
-    (ap (howMany (isOwn (cutIn ts x))) (cut-long ts x f (t .child) (t .oldRoot) (t .under))
+    (ap (howMany (isOwn (cutIn ts x))) (cut-like ts x f (t .child) (t .oldRoot) (t .under) .long)
     ∙ many-more (isOwn ts) (isOwn (cutIn ts x)) (x .under - 1)
     (ne-eqb _ _ (λ z. t .put (subst (λ (y : ℕ). classUp ts y ≡ y) e z)))
     (eq-eqb _ _ (subst (λ (y : ℕ). classUp (cutIn ts x) y ≡ y) (sym e) (cut-class ts x f (t .child) (t .oldRoot) (t .under))))
     (λ k d. ap (λ (y : ℕ). eqb y (suc k)) (cut-classes ts x f (t .child) (t .oldRoot) (t .under) (suc k) (λ z. d (omega arith))))
     (length ts) (omega arith))
 
--- joins undone
-record Back (ts us : List Term) (l : List Trace) : Type 0 where
-  long : length us ≡ length ts
-  forest : Forest us
-  more : roots us ≡ roots ts + length l
-
-undo-all : (l : List Trace) (ts us : List Term) → Forest ts → undoAll l ts ≡ some us → Back ts us l
-unfolding undoAll
-undo-all [] ts us f e = let q : ts ≡ us = cc in subst (λ (vs : List Term). Back ts vs []) q (record { long = refl; forest = f; more = omega arith })
-undo-all (x ∷ l) ts us f e = go (λ vs q. undo-all l ts vs f q) (undoAll l ts) refl e
+-- joins undone make as many more
+undo-all : (l : List Trace) (ts us : List Term) → Forest ts → undoAll l ts ≡ some us → roots us ≡ roots ts + length l
+undo-all l ts us f e = undo-each (λ l us. Forest us × (roots us ≡ roots ts + length l)) (f, omega arith) one l us e .1
   where
-    go : ((vs : List Term) → undoAll l ts ≡ some vs → Back ts vs l) → (o : Option (List Term)) → undoAll l ts ≡ o → _≡_ {A = Option (List Term)} (elim o [ none ↦ none | some vs ↦ undoIn vs x ]) (some us) → Back ts us (x ∷ l)
-    go ih none q h = let z : _≡_ {A = ℕ} 0 1 = cc in absurd (omega arith)
-    go ih (some vs) q h =
-        let b = ih vs q in
-        let u = undo-cuts vs us x h in
+    one : (x : Trace) (l : List Trace) (us vs : List Term) → Forest us × (roots us ≡ roots ts + length l) → undoIn us x ≡ some vs → Forest vs × (roots vs ≡ roots ts + length (x ∷ l))
+    one x l us vs k h =
+        let u = undo-cuts us vs x h in
         let t = u .traced in
-        let r = undo-roots vs us x (b .forest) u in
-        let m = b .more in
-        record {
-          long = ap length (sym (u .is)) ∙ cut-long vs x (b .forest) (t .child) (t .oldRoot) (t .under) ∙ b .long;
-          forest = subst Forest (u .is) (cut-kept vs x (b .forest) (t .child) (t .oldRoot) (t .under));
-          more = omega arith;
-        }
+        let r = undo-roots us vs x (k .0) u in
+        let m = k .1 in
+        (subst Forest (u .is) (cut-kept us x (k .0) (t .child) (t .oldRoot) (t .under)), omega arith)
 
 -- MARKS
 
@@ -130,10 +118,9 @@ first-mark s x (n ∷ ms) f c h = go (tableAt 0 x (s .terms)) refl
     go : (o : Option (List Term)) → tableAt 0 x (s .terms) ≡ o → passes s o ≡ true → roots (s .terms) + length (x .joins) ≤ count s
     go none e q = absurd (false≢true q)
     go (some us) e q =
-        let b = undo-all (x .joins) (s .terms) us f e in
-        let m = many-most (isOwn us) (length us) in
-        let l = b .long in
-        let r = b .more in omega arith
+        let r = undo-all (x .joins) (s .terms) us f e in
+        let l = undone-stays (x .joins) (s .terms) us f e .like .long in
+        let m = many-most (isOwn us) (length us) in omega arith
 
 -- two terms apart have two class roots
 two-roots : (s : Store) → Audited s → (a b : ℕ) → isTerm s a ≡ true → isTerm s b ≡ true → (root s a ≡ root s b → ⊥) → 2 ≤ roots (s .terms)

@@ -11,15 +11,15 @@ use borrow.Author.Tests.{eq-eqb, ne-eqb}
 use Rattle.records.specs.Lists.{any, isIn, Every}
 use Rattle.records.specs.Store.{Term, termIn, within, forestUp, topIn, aboveIn, pathIn}
 use Rattle.records.specs.Working.Audited.{Closed}
-use Rattle.records.proofs.Lists.{decide, clash, or-left}
-use Rattle.records.proofs.Climbs.{climb-stays}
+use Rattle.records.proofs.Lists.{decide, clash, or-left, every-mem}
+use Rattle.records.proofs.Climbs.{top-self}
 use Rattle.records.proofs.Repeats.{climb-enough}
 use Rattle.records.proofs.Paths.{above-top}
 use Rattle.records.proofs.Rises.{is-in, in-is, Rise, ends, goes, rise-by, rise-one, top-by}
 use Rattle.classes.specs.Joins.{noEdge, edgeOf}
 use Rattle.classes.specs.Working.Carries.{Forest}
 use Rattle.classes.proofs.Tables.{Flipped}
-use Rattle.classes.proofs.Turning.{every-mem, rise-ends, rise-above, up-child, up-parent, up-away, flip-closed}
+use Rattle.classes.proofs.Turning.{rise-ends, rise-above, up-child, up-parent, up-away, flip-closed}
 use Rattle.classes.proofs.Between.{path-each, each-path}
 
 -- LISTS
@@ -44,8 +44,9 @@ in-none e = refl
 -- a root that stands above t is its tree's
 pub root-top : (ts : List Term) → Forest ts → (t u : ℕ) → within (length ts) t ≡ true → isIn u (aboveIn ts t) ≡ true → forestUp ts u ≡ u → topIn ts t ≡ u
 root-top ts f t u w m e =
-    sym (every-mem (above-top ts (f .closed) (f .ended) (suc (length ts)) t w) (is-in u (aboveIn ts t) m)) ∙ climb-stays (forestUp ts) (length ts) u e
+    sym (every-mem (above-top ts (f .closed) (f .ended) (suc (length ts)) t w) (is-in u (aboveIn ts t) m)) ∙ top-self ts u e
 
+-- and each tree's root stands above its terms
 pub top-in : (ts : List Term) → Forest ts → (t u : ℕ) → within (length ts) t ≡ true → topIn ts t ≡ u → isIn u (aboveIn ts t) ≡ true
 top-in ts f t u w e = subst (λ (z : ℕ). isIn z (aboveIn ts t) ≡ true) e (in-is (top-by ts (length ts) t (f .ended t w)))
 
@@ -55,6 +56,7 @@ module _ {ts us : List Term} {x p : ℕ} (f : Flipped ts us x p) (up-x : forestU
 
   -- WHAT STANDS ABOVE
 
+  -- what stands above t, where l did: outside p's tree the same; in it x last, p too unless x stood there, and every other term that did
   record Way (t : ℕ) (l : List ℕ) : Type 0 where
     list : List ℕ
     rise : Rise us t list

@@ -1,6 +1,4 @@
 mod MovedClimbs
-mod MovedPaths
-mod MergeKept
 mod Tables
 mod Alike
 mod Turning
@@ -13,8 +11,16 @@ mod Cutting
 mod Enough
 mod Dividing
 mod Under
+mod Attaching
 mod JoinKept
+mod MergeKept
 mod Undone
 mod Marking
 mod Tracking
+mod Generating
+mod AlikeMade
+mod Later
+mod Events
+mod Invariant
+mod Histories
 mod Refines

@@ -15,14 +15,13 @@ use Rattle.records.specs.Rules.{classesRule, congruencesRule}
 use Rattle.records.specs.Make.{withTerms}
 use Rattle.records.specs.Working.Audited.{Audited}
 use Rattle.records.proofs.Lists.{both-left, both-right, both-true, decide, all-append, all-take, all-every, every-all, every-map, every-both, every-at, within-low, within-high}
-use Rattle.records.proofs.Climbs.{classed-tops}
 use Rattle.records.proofs.Grown.{string-term}
 use Rattle.records.proofs.Passed.{classed-of, classes-of, congruences-of, congruent-of}
 use Rattle.classes.specs.Joins.{Trace, traceOf, joinIn, undoIn}
 use Rattle.classes.specs.Marks.{Trail, undoAll, tableAt, rises, countsRule, passes, marksRule}
 use Rattle.classes.specs.Calls.{recorded, joinsAt, before}
 use Rattle.classes.proofs.Alike.{Like, recorded-like, roomy-like}
-use Rattle.classes.proofs.Undoing.{undo-join}
+use Rattle.classes.proofs.Undoing.{classed-forest, undo-join}
 use Rattle.classes.proofs.Undone.{undo-append, undo-last, undone-stays}
 use Rattle.classes.proofs.JoinKept.{Joinable}
 
@@ -54,7 +53,7 @@ rises-take a b k [] h e = absurd (omega arith)
 rises-take a b zero (n ∷ l) h e = both-left (leb a n) _ e
 rises-take a b (suc k) (n ∷ l) h e = both-true _ _ (both-left (leb a n) _ e) (rises-take n b k l (omega arith) (both-right (leb a n) _ e))
 
--- no mark was set when more joins were recorded than are now
+-- no mark counts more joins than are recorded
 pub counts-low : (b : ℕ) (l : List ℕ) → countsRule l b ≡ true → Every (λ n. n ≤ b) l
 unfolding countsRule
 counts-low b [] e = none-left
@@ -103,7 +102,7 @@ module _ (s : Store) (ts : List Term) (y : Trace) (x : Trail) (undo : undoIn ts 
   abbrev more : Trail
   more = record { marks = x .marks; joins = oneMore (x .joins) y }
 
-  rule-more : 0 < length (x .marks) → marksRule (withTerms s ts) more ≡ true
+  pub rule-more : 0 < length (x .marks) → marksRule (withTerms s ts) more ≡ true
   unfolding marksRule
   rule-more k =
       let e = length-append (x .joins) (y ∷ []) in
@@ -152,7 +151,7 @@ module _ (s : Store) (x : Trail) (h : marksRule s x ≡ true) (i : ℕ) (w : wit
   place : i - 1 < length (x .marks)
   place = let p = within-low _ i w in let q = within-high _ i w in omega arith
 
-  n-low : n ≤ length (x .joins)
+  pub n-low : n ≤ length (x .joins)
   n-low = every-at (x .marks) (i - 1) 0 (counts-low (length (x .joins)) (x .marks) (counts-of s x h)) place
 
   n-joins : length (take n (x .joins)) ≡ n
@@ -185,7 +184,7 @@ module _ (s : Store) (x : Trail) (h : marksRule s x ≡ true) (i : ℕ) (w : wit
       go (some us) e p = record {
         table = us;
         is = e;
-        like = undone-stays (drop n (x .joins)) (s .terms) us (classed-tops s (au .classed)) e .like;
+        like = undone-stays (drop n (x .joins)) (s .terms) us (classed-forest s (au .classed)) e .like;
         classes = both-left _ _ p;
         congruences = both-right (classesRule (withTerms s us)) _ p;
         marks = marks-before us e;

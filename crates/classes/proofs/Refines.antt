@@ -6,3 +6,6 @@ pub mod JoinWords
 pub mod Trails
 pub mod Counting
 pub mod MarkTables
+pub mod AuditMarks
+pub mod Calling
+pub mod PublicCalls

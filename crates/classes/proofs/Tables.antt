@@ -6,7 +6,7 @@ use Prim.Native.Nat.{ℕ, zero, suc, _-_, _≤_, _<_}
 use native.Mathlib.Decide.{ℕ-discrete}
 use native.Mathlib.Omega.{arith}
 use lib.ListN.{length, set, getD, length-set}
-use lib.Seq.{getD-set-same, getD-set-other, ext-getD}
+use lib.Seq.{getD-set-same, getD-set-other, set-getD, set-set, set-comm, ext-getD}
 use borrow.Author.Tests.{eq-eqb, ne-eqb}
 use Rattle.records.specs.Store.{Term, termIn, noTerm, within, classUp, forestUp}
 use Rattle.records.proofs.Lists.{within-low, within-high, within-is}
@@ -36,6 +36,15 @@ module _ (ts : List Term) (t : ℕ) (x : Term) (w : within (length ts) t ≡ tru
       go : Dec (u ≡ t) → g (termIn (set ts (t - 1) x) u) ≡ g (termIn ts u)
       go (yes e) = subst (λ (z : ℕ). g (termIn (set ts (t - 1) x) z) ≡ g (termIn ts z)) (sym e) (ap g set-in ∙ h)
       go (no d) = ap g (set-away u d)
+
+-- a record put where it stands
+set-same : (ts : List Term) (t : ℕ) → within (length ts) t ≡ true → set ts (t - 1) (termIn ts t) ≡ ts
+unfolding termIn
+set-same ts t w = go t (within-low (length ts) t w)
+  where
+    go : (u : ℕ) → 0 < u → set ts (u - 1) (getD (noTerm ∷ ts) u noTerm) ≡ ts
+    go zero l = absurd (omega arith)
+    go (suc i) l = let e : suc i - 1 ≡ i = omega arith in ap (λ (j : ℕ). set ts j (getD ts i noTerm)) e ∙ set-getD ts i noTerm
 
 -- two tables of one length are equal where each term is
 pub ext-term : (ts us : List Term) → length us ≡ length ts → ((t : ℕ) → within (length ts) t ≡ true → termIn us t ≡ termIn ts t) → us ≡ ts
@@ -78,28 +87,37 @@ module _ (ts : List Term) (t p : ℕ) where
   unfolding putClass
   class-words w g h u = set-words ts t _ w g (h _) u
 
--- an edge put in the place of another, and one that is there already
-pub edge-again : (ts : List Term) (t : ℕ) (e f : Edge) → within (length ts) t ≡ true → f ≡ edgeOf (termIn ts t) → putEdge (putEdge ts t e) t f ≡ ts
-edge-again ts t e f w q =
-    let l = edge-long ts t e in
-    let w′ : within (length (putEdge ts t e)) t ≡ true = ap (λ (n : ℕ). within n t) l ∙ w in
-    ext-term ts _ (edge-long _ t f ∙ l) (λ u v. go w′ u (ℕ-discrete u t))
-  where
-    go : within (length (putEdge ts t e)) t ≡ true → (u : ℕ) → Dec (u ≡ t) → termIn (putEdge (putEdge ts t e) t f) u ≡ termIn ts u
-    go w′ u (yes d) = subst (λ (z : ℕ). termIn (putEdge (putEdge ts t e) t f) z ≡ termIn ts z) (sym d)
-        (edge-here (putEdge ts t e) t f w′ ∙ ap (λ (x : Term). bearing x f) (edge-here ts t e w) ∙ ap (bearing (termIn ts t)) q)
-    go w′ u (no d) = edge-away (putEdge ts t e) t f w′ u d ∙ edge-away ts t e w u d
+-- PUT AGAIN
 
-pub class-again : (ts : List Term) (t p q : ℕ) → within (length ts) t ≡ true → q ≡ classUp ts t → putClass (putClass ts t p) t q ≡ ts
-class-again ts t p q w e =
-    let l = class-long ts t p in
-    let w′ : within (length (putClass ts t p)) t ≡ true = ap (λ (n : ℕ). within n t) l ∙ w in
-    ext-term ts _ (class-long _ t q ∙ l) (λ u v. go w′ u (ℕ-discrete u t))
-  where
-    go : within (length (putClass ts t p)) t ≡ true → (u : ℕ) → Dec (u ≡ t) → termIn (putClass (putClass ts t p) t q) u ≡ termIn ts u
-    go w′ u (yes d) = subst (λ (z : ℕ). termIn (putClass (putClass ts t p) t q) z ≡ termIn ts z) (sym d)
-        (class-here (putClass ts t p) t q w′ ∙ ap (λ (x : Term). withClass x q) (class-here ts t p w) ∙ ap (withClass (termIn ts t)) e)
-    go w′ u (no d) = class-away (putClass ts t p) t q w′ u d ∙ class-away ts t p w u d
+module _ (ts : List Term) (t : ℕ) (w : within (length ts) t ≡ true) where
+  -- an edge that is there already, and one put in the place of another
+  pub edge-same : (e : Edge) → e ≡ edgeOf (termIn ts t) → putEdge ts t e ≡ ts
+  unfolding putEdge
+  edge-same e q = ap (λ (f : Edge). set ts (t - 1) (bearing (termIn ts t) f)) q ∙ set-same ts t w
+
+  pub edge-twice : (e f : Edge) → putEdge (putEdge ts t e) t f ≡ putEdge ts t f
+  unfolding putEdge
+  edge-twice e f = ap (λ (x : Term). set (putEdge ts t e) (t - 1) (bearing x f)) (edge-here ts t e w) ∙ set-set ts (t - 1) _ _
+
+  pub edge-again : (e f : Edge) → f ≡ edgeOf (termIn ts t) → putEdge (putEdge ts t e) t f ≡ ts
+  edge-again e f q = edge-twice e f ∙ edge-same f q
+
+  -- and a class parent
+  pub class-again : (p q : ℕ) → q ≡ classUp ts t → putClass (putClass ts t p) t q ≡ ts
+  unfolding putClass
+  class-again p q e =
+      ap (λ (x : Term). set (putClass ts t p) (t - 1) (withClass x q)) (class-here ts t p w) ∙ set-set ts (t - 1) _ _
+      ∙ ap (λ (z : ℕ). set ts (t - 1) (withClass (termIn ts t) z)) e ∙ set-same ts t w
+
+-- edges put on two terms, in either order
+pub edge-swap : (ts : List Term) (x p : ℕ) (e f : Edge) → within (length ts) x ≡ true → within (length ts) p ≡ true → (p ≡ x → ⊥) → putEdge (putEdge ts x e) p f ≡ putEdge (putEdge ts p f) x e
+unfolding putEdge
+edge-swap ts x p e f wx wp d =
+    let lx = within-low (length ts) x wx in
+    let lp = within-low (length ts) p wp in
+    ap (λ (y : Term). set (putEdge ts x e) (p - 1) (bearing y f)) (edge-away ts x e wx p d)
+    ∙ set-comm ts (x - 1) (p - 1) _ _ (λ z. d (omega arith))
+    ∙ sym (ap (λ (y : Term). set (putEdge ts p f) (x - 1) (bearing y e)) (edge-away ts p f wp x (λ z. d (sym z))))
 
 -- ONE EDGE TURNED ROUND
 

@@ -1,21 +1,23 @@
 -- The audit of store and marks: what it says, and that what each call gives passes it again.
-use mathlib.Core.Path.{_≡_, subst}
+use mathlib.Core.Path.{_≡_, sym, subst}
 use mathlib.Core.Bool.{true, false, _&&_}
+use mathlib.Core.List.{List}
+use mathlib.Core.Option.{some}
 use Prim.Native.Nat.{ℕ, suc, _<_}
 use native.Mathlib.Omega.{arith}
 use lib.ListN.{length}
 use lib.Dec.{ltb}
 use borrow.Author.Tests.{eqb-true, eqb-false, ltb-true}
 use Rattle.records.specs.Lists.{oneMore}
-use Rattle.records.specs.Store.{Store, within, isString, sameClass, root}
+use Rattle.records.specs.Store.{Term, Store, within, isString, sameClass, root}
 use Rattle.records.specs.Rules.{isReasonKind, recordsRule, classesRule, congruencesRule}
 use Rattle.records.specs.Make.{withTerms}
 use Rattle.records.specs.Working.Audited.{Roomy, Audited}
 use Rattle.records.proofs.Lists.{both-left, both-right, decide}
 use Rattle.records.proofs.Passed.{recorded-of, records-of, classed-of, classes-of, congruences-of, congruent-of}
 use Rattle.classes.specs.Joins.{traceOf, joinIn}
-use Rattle.classes.specs.Marks.{Trail, markLimit, marksRule, auditTrail}
-use Rattle.classes.specs.Calls.{Outcome, gives, refuses, joinArguments, recorded, joinTerms, setMark, before, goBack}
+use Rattle.classes.specs.Marks.{Trail, markLimit, tableAt, marksRule, auditTrail}
+use Rattle.classes.specs.Calls.{Outcome, gives, refuses, joinArguments, recorded, joinTerms, setMark, joinsAt, before, goBack}
 use Rattle.classes.proofs.JoinKept.{Joinable, join-kept}
 use Rattle.classes.proofs.Marking.{rule-join, rule-mark, Back, rule-back, back-audited}
 
@@ -41,7 +43,7 @@ pub data Joining (a b k v : ℕ) (s : Store) (x : Trail) : Outcome → Type 0 wh
   together : root s a ≡ root s b → Joining a b k v s x (gives s x 0)
   joins : Joinable s a b k v → Joining a b k v s x (gives (withTerms s (joinIn (s .terms) a b k v)) (recorded (traceOf (s .terms) a) x) 1)
 
-joinable-of : (a b k v : ℕ) (s : Store) → joinArguments a b k v s ≡ true → sameClass s a b ≡ false → Joinable s a b k v
+pub joinable-of : (a b k v : ℕ) (s : Store) → joinArguments a b k v s ≡ true → sameClass s a b ≡ false → Joinable s a b k v
 joinable-of a b k v s e d =
     let p = both-left (isString s a && isString s b && isReasonKind k) _ e in
     let q = both-left (isString s a && isString s b) _ p in
@@ -68,20 +70,19 @@ pub marking : (s : Store) (x : Trail) → Marking s x (setMark s x)
 unfolding setMark
 marking s x = decide (ltb (length (x .marks)) markLimit) (λ e. rw e (marks (ltb-true _ _ e))) (λ e. rw e full)
 
--- going back: a mark that does not stand, or the table of one that does
+-- going back, where store and marks pass the audit: a mark that does not stand, or the table of one that does
 pub data Going (i : ℕ) (s : Store) (x : Trail) : Outcome → Type 0 where
   absent : Going i s x (refuses 10)
   goes : within (length (x .marks)) i ≡ true → (g : Back s x i) → Going i s x (gives (withTerms s (g .table)) (before i x) i)
 
--- where store and marks pass the audit going back to a standing mark is not refused
-pub back-goes : (i : ℕ) (s : Store) (x : Trail) → within (length (x .marks)) i ≡ true → (g : Back s x i) → goBack i s x ≡ gives (withTerms s (g .table)) (before i x) i
+pub back-goes : (i : ℕ) (s : Store) (x : Trail) (us : List Term) → within (length (x .marks)) i ≡ true → tableAt (joinsAt i x) x (s .terms) ≡ some us → goBack i s x ≡ gives (withTerms s us) (before i x) i
 unfolding goBack
-back-goes i s x w g = rw (w, g .is)
+back-goes i s x us w e = rw (w, e)
 
 pub going : (i : ℕ) (s : Store) (x : Trail) → Tracked s x → Going i s x (goBack i s x)
 unfolding goBack
 going i s x h = decide (within (length (x .marks)) i)
-    (λ w. let g = rule-back s x (h .marked) i w (h .audited) in rw (w, g .is) (goes w g))
+    (λ w. let g = rule-back s x (h .marked) i w (h .audited) in subst (Going i s x) (sym (back-goes i s x (g .table) w (g .is))) (goes w g))
     (λ w. rw w absent)
 
 -- WHAT EACH CALL KEEPS

@@ -1,13 +1,12 @@
 -- Re-rooting a tree, edge by edge: what it does to the table, and that re-rooting at the old root gives the table back.
 use mathlib.Core.Path.{_≡_, refl, sym, ap, subst, _∙_}
 use mathlib.Core.Bool.{true}
-use mathlib.Core.List.{List, [], _∷_, _++_, List·Memᴰ, List·Memᴰ·head, List·Memᴰ·tail, List·Memᴰ·cases-cons, List·Memᴰ·not-nil}
+use mathlib.Core.List.{List, [], _∷_, _++_, List·Memᴰ, List·Memᴰ·head, List·Memᴰ·tail, List·Memᴰ·cases-cons, List·Memᴰ·not-nil, List·Memᴰ·append-cases, List·Memᴰ·eq-of-singleton}
 use mathlib.Core.Logic.{_⊎_, inl, inr, ⊎-elim}
 use Prim.Native.Nat.{ℕ, suc}
 use native.Mathlib.Decide.{ℕ-discrete}
 use native.Mathlib.Omega.{arith}
 use lib.ListN.{length}
-use Rattle.records.specs.Lists.{Every, and}
 use Rattle.records.specs.Store.{Term, termIn, within, climb, forestUp, aboveIn}
 use Rattle.records.specs.Working.Audited.{Closed}
 use Rattle.records.proofs.Repeats.{climb-enough}
@@ -17,19 +16,22 @@ use Rattle.classes.proofs.Tables.{Flipped, turn-root, turn-flips, turn-
 
 -- LISTS
 
-pub mem-last : {u x : ℕ} (l : List ℕ) → List·Memᴰ u (l ++ (x ∷ [])) → List·Memᴰ u l ⊎ (u ≡ x)
-mem-last [] m = ⊎-elim (λ e. inr e) (λ n. absurd (List·Memᴰ·not-nil n)) (List·Memᴰ·cases-cons m)
-mem-last (y ∷ l) m = ⊎-elim (λ e. inl (List·Memᴰ·head e)) (λ n. ⊎-elim (λ k. inl (List·Memᴰ·tail k)) (λ e. inr e) (mem-last l n)) (List·Memᴰ·cases-cons m)
-
-pub every-mem : {A : Type 0} {P : A → Type 0} {l : List A} {u : A} → Every P l → List·Memᴰ u l → P u
-every-mem {A} {P} (and p k) (List·Memᴰ·head e) = subst P (sym e) p
-every-mem (and p k) (List·Memᴰ·tail m) = every-mem k m
+mem-last : {u x : ℕ} (l : List ℕ) → List·Memᴰ u (l ++ (x ∷ [])) → List·Memᴰ u l ⊎ (u ≡ x)
+mem-last l m = ⊎-elim inl (λ n. inr (List·Memᴰ·eq-of-singleton n)) (List·Memᴰ·append-cases l m)
 
 -- WAYS UP
 
+-- it begins with the term itself
 pub rise-head : {ts : List Term} {t : ℕ} {l : List ℕ} → Rise ts t l → List·Memᴰ t l
 rise-head (ends e) = List·Memᴰ·head refl
 rise-head (goes d r) = List·Memᴰ·head refl
+
+-- a way up is one in each table that has the same parents on it
+pub rise-same : {ts us : List Term} {t : ℕ} {l : List ℕ} → Rise ts t l → ((u : ℕ) → List·Memᴰ u l → forestUp us u ≡ forestUp ts u) → Rise us t l
+rise-same {t = t} (ends e) f = ends (f t (List·Memᴰ·head refl) ∙ e)
+rise-same {us = us} {t = t} (goes {l = l} d r) f =
+    let i = f t (List·Memᴰ·head refl) in
+    goes (λ z. d (sym i ∙ z)) (subst (λ (z : ℕ). Rise us z l) (sym i) (rise-same r (λ u m. f u (List·Memᴰ·tail m))))
 
 -- no term stands above its parent
 pub rise-fresh : {ts : List Term} {t : ℕ} {l : List ℕ} → (forestUp ts t ≡ t → ⊥) → Rise ts (forestUp ts t) l → List·Memᴰ t l → ⊥
@@ -40,11 +42,12 @@ rise-fresh {ts} {t} {l} d r m = go (rise-from ts r m)
         let e : length (k .from) ≡ suc (length l) = ap length (rise-one ts (k .rise) (goes d r)) in
         ⊎-elim (λ q. d (sym q)) (λ h. absurd (omega arith)) (k .shorter)
 
-pub record Ending (ts : List Term) (t : ℕ) : Type 0 where
+-- a walk that comes to its end
+pub record Stops (up : ℕ → ℕ) (t : ℕ) : Type 0 where
   pub steps : ℕ
-  pub self : forestUp ts (climb (forestUp ts) steps t) ≡ climb (forestUp ts) steps t
+  pub self : up (climb up steps t) ≡ climb up steps t
 
-pub rise-ends : {ts : List Term} {t : ℕ} {l : List ℕ} → Rise ts t l → Ending ts t
+pub rise-ends : {ts : List Term} {t : ℕ} {l : List ℕ} → Rise ts t l → Stops (forestUp ts) t
 unfolding climb
 rise-ends (ends e) = record { steps = 0; self = e }
 rise-ends (goes d r) = let k = rise-ends r in record { steps = suc (k .steps); self = k .self }
@@ -93,11 +96,13 @@ module _ {ts us : List Term} {x p : ℕ} (f : Flipped ts us x p) where
         let i : forestUp us t ≡ forestUp ts t = up-away t (λ z. n (List·Memᴰ·head (sym z))) (λ z. q (ap (forestUp ts) z ∙ e ∙ sym z)) in
         goes (λ z. q (sym i ∙ z)) (subst (λ (z : ℕ). Rise us z (l ++ (x ∷ []))) (sym i) k)
 
+  -- the edges of a way up to p turned round: us gives what ts gives, since turning p's edge there gives ts back
   flip-back : {t : ℕ} {w : List ℕ} → Rise ts t w → ((u : ℕ) → List·Memᴰ u w → forestUp ts u ≡ u → u ≡ p) → turn p us ≡ ts → turns w us ≡ turns w ts
   unfolding turns
   flip-back {t} (ends q) g b = ap (λ (z : ℕ). turn z us) (g t (List·Memᴰ·head refl) q) ∙ b ∙ sym (turn-root ts t q)
   flip-back {t} (goes q r) g b = ap (turn t) (flip-back r (λ u m. g u (List·Memᴰ·tail m)) b)
 
+-- a root at the end of a way is not turned
 turns-last : (w : List ℕ) (x : ℕ) (ts : List Term) → turn x ts ≡ ts → turns (w ++ (x ∷ [])) ts ≡ turns w ts
 unfolding turns
 turns-last [] x ts e = e
@@ -105,7 +110,8 @@ turns-last (t ∷ w) x ts e = ap (turn t) (turns-last w x ts e)
 
 -- A WHOLE WAY
 
--- us is ts with the edges of the way l from x to the root turned round
+-- us is ts with the edges of the way l from x to the root turned round: x is a root, what is not on the way is as it was, and the way
+-- from the old root leads to x, so that turning its edges round gives ts back
 pub record Rerooted (ts us : List Term) (x : ℕ) (l : List ℕ) : Type 0 where
   pub long : length us ≡ length ts
   pub here : edgeOf (termIn us x) ≡ noEdge x
@@ -122,6 +128,7 @@ pub record Rerooted (ts us : List Term) (x : ℕ) (l : List ℕ) : Type 0 where
   pub words : (f : Term → ℕ) → ((y : Term) (e : Edge) → f (bearing y e) ≡ f y) → (u : ℕ) → f (termIn us u) ≡ f (termIn ts u)
 
 module _ (ts : List Term) (closed : Closed (forestUp ts) (length ts)) (unlabelled : (t : ℕ) → within (length ts) t ≡ true → forestUp ts t ≡ t → edgeOf (termIn ts t) ≡ noEdge t) where
+  -- a way of no edge, a way of one more, and any
   turned-none : (x : ℕ) → forestUp ts x ≡ x → within (length ts) x ≡ true → Rerooted ts ts x (x ∷ [])
   unfolding turns
   turned-none x e w = record {

@@ -1,7 +1,7 @@
 -- A root put under a term of another tree: the stamps on the path of two terms of one tree are those that were on it.
 use mathlib.Core.Path.{_≡_, sym, ap, subst, _∙_}
 use mathlib.Core.Bool.{true, false, _||_}
-use mathlib.Core.List.{List, _∷_, _++_, List·Memᴰ, List·Memᴰ·head, List·Memᴰ·tail, List·Memᴰ·cases-cons, List·Memᴰ·not-nil}
+use mathlib.Core.List.{List, _∷_, _++_, List·Memᴰ, List·Memᴰ·cases-cons, List·Memᴰ·not-nil, Memᴰ·cast}
 use mathlib.Core.Logic.{⊎-elim}
 use Prim.Native.Nat.{ℕ, _<_}
 use native.Mathlib.Decide.{ℕ-discrete}
@@ -10,11 +10,11 @@ use lib.Dec.{eqb}
 use Rattle.records.specs.Lists.{isIn, Every}
 use Rattle.records.specs.Store.{Term, termIn, within, forestUp, topIn, aboveIn, pathIn}
 use Rattle.records.proofs.Lists.{decide, clash, or-right, right-falsum, any-append}
-use Rattle.records.proofs.Climbs.{climb-stays}
+use Rattle.records.proofs.Climbs.{top-self}
 use Rattle.records.proofs.Rises.{is-in, in-is, Rise, ends, goes, rise-by}
 use Rattle.classes.proofs.MovedClimbs.{Moved}
 use Rattle.classes.specs.Working.Carries.{Forest}
-use Rattle.classes.proofs.Turning.{rise-above}
+use Rattle.classes.proofs.Turning.{rise-above, rise-same}
 use Rattle.classes.proofs.Flips.{root-top, top-in}
 use Rattle.classes.proofs.Between.{path-each, each-path}
 
@@ -22,16 +22,17 @@ in-append : (e : ℕ) (l k : List ℕ) → isIn e (l ++ k) ≡ (isIn e l || isIn
 unfolding isIn
 in-append e l k = any-append (eqb e) l k
 
+-- WAYS UP
+
 module _ (us js : List Term) {a b : ℕ} (m : Moved (forestUp us) (forestUp js) (length us) a b) where
+  -- one that does not come to a
   rise-other : {t : ℕ} {l : List ℕ} → Rise us t l → (List·Memᴰ a l → ⊥) → Rise js t l
-  rise-other {t} (ends e) n = ends (m .away t (λ z. n (List·Memᴰ·head (sym z))) ∙ e)
-  rise-other {t} (goes {l = l} d r) n =
-      let i = m .away t (λ z. n (List·Memᴰ·head (sym z))) in
-      goes (λ z. d (sym i ∙ z)) (subst (λ (z : ℕ). Rise js z l) (sym i) (rise-other r (λ k. n (List·Memᴰ·tail k))))
+  rise-other r n = rise-same r (λ u k. m .away u (λ z. n (Memᴰ·cast (sym z) k)))
 
   not-self : b ≡ a → ⊥
-  not-self e = m .apart (ap (topIn us) e ∙ climb-stays (forestUp us) (length us) a (m .self))
+  not-self e = m .apart (ap (topIn us) e ∙ top-self us a (m .self))
 
+  -- one that ends at a goes on as b's does
   rise-under : {t : ℕ} {l k : List ℕ} → Rise us t l → List·Memᴰ a l → Rise js b k → Rise js t (l ++ k)
   rise-under {t} {k = k} (ends e) n r =
       ⊎-elim (λ z. subst (λ (y : ℕ). Rise js y (y ∷ k)) z (goes (λ q. not-self (sym (m .at) ∙ q)) (subst (λ (y : ℕ). Rise js y k) (sym (m .at)) r))) (λ z. absurd (List·Memᴰ·not-nil z)) (List·Memᴰ·cases-cons n)
@@ -48,6 +49,7 @@ module _ (us js : List Term) (a b : ℕ) (long : length js ≡ length us) (m : M
   rise-us : (t : ℕ) → within (length us) t ≡ true → Rise us t (aboveIn us t)
   rise-us t w = rise-by us (length us) t (f .ended t w)
 
+  -- a does not stand above a term of another tree
   outside : (t : ℕ) → within (length us) t ≡ true → (topIn us t ≡ a → ⊥) → isIn a (aboveIn us t) ≡ false
   outside t w n = decide (isIn a (aboveIn us t)) (λ q. absurd (n (root-top us f t a w q (m .self)))) (λ q. q)
 

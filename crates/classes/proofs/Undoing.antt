@@ -3,20 +3,22 @@ use mathlib.Core.Path.{_≡_, refl, sym, ap, _∙_}
 use mathlib.Core.Bool.{true, not}
 use mathlib.Core.List.{List}
 use mathlib.Core.Option.{some}
-use Prim.Native.Nat.{ℕ, zero, suc}
+use Prim.Native.Nat.{ℕ, suc}
 use lib.ListN.{length}
 use borrow.Author.Tests.{eq-eqb, ne-eqb}
 use Rattle.records.specs.Store.{Term, Store, within, isTerm, climb, classUp, forestUp, rootIn, topIn, root, aboveIn}
-use Rattle.records.specs.Working.Audited.{Classed}
-use Rattle.records.proofs.Lists.{both-true}
-use Rattle.records.proofs.Climbs.{climb-stays, classed-tops, root-term, top-term}
+use Rattle.records.specs.Working.Audited.{Closed, Classed}
+use Rattle.records.proofs.Lists.{both-true, every-mem}
+use Rattle.records.proofs.Climbs.{top-self, classed-tops, root-term, top-term}
 use Rattle.records.proofs.Paths.{above-within, above-top}
 use Rattle.records.proofs.Rises.{rise-by}
+use Rattle.records.proofs.Append.{climb-same}
 use Rattle.classes.specs.Joins.{noEdge, edgeOf, putClass, turns, rerootIn, linkIn, joinIn, traceOf, isTrace, cutIn, undoIn}
 use Rattle.classes.specs.Working.Carries.{Forest}
 use Rattle.classes.proofs.Tables.{edge-long, edge-here, edge-words, edge-again, class-long, class-here, class-words, class-again}
-use Rattle.classes.proofs.Turning.{every-mem, rise-above, Rerooted, turned-way}
+use Rattle.classes.proofs.Turning.{rise-above, Rerooted, turned-way}
 
+-- what refusal 3 asks of the forest
 pub classed-forest : (s : Store) → Classed s → Forest (s .terms)
 classed-forest s c = record {
   closed = classed-tops s c;
@@ -30,8 +32,9 @@ module _ (ts : List Term) (f : Forest ts) (a : ℕ) (w : within (length ts) a �
   pub rerooted : Rerooted ts (rerootIn ts a) a (aboveIn ts a)
   rerooted = turned-way ts (f .closed) (f .unlabelled) (rise-by ts (length ts) a (f .ended a w)) w
 
+  -- the old root is a's, and a term
   old-top : rerooted .old ≡ topIn ts a
-  old-top = sym (climb-stays (forestUp ts) (length ts) (rerooted .old) (rerooted .old-root)) ∙ every-mem (above-top ts (f .closed) (f .ended) (suc (length ts)) a w) (rerooted .old-in)
+  old-top = sym (top-self ts (rerooted .old) (rerooted .old-root)) ∙ every-mem (above-top ts (f .closed) (f .ended) (suc (length ts)) a w) (rerooted .old-in)
 
   old-within : within (length (rerootIn ts a)) (rerooted .old) ≡ true
   old-within = ap (λ (n : ℕ). within n (rerooted .old)) (rerooted .long) ∙ every-mem (above-within ts (length ts) (suc (length ts)) a (f .closed) w) (rerooted .old-in)
@@ -42,17 +45,13 @@ module _ (ts : List Term) (f : Forest ts) (a : ℕ) (w : within (length ts) a �
 
 -- A CLASS PARENT CHANGED
 
-pub climb-same : (up up′ : ℕ → ℕ) → ((t : ℕ) → up t ≡ up′ t) → (n t : ℕ) → climb up n t ≡ climb up′ n t
-unfolding climb
-climb-same up up′ e zero t = refl
-climb-same up up′ e (suc n) t = ap (climb up n) (e t) ∙ climb-same up up′ e n (up′ t)
-
 module _ (ts : List Term) (r q : ℕ) (w : within (length ts) r ≡ true) where
+  -- the forest is as it was
   pub class-up : (t : ℕ) → forestUp (putClass ts r q) t ≡ forestUp ts t
   class-up = class-words ts r q w (λ x. x .forestParent) (λ x. refl)
 
-  pub class-top : (t : ℕ) → topIn (putClass ts r q) t ≡ topIn ts t
-  class-top t = ap (λ (n : ℕ). climb (forestUp (putClass ts r q)) n t) (class-long ts r q) ∙ climb-same _ _ class-up (length ts) t
+  pub class-top : Closed (forestUp ts) (length ts) → (t : ℕ) → within (length ts) t ≡ true → topIn (putClass ts r q) t ≡ topIn ts t
+  class-top c t h = ap (λ (n : ℕ). climb (forestUp (putClass ts r q)) n t) (class-long ts r q) ∙ climb-same (length ts) _ (forestUp ts) c (λ u i. class-up u) (length ts) t h
 
   class-within : (t : ℕ) → within (length (putClass ts r q)) t ≡ within (length ts) t
   class-within t = ap (λ (n : ℕ). within n t) (class-long ts r q)
@@ -60,7 +59,7 @@ module _ (ts : List Term) (r q : ℕ) (w : within (length ts) r ≡ true) where
   pub class-forest : Forest ts → Forest (putClass ts r q)
   class-forest f = record {
     closed = record { stays = λ t h. class-within _ ∙ ap (within (length ts)) (class-up t) ∙ f .closed .stays t (sym (class-within t) ∙ h) };
-    ended = λ t h. class-up _ ∙ ap (forestUp ts) (class-top t) ∙ f .ended t (sym (class-within t) ∙ h) ∙ sym (class-top t);
+    ended = λ t h. let i = sym (class-within t) ∙ h in let e = class-top (f .closed) t i in class-up _ ∙ ap (forestUp ts) e ∙ f .ended t i ∙ sym e;
     unlabelled = λ t h e. class-words ts r q w edgeOf (λ x. refl) t ∙ f .unlabelled t (sym (class-within t) ∙ h) (sym (class-up t) ∙ e);
   }
 
@@ -85,10 +84,10 @@ module _ (ts : List Term) (f : Forest ts) (a b k v : ℕ) (wa : within (length t
 
   cut-is : cutIn (linkIn put a b k v) (traceOf ts a) ≡ ts
   cut-is =
-      ap (λ (us : List Term). putClass (rerootIn us (topIn ts a)) (rootIn ts a) (rootIn ts a)) (edge-again (rerootIn put a) a _ (noEdge a) wa″ (sym (turned .here)))
-      ∙ ap (λ (t : ℕ). putClass (rerootIn (rerootIn put a) t) (rootIn ts a) (rootIn ts a)) (sym (class-top ts _ _ wr a))
+      ap (λ (us : List Term). putClass (rerootIn us (topIn ts a)) (rootIn ts a) (rootIn ts a)) (edge-again (rerootIn put a) a wa″ _ (noEdge a) (sym (turned .here)))
+      ∙ ap (λ (t : ℕ). putClass (rerootIn (rerootIn put a) t) (rootIn ts a) (rootIn ts a)) (sym (class-top ts _ _ wr (f .closed) a wa))
       ∙ ap (λ (us : List Term). putClass us (rootIn ts a) (rootIn ts a)) (reroot-back put (class-forest ts _ _ wr f) a wa′)
-      ∙ class-again ts (rootIn ts a) (rootIn ts b) (rootIn ts a) wr (sym self)
+      ∙ class-again ts (rootIn ts a) wr (rootIn ts b) (rootIn ts a) (sym self)
 
   -- the class parent of the old class root
   class-is : classUp (linkIn put a b k v) (rootIn ts a) ≡ rootIn ts b

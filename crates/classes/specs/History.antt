@@ -3,9 +3,9 @@ use mathlib.Core.Path.{_≡_}
 use mathlib.Core.Bool.{true}
 use mathlib.Core.List.{List, [], _∷_, _++_, List·Memᴰ}
 use Prim.Native.Nat.{ℕ, zero, suc, _≤_}
-use lib.ListN.{length}
+use lib.ListN.{length, drop}
 use Rattle.records.specs.Lists.{oneMore}
-use Rattle.records.specs.Store.{Term, Store, Out, ok, stop, Work, within, isTerm, root}
+use Rattle.records.specs.Store.{Term, Store, Out, ok, stop, within, isTerm, root}
 use Rattle.records.specs.Make.{own, withTerms, constantArguments, makeConstant, variableArguments, makeVariable, concatArguments, makeConcat, lengthArguments, makeLength, equationArguments, makeEquation}
 use Rattle.records.specs.Calls.{checked}
 use Rattle.classes.specs.Marks.{Trail, markLimit, joinLimit, auditTrail}
@@ -97,23 +97,25 @@ markedAt zero (marked ts ∷ h) = ts
 markedAt (suc zero) (marked ts ∷ h) = ts
 markedAt (suc (suc i)) (marked ts ∷ h) = markedAt (suc i) h
 
--- 'Terms appended since then stay, each alone'
-pub data Appended (ts : List Term) : List Term → Type 0 where
-  nothing : Appended ts ts
-  one-more : {us : List Term} (k a b : ℕ) → Appended ts us → Appended ts (oneMore us (own (suc (length us)) k a b))
+-- 'Terms appended since then stay, each alone': what they are, kind, first and second, and no more. n is the number of the first
+unfoldable pub eachAlone : ℕ → List Term → List Term
+eachAlone n [] = []
+eachAlone n (x ∷ l) = own n (x .kind) (x .first) (x .second) ∷ eachAlone (suc n) l
 
--- 'going back restores every word of the terms counted at the mark'
-pub record Restores (w : World) (i : ℕ) : Type 0 where
-  pub table : List Term
-  pub goes : goBack i (w .store) (w .trail) ≡ gives (withTerms (w .store) table) (before i (w .trail)) i
-  pub restored : Appended (markedAt i (w .history)) table
+-- the table ts, and then what us has more
+abbrev pub withLater : List Term → List Term → List Term
+withLater ts us = ts ++ eachAlone (suc (length ts)) (drop (length ts) us)
 
--- 'the table passes the audit, the division into classes is what the joins left standing generate, and going back restores ..'
+-- 'the table passes the audit, the division into classes is what the joins left standing generate, and going back restores every word of
+-- the terms counted at the mark'
 pub record Kept (w : World) : Type 0 where
   pub audited : auditTrail (w .store) (w .trail) ≡ 0
   pub termsFit : length (w .store .terms) ≤ w .store .room .terms
+  pub cellsFit : length (w .store .cells) ≤ w .store .room .cells
+  pub charsFit : length (w .store .chars) ≤ w .store .room .chars
   pub marksFit : length (w .trail .marks) ≤ markLimit
   pub joinsFit : length (w .trail .joins) ≤ joinLimit
   pub divides : (t u : ℕ) → isTerm (w .store) t ≡ true → isTerm (w .store) u ≡ true → root (w .store) t ≡ root (w .store) u → Generated (standing (w .history)) t u
   pub joins : (t u : ℕ) → Generated (standing (w .history)) t u → root (w .store) t ≡ root (w .store) u
-  pub restores : (i : ℕ) → within (length (w .trail .marks)) i ≡ true → Restores w i
+  pub restores : (i : ℕ) → within (length (w .trail .marks)) i ≡ true
+      → goBack i (w .store) (w .trail) ≡ gives (withTerms (w .store) (withLater (markedAt i (w .history)) (w .store .terms))) (before i (w .trail)) i

@@ -4,4 +4,6 @@ pub mod Marks
 pub mod Calls
 pub mod History
 pub mod JoinCases
+pub mod HistoryCases
+pub mod MarkCases
 pub mod Working

@@ -10,7 +10,7 @@ ghost use Rattle.records.specs.Rules.{classesRule, congruencesRule};
 ghost use Rattle.classes.specs.Joins.{trace, undoIn};
 ghost use Rattle.classes.specs.Marks.{joinLimit, markLimit, tracePlace, traceAt, trailOf, trailSizes, undoAll, tableAt, countsRule, passes, marksRule, auditMarks};
 ghost use Rattle.classes.specs.Calls.{recorded};
-ghost use Rattle.classes.specs.Working.Carries.{Tabled, Undoes, Markable, TrailSized, Trailed};
+ghost use Rattle.classes.specs.Working.Carries.{Tabled, Undoes, Markable, Copied, TrailSized, Trailed};
 use crate::Standing;
 use crate::links::undo_unchecked;
 use records::State;
@@ -153,7 +153,7 @@ fn counts_ok(marks: &[u32], d: Standing) -> bool
 // The words of n terms, record 0 too.
 fn copy_terms_unchecked(terms: &[u32], n: usize, table: &mut [u32; 4104])
     requires { ⌜ n ≤ termLimit ⌝ ∗ ⌜ termWords n ≤ length (now terms) ⌝ ∗ ⌜ length (now table) ≡ termWords termLimit ⌝ }
-    ensures { λ _. ⌜ (termsView (now (table .exit)) n ≡ termsView (now (terms .entry)) n) × (length (now (table .exit)) ≡ termWords termLimit) ⌝ }
+    ensures { λ _. ⌜ Copied (now (terms .entry)) (now (table .exit)) n ⌝ }
 {
     let words = TERM_WIDTH * (n + 1);
     let mut i: usize = 0;

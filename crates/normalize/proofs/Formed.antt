@@ -1,6 +1,6 @@
 -- The normal form over an audited store: what it answers has the term's word, what it leaves, and with which numbers it stops.
 use mathlib.Core.Path.{_≡_, refl, sym, ap, subst, _∙_}
-use mathlib.Core.Bool.{Bool, true, false, _&&_}
+use mathlib.Core.Bool.{true, _&&_}
 use mathlib.Core.List.{List, [], _∷_, _++_, reverse, append-nil, append-assoc, reverse-cons}
 use mathlib.Core.Option.{Option, none, some}
 use Prim.Native.Nat.{ℕ, _+_, _≤_}
@@ -15,6 +15,7 @@ use Rattle.records.specs.Make.{makeConstant}
 use Rattle.records.specs.Meaning.{Words, Reading, Holds}
 use Rattle.records.specs.Working.Audited.{Audited}
 use Rattle.records.proofs.Lists.{both-left, both-right, both-true, every-map, every-append, all-append, every-left}
+use Rattle.records.proofs.Paths.{first-has}
 use Rattle.records.proofs.Readings.{text-characters}
 use Rattle.records.proofs.Kept.{made-string, constant-kept, constant-stops}
 use Rattle.records.proofs.Meant.{constant-word}
@@ -32,16 +33,6 @@ use Rattle.records.proofs.ListLaws.{list-every}
 
 -- THE REPRESENTATIVE
 
--- the first that passes, passes, and has what each has
-first-has : {P : ℕ → Type 0} (p : ℕ → Bool) {l : List ℕ} → Every P l → (v : ℕ) → firstOf p l ≡ some v → (p v ≡ true) × P v
-unfolding firstOf
-first-has p none-left v e = let z : _≡_ {A = ℕ} 0 1 = cc in absurd (omega arith)
-first-has {P} p (and {a} {l} i k) v e = go (first-has p k v) (p a) refl e
-  where
-    go : (firstOf p l ≡ some v → (p v ≡ true) × P v) → (b : Bool) → p a ≡ b → _≡_ {A = Option ℕ} (elim b [ true ↦ some a | false ↦ firstOf p l ]) (some v) → (p v ≡ true) × P v
-    go ih true q d = let z : a ≡ v = cc in (ap p (sym z) ∙ q, subst P z i)
-    go ih false q d = ih d
-
 -- a string term of the atom's class
 pub record Stands (s : Store) (a r : ℕ) : Type 0 where
   pub string : isString s r ≡ true
@@ -55,8 +46,8 @@ representative-stands s cs a k i = go (firstOf (λ t. sameClass s t a && isConst
     turned r e = eq-eqb (root s a) (root s r) (sym (eqb-true (root s r) (root s a) e))
 
     go : (x : Option ℕ) → firstOf (λ t. sameClass s t a && isConstant s t) cs ≡ x → (y : Option ℕ) → firstOf (λ t. sameClass s t a) cs ≡ y → Stands s a (orFirst x y a)
-    go (some t) p y q = let h = first-has _ k t p in record { string = h .1; class = turned t (both-left (sameClass s t a) _ (h .0)) }
-    go none p (some t) q = let h = first-has _ k t q in record { string = h .1; class = turned t (h .0) }
+    go (some t) p y q = let h = first-has _ cs t k p in record { string = h .0; class = turned t (both-left (sameClass s t a) _ (h .1)) }
+    go none p (some t) q = let h = first-has _ cs t k q in record { string = h .0; class = turned t (h .1) }
     go none p none q = record { string = i; class = eq-eqb (root s a) (root s a) refl }
 
 -- ATOM BY ATOM

@@ -2,6 +2,7 @@
 pub mod Flats
 pub mod Words
 pub mod Pushing
+pub mod Heaping
 pub mod Replacing
 pub mod Forming
 pub mod Expanding

@@ -3,10 +3,10 @@ use mathlib.Core.Path.{_≡_, refl, sym, ap, subst, _∙_}
 use mathlib.Core.Bool.{Bool, true, false, _&&_, _||_}
 use mathlib.Core.List.{List, [], _∷_, _++_, append-nil, append-assoc}
 use mathlib.Core.Option.{Option, none, some}
-use Prim.Native.Nat.{ℕ, zero, suc, _+_, _≤_, _<_}
+use Prim.Native.Nat.{ℕ, _+_, _≤_, _<_}
 use native.Mathlib.Numerals.{add-one}
 use native.Mathlib.Omega.{arith}
-use lib.ListN.{length, drop, set, getD, length-set}
+use lib.ListN.{length, drop, set, getD, length-set, drop-of-length-le}
 use lib.Seq.{drop-cons, getD-set-same, getD-set-other}
 use lib.Dec.{eqb, ltb}
 use borrow.Author.Tests.{eqb-true, eqb-false, eq-eqb, ne-eqb, lt-ltb, le-ltb}
@@ -65,12 +65,6 @@ pub keeps-more : (l : List ℕ) (n t r : ℕ) (node node′ roots : List ℕ) �
 keeps-more l n t r node node′ roots h w i k e a =
     record { adds = a; kept = ends-more _ _ h roots t r w (record { reached = rw (view-count l n) at (sym e); self = rw e (i .ends t w) }) k }
 
-pub drop-past : (l : List ℕ) (i : ℕ) → length l ≤ i → drop i l ≡ []
-drop-past [] zero h = refl
-drop-past [] (suc i) h = refl
-drop-past (x ∷ l) zero h = absurd (omega arith)
-drop-past (x ∷ l) (suc i) h = drop-past l i (omega arith)
-
 -- the loop over a list
 module _ (ts : List Term) (l : List ℕ) where
   pub nodes-turn : (i x : ℕ) (node node′ out : List ℕ) → i < length l → x ≡ getD l i 0 → node′ ≡ withNode ts x node → withNodes ts (drop i l) node ≡ out → withNodes ts (drop (i + 1) l) node′ ≡ out
@@ -79,7 +73,7 @@ module _ (ts : List Term) (l : List ℕ) where
 
   pub nodes-done : (i : ℕ) (node out : List ℕ) → length l ≤ i → withNodes ts (drop i l) node ≡ out → node ≡ out
   unfolding withNodes
-  nodes-done i node out h q = rw (drop-past l i h) at q
+  nodes-done i node out h q = rw (drop-of-length-le l h) at q
 
 -- WHAT THE TABLE SAYS
 

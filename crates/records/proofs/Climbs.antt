@@ -77,12 +77,16 @@ module _ (up : ℕ → ℕ) (n t : ℕ) where
 
 -- WALKS THAT END
 
--- where the audit holds, a step leads from a term to a term
-pub classed-roots : (s : Store) → Classed s → Closed (classUp (s .terms)) (count s)
-classed-roots s a = record { stays = a .classParents }
+-- where the audit holds, a step in the forest or in the class leads from a term to a term
+pub classed-up : (s : Store) → Classed s → (forest : Bool) → Closed (upIn forest (s .terms)) (count s)
+classed-up s a true = record { stays = a .forestParents }
+classed-up s a false = record { stays = a .classParents }
 
-pub classed-tops : (s : Store) → Classed s → Closed (forestUp (s .terms)) (count s)
-classed-tops s a = record { stays = a .forestParents }
+abbrev pub classed-roots : (s : Store) → Classed s → Closed (classUp (s .terms)) (count s)
+classed-roots s a = classed-up s a false
+
+abbrev pub classed-tops : (s : Store) → Classed s → Closed (forestUp (s .terms)) (count s)
+classed-tops s a = classed-up s a true
 
 pub rule-at : (s : Store) (rule : ℕ → Bool) → eachTerm s rule ≡ true → (t : ℕ) → isTerm s t ≡ true → rule t ≡ true
 rule-at s rule h zero w = clash w (within-zero (count s) 0 refl)
@@ -91,13 +95,10 @@ rule-at s rule h (suc t) w = below-at (λ i. rule (suc i)) (count s) h t (within
 pub rule-all : (s : Store) (rule : ℕ → Bool) → ((t : ℕ) → isTerm s t ≡ true → rule t ≡ true) → eachTerm s rule ≡ true
 rule-all s rule f = below-all (λ i. rule (suc i)) (count s) (λ k l. f (suc k) (within-is (count s) (suc k) (omega arith) l))
 
-pub parents-roots : (s : Store) → eachTerm s (parentsRule s) ≡ true → Closed (classUp (s .terms)) (count s)
+pub parents-up : (s : Store) → eachTerm s (parentsRule s) ≡ true → (forest : Bool) → Closed (upIn forest (s .terms)) (count s)
 unfolding parentsRule
-parents-roots s h = record { stays = λ t w. both-left _ _ (rule-at s (parentsRule s) h t w) }
-
-pub parents-tops : (s : Store) → eachTerm s (parentsRule s) ≡ true → Closed (forestUp (s .terms)) (count s)
-unfolding parentsRule
-parents-tops s h = record { stays = λ t w. both-right (isTerm s (term s t .classParent)) _ (rule-at s (parentsRule s) h t w) }
+parents-up s h true = record { stays = λ t w. both-right (isTerm s (term s t .classParent)) _ (rule-at s (parentsRule s) h t w) }
+parents-up s h false = record { stays = λ t w. both-left _ _ (rule-at s (parentsRule s) h t w) }
 
 module _ (s : Store) (a : Classed s) (t : ℕ) (w : isTerm s t ≡ true) where
   -- the root's root is itself
@@ -155,14 +156,14 @@ module _ (l : List ℕ) (n : ℕ) where
   pub view-count : length (termsView l n) ≡ n
   view-count = table-length (λ i. termAt l (suc i)) n
 
-  pub view-class : (t y : ℕ) → within n t ≡ true → y ≡ termAt l t .classParent → y ≡ classUp (termsView l n) t
-  view-class t y w e = e ∙ ap (λ (x : Term). x .classParent) (sym (view-term t w))
-
-  pub view-forest : (t y : ℕ) → within n t ≡ true → y ≡ termAt l t .forestParent → y ≡ forestUp (termsView l n) t
-  view-forest t y w e = e ∙ ap (λ (x : Term). x .forestParent) (sym (view-term t w))
-
   pub view-up : (forest : Bool) (t y : ℕ) → within n t ≡ true → y ≡ parentOf forest (termAt l t) → y ≡ upIn forest (termsView l n) t
   view-up forest t y w e = e ∙ ap (parentOf forest) (sym (view-term t w))
+
+  pub view-class : (t y : ℕ) → within n t ≡ true → y ≡ termAt l t .classParent → y ≡ classUp (termsView l n) t
+  view-class = view-up false
+
+  pub view-forest : (t y : ℕ) → within n t ≡ true → y ≡ termAt l t .forestParent → y ≡ forestUp (termsView l n) t
+  view-forest = view-up true
 
   pub root-counted : (t x : ℕ) → x ≡ climb (classUp (termsView l n)) n t → x ≡ rootIn (termsView l n) t
   root-counted t x e = rw view-count e
@@ -188,8 +189,8 @@ module _ (m : Lent) (c : State) where
   pub string-within : (t : ℕ) → isString (storeOf m c) t ≡ true → within (c .terms) t ≡ true
   string-within t e = term-within t (string-term (storeOf m c) t e)
 
-  pub ready-roots : Classed (storeOf m c) → Closed (classUp (termsView (m .terms) (c .terms))) (c .terms)
-  ready-roots a = rw (view-count (m .terms) (c .terms)) at (classed-roots (storeOf m c) a)
+  pub ready-up : Classed (storeOf m c) → (forest : Bool) → Closed (upIn forest (termsView (m .terms) (c .terms))) (c .terms)
+  ready-up a forest = rw (view-count (m .terms) (c .terms)) at (classed-up (storeOf m c) a forest)
 
-  pub ready-tops : Classed (storeOf m c) → Closed (forestUp (termsView (m .terms) (c .terms))) (c .terms)
-  ready-tops a = rw (view-count (m .terms) (c .terms)) at (classed-tops (storeOf m c) a)
+  abbrev pub ready-roots : Classed (storeOf m c) → Closed (classUp (termsView (m .terms) (c .terms))) (c .terms)
+  ready-roots a = ready-up a false

@@ -3,6 +3,7 @@ pub mod Ends
 mod Cited
 pub mod Good
 mod Strip
+mod OnePass
 mod Occurs
 mod Tile
 mod Constants

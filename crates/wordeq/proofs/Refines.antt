@@ -1,5 +1,7 @@
 -- That the code meets its definitions: each way through a function, and the invariants of its loops. No other crate cites these.
 pub mod Alike
+pub mod Going
+pub mod Turning
 pub mod Stripping
 pub mod SideLetters
 pub mod SideWalk
@@ -9,7 +11,6 @@ pub mod Listed
 pub mod SplitAtoms
 pub mod TileWalk
 pub mod SideUnequal
-pub mod Turning
 pub mod ExplainingEach
 pub mod PropagateMakes
 pub mod Pairs

@@ -3,7 +3,7 @@ use mathlib.Core.Path.{_≡_, refl, sym, ap, subst, _∙_}
 use mathlib.Core.Bool.{Bool, true, false, _&&_, _||_}
 use mathlib.Core.List.{List, [], _∷_, _++_, reverse, reverse-cons}
 use Prim.Native.Nat.{ℕ}
-use lib.ListN.{length, drop}
+use lib.ListN.{length, take, drop, take-append-drop}
 use lib.Dec.{eqb}
 use borrow.Author.Tests.{eqb-true, eq-eqb}
 use Rattle.records.specs.Lists.{if_then_else_, concatMap, sameWord, firsts, seconds, Every, none-left, and}
@@ -142,6 +142,10 @@ every-reverse : {A : Type 0} {P : A → Type 0} {l : List A} → Every P l → E
 every-reverse none-left = none-left
 every-reverse (and {a} {l} p k) = rw (reverse-cons a l) (every-append (every-reverse k) (and p none-left))
 
+-- a list without its first n, turned round
+pub every-back : {A : Type 0} {P : A → Type 0} (n : ℕ) (l : List A) → Every P l → Every P (reverse (drop n l))
+every-back {P = P} n l k = every-reverse (every-right (take n l) (drop n l) (subst (Every P) (sym (take-append-drop n l)) k))
+
 module _ (s : Store) (l r : List ℕ) (hl : Strings s l) (hr : Strings s r) where
   abbrev heads : List (ℕ × ℕ)
   heads = sameHeads s l r
@@ -166,7 +170,7 @@ module _ (s : Store) (l r : List ℕ) (hl : Strings s l) (hr : Strings s r) wher
 
   tails-off : Off s (reverse l₁) (reverse r₁) tails
   unfolding sameTails
-  tails-off = off-heads s (reverse l₁) (reverse r₁) (every-reverse strings-left) (every-reverse strings-right)
+  tails-off = off-heads s (reverse l₁) (reverse r₁) (every-back (length heads) l hl) (every-back (length heads) r hr)
 
   abbrev l₂ : List ℕ
   l₂ = reverse (drop (length tails) (reverse l₁))

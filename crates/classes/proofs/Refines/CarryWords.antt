@@ -1,9 +1,8 @@
 -- The loop over words: a record written, and each way through the loop.
 use mathlib.Core.Path.{_≡_, refl, sym, ap, subst, _∙_}
-use mathlib.Core.Bool.{true, false}
+use mathlib.Core.Bool.{true}
 use mathlib.Core.List.{List}
-use Prim.Native.Nat.{ℕ, suc, _+_, _-_, _*_, _<_, _≤_}
-use native.Mathlib.Decide.{ℕ-discrete}
+use Prim.Native.Nat.{ℕ, suc, _+_, _-_, _<_, _≤_}
 use native.Mathlib.Omega.{arith}
 use lib.ListN.{length, set}
 use Rattle.records.specs.Store.{Term, termIn, within, forestUp}
@@ -15,6 +14,7 @@ use Rattle.records.proofs.Lists.{clash, within-high}
 use Rattle.records.proofs.Climbs.{view-term, view-count}
 use Rattle.classes.specs.Joins.{Edge, edge, turned, bearing, putEdge, putClass}
 use Rattle.classes.specs.Working.Carries.{carryBy, Becomes, Carriable}
+use Rattle.classes.proofs.MovedClimbs.{closed-put}
 use Rattle.classes.proofs.Tables.{edge-here, edge-away}
 use Rattle.classes.proofs.Refines.Carrying.{carry-root, carry-turn}
 
@@ -90,7 +90,7 @@ module _ {l₀ l : List ℕ} {n x : ℕ} {e : Edge} {at below k v m i : ℕ} (c 
           counted = omega arith;
           here = subst (λ (z : ℕ). within n z ≡ true) up-is (c .closed .stays at (c .here));
           over = c .here;
-          closed = subst (λ (ts : List Term). Closed (forestUp ts) n) (sym (p .is)) (record { stays = λ t w. go t w (ℕ-discrete t at) });
+          closed = subst (λ (ts : List Term). Closed (forestUp ts) n) (sym (p .is)) (closed-put (c .closed) (c .over) (ap (λ (y : Term). y .forestParent) (edge-here (termsView l n) at _ wl)) (λ t z. ap (λ (y : Term). y .forestParent) (edge-away (termsView l n) at _ wl t z)));
           until = subst (Becomes l₀ l′ n) (sym (p .is)) (becomes-then (c .until) p);
           left = ap (λ (ts : List Term). carryBy (suc n - (i + 1)) ts above (edge at k₁ v₁ m₁)) (p .is)
               ∙ ap (λ (z : ℕ). carryBy (suc n - (i + 1)) (putEdge (termsView l n) at (edge below k v m)) z (edge at k₁ v₁ m₁)) (sym up-is)
@@ -101,7 +101,3 @@ module _ {l₀ l : List ℕ} {n x : ℕ} {e : Edge} {at below k v m i : ℕ} (c 
       where
         wl : within (length (termsView l n)) at ≡ true
         wl = ap (λ (j : ℕ). within j at) (view-count l n) ∙ c .here
-
-        go : (t : ℕ) → within n t ≡ true → Dec (t ≡ at) → within n (forestUp (putEdge (termsView l n) at (edge below k v m)) t) ≡ true
-        go t w (yes z) = ap (λ (y : ℕ). within n (forestUp (putEdge (termsView l n) at (edge below k v m)) y)) z ∙ ap (λ (y : Term). within n (y .forestParent)) (edge-here (termsView l n) at _ wl) ∙ c .over
-        go t w (no z) = ap (λ (y : Term). within n (y .forestParent)) (edge-away (termsView l n) at _ wl t z) ∙ c .closed .stays t w

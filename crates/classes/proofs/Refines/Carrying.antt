@@ -1,23 +1,23 @@
 -- The loop that re-roots from below: each term on the way up gets what is carried, and its own edge, turned round, is carried on.
 use mathlib.Core.Path.{_≡_, refl, sym, ap, subst, _∙_}
-use mathlib.Core.Bool.{true}
-use mathlib.Core.List.{List, [], _∷_, List·Memᴰ, List·Memᴰ·head, List·Memᴰ·tail}
+use mathlib.Core.Bool.{Bool, true, false}
+use mathlib.Core.List.{List, [], _∷_, List·Memᴰ, List·Memᴰ·head, List·Memᴰ·tail, Memᴰ·cast}
 use Prim.Native.Nat.{ℕ, zero, suc, _≤_}
 use native.Mathlib.Decide.{ℕ-discrete}
 use native.Mathlib.Omega.{arith}
 use lib.ListN.{length}
+use lib.Dec.{eqb}
 use borrow.Author.Tests.{eq-eqb, ne-eqb}
 use Rattle.records.specs.Lists.{Every, and}
-use Rattle.records.specs.Store.{Term, termIn, within, forestUp}
-use Rattle.records.proofs.Lists.{every-map}
+use Rattle.records.specs.Store.{Term, termIn, within, forestUp, aboveBy}
+use Rattle.records.proofs.Lists.{every-map, every-mem}
 use Rattle.records.proofs.Paths.{above-within}
 use Rattle.records.proofs.Rises.{Rise, ends, goes, rise-by}
-use Rattle.classes.specs.Joins.{Edge, edge, noEdge, edgeOf, turned, bearing, putEdge, turn, turns, rerootIn, linkIn}
+use Rattle.classes.specs.Joins.{Edge, edge, noEdge, turned, putEdge, turn, turns, rerootIn, linkIn}
 use Rattle.classes.specs.Working.Carries.{Forest, carryBy}
-use Rattle.classes.proofs.Tables.{ext-term, edge-long, edge-here, edge-away, turn-root, turn-is, turn-flips}
-use Rattle.classes.proofs.Turning.{every-mem, rise-head, rise-fresh}
+use Rattle.classes.proofs.Tables.{edge-long, edge-away, edge-same, edge-twice, edge-swap, turn-root, turn-is, turn-flips}
+use Rattle.classes.proofs.Turning.{rise-head, rise-fresh, rise-same}
 use Rattle.classes.proofs.Undoing.{rerooted}
-use Rattle.classes.proofs.Appending.{above-short}
 
 -- the loop's two ways
 pub carry-root : (n : ℕ) (ts : List Term) (x : ℕ) (e : Edge) → forestUp ts x ≡ x → carryBy (suc n) ts x e ≡ putEdge ts x e
@@ -28,33 +28,11 @@ pub carry-turn : (n : ℕ) (ts : List Term) (x : ℕ) (e : Edge) → (forestUp t
 unfolding carryBy
 carry-turn n ts x e d = rw (ne-eqb (forestUp ts x) x d, carryBy)
 
--- TWO EDGES PUT
+-- AN EDGE PUT
 
 module _ (ts : List Term) (x : ℕ) (e : Edge) (wx : within (length ts) x ≡ true) where
   still : (t : ℕ) → within (length ts) t ≡ true → within (length (putEdge ts x e)) t ≡ true
   still t w = ap (λ (n : ℕ). within n t) (edge-long ts x e) ∙ w
-
-  put-twice : (f : Edge) → putEdge (putEdge ts x e) x f ≡ putEdge ts x f
-  put-twice f = ext-term (putEdge ts x f) _ (edge-long _ x f ∙ edge-long ts x e ∙ sym (edge-long ts x f)) (λ t w. go t (ℕ-discrete t x))
-    where
-      go : (t : ℕ) → Dec (t ≡ x) → termIn (putEdge (putEdge ts x e) x f) t ≡ termIn (putEdge ts x f) t
-      go t (yes q) = subst (λ (z : ℕ). termIn (putEdge (putEdge ts x e) x f) z ≡ termIn (putEdge ts x f) z) (sym q)
-          (edge-here (putEdge ts x e) x f (still x wx) ∙ ap (λ (y : Term). bearing y f) (edge-here ts x e wx) ∙ sym (edge-here ts x f wx))
-      go t (no d) = edge-away (putEdge ts x e) x f (still x wx) t d ∙ edge-away ts x e wx t d ∙ sym (edge-away ts x f wx t d)
-
-module _ (ts : List Term) (x p : ℕ) (e f : Edge) (wx : within (length ts) x ≡ true) (wp : within (length ts) p ≡ true) (d : p ≡ x → ⊥) where
-  put-swap : putEdge (putEdge ts x e) p f ≡ putEdge (putEdge ts p f) x e
-  put-swap = ext-term (putEdge (putEdge ts p f) x e) _ (edge-long _ p f ∙ edge-long ts x e ∙ sym (edge-long _ x e ∙ edge-long ts p f)) (λ t w. go t (ℕ-discrete t x) (ℕ-discrete t p))
-    where
-      go : (t : ℕ) → Dec (t ≡ x) → Dec (t ≡ p) → termIn (putEdge (putEdge ts x e) p f) t ≡ termIn (putEdge (putEdge ts p f) x e) t
-      go t (yes q) b = subst (λ (z : ℕ). termIn (putEdge (putEdge ts x e) p f) z ≡ termIn (putEdge (putEdge ts p f) x e) z) (sym q)
-          (edge-away (putEdge ts x e) p f (still ts x e wx p wp) x (λ z. d (sym z)) ∙ edge-here ts x e wx
-          ∙ sym (edge-here (putEdge ts p f) x e (still ts p f wp x wx) ∙ ap (λ (y : Term). bearing y e) (edge-away ts p f wp x (λ z. d (sym z)))))
-      go t (no a) (yes b) = subst (λ (z : ℕ). termIn (putEdge (putEdge ts x e) p f) z ≡ termIn (putEdge (putEdge ts p f) x e) z) (sym b)
-          (edge-here (putEdge ts x e) p f (still ts x e wx p wp) ∙ ap (λ (y : Term). bearing y f) (edge-away ts x e wx p d)
-          ∙ sym (edge-away (putEdge ts p f) x e (still ts p f wp x wx) p d ∙ edge-here ts p f wp))
-      go t (no a) (no b) = edge-away (putEdge ts x e) p f (still ts x e wx p wp) t b ∙ edge-away ts x e wx t a
-          ∙ sym (edge-away (putEdge ts p f) x e (still ts p f wp x wx) t a ∙ edge-away ts p f wp t b)
 
 -- AN EDGE PUT OFF THE WAY
 
@@ -76,8 +54,8 @@ turn-put ts x y e wx wy wp d n = go (ℕ-discrete (forestUp ts y) y)
         let wy′ = still ts x e wx y wy in
         turn-is (putEdge ts x e) y p wy′ (still ts x e wx p wp) up-here q
         ∙ ap (λ (z : Term). putEdge (putEdge (putEdge ts x e) p (turned y z)) y (noEdge y)) here
-        ∙ ap (λ (us : List Term). putEdge us y (noEdge y)) (put-swap ts x p e (turned y (termIn ts y)) wx wp n)
-        ∙ put-swap (putEdge ts p (turned y (termIn ts y))) x y e (noEdge y) (still ts p _ wp x wx) (still ts p _ wp y wy) d
+        ∙ ap (λ (us : List Term). putEdge us y (noEdge y)) (edge-swap ts x p e (turned y (termIn ts y)) wx wp n)
+        ∙ edge-swap (putEdge ts p (turned y (termIn ts y))) x y e (noEdge y) (still ts p _ wp x wx) (still ts p _ wp y wy) d
         ∙ sym (ap (λ (us : List Term). putEdge us x e) (turn-is ts y p wy wp refl q))
 
 record Light (ts us : List Term) (l : List ℕ) : Type 0 where
@@ -112,10 +90,7 @@ turns-put {ts} {y} x e (goes {l = l} d r) (and w h) wx n =
     (λ z. n (List·Memᴰ·head (sym z))) (λ z. n (List·Memᴰ·tail (subst (λ (u : ℕ). List·Memᴰ u l) (sym i ∙ z) first)))
 
 rise-put : {ts : List Term} {y : ℕ} {l : List ℕ} (x : ℕ) (e : Edge) → Rise ts y l → within (length ts) x ≡ true → (List·Memᴰ x l → ⊥) → Rise (putEdge ts x e) y l
-rise-put {ts} {y} x e (ends q) wx n = ends (ap (λ (z : Term). z .forestParent) (edge-away ts x e wx y (λ z. n (List·Memᴰ·head (sym z)))) ∙ q)
-rise-put {ts} {y} x e (goes {l = l} d r) wx n =
-    let i : forestUp (putEdge ts x e) y ≡ forestUp ts y = ap (λ (z : Term). z .forestParent) (edge-away ts x e wx y (λ z. n (List·Memᴰ·head (sym z)))) in
-    goes (λ z. d (sym i ∙ z)) (subst (λ (u : ℕ). Rise (putEdge ts x e) u l) (sym i) (rise-put x e r wx (λ m. n (List·Memᴰ·tail m))))
+rise-put {ts} x e r wx n = rise-same r (λ u m. ap (λ (z : Term). z .forestParent) (edge-away ts x e wx u (λ z. n (Memᴰ·cast (sym z) m))))
 
 -- the loop from x is: re-root at x, then put the carried edge on x
 carry-way : (n : ℕ) {ts : List Term} {x : ℕ} {l : List ℕ} (e : Edge) → Rise ts x l → Every (λ t. within (length ts) t ≡ true) l → length l ≤ n → carryBy n ts x e ≡ putEdge (turns l ts) x e
@@ -136,10 +111,20 @@ carry-way (suc n) {ts} {x} e (goes {l = l} d r) (and w h) s =
     carry-turn n ts x e d
     ∙ carry-way n f (rise-put x e r w fresh) (every-map (λ t v. still ts x e w t v) h) (omega arith)
     ∙ ap (λ (y : List Term). putEdge y p f) (turns-put x e r h w fresh)
-    ∙ put-swap us x p e f wx′ wp′ d
+    ∙ edge-swap us x p e f wx′ wp′ d
     ∙ sym (ap (λ (y : List Term). putEdge y x e) (turn-is us x p wx′ wp′ (ap (λ (z : Term). z .forestParent) same) d)
-    ∙ put-twice (putEdge us p (turned x (termIn us x))) x (noEdge x) (ap (λ (m : ℕ). within m x) (edge-long us p _) ∙ wx′) e
+    ∙ edge-twice (putEdge us p (turned x (termIn us x))) x (ap (λ (m : ℕ). within m x) (edge-long us p _) ∙ wx′) (noEdge x) e
     ∙ ap (λ (z : Term). putEdge (putEdge us p (turned x z)) x e) same)
+
+-- n steps up meet at most n terms
+above-short : (n : ℕ) (ts : List Term) (t : ℕ) → length (aboveBy n ts t) ≤ n
+unfolding aboveBy
+above-short zero ts t = omega arith
+above-short (suc n) ts t = go (eqb (forestUp ts t) t) (above-short n ts (forestUp ts t))
+  where
+    go : (b : Bool) → length (aboveBy n ts (forestUp ts t)) ≤ n → length (t ∷ elim b [ true ↦ [] | false ↦ aboveBy n ts (forestUp ts t) ]) ≤ suc n
+    go true h = omega arith
+    go false h = omega arith
 
 module _ (ts : List Term) (f : Forest ts) (a : ℕ) (w : within (length ts) a ≡ true) where
   carried : (e : Edge) → carryBy (suc (length ts)) ts a e ≡ putEdge (rerootIn ts a) a e
@@ -151,11 +136,4 @@ module _ (ts : List Term) (f : Forest ts) (a : ℕ) (w : within (length ts) a �
 
   -- and, carrying no edge, re-roots
   pub carry-reroot : carryBy (suc (length ts)) ts a (noEdge a) ≡ rerootIn ts a
-  carry-reroot = carried (noEdge a) ∙ put-same (rerootIn ts a) a (noEdge a) (ap (λ (n : ℕ). within n a) (rerooted ts f a w .long) ∙ w) (sym (rerooted ts f a w .here))
-    where
-      put-same : (us : List Term) (x : ℕ) (e : Edge) → within (length us) x ≡ true → e ≡ edgeOf (termIn us x) → putEdge us x e ≡ us
-      put-same us x e v q = ext-term us _ (edge-long us x e) (λ t i. go t (ℕ-discrete t x))
-        where
-          go : (t : ℕ) → Dec (t ≡ x) → termIn (putEdge us x e) t ≡ termIn us t
-          go t (yes z) = subst (λ (y : ℕ). termIn (putEdge us x e) y ≡ termIn us y) (sym z) (edge-here us x e v ∙ ap (bearing (termIn us x)) q)
-          go t (no z) = edge-away us x e v t z
+  carry-reroot = carried (noEdge a) ∙ edge-same (rerootIn ts a) a (ap (λ (n : ℕ). within n a) (rerooted ts f a w .long) ∙ w) (noEdge a) (sym (rerooted ts f a w .here))

@@ -2,7 +2,7 @@
 use mathlib.Core.Path.{_≡_, refl, sym, ap, subst, _∙_}
 use mathlib.Core.Bool.{Bool, true, false, _&&_}
 use mathlib.Core.List.{List, [], _∷_, _++_, List·Memᴰ, List·Memᴰ·head, List·Memᴰ·tail}
-use Prim.Native.Nat.{ℕ, zero, suc, _+_, _<_, _≤_}
+use Prim.Native.Nat.{ℕ, zero, suc, _+_, _-_, _<_, _≤_}
 use native.Mathlib.Numerals.{add-one}
 use native.Mathlib.Omega.{arith}
 use lib.ListN.{length, getD, take, drop}
@@ -10,9 +10,8 @@ use lib.Seq.{drop-cons, drop-length, take-append-le, take-length}
 use lib.Dec.{eqb, leb}
 use borrow.Author.Tests.{eq-eqb, ne-eqb, le-leb, lt-leb}
 use Rattle.records.specs.Lists.{table}
-use Rattle.records.proofs.Lists.{and-stop, and-next, table-length, table-at, table-suc, table-add}
+use Rattle.records.proofs.Lists.{and-stop, and-next, table-length, table-at, table-suc, table-add, every-mem}
 use Rattle.classes.specs.Marks.{rises, countsRule}
-use Rattle.classes.proofs.Turning.{every-mem}
 use Rattle.classes.proofs.Marking.{counts-low, counts-take}
 
 -- a table that is not empty has a first
@@ -59,26 +58,30 @@ module _ (f : ℕ → ℕ) (b : ℕ) where
       unfolding rises
       rising-turn k = record { low = omega arith; left = rw (add-one i) (and-next (leb last n) _ (rises n (drop (suc i) (table f m)) b) (le-leb last n k) refl ∙ sym (ap (λ (l : List ℕ). rises last l b) one-left) ∙ r .left) }
 
-    pub rising-done : m ≤ i → leb last b ≡ countsRule (table f m) b
+    pub rising-done : m ≤ i → (x : ℕ) → x ≡ last → leb x b ≡ countsRule (table f m) b
     unfolding rises
-    rising-done k =
+    rising-done k x y =
         let e : i ≡ length (table f m) = (let q = table-length f m in let j = r .low in omega arith) in
-        sym (ap (λ (l : List ℕ). rises last l b) (ap (λ (x : ℕ). drop x (table f m)) e ∙ drop-length (table f m))) ∙ r .left
+        ap (λ (z : ℕ). leb z b) y ∙ sym (ap (λ (l : List ℕ). rises last l b) (ap (λ (z : ℕ). drop z (table f m)) e ∙ drop-length (table f m))) ∙ r .left
+
+-- the first of a table
+pub take-table : {A : Type 0} (f : ℕ → A) (n j : ℕ) → j ≤ n → take j (table f n) ≡ table f j
+take-table f n j h =
+    let q = table-length f j in
+    ap (λ (k : ℕ). take j (table f k)) (let e : n ≡ j + (n - j) = omega arith in e) ∙ ap (take j) (table-add f j (n - j)) ∙ take-append-le j (table f j) _ (omega arith)
+    ∙ ap (λ (k : ℕ). take k (table f j)) (sym q) ∙ take-length (table f j)
 
 -- the last count: those before it rise to it, and it is at most the joins recorded
 pub counts-step : (f : ℕ → ℕ) (m i b : ℕ) → m ≡ suc i → countsRule (table f m) b ≡ true → (countsRule (table f i) (f i) ≡ true) × (f i ≤ b)
 counts-step f m i b e h =
     let k = table-length f (suc i) in
     let w = ap (λ (j : ℕ). countsRule (table f j) b) (sym e) ∙ h in
-    let t : take i (table f (suc i)) ≡ table f i = ap (take i) (table-suc f i) ∙ take-append-le i (table f i) _ (let q = table-length f i in omega arith) ∙ take-of i in
+    let t = take-table f (suc i) i (omega arith) in
     let g : getD (table f (suc i)) i 0 ≡ f i = table-at f (suc i) i 0 (omega arith) in (
       sym (ap (λ (l : List ℕ). countsRule l (f i)) t) ∙ sym (ap (countsRule (take i (table f (suc i)))) g) ∙ counts-take b i (table f (suc i)) (omega arith) w,
       every-mem (counts-low b (table f (suc i)) w) (subst (List·Memᴰ (f i)) (sym (table-suc f i)) (in-last (f i) (table f i))),
     )
   where
-    take-of : (j : ℕ) → take j (table f j) ≡ table f j
-    take-of j = ap (λ (k : ℕ). take k (table f j)) (sym (table-length f j)) ∙ take-length (table f j)
-
     in-last : (x : ℕ) (l : List ℕ) → List·Memᴰ x (l ++ (x ∷ []))
     in-last x [] = List·Memᴰ·head refl
     in-last x (y ∷ l) = List·Memᴰ·tail (in-last x l)

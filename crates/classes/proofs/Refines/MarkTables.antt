@@ -24,7 +24,7 @@ use Rattle.records.proofs.Passed.{classed-of}
 use Rattle.classes.specs.declared.Standing.{Standing}
 use Rattle.classes.specs.Joins.{Trace}
 use Rattle.classes.specs.Marks.{Trail, joinLimit, traceAt, trailOf, undoAll, tableAt, countsRule, passes, marksRule}
-use Rattle.classes.specs.Working.Carries.{Forest, Becomes, Tabled, Undoes, Markable}
+use Rattle.classes.specs.Working.Carries.{Forest, Becomes, Tabled, Undoes, Markable, Copied}
 use Rattle.classes.proofs.Alike.{Like}
 use Rattle.classes.proofs.Undone.{undo-append, undone-stays}
 use Rattle.classes.proofs.Refines.Trails.{Came, undoes-some, undoes-none}
@@ -49,8 +49,8 @@ module _ {l k : List ℕ} {n i : ℕ} (c : Copying l k n i) where
       go j p (inl q) = ap (λ (z : ℕ). getD (set k i x) z 0) q ∙ getD-set-same k i x 0 (let w = c .long in omega arith) ∙ e ∙ ap (λ (z : ℕ). getD l z 0) (sym q)
       go j p (inr q) = getD-set-other k i j x 0 (λ z. omega arith) ∙ c .words j q
 
-  pub copied : termWords n ≤ i → (termsView k n ≡ termsView l n) × (length k ≡ termWords termLimit)
-  copied h = (table-same (λ t. termAt k (suc t)) (λ t. termAt l (suc t)) n (λ t p. record-same t p), c .long)
+  pub copied : termWords n ≤ i → Copied l k n
+  copied h = record { is = table-same (λ t. termAt k (suc t)) (λ t. termAt l (suc t)) n (λ t p. record-same t p); long = c .long }
     where
       record-same : (t : ℕ) → t < n → termAt k (suc t) ≡ termAt l (suc t)
       record-same t p =
@@ -196,7 +196,7 @@ module _ (l₀ e : List ℕ) (c : State) (marks : List ℕ) (m n : ℕ) where
       back = here (some (termsView l′ (c .terms))) (came .is ∙ ap some (sym (came .becomes .is)))
 
       like : Like (termsView l (c .terms)) (termsView l′ (c .terms))
-      like = undone-stays (drop first (table (traceAt marks) joins)) (termsView l (c .terms)) (termsView l′ (c .terms)) (a .markable .tabled .forest .closed) (came .is ∙ ap some (sym (came .becomes .is))) .like
+      like = undone-stays (drop first (table (traceAt marks) joins)) (termsView l (c .terms)) (termsView l′ (c .terms)) (a .markable .tabled .forest) (came .is ∙ ap some (sym (came .becomes .is))) .like
 
       pub auditing-asks : Markable l′ e c
       auditing-asks = record {
@@ -257,12 +257,15 @@ module _ (l e : List ℕ) (c : State) (marks : List ℕ) (d : Standing) where
       unfolding all table
       marks-none k = tables-are true (sym (ap (λ (m : ℕ). all (each whole) (table (λ i. getD marks i 0) m)) k))
 
-      module _ (k : List ℕ) (v : termsView k (c .terms) ≡ termsView l (c .terms)) where
-        pub copy-markable : Markable l e c → length k ≡ termWords termLimit → Markable k e c
-        copy-markable h w = record {
+      module _ {k : List ℕ} (w : Copied l k (c .terms)) where
+        v : termsView k (c .terms) ≡ termsView l (c .terms)
+        v = w .is
+
+        pub copy-markable : Markable l e c → Markable k e c
+        copy-markable h = record {
           tabled = record {
             few = h .tabled .few;
-            room = (let f = h .tabled .few in omega arith);
+            room = (let f = h .tabled .few in let g = w .long in omega arith);
             classes = subst (λ (ts : List Term). Closed (classUp ts) (c .terms)) (sym v) (h .tabled .classes);
             forest = subst Forest (sym v) (h .tabled .forest);
           };
@@ -272,3 +275,11 @@ module _ (l e : List ℕ) (c : State) (marks : List ℕ) (d : Standing) where
         pub marks-last : (r : Bool) → r ≡ all (each (chained k e c)) (trail .marks) → r ≡ marksRule whole trail
         marks-last r y = tables-are r (y ∙ ap (λ (ts : List Term). all (λ n. passes (chained k e c) (tableAt n trail ts)) (trail .marks)) v
             ∙ all-same (λ n. passes (chained k e c) (tableAt n trail (whole .terms))) (each whole) (λ n. passes-alone (tableAt n trail (whole .terms)) whole (chained k e c) refl) (trail .marks))
+
+-- the rule reads the terms and the cells alone
+pub rule-alone : (m : Lent) (c : State) (x : Trail) → marksRule (storeOf m c) x ≡ marksRule (chained (m .terms) (m .cells) c) x
+unfolding marksRule
+rule-alone m c x =
+    ap (λ (b : Bool). countsRule (x .marks) (length (x .joins)) && b)
+    (all-same (λ n. passes (storeOf m c) (tableAt n x (termsView (m .terms) (c .terms)))) (λ n. passes (chained (m .terms) (m .cells) c) (tableAt n x (termsView (m .terms) (c .terms))))
+    (λ n. passes-alone (tableAt n x (termsView (m .terms) (c .terms))) (chained (m .terms) (m .cells) c) (storeOf m c) refl) (x .marks))

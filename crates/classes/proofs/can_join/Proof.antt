@@ -1,54 +1,48 @@
-use native.Mathlib.Omega.{arith}
+use Rattle.records.specs.View.{termed}
+use Rattle.classes.proofs.Refines.Calling.{cannot-one, cannot-other, cannot-kind, can-number}
 use borrow.Author.Needs.{needs}
 use Rattle.classes.proofs.can_join.Statement.{statement}
 use Rattle.classes.proofs.can_join.Tie as tie
-use Rattle.classes.proofs.can_join.Reads as reads
-use Rattle.classes.proofs.can_join.Lts as lts
-use Rattle.classes.proofs.is_reason_kind.Reads as is-reason-kind-reads
-use Rattle.records.proofs.rules.is_number.Reads as is-number-reads
-use Rattle.records.proofs.rules.is_string.Reads as is-string-reads
-
--- src/lib.rt:142:9
-is-string-requires : tie.Need-is-string-requires
-is-string-requires c κs = search needs
-
--- src/lib.rt:143:9
-returns : tie.Need-returns
-returns c = search needs
-
--- src/lib.rt:145:9
-is-string-requires-2 : tie.Need-is-string-requires-2
-is-string-requires-2 c κs = search needs
-
--- src/lib.rt:146:9
-returns-2 : tie.Need-returns-2
-returns-2 c = search needs
-
--- src/lib.rt:148:9
-is-reason-kind-requires : tie.Need-is-reason-kind-requires
-is-reason-kind-requires c κs = search needs
-
--- src/lib.rt:149:9
-returns-3 : tie.Need-returns-3
-returns-3 c = search needs
-
--- src/lib.rt:151:5
-is-number-requires : tie.Need-is-number-requires
-is-number-requires c κs = search needs
-
--- src/lib.rt:139:1
-returns-4 : tie.Need-returns-4
-returns-4 c = search needs
 
 pub can-join-spec : {M : Type 1} → statement M
 can-join-spec =
     tie.close
     (tie.spec
-    is-string-requires
-    returns
-    is-string-requires-2
-    returns-2
-    is-reason-kind-requires
-    returns-3
-    is-number-requires
-    returns-4)
+    -- is-string-requires
+    (λ c κs. search needs)
+    -- returns
+    (λ c.
+    let at-start = c .before .before .before in
+    cannot-one (termed (at-start .args .terms .now) (at-start .args .c)) (at-start .args .a) (at-start .args .b) (at-start .args .kind) (at-start .args .number) _
+    (c .before .is-string .ensures) (c .if1 .taken))
+    -- is-string-requires-2
+    (λ c κs. search needs)
+    -- returns-2
+    (λ c.
+    let at-is-string = c .before .before .before in
+    let at-start = at-is-string .before .before in
+    cannot-other (termed (at-start .args .terms .now) (at-start .args .c)) (at-start .args .a) (at-start .args .b) (at-start .args .kind) (at-start .args .number) _
+    (at-is-string .is-string .ensures) (c .before .before .if1 .left) _ (c .before .is-string2 .ensures) (c .if2 .taken))
+    -- is-reason-kind-requires
+    (λ c κs. search needs)
+    -- returns-3
+    (λ c.
+    let at-is-string2 = c .before .before .before in
+    let at-if1 = at-is-string2 .before in
+    let at-is-string = at-if1 .before in
+    let at-start = at-is-string .before .before in
+    cannot-kind (termed (at-start .args .terms .now) (at-start .args .c)) (at-start .args .a) (at-start .args .b) (at-start .args .kind) (at-start .args .number) _
+    (at-is-string .is-string .ensures) (at-if1 .if1 .left) _ (at-is-string2 .is-string2 .ensures) (c .before .before .if2 .left) _ (c .before .is-reason-kind .ensures)
+    (c .if3 .taken))
+    -- is-number-requires
+    (λ c κs. search needs)
+    -- returns-4
+    (λ c.
+    let at-if2 = c .before .before .before in
+    let at-is-string2 = at-if2 .before in
+    let at-if1 = at-is-string2 .before in
+    let at-is-string = at-if1 .before in
+    let at-start = at-is-string .before .before in
+    can-number (termed (at-start .args .terms .now) (at-start .args .c)) (at-start .args .a) (at-start .args .b) (at-start .args .kind) (at-start .args .number) _
+    (at-is-string .is-string .ensures) (at-if1 .if1 .left) _ (at-is-string2 .is-string2 .ensures) (at-if2 .if2 .left) _ (c .before .before .is-reason-kind .ensures)
+    (c .before .if3 .left) _ (c .is-number .ensures)))

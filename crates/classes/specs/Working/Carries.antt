@@ -74,6 +74,11 @@ pub record Markable (l e : List ℕ) (c : State) : Type 0 where
   pub tabled : Tabled l (c .terms)
   pub parted : (t : ℕ) → kind (chained l e c) t ≡ 3 → Every (λ x. within (c .terms) x ≡ true) (parts (chained l e c) t)
 
+-- the n terms in a table that holds any number of them
+pub record Copied (l k : List ℕ) (n : ℕ) : Type 0 where
+  pub is : termsView k n ≡ termsView l n
+  pub long : length k ≡ termWords termLimit
+
 -- counts within their limits, of words that are all there
 pub record TrailSized (l : List ℕ) (d : Standing) : Type 0 where
   pub fewMarks : d .marks ≤ markLimit

@@ -7,7 +7,7 @@ use mathlib.Core.Option.{Option, none, some}
 use Prim.Native.Nat.{ℕ, suc, _+_, _*_, _≤_, _<_}
 use native.Mathlib.Numerals.{add-one}
 use native.Mathlib.Omega.{arith}
-use lib.ListN.{length, drop, getD, set, length-set, length-append}
+use lib.ListN.{length, drop, getD, set, length-set, length-append, drop-of-length-le}
 use lib.Seq.{drop-cons, getD-set-same, getD-set-other}
 use lib.Dec.{eqb, ltb}
 use types.Run.{OneOf}
@@ -37,7 +37,6 @@ use Rattle.normalize.proofs.Rewritten.{Rewritten}
 use Rattle.normalize.proofs.Formed.{form-ends}
 use Rattle.normalize.proofs.Deep.{expand-ends}
 use Rattle.normalize.proofs.Carried.{Carried, carried-none, carried-ready, carried-kept, carried-then}
-use Rattle.normalize.proofs.Represents.{drop-past}
 use Rattle.normalize.proofs.Candidates.{candidates-later}
 use Rattle.normalize.proofs.Refines.Words.{words-length, words-none, words-put}
 
@@ -375,7 +374,7 @@ walking-done list n {i = i} g h = record {
   kept = g .carried .kept;
   is = λ met z. record {
     met = g .rest met z .now;
-    is = sym (rw (drop-past (firstWords list n) i (let y = words-length list n in omega arith)) at (g .rest met z .is));
+    is = sym (rw (drop-of-length-le (firstWords list n) {i = i} (let y = words-length list n in omega arith)) at (g .rest met z .is));
     tells = λ j f y. g .rest met z .tells;
   };
 }

@@ -2,36 +2,36 @@
 use mathlib.Core.Path.{_≡_, refl, sym, ap, subst, _∙_}
 use mathlib.Core.Bool.{true, _&&_}
 use mathlib.Core.List.{List, [], _∷_, reverse}
-use Prim.Native.Nat.{ℕ, suc, _+_, _-_, _≤_, _<_}
+use Prim.Native.Nat.{ℕ, suc, _+_, _≤_, _<_}
 use native.Mathlib.Numerals.{add-one}
 use native.Mathlib.Omega.{arith}
-use lib.ListN.{length, drop, getD, length-reverse}
+use lib.ListN.{length, drop, getD, drop-of-length-le}
 use lib.Seq.{drop-cons}
 use lib.Dec.{eqb}
 use borrow.Author.Tests.{eq-eqb, ne-eqb}
 use Rattle.records.specs.declared.State.{State}
 use Rattle.records.specs.declared.Added.{Added}
 use Rattle.records.specs.declared.Added.the-variants.{Counts, Refused}
-use Rattle.records.specs.Lists.{if_then_else_, table, none-left}
-use Rattle.records.specs.Store.{Term, Store, Out, ok, stop, andThen, _>>=_, give, count, within, termIn, rootIn, classUp, isString}
+use Rattle.records.specs.Lists.{if_then_else_}
+use Rattle.records.specs.Store.{Store, Out, ok, stop, Work, andThen, _>>=_, give, within, classUp, isString}
 use Rattle.records.specs.View.{Lent, storeOf, termsView, termLimit}
 use Rattle.records.specs.Working.Audited.{Ready, Closed}
 use Rattle.records.specs.Calls.{Working, added}
-use Rattle.records.proofs.Lists.{both-left, both-right, both-true, all-every, every-all, every-map, every-at, within-low, within-high, table-length}
-use Rattle.records.proofs.Grown.{string-term, string-here, Strings, strings-later}
-use Rattle.records.proofs.Climbs.{root-term, view-count, term-within, ready-roots}
+use Rattle.records.proofs.Lists.{both-left, both-right, both-true, every-at}
+use Rattle.records.proofs.Grown.{string-term, Strings, strings-later}
+use Rattle.records.proofs.Climbs.{view-count, term-within, ready-roots}
 use Rattle.engine.specs.Explain.{explain, explainArguments}
 use Rattle.normalize.specs.declared.Form.{Form}
 use Rattle.normalize.specs.declared.Form.the-variants as form
 use Rattle.normalize.specs.Normalize.{representative, substitute, push, pushForms}
-use Rattle.normalize.specs.Working.Nodes.{NodeOf, nodeAt}
+use Rattle.normalize.specs.Working.Nodes.{nodeAt}
 use Rattle.normalize.specs.Working.Pushes.{pushed, Candidates, cite, pushFor}
 use Rattle.normalize.specs.Calls.{firstWords}
-use Rattle.normalize.proofs.Represents.{drop-past}
-use Rattle.normalize.proofs.Candidates.{later-strings, candidates-later, later-rep}
-use Rattle.records.proofs.Later.{Later}
+use Rattle.normalize.proofs.Candidates.{later-strings, later-rep}
+use Rattle.normalize.proofs.Ends.{Ends}
 use Rattle.normalize.proofs.Formed.{Stands, representative-stands, replace-ends, atom-ends, Pushed}
 use Rattle.normalize.proofs.Carried.{Carried, carried-none, carried-ready, carried-kept, carried-then}
+use Rattle.normalize.proofs.Refines.Heaping.{Heaping, heaping-end, heaping-turn, heaping-stopped}
 
 -- CITING
 
@@ -71,17 +71,6 @@ module _ {m m′ : Lent} {c : State} (ready : Ready m c) (a r : ℕ) (x : Added)
 
 -- THE LOOP
 
--- what is left of the atoms, after the list so far, is what is asked
-pub record Going (m₀ : Lent) (c : State) (cs flat : List ℕ) (m : Lent) (d : State) (list : List ℕ) (count i : ℕ) : Type 0 where
-  pub carried : Carried m₀ c m d
-  pub out : Strings (storeOf m d) (reverse (reverse (firstWords list count)))
-  pub rest : pushForms cs (drop i flat) (reverse (firstWords list count)) (storeOf m d) ≡ pushForms cs flat [] (storeOf m₀ c)
-  pub low : count ≤ i
-
-pub going-none : {m : Lent} {c : State} (cs flat list : List ℕ) → Ready m c → Going m c cs flat m c list 0 0
-unfolding table
-going-none cs flat list r = record { carried = carried-none r; out = none-left; rest = refl; low = omega arith }
-
 -- an atom replaced and pushed, in two ways of saying it
 pub for-is : (cs : List ℕ) (a : ℕ) (out : List ℕ) (s : Store) → (substitute cs a >>= (λ r. push r out)) s ≡ pushFor a (representative s cs a) out s
 unfolding substitute pushFor cite
@@ -91,13 +80,20 @@ for-is cs a out s = go ((if eqb (representative s cs a) a then give tt else expl
     go (ok s₁ u) = refl
     go (stop n) = refl
 
-module _ {m₀ m : Lent} {c d : State} {cs flat list : List ℕ} {count i : ℕ} (g : Going m₀ c cs flat m d list count i) (ready : Ready m₀ c) (table : List ℕ) (k : Candidates (storeOf m₀ c) cs table)
+-- the work that is left after i atoms
+abbrev pub formsLeft : List ℕ → List ℕ → ℕ → List ℕ → Work (List ℕ)
+formsLeft cs flat i out = pushForms cs (drop i flat) out
+
+module _ {m₀ m : Lent} {c d : State} {cs flat list : List ℕ} {count i : ℕ} (g : Heaping (formsLeft cs flat) m₀ c m d list count i) (ready : Ready m₀ c) (table : List ℕ) (k : Candidates (storeOf m₀ c) cs table)
     (atoms : Strings (storeOf m₀ c) flat) (h : i < length flat) where
   abbrev st : Store
   st = storeOf m d
 
   abbrev a : ℕ
   a = getD flat i 0
+
+  abbrev out : List ℕ
+  out = reverse (firstWords list count)
 
   pub now-ready : Ready m d
   now-ready = carried-ready (g .carried) ready
@@ -117,41 +113,23 @@ module _ {m₀ m : Lent} {c d : State} {cs flat list : List ℕ} {count i : ℕ}
         let s = representative-stands st cs a (later-strings k (g .carried .later)) string in
         subst (λ (x : ℕ). explainArguments a x st ≡ true) (sym rep-is) (both-true _ _ (both-true _ _ string (s .string)) (s .class))
 
-    module _ {m′ : Lent} (list′ : List ℕ) (x : Form) (p : length (m′ .terms) ≡ length (m .terms)) (q : length (m′ .cells) ≡ length (m .cells))
-        (w : Working (pushFor a r (reverse (firstWords list count))) m m′ d (pushed x m′ list′)) where
-      abbrev out : List ℕ
-      out = reverse (firstWords list count)
+    atom-is : (substitute cs a >>= (λ u. push u out)) st ≡ pushFor a r out st
+    atom-is = for-is cs a out st ∙ ap (λ (u : ℕ). pushFor a u out st) (sym rep-is)
 
-      atom-says : (y : Form) → x ≡ y → (substitute cs a >>= (λ u. push u out)) st ≡ pushed y m′ list′
-      atom-says y z = for-is cs a out st ∙ ap (λ (u : ℕ). pushFor a u out st) (sym rep-is) ∙ w .says ∙ ap (λ (v : Form). pushed v m′ list′) z
+    next : formsLeft cs flat i out st ≡ andThen (formsLeft cs flat (i + 1)) (pushFor a r out st)
+    unfolding pushForms
+    next = rw (drop-cons flat i 0 h, add-one i) (ap (andThen (pushForms cs (drop (suc i) flat))) atom-is)
 
-      rest-is : (y : Form) → x ≡ y → andThen (pushForms cs (drop (suc i) flat)) (pushed y m′ list′) ≡ pushForms cs flat [] (storeOf m₀ c)
-      unfolding pushForms
-      rest-is y z = ap (andThen (pushForms cs (drop (suc i) flat))) (sym (atom-says y z)) ∙ (rw (drop-cons flat i 0 h) at (g .rest))
+    atom-pushed : Ends (λ s′ out′. Pushed st s′ (a ∷ []) out out′) (pushFor a r out st)
+    atom-pushed = subst (Ends (λ s′ out′. Pushed st s′ (a ∷ []) out out′)) atom-is (atom-ends cs a out st (g .carried .later .audited) (later-strings k (g .carried .later)) string (g .strings))
 
-      after : (n : ℕ) (d′ : State) → x ≡ form.List n d′ → Pushed st (storeOf m′ d′) (a ∷ []) out (reverse (firstWords list′ n))
-      after n d′ z =
-          atom-ends cs a out st (g .carried .later .audited) (later-strings k (g .carried .later)) string (g .out) .given (storeOf m′ d′) (reverse (firstWords list′ n)) (atom-says (form.List n d′) z)
+    module _ {m′ : Lent} (list′ : List ℕ) (x : Form) (p : length (m′ .terms) ≡ length (m .terms)) (q : length (m′ .cells) ≡ length (m .cells)) (w : Working (pushFor a r out) m m′ d (pushed x m′ list′)) where
+      pub forms-turn : (n : ℕ) (d′ : State) → x ≡ form.List n d′ → Heaping (formsLeft cs flat) m₀ c m′ d′ list′ n (i + 1)
+      forms-turn = heaping-turn (formsLeft cs flat) g (pushFor a r out) a next atom-pushed list′ x p q w
 
-      pub going-turn : (n : ℕ) (d′ : State) → x ≡ form.List n d′ → Going m₀ c cs flat m′ d′ list′ n (i + 1)
-      going-turn n d′ z =
-          let f = after n d′ z in
-          let l = f .long in
-          let u = length-reverse (firstWords list′ n) in
-          let v = table-length (λ j. getD list′ j 0) n in
-          let u′ = length-reverse (firstWords list count) in
-          let v′ = table-length (λ j. getD list j 0) count in
-          let b = g .low in
-          record {
-            carried = carried-then (g .carried) m′ d′ (w .kept) (f .list .later) p q;
-            out = f .list .strings;
-            rest = rw add-one (rest-is (form.List n d′) z);
-            low = omega arith;
-          }
+      pub forms-stopped : (j : ℕ) → x ≡ form.Refused j → Working (pushForms cs flat []) m₀ m′ c (stop j)
+      forms-stopped = heaping-stopped (formsLeft cs flat) g (pushFor a r out) a next atom-pushed list′ x p q w
 
-      pub going-stopped : (j : ℕ) → x ≡ form.Refused j → Working (pushForms cs flat []) m₀ m′ c (stop j)
-      going-stopped j z = record { says = sym (rest-is (form.Refused j) z); kept = carried-kept (g .carried) m′ (w .kept) }
-
-pub going-done : {m₀ m : Lent} {c d : State} {cs flat list : List ℕ} {count i : ℕ} → Going m₀ c cs flat m d list count i → length flat ≤ i → Working (pushForms cs flat []) m₀ m c (ok (storeOf m d) (reverse (firstWords list count)))
+pub forms-done : (cs flat : List ℕ) {m₀ m : Lent} {c d : State} {list : List ℕ} {count i : ℕ} → Heaping (formsLeft cs flat) m₀ c m d list count i → length flat ≤ i → Working (pushForms cs flat []) m₀ m c (ok (storeOf m d) (reverse (firstWords list count)))
 unfolding pushForms
-going-done {flat = flat} {i = i} g h = record { says = sym (rw (drop-past flat i h) at (g .rest)); kept = g .carried .kept }
+forms-done cs flat g h = heaping-end (formsLeft cs flat) g (rw (drop-of-length-le flat h))

@@ -1,5 +1,5 @@
 -- The ways of a round: its list joined and compared, another round or none; and of the deep form.
-use mathlib.Core.Path.{_≡_, refl, sym, ap, subst, _∙_}
+use mathlib.Core.Path.{_≡_, refl, sym, ap, _∙_}
 use mathlib.Core.Bool.{Bool, true, false, not}
 use mathlib.Core.List.{List, [], _∷_, _++_, reverse, reverse-reverse}
 use mathlib.Core.Logic.{⊎-elim}
@@ -8,14 +8,14 @@ use Prim.Native.Nat.{ℕ, suc, _+_, _-_, _≤_, _<_}
 use native.Mathlib.Nat.{zero-add}
 use native.Mathlib.Numerals.{add-one}
 use native.Mathlib.Omega.{arith}
-use lib.ListN.{length, drop, getD, length-reverse}
+use lib.ListN.{length, drop, getD, drop-of-length-le}
 use lib.Seq.{drop-cons}
 use lib.Dec.{ltb}
 use types.Run.{OneOf}
 use denote.Enum.Declared.{tagOf}
 use borrow.Author.Tests.{lt-ltb, le-ltb, not-true, not-false}
 use Rattle.records.specs.declared.State.{State}
-use Rattle.records.specs.Lists.{if_then_else_, all, any, table, sameWord, none-left}
+use Rattle.records.specs.Lists.{if_then_else_, all, any, table, sameWord}
 use Rattle.records.specs.Store.{Store, Out, ok, stop, Work, andThen, give, isString}
 use Rattle.records.specs.View.{Lent, storeOf}
 use Rattle.records.specs.Working.Audited.{Ready}
@@ -32,80 +32,55 @@ use Rattle.normalize.specs.Normalize.{deepLimit, normalForm, push, pushA
 use Rattle.normalize.specs.Working.Pushes.{pushed, Candidates}
 use Rattle.normalize.specs.Calls.{firstWords, formed, deepened}
 use Rattle.normalize.specs.Working.Deeps.{opensIn, Met, MetTable, expanded, Expands, settled, settling, Settles, roundThen, TurnedTo, Turns}
-use Rattle.records.proofs.Grown.{Strings, strings-later}
+use Rattle.records.proofs.Grown.{strings-later}
+use Rattle.normalize.proofs.Ends.{Ends}
 use Rattle.normalize.proofs.Formed.{Pushed, push-ends, Formed, form-ends}
 use Rattle.normalize.proofs.Deep.{Answers, rounds-end}
 use Rattle.normalize.proofs.Carried.{Carried, carried-none, carried-ready, carried-kept, carried-then}
-use Rattle.normalize.proofs.Represents.{drop-past}
 use Rattle.normalize.proofs.Candidates.{candidates-later}
 use Rattle.normalize.proofs.Refines.Words.{words-length, words-none}
+use Rattle.normalize.proofs.Refines.Heaping.{Heaping, heaping-end, heaping-turn, heaping-stopped}
 use Rattle.normalize.proofs.Refines.Expanding.{met-none}
 
 -- JOINING A ROUND'S LIST
 
-pub record Heaping (m₀ : Lent) (c : State) (l : List ℕ) (m : Lent) (d : State) (out : List ℕ) (k i : ℕ) : Type 0 where
-  pub carried : Carried m₀ c m d
-  pub strings : Strings (storeOf m d) (reverse (reverse (firstWords out k)))
-  pub rest : pushAll (drop i l) (reverse (firstWords out k)) (storeOf m d) ≡ pushAll l [] (storeOf m₀ c)
-  pub low : k ≤ i
+-- the work that is left after i atoms of the first n words
+abbrev pub allLeft : List ℕ → ℕ → ℕ → List ℕ → Work (List ℕ)
+allLeft next n i out = pushAll (drop i (firstWords next n)) out
 
-pub heaping-none : {m : Lent} {c : State} (l out : List ℕ) → Ready m c → Heaping m c l m c out 0 0
-unfolding table
-heaping-none l out r = record { carried = carried-none r; strings = none-left; rest = refl; low = omega arith }
-
-module _ (next : List ℕ) (n : ℕ) {m₀ m : Lent} {c d : State} {out : List ℕ} {k i : ℕ} (g : Heaping m₀ c (firstWords next n) m d out k i) (ready : Ready m₀ c) (good : all (isString (storeOf m₀ c)) (firstWords next n) ≡ true) (h : i < n) where
+module _ (next : List ℕ) (n : ℕ) {m₀ m : Lent} {c d : State} {out : List ℕ} {k i : ℕ} (g : Heaping (allLeft next n) m₀ c m d out k i) where
   abbrev at : ℕ
   at = getD next i 0
 
   abbrev so : List ℕ
   so = reverse (firstWords out k)
 
-  pub heap-ready : Ready m d
-  heap-ready = carried-ready (g .carried) ready
+  module _ (good : all (isString (storeOf m₀ c)) (firstWords next n) ≡ true) (h : i < n) where
+    at-is : getD (firstWords next n) i 0 ≡ at
+    at-is = table-at (λ j. getD next j 0) n i 0 h
 
-  at-is : getD (firstWords next n) i 0 ≡ at
-  at-is = table-at (λ j. getD next j 0) n i 0 h
+    inside : i < length (firstWords next n)
+    inside = let z = words-length next n in omega arith
 
-  inside : i < length (firstWords next n)
-  inside = let z = words-length next n in omega arith
-
-  left-is : drop i (firstWords next n) ≡ at ∷ drop (suc i) (firstWords next n)
-  left-is = drop-cons (firstWords next n) i 0 inside ∙ ap (λ (x : ℕ). x ∷ drop (suc i) (firstWords next n)) at-is
-
-  at-string : isString (storeOf m d) at ≡ true
-  at-string = subst (λ (x : ℕ). isString (storeOf m d) x ≡ true) at-is (every-at (firstWords next n) i 0 (strings-later (g .carried .later .grown) (all-every (isString (storeOf m₀ c)) _ good)) inside)
-
-  module _ {m′ : Lent} (out′ : List ℕ) (x : Form) (p : length (m′ .terms) ≡ length (m .terms)) (q : length (m′ .cells) ≡ length (m .cells)) (w : Working (push at so) m m′ d (pushed x m′ out′)) where
-    says : (y : Form) → x ≡ y → push at so (storeOf m d) ≡ pushed y m′ out′
-    says y e = w .says ∙ ap (λ (v : Form). pushed v m′ out′) e
-
-    rest-is : (y : Form) → x ≡ y → andThen (pushAll (drop (suc i) (firstWords next n))) (pushed y m′ out′) ≡ pushAll (firstWords next n) [] (storeOf m₀ c)
+    all-next : allLeft next n i so (storeOf m d) ≡ andThen (allLeft next n (i + 1)) (push at so (storeOf m d))
     unfolding pushAll
-    rest-is y e = ap (andThen (pushAll (drop (suc i) (firstWords next n)))) (sym (says y e)) ∙ (rw left-is at (g .rest))
+    all-next = rw (drop-cons (firstWords next n) i 0 inside, at-is, add-one i)
 
-    pub heaping-turn : (j : ℕ) (d′ : State) → x ≡ form.List j d′ → Heaping m₀ c (firstWords next n) m′ d′ out′ j (i + 1)
-    heaping-turn j d′ e =
-        let f : Pushed (storeOf m d) (storeOf m′ d′) (at ∷ []) so (reverse (firstWords out′ j)) =
-        push-ends at so (storeOf m d) (g .carried .later .audited) at-string (g .strings) .given (storeOf m′ d′) (reverse (firstWords out′ j)) (says (form.List j d′) e) in
-        let l = f .long in
-        let u = length-reverse (firstWords out′ j) in
-        let v = words-length out′ j in
-        let u′ = length-reverse (firstWords out k) in
-        let v′ = words-length out k in
-        let b = g .low in
-        record {
-          carried = carried-then (g .carried) m′ d′ (w .kept) (f .list .later) p q;
-          strings = f .list .strings;
-          rest = rw add-one (rest-is (form.List j d′) e);
-          low = omega arith;
-        }
+    at-pushed : Ends (λ s′ out′. Pushed (storeOf m d) s′ (at ∷ []) so out′) (push at so (storeOf m d))
+    at-pushed =
+        let s = every-at (firstWords next n) i 0 (strings-later (g .carried .later .grown) (all-every (isString (storeOf m₀ c)) _ good)) inside in
+        push-ends at so (storeOf m d) (g .carried .later .audited) (rw at-is at s) (g .strings)
 
-    pub heaping-stopped : (j : ℕ) → x ≡ form.Refused j → Working (pushAll (firstWords next n) []) m₀ m′ c (stop j)
-    heaping-stopped j e = record { says = sym (rest-is (form.Refused j) e); kept = carried-kept (g .carried) m′ (w .kept) }
+    module _ {m′ : Lent} (out′ : List ℕ) (x : Form) (p : length (m′ .terms) ≡ length (m .terms)) (q : length (m′ .cells) ≡ length (m .cells)) (w : Working (push at so) m m′ d (pushed x m′ out′)) where
+      pub all-turn : (j : ℕ) (d′ : State) → x ≡ form.List j d′ → Heaping (allLeft next n) m₀ c m′ d′ out′ j (i + 1)
+      all-turn = heaping-turn (allLeft next n) g (push at so) at all-next at-pushed out′ x p q w
 
-pub heaping-done : (next : List ℕ) (n : ℕ) {m₀ m : Lent} {c d : State} {out : List ℕ} {k i : ℕ} → Heaping m₀ c (firstWords next n) m d out k i → n ≤ i → Working (pushAll (firstWords next n) []) m₀ m c (ok (storeOf m d) (reverse (firstWords out k)))
-unfolding pushAll
-heaping-done next n {i = i} g h = record { says = sym (rw (drop-past (firstWords next n) i (let z = words-length next n in omega arith)) at (g .rest)); kept = g .carried .kept }
+      pub all-stopped : (j : ℕ) → x ≡ form.Refused j → Working (pushAll (firstWords next n) []) m₀ m′ c (stop j)
+      all-stopped = heaping-stopped (allLeft next n) g (push at so) at all-next at-pushed out′ x p q w
+
+  pub all-done : n ≤ i → Working (pushAll (firstWords next n) []) m₀ m c (ok (storeOf m d) so)
+  unfolding pushAll
+  all-done h = heaping-end (allLeft next n) g (rw (drop-of-length-le (firstWords next n) {i = i} (let z = words-length next n in omega arith)))
 
 -- THE END OF A ROUND
 

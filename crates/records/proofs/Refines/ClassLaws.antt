@@ -12,11 +12,11 @@ use Rattle.records.specs.declared.State.{State}
 use Rattle.records.specs.Lists.{if_then_else_}
 use Rattle.records.specs.Store.{Store, term, count, isTerm, isString, within, climb, classUp, forestUp, root, top, sameClass, sameTree}
 use Rattle.records.specs.Rules.{eachTerm, parentsRule, endsRule, alikeRule, aloneRule, isNumber, edgeLabel, labelRule, classesRule}
-use Rattle.records.specs.Working.Leaves.{alikeAt, aloneAt, classTest}
+use Rattle.records.specs.Working.Leaves.{parentOf, upIn, alikeAt, aloneAt, classTest}
 use Rattle.records.specs.View.{Lent, storeOf, termsView, termed, termAt}
 use Rattle.records.specs.Working.Audited.{Closed, Rooted}
 use Rattle.records.proofs.Lists.{both-left, both-right, both-true, right-false, right-falsum, or-stop, or-next, either, or-left, or-right, decide, clash, same-test, and-stop, and-next, failed, passed}
-use Rattle.records.proofs.Climbs.{climb-up, climb-stays, climb-within, rule-at, rule-all, parents-roots, parents-tops, view-count, view-term, view-class, view-forest}
+use Rattle.records.proofs.Climbs.{climb-up, climb-stays, climb-within, rule-at, rule-all, parents-up, view-count, view-term, view-up, view-class, view-forest}
 
 -- what a term's tests say of its roots
 module _ (s : Store) (t : ℕ) where
@@ -36,25 +36,20 @@ module _ (s : Store) (t : ℕ) where
   unfolding alikeAt
   top-alike h = eqb-true _ _ (both-right (eqb (root s (top s t)) (root s t)) _ h)
 
-module _ (s : Store) (roots : Closed (classUp (s .terms)) (count s)) (tops : Closed (forestUp (s .terms)) (count s))
-    (ends : (t : ℕ) → isTerm s t ≡ true → endsRule s t ≡ true) where
-  pub class-end : (t : ℕ) → isTerm s t ≡ true → term s (root s t) .classParent ≡ root s t
-  class-end t w = root-ends s t (ends t w)
+module _ (s : Store) (ups : (forest : Bool) → Closed (upIn forest (s .terms)) (count s)) (ends : (t : ℕ) → isTerm s t ≡ true → endsRule s t ≡ true) where
+  -- where the parents of t in the forest or in the class end
+  abbrev end : Bool → ℕ → ℕ
+  end forest t = climb (upIn forest (s .terms)) (count s) t
 
-  pub forest-end : (t : ℕ) → isTerm s t ≡ true → term s (top s t) .forestParent ≡ top s t
-  forest-end t w = top-ends s t (ends t w)
+  end-term : (forest : Bool) (t : ℕ) → isTerm s t ≡ true → isTerm s (end forest t) ≡ true
+  end-term forest t w = climb-within (upIn forest (s .terms)) (count s) (count s) t (ups forest) w
 
-  top-term : (t : ℕ) → isTerm s t ≡ true → isTerm s (top s t) ≡ true
-  top-term t w = climb-within (forestUp (s .terms)) (count s) (count s) t tops w
+  end-stays : (forest : Bool) (t : ℕ) → isTerm s t ≡ true → upIn forest (s .terms) (end forest t) ≡ end forest t
+  end-stays true t w = top-ends s t (ends t w)
+  end-stays false t w = root-ends s t (ends t w)
 
-  root-term : (t : ℕ) → isTerm s t ≡ true → isTerm s (root s t) ≡ true
-  root-term t w = climb-within (classUp (s .terms)) (count s) (count s) t roots w
-
-  root-root : (t : ℕ) → isTerm s t ≡ true → root s (root s t) ≡ root s t
-  root-root t w = climb-stays (classUp (s .terms)) (count s) (root s t) (class-end t w)
-
-  top-top : (t : ℕ) → isTerm s t ≡ true → top s (top s t) ≡ top s t
-  top-top t w = climb-stays (forestUp (s .terms)) (count s) (top s t) (forest-end t w)
+  end-end : (forest : Bool) (t : ℕ) → isTerm s t ≡ true → end forest (end forest t) ≡ end forest t
+  end-end forest t w = climb-stays (upIn forest (s .terms)) (count s) (end forest t) (end-stays forest t w)
 
   -- THE DIVISION
 
@@ -79,9 +74,9 @@ module _ (s : Store) (roots : Closed (classUp (s .terms)) (count s)) (tops : Clo
   alike-one : ((t u : ℕ) → isTerm s t ≡ true → isTerm s u ≡ true → alikeRule s t u ≡ true) → (t : ℕ) → isTerm s t ≡ true → alikeAt s t ≡ true
   unfolding alikeAt
   alike-one f t w =
-      let a = alike-fact (top s t) t (f (top s t) t (top-term t w) w) in
-      let b = alike-fact (root s t) t (f (root s t) t (root-term t w) w) in
-      both-true _ _ (a ∙ eq-eqb _ _ (top-top t w)) (sym b ∙ eq-eqb _ _ (root-root t w))
+      let a = alike-fact (top s t) t (f (top s t) t (end-term true t w) w) in
+      let b = alike-fact (root s t) t (f (root s t) t (end-term false t w) w) in
+      both-true _ _ (a ∙ eq-eqb _ _ (end-end true t w)) (sym b ∙ eq-eqb _ _ (end-end false t w))
 
   module _ (f : (t : ℕ) → isTerm s t ≡ true → alikeAt s t ≡ true) where
     alike-two : (t u : ℕ) → isTerm s t ≡ true → isTerm s u ≡ true → alikeRule s t u ≡ true
@@ -100,9 +95,9 @@ module _ (s : Store) (roots : Closed (classUp (s .terms)) (count s)) (tops : Clo
   unfolding aloneAt
   alone-one f t w = decide (eqb (term s t .classParent) t) (λ h. or-left _ _ h) (λ h.
       let p = term s t .classParent in
-      let v = roots .stays t w in
+      let v = ups false .stays t w in
       let d = eqb-false p t h in
-      let e = climb-up (classUp (s .terms)) (count s) t (class-end t w) in
+      let e = climb-up (classUp (s .terms)) (count s) t (end-stays false t w) in
       or-right (eqb (term s t .classParent) t) _ (both-true _ _ (alone-fact t p (f t p w v) (λ z. d (sym z)) (sym e)) (alone-fact p t (f p t v w) d e)))
 
   module _ (f : (t : ℕ) → isTerm s t ≡ true → aloneAt s t ≡ true) where
@@ -119,7 +114,7 @@ module _ (s : Store) (roots : Closed (classUp (s .terms)) (count s)) (tops : Clo
     unfolding climb
     alone-climb zero u w n = refl
     alone-climb (suc k) u w n =
-        let h = alone-climb k (term s u .classParent) (roots .stays u w) n in
+        let h = alone-climb k (term s u .classParent) (ups false .stays u w) n in
         h ∙ alone-below u w (rw h at n)
 
     alone-two : (t u : ℕ) → isTerm s t ≡ true → isTerm s u ≡ true → aloneRule s t u ≡ true
@@ -151,12 +146,6 @@ pub of-four : (a b c d : Bool) → Four a b c d → (a && b && c && d) ≡ true
 of-four a b c d f = both-true _ _ (both-true _ _ (both-true _ _ (f .one) (f .two)) (f .three)) (f .four)
 
 module _ (s : Store) (h : eachTerm s (parentsRule s) ≡ true) where
-  roots : Closed (classUp (s .terms)) (count s)
-  roots = parents-roots s h
-
-  tops : Closed (forestUp (s .terms)) (count s)
-  tops = parents-tops s h
-
   test-at : eachTerm s (classTest s) ≡ true → (t : ℕ) → isTerm s t ≡ true → Four (endsRule s t) (alikeAt s t) (labelRule s t) (aloneAt s t)
   unfolding classTest
   test-at p t w = four-of _ _ _ _ (rule-at s (classTest s) p t w)
@@ -166,9 +155,9 @@ module _ (s : Store) (h : eachTerm s (parentsRule s) ≡ true) where
   tests-rule p =
       let e : (t : ℕ) → isTerm s t ≡ true → endsRule s t ≡ true = λ t w. test-at p t w .one in
       both-true _ _ (both-true _ _ (both-true _ _ (both-true _ _ h (rule-all s (endsRule s) e))
-      (rule-all s (λ t. eachTerm s (alikeRule s t)) (λ t w. rule-all s (alikeRule s t) (λ u v. alike-two s roots tops e (λ x y. test-at p x y .two) t u w v))))
+      (rule-all s (λ t. eachTerm s (alikeRule s t)) (λ t w. rule-all s (alikeRule s t) (λ u v. alike-two s (parents-up s h) e (λ x y. test-at p x y .two) t u w v))))
       (rule-all s (labelRule s) (λ t w. test-at p t w .three)))
-      (rule-all s (λ t. eachTerm s (aloneRule s t)) (λ t w. rule-all s (aloneRule s t) (λ u v. alone-two s roots tops e (λ x y. test-at p x y .four) t u w v)))
+      (rule-all s (λ t. eachTerm s (aloneRule s t)) (λ t w. rule-all s (aloneRule s t) (λ u v. alone-two s (parents-up s h) e (λ x y. test-at p x y .four) t u w v)))
 
   rule-tests : classesRule s ≡ true → eachTerm s (classTest s) ≡ true
   unfolding classesRule classTest
@@ -177,9 +166,9 @@ module _ (s : Store) (h : eachTerm s (parentsRule s) ≡ true) where
       let e : (t : ℕ) → isTerm s t ≡ true → endsRule s t ≡ true = rule-at s (endsRule s) (both-right (eachTerm s (parentsRule s)) _ (f .one)) in
       rule-all s (classTest s) (λ t w. of-four _ _ _ _ (record {
         one = e t w;
-        two = alike-one s roots tops e (λ x y v z. rule-at s (alikeRule s x) (rule-at s (λ t. eachTerm s (alikeRule s t)) (f .two) x v) y z) t w;
+        two = alike-one s (parents-up s h) e (λ x y v z. rule-at s (alikeRule s x) (rule-at s (λ t. eachTerm s (alikeRule s t)) (f .two) x v) y z) t w;
         three = rule-at s (labelRule s) (f .three) t w;
-        four = alone-one s roots tops e (λ x y v z. rule-at s (aloneRule s x) (rule-at s (λ t. eachTerm s (aloneRule s t)) (f .four) x v) y z) t w;
+        four = alone-one s (parents-up s h) e (λ x y v z. rule-at s (aloneRule s x) (rule-at s (λ t. eachTerm s (aloneRule s t)) (f .four) x v) y z) t w;
       }))
 
   pub classes-is : eachTerm s (classTest s) ≡ classesRule s
@@ -197,19 +186,16 @@ seen-term l c t = ap (λ n. within n t) (view-count l (c .terms))
 
 module _ (l : List ℕ) (c : State) (t : ℕ) (w : within (c .terms) t ≡ true) where
   -- a parent that was read names a term where the number read does
-  class-term : (p : ℕ) → p ≡ termAt l t .classParent → isTerm (termed l c) (term (termed l c) t .classParent) ≡ within (c .terms) p
-  class-term p e = ap (isTerm (termed l c)) (sym (view-class l (c .terms) t p w e)) ∙ seen-term l c p
-
-  forest-term : (p : ℕ) → p ≡ termAt l t .forestParent → isTerm (termed l c) (term (termed l c) t .forestParent) ≡ within (c .terms) p
-  forest-term p e = ap (isTerm (termed l c)) (sym (view-forest l (c .terms) t p w e)) ∙ seen-term l c p
+  parent-term : (forest : Bool) (p : ℕ) → p ≡ parentOf forest (termAt l t) → isTerm (termed l c) (upIn forest (termsView l (c .terms)) t) ≡ within (c .terms) p
+  parent-term forest p e = ap (isTerm (termed l c)) (sym (view-up l (c .terms) forest t p w e)) ∙ seen-term l c p
 
   pub parents-stop : (p : ℕ) (b : Bool) → p ≡ termAt l t .classParent → b ≡ within (c .terms) p → not b ≡ true → false ≡ parentsRule (termed l c) t
   unfolding parentsRule
-  parents-stop p b e f h = and-stop _ _ (class-term p e ∙ failed _ b f h)
+  parents-stop p b e f h = and-stop _ _ (parent-term false p e ∙ failed _ b f h)
 
   pub parents-last : (p q : ℕ) (b r : Bool) → p ≡ termAt l t .classParent → b ≡ within (c .terms) p → not b ≡ false → q ≡ termAt l t .forestParent → r ≡ within (c .terms) q → r ≡ parentsRule (termed l c) t
   unfolding parentsRule
-  parents-last p q b r e f h d g = and-next _ _ r (class-term p e ∙ passed _ b f h) (g ∙ sym (forest-term q d))
+  parents-last p q b r e f h d g = and-next _ _ r (parent-term false p e ∙ passed _ b f h) (g ∙ sym (parent-term true q d))
 
   pub label-edge : (p k v : ℕ) (r : Bool) → p ≡ termAt l t .forestParent → k ≡ termAt l t .labelKind → v ≡ termAt l t .labelValue → (p ≡ t → ⊥) → r ≡ edgeLabel k v → r ≡ labelRule (termed l c) t
   unfolding labelRule
@@ -292,14 +278,11 @@ module _ (l : List ℕ) (c : State) (t r q : ℕ) (h : Rooted (termed l c) (c .t
 
 -- what the parents' rule gives the climbs
 module _ (l : List ℕ) (c : State) (h : eachTerm (termed l c) (parentsRule (termed l c)) ≡ true) where
-  pub seen-roots : Closed (classUp (termsView l (c .terms))) (c .terms)
-  seen-roots = rw (view-count l (c .terms)) at (parents-roots (termed l c) h)
-
-  pub seen-tops : Closed (forestUp (termsView l (c .terms))) (c .terms)
-  seen-tops = rw (view-count l (c .terms)) at (parents-tops (termed l c) h)
+  pub seen-up : (forest : Bool) → Closed (upIn forest (termsView l (c .terms))) (c .terms)
+  seen-up forest = rw (view-count l (c .terms)) at (parents-up (termed l c) h forest)
 
   pub seen-rooted : (t r q : ℕ) → within (c .terms) t ≡ true → r ≡ root (termed l c) t → q ≡ top (termed l c) t → Rooted (termed l c) (c .terms) t r q
-  seen-rooted t r q w e f = record { here = w; roots = seen-roots; tops = seen-tops; root-is = e; top-is = f }
+  seen-rooted t r q w e f = record { here = w; roots = seen-up false; tops = seen-up true; root-is = e; top-is = f }
 
 -- one term's tests, and the rule
 module _ (s : Store) (t : ℕ) where

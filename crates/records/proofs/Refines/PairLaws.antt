@@ -17,7 +17,7 @@ use Rattle.records.specs.Working.Leaves.{pairWords, pairMeets}
 use Rattle.records.specs.Working.Audited.{Classed, Recorded, Part, Pathed, TermPair, Congruable}
 use Rattle.records.proofs.Lists.{both-left, both-right, both-true, either, every-map, every-both, every-firsts, firsts-every, seconds-every, word-is, and-stop, and-next, or-stop, or-next, left-false, right-false, failed, passed, decide, table-length}
 use Rattle.records.proofs.Views.{kind-at, first-at, value-at, other-at, next-at}
-use Rattle.records.proofs.Climbs.{view-count, view-term, view-forest, ready-tops, within-term, term-within}
+use Rattle.records.proofs.Climbs.{view-count, view-term, view-forest, ready-up, within-term, term-within}
 use Rattle.records.proofs.Paths.{nearest-tree, path-sides}
 use Rattle.records.proofs.Refines.ClassLaws.{four-of}
 use Rattle.records.proofs.Chains.{none-by, one-by}
@@ -323,6 +323,6 @@ part-terms m c t q = every-firsts (λ p h. term-within m c (p .0) (string-term (
 -- what the audit of congruence edges may rely on, from refusals 1 to 3
 pub congruable : (m : Lent) (c : State) → c .terms ≤ termLimit → Recorded (storeOf m c) → Classed (storeOf m c) → Congruable (chained (m .terms) (m .cells) c) (c .terms)
 congruable m c h r a = record {
-  pathed = record { limited = h; tops = ready-tops m c a; ends = λ t w. a .forestEnds t (within-term m c t w) };
+  pathed = record { limited = h; tops = ready-up m c a true; ends = λ t w. a .forestEnds t (within-term m c t w) };
   parted = λ t k. part-terms m c t _ (r .partsGood t k);
 }

@@ -22,7 +22,8 @@ use Rattle.wordeq.specs.Working.Explaining.{OneClass, explainAtom}
 use Rattle.wordeq.proofs.Ends.{Ends}
 use Rattle.wordeq.proofs.Cited.{Cited, cited-none, cited-map, explain-ends}
 use Rattle.wordeq.proofs.Strip.{same-class}
-use Rattle.wordeq.proofs.Refines.Stripping.{going-string, terms-kept, drop-head}
+use Rattle.wordeq.proofs.Refines.Going.{going-pair, terms-kept}
+use Rattle.wordeq.proofs.Refines.Stripping.{drop-head}
 use Rattle.wordeq.proofs.Refines.Turning.{Turning, turning-none, turning-end, turning-refused, turning-on}
 use Rattle.records.specs.declared.Added.{Added as Answered}
 
@@ -68,39 +69,36 @@ module _ (t e h ks l : List ℕ) (v : ℕ) where
   abbrev left : State → ℕ → Work (Unit {0})
   left c i = explainAll (variables (readIn t h c) (drop i l)) v
 
-  abbrev one : ℕ → Work (Unit {0})
-  one i = explainAtom (getD l i 0) v
-
   abbrev pub Citing : State → List ℕ → State → List ℕ → ℕ → Type 0
-  Citing c = Turning t e h ks (left c) one c
+  Citing c = Turning t e h ks (left c) c
 
   pub citing-none : {c : State} {rs : List ℕ} → Ready (lent t e h rs ks) c → Citing c rs c rs 0
-  citing-none {c} d = turning-none t e h ks (left c) one d
+  citing-none {c} d = turning-none t e h ks (left c) d
 
   module _ {c d : State} {rs rs₁ : List ℕ} {i : ℕ} (g : Citing c rs d rs₁ i) where
     pub citing-end : length l ≤ i → Working (explainAll (variables (readIn t h c) l) v) (lent t e h rs ks) (lent t e h rs₁ ks) c (added (adding.Counts d) (lent t e h rs₁ ks))
     unfolding keep explainAll
-    citing-end z = turning-end t e h ks (left c) one g (rw (drop-of-length-le l z))
+    citing-end z = turning-end t e h ks (left c) g (rw (drop-of-length-le l z))
 
     module _ (b : i < length l) (pairs : Every (λ u. Pair (readIn t h c) u v) l) (classes : Every (λ u. OneClass (termsView t (c .terms)) u v) l) where
       pub citing-pair : Pair (readIn t h d) (getD l i 0) v
-      citing-pair = let p = every-at l i 0 pairs b in record { one = going-string t e h ks (g .going) _ (p .one); other = going-string t e h ks (g .going) _ (p .other) }
+      citing-pair = going-pair t e h ks (g .going) _ _ (every-at l i 0 pairs b)
 
       pub citing-class : OneClass (termsView t (d .terms)) (getD l i 0) v
       citing-class = subst (λ (x : List Term). OneClass x (getD l i 0) v) (sym (terms-kept t e h ks (g .going))) (every-at l i 0 classes b)
 
-      next : left c i (now rs₁ d) ≡ andThen (λ u. left c (i + 1)) (one i (now rs₁ d))
+      next : left c i (now rs₁ d) ≡ andThen (λ u. left c (i + 1)) (explainAtom (getD l i 0) v (now rs₁ d))
       next =
           ap (λ (x : List ℕ). explainAll (variables (readIn t h c) x) v (now rs₁ d)) (drop-head l i b)
-          ∙ atom-step (readIn t h c) (getD l i 0) v (drop (i + 1) l) (now rs₁ d) (ap (λ (x : List Term). eqb (termIn x (getD l i 0) .kind) 1) (terms-kept t e h ks (g .going))) (one i (now rs₁ d)) refl
+          ∙ atom-step (readIn t h c) (getD l i 0) v (drop (i + 1) l) (now rs₁ d) (ap (λ (x : List Term). eqb (termIn x (getD l i 0) .kind) 1) (terms-kept t e h ks (g .going))) (explainAtom (getD l i 0) v (now rs₁ d)) refl
 
       module _ (rs₂ : List ℕ) (y : Answered) (w : Working (explainAtom (getD l i 0) v) (lent t e h rs₁ ks) (lent t e h rs₂ ks) d (added y (lent t e h rs₂ ks))) where
         pub citing-refused : (n : ℕ) → y ≡ adding.Refused n → Working (explainAll (variables (readIn t h c) l) v) (lent t e h rs ks) (lent t e h rs₂ ks) c (added (adding.Refused n) (lent t e h rs₂ ks))
-        citing-refused = turning-refused t e h ks (left c) one g next rs₂ y w
+        citing-refused = turning-refused t e h ks (left c) g (explainAtom (getD l i 0) v) next rs₂ y w
 
         pub citing-turn : (d₂ : State) → y ≡ adding.Counts d₂ → Citing c rs d₂ rs₂ (i + 1)
         citing-turn d₂ j =
-            turning-on t e h ks (left c) one g next rs₂ y w d₂ j (atom-ends (getD l i 0) v (now rs₁ d) (g .going .ready .audited) (citing-pair .one) (citing-pair .other) (citing-class .class) .given (now rs₂ d₂) tt)
+            turning-on t e h ks (left c) g (explainAtom (getD l i 0) v) next rs₂ y w d₂ j (atom-ends (getD l i 0) v (now rs₁ d) (g .going .ready .audited) (citing-pair .one) (citing-pair .other) (citing-class .class) .given (now rs₂ d₂) tt)
 
 -- WHAT STEP 5 TESTED is what the loop requires
 

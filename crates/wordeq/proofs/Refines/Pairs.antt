@@ -17,7 +17,8 @@ use Rattle.records.proofs.Lists.{both-true}
 use Rattle.engine.specs.Explain.{explain, explainArguments}
 use Rattle.wordeq.specs.Wordeq.{explainPair, nfExplain}
 use Rattle.wordeq.specs.Working.Stripping.{Readable, Pair}
-use Rattle.wordeq.proofs.Refines.Stripping.{pair-of, drop-head}
+use Rattle.wordeq.proofs.Refines.Going.{going-pair}
+use Rattle.wordeq.proofs.Refines.Stripping.{strings-pair, drop-head}
 use Rattle.wordeq.proofs.Refines.Turning.{Turning, turning-none, turning-end, turning-refused, turning-on}
 use Rattle.wordeq.proofs.Equal.{pair-ends}
 use Rattle.records.specs.declared.Added.{Added as Answered}
@@ -78,32 +79,29 @@ module _ (t e h ks l r : List ℕ) where
   abbrev left : ℕ → Work (Unit {0})
   left i = nfExplain (drop i l) (drop i r)
 
-  abbrev one : ℕ → Work (Unit {0})
-  one i = explainPair (getD l i 0) (getD r i 0)
-
   -- the first i pairs are explained
   abbrev pub Pairing : State → List ℕ → State → List ℕ → ℕ → Type 0
-  Pairing = Turning t e h ks left one
+  Pairing = Turning t e h ks left
 
   pub pairing-none : {c : State} {rs : List ℕ} → Ready (lent t e h rs ks) c → Pairing c rs c rs 0
-  pairing-none d = turning-none t e h ks left one d
+  pairing-none d = turning-none t e h ks left d
 
   module _ {c d : State} {rs rs₁ : List ℕ} {i : ℕ} (g : Pairing c rs d rs₁ i) where
     pub pairing-end : length l ≤ i → Working (nfExplain l r) (lent t e h rs ks) (lent t e h rs₁ ks) c (added (adding.Counts d) (lent t e h rs₁ ks))
-    pairing-end z = let k = length-drop i l in turning-end t e h ks left one g (explain-done (drop i l) (drop i r) (now rs₁ d) (omega arith))
+    pairing-end z = let k = length-drop i l in turning-end t e h ks left g (explain-done (drop i l) (drop i r) (now rs₁ d) (omega arith))
 
     module _ (b : i < length l) (n : length l ≡ length r) (one-side : all (isString (readIn t h c)) l ≡ true) (other-side : all (isString (readIn t h c)) r ≡ true) where
       pub pairing-pair : Pair (readIn t h d) (getD l i 0) (getD r i 0)
-      pairing-pair = pair-of t e h ks (g .going) l r one-side other-side i i b (omega arith)
+      pairing-pair = going-pair t e h ks (g .going) _ _ (strings-pair (readIn t h c) l r one-side other-side i i b (omega arith))
 
-      next : left i (now rs₁ d) ≡ andThen (λ u. left (i + 1)) (one i (now rs₁ d))
+      next : left i (now rs₁ d) ≡ andThen (λ u. left (i + 1)) (explainPair (getD l i 0) (getD r i 0) (now rs₁ d))
       unfolding nfExplain
       next = rw (drop-head l i b, drop-head r i (omega arith))
 
       module _ (rs₂ : List ℕ) (y : Answered) (w : Working (explainPair (getD l i 0) (getD r i 0)) (lent t e h rs₁ ks) (lent t e h rs₂ ks) d (added y (lent t e h rs₂ ks))) where
         pub pairing-refused : (k : ℕ) → y ≡ adding.Refused k → Working (nfExplain l r) (lent t e h rs ks) (lent t e h rs₂ ks) c (added (adding.Refused k) (lent t e h rs₂ ks))
-        pairing-refused = turning-refused t e h ks left one g next rs₂ y w
+        pairing-refused = turning-refused t e h ks left g (explainPair (getD l i 0) (getD r i 0)) next rs₂ y w
 
         pub pairing-turn : (d₂ : State) → y ≡ adding.Counts d₂ → Pairing c rs d₂ rs₂ (i + 1)
         pairing-turn d₂ j =
-            turning-on t e h ks left one g next rs₂ y w d₂ j (pair-ends (getD l i 0) (getD r i 0) (now rs₁ d) (g .going .ready .audited) (pairing-pair .one) (pairing-pair .other) .given (now rs₂ d₂) tt)
+            turning-on t e h ks left g (explainPair (getD l i 0) (getD r i 0)) next rs₂ y w d₂ j (pair-ends (getD l i 0) (getD r i 0) (now rs₁ d) (g .going .ready .audited) (pairing-pair .one) (pairing-pair .other) .given (now rs₂ d₂) tt)

@@ -11,10 +11,10 @@ use Rattle.records.specs.Meaning.{Words}
 use Rattle.records.specs.Working.Audited.{Ready}
 use Rattle.records.specs.Calls.{Working, added}
 use Rattle.wordeq.proofs.Cited.{Cited}
-use Rattle.wordeq.proofs.Refines.Stripping.{Going, going-none, going-then, kept-down}
+use Rattle.wordeq.proofs.Refines.Going.{Going, going-none, going-then, kept-down}
 
--- the work that is left after i turns, and that of turn i
-module _ (t e h ks : List ℕ) (left one : ℕ → Work (Unit {0})) where
+-- the work that is left after i turns
+module _ (t e h ks : List ℕ) (left : ℕ → Work (Unit {0})) where
   abbrev at : List ℕ → Lent
   at rs = lent t e h rs ks
 
@@ -29,8 +29,9 @@ module _ (t e h ks : List ℕ) (left one : ℕ → Work (Unit {0})) where
     pub turning-end : left i (storeOf (at rs₁) d) ≡ ok (storeOf (at rs₁) d) tt → Working (left 0) (at rs) (at rs₁) c (added (adding.Counts d) (at rs₁))
     turning-end z = record { says = sym (g .rest) ∙ z; kept = g .going .kept }
 
-    module _ (next : left i (storeOf (at rs₁) d) ≡ andThen (λ u. left (i + 1)) (one i (storeOf (at rs₁) d)))
-        (rs₂ : List ℕ) (y : Answered) (w : Working (one i) (at rs₁) (at rs₂) d (added y (at rs₂))) where
+    -- the work of turn i
+    module _ (one : Work (Unit {0})) (next : left i (storeOf (at rs₁) d) ≡ andThen (λ u. left (i + 1)) (one (storeOf (at rs₁) d)))
+        (rs₂ : List ℕ) (y : Answered) (w : Working one (at rs₁) (at rs₂) d (added y (at rs₂))) where
       pub turning-refused : (n : ℕ) → y ≡ adding.Refused n → Working (left 0) (at rs) (at rs₂) c (added (adding.Refused n) (at rs₂))
       turning-refused n j = record {
         says = sym (g .rest) ∙ next ∙ ap (andThen (λ u. left (i + 1))) (w .says ∙ ap (λ (o : Answered). added o (at rs₂)) j);
@@ -38,9 +39,9 @@ module _ (t e h ks : List ℕ) (left one : ℕ → Work (Unit {0})) where
       }
 
       pub turning-on : {P : Words → Type 0} (d₂ : State) → y ≡ adding.Counts d₂
-          → (one i (storeOf (at rs₁) d) ≡ ok (storeOf (at rs₂) d₂) tt → Cited P (storeOf (at rs₁) d) (storeOf (at rs₂) d₂)) → Turning c rs d₂ rs₂ (i + 1)
+          → (one (storeOf (at rs₁) d) ≡ ok (storeOf (at rs₂) d₂) tt → Cited P (storeOf (at rs₁) d) (storeOf (at rs₂) d₂)) → Turning c rs d₂ rs₂ (i + 1)
       turning-on d₂ j x =
-          let k : one i (storeOf (at rs₁) d) ≡ ok (storeOf (at rs₂) d₂) tt = w .says ∙ ap (λ (o : Answered). added o (at rs₂)) j in
+          let k : one (storeOf (at rs₁) d) ≡ ok (storeOf (at rs₂) d₂) tt = w .says ∙ ap (λ (o : Answered). added o (at rs₂)) j in
           record {
             going = going-then t e h ks (g .going) rs₂ (x k) (w .kept);
             rest = sym (next ∙ ap (andThen (λ u. left (i + 1))) k) ∙ g .rest;

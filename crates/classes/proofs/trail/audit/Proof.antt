@@ -1,55 +1,62 @@
-use native.Mathlib.Omega.{arith}
+use Rattle.records.specs.View.{lent}
+use Rattle.classes.proofs.Refines.AuditMarks.{audit-few, audit-first, audit-asks, trail-fits, audit-marks, audit-last}
 use borrow.Author.Needs.{needs}
 use Rattle.classes.proofs.trail.audit.Statement.{statement}
 use Rattle.classes.proofs.trail.audit.Tie as tie
-use Rattle.classes.proofs.trail.audit.Reads as reads
-use Rattle.classes.proofs.trail.audit.Lts as lts
-use Rattle.classes.proofs.trail.marks_ok_unchecked.Reads as marks-ok-unchecked-reads
-use Rattle.classes.proofs.trail.trail_sizes.Reads as trail-sizes-reads
-use Rattle.records.proofs.audit.Reads as audit-reads
-use Rattle.records.proofs.rules.is_within.Reads as is-within-reads
-
--- src/trail.rt:238:9
-trail-sizes-requires : tie.Need-trail-sizes-requires
-trail-sizes-requires c κs = search needs
-
--- src/trail.rt:239:9
-returns : tie.Need-returns
-returns c = search needs
-
--- src/trail.rt:241:9
-audit-requires : tie.Need-audit-requires
-audit-requires c κs = search needs
-
--- src/trail.rt:242:8
-is-within-requires : tie.Need-is-within-requires
-is-within-requires c κs = search needs
-
--- src/trail.rt:243:9
-returns-2 : tie.Need-returns-2
-returns-2 c = search needs
-
--- src/trail.rt:245:9
-marks-ok-unchecked-requires : tie.Need-marks-ok-unchecked-requires
-marks-ok-unchecked-requires c κs = search needs
-
--- src/trail.rt:246:9
-returns-3 : tie.Need-returns-3
-returns-3 c = search needs
-
--- src/trail.rt:226:1
-returns-4 : tie.Need-returns-4
-returns-4 c = search needs
 
 pub audit-spec : {M : Type 1} → statement M
 audit-spec =
     tie.close
     (tie.spec
-    trail-sizes-requires
-    returns
-    audit-requires
-    is-within-requires
-    returns-2
-    marks-ok-unchecked-requires
-    returns-3
-    returns-4)
+    -- trail-sizes-requires
+    (λ c κs. search needs)
+    -- returns
+    (λ c.
+    let at-start = c .before .before .before .before .before .before .before .before in
+    audit-few (lent (at-start .args .terms .now) (at-start .args .cells .now) (at-start .args .chars .now) (at-start .args .reasons .now) (at-start .args .keys .now))
+    (at-start .args .marks .now) (at-start .args .c) (at-start .args .d) _ (c .before .trail-sizes .ensures) (c .if1 .taken))
+    -- audit-requires
+    (λ c κs. search needs)
+    -- is-within-requires
+    (λ c κs. search needs)
+    -- returns-2
+    (λ c.
+    let at-if1 = c .before .before .before in
+    let at-trail-sizes = at-if1 .before in
+    let at-start = at-trail-sizes .before .before .before .before .before .before .before in
+    audit-first (lent (at-start .args .terms .now) (at-start .args .cells .now) (at-start .args .chars .now) (at-start .args .reasons .now) (at-start .args .keys .now))
+    (at-start .args .marks .now) (at-start .args .c) (at-start .args .d) _ (at-trail-sizes .trail-sizes .ensures) (at-if1 .if1 .left) _ (c .before .before .audit .ensures) _
+    (c .before .is-within .ensures) (c .if2 .taken))
+    -- marks-ok-unchecked-requires
+    (λ c κs.
+    let at-audit = c .before .before in
+    let at-if1 = at-audit .before in
+    let at-trail-sizes = at-if1 .before in
+    let at-start = at-trail-sizes .before .before .before .before .before .before .before in (
+      audit-asks (lent (at-start .args .terms .now) (at-start .args .cells .now) (at-start .args .chars .now) (at-start .args .reasons .now) (at-start .args .keys .now))
+          (at-start .args .marks .now) (at-start .args .c) (at-start .args .d) _ (at-trail-sizes .trail-sizes .ensures) (at-if1 .if1 .left) _ (at-audit .audit .ensures) _
+          (c .before .is-within .ensures) (c .if2 .left),
+      trail-fits (lent (at-start .args .terms .now) (at-start .args .cells .now) (at-start .args .chars .now) (at-start .args .reasons .now) (at-start .args .keys .now))
+          (at-start .args .marks .now) (at-start .args .c) (at-start .args .d) _ (at-trail-sizes .trail-sizes .ensures) (at-if1 .if1 .left) _ (at-audit .audit .ensures) _
+          (c .before .is-within .ensures),
+    ))
+    -- returns-3
+    (λ c.
+    let at-is-within = c .before .before .before in
+    let at-audit = at-is-within .before in
+    let at-if1 = at-audit .before in
+    let at-trail-sizes = at-if1 .before in
+    let at-start = at-trail-sizes .before .before .before .before .before .before .before in
+    audit-marks (lent (at-start .args .terms .now) (at-start .args .cells .now) (at-start .args .chars .now) (at-start .args .reasons .now) (at-start .args .keys .now))
+    (at-start .args .marks .now) (at-start .args .c) (at-start .args .d) _ (at-trail-sizes .trail-sizes .ensures) (at-if1 .if1 .left) _ (at-audit .audit .ensures) _
+    (at-is-within .is-within .ensures) (c .before .before .if2 .left) _ (c .before .marks-ok-unchecked .ensures) (c .if3 .taken))
+    -- returns-4
+    (λ c.
+    let at-is-within = c .before .before .before in
+    let at-audit = at-is-within .before in
+    let at-if1 = at-audit .before in
+    let at-trail-sizes = at-if1 .before in
+    let at-start = at-trail-sizes .before .before .before .before .before .before .before in
+    audit-last (lent (at-start .args .terms .now) (at-start .args .cells .now) (at-start .args .chars .now) (at-start .args .reasons .now) (at-start .args .keys .now))
+    (at-start .args .marks .now) (at-start .args .c) (at-start .args .d) _ (at-trail-sizes .trail-sizes .ensures) (at-if1 .if1 .left) _ (at-audit .audit .ensures) _
+    (at-is-within .is-within .ensures) (c .before .before .if2 .left) _ (c .before .marks-ok-unchecked .ensures) (c .if3 .left)))

@@ -1,6 +1,4 @@
-use mathlib.Core.Path.{ap, _∙_}
-use Prim.Native.Nat.{ℕ, _-_}
-use lib.Dec.{leb}
+use Prim.Native.Nat.{_-_}
 use lib.ListN.{getD}
 use Rattle.classes.proofs.Refines.Counting.{Rising, counts-none, counts-first, rising-begin, rising-stop, rising-turn, rising-done}
 use borrow.Author.Needs.{needs}
@@ -48,4 +46,4 @@ counts-ok-spec =
     -- wide-requires
     (λ c κs. search needs)
     -- returns-4
-    (λ c. let at-loop = c .before .before .before .before in ap (λ (x : ℕ). leb x _) (c .wide .ensures) ∙ rising-done _ _ (at-loop .loop .inv) (c .before .before .if3 .left)))
+    (λ c. let at-loop = c .before .before .before .before in rising-done _ _ (at-loop .loop .inv) (c .before .before .if3 .left) _ (c .before .wide .ensures)))

@@ -31,7 +31,7 @@ marks-ok-unchecked-spec =
     let at-counts-ok = at-if1 .before in
     let at-start = at-counts-ok .before .before .before .before in (
       copy-markable (at-start .args .terms .now) (at-start .args .cells .now) (at-start .args .c) (at-start .args .marks .now) (at-start .args .d) _
-          (at-counts-ok .counts-ok .ensures) (at-if1 .if1 .left) _ (c .before .copy-terms-unchecked .ensures .0) (at-start .pre .0) (c .before .copy-terms-unchecked .ensures .1),
+          (at-counts-ok .counts-ok .ensures) (at-if1 .if1 .left) (c .before .copy-terms-unchecked .ensures) (at-start .pre .0),
       (
         at-start .pre .1,
         counts-are (at-start .args .terms .now) (at-start .args .cells .now) (at-start .args .c) (at-start .args .marks .now) (at-start .args .d) _
@@ -45,4 +45,4 @@ marks-ok-unchecked-spec =
     let at-counts-ok = at-if1 .before in
     let at-start = at-counts-ok .before .before .before .before in
     marks-last (at-start .args .terms .now) (at-start .args .cells .now) (at-start .args .c) (at-start .args .marks .now) (at-start .args .d) _
-    (at-counts-ok .counts-ok .ensures) (at-if1 .if1 .left) _ (at-copy-terms-unchecked .copy-terms-unchecked .ensures .0) _ (c .before .tables-ok-unchecked .ensures)))
+    (at-counts-ok .counts-ok .ensures) (at-if1 .if1 .left) (at-copy-terms-unchecked .copy-terms-unchecked .ensures) _ (c .before .tables-ok-unchecked .ensures)))

@@ -1,16 +1,17 @@
 use lib.ListN.{length}
 use Prim.Native.Nat.{_-_, _≤_}
 use mathlib.Core.Path.{_≡_, refl}
-use Rattle.normalize.specs.Calls.{firstWords}
 use Rattle.records.specs.View.{lent}
-use Rattle.normalize.proofs.Refines.Rounding.{Heaping, heaping-none, heap-ready, heaping-turn, heaping-stopped, heaping-done}
+use Rattle.normalize.proofs.Carried.{carried-ready}
+use Rattle.normalize.proofs.Refines.Heaping.{Heaping, heaping-none}
+use Rattle.normalize.proofs.Refines.Rounding.{allLeft, all-turn, all-stopped, all-done}
 use native.Mathlib.Omega.{arith}
 use borrow.Author.Needs.{needs}
 use Rattle.normalize.proofs.deeper.push_all.Statement.{statement}
 use Rattle.normalize.proofs.deeper.push_all.Tie as tie
 
 abbrev Inv-loop : tie.InvT-loop
-Inv-loop terms₀ cells chars₀ reasons keys next k out₀ d₀ count₀ i₀ terms chars out d count i = (i ≤ k) × (length terms ≡ length terms₀) × (length chars ≡ length chars₀) × (length out ≡ length out₀) × Heaping (lent terms₀ cells chars₀ reasons keys) d₀ (firstWords next k) (lent terms cells chars reasons keys) d out count i
+Inv-loop terms₀ cells chars₀ reasons keys next k out₀ d₀ count₀ i₀ terms chars out d count i = (i ≤ k) × (length terms ≡ length terms₀) × (length chars ≡ length chars₀) × (length out ≡ length out₀) × Heaping (allLeft next k) (lent terms₀ cells chars₀ reasons keys) d₀ (lent terms cells chars reasons keys) d out count i
 
 abbrev μ-loop : tie.MeasureT-loop
 μ-loop terms₀ cells chars₀ reasons keys next k out₀ d₀ count₀ i₀ terms chars out d count i = k - i
@@ -34,7 +35,7 @@ push-all-spec =
     let at-loop-test = c .before .before .before .before in
     let at-loop = at-loop-test .before in
     let at-start = at-loop .before .before .before .before .before .before .before .before in (
-      heap-ready (at-start .args .next .now) (at-start .args .k) (at-loop .loop .inv .4) (at-start .pre .0) (at-start .pre .1 .0) (at-loop-test .loop-test .taken),
+      carried-ready (at-loop .loop .inv .4 .carried) (at-start .pre .0),
       (
         (let h = at-loop-test .loop-test .taken in let l = at-loop .loop .inv .4 .low in let p = at-start .pre .1 .1 .1 .0 in omega arith),
         (let l = at-loop .loop .inv .3 in let p = at-start .pre .1 .1 .1 .1 in omega arith),
@@ -56,7 +57,7 @@ push-all-spec =
     let at-loop-test = at-push .before .before .before .before .before in
     let at-loop = at-loop-test .before in
     let at-start = at-loop .before .before .before .before .before .before .before .before in
-    heaping-stopped (at-start .args .next .now) (at-start .args .k) (at-loop .loop .inv .4) (at-start .pre .0) (at-start .pre .1 .0) (at-loop-test .loop-test .taken) _ _
+    all-stopped (at-start .args .next .now) (at-start .args .k) (at-loop .loop .inv .4) (at-start .pre .1 .0) (at-loop-test .loop-test .taken) _ _
     (at-push .push .kept .0) refl (at-push .push .ensures) _ (c .before .form2 .given .1))
     -- add-i
     (λ c.
@@ -75,7 +76,7 @@ push-all-spec =
           let at-loop-test = at-push .before .before .before .before .before in
           let at-loop = at-loop-test .before in
           let at-start = at-loop .before .before .before .before .before .before .before .before in
-          heaping-turn (at-start .args .next .now) (at-start .args .k) (at-loop .loop .inv .4) (at-start .pre .0) (at-start .pre .1 .0) (at-loop-test .loop-test .taken) _ _
+          all-turn (at-start .args .next .now) (at-start .args .k) (at-loop .loop .inv .4) (at-start .pre .1 .0) (at-loop-test .loop-test .taken) _ _
           (at-push .push .kept .0) refl (at-push .push .ensures) _ _ (c .before .form .given .1),
     ))
     -- same-length-4
@@ -87,4 +88,4 @@ push-all-spec =
     -- returns-2
     (λ c.
     let at-start = c .before .before .before .before .before .before .before .before .before in
-    heaping-done (at-start .args .next .now) (at-start .args .k) (c .before .loop .inv .4) (c .loop-test .left)))
+    all-done (at-start .args .next .now) (at-start .args .k) (c .before .loop .inv .4) (c .loop-test .left)))

@@ -4,14 +4,15 @@ use mathlib.Core.List.{_++_}
 use mathlib.Core.Path.{_≡_, refl}
 use Rattle.records.specs.View.{lent}
 use Rattle.records.proofs.Lists.{all-every, every-right}
-use Rattle.normalize.proofs.Refines.Replacing.{Going, going-none, now-ready, rep-requires as going-rep, for-arguments, going-turn, going-stopped, going-done}
+use Rattle.normalize.proofs.Refines.Heaping.{Heaping, heaping-none}
+use Rattle.normalize.proofs.Refines.Replacing.{formsLeft, now-ready, rep-requires as forms-rep, for-arguments, forms-turn, forms-stopped, forms-done}
 use native.Mathlib.Omega.{arith}
 use borrow.Author.Needs.{needs}
 use Rattle.normalize.proofs.normal.push_forms.Statement.{statement}
 use Rattle.normalize.proofs.normal.push_forms.Tie as tie
 
 abbrev Inv-loop : tie.InvT-loop
-Inv-loop terms₀ cells chars₀ reasons₀ keys known flat table list₀ d₀ count₀ i₀ terms chars reasons list d count i = (i ≤ length flat) × (length terms ≡ length terms₀) × (length chars ≡ length chars₀) × (length reasons ≡ length reasons₀) × (length list ≡ length list₀) × Going (lent terms₀ cells chars₀ reasons₀ keys) d₀ (known ++ flat) flat (lent terms cells chars reasons keys) d list count i
+Inv-loop terms₀ cells chars₀ reasons₀ keys known flat table list₀ d₀ count₀ i₀ terms chars reasons list d count i = (i ≤ length flat) × (length terms ≡ length terms₀) × (length chars ≡ length chars₀) × (length reasons ≡ length reasons₀) × (length list ≡ length list₀) × Heaping (formsLeft (known ++ flat) flat) (lent terms₀ cells chars₀ reasons₀ keys) d₀ (lent terms cells chars reasons keys) d list count i
 
 abbrev μ-loop : tie.MeasureT-loop
 μ-loop terms₀ cells chars₀ reasons₀ keys known flat table list₀ d₀ count₀ i₀ terms chars reasons list d count i = length flat - i
@@ -25,7 +26,7 @@ push-forms-spec =
     -- loop-holds
     (λ c.
     let at-start = c .before .before .before .before .before .before .before .before in
-    (omega arith, refl, refl, refl, refl, going-none _ _ _ (at-start .pre .0)))
+    (omega arith, refl, refl, refl, refl, heaping-none _ _ (at-start .pre .0)))
     -- mul-a
     (λ c. search needs)
     -- shared-slice-read-a
@@ -34,7 +35,7 @@ push-forms-spec =
     (λ c κs.
     let at-loop = c .before .before .before in
     let at-start = at-loop .before .before .before .before .before .before .before .before .before in
-    going-rep (at-loop .loop .inv .5) (at-start .pre .0) _ (at-start .pre .1 .0) (every-right (at-start .args .known .now) _ (all-every _ _ (at-start .pre .1 .0 .strings)))
+    forms-rep (at-loop .loop .inv .5) (at-start .pre .0) _ (at-start .pre .1 .0) (every-right (at-start .args .known .now) _ (all-every _ _ (at-start .pre .1 .0 .strings)))
     (c .before .before .loop-test .taken))
     -- push-for-requires
     (λ c κs.
@@ -72,7 +73,7 @@ push-forms-spec =
     let at-loop-test = at-rep .before .before .before in
     let at-loop = at-loop-test .before in
     let at-start = at-loop .before .before .before .before .before .before .before .before .before in
-    going-stopped (at-loop .loop .inv .5) (at-start .pre .0) _ (at-start .pre .1 .0) (every-right (at-start .args .known .now) _ (all-every _ _ (at-start .pre .1 .0 .strings)))
+    forms-stopped (at-loop .loop .inv .5) (at-start .pre .0) _ (at-start .pre .1 .0) (every-right (at-start .args .known .now) _ (all-every _ _ (at-start .pre .1 .0 .strings)))
     (at-loop-test .loop-test .taken) _ (at-rep .rep .ensures) _ _ (at-push-for .push-for .kept .0) refl (at-push-for .push-for .ensures) _ (c .before .form2 .given .1))
     -- add-i
     (λ c.
@@ -93,7 +94,7 @@ push-forms-spec =
           let at-loop-test = at-rep .before .before .before in
           let at-loop = at-loop-test .before in
           let at-start = at-loop .before .before .before .before .before .before .before .before .before in
-          going-turn (at-loop .loop .inv .5) (at-start .pre .0) _ (at-start .pre .1 .0) (every-right (at-start .args .known .now) _ (all-every _ _ (at-start .pre .1 .0 .strings)))
+          forms-turn (at-loop .loop .inv .5) (at-start .pre .0) _ (at-start .pre .1 .0) (every-right (at-start .args .known .now) _ (all-every _ _ (at-start .pre .1 .0 .strings)))
           (at-loop-test .loop-test .taken) _ (at-rep .rep .ensures) _ _ (at-push-for .push-for .kept .0) refl (at-push-for .push-for .ensures) _ _ (c .before .form .given .1),
     ))
     -- same-length-5
@@ -105,4 +106,6 @@ push-forms-spec =
     -- same-length-8
     (λ c. search needs)
     -- returns-2
-    (λ c. going-done (c .before .loop .inv .5) (c .loop-test .left)))
+    (λ c.
+    let at-start = c .before .before .before .before .before .before .before .before .before .before in
+    forms-done (at-start .args .known .now ++ at-start .args .flat .now) _ (c .before .loop .inv .5) (c .loop-test .left)))

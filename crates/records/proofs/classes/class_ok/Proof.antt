@@ -1,12 +1,13 @@
-use Rattle.records.proofs.Refines.ClassLaws.{seen-roots, seen-tops, seen-rooted, root-here, top-here}
+use mathlib.Core.Bool.{true, false}
+use Rattle.records.proofs.Refines.ClassLaws.{seen-up, seen-rooted, root-here, top-here}
 use Rattle.records.proofs.classes.class_ok.Statement.{statement}
 use Rattle.records.proofs.classes.class_ok.Tie as tie
 
 root-unchecked-requires : tie.Need-root-unchecked-requires
-root-unchecked-requires c κs = (c .before .pre .0, seen-roots (c .before .args .terms .now) (c .before .args .c) (c .before .pre .1))
+root-unchecked-requires c κs = (c .before .pre .0, seen-up (c .before .args .terms .now) (c .before .args .c) (c .before .pre .1) false)
 
 top-unchecked-requires : tie.Need-top-unchecked-requires
-top-unchecked-requires c κs = let at-start = c .before .before in (at-start .pre .0, seen-tops (at-start .args .terms .now) (at-start .args .c) (at-start .pre .1))
+top-unchecked-requires c κs = let at-start = c .before .before in (at-start .pre .0, seen-up (at-start .args .terms .now) (at-start .args .c) (at-start .pre .1) true)
 
 root-unchecked-requires-2 : tie.Need-root-unchecked-requires-2
 root-unchecked-requires-2 c κs =

@@ -1,4 +1,5 @@
-use Rattle.records.proofs.Refines.ClassLaws.{seen-roots, seen-tops, seen-rooted, root-here, top-here}
+use mathlib.Core.Bool.{true, false}
+use Rattle.records.proofs.Refines.ClassLaws.{seen-up, seen-rooted, root-here, top-here}
 use Rattle.records.proofs.Lists.{failed, passed}
 use Rattle.records.proofs.Ends.{term-place, tested-more}
 use mathlib.Core.Path.{sym}
@@ -8,12 +9,12 @@ use Rattle.records.proofs.roots.class_kept_ok.Tie as tie
 kept-root-unchecked-requires : tie.Need-kept-root-unchecked-requires
 kept-root-unchecked-requires c κs =
     let s = c .before .before in
-    (s .pre .0, (s .pre .1 .0, (seen-roots (s .args .terms .now) (s .args .c) (s .pre .1 .1 .0), s .pre .1 .1 .1 .classes)))
+    (s .pre .0, (s .pre .1 .0, (seen-up (s .args .terms .now) (s .args .c) (s .pre .1 .1 .0) false, s .pre .1 .1 .1 .classes)))
 
 kept-top-unchecked-requires : tie.Need-kept-top-unchecked-requires
 kept-top-unchecked-requires c κs =
     let s = c .before .before .before .before in
-    (s .pre .0, (s .pre .1 .0, (seen-tops (s .args .terms .now) (s .args .c) (s .pre .1 .1 .0), s .pre .1 .1 .1 .trees)))
+    (s .pre .0, (s .pre .1 .0, (seen-up (s .args .terms .now) (s .args .c) (s .pre .1 .1 .0) true, s .pre .1 .1 .1 .trees)))
 
 kept-root-unchecked-requires-2 : tie.Need-kept-root-unchecked-requires-2
 kept-root-unchecked-requires-2 c κs =

@@ -1,14 +1,14 @@
+use mathlib.Core.Path.{refl}
 use Prim.Native.Nat.{_-_, _≤_}
-use lib.ListN.{drop}
 use Rattle.records.specs.View.{readIn}
-use Rattle.wordeq.proofs.Refines.Stripping.{strings-pair, drop-head, Counted, counted-none, count-stop, count-turn, below-left, below-right, heads-all}
+use Rattle.wordeq.proofs.Refines.Stripping.{strings-pair, Counted, counted-none, count-all, count-stop, count-turn, below-left, below-right}
 use native.Mathlib.Omega.{arith}
 use borrow.Author.Needs.{needs}
 use Rattle.wordeq.proofs.stripping.count_heads.Statement.{statement}
 use Rattle.wordeq.proofs.stripping.count_heads.Tie as tie
 
 abbrev Inv-loop : tie.InvT-loop
-Inv-loop terms chars c lhs rhs n i₀ i = (i ≤ n) × Counted (readIn terms chars c) (λ k. drop k lhs) (λ k. drop k rhs) i
+Inv-loop terms chars c lhs rhs n i₀ i = (i ≤ n) × Counted (readIn terms chars c) lhs rhs i
 
 abbrev μ-loop : tie.MeasureT-loop
 μ-loop terms chars c lhs rhs n i₀ i = n - i
@@ -24,7 +24,7 @@ count-heads-spec =
     -- loop-holds
     (λ c.
     let at-start = c .before .before .before .before .before in
-    (omega arith, counted-none _ (λ k. drop k (at-start .args .lhs .now)) (λ k. drop k (at-start .args .rhs .now))))
+    (omega arith, counted-none _ (at-start .args .lhs .now) (at-start .args .rhs .now)))
     -- mul-same-unchecked
     (λ c. search needs)
     -- shared-slice-read-same-unchecked
@@ -48,9 +48,7 @@ count-heads-spec =
     let at-loop = at-loop-test .before in
     let at-shorter = at-loop .before in
     let at-start = at-shorter .before .before .before .before .before in
-    count-stop _ (λ k. drop k (at-start .args .lhs .now)) (λ k. drop k (at-start .args .rhs .now)) (at-loop .loop .inv .1) _ _
-    (drop-head _ _ (below-left _ _ _ _ (at-shorter .shorter .ensures) (at-loop-test .loop-test .taken)))
-    (drop-head _ _ (below-right _ _ _ _ (at-shorter .shorter .ensures) (at-loop-test .loop-test .taken))) _ (c .before .same-unchecked .ensures) (c .if1 .taken))
+    count-stop _ (at-start .args .lhs .now) (at-start .args .rhs .now) _ (at-shorter .shorter .ensures) (at-loop .loop .inv .1) (at-loop-test .loop-test .taken) _ _ refl refl _ (c .before .same-unchecked .ensures) (c .if1 .taken))
     -- add-i
     (λ c. search needs)
     -- loop-less
@@ -62,11 +60,9 @@ count-heads-spec =
     let at-shorter = at-loop .before in
     let at-start = at-shorter .before .before .before .before .before in (
       let p = at-loop-test .loop-test .taken in omega arith,
-      count-turn _ (λ k. drop k (at-start .args .lhs .now)) (λ k. drop k (at-start .args .rhs .now)) (at-loop .loop .inv .1) _ _
-          (drop-head _ _ (below-left _ _ _ _ (at-shorter .shorter .ensures) (at-loop-test .loop-test .taken)))
-          (drop-head _ _ (below-right _ _ _ _ (at-shorter .shorter .ensures) (at-loop-test .loop-test .taken))) _ (c .before .same-unchecked .ensures) (c .if1 .left),
+      count-turn _ (at-start .args .lhs .now) (at-start .args .rhs .now) _ (at-shorter .shorter .ensures) (at-loop .loop .inv .1) (at-loop-test .loop-test .taken) _ _ refl refl _ (c .before .same-unchecked .ensures) (c .if1 .left),
     ))
     -- returns-2
     (λ c.
     let at-start = c .before .before .before .before .before .before .before in
-    heads-all (at-start .args .lhs .now) (at-start .args .rhs .now) _ _ _ (c .before .before .shorter .ensures) (c .before .loop .inv .0) (c .loop-test .left) (c .before .loop .inv .1)))
+    count-all _ (at-start .args .lhs .now) (at-start .args .rhs .now) _ (c .before .before .shorter .ensures) (c .before .loop .inv .1) (c .loop-test .left)))

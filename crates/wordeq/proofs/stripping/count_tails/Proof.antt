@@ -2,14 +2,14 @@ use Prim.Native.Nat.{_-_, _≤_}
 use mathlib.Core.Path.{ap, _∙_}
 use lib.ListN.{length}
 use Rattle.records.specs.View.{readIn}
-use Rattle.wordeq.proofs.Refines.Stripping.{strings-pair, tail, tail-head, Counted, counted-none, count-stop, count-turn, below-tails, last-below, tails-are, tails-all}
+use Rattle.wordeq.proofs.Refines.Stripping.{strings-pair, back, back-at, back-least, Counted, counted-none, count-all, count-stop, count-turn, below-tails, last-below, tails-are}
 use native.Mathlib.Omega.{arith}
 use borrow.Author.Needs.{needs}
 use Rattle.wordeq.proofs.stripping.count_tails.Statement.{statement}
 use Rattle.wordeq.proofs.stripping.count_tails.Tie as tie
 
 abbrev Inv-loop : tie.InvT-loop
-Inv-loop terms chars c lhs rhs from n i₀ i = (i ≤ n - from) × Counted (readIn terms chars c) (tail lhs from) (tail rhs from) i
+Inv-loop terms chars c lhs rhs from n i₀ i = (i ≤ n - from) × Counted (readIn terms chars c) (back lhs from) (back rhs from) i
 
 abbrev μ-loop : tie.MeasureT-loop
 μ-loop terms chars c lhs rhs from n i₀ i = n - from - i
@@ -25,7 +25,7 @@ count-tails-spec =
     -- loop-holds
     (λ c.
     let at-start = c .before .before .before .before .before in
-    (omega arith, counted-none _ (tail (at-start .args .lhs .now) (at-start .args .from)) (tail (at-start .args .rhs .now) (at-start .args .from))))
+    (omega arith, counted-none _ (back (at-start .args .lhs .now) (at-start .args .from)) (back (at-start .args .rhs .now) (at-start .args .from))))
     -- sub-loop
     (λ c.
     let at-start = c .before .before .before .before .before .before in
@@ -77,8 +77,8 @@ count-tails-spec =
     let at-shorter = at-loop .before in
     let at-start = at-shorter .before .before .before .before .before in
     let within = below-tails _ _ _ _ _ (at-shorter .shorter .ensures) (at-loop-test .loop-test .taken) in
-    count-stop _ (tail (at-start .args .lhs .now) (at-start .args .from)) (tail (at-start .args .rhs .now) (at-start .args .from)) (at-loop .loop .inv .1) _ _
-    (tail-head (at-start .args .lhs .now) (at-start .args .from) _ (within .0)) (tail-head (at-start .args .rhs .now) (at-start .args .from) _ (within .1)) _
+    count-stop _ (back (at-start .args .lhs .now) (at-start .args .from)) (back (at-start .args .rhs .now) (at-start .args .from)) _ (back-least (at-start .args .lhs .now) (at-start .args .rhs .now) (at-start .args .from) _ (at-shorter .shorter .ensures)) (at-loop .loop .inv .1) (at-loop-test .loop-test .taken) _ _
+    (back-at (at-start .args .lhs .now) (at-start .args .from) _ (within .0)) (back-at (at-start .args .rhs .now) (at-start .args .from) _ (within .1)) _
     (c .before .same-unchecked .ensures) (c .if1 .taken) ∙ ap length (tails-are (at-start .args .lhs .now) (at-start .args .rhs .now) (readIn (at-start .args .terms .now) (at-start .args .chars .now) (at-start .args .c)) (at-start .args .from)))
     -- add-i
     (λ c. search needs)
@@ -92,13 +92,14 @@ count-tails-spec =
     let at-start = at-shorter .before .before .before .before .before in
     let within = below-tails _ _ _ _ _ (at-shorter .shorter .ensures) (at-loop-test .loop-test .taken) in (
       let p = at-loop-test .loop-test .taken in omega arith,
-      count-turn _ (tail (at-start .args .lhs .now) (at-start .args .from)) (tail (at-start .args .rhs .now) (at-start .args .from)) (at-loop .loop .inv .1) _ _
-          (tail-head (at-start .args .lhs .now) (at-start .args .from) _ (within .0)) (tail-head (at-start .args .rhs .now) (at-start .args .from) _ (within .1)) _
+      count-turn _ (back (at-start .args .lhs .now) (at-start .args .from)) (back (at-start .args .rhs .now) (at-start .args .from)) _ (back-least (at-start .args .lhs .now) (at-start .args .rhs .now) (at-start .args .from) _ (at-shorter .shorter .ensures)) (at-loop .loop .inv .1) (at-loop-test .loop-test .taken) _ _
+          (back-at (at-start .args .lhs .now) (at-start .args .from) _ (within .0)) (back-at (at-start .args .rhs .now) (at-start .args .from) _ (within .1)) _
           (c .before .same-unchecked .ensures) (c .if1 .left),
     ))
     -- returns-2
     (λ c.
     let at-shorter = c .before .before in
     let at-start = at-shorter .before .before .before .before .before in
-    tails-all (at-start .args .lhs .now) (at-start .args .rhs .now) _ (at-start .args .from) _ _ (at-shorter .shorter .ensures) (let q = at-shorter .shorter .ensures in let o = at-start .pre .1 .1 .1 in omega arith) (c .before .loop .inv .0)
-    (c .loop-test .left) (c .before .loop .inv .1)))
+    count-all _ (back (at-start .args .lhs .now) (at-start .args .from)) (back (at-start .args .rhs .now) (at-start .args .from)) _ (back-least (at-start .args .lhs .now) (at-start .args .rhs .now) (at-start .args .from) _ (at-shorter .shorter .ensures))
+    (c .before .loop .inv .1) (c .loop-test .left)
+    ∙ ap length (tails-are (at-start .args .lhs .now) (at-start .args .rhs .now) (readIn (at-start .args .terms .now) (at-start .args .chars .now) (at-start .args .c)) (at-start .args .from))))

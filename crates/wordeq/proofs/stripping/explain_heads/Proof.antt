@@ -1,15 +1,16 @@
 use mathlib.Core.Path.{_≡_, refl}
 use Prim.Native.Nat.{_-_, _≤_}
-use lib.ListN.{length, drop}
+use lib.ListN.{length}
 use Rattle.records.specs.View.{readIn}
-use Rattle.wordeq.proofs.Refines.Stripping.{pair-of, drop-head, Matching, matching-none, matching-end, matching-same, matching-refused, matching-turn, heads-within}
+use Rattle.wordeq.specs.Wordeq.{sameHeads}
+use Rattle.wordeq.proofs.Refines.Stripping.{Matching, matching-none, matching-end, matching-pair, matching-same, matching-refused, matching-turn, heads-within, heads-place}
 use native.Mathlib.Omega.{arith}
 use borrow.Author.Needs.{needs}
 use Rattle.wordeq.proofs.stripping.explain_heads.Statement.{statement}
 use Rattle.wordeq.proofs.stripping.explain_heads.Tie as tie
 
 abbrev Inv-loop : tie.InvT-loop
-Inv-loop terms cells chars reasons₀ keys lhs rhs n d₀ i₀ reasons d i = (i ≤ n) × ((length reasons ≡ length reasons₀) × Matching terms cells chars keys (λ k. drop k lhs) (λ k. drop k rhs) d₀ reasons₀ d reasons i)
+Inv-loop terms cells chars reasons₀ keys lhs rhs n d₀ i₀ reasons d i = (i ≤ n) × ((length reasons ≡ length reasons₀) × Matching terms cells chars keys (sameHeads (readIn terms chars d₀) lhs rhs) d₀ reasons₀ d reasons i)
 
 abbrev μ-loop : tie.MeasureT-loop
 μ-loop terms cells chars reasons₀ keys lhs rhs n d₀ i₀ reasons d i = n - i
@@ -23,7 +24,7 @@ explain-heads-spec =
     -- loop-holds
     (λ c.
     let at-start = c .before .before .before .before .before .before .before in
-    (omega arith, (refl, matching-none (at-start .args .terms .now) (at-start .args .cells .now) (at-start .args .chars .now) (at-start .args .keys .now) (λ k. drop k (at-start .args .lhs .now)) (λ k. drop k (at-start .args .rhs .now)) (at-start .pre .0))))
+    (omega arith, (refl, matching-none (at-start .args .terms .now) (at-start .args .cells .now) (at-start .args .chars .now) (at-start .args .keys .now) (sameHeads (readIn (at-start .args .terms .now) (at-start .args .chars .now) (at-start .args .c)) (at-start .args .lhs .now) (at-start .args .rhs .now)) (at-start .pre .0))))
     -- mul-a
     (λ c.
     let at-loop-test = c in
@@ -57,14 +58,10 @@ explain-heads-spec =
     let at-loop-test = c .before .before .before in
     let at-loop = at-loop-test .before in
     let at-start = at-loop .before .before .before .before .before .before .before .before in
-    let within = heads-within (at-start .args .lhs .now) (at-start .args .rhs .now) (readIn (at-start .args .terms .now) (at-start .args .chars .now) (at-start .args .c)) _ _ (at-start .pre .1 .1 .1) (at-loop-test .loop-test .taken) in (
+    let ps = (sameHeads (readIn (at-start .args .terms .now) (at-start .args .chars .now) (at-start .args .c)) (at-start .args .lhs .now) (at-start .args .rhs .now)) in
+    let place = (heads-place (at-start .args .lhs .now) (at-start .args .rhs .now) (readIn (at-start .args .terms .now) (at-start .args .chars .now) (at-start .args .c)) (at-start .pre .1 .0) (at-start .pre .1 .1 .0) _ _ (at-start .pre .1 .1 .1) (at-loop-test .loop-test .taken)) in (
       at-loop .loop .inv .1 .1 .going .ready,
-      (
-        pair-of (at-start .args .terms .now) (at-start .args .cells .now) (at-start .args .chars .now) (at-start .args .keys .now) (at-loop .loop .inv .1 .1 .going) (at-start .args .lhs .now) (at-start .args .rhs .now) (at-start .pre .1 .0) (at-start .pre .1 .1 .0) _ _ (within .0) (within .1),
-        matching-same (at-start .args .terms .now) (at-start .args .cells .now) (at-start .args .chars .now) (at-start .args .keys .now)
-            (λ k. drop k (at-start .args .lhs .now)) (λ k. drop k (at-start .args .rhs .now)) (at-loop .loop .inv .1 .1) _ (at-start .pre .1 .1 .1) _ _
-            (drop-head (at-start .args .lhs .now) _ (within .0)) (drop-head (at-start .args .rhs .now) _ (within .1)) (at-loop-test .loop-test .taken),
-      ),
+      (matching-pair (at-start .args .terms .now) (at-start .args .cells .now) (at-start .args .chars .now) (at-start .args .keys .now) ps (at-loop .loop .inv .1 .1) _ _ place, matching-same (at-start .args .terms .now) (at-start .args .cells .now) (at-start .args .chars .now) (at-start .args .keys .now) ps (at-loop .loop .inv .1 .1) _ _ place),
     ))
     -- enum-known-e
     (λ c. search needs)
@@ -78,10 +75,9 @@ explain-heads-spec =
     let at-loop-test = at-explain-match-unchecked .before .before .before .before in
     let at-loop = at-loop-test .before in
     let at-start = at-loop .before .before .before .before .before .before .before .before in
-    let within = heads-within (at-start .args .lhs .now) (at-start .args .rhs .now) (readIn (at-start .args .terms .now) (at-start .args .chars .now) (at-start .args .c)) _ _ (at-start .pre .1 .1 .1) (at-loop-test .loop-test .taken) in
-    matching-refused (at-start .args .terms .now) (at-start .args .cells .now) (at-start .args .chars .now) (at-start .args .keys .now)
-    (λ k. drop k (at-start .args .lhs .now)) (λ k. drop k (at-start .args .rhs .now)) (at-loop .loop .inv .1 .1) _ (at-start .pre .1 .1 .1) _ _
-    (drop-head (at-start .args .lhs .now) _ (within .0)) (drop-head (at-start .args .rhs .now) _ (within .1)) (at-loop-test .loop-test .taken) _ (at-explain-match-unchecked .explain-match-unchecked .ensures) _ (c .before .k .given .1))
+    matching-refused (at-start .args .terms .now) (at-start .args .cells .now) (at-start .args .chars .now) (at-start .args .keys .now) (sameHeads (readIn (at-start .args .terms .now) (at-start .args .chars .now) (at-start .args .c)) (at-start .args .lhs .now) (at-start .args .rhs .now))
+    (at-loop .loop .inv .1 .1) _ _ (heads-place (at-start .args .lhs .now) (at-start .args .rhs .now) (readIn (at-start .args .terms .now) (at-start .args .chars .now) (at-start .args .c)) (at-start .pre .1 .0) (at-start .pre .1 .1 .0) _ _ (at-start .pre .1 .1 .1) (at-loop-test .loop-test .taken)) _ _
+    (at-explain-match-unchecked .explain-match-unchecked .ensures) _ (c .before .k .given .1))
     -- add-i
     (λ c. search (needs, c .before .before .before .before .before .before .before .before .before .loop-test .taken, c .before .before .before .before .before .before .before .before .before .before .before .before .before .before .before .before .before .before .good))
     -- loop-less
@@ -95,11 +91,9 @@ explain-heads-spec =
             let at-loop-test = at-explain-match-unchecked .before .before .before .before in
             let at-loop = at-loop-test .before in
             let at-start = at-loop .before .before .before .before .before .before .before .before in
-            let within = heads-within (at-start .args .lhs .now) (at-start .args .rhs .now) (readIn (at-start .args .terms .now) (at-start .args .chars .now) (at-start .args .c)) _ _ (at-start .pre .1 .1 .1) (at-loop-test .loop-test .taken) in
-            matching-turn (at-start .args .terms .now) (at-start .args .cells .now) (at-start .args .chars .now) (at-start .args .keys .now)
-            (λ k. drop k (at-start .args .lhs .now)) (λ k. drop k (at-start .args .rhs .now)) (at-loop .loop .inv .1 .1) _ (at-start .pre .1 .1 .1) _ _
-            (drop-head (at-start .args .lhs .now) _ (within .0)) (drop-head (at-start .args .rhs .now) _ (within .1)) (at-loop-test .loop-test .taken) _ (at-explain-match-unchecked .explain-match-unchecked .ensures) _ (c .before .e .given .1)
-            (pair-of (at-start .args .terms .now) (at-start .args .cells .now) (at-start .args .chars .now) (at-start .args .keys .now) (at-loop .loop .inv .1 .1 .going) (at-start .args .lhs .now) (at-start .args .rhs .now) (at-start .pre .1 .0) (at-start .pre .1 .1 .0) _ _ (within .0) (within .1)),
+            matching-turn (at-start .args .terms .now) (at-start .args .cells .now) (at-start .args .chars .now) (at-start .args .keys .now) (sameHeads (readIn (at-start .args .terms .now) (at-start .args .chars .now) (at-start .args .c)) (at-start .args .lhs .now) (at-start .args .rhs .now))
+            (at-loop .loop .inv .1 .1) _ _ (heads-place (at-start .args .lhs .now) (at-start .args .rhs .now) (readIn (at-start .args .terms .now) (at-start .args .chars .now) (at-start .args .c)) (at-start .pre .1 .0) (at-start .pre .1 .1 .0) _ _ (at-start .pre .1 .1 .1) (at-loop-test .loop-test .taken)) _ _
+            (at-explain-match-unchecked .explain-match-unchecked .ensures) _ (c .before .e .given .1),
       ),
     ))
     -- same-length-2
@@ -107,5 +101,5 @@ explain-heads-spec =
     -- returns-2
     (λ c.
     let at-start = c .before .before .before .before .before .before .before .before .before in
-    matching-end (at-start .args .terms .now) (at-start .args .cells .now) (at-start .args .chars .now) (at-start .args .keys .now)
-    (λ k. drop k (at-start .args .lhs .now)) (λ k. drop k (at-start .args .rhs .now)) (c .before .loop .inv .1 .1) _ (at-start .pre .1 .1 .1) (c .loop-test .left)))
+    matching-end (at-start .args .terms .now) (at-start .args .cells .now) (at-start .args .chars .now) (at-start .args .keys .now) (sameHeads (readIn (at-start .args .terms .now) (at-start .args .chars .now) (at-start .args .c)) (at-start .args .lhs .now) (at-start .args .rhs .now))
+    (c .before .loop .inv .1 .1) (let n = at-start .pre .1 .1 .1 in let k = c .loop-test .left in omega arith)))

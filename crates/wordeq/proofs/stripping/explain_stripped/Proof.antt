@@ -1,5 +1,6 @@
 use mathlib.Core.Path.{refl}
-use Rattle.wordeq.proofs.Refines.Stripping.{going-strings, both-refused, heads-going, tails-counted, both-explained}
+use Rattle.wordeq.proofs.Refines.Going.{going-strings}
+use Rattle.wordeq.proofs.Refines.Stripping.{both-refused, heads-going, tails-counted, both-explained}
 use native.Mathlib.Omega.{arith}
 use borrow.Author.Needs.{needs}
 use Rattle.wordeq.proofs.stripping.explain_stripped.Statement.{statement}

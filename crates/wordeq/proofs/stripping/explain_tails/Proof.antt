@@ -2,14 +2,15 @@ use mathlib.Core.Path.{_≡_, refl}
 use Prim.Native.Nat.{_-_, _≤_}
 use lib.ListN.{length}
 use Rattle.records.specs.View.{readIn}
-use Rattle.wordeq.proofs.Refines.Stripping.{pair-of, tail, tail-head, Matching, matching-none, matching-end, matching-same, matching-refused, matching-turn, last-below, tails-within, tails-total, tails-explained}
+use Rattle.wordeq.specs.Wordeq.{sameTails}
+use Rattle.wordeq.proofs.Refines.Stripping.{Matching, matching-none, matching-end, matching-pair, matching-same, matching-refused, matching-turn, last-below, tails-within, tails-place}
 use native.Mathlib.Omega.{arith}
 use borrow.Author.Needs.{needs}
 use Rattle.wordeq.proofs.stripping.explain_tails.Statement.{statement}
 use Rattle.wordeq.proofs.stripping.explain_tails.Tie as tie
 
 abbrev Inv-loop : tie.InvT-loop
-Inv-loop terms cells chars reasons₀ keys lhs rhs from n d₀ i₀ reasons d i = (i ≤ n) × ((length reasons ≡ length reasons₀) × Matching terms cells chars keys (tail lhs from) (tail rhs from) d₀ reasons₀ d reasons i)
+Inv-loop terms cells chars reasons₀ keys lhs rhs from n d₀ i₀ reasons d i = (i ≤ n) × ((length reasons ≡ length reasons₀) × Matching terms cells chars keys (sameTails (readIn terms chars d₀) from lhs rhs) d₀ reasons₀ d reasons i)
 
 abbrev μ-loop : tie.MeasureT-loop
 μ-loop terms cells chars reasons₀ keys lhs rhs from n d₀ i₀ reasons d i = n - i
@@ -23,7 +24,7 @@ explain-tails-spec =
     -- loop-holds
     (λ c.
     let at-start = c .before .before .before .before .before .before .before in
-    (omega arith, (refl, matching-none (at-start .args .terms .now) (at-start .args .cells .now) (at-start .args .chars .now) (at-start .args .keys .now) (tail (at-start .args .lhs .now) (at-start .args .from)) (tail (at-start .args .rhs .now) (at-start .args .from)) (at-start .pre .0))))
+    (omega arith, (refl, matching-none (at-start .args .terms .now) (at-start .args .cells .now) (at-start .args .chars .now) (at-start .args .keys .now) (sameTails (readIn (at-start .args .terms .now) (at-start .args .chars .now) (at-start .args .c)) (at-start .args .from) (at-start .args .lhs .now) (at-start .args .rhs .now)) (at-start .pre .0))))
     -- sub-a
     (λ c.
     let at-loop-test = c in
@@ -75,14 +76,10 @@ explain-tails-spec =
     let at-loop-test = c .before .before .before in
     let at-loop = at-loop-test .before in
     let at-start = at-loop .before .before .before .before .before .before .before .before in
-    let within = tails-within (at-start .args .lhs .now) (at-start .args .rhs .now) (readIn (at-start .args .terms .now) (at-start .args .chars .now) (at-start .args .c)) (at-start .args .from) _ _ (at-start .pre .1 .1 .1) (at-loop-test .loop-test .taken) in (
+    let ps = (sameTails (readIn (at-start .args .terms .now) (at-start .args .chars .now) (at-start .args .c)) (at-start .args .from) (at-start .args .lhs .now) (at-start .args .rhs .now)) in
+    let place = (tails-place (at-start .args .lhs .now) (at-start .args .rhs .now) (readIn (at-start .args .terms .now) (at-start .args .chars .now) (at-start .args .c)) (at-start .pre .1 .0) (at-start .pre .1 .1 .0) (at-start .args .from) _ _ (at-start .pre .1 .1 .1) (at-loop-test .loop-test .taken)) in (
       at-loop .loop .inv .1 .1 .going .ready,
-      (
-        pair-of (at-start .args .terms .now) (at-start .args .cells .now) (at-start .args .chars .now) (at-start .args .keys .now) (at-loop .loop .inv .1 .1 .going) (at-start .args .lhs .now) (at-start .args .rhs .now) (at-start .pre .1 .0) (at-start .pre .1 .1 .0) _ _ (last-below _ (at-start .args .from) _ (within .0)) (last-below _ (at-start .args .from) _ (within .1)),
-        matching-same (at-start .args .terms .now) (at-start .args .cells .now) (at-start .args .chars .now) (at-start .args .keys .now)
-            (tail (at-start .args .lhs .now) (at-start .args .from)) (tail (at-start .args .rhs .now) (at-start .args .from)) (at-loop .loop .inv .1 .1) _ (tails-total (at-start .args .lhs .now) (at-start .args .rhs .now) (readIn (at-start .args .terms .now) (at-start .args .chars .now) (at-start .args .c)) (at-start .args .from) _ (at-start .pre .1 .1 .1)) _ _
-            (tail-head (at-start .args .lhs .now) (at-start .args .from) _ (within .0)) (tail-head (at-start .args .rhs .now) (at-start .args .from) _ (within .1)) (at-loop-test .loop-test .taken),
-      ),
+      (matching-pair (at-start .args .terms .now) (at-start .args .cells .now) (at-start .args .chars .now) (at-start .args .keys .now) ps (at-loop .loop .inv .1 .1) _ _ place, matching-same (at-start .args .terms .now) (at-start .args .cells .now) (at-start .args .chars .now) (at-start .args .keys .now) ps (at-loop .loop .inv .1 .1) _ _ place),
     ))
     -- enum-known-e
     (λ c. search needs)
@@ -96,11 +93,9 @@ explain-tails-spec =
     let at-loop-test = at-explain-match-unchecked .before .before .before .before in
     let at-loop = at-loop-test .before in
     let at-start = at-loop .before .before .before .before .before .before .before .before in
-    let within = tails-within (at-start .args .lhs .now) (at-start .args .rhs .now) (readIn (at-start .args .terms .now) (at-start .args .chars .now) (at-start .args .c)) (at-start .args .from) _ _ (at-start .pre .1 .1 .1) (at-loop-test .loop-test .taken) in
-    tails-explained (at-start .args .lhs .now) (at-start .args .rhs .now) (readIn (at-start .args .terms .now) (at-start .args .chars .now) (at-start .args .c)) (at-start .args .from)
-    (matching-refused (at-start .args .terms .now) (at-start .args .cells .now) (at-start .args .chars .now) (at-start .args .keys .now)
-    (tail (at-start .args .lhs .now) (at-start .args .from)) (tail (at-start .args .rhs .now) (at-start .args .from)) (at-loop .loop .inv .1 .1) _ (tails-total (at-start .args .lhs .now) (at-start .args .rhs .now) (readIn (at-start .args .terms .now) (at-start .args .chars .now) (at-start .args .c)) (at-start .args .from) _ (at-start .pre .1 .1 .1)) _ _
-    (tail-head (at-start .args .lhs .now) (at-start .args .from) _ (within .0)) (tail-head (at-start .args .rhs .now) (at-start .args .from) _ (within .1)) (at-loop-test .loop-test .taken) _ (at-explain-match-unchecked .explain-match-unchecked .ensures) _ (c .before .k .given .1)))
+    matching-refused (at-start .args .terms .now) (at-start .args .cells .now) (at-start .args .chars .now) (at-start .args .keys .now) (sameTails (readIn (at-start .args .terms .now) (at-start .args .chars .now) (at-start .args .c)) (at-start .args .from) (at-start .args .lhs .now) (at-start .args .rhs .now))
+    (at-loop .loop .inv .1 .1) _ _ (tails-place (at-start .args .lhs .now) (at-start .args .rhs .now) (readIn (at-start .args .terms .now) (at-start .args .chars .now) (at-start .args .c)) (at-start .pre .1 .0) (at-start .pre .1 .1 .0) (at-start .args .from) _ _ (at-start .pre .1 .1 .1) (at-loop-test .loop-test .taken)) _ _
+    (at-explain-match-unchecked .explain-match-unchecked .ensures) _ (c .before .k .given .1))
     -- add-i
     (λ c. search (needs, c .before .before .before .before .before .before .before .before .before .loop-test .taken, c .before .before .before .before .before .before .before .before .before .before .before .before .before .before .before .before .before .before .good))
     -- loop-less
@@ -114,11 +109,9 @@ explain-tails-spec =
             let at-loop-test = at-explain-match-unchecked .before .before .before .before in
             let at-loop = at-loop-test .before in
             let at-start = at-loop .before .before .before .before .before .before .before .before in
-            let within = tails-within (at-start .args .lhs .now) (at-start .args .rhs .now) (readIn (at-start .args .terms .now) (at-start .args .chars .now) (at-start .args .c)) (at-start .args .from) _ _ (at-start .pre .1 .1 .1) (at-loop-test .loop-test .taken) in
-            matching-turn (at-start .args .terms .now) (at-start .args .cells .now) (at-start .args .chars .now) (at-start .args .keys .now)
-            (tail (at-start .args .lhs .now) (at-start .args .from)) (tail (at-start .args .rhs .now) (at-start .args .from)) (at-loop .loop .inv .1 .1) _ (tails-total (at-start .args .lhs .now) (at-start .args .rhs .now) (readIn (at-start .args .terms .now) (at-start .args .chars .now) (at-start .args .c)) (at-start .args .from) _ (at-start .pre .1 .1 .1)) _ _
-            (tail-head (at-start .args .lhs .now) (at-start .args .from) _ (within .0)) (tail-head (at-start .args .rhs .now) (at-start .args .from) _ (within .1)) (at-loop-test .loop-test .taken) _ (at-explain-match-unchecked .explain-match-unchecked .ensures) _ (c .before .e .given .1)
-            (pair-of (at-start .args .terms .now) (at-start .args .cells .now) (at-start .args .chars .now) (at-start .args .keys .now) (at-loop .loop .inv .1 .1 .going) (at-start .args .lhs .now) (at-start .args .rhs .now) (at-start .pre .1 .0) (at-start .pre .1 .1 .0) _ _ (last-below _ (at-start .args .from) _ (within .0)) (last-below _ (at-start .args .from) _ (within .1))),
+            matching-turn (at-start .args .terms .now) (at-start .args .cells .now) (at-start .args .chars .now) (at-start .args .keys .now) (sameTails (readIn (at-start .args .terms .now) (at-start .args .chars .now) (at-start .args .c)) (at-start .args .from) (at-start .args .lhs .now) (at-start .args .rhs .now))
+            (at-loop .loop .inv .1 .1) _ _ (tails-place (at-start .args .lhs .now) (at-start .args .rhs .now) (readIn (at-start .args .terms .now) (at-start .args .chars .now) (at-start .args .c)) (at-start .pre .1 .0) (at-start .pre .1 .1 .0) (at-start .args .from) _ _ (at-start .pre .1 .1 .1) (at-loop-test .loop-test .taken)) _ _
+            (at-explain-match-unchecked .explain-match-unchecked .ensures) _ (c .before .e .given .1),
       ),
     ))
     -- same-length-2
@@ -126,6 +119,5 @@ explain-tails-spec =
     -- returns-2
     (λ c.
     let at-start = c .before .before .before .before .before .before .before .before .before in
-    tails-explained (at-start .args .lhs .now) (at-start .args .rhs .now) (readIn (at-start .args .terms .now) (at-start .args .chars .now) (at-start .args .c)) (at-start .args .from)
-    (matching-end (at-start .args .terms .now) (at-start .args .cells .now) (at-start .args .chars .now) (at-start .args .keys .now)
-    (tail (at-start .args .lhs .now) (at-start .args .from)) (tail (at-start .args .rhs .now) (at-start .args .from)) (c .before .loop .inv .1 .1) _ (tails-total (at-start .args .lhs .now) (at-start .args .rhs .now) (readIn (at-start .args .terms .now) (at-start .args .chars .now) (at-start .args .c)) (at-start .args .from) _ (at-start .pre .1 .1 .1)) (c .loop-test .left))))
+    matching-end (at-start .args .terms .now) (at-start .args .cells .now) (at-start .args .chars .now) (at-start .args .keys .now) (sameTails (readIn (at-start .args .terms .now) (at-start .args .chars .now) (at-start .args .c)) (at-start .args .from) (at-start .args .lhs .now) (at-start .args .rhs .now))
+    (c .before .loop .inv .1 .1) (let n = at-start .pre .1 .1 .1 in let k = c .loop-test .left in omega arith)))
