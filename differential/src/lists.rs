@@ -271,6 +271,8 @@ struct Manner {
     // of 20 calls that many set a mark, and that many go back
     marks: usize,
     backs: usize,
+    // where so many stand no more are set
+    most: u32,
     // joins and concatenations that would end the comparison with the Rust are passed over
     steered: bool,
 }
@@ -279,7 +281,7 @@ fn start(random: &mut Random) -> (Lent, Manner) {
     let steered = random.one_in(2);
     let small =
         |random: &mut Random| generate::Profile { terms: random.between(3, 9), merges: random.between(2, 12), letters: 2, longest: 2 };
-    let manner = Manner { calls: random.between(10, 50), marks: 3, backs: 2, steered };
+    let manner = Manner { calls: random.between(10, 50), marks: 3, backs: 2, most: 65, steered };
     match random.below(20) {
         // no term at all
         0..=11 => {
@@ -298,6 +300,14 @@ fn start(random: &mut Random) -> (Lent, Manner) {
             let p = small(random);
             (lay_out(&generate::draft(random, p)), manner)
         }
+        // many terms and many joins under few marks
+        18 if random.one_in(16) => {
+            let p = generate::Profile { terms: random.between(300, 500), merges: 0, letters: 3, longest: 4 };
+            let mut d = generate::draft(random, p);
+            d.edges.clear();
+            d.spare = [12, 40, 60, 60, 4];
+            (lay_out(&d), Manner { calls: random.between(400, 900), marks: 1, backs: 0, most: 4, steered: false })
+        }
         // more terms, marks up to the most, long lists
         k => {
             let p = generate::Profile { terms: random.between(20, 80), merges: 4, letters: 3, longest: 4 };
@@ -305,7 +315,7 @@ fn start(random: &mut Random) -> (Lent, Manner) {
             if k == 18 {
                 d.edges.clear();
             }
-            (lay_out(&d), Manner { calls: random.between(100, 260), marks: 9, backs: random.below(2), steered })
+            (lay_out(&d), Manner { calls: random.between(100, 260), marks: 9, backs: random.below(2), most: 65, steered })
         }
     }
 }
@@ -449,6 +459,11 @@ pub fn list(random: &mut Random, by: &Answering, tally: &mut Tally) -> Result<()
             }
         }
     }
+    if run.s.standing() > 0 {
+        let mark = random.between(1, run.s.standing() as usize) as u32;
+        acting(by, &mut run, Act::GoBack { mark }, 8, tally)?;
+        run.divided(tally)?;
+    }
     tally.whole += run.rust.is_some() as u64;
     tally.left += (was_beside && run.rust.is_none()) as u64;
     Ok(())
@@ -464,7 +479,7 @@ fn one_call(random: &mut Random, by: &Answering, run: &mut Run, manner: Manner, 
     if roll == 4 {
         return explaining(random, by, run, tally);
     }
-    let act = if roll < 5 + marks {
+    let act = if roll < 5 + marks && run.s.standing() < manner.most {
         Act::SetMark
     } else if roll < 5 + marks + backs {
         going_back(random, &run.s)
@@ -484,6 +499,10 @@ fn one_call(random: &mut Random, by: &Answering, run: &mut Run, manner: Manner, 
         return Ok(());
     }
     let room = 8 + if random.one_in(10) { random.below(4) } else { 0 };
+    acting(by, run, act, room, tally)
+}
+
+fn acting(by: &Answering, run: &mut Run, act: Act, room: usize, tally: &mut Tally) -> Result<(), String> {
     let Some(told) = held(by, &run.s, &act, room) else {
         tally.absent += 1;
         return Ok(());

@@ -462,8 +462,15 @@ fn main() {
         "compare" => compare(&o).differences,
         "damaged" => damaged(&o).differences,
         "claims" => claims(&o).differences,
-        "lists" => listed(&o).differences,
-        "trails" => damaged_trails(&o).differences,
+        // nothing is compared where a call is not there
+        "lists" => {
+            let t = listed(&o);
+            t.differences + t.absent
+        }
+        "trails" => {
+            let t = damaged_trails(&o);
+            t.differences + t.absent
+        }
         "faults" => return faults(&o),
         "vectors" => return stored(&o),
         "speed" => return speed::table(o.seed),
