@@ -59,6 +59,8 @@ pub struct Base {
     events: Vec<Event>,
 }
 
+// the place of the five variables in `start`
+const FIVE: usize = 4;
 const MARKS: usize = 3;
 const JOINS: usize = 4;
 
@@ -113,13 +115,20 @@ fn extend(s: &Marked, base: &mut Base, out: &mut Vec<Base>) {
         next.push(Event::Mark);
     }
     if joined < JOINS {
-        next.extend(joins(&s.store));
+        next.extend(joins(&s.store).into_iter().filter(|e| base.start != FIVE || in_order(&base.events, *e)));
     }
     for e in next {
         base.events.push(e);
         extend(&done(s, e, base.events.len()), base, out);
         base.events.pop();
     }
+}
+
+// terms named for the first time come by their numbers: of trails that differ by names alone, one
+fn in_order(before: &[Event], e: Event) -> bool {
+    let highest = |e: &Event| if let Event::Join(a, b) = *e { a.max(b) } else { 0 };
+    let named = before.iter().map(highest).max().unwrap_or(0);
+    matches!(e, Event::Join(a, b) if a <= named + 1 && b <= named.max(a) + 1)
 }
 
 fn joins(s: &Lent) -> Vec<Event> {
@@ -129,10 +138,11 @@ fn joins(s: &Lent) -> Vec<Event> {
     pairs.filter(apart).map(|(a, b)| Event::Join(a, b)).collect()
 }
 
-/// Every trail on three variables, on the stores with a congruence and with terms of every kind, and on four variables, in this order.
+/// Every trail on three variables, on the stores with a congruence and with terms of every kind, on four variables, and on five up to their
+/// names, in this order.
 pub fn bases() -> Vec<Base> {
     let mut out = vec![];
-    for k in 0..4 {
+    for k in 0..=FIVE {
         let mut base = Base { start: k, events: vec![] };
         extend(&Marked::unmarked(start(k), vec![0; WORDS]), &mut base, &mut out);
     }
