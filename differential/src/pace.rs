@@ -4,8 +4,9 @@
 use crate::{
     count::Counter,
     draft::{join, lay_out, Draft},
+    generate::long_pairs,
     lent::{Pair, TERMS},
-    marks::{Act, Marked, WORDS},
+    marks::{Act, Marked, STANDING, WORDS},
     port::{act, ABSENT},
     random::Random,
 };
@@ -236,6 +237,36 @@ pub fn table(seed: u64) {
         timed(terms, "", &mut shapes(&mut Random::new(seed), terms));
     }
     timed(TERMS, ", 63 marks", &mut many_marks(&mut Random::new(seed)));
+    worst();
+}
+
+// seconds that the audit of store and marks takes on the inputs that cost most
+fn worst() {
+    println!("    audit  marks  joins");
+    let free = || vec![0; WORDS];
+    // 64 marks, and after each so many joins of a line; the line's end is the root of all
+    let marked = |mut s: Marked, from: u32, each: u32| {
+        for mark in 0..STANDING {
+            due(&mut s, &Act::SetMark, 0);
+            (0..each).for_each(|i| due(&mut s, &joining(&(from + mark * each + i, from + mark * each + i + 1)), 0));
+        }
+        s
+    };
+    let tell = |name: &str, mut s: Marked| {
+        let start = Instant::now();
+        due(&mut s, &AUDIT, 10);
+        println!("{:9.6} {:6} {:6}  {name}", start.elapsed().as_secs_f64(), s.standing(), s.joins());
+    };
+    let separate = Shape::new(TERMS, &[vec![], vec![]], vec![]).before;
+    let none = Marked::unmarked(separate.store, free());
+    tell("512 terms in one line, 7 joins after each mark", marked(none.clone(), 1, 7));
+    tell("512 separate terms", marked(none, 1, 0));
+    let pairs = Marked::unmarked(long_pairs(127, 682), free());
+    tell("256 congruences of 682 pairs with paths of 254 edges, no mark", pairs.clone());
+    // 64 marks with no join: set by hand, since each call audits those before
+    let mut marks = pairs;
+    marks.store.state[6] = STANDING;
+    tell("the same with marks", marks);
 }
 
 // a line of joins, so that the way up from term 1 has so many edges in the forest and in its class; then 1 is joined with the last term
