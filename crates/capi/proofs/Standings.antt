@@ -17,7 +17,7 @@ use Rattle.classes.specs.declared.Standing.{Standing}
 use Rattle.classes.specs.declared.Answer.{Answer}
 use Rattle.classes.specs.declared.Answer.the-variants.{Given, Refused}
 use Rattle.classes.specs.Joins.{Trace, traceOf}
-use Rattle.classes.specs.Marks.{Trail, markLimit, trailOf, trailSizes, tableAt, auditMarks}
+use Rattle.classes.specs.Marks.{Trail, markLimit, joinLimit, traceAt, trailOf, trailSizes, tableAt, auditMarks}
 use Rattle.classes.specs.Calls.{Outcome, gives, refuses, joinArguments, recorded, joinTerms, setMark, joinsAt, gone, goBack, unless, tracked, answered, Tracks, PublicJoin}
 use Rattle.capi.specs.Interface.{stateOf, Beyond}
 use Rattle.capi.specs.Marks.{standingOf, spacious, Inside, Promise, readAs, ExportedMarks}
@@ -86,6 +86,15 @@ beyond-set : (a : List ℕ) (x : ℕ) → Beyond 1 a (set a 0 x)
 beyond-set [] x = record { length-is = refl; rest = refl }
 beyond-set (y ∷ a) x = record { length-is = refl; rest = refl }
 
+-- TELLING
+
+module _ {r : Answer} {w w′ : List ℕ} {x : ℕ} {e : Standing} (q : r ≡ Given x e) (p : w′ ≡ standingIn e w) where
+  pub standing-told : ToldStanding r w w′ 0
+  standing-told = rw q record { code = refl; state = p }
+
+  pub number-told : {a a′ : List ℕ} → a′ ≡ set a 0 x → ToldAnswer r w w′ a a′ 0
+  number-told z = rw q record { is = record { code = refl; state = p }; answer = z }
+
 -- WHAT IS READ OFF
 
 not-both : {X : Type 0} {b : Bool} → b ≡ true → b ≡ false → X
@@ -149,7 +158,7 @@ module _ {P : Promise} {i j : ℕ} {fit : Bool} {m m′ : Lent} {l l′ w : List
 
 -- WHAT THE CALLS GIVE
 
-module _ {work : Store → Trail → Outcome} {m : Lent} {l : List ℕ} {c : State} {d : Standing} where
+module _ (work : Store → Trail → Outcome) (m : Lent) (l : List ℕ) (c : State) (d : Standing) where
   tracked-gives : {s : Store} {x : Trail} {n : ℕ} → tracked work m l c d ≡ gives s x n → work (storeOf m c) (trailOf l d) ≡ gives s x n
   unfolding tracked
   tracked-gives {s} {x} {n} e = go (auditMarks m l c d) e
@@ -166,21 +175,21 @@ module _ {work : Store → Trail → Outcome} {m : Lent} {l : List ℕ} {c : Sta
       go zero e = f e
       go (suc k) e = let z : suc k ≡ 0 = cc in absurd (omega arith)
 
-  module _ {m′ : Lent} {l′ : List ℕ} {r : Answer} (t : Tracks work m m′ l l′ c d r) where
-    given-says : (x : ℕ) (e : Standing) → r ≡ Given x e → work (storeOf m c) (trailOf l d) ≡ gives (storeOf m′ c) (trailOf l′ e) x
-    given-says x e q = tracked-gives (sym (t .says) ∙ ap (λ (y : Answer). answered y m′ l′ c) q)
+module _ {work : Store → Trail → Outcome} {m m′ : Lent} {l l′ : List ℕ} {c : State} {d : Standing} {r : Answer} (t : Tracks work m m′ l l′ c d r) where
+  given-says : (x : ℕ) (e : Standing) → r ≡ Given x e → work (storeOf m c) (trailOf l d) ≡ gives (storeOf m′ c) (trailOf l′ e) x
+  given-says x e q = tracked-gives work m l c d (sym (t .says) ∙ ap (λ (y : Answer). answered y m′ l′ c) q)
 
-    no-stop : (work (storeOf m c) (trailOf l d) ≡ refuses 0 → ⊥) → r ≡ Refused 0 → ⊥
-    no-stop f q = tracked-stops f (sym (t .says) ∙ ap (λ (y : Answer). answered y m′ l′ c) q)
+  no-stop : (work (storeOf m c) (trailOf l d) ≡ refuses 0 → ⊥) → r ≡ Refused 0 → ⊥
+  no-stop f q = tracked-stops work m l c d f (sym (t .says) ∙ ap (λ (y : Answer). answered y m′ l′ c) q)
 
 -- a store and marks that pass the audit have counts within their limits
 standing-narrow : (m : Lent) (l : List ℕ) (c : State) (e : Standing) → auditMarks m l c e ≡ 0 → NarrowStanding e
 unfolding auditMarks trailSizes
 standing-narrow m l c e h = decide (sizes m c && trailSizes l e)
     (λ p.
-    let q = both-left _ _ (both-right (sizes m c) _ p) in
-    let x = leb-true _ _ (both-left _ _ q) in
-    let y = leb-true _ _ (both-right (leb (e .marks) markLimit) _ q) in
+    let q = both-left (leb (e .marks) markLimit && leb (e .joins) joinLimit) _ (both-right (sizes m c) _ p) in
+    let x : e .marks ≤ markLimit = leb-true (e .marks) markLimit (both-left (leb (e .marks) markLimit) _ q) in
+    let y : e .joins ≤ joinLimit = leb-true (e .joins) joinLimit (both-right (leb (e .marks) markLimit) _ q) in
     record { marks = omega arith; joins = omega arith })
     (λ p. let z = rw p at h in absurd (omega arith))
 
@@ -206,7 +215,7 @@ module _ (a b k v : ℕ) (s : Store) (x : Trail) where
       (λ p. decide (sameClass s a b)
       (λ q. let h = rw (p, q) at e in let z : _≡_ {A = ℕ} 0 1 = cc in absurd (omega arith))
       (λ q. let h = rw (p, q) at e in let z : _≡_ {A = ℕ} 0 1 = cc in absurd (omega arith)))
-      (λ p. let h = rw p at e in let z : 5 ≡ 0 = cc in absurd (omega arith))
+      (λ p. let h = rw p at e in let z : _≡_ {A = ℕ} 5 0 = cc in absurd (omega arith))
 
 module _ (s : Store) (x : Trail) where
   mark-joins : (s′ : Store) (x′ : Trail) (n : ℕ) → setMark s x ≡ gives s′ x′ n → x′ .joins ≡ x .joins
@@ -219,7 +228,7 @@ module _ (s : Store) (x : Trail) where
   unfolding setMark
   mark-stops e = decide (ltb (length (x .marks)) markLimit)
       (λ p. let h = rw p at e in let z : _≡_ {A = ℕ} 0 1 = cc in absurd (omega arith))
-      (λ p. let h = rw p at e in let z : 10 ≡ 0 = cc in absurd (omega arith))
+      (λ p. let h = rw p at e in let z : _≡_ {A = ℕ} 10 0 = cc in absurd (omega arith))
 
   -- going back gives the number of its mark
   gone-number : (i : ℕ) (o : Option (List Term)) (s′ : Store) (x′ : Trail) (n : ℕ) → gone i s x o ≡ gives s′ x′ n → i ≡ n
@@ -227,7 +236,7 @@ module _ (s : Store) (x : Trail) where
   gone-number i (some ts) s′ x′ n e = let z : i ≡ n = cc in z
 
   gone-stops : (i : ℕ) (o : Option (List Term)) → gone i s x o ≡ refuses 0 → ⊥
-  gone-stops i none e = let z : 3 ≡ 0 = cc in absurd (omega arith)
+  gone-stops i none e = let z : _≡_ {A = ℕ} 3 0 = cc in absurd (omega arith)
   gone-stops i (some ts) e = let z : _≡_ {A = ℕ} 0 1 = cc in absurd (omega arith)
 
   back-number : (i : ℕ) (s′ : Store) (x′ : Trail) (n : ℕ) → goBack i s x ≡ gives s′ x′ n → i ≡ n
@@ -240,7 +249,7 @@ module _ (s : Store) (x : Trail) where
   unfolding goBack
   back-stops i e = decide (within (length (x .marks)) i)
       (λ p. let h = rw p at e in gone-stops i (tableAt (joinsAt i x) x (s .terms)) h)
-      (λ p. let h = rw p at e in let z : 10 ≡ 0 = cc in absurd (omega arith))
+      (λ p. let h = rw p at e in let z : _≡_ {A = ℕ} 10 0 = cc in absurd (omega arith))
 
 -- lists of equal records are of one length
 tables-long : {A : Type 0} (f g : ℕ → A) (i j : ℕ) → table f i ≡ table g j → i ≡ j
@@ -248,41 +257,50 @@ tables-long f g i j p = sym (table-length f i) ∙ ap length p ∙ table-length 
 
 -- THE EXPORTED CALLS
 
-module _ {m m′ : Lent} {l l′ w w′ : List ℕ} {c : State} {d : Standing} {r : Answer} {k : ℕ} (i : c ≡ stateOf w) (j : d ≡ standingOf w) where
+pub back-short : (m : Lent) (l w : List ℕ) (mark : ℕ) → length w < 8 → ExportedMarks (Tracks (goBack mark)) 6 8 (leb 8 (length w)) m m l l w w [] [] mark 1
+back-short m l w mark h = marks-short m l w [] mark (lt-leb 8 (length w) h)
+
+module _ {m m′ : Lent} {l l′ w w′ : List ℕ} {c : State} {d : Standing} {r : Answer} {k : ℕ} (counted : c ≡ stateOf w) (standing : d ≡ standingOf w) where
+  -- the promise of the counts that the words have
+  moved : (P : Promise) → P m m′ l l′ c d r → P m m′ l l′ (stateOf w) (standingOf w) r
+  moved P p = subst (λ (y : State). P m m′ l l′ y (standingOf w) r) counted (subst (λ (y : Standing). P m m′ l l′ c y r) standing p)
+
   pub join-exported : {a b kind number : ℕ} {v v′ : List ℕ} → PublicJoin a b kind number m m′ l l′ c d r → spacious w v ≡ true → ToldAnswer r w w′ v v′ k
       → ExportedMarks (PublicJoin a b kind number) 7 8 (spacious w v) m m′ l l′ w w′ v v′ (getD v′ 0 0) k
   join-exported {a} {b} {kind} {number} {v} called room u =
-      let p = rw (i, j) at called in
+      let p = moved (PublicJoin a b kind number) called in
       let h = spacious-state w v room in
-      told-answer room h (spacious-answer w v room) r
+      told-answer {P = PublicJoin a b kind number} {i = 7} {j = 8} room h (spacious-answer w v room) r
       (record {
         promise = p;
-        stops = no-stop (p .tracks) (join-stops a b kind number _ _);
+        stops = no-stop (p .tracks) (join-stops a b kind number (storeOf m (stateOf w)) (trailOf l (standingOf w)));
         idle = p .tracks .idle;
-        inside = λ x e q. inside-joins e (eight-of w h) (tables-long _ _ _ _ (join-marks a b kind number _ _ _ _ _ (given-says (p .tracks) x e q)));
+        inside = λ x e q. inside-joins e (eight-of w h) (tables-long (λ (y : ℕ). getD l′ y 0) (λ (y : ℕ). getD l y 0) (e .marks) (getD w 6 0)
+            (join-marks a b kind number (storeOf m (stateOf w)) (trailOf l (standingOf w)) (storeOf m′ (stateOf w)) (trailOf l′ e) x (given-says (p .tracks) x e q)));
       }) u
 
   pub mark-exported : {v v′ : List ℕ} → Tracks setMark m m′ l l′ c d r → spacious w v ≡ true → ToldAnswer r w w′ v v′ k
       → ExportedMarks (Tracks setMark) 6 7 (spacious w v) m m′ l l′ w w′ v v′ (getD v′ 0 0) k
   mark-exported {v} called room u =
-      let p = rw (i, j) at called in
+      let p = moved (Tracks setMark) called in
       let h = spacious-state w v room in
-      told-answer room h (spacious-answer w v room) r
+      told-answer {P = Tracks setMark} {i = 6} {j = 7} room h (spacious-answer w v room) r
       (record {
         promise = p;
-        stops = no-stop p (mark-stops _ _);
+        stops = no-stop p (mark-stops (storeOf m (stateOf w)) (trailOf l (standingOf w)));
         idle = p .idle;
-        inside = λ x e q. inside-marks e (eight-of w h) (tables-long _ _ _ _ (mark-joins _ _ _ _ _ (given-says p x e q)));
+        inside = λ x e q. inside-marks e (eight-of w h) (tables-long (traceAt l′) (traceAt l) (e .joins) (getD w 7 0)
+            (mark-joins (storeOf m (stateOf w)) (trailOf l (standingOf w)) (storeOf m′ (stateOf w)) (trailOf l′ e) x (given-says p x e q)));
       }) u
 
   pub back-exported : {mark : ℕ} → Tracks (goBack mark) m m′ l l′ c d r → 8 ≤ length w → ToldStanding r w w′ k
       → ExportedMarks (Tracks (goBack mark)) 6 8 (leb 8 (length w)) m m′ l l′ w w′ [] [] mark k
   back-exported {mark} called h u =
-      let p = rw (i, j) at called in
-      told-state (le-leb 8 (length w) h) h r
+      let p = moved (Tracks (goBack mark)) called in
+      told-state {P = Tracks (goBack mark)} {i = 6} {j = 8} (le-leb 8 (length w) h) h r
       (record {
         promise = p;
-        stops = no-stop p (back-stops _ _ mark);
+        stops = no-stop p (back-stops (storeOf m (stateOf w)) (trailOf l (standingOf w)) mark);
         idle = p .idle;
         inside = λ x e q. inside-both e (eight-of w h);
-      }) u mark (λ x e q. back-number _ _ mark _ _ x (given-says p x e q)) (beyond-same 1 []) (λ z. refl)
+      }) u mark (λ x e q. back-number (storeOf m (stateOf w)) (trailOf l (standingOf w)) mark (storeOf m′ (stateOf w)) (trailOf l′ e) x (given-says p x e q)) (beyond-same 1 []) (λ z. refl)
