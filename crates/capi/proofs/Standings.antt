@@ -260,15 +260,16 @@ tables-long f g i j p = sym (table-length f i) ∙ ap length p ∙ table-length 
 pub back-short : (m : Lent) (l w : List ℕ) (mark : ℕ) → length w < 8 → ExportedMarks (Tracks (goBack mark)) 6 8 (leb 8 (length w)) m m l l w w [] [] mark 1
 back-short m l w mark h = marks-short m l w [] mark (lt-leb 8 (length w) h)
 
-module _ {m m′ : Lent} {l l′ w w′ : List ℕ} {c : State} {d : Standing} {r : Answer} {k : ℕ} (counted : c ≡ stateOf w) (standing : d ≡ standingOf w) where
-  -- the promise of the counts that the words have
-  moved : (P : Promise) → P m m′ l l′ c d r → P m m′ l l′ (stateOf w) (standingOf w) r
-  moved P p = subst (λ (y : State). P m m′ l l′ y (standingOf w) r) counted (subst (λ (y : Standing). P m m′ l l′ c y r) standing p)
+-- the promise of the counts that the words have
+module _ (P : Promise) (m m′ : Lent) (l l′ w : List ℕ) (r : Answer) where
+  moved : {c : State} {d : Standing} → c ≡ stateOf w → d ≡ standingOf w → P m m′ l l′ c d r → P m m′ l l′ (stateOf w) (standingOf w) r
+  moved {c} i j p = subst (λ (y : State). P m m′ l l′ y (standingOf w) r) i (subst (λ (y : Standing). P m m′ l l′ c y r) j p)
 
+module _ {m m′ : Lent} {l l′ w w′ : List ℕ} {c : State} {d : Standing} {r : Answer} {k : ℕ} (counted : c ≡ stateOf w) (standing : d ≡ standingOf w) where
   pub join-exported : {a b kind number : ℕ} {v v′ : List ℕ} → PublicJoin a b kind number m m′ l l′ c d r → spacious w v ≡ true → ToldAnswer r w w′ v v′ k
       → ExportedMarks (PublicJoin a b kind number) 7 8 (spacious w v) m m′ l l′ w w′ v v′ (getD v′ 0 0) k
   join-exported {a} {b} {kind} {number} {v} called room u =
-      let p = moved (PublicJoin a b kind number) called in
+      let p = moved (PublicJoin a b kind number) m m′ l l′ w r counted standing called in
       let h = spacious-state w v room in
       told-answer {P = PublicJoin a b kind number} {i = 7} {j = 8} room h (spacious-answer w v room) r
       (record {
@@ -282,7 +283,7 @@ module _ {m m′ : Lent} {l l′ w w′ : List ℕ} {c : State} {d : Standing} {
   pub mark-exported : {v v′ : List ℕ} → Tracks setMark m m′ l l′ c d r → spacious w v ≡ true → ToldAnswer r w w′ v v′ k
       → ExportedMarks (Tracks setMark) 6 7 (spacious w v) m m′ l l′ w w′ v v′ (getD v′ 0 0) k
   mark-exported {v} called room u =
-      let p = moved (Tracks setMark) called in
+      let p = moved (Tracks setMark) m m′ l l′ w r counted standing called in
       let h = spacious-state w v room in
       told-answer {P = Tracks setMark} {i = 6} {j = 7} room h (spacious-answer w v room) r
       (record {
@@ -296,7 +297,7 @@ module _ {m m′ : Lent} {l l′ w w′ : List ℕ} {c : State} {d : Standing} {
   pub back-exported : {mark : ℕ} → Tracks (goBack mark) m m′ l l′ c d r → 8 ≤ length w → ToldStanding r w w′ k
       → ExportedMarks (Tracks (goBack mark)) 6 8 (leb 8 (length w)) m m′ l l′ w w′ [] [] mark k
   back-exported {mark} called h u =
-      let p = moved (Tracks (goBack mark)) called in
+      let p = moved (Tracks (goBack mark)) m m′ l l′ w r counted standing called in
       told-state {P = Tracks (goBack mark)} {i = 6} {j = 8} (le-leb 8 (length w) h) h r
       (record {
         promise = p;

@@ -32,4 +32,5 @@ labels-go-back-spec =
     let at-standing-of = at-go-back .before .before in
     let at-state-of = at-standing-of .before .before in
     let at-if1 = at-state-of .before .before in
-    back-exported (at-state-of .state-of .ensures) (at-standing-of .standing-of .ensures) (at-go-back .go-back .ensures) (omega (arith, at-if1 .if1 .left)) (at-tell-standing .tell-standing .ensures)))
+    back-exported (at-state-of .state-of .ensures) (at-standing-of .standing-of .ensures) (at-go-back .go-back .ensures)
+    (omega (arith, at-if1 .if1 .left)) (at-tell-standing .tell-standing .ensures)))

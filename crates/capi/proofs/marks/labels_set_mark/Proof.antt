@@ -45,4 +45,5 @@ labels-set-mark-spec =
     let at-state-of = at-standing-of .before .before in
     let at-if1 = at-state-of .before .before in
     let at-is-spacious = at-if1 .before in
-    mark-exported (at-state-of .state-of .ensures) (at-standing-of .standing-of .ensures) (at-set-mark .set-mark .ensures) (sym (at-is-spacious .is-spacious .ensures) ∙ not-false _ (at-if1 .if1 .left)) (at-tell-number .tell-number .ensures)))
+    mark-exported (at-state-of .state-of .ensures) (at-standing-of .standing-of .ensures) (at-set-mark .set-mark .ensures)
+    (sym (at-is-spacious .is-spacious .ensures) ∙ not-false _ (at-if1 .if1 .left)) (at-tell-number .tell-number .ensures)))
