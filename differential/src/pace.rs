@@ -164,7 +164,11 @@ fn run(s: &mut Shape, work: Work, by: By) {
     let answer = &mut [0; 8];
     match (work, by) {
         (Work::Join, By::Rust) => s.joins.iter().for_each(|p| merge(&mut s.eq, p)),
-        (Work::Join, By::Port) => s.joins.iter().for_each(|p| drop(black_box(act(&mut s.lent, answer, &joining(p))))),
+        (Work::Join, By::Port) => {
+            for p in &s.joins {
+                black_box(act(&mut s.lent, answer, &joining(p)));
+            }
+        }
         (Work::SetMark, By::Rust) => (0..CALLS).for_each(|_| s.eq.push()),
         (Work::SetMark, By::Port) => {
             let marks = s.lent.store.state[6];
@@ -174,14 +178,20 @@ fn run(s: &mut Shape, work: Work, by: By) {
             }
         }
         (Work::GoBack, By::Rust) => s.eq.pop(s.level - 1),
-        (Work::GoBack, By::Port) => drop(black_box(act(&mut s.lent, answer, &Act::GoBack { mark: s.level as u32 }))),
+        (Work::GoBack, By::Port) => {
+            black_box(act(&mut s.lent, answer, &Act::GoBack { mark: s.level as u32 }));
+        }
         (Work::Join, By::Audit) => {
             for p in &s.joins {
                 black_box(act(&mut s.lent, answer, &AUDIT));
                 black_box(act(&mut s.lent, answer, &joining(p)));
             }
         }
-        (_, By::Audit) => (0..calls(s, work)).for_each(|_| drop(black_box(act(&mut s.lent, answer, &AUDIT)))),
+        (_, By::Audit) => {
+            for _ in 0..calls(s, work) {
+                black_box(act(&mut s.lent, answer, &AUDIT));
+            }
+        }
     }
 }
 

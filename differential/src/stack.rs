@@ -50,7 +50,9 @@ fn depth(mut store: Lent, call: Call) -> usize {
 // 512 terms in one line under 64 marks, and under none
 fn on_marks() {
     let mut d = Draft { layout: 0, spare: [0; 5], ..Draft::default() };
-    (0..TERMS).for_each(|t| drop(d.variable(&format!("x{t}"))));
+    for t in 0..TERMS {
+        d.variable(&format!("x{t}"));
+    }
     let none = Marked::unmarked(lay_out(&d), vec![0; WORDS]);
     let mut s = none.clone();
     for t in 1..TERMS as u32 {

@@ -13,7 +13,9 @@ use differential::{
 
 fn variables(names: &[&str]) -> Marked {
     let mut d = Draft::default();
-    names.iter().for_each(|n| drop(d.variable(n)));
+    for name in names {
+        d.variable(name);
+    }
     Marked::unmarked(lay_out(&d), vec![7; WORDS])
 }
 
