@@ -13,7 +13,7 @@ use borrow.Author.Tests.{eqb-true, eq-eqb, ne-eqb}
 use Rattle.records.specs.Lists.{firsts, Every}
 use Rattle.records.specs.Store.{Term, Store, termIn, term, count, kind, within, isTerm, isString, chain, parts, climb, classUp, forestUp, rootIn, topIn, root, top, aboveIn, nearestIn, pathIn, isEdge}
 use Rattle.records.specs.Rules.{isNumber, isReasonKind}
-use Rattle.records.specs.Make.{withTerms, withClass}
+use Rattle.records.specs.Make.{withTerms}
 use Rattle.records.specs.Working.Audited.{Closed, Label, asserted, interface, congruence, definitional, Unlabelled, Falls, Pairs, Congruent, Classed, Congruences, Audited}
 use Rattle.records.proofs.Lists.{decide, clash, either, same-test, every-map, every-both}
 use Rattle.records.proofs.Climbs.{top-self, classed-roots, classed-tops, root-root, root-term}
@@ -91,7 +91,7 @@ module _ (s : Store) (audited : Audited s) (a b place k v stamp : ℕ) (j : Atta
   js-us : length js ≡ length us
   js-us = edge-long us a (edge b k v stamp)
 
-  pub long : length js ≡ count s
+  long : length js ≡ count s
   long = js-us ∙ us-long
 
   in-us : (t : ℕ) → isTerm s t ≡ true → within (length us) t ≡ true
@@ -114,14 +114,13 @@ module _ (s : Store) (audited : Audited s) (a b place k v stamp : ℕ) (j : Atta
 
   -- WORDS THAT STAY
 
+  -- all but the edge's
   link-words : (f : Term → ℕ) → ((y : Term) (e : Edge) → f (bearing y e) ≡ f y) → (t : ℕ) → f (term s′ t) ≡ f (termIn put t)
   link-words f h t = edge-words us a _ (in-us a wa) f (λ y. h y _) t ∙ same .words f h t
 
-  pub words : (f : Term → ℕ) → ((y : Term) (e : Edge) → f (bearing y e) ≡ f y) → ((y : Term) (p : ℕ) → f (withClass y p) ≡ f y) → (t : ℕ) → f (term s′ t) ≡ f (term s t)
-  words f h g t = link-words f h t ∙ class-words ts (root s a) place wr f (λ y. g y place) t
-
+  -- and all but the class parent
   pub like : Like ts js
-  like = record { long = long; words = λ f p t. words f (p .edges) (p .classes) t }
+  like = record { long = long; words = λ f p t. link-words f (p .edges) t ∙ class-words ts (root s a) place wr f (λ y. p .classes y place) t }
 
   kind-same : (t : ℕ) → kind s′ t ≡ kind s t
   kind-same = kind-like s js like

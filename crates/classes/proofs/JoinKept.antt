@@ -12,7 +12,7 @@ use Rattle.records.proofs.Grown.{string-term}
 use Rattle.classes.specs.Joins.{Edge, bearing, joinIn, Linked}
 use Rattle.classes.proofs.Alike.{Like}
 use Rattle.classes.proofs.Dividing.{Joint}
-use Rattle.classes.proofs.Attaching.{Attachable, long, words, like, division, divided, edge-new, edges-kept, edges-only, attached-audited}
+use Rattle.classes.proofs.Attaching.{Attachable, like, division, divided, edge-new, edges-kept, edges-only, attached-audited}
 
 -- what is asked of a join: two string terms of different classes, and a reason
 pub record Joinable (s : Store) (a b k v : ℕ) : Type 0 where
@@ -45,18 +45,16 @@ join-linked s a b k v au j =
     }
 
 -- kind, first and second stay
-pub join-words : (s : Store) (a b k v : ℕ) → Audited s → Joinable s a b k v → (f : Term → ℕ) → ((y : Term) (e : Edge) → f (bearing y e) ≡ f y) → ((y : Term) (p : ℕ) → f (withClass y p) ≡ f y)
-    → (t : ℕ) → f (termIn (joinIn (s .terms) a b k v) t) ≡ f (term s t)
-unfolding joinIn
-join-words s a b k v au j f h g t = words s au a b (root s b) k v 0 (attachable s a b k v au j) f h g t
-
 pub join-like : (s : Store) (a b k v : ℕ) → Audited s → Joinable s a b k v → Like (s .terms) (joinIn (s .terms) a b k v)
 unfolding joinIn
 join-like s a b k v au j = like s au a b (root s b) k v 0 (attachable s a b k v au j)
 
+pub join-words : (s : Store) (a b k v : ℕ) → Audited s → Joinable s a b k v → (f : Term → ℕ) → ((y : Term) (e : Edge) → f (bearing y e) ≡ f y) → ((y : Term) (p : ℕ) → f (withClass y p) ≡ f y)
+    → (t : ℕ) → f (termIn (joinIn (s .terms) a b k v) t) ≡ f (term s t)
+join-words s a b k v au j f h g t = join-like s a b k v au j .words f (record { edges = h; classes = g }) t
+
 pub join-long : (s : Store) (a b k v : ℕ) → Audited s → Joinable s a b k v → length (joinIn (s .terms) a b k v) ≡ count s
-unfolding joinIn
-join-long s a b k v au j = long s au a b (root s b) k v 0 (attachable s a b k v au j)
+join-long s a b k v au j = join-like s a b k v au j .long
 
 -- 'the division into classes is what the joins left standing generate', for one join more
 module _ (s : Store) (a b k v : ℕ) (au : Audited s) (j : Joinable s a b k v) (t u : ℕ) (wt : isTerm s t ≡ true) (wu : isTerm s u ≡ true) where

@@ -1,3 +1,4 @@
+use native.Mathlib.Omega.{arith}
 use mathlib.Core.Path.{refl, _∙_}
 use Rattle.classes.proofs.Refines.MarkTables.{Auditing, auditing-begin, first-low, joins-low, auditing-none, auditing-asks, auditing-bad, auditing-turn, auditing-done}
 use borrow.Author.Needs.{needs}
@@ -30,7 +31,7 @@ tables-ok-unchecked-spec =
     let at-loop = at-loop-test .before in
     let at-start = at-loop .before .before .before .before in (
       at-loop .loop .inv .markable .tabled,
-      (first-low _ _ _ _ _ _ (at-loop .loop .inv) _ (at-loop-test .loop-test .taken) refl _ (c .before .wide .ensures ∙ c .before .before .word .ensures), joins-low _ _ _ _ _ _ (at-loop .loop .inv) (at-start .pre .1 .0 .fewJoins)),
+      (first-low _ _ _ _ _ _ (at-loop .loop .inv) _ (omega (arith, at-loop-test .loop-test .taken)) refl _ (c .before .wide .ensures ∙ c .before .before .word .ensures), joins-low _ _ _ _ _ _ (at-loop .loop .inv) (at-start .pre .1 .0 .fewJoins)),
     ))
     -- same-length
     (λ c. search needs)
@@ -41,7 +42,7 @@ tables-ok-unchecked-spec =
     let at-word = at-wide .before in
     let at-loop-test = at-word .before in
     let at-loop = at-loop-test .before in
-    auditing-none _ _ _ _ _ _ (at-loop .loop .inv) _ (at-loop-test .loop-test .taken) refl _ (at-wide .wide .ensures ∙ at-word .word .ensures) _
+    auditing-none _ _ _ _ _ _ (at-loop .loop .inv) _ (omega (arith, at-loop-test .loop-test .taken)) refl _ (at-wide .wide .ensures ∙ at-word .word .ensures) _
     (at-undo-to-unchecked .undo-to-unchecked .ensures) (c .if1 .taken))
     -- table-ok-unchecked-requires
     (λ c κs.
@@ -50,7 +51,7 @@ tables-ok-unchecked-spec =
     let at-word = at-wide .before in
     let at-loop-test = at-word .before in
     let at-loop = at-loop-test .before in
-    auditing-asks _ _ _ _ _ _ (at-loop .loop .inv) _ (at-loop-test .loop-test .taken) refl _ (at-wide .wide .ensures ∙ at-word .word .ensures) _
+    auditing-asks _ _ _ _ _ _ (at-loop .loop .inv) _ (omega (arith, at-loop-test .loop-test .taken)) refl _ (at-wide .wide .ensures ∙ at-word .word .ensures) _
     (at-undo-to-unchecked .undo-to-unchecked .ensures) (c .before .if1 .left))
     -- same-length-2
     (λ c. search needs)
@@ -62,7 +63,7 @@ tables-ok-unchecked-spec =
     let at-word = at-wide .before in
     let at-loop-test = at-word .before in
     let at-loop = at-loop-test .before in
-    auditing-bad _ _ _ _ _ _ (at-loop .loop .inv) _ (at-loop-test .loop-test .taken) refl _ (at-wide .wide .ensures ∙ at-word .word .ensures) _
+    auditing-bad _ _ _ _ _ _ (at-loop .loop .inv) _ (omega (arith, at-loop-test .loop-test .taken)) refl _ (at-wide .wide .ensures ∙ at-word .word .ensures) _
     (at-undo-to-unchecked .undo-to-unchecked .ensures) (at-if1 .if1 .left) _ (c .before .table-ok-unchecked .ensures) (c .if2 .taken))
     -- loop-less
     (λ c. search needs)
@@ -74,7 +75,7 @@ tables-ok-unchecked-spec =
     let at-word = at-wide .before in
     let at-loop-test = at-word .before in
     let at-loop = at-loop-test .before in
-    auditing-turn _ _ _ _ _ _ (at-loop .loop .inv) _ (at-loop-test .loop-test .taken) refl _ (at-wide .wide .ensures ∙ at-word .word .ensures) _
+    auditing-turn _ _ _ _ _ _ (at-loop .loop .inv) _ (omega (arith, at-loop-test .loop-test .taken)) refl _ (at-wide .wide .ensures ∙ at-word .word .ensures) _
     (at-undo-to-unchecked .undo-to-unchecked .ensures) (at-if1 .if1 .left) _ (c .before .table-ok-unchecked .ensures) (c .if2 .left))
     -- same-length-3
     (λ c. search needs)
