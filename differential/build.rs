@@ -2,7 +2,7 @@
 
 use std::{env, fs, path::PathBuf};
 
-const CALLS: [&str; 14] = [
+const CALLS: [&str; 17] = [
     "labels_audit",
     "labels_make_constant",
     "labels_make_variable",
@@ -17,6 +17,9 @@ const CALLS: [&str; 14] = [
     "labels_step",
     "labels_nf_equal",
     "labels_nf_equal_explain",
+    "labels_join",
+    "labels_set_mark",
+    "labels_go_back",
 ];
 
 fn main() {

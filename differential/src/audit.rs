@@ -26,6 +26,11 @@ pub fn audit(s: &Lent) -> u32 {
     }
 }
 
+/// What 3 and 4 ask of the table alone.
+pub fn table_passes(s: &Lent) -> bool {
+    classes(s) && congruences(s)
+}
+
 // 1: 'a count above its limit, or a slice too short for it'; record 0 of terms and of cells has its room too
 fn sizes(s: &Lent) -> bool {
     if s.state.len() < 6 {
@@ -114,7 +119,11 @@ fn classes(s: &Lent) -> bool {
             _ => return false,
         }
     }
-    let alike = all().all(|t| all().all(|u| (roots[t as usize] == roots[u as usize]) == (tops[t as usize] == tops[u as usize])));
+    // a term's class root stands in its tree, and its tree's root in its class: so two terms share the one where they share the other
+    let alike = all().all(|t| {
+        let (root, top) = (roots[t as usize] as usize, tops[t as usize] as usize);
+        tops[root] as usize == top && roots[top] as usize == root
+    });
     let alone = all().all(|t| s.is_string(t) || all().all(|u| t == u || roots[t as usize] != roots[u as usize]));
     alike && alone && all().all(|t| label(s, t))
 }

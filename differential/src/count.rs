@@ -28,13 +28,17 @@ fn request(number: u64) {
 }
 
 /// The count files that were written so far.
-struct Counter {
+pub(crate) struct Counter {
     file: String,
     dumps: u32,
 }
 
 impl Counter {
-    fn count(&mut self, work: impl FnOnce()) -> u64 {
+    pub fn new(file: &str) -> Self {
+        Counter { file: file.into(), dumps: 0 }
+    }
+
+    pub fn count(&mut self, work: impl FnOnce()) -> u64 {
         request(START);
         request(ZERO);
         work();
@@ -92,7 +96,7 @@ fn rust(worlds: &mut [World], samples: &[Sample]) {
 
 /// Where the counts are written is `file`, as valgrind was told.
 pub fn table(seed: u64, kinds: &[usize], file: &str) {
-    let mut counter = Counter { file: file.into(), dumps: 0 };
+    let mut counter = Counter::new(file);
     println!("terms  call               case        calls      Rust     audit  port without its audit  Rust/port  dump");
     for terms in SIZES {
         let mut random = Random::new(seed);

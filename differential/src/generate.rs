@@ -666,7 +666,7 @@ fn one_hash(names: u32, length: usize) -> Lent {
 }
 
 /// As many congruences as fit beside two branches of a tree, each over the same pairs of the branches' ends.
-fn long_pairs(depth: u32, pairs: usize) -> Lent {
+pub(crate) fn long_pairs(depth: u32, pairs: usize) -> Lent {
     let mut s = lay_out(&Draft { layout: 0, ..Draft::default() });
     let place = s.add_text(&(0..2 * depth + 1).map(|i| 'a' as u32 + i).collect::<Vec<u32>>());
     let join = |s: &mut Lent, t: u32, root: u32, parent: u32, label: [u32; 3]| {

@@ -10,8 +10,12 @@ pub mod damage;
 pub mod draft;
 pub mod generate;
 pub mod lent;
+pub mod lists;
+pub mod marks;
 pub mod model;
 pub mod oracle;
+#[cfg(feature = "port")]
+pub mod pace;
 #[cfg(feature = "port")]
 pub mod port;
 pub mod random;
@@ -20,4 +24,5 @@ pub mod shrink;
 pub mod speed;
 #[cfg(feature = "port")]
 pub mod stack;
+pub mod trails;
 pub mod vectors;

@@ -9,10 +9,12 @@ use differential::{
     draft::{lay_out, Draft},
     generate,
     lent::Lent,
+    lists,
+    marks::{self, Act, Marked, Told},
     model,
     oracle::{self, Mode},
     random::Random,
-    shrink, speed, vectors,
+    shrink, speed, trails, vectors,
 };
 use std::{env, path::PathBuf, process::exit, thread};
 
@@ -39,6 +41,16 @@ impl Subject {
             Subject::Rust => Some(oracle::run(s, r, Mode::Unchanged).outcome),
         }
     }
+
+    // the Rust has no words lent for marks: it is compared within the lists
+    fn act(self, s: &Marked, act: &Act, answer_room: usize) -> Option<Told> {
+        match self {
+            #[cfg(feature = "port")]
+            Subject::Port => differential::port::run_act(s, act, answer_room),
+            Subject::Model => Some(marks::run(s, act, answer_room)),
+            Subject::Rust => usage(),
+        }
+    }
 }
 
 struct Options {
@@ -53,7 +65,7 @@ struct Options {
 
 fn usage() -> ! {
     eprintln!(
-        "differential compare|damaged|claims|faults|vectors|speed|count|worst|stack [--seed S] [--count N] [--from ROUND] [--threads T] [--kinds A,B] [--of port|model|rust] [--out FOLDER]"
+        "differential compare|damaged|claims|lists|trails|faults|vectors|speed|count|pace|pace-count|worst|stack [--seed S] [--count N] [--from ROUND] [--threads T] [--kinds A,B] [--of port|model|rust] [--out FOLDER]"
     );
     exit(2);
 }
@@ -157,14 +169,14 @@ impl Tally {
 }
 
 /// Rounds shared among threads; each round has its own seed, so that any can be run alone.
-fn rounds(o: &Options, round: impl Fn(u64, &mut Random, &mut Tally) + Sync) -> Tally {
-    let mut total = Tally::default();
-    let parts: Vec<Tally> = thread::scope(|scope| {
+fn rounds<T: Default + Send>(o: &Options, add: impl Fn(&mut T, &T), round: impl Fn(u64, &mut Random, &mut T) + Sync) -> T {
+    let mut total = T::default();
+    let parts: Vec<T> = thread::scope(|scope| {
         let running: Vec<_> = (0..o.threads)
             .map(|k| {
                 let round = &round;
                 scope.spawn(move || {
-                    let mut tally = Tally::default();
+                    let mut tally = T::default();
                     let mut i = o.from + k;
                     while i < o.from + o.count {
                         round(i, &mut Random::new(o.seed.wrapping_mul(1 << 40) ^ i), &mut tally);
@@ -176,7 +188,7 @@ fn rounds(o: &Options, round: impl Fn(u64, &mut Random, &mut Tally) + Sync) -> T
             .collect();
         running.into_iter().map(|t| t.join().expect("a round failed")).collect()
     });
-    parts.iter().for_each(|p| total.add(p));
+    parts.iter().for_each(|p| add(&mut total, p));
     total
 }
 
@@ -224,7 +236,7 @@ fn report(o: &Options, round: u64, d: &Draft, r: &Request, what: &str) {
 }
 
 fn compare(o: &Options) -> Tally {
-    let tally = rounds(o, |i, random, tally| {
+    let tally = rounds(o, Tally::add, |i, random, tally| {
         let d = draft(i, random);
         let s = lay_out(&d);
         assert_eq!(audit(&s), 0, "round {i}: a store that should pass");
@@ -266,7 +278,7 @@ fn compare(o: &Options) -> Tally {
 // damaged stores: the subject alone against the audit written anew
 fn damaged(o: &Options) -> Tally {
     let rules = damage::rules();
-    let tally = rounds(o, |i, random, tally| {
+    let tally = rounds(o, Tally::add, |i, random, tally| {
         let d = draft(i, random);
         let s = lay_out(&d);
         let mut stores: Vec<Lent> = rules.iter().filter_map(|rule| damage::broken(&s, rule, random)).collect();
@@ -320,7 +332,7 @@ fn small_draft(random: &mut Random) -> Draft {
 
 // demand 3 by trying
 fn claims(o: &Options) -> Tally {
-    let tally = rounds(o, |i, random, tally| {
+    let tally = rounds(o, Tally::add, |i, random, tally| {
         let s = lay_out(&small_draft(random));
         for kind in 7..=11 {
             let r = generate::request(random, &s, kind);
@@ -353,6 +365,40 @@ fn claims(o: &Options) -> Tally {
         tally.stood + tally.untried + tally.differences,
         tally.stood, tally.untried, tally.passed, tally.occurrence, tally.forced, tally.differences
     );
+    tally
+}
+
+// lists of calls that make terms, join them, set marks and go back
+fn listed(o: &Options) -> lists::Tally {
+    let of = o.of;
+    let by = lists::Answering { call: &move |s, r| of.run(s, r), act: &move |s, a, n| of.act(s, a, n) };
+    let tally = rounds(o, lists::Tally::add, |i, random, tally| {
+        if let Err(what) = lists::list(random, &by, tally) {
+            tally.differences += 1;
+            if tally.differences <= PRINTED {
+                println!("round {i}: {what}");
+            }
+        }
+    });
+    tally.print();
+    tally
+}
+
+// damaged trails, first those that are listed without gaps
+fn damaged_trails(o: &Options) -> trails::Tally {
+    let of = o.of;
+    let by = lists::Answering { call: &move |s, r| of.run(s, r), act: &move |s, a, n| of.act(s, a, n) };
+    let bases = trails::bases();
+    println!("{} trails to list without gaps", bases.len());
+    let tally = rounds(o, trails::Tally::add, |i, random, tally| {
+        if let Err(what) = trails::round(i, &bases, random, &by, tally) {
+            tally.differences += 1;
+            if tally.differences <= PRINTED {
+                println!("round {i}: {what}");
+            }
+        }
+    });
+    tally.print();
     tally
 }
 
@@ -412,10 +458,19 @@ fn main() {
     let arguments: Vec<String> = env::args().skip(1).collect();
     let Some((command, rest)) = arguments.split_first() else { usage() };
     let o = options(rest);
-    let tally = match command.as_str() {
-        "compare" => compare(&o),
-        "damaged" => damaged(&o),
-        "claims" => claims(&o),
+    let differences = match command.as_str() {
+        "compare" => compare(&o).differences,
+        "damaged" => damaged(&o).differences,
+        "claims" => claims(&o).differences,
+        // nothing is compared where a call is not there
+        "lists" => {
+            let t = listed(&o);
+            t.differences + t.absent
+        }
+        "trails" => {
+            let t = damaged_trails(&o);
+            t.differences + t.absent
+        }
         "faults" => return faults(&o),
         "vectors" => return stored(&o),
         "speed" => return speed::table(o.seed),
@@ -423,10 +478,14 @@ fn main() {
         #[cfg(feature = "port")]
         "stack" => return differential::stack::table(),
         #[cfg(feature = "port")]
+        "pace" => return differential::pace::table(o.seed),
+        #[cfg(feature = "port")]
+        "pace-count" => return differential::pace::counts(o.seed, "target/count"),
+        #[cfg(feature = "port")]
         "count" => return differential::count::table(o.seed, &o.kinds, "target/count"),
         _ => usage(),
     };
-    if tally.differences > 0 {
+    if differences > 0 {
         exit(1);
     }
 }

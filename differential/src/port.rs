@@ -1,6 +1,10 @@
 //! The port's static library, called as a C caller would. Every slice stands between fences, so that a word written beside it shows.
 
-use crate::{call::*, lent::Lent};
+use crate::{
+    call::*,
+    lent::Lent,
+    marks::{Act, Marked, Told},
+};
 
 macro_rules! interface {
     ($($symbol:tt $name:ident($($arg:ident: $ty:ty),*);)*) => {
@@ -49,6 +53,9 @@ interface! {
     "labels_step" labels_step(known: *const u32, known_len: usize, equation: u32, guard: i32, list: *mut u32, list_len: usize, answer: *mut u32, answer_len: usize);
     "labels_nf_equal" labels_nf_equal(lhs: *const u32, lhs_len: usize, rhs: *const u32, rhs_len: usize, answer: *mut u32, answer_len: usize);
     "labels_nf_equal_explain" labels_nf_equal_explain(lhs: *const u32, lhs_len: usize, rhs: *const u32, rhs_len: usize);
+    "labels_join" labels_join(marks: *mut u32, marks_len: usize, a: u32, b: u32, kind: u32, number: u32, answer: *mut u32, answer_len: usize);
+    "labels_set_mark" labels_set_mark(marks: *mut u32, marks_len: usize, answer: *mut u32, answer_len: usize);
+    "labels_go_back" labels_go_back(marks: *mut u32, marks_len: usize, mark: u32);
 }
 
 const FENCE: u32 = 0xFEFE_FEFE;
@@ -89,21 +96,28 @@ pub fn call(l: &mut Lending, call: &Call) -> u32 {
     raw([&mut s.state, &mut s.terms, &mut s.cells, &mut s.chars, &mut s.reasons, &mut s.keys], l.list, l.answer, call)
 }
 
+// a call with the store's six slices before its own arguments
+macro_rules! lent {
+    ($store:ident, $f:ident $(, $arg:expr)*) => {{
+        let [state, terms, cells, chars, reasons, keys] = $store;
+        unsafe {
+            $f(
+                state.as_mut_ptr(), state.len(),
+                terms.as_mut_ptr(), terms.len(),
+                cells.as_mut_ptr(), cells.len(),
+                chars.as_mut_ptr(), chars.len(),
+                reasons.as_mut_ptr(), reasons.len(),
+                keys.as_mut_ptr(), keys.len(),
+                $($arg),*
+            )
+        }
+    }};
+}
+
 fn raw(store: [&mut [u32]; 6], list: &mut [u32], answer: &mut [u32], call: &Call) -> u32 {
-    let [state, terms, cells, chars, reasons, keys] = store;
     macro_rules! with_store {
         ($f:ident $(, $arg:expr)*) => {
-            unsafe {
-                $f(
-                    state.as_mut_ptr(), state.len(),
-                    terms.as_mut_ptr(), terms.len(),
-                    cells.as_mut_ptr(), cells.len(),
-                    chars.as_mut_ptr(), chars.len(),
-                    reasons.as_mut_ptr(), reasons.len(),
-                    keys.as_mut_ptr(), keys.len(),
-                    $($arg),*
-                )
-            }
+            lent!(store, $f $(, $arg)*)
         };
     }
     let (a, n) = (answer.as_mut_ptr(), answer.len());
@@ -139,4 +153,32 @@ pub fn run(s: &Lent, request: &Request) -> Option<Outcome> {
     let [state, terms, cells, chars, reasons, keys] = store.map(Fenced::taken);
     let exit = Lent { state, terms, cells, chars, reasons, keys };
     (code != ABSENT).then(|| Outcome { code, answer: answer.taken(), list: list.taken(), exit })
+}
+
+fn raw_act(store: [&mut [u32]; 6], marks: &mut [u32], answer: &mut [u32], act: &Act) -> u32 {
+    let (m, k) = (marks.as_mut_ptr(), marks.len());
+    let (w, n) = (answer.as_mut_ptr(), answer.len());
+    match *act {
+        Act::Join { a, b, kind, number } => lent!(store, labels_join, m, k, a, b, kind, number, w, n),
+        Act::SetMark => lent!(store, labels_set_mark, m, k, w, n),
+        Act::GoBack { mark } => lent!(store, labels_go_back, m, k, mark),
+    }
+}
+
+/// For calls that are timed: nothing is copied.
+pub fn act(s: &mut Marked, answer: &mut [u32], act: &Act) -> u32 {
+    let l = &mut s.store;
+    raw_act([&mut l.state, &mut l.terms, &mut l.cells, &mut l.chars, &mut l.reasons, &mut l.keys], &mut s.marks, answer, act)
+}
+
+/// None where the library does not have the call.
+pub fn run_act(s: &Marked, act: &Act, answer_room: usize) -> Option<Told> {
+    let l = &s.store;
+    let mut store = [&l.state, &l.terms, &l.cells, &l.chars, &l.reasons, &l.keys].map(|w| Fenced::new(w));
+    let mut marks = Fenced::new(&s.marks);
+    let mut answer = Fenced::new(&vec![BLANK; answer_room]);
+    let code = raw_act(store.each_mut().map(|f| f.slice()), marks.slice(), answer.slice(), act);
+    let [state, terms, cells, chars, reasons, keys] = store.map(Fenced::taken);
+    let exit = Marked { store: Lent { state, terms, cells, chars, reasons, keys }, marks: marks.taken() };
+    (code != ABSENT).then(|| Told { code, answer: answer.taken(), exit })
 }

@@ -5,7 +5,8 @@ use crate::{
     call::{Call, Request},
     draft::{lay_out, Draft, Label, Spec},
     generate,
-    lent::Lent,
+    lent::{Lent, TERMS},
+    marks::{Act, Marked, WORDS},
     port,
     random::Random,
 };
@@ -28,16 +29,48 @@ fn written(top: usize) -> usize {
 }
 
 // in bytes, from the caller of the exported function down; a call that stays within the painting's own frames counts as those
-fn depth(mut store: Lent, call: Call) -> usize {
+fn below(call: impl FnOnce() + Send + 'static) -> usize {
     let run = move || {
-        let (mut list, mut answer) = (vec![0; 1024], vec![0; 8]);
         let here = 0_u64;
         let top = ptr::from_ref(&here) as usize & !7;
         paint(top);
-        port::call(&mut port::Lending { store: &mut store, list: &mut list, answer: &mut answer }, &call);
+        call();
         written(top)
     };
     thread::Builder::new().stack_size(2 * PAINTED).spawn(run).unwrap().join().unwrap()
+}
+
+fn depth(mut store: Lent, call: Call) -> usize {
+    let (mut list, mut answer) = (vec![0; 1024], vec![0; 8]);
+    below(move || {
+        port::call(&mut port::Lending { store: &mut store, list: &mut list, answer: &mut answer }, &call);
+    })
+}
+
+// 512 terms in one line under 64 marks, and under none
+fn on_marks() {
+    let mut d = Draft { layout: 0, spare: [0; 5], ..Draft::default() };
+    for t in 0..TERMS {
+        d.variable(&format!("x{t}"));
+    }
+    let none = Marked::unmarked(lay_out(&d), vec![0; WORDS]);
+    let mut s = none.clone();
+    for t in 1..TERMS as u32 {
+        if t % 8 == 1 {
+            port::act(&mut s, &mut [0; 8], &Act::SetMark);
+        }
+        port::act(&mut s, &mut [0; 8], &Act::Join { a: t, b: t + 1, kind: 1, number: 1 });
+    }
+    for (name, s, act) in [
+        ("join with no mark", &none, Act::Join { a: 1, b: 2, kind: 1, number: 1 }),
+        ("join under 64 marks", &s, Act::Join { a: 1, b: 2, kind: 1, number: 1 }),
+        ("set_mark with no mark", &none, Act::SetMark),
+        ("go_back to the first of 64 marks", &s, Act::GoBack { mark: 1 }),
+    ] {
+        let mut s = s.clone();
+        let bytes = below(move || assert_eq!(port::act(&mut s, &mut [0; 8], &act), 0));
+        println!("{bytes:8}  {name}: 512 terms");
+    }
 }
 
 // variables u and v of one class, their path through a tower of congruences
@@ -82,4 +115,5 @@ pub fn table() {
     tell("508 concatenations within each other", &store, Call::NormalForm { known: vec![], t });
     tell("508 concatenations within each other", &store, Call::DeepNormalForm { known: vec![], t });
     tell("508 concatenations within each other", &store, Call::ResolveEquation { lhs: vec![t], rhs: vec![t - 1], guard: 1 });
+    on_marks();
 }

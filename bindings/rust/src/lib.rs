@@ -8,6 +8,8 @@ pub const CHARS: usize = 16384;
 pub const REASONS: usize = 4096;
 pub const KEYS: usize = 4096;
 pub const LIST: usize = 1024;
+/// The words lent for marks: 64 marks, and three words for each of 511 joins.
+pub const MARKS: usize = 1597;
 
 /// Where a call puts the list that it answers.
 type List = [u32; LIST];
@@ -15,14 +17,14 @@ type List = [u32; LIST];
 /// A term's number, from 1 on.
 pub type Term = u32;
 
-/// Why a call was refused. After the first five no word of the store has changed.
+/// Why a call was refused. After the first five, and after `Mark`, no word of the store has changed.
 #[derive(Clone, Copy, PartialEq, Eq, Debug)]
 pub enum Refusal {
     /// a count above its limit, or a slice too short for it
     Sizes,
     /// a record that breaks its rule
     Records,
-    /// classes and forest do not agree
+    /// classes and forest do not agree, or would not after going back to a mark
     Classes,
     /// a congruence that its arguments do not give
     Congruences,
@@ -36,7 +38,9 @@ pub enum Refusal {
     Room,
     /// no name left
     Names,
-    /// a number that document 01 does not have
+    /// a mark that is not standing, or a 65th
+    Mark,
+    /// a number that no call gives
     Other(u32),
 }
 
@@ -52,6 +56,7 @@ fn outcome(code: u32) -> Result<(), Refusal> {
         7 => Refusal::Reasons,
         8 => Refusal::Room,
         9 => Refusal::Names,
+        10 => Refusal::Mark,
         n => Refusal::Other(n),
     })
 }
@@ -61,6 +66,16 @@ fn outcome(code: u32) -> Result<(), Refusal> {
 pub enum Reason {
     Asserted(u32),
     Interface(u32),
+}
+
+impl Reason {
+    /// The kind and the number, as the words of the store have them.
+    fn words(self) -> (u32, u32) {
+        match self {
+            Reason::Asserted(n) => (1, n),
+            Reason::Interface(n) => (2, n),
+        }
+    }
 }
 
 /// What a word equation comes to. After Conflict and Propagate the reasons of the store end with those that the answer rests on.
@@ -92,24 +107,27 @@ fn answered_case(answer: &[u32; 8], list: &List) -> Answer {
 /// A store in memory of its own, with room up to every limit. The words are the caller's to change: a call refuses what breaks a rule.
 #[derive(Clone, Debug)]
 pub struct Store {
-    /// counts of terms, cells, characters, reasons and keys, and the name counter
-    pub state: [u32; 6],
+    /// counts of terms, cells, characters, reasons and keys, the name counter, counts of marks and of recorded joins
+    pub state: [u32; 8],
     pub terms: Vec<u32>,
     pub cells: Vec<u32>,
     pub chars: Vec<u32>,
     pub reasons: Vec<u32>,
     pub keys: Vec<u32>,
+    /// the standing marks and the joins since the first of them, as `join`, `set_mark` and `go_back` keep them
+    pub marks: Vec<u32>,
 }
 
 impl Default for Store {
     fn default() -> Self {
         Store {
-            state: [0; 6],
+            state: [0; 8],
             terms: vec![0; 8 * (TERMS + 1)],
             cells: vec![0; 3 * (CELLS + 1)],
             chars: vec![0; CHARS],
             reasons: vec![0; 2 * REASONS],
             keys: vec![0; 2 * KEYS],
+            marks: vec![0; MARKS],
         }
     }
 }
@@ -150,6 +168,24 @@ impl Store {
         let mut answer = [0; 8];
         outcome(raw::find(self, t, &mut answer))?;
         Ok(answer[0])
+    }
+
+    /// Joins the classes of two string terms under a reason: true where it did, false where they are in one class already, and then nothing
+    /// has changed. A reason's number is below 2^31.
+    pub fn join(&mut self, a: Term, b: Term, reason: Reason) -> Result<bool, Refusal> {
+        let (kind, number) = reason.words();
+        Ok(self.answered(|s, w| raw::join(s, a, b, kind, number, w))? == 1)
+    }
+
+    /// Sets a mark and gives its number: from 1 in the order set, at most 64 standing.
+    pub fn set_mark(&mut self) -> Result<u32, Refusal> {
+        self.answered(raw::set_mark)
+    }
+
+    /// Goes back to a mark, which uses up that mark and later ones. The joins since it are undone: each term counted then has the words that
+    /// it had, and terms made since stay, each alone in its class. Reasons and keys stay too.
+    pub fn go_back(&mut self, mark: u32) -> Result<(), Refusal> {
+        outcome(raw::go_back(self, mark))
     }
 
     /// Appends the reasons why two string terms of one class are equal, and gives them.

@@ -53,6 +53,9 @@ interface! {
     labels_resolve_equation resolved(lhs: *const u32, lhs_len: usize, rhs: *const u32, rhs_len: usize, guard: i32, list: *mut u32, list_len: usize, answer: *mut u32, answer_len: usize);
     labels_step stepped(known: *const u32, known_len: usize, e: u32, guard: i32, list: *mut u32, list_len: usize, answer: *mut u32, answer_len: usize);
     labels_normal_form form(known: *const u32, known_len: usize, t: u32, list: *mut u32, list_len: usize, answer: *mut u32, answer_len: usize);
+    labels_join joined(marks: *mut u32, marks_len: usize, a: u32, b: u32, kind: u32, number: u32, answer: *mut u32, answer_len: usize);
+    labels_set_mark marked(marks: *mut u32, marks_len: usize, answer: *mut u32, answer_len: usize);
+    labels_go_back gone_back(marks: *const u32, marks_len: usize, mark: u32);
     labels_deep_normal_form deep_form(known: *const u32, known_len: usize, t: u32, list: *mut u32, list_len: usize, answer: *mut u32, answer_len: usize);
 }
 
@@ -86,6 +89,22 @@ pub fn find(s: &Store, t: u32, answer: &mut [u32; 8]) -> u32 {
 
 pub fn explain(s: &mut Store, a: u32, b: u32) -> u32 {
     reasons_of(s, a, b)
+}
+
+// the words of `marks` stand apart from the store's own, so that a call is lent both
+pub fn join(s: &mut Store, a: u32, b: u32, kind: u32, number: u32, answer: &mut [u32; 8]) -> u32 {
+    let (marks, marks_len) = (s.marks.as_mut_ptr(), s.marks.len());
+    joined(s, marks, marks_len, a, b, kind, number, answer.as_mut_ptr(), answer.len())
+}
+
+pub fn set_mark(s: &mut Store, answer: &mut [u32; 8]) -> u32 {
+    let (marks, marks_len) = (s.marks.as_mut_ptr(), s.marks.len());
+    marked(s, marks, marks_len, answer.as_mut_ptr(), answer.len())
+}
+
+pub fn go_back(s: &mut Store, mark: u32) -> u32 {
+    let (marks, marks_len) = (s.marks.as_ptr(), s.marks.len());
+    gone_back(s, marks, marks_len, mark)
 }
 
 pub fn normal_form(s: &mut Store, known: &[u32], t: u32, list: &mut List, answer: &mut [u32; 8]) -> u32 {

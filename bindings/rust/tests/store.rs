@@ -14,7 +14,7 @@ fn terms_are_made_once() {
     assert_eq!(s.concatenation(&[a, x]), Ok(both));
     let n = s.length(both).unwrap();
     assert_eq!(s.equation(both, a).unwrap(), n + 1);
-    assert_eq!(s.state, [5, 2, 3, 0, 0, 0]);
+    assert_eq!(s.state, [5, 2, 3, 0, 0, 0, 0, 0]);
     assert_eq!(s.audit(), Ok(()));
 }
 
@@ -27,7 +27,7 @@ fn refusals_leave_the_store_alone() {
     assert_eq!(s.find(x + 1), Err(Refusal::Argument));
     s.state[2] = 16385;
     assert_eq!(s.constant("a"), Err(Refusal::Sizes));
-    assert_eq!(s.state, [1, 0, 16385, 0, 0, 0]);
+    assert_eq!(s.state, [1, 0, 16385, 0, 0, 0, 0, 0]);
     s.state[2] = 1;
     s.terms[8] = 6;
     assert_eq!(s.audit(), Err(Refusal::Records));
@@ -135,4 +135,92 @@ fn unexpanded() {
     merge(&mut s, x, az, 2);
     assert_eq!(s.step(&[az], e, 1), Ok(Answer::Unexpanded));
     assert_eq!(s.reason_list(), []);
+}
+
+/// The undone merge: while x and y are joined the equation is a conflict that names the join's reason, so the rule kept of it goes when the
+/// join goes; gone back, the same equation is none.
+#[test]
+fn a_join_is_undone() {
+    let mut s = Store::new();
+    let (x, y) = (s.variable("x").unwrap(), s.variable("y").unwrap());
+    let (a, b) = (s.constant("a").unwrap(), s.constant("b").unwrap());
+    let before = s.terms.clone();
+    assert_eq!(s.set_mark(), Ok(1));
+    assert_eq!(s.join(x, y, Reason::Asserted(3)), Ok(true));
+    assert_eq!(s.find(x), s.find(y));
+    assert_eq!(s.explain(x, y), Ok(vec![Reason::Asserted(3)]));
+    s.state[3] = 0;
+    assert_eq!(s.resolve_equation(&[x], &[a, y, b], 1), Ok(Answer::Conflict));
+    let rule = s.reason_list();
+    assert_eq!(rule, [Reason::Asserted(3)]);
+    s.state[3] = 0;
+    assert_eq!(s.go_back(1), Ok(()));
+    assert_eq!(s.state[6..], [0, 0]);
+    assert_eq!(s.terms, before);
+    assert_eq!(s.explain(x, y), Err(Refusal::Argument));
+    // the rule named the join's reason: it is dropped with the join, and the equation conflicts no more
+    assert!(rule.contains(&Reason::Asserted(3)));
+    assert_ne!(s.resolve_equation(&[x], &[a, y, b], 1), Ok(Answer::Conflict));
+    assert_eq!(s.audit(), Ok(()));
+}
+
+#[test]
+fn marks_are_numbered_in_the_order_set() {
+    let mut s = Store::new();
+    let (x, y, z) = (s.variable("x").unwrap(), s.variable("y").unwrap(), s.variable("z").unwrap());
+    // with no mark standing a join is not recorded
+    assert_eq!(s.join(x, y, Reason::Interface(4)), Ok(true));
+    assert_eq!(s.join(y, x, Reason::Asserted(5)), Ok(false));
+    assert_eq!(s.join(x, x, Reason::Asserted(5)), Ok(false));
+    assert_eq!(s.state[6..], [0, 0]);
+    assert_eq!(s.go_back(1), Err(Refusal::Mark));
+    assert_eq!((s.set_mark(), s.set_mark()), (Ok(1), Ok(2)));
+    assert_eq!(s.join(z, y, Reason::Asserted(6)), Ok(true));
+    assert_eq!(s.state[6..], [2, 1]);
+    assert_eq!(s.explain(z, x), Ok(vec![Reason::Asserted(6), Reason::Interface(4)]));
+    // a term made since the mark stays, alone
+    let late = s.variable("late").unwrap();
+    assert_eq!(s.join(late, z, Reason::Asserted(7)), Ok(true));
+    assert_eq!(s.go_back(2), Ok(()));
+    assert_eq!(s.state[6..], [1, 0]);
+    assert_eq!((s.find(late), s.find(z)), (Ok(late), Ok(z)));
+    assert_eq!(s.find(x), s.find(y));
+    // the mark is used up, and its number is given again
+    assert_eq!(s.go_back(2), Err(Refusal::Mark));
+    assert_eq!(s.go_back(0), Err(Refusal::Mark));
+    assert_eq!(s.set_mark(), Ok(2));
+    for i in 3..=64 {
+        assert_eq!(s.set_mark(), Ok(i));
+    }
+    assert_eq!(s.set_mark(), Err(Refusal::Mark));
+    assert_eq!(s.go_back(1), Ok(()));
+    assert_eq!(s.state, [4, 0, 7, 2, 0, 0, 0, 0]);
+    assert_eq!(s.audit(), Ok(()));
+}
+
+#[test]
+fn refused_joins_and_marks_write_nothing() {
+    let mut s = Store::new();
+    let (x, y) = (s.variable("x").unwrap(), s.variable("y").unwrap());
+    let n = s.length(x).unwrap();
+    assert_eq!(s.set_mark(), Ok(1));
+    let kept = s.clone();
+    let same = |s: &Store| assert_eq!((&s.state, &s.terms, &s.marks), (&kept.state, &kept.terms, &kept.marks));
+    assert_eq!(s.join(x, n, Reason::Asserted(1)), Err(Refusal::Argument));
+    assert_eq!(s.join(0, y, Reason::Asserted(1)), Err(Refusal::Argument));
+    assert_eq!(s.join(x, y, Reason::Interface(1 << 31)), Err(Refusal::Argument));
+    assert_eq!(s.go_back(2), Err(Refusal::Mark));
+    same(&s);
+    // a recorded join that is no trace of one
+    s.state[7] = 1;
+    assert_eq!(s.join(x, y, Reason::Asserted(1)), Err(Refusal::Classes));
+    assert_eq!(s.go_back(1), Err(Refusal::Classes));
+    s.state[7] = 512;
+    assert_eq!(s.set_mark(), Err(Refusal::Sizes));
+    s.state[7] = 0;
+    same(&s);
+    s.marks.truncate(1596);
+    assert_eq!(s.go_back(1), Err(Refusal::Sizes));
+    // the other calls leave marks alone
+    assert_eq!(s.find(y), Ok(y));
 }

@@ -233,7 +233,6 @@ fn set(
     let a = word(n, 1);
     let b = word(n, 2);
     match l {
-        78 => none(),
         77 => counted(c, a, c.cells),
         99 => counted(c, c.terms, a),
         105 => named(c, a),

@@ -1,7 +1,7 @@
 // Stores of many shapes, and what each call answers on them. Standard input has the cases, a command to a line: a
 // letter, then decimal numbers, each after one space, or a text after one space, a byte to a character.
 //
-//   N               no record counted
+//   N               no record counted, no mark and no join
 //   V n             n variables more, each alone in its class
 //   H n             n variables more, of one class: in the forest each below the next one, the edge of t with label at and stamp t;
 //                   in the class tree all below the first
@@ -21,7 +21,7 @@
 //   k n a b         n times the key (a, b) more
 //   i n             n is the name counter
 //   W s n           n words are lent of slice s, and the others whole: 1 terms, 2 cells, 3 characters, 4 reasons, 5 keys, 6 the list that is
-//                   answered
+//                   answered, 7 marks
 //   M n             n terms are counted
 //   c n             n cells are counted
 //   T t i x         word i of term t becomes x
@@ -39,6 +39,13 @@
 //   s e g           the step over the equation e and the known list, with the guard g
 //   q p             nf_equal, the list's first p atoms and the rest
 //   Q p             nf_equal_explain of the same
+//   j a b k v       join a and b under the reason of kind k and number v
+//   m               set_mark
+//   g n             go_back to mark n
+//   w i x           word i of the words lent for marks becomes x
+//   z m j           m marks and j joins are counted
+//   p               the class words of each counted term that has others than a term alone
+//   t               the words lent for marks, as far as they are counted
 //   #               a remark, which is printed
 //
 // What is asked is printed with its answer: the root, or the refusal; the count of reasons and the reasons, with a3-5 for a3 a4 a5; for
@@ -46,10 +53,14 @@
 // after the call, and the texts of the constants made. What a form made is not counted from then on. For resolve_equation and the step: the
 // case with its values (the variable, the word and the link flag; the count of atoms, the atoms and the guard), the reasons, the counts
 // of terms, cells, characters and keys, the name counter, and each term made, a concatenation as t+u, a length as |t|, an equation as t=u.
+// For join, set_mark and go_back: the number answered, and how many marks and joins are counted from then on. A term's class words stand
+// as (t class-parent forest-parent label-kind label-value stamp), a recorded join as (child old-root class-root) after the marks' counts.
 use asking::ask;
 use asking::is_ask;
 use lending::part;
 use lending::words_of;
+use marking::is_mark;
+use marking::mark;
 use reading::letter;
 use reading::line_end;
 use reading::read;
@@ -58,6 +69,7 @@ pub mod adding;
 pub mod asking;
 pub mod building;
 pub mod lending;
+pub mod marking;
 pub mod reading;
 pub mod saying;
 pub mod solving;
@@ -111,6 +123,37 @@ fn ask_lent(
     )
 }
 
+// A command that asks is printed with its answer.
+fn ask_line(
+    l: u8,
+    line: &[u8],
+    n: &[u32],
+    terms: &mut [u32],
+    cells: &mut [u32],
+    chars: &mut [u32],
+    reasons: &mut [u32],
+    keys: &mut [u32],
+    known: &[u32],
+    c: Counts,
+) -> Counts {
+    let mut list: [u32; 1024] = [0; 1024];
+    io::write_all(1, line);
+    let d = ask_lent(
+        l,
+        n,
+        terms,
+        cells,
+        chars,
+        reasons,
+        keys,
+        known,
+        &mut list,
+        c,
+    );
+    io::write_all(1, b"\n");
+    d
+}
+
 fn step(
     line: &[u8],
     terms: &mut [u32],
@@ -119,6 +162,7 @@ fn step(
     reasons: &mut [u32],
     keys: &mut [u32],
     known: &mut [u32],
+    marks: &mut [u32],
     c: Counts,
 ) -> Counts {
     let l = letter(line);
@@ -129,23 +173,11 @@ fn step(
     }
     let mut n: [u32; 256] = [0; 256];
     let last = read(l, line, &mut n);
+    if is_mark(l) {
+        return mark(l, line, &n, terms, cells, chars, reasons, keys, marks, c);
+    }
     if is_ask(l) {
-        io::write_all(1, line);
-        let mut list: [u32; 1024] = [0; 1024];
-        let d = ask_lent(
-            l,
-            &n,
-            terms,
-            cells,
-            chars,
-            reasons,
-            keys,
-            known,
-            &mut list,
-            c,
-        );
-        io::write_all(1, b"\n");
-        return d;
+        return ask_line(l, line, &n, terms, cells, chars, reasons, keys, known, c);
     }
     adding::apply(l, &n, last, terms, cells, chars, reasons, keys, known, c)
 }
@@ -158,12 +190,23 @@ fn run(
     reasons: &mut [u32],
     keys: &mut [u32],
     known: &mut [u32],
+    marks: &mut [u32],
 ) {
     let mut c = adding::none();
     let mut at: usize = 0;
     while at < text.len() {
         let end = line_end(text, at);
-        c = step(&text[at..end], terms, cells, chars, reasons, keys, known, c);
+        c = step(
+            &text[at..end],
+            terms,
+            cells,
+            chars,
+            reasons,
+            keys,
+            known,
+            marks,
+            c,
+        );
         at = end + 1;
     }
 }
@@ -177,6 +220,7 @@ fn main() {
     let mut reasons: [u32; 8194] = [0; 8194];
     let mut keys: [u32; 8194] = [0; 8194];
     let mut known: [u32; 2304] = [0; 2304];
+    let mut marks: [u32; 1599] = [0; 1599];
     run(
         &text[..len],
         &mut terms,
@@ -185,5 +229,6 @@ fn main() {
         &mut reasons,
         &mut keys,
         &mut known,
+        &mut marks,
     );
 }

@@ -9,3 +9,4 @@ mod CountExports
 mod EqualExports
 mod Complements
 mod StepExports
+mod Standings

@@ -2,4 +2,5 @@ pub mod Interface
 pub mod Forms
 pub mod Equations
 pub mod Steps
+pub mod Marks
 pub mod Working

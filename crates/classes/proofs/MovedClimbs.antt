@@ -8,10 +8,17 @@ use Rattle.records.specs.Working.Audited.{Closed}
 use Rattle.records.proofs.Climbs.{climb-stays, climb-up}
 use Rattle.records.proofs.Repeats.{climb-one, climb-enough}
 
+-- a step that is changed at c alone leads from each of n numbers to one of them, where it does so at c
+pub closed-put : {up up′ : ℕ → ℕ} {n c p : ℕ} → Closed up n → within n p ≡ true → up′ c ≡ p → ((t : ℕ) → (t ≡ c → ⊥) → up′ t ≡ up t) → Closed up′ n
+closed-put {up} {up′} {n} {c} {p} h w e f = record { stays = λ t i. go t i (ℕ-discrete t c) }
+  where
+    go : (t : ℕ) → within n t ≡ true → Dec (t ≡ c) → within n (up′ t) ≡ true
+    go t i (yes q) = ap (within n) (ap up′ q ∙ e) ∙ w
+    go t i (no d) = ap (within n) (f t d) ∙ h .stays t i
+
 -- what putting a root under another tree's term does to the step up
 pub record Moved (up up′ : ℕ → ℕ) (n child parent : ℕ) : Type 0 where
   pub closed : Closed up n
-  pub closed′ : Closed up′ n
   pub ends : (t : ℕ) → within n t ≡ true → up (climb up n t) ≡ climb up n t
   pub self : up child ≡ child
   pub at : up′ child ≡ parent
@@ -20,13 +27,16 @@ pub record Moved (up up′ : ℕ → ℕ) (n child parent : ℕ) : Type 0 where
   pub apart : climb up n parent ≡ child → ⊥
 
 module _ {up up′ : ℕ → ℕ} {n child parent : ℕ} (m : Moved up up′ n child parent) where
-  pub other-not : (t : ℕ) → (climb up n t ≡ child → ⊥) → t ≡ child → ⊥
+  pub moved-closed : Closed up′ n
+  moved-closed = closed-put (m .closed) (m .here) (m .at) (m .away)
+
+  other-not : (t : ℕ) → (climb up n t ≡ child → ⊥) → t ≡ child → ⊥
   other-not t o e = o (ap (climb up n) e ∙ climb-stays up n child (m .self))
 
-  pub one-up : (t : ℕ) → within n t ≡ true → climb up n (up t) ≡ climb up n t
+  one-up : (t : ℕ) → within n t ≡ true → climb up n (up t) ≡ climb up n t
   one-up t w = climb-up up n t (m .ends t w)
 
-  pub other-up : (t : ℕ) → within n t ≡ true → (climb up n t ≡ child → ⊥) → climb up n (up t) ≡ child → ⊥
+  other-up : (t : ℕ) → within n t ≡ true → (climb up n t ≡ child → ⊥) → climb up n (up t) ≡ child → ⊥
   other-up t w o e = o (sym (one-up t w) ∙ e)
 
   -- a walk in another tree is as it was
@@ -63,7 +73,7 @@ module _ {up up′ : ℕ → ℕ} {n child parent : ℕ} (m : Moved up up′ n c
   moved-ends t w = go (ℕ-discrete (climb up n t) child)
     where
       go : Dec (climb up n t ≡ child) → up′ (climb up′ n t) ≡ climb up′ n t
-      go (yes e) = let l = leads n t e in climb-enough up′ n t (m .closed′) w (l .steps) (leads-end t l)
+      go (yes e) = let l = leads n t e in climb-enough up′ n t moved-closed w (l .steps) (leads-end t l)
       go (no o) = rw (other-walk n t w o) (m .away (climb up n t) o ∙ m .ends t w)
 
   -- the root of a term of the child's tree

@@ -1,22 +1,38 @@
-// The classes of a store changed: `merge` puts a class under a term of another, for an asserted reason, as `labelstep` does for its command
-// `M child parent n`.
+// The classes of a store changed: two of them joined under a reason, a mark set, and going back to a mark; and `merge`, which puts a class
+// under a term of another as `labelstep` does for its command `M child parent n`.
 ghost use mathlib.Core.Path.{_≡_};
 ghost use mathlib.Core.Bool.{true};
 ghost use Prim.Native.Nat.{_≤_};
 ghost use lib.ListN.{length};
 ghost use Rattle.records.specs.Store.{within};
-ghost use Rattle.records.specs.View.{storeOf, termAt, termsView, termWords, lends, across, Between};
+ghost use Rattle.records.specs.View.{storeOf, termAt, termsView, termWords, termed, lends, across, Between};
+ghost use Rattle.records.specs.Rules.{isReasonKind};
 ghost use Rattle.records.specs.Working.Puts.{TermSet};
 ghost use Rattle.records.specs.Working.Audited.{Ready};
+ghost use Rattle.classes.specs.Calls.{joinArguments, setMark, goBack, Marked, Tracks, PublicJoin};
+ghost use Rattle.classes.specs.Working.Carries.{CanJoin, Joined, CanGo, Went};
 ghost use Rattle.classes.specs.Merge.{isRootIn, canMerge, under, PublicMerge};
+use crate::links::link_unchecked;
+use crate::trail::MARK_LIMIT;
+use crate::trail::audit;
+use crate::trail::record_join_unchecked;
+use crate::trail::record_mark_unchecked;
+use crate::trail::undo_to_unchecked;
 use records::State;
 use records::classes::root_unchecked;
+use records::classes::top_unchecked;
 use records::fields::class_parent;
 use records::fields::forest_parent;
+use records::fields::wide;
+use records::fields::word;
 use records::put::put_class_parent_unchecked;
 use records::put::put_edge_unchecked;
 use records::rules::is_number;
 use records::rules::is_string;
+use records::rules::is_within;
+
+mod links;
+pub mod trail;
 
 // Whether a term of the first n is its own parent, in its class and in the forest.
 fn is_root(terms: &[u32], n: usize, t: u32) -> bool
@@ -94,4 +110,162 @@ pub fn merge(
     }
     put_under_unchecked(terms, child, parent, n, stamp);
     0
+}
+
+// How many marks stand, and how many joins were recorded since the first of them.
+pub struct Standing {
+    pub marks: usize,
+    pub joins: usize,
+}
+
+// What joining, setting a mark and going back answer: a number, with the counts after the call; or the refusal.
+pub enum Answer {
+    Given(u32, Standing),
+    Refused(u32),
+}
+
+// JOINING, MARKS, GOING BACK
+
+fn is_reason_kind(k: u32) -> bool
+    ensures { λ r. ⌜ r ≡ isReasonKind k ⌝ }
+{
+    if k == 1 {
+        return true;
+    }
+    k == 2
+}
+
+// Whether two terms can be joined under a reason: string terms, and a reason that a caller can give.
+fn can_join(terms: &[u32], c: State, a: u32, b: u32, kind: u32, number: u32) -> bool
+    ensures { λ r. ⌜ r ≡ joinArguments a b kind number (termed (now (terms .entry)) c) ⌝ }
+{
+    if !is_string(terms, c.terms, a) {
+        return false;
+    }
+    if !is_string(terms, c.terms, b) {
+        return false;
+    }
+    if !is_reason_kind(kind) {
+        return false;
+    }
+    is_number(number)
+}
+
+// Joins two terms: 1 where it did, 0 where they are in one class already.
+pub fn join_unchecked(
+    terms: &mut [u32],
+    n: usize,
+    marks: &mut [u32],
+    d: Standing,
+    a: u32,
+    b: u32,
+    kind: u32,
+    number: u32,
+) -> Answer
+    requires { ⌜ CanJoin (now terms) n (now marks) d a b ⌝ }
+    ensures { λ r. ⌜ Joined (now (terms .entry)) (now (terms .exit)) n (now (marks .entry)) (now (marks .exit)) d a b kind number r ⌝ }
+{
+    let under = root_unchecked(terms, n, a);
+    let over = root_unchecked(terms, n, b);
+    if under == over {
+        return Answer::Given(0, d);
+    }
+    let old = top_unchecked(terms, n, a);
+    let e = record_join_unchecked(marks, d, a, old, under);
+    link_unchecked(terms, n, a, b, under, over, kind, number);
+    Answer::Given(1, e)
+}
+
+// Goes back to a mark that stands. The audit of marks shuts out that there is no table to go back to.
+pub fn go_back_unchecked(
+    terms: &mut [u32],
+    n: usize,
+    marks: &[u32],
+    d: Standing,
+    mark: u32,
+) -> Answer
+    requires { ⌜ CanGo (now terms) n (now marks) d mark ⌝ }
+    ensures { λ r. ⌜ Went (now (terms .entry)) (now (terms .exit)) n (now (marks .entry)) d mark r ⌝ }
+{
+    let left = wide(mark) - 1;
+    let joins = wide(word(marks, left));
+    if !undo_to_unchecked(terms, n, marks, d.joins, joins) {
+        return Answer::Refused(3);
+    }
+    Answer::Given(mark, Standing { marks: left, joins })
+}
+
+// Joins two string terms under a reason: kind 1 asserted or 2 interface, and its number.
+pub fn join(
+    terms: &mut [u32],
+    cells: &[u32],
+    chars: &[u32],
+    reasons: &[u32],
+    keys: &[u32],
+    c: State,
+    marks: &mut [u32],
+    d: Standing,
+    a: u32,
+    b: u32,
+    kind: u32,
+    number: u32,
+) -> Answer
+    ensures { λ r. ⌜ Marked (PublicJoin a b kind number) (across terms cells chars reasons keys) marks c d r ⌝ }
+{
+    let k = audit(terms, cells, chars, reasons, keys, c, marks, d);
+    if k != 0 {
+        return Answer::Refused(k);
+    }
+    if !can_join(terms, c, a, b, kind, number) {
+        return Answer::Refused(5);
+    }
+    join_unchecked(terms, c.terms, marks, d, a, b, kind, number)
+}
+
+// Sets a mark and answers its number.
+pub fn set_mark(
+    terms: &[u32],
+    cells: &[u32],
+    chars: &[u32],
+    reasons: &[u32],
+    keys: &[u32],
+    c: State,
+    marks: &mut [u32],
+    d: Standing,
+) -> Answer
+    ensures { λ r. ⌜ Marked (Tracks setMark) (across terms cells chars reasons keys) marks c d r ⌝ }
+{
+    let k = audit(terms, cells, chars, reasons, keys, c, marks, d);
+    if k != 0 {
+        return Answer::Refused(k);
+    }
+    if d.marks >= MARK_LIMIT {
+        return Answer::Refused(10);
+    }
+    let e = record_mark_unchecked(marks, d);
+    Answer::Given(e.marks as u32, e)
+}
+
+// Goes back to a mark, which uses up that mark and later ones.
+pub fn go_back(
+    terms: &mut [u32],
+    cells: &[u32],
+    chars: &[u32],
+    reasons: &[u32],
+    keys: &[u32],
+    c: State,
+    marks: &[u32],
+    d: Standing,
+    mark: u32,
+) -> Answer
+    ensures { λ r. ⌜ Marked (Tracks (goBack mark)) (across terms cells chars reasons keys) marks c d r ⌝ }
+{
+    let k = audit(terms, cells, chars, reasons, keys, c, marks, d);
+    if k != 0 {
+        return Answer::Refused(k);
+    }
+    if !is_within(d.marks, mark) {
+        return Answer::Refused(10);
+    }
+    go_back_unchecked(terms, c.terms, marks, d, mark)
 }

@@ -28,7 +28,7 @@ use Rattle.records.proofs.Grown.{term-past, used, present, string-here}
 
 -- two ways up that agree where one of them stays
 module _ (n : ℕ) (f g : ℕ → ℕ) (closed : Closed g n) (agree : (t : ℕ) → within n t ≡ true → f t ≡ g t) where
-  climb-same : (m t : ℕ) → within n t ≡ true → climb f m t ≡ climb g m t
+  pub climb-same : (m t : ℕ) → within n t ≡ true → climb f m t ≡ climb g m t
   unfolding climb
   climb-same zero t h = refl
   climb-same (suc m) t h = rw (agree t h) (climb-same m (g t) (closed .stays t h))
@@ -39,7 +39,7 @@ module _ (n : ℕ) (f g : ℕ → ℕ) (closed : Closed g n) (agree : (t : ℕ) 
 
 module _ (ts ts′ : List Term) (n : ℕ) (closed : Closed (forestUp ts) n) (agree : (t : ℕ) → within n t ≡ true → forestUp ts′ t ≡ forestUp ts t) where
   -- enough steps give the same, however many there are
-  above-same : (m i j t : ℕ) → within n t ≡ true → forestUp ts (climb (forestUp ts) m t) ≡ climb (forestUp ts) m t → m ≤ i → m ≤ j → aboveBy (suc i) ts′ t ≡ aboveBy (suc j) ts t
+  pub above-same : (m i j t : ℕ) → within n t ≡ true → forestUp ts (climb (forestUp ts) m t) ≡ climb (forestUp ts) m t → m ≤ i → m ≤ j → aboveBy (suc i) ts′ t ≡ aboveBy (suc j) ts t
   unfolding aboveBy climb
   above-same zero i j t h e p q = rw (agree t h, eq-eqb (forestUp ts t) t e)
   above-same (suc m) zero j t h e p q = absurd (omega arith)
@@ -55,7 +55,7 @@ module _ (ts ts′ : List Term) (n : ℕ) (closed : Closed (forestUp ts) n) (agr
       step u v d l = subst (λ (x : ℕ). _≡_ {A = List ℕ} (elim (eqb x t) [ true ↦ [] | false ↦ aboveBy (suc i) ts′ x ]) (elim (eqb v t) [ true ↦ [] | false ↦ aboveBy (suc j) ts v ])) (sym d) (go v (eqb v t) l)
 
 -- the path of a pair is a matter of what stands above each
-along : (x x′ y y′ : List ℕ) → x ≡ x′ → y ≡ y′ → (upTo (orNone (firstOf (λ z. isIn z y) x)) x ++ upTo (orNone (firstOf (λ z. isIn z y) x)) y) ≡ (upTo (orNone (firstOf (λ z. isIn z y′) x′)) x′ ++ upTo (orNone (firstOf (λ z. isIn z y′) x′)) y′)
+pub along : (x x′ y y′ : List ℕ) → x ≡ x′ → y ≡ y′ → (upTo (orNone (firstOf (λ z. isIn z y) x)) x ++ upTo (orNone (firstOf (λ z. isIn z y) x)) y) ≡ (upTo (orNone (firstOf (λ z. isIn z y′) x′)) x′ ++ upTo (orNone (firstOf (λ z. isIn z y′) x′)) y′)
 along x x′ y y′ p q = rw (p, q)
 
 -- a chain that is not empty starts within the cells

@@ -63,10 +63,17 @@ reason-stops k v s n e = go (ltb (length (s .reasons)) (s .room .reasons)) e
 
 -- TERMS
 
+-- how a store came from another by making a term: it was found, or one term is appended; or the name counter was moved before
+pub data Appends : Store → Store → Type 0 where
+  found : {s : Store} → Appends s s
+  one-term : {s : Store} {ds : List Cell} {hs : List ℕ} {k a b : ℕ} → More s ds hs → New s ds hs k a b → Appends s (grow s ds hs k a b)
+  after-names : {s s′ : Store} (m : ℕ) → Appends (withNames s m) s′ → Appends s s′
+
 -- a term made: what it is, that the store is audited, that no other is a new variable, and what of the store is as it was
 pub record MadeIn (s s′ : Store) (t k : ℕ) : Type 0 where
   pub audited : Audited s′
   pub grown : Grown s s′
+  pub appends : Appends s s′
   pub kind-is : kind s′ t ≡ k
   pub variables : (k ≡ 2 → ⊥) → OldVariables s s′
   pub cells : length (s .cells) ≤ length (s′ .cells)
@@ -82,13 +89,14 @@ made-string m e = ap (within 3) (m .kind-is) ∙ e
 -- a term found is in the store as it is
 found-in : (s s′ : Store) (t k : ℕ) → Audited s → s′ ≡ s → kind s t ≡ k → MadeIn s s′ t k
 found-in s s′ t k a e q =
-    subst (λ (x : Store). MadeIn s x t k) (sym e) (record { audited = a; grown = grown-none s; kind-is = q; variables = λ d u e. e; cells = omega arith; chars = omega arith; reasons = refl; keys = refl; room = refl })
+    subst (λ (x : Store). MadeIn s x t k) (sym e) (record { audited = a; grown = grown-none s; appends = found; kind-is = q; variables = λ d u e. e; cells = omega arith; chars = omega arith; reasons = refl; keys = refl; room = refl })
 
 -- a term appended
 grow-in : (s : Store) (ds : List Cell) (hs : List ℕ) (k a b : ℕ) → Audited s → More s ds hs → New s ds hs k a b → MadeIn s (grow s ds hs k a b) (suc (count s)) k
 grow-in s ds hs k a b audited more new = record {
   audited = kept-audited s ds hs k a b audited more new;
   grown = kept-grown s ds hs k a b audited more new;
+  appends = one-term more new;
   kind-is = ap (λ (x : Term). x .kind) (new-term s ds hs k a b);
   variables = λ d. each-kind s ds hs k a b 1 (λ t e. e) (λ e. absurd (d e));
   cells = more .cells .longer;
@@ -648,6 +656,7 @@ fresh-kept s s′ z a e =
       made = record {
         audited = f .made .audited;
         grown = grown-then (names-grown s m) (f .made .grown);
+        appends = after-names m (f .made .appends);
         kind-is = f .made .kind-is;
         variables = f .made .variables;
         cells = f .made .cells;

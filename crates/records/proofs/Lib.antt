@@ -3,6 +3,7 @@ pub mod Views
 pub mod Climbs
 pub mod Repeats
 pub mod Paths
+pub mod Rises
 pub mod Public
 pub mod Readings
 pub mod Grown
@@ -10,8 +11,8 @@ pub mod Works
 pub mod Chains
 pub mod Ends
 pub mod Passed
-mod Append
-mod Extend
+pub mod Append
+pub mod Extend
 pub mod Beside
 pub mod Kept
 pub mod Meant

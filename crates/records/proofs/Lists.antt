@@ -1,7 +1,7 @@
 -- Laws of tests, lists and numbers: none knows what a store is.
 use mathlib.Core.Path.{_≡_, refl, sym, ap, _∙_}
 use mathlib.Core.Bool.{Bool, true, false, not, _&&_, _||_, false≢true}
-use mathlib.Core.List.{List, [], _∷_, _++_, append-assoc}
+use mathlib.Core.List.{List, [], _∷_, _++_, append-assoc, List·Memᴰ, List·Memᴰ·head, List·Memᴰ·tail}
 use mathlib.Core.Logic.{_⊎_, inl, inr, ⊎-elim}
 use mathlib.Core.Option.{Option, none, some}
 use Prim.Native.Nat.{ℕ, zero, suc, _+_, _≤_, _<_}
@@ -451,6 +451,10 @@ module _ {A : Type 0} where
   every-at (x ∷ l) zero d (and p k) h = p
   every-at (x ∷ l) (suc i) d (and p k) h = every-at l i d k (le-of-suc-le-suc h)
   every-at [] i d none-left h = absurd (not-suc-le-zero h)
+
+  pub every-mem : {P : A → Type 0} {l : List A} {a : A} → Every P l → List·Memᴰ a l → P a
+  every-mem {P} (and p k) (List·Memᴰ·head e) = rw e p
+  every-mem (and p k) (List·Memᴰ·tail m) = every-mem k m
 
   pub all-every : (p : A → Bool) (l : List A) → all p l ≡ true → Every (λ a. p a ≡ true) l
   unfolding all

@@ -16,8 +16,9 @@ use Rattle.records.specs.Store.{Term, within, climb, forestUp, topIn, ab
 use Rattle.records.specs.View.{termsView, termAt}
 use Rattle.records.specs.Rules.{stampBelow}
 use Rattle.records.specs.Working.Audited.{Closed}
-use Rattle.records.proofs.Lists.{or-right, right-falsum, every-map, every-both, all-append, either, or-left, decide, clash, within-low, within-high}
+use Rattle.records.proofs.Lists.{or-right, right-falsum, every-map, every-both, every-mem, all-append, either, or-left, decide, clash, within-low, within-high}
 use Rattle.records.proofs.Climbs.{climb-stays, climb-up, above-step, view-term, view-forest, view-count}
+use Rattle.records.proofs.Rises.{is-in}
 
 -- THE LOOP
 
@@ -205,11 +206,6 @@ module _ (ts : List Term) (closed : Closed (forestUp ts) (length ts)) (ends : (t
       go true e = none-left
       go false e = e
 
-  in-every : {P : ℕ → Type 0} (l : List ℕ) (x : ℕ) → Every P l → isIn x l ≡ true → P x
-  unfolding isIn any
-  in-every [] x none-left e = absurd (false≢true e)
-  in-every {P} (y ∷ l) x (and h k) e = ⊎-elim (λ d. let z = eqb-true x y d in rw z h) (λ d. in-every l x k d) (either (eqb x y) _ e)
-
   module _ (a b : ℕ) (wa : within (length ts) a ≡ true) (wb : within (length ts) b ≡ true) where
     -- there is one exactly where the two are in one tree
     pub nearest-tree : eqb (topIn ts a) (topIn ts b) ≡ not (eqb (nearestIn ts a b) 0)
@@ -223,7 +219,7 @@ module _ (ts : List Term) (closed : Closed (forestUp ts) (length ts)) (ends : (t
         go none e = ne-eqb (topIn ts a) (topIn ts b) (λ d. clash (in-any (λ x. isIn x (aboveIn ts b)) (aboveIn ts a) (topIn ts a) (top-above ts (length ts) a) (rw d (top-above ts (length ts) b))) (first-any _ _ e))
         go (some x) e =
             let h = first-has (λ x. isIn x (aboveIn ts b)) (aboveIn ts a) x both e in
-            let u : topIn ts x ≡ topIn ts b = in-every (aboveIn ts b) x (above-top (suc (length ts)) b wb) (h .1) in
+            let u : topIn ts x ≡ topIn ts b = every-mem (above-top (suc (length ts)) b wb) (is-in x (aboveIn ts b) (h .1)) in
             let l = within-low (length ts) x (h .0 .0) in
             let n : eqb x 0 ≡ false = ne-eqb x 0 (λ z. omega arith) in
             eq-eqb _ _ (sym (h .0 .1) ∙ u) ∙ sym (ap not n)

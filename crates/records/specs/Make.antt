@@ -27,6 +27,32 @@ withCells s cs = record { terms = s .terms; cells = cs; chars = s .chars; reason
 abbrev pub withTerms : Store → List Term → Store
 withTerms s ts = record { terms = ts; cells = s .cells; chars = s .chars; reasons = s .reasons; keys = s .keys; names = s .names; room = s .room }
 
+-- a term with another class parent
+abbrev pub withClass : Term → ℕ → Term
+withClass x p = record {
+  kind = x .kind;
+  first = x .first;
+  second = x .second;
+  classParent = p;
+  forestParent = x .forestParent;
+  labelKind = x .labelKind;
+  labelValue = x .labelValue;
+  stamp = x .stamp;
+}
+
+-- a term with another edge to its parent in the forest: the parent, the label's kind and value, the stamp
+abbrev pub withEdge : Term → ℕ → ℕ → ℕ → ℕ → Term
+withEdge x p k v s = record {
+  kind = x .kind;
+  first = x .first;
+  second = x .second;
+  classParent = x .classParent;
+  forestParent = p;
+  labelKind = k;
+  labelValue = v;
+  stamp = s;
+}
+
 -- REASONS AND KEYS
 
 -- refusal 7: 'the next reason finds its slice (or 4,096) full'

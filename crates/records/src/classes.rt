@@ -43,7 +43,7 @@ pub fn root_unchecked(terms: &[u32], n: usize, t: u32) -> u32
 }
 
 // The root of a term's tree in the forest.
-pub(crate) fn top_unchecked(terms: &[u32], n: usize, t: u32) -> u32
+pub fn top_unchecked(terms: &[u32], n: usize, t: u32) -> u32
     requires { ⌜ (within n t ≡ true) × Closed (forestUp (termsView (now terms) n)) n ⌝ }
     ensures { λ r. ⌜ r ≡ topIn (termsView (now (terms .entry)) n) t ⌝ }
 {
@@ -263,7 +263,7 @@ fn classes_hold(terms: &[u32], c: State) -> bool
 }
 
 // Refusal 3 is not due.
-pub(crate) fn classes_ok(terms: &[u32], c: State) -> bool
+pub fn classes_ok_unchecked(terms: &[u32], c: State) -> bool
     requires { ⌜ c .terms ≤ termLimit ⌝ }
     ensures { λ r. ⌜ r ≡ classesRule (termed (now (terms .entry)) c) ⌝ }
 {
@@ -439,7 +439,7 @@ fn edge_ok(terms: &[u32], cells: &[u32], c: State, t: u32) -> bool
 }
 
 // Refusal 4 is not due, where refusals 1 to 3 are not.
-pub(crate) fn congruences_ok(terms: &[u32], cells: &[u32], c: State) -> bool
+pub fn congruences_ok_unchecked(terms: &[u32], cells: &[u32], c: State) -> bool
     requires { ⌜ Congruable (chained (now terms) (now cells) c) (c .terms) ⌝ }
     ensures { λ r. ⌜ r ≡ congruencesRule (chained (now (terms .entry)) (now (cells .entry)) c) ⌝ }
 {

@@ -51,10 +51,10 @@ pub fn audit(
     if !rules::records_ok(terms, cells, chars, reasons, keys, c) {
         return 2;
     }
-    if !classes::classes_ok(terms, c) {
+    if !classes::classes_ok_unchecked(terms, c) {
         return 3;
     }
-    if !classes::congruences_ok(terms, cells, c) {
+    if !classes::congruences_ok_unchecked(terms, cells, c) {
         return 4;
     }
     0

@@ -6,11 +6,11 @@ use Rattle.answers.proofs.run.Statement.{statement}
 use Rattle.answers.proofs.run.Tie as tie
 
 abbrev Inv-loop : tie.InvT-loop
-Inv-loop text terms₀ cells₀ chars₀ reasons₀ keys₀ known₀ c₀ at₀ terms cells chars reasons keys known c at =
-    (length text < 18446744073709551615) × (length terms ≡ length terms₀) × (length cells ≡ length cells₀) × (length chars ≡ length chars₀) × (length reasons ≡ length reasons₀) × (length keys ≡ length keys₀) × (length known ≡ length known₀)
+Inv-loop text terms₀ cells₀ chars₀ reasons₀ keys₀ known₀ marks₀ c₀ at₀ terms cells chars reasons keys known marks c at =
+    (length text < 18446744073709551615) × (length terms ≡ length terms₀) × (length cells ≡ length cells₀) × (length chars ≡ length chars₀) × (length reasons ≡ length reasons₀) × (length keys ≡ length keys₀) × (length known ≡ length known₀) × (length marks ≡ length marks₀)
 
 abbrev μ-loop : tie.MeasureT-loop
-μ-loop text terms₀ cells₀ chars₀ reasons₀ keys₀ known₀ c₀ at₀ terms cells chars reasons keys known c at =
+μ-loop text terms₀ cells₀ chars₀ reasons₀ keys₀ known₀ marks₀ c₀ at₀ terms cells chars reasons keys known marks c at =
     length text - at
 
 pub run-spec : {M : Type 1} → statement M
@@ -26,6 +26,7 @@ run-spec =
     (λ c. search needs)
     (λ c. search needs)
     (λ c κs. search needs)
+    (λ c. search needs)
     (λ c. search needs)
     (λ c. search needs)
     (λ c. search needs)

@@ -11,9 +11,9 @@ use borrow.Author.Tests.{eq-eqb, ne-eqb, not-true, not-false}
 use Rattle.records.specs.declared.State.{State}
 use Rattle.records.specs.Store.{Term, ok, stop, within, isString, sameClass, rootIn, classUp, forestUp}
 use Rattle.records.specs.View.{Lent, lent, storeOf, termAt, termsView, termWords, zeroTerm}
-use Rattle.records.specs.Working.Puts.{withClass, withEdge, TermSet}
+use Rattle.records.specs.Working.Puts.{TermSet}
 use Rattle.records.specs.Rules.{audit, isNumber}
-use Rattle.records.specs.Make.{withTerms}
+use Rattle.records.specs.Make.{withTerms, withClass, withEdge}
 use Rattle.records.specs.Working.Audited.{Ready, Closed, Audited}
 use Rattle.records.specs.Calls.{call}
 use Rattle.records.proofs.Lists.{failed, passed, and-stop, and-next, five-1, five-2, five-3, five-4, five-last, within-low, within-high}

@@ -13,8 +13,8 @@ use Rattle.records.specs.View.{reasonRoom, termAt, cellAt, pairAt, terms
 use Rattle.records.specs.Store.{Term, noTerm, within}
 use Rattle.records.specs.declared.State.{State}
 use Rattle.records.specs.declared.Added.the-variants.{Counts, Refused}
-use Rattle.records.specs.Make.{own, chainFrom}
-use Rattle.records.specs.Working.Puts.{TermPut, withClass, withEdge, TermSet, CellPut, ChainPut, PairPut, Pushed}
+use Rattle.records.specs.Make.{own, chainFrom, withClass, withEdge}
+use Rattle.records.specs.Working.Puts.{TermPut, TermSet, CellPut, ChainPut, PairPut, Pushed}
 use Rattle.records.proofs.Lists.{table-same, table-suc, table-length, table-at, within-low, within-high, clash}
 
 -- A RUN OF STORES

@@ -17,7 +17,7 @@ audit-spec =
     (λ c.
     let at-sizes = c .before .before .before in
     audit-unrecorded _ _ _ (at-sizes .sizes .ensures) (c .before .before .if1 .left) _ (c .before .records-ok .ensures) (c .if2 .taken))
-    -- classes-ok-requires
+    -- classes-ok-unchecked-requires
     (λ c κs. let at-sizes = c .before .before .before in audit-sized _ _ _ (at-sizes .sizes .ensures) (c .before .before .if1 .left) .termLimited)
     -- returns-3
     (λ c.
@@ -25,29 +25,29 @@ audit-spec =
     let at-if1 = at-records-ok .before in
     let at-sizes = at-if1 .before in
     audit-unclassed _ _ _ (at-sizes .sizes .ensures) (at-if1 .if1 .left) _ (at-records-ok .records-ok .ensures) (c .before .before .if2 .left) _
-    (c .before .classes-ok .ensures) (c .if3 .taken))
-    -- congruences-ok-requires
+    (c .before .classes-ok-unchecked .ensures) (c .if3 .taken))
+    -- congruences-ok-unchecked-requires
     (λ c κs.
     let at-records-ok = c .before .before .before in
     let at-if1 = at-records-ok .before in
     let at-sizes = at-if1 .before in
     audit-congruable _ _ _ (at-sizes .sizes .ensures) (at-if1 .if1 .left) _ (at-records-ok .records-ok .ensures) (c .before .before .if2 .left) _
-    (c .before .classes-ok .ensures) (c .if3 .left))
+    (c .before .classes-ok-unchecked .ensures) (c .if3 .left))
     -- returns-4
     (λ c.
-    let at-classes-ok = c .before .before .before in
-    let at-if2 = at-classes-ok .before in
+    let at-classes-ok-unchecked = c .before .before .before in
+    let at-if2 = at-classes-ok-unchecked .before in
     let at-records-ok = at-if2 .before in
     let at-if1 = at-records-ok .before in
     let at-sizes = at-if1 .before in
-    audit-incongruent _ _ _ (at-sizes .sizes .ensures) (at-if1 .if1 .left) _ (at-records-ok .records-ok .ensures) (at-if2 .if2 .left) _ (at-classes-ok .classes-ok .ensures)
-    (c .before .before .if3 .left) _ (c .before .congruences-ok .ensures) (c .if4 .taken))
+    audit-incongruent _ _ _ (at-sizes .sizes .ensures) (at-if1 .if1 .left) _ (at-records-ok .records-ok .ensures) (at-if2 .if2 .left) _ (at-classes-ok-unchecked .classes-ok-unchecked .ensures)
+    (c .before .before .if3 .left) _ (c .before .congruences-ok-unchecked .ensures) (c .if4 .taken))
     -- returns-5
     (λ c.
-    let at-classes-ok = c .before .before .before in
-    let at-if2 = at-classes-ok .before in
+    let at-classes-ok-unchecked = c .before .before .before in
+    let at-if2 = at-classes-ok-unchecked .before in
     let at-records-ok = at-if2 .before in
     let at-if1 = at-records-ok .before in
     let at-sizes = at-if1 .before in
-    audit-passed _ _ _ (at-sizes .sizes .ensures) (at-if1 .if1 .left) _ (at-records-ok .records-ok .ensures) (at-if2 .if2 .left) _ (at-classes-ok .classes-ok .ensures)
-    (c .before .before .if3 .left) _ (c .before .congruences-ok .ensures) (c .if4 .left)))
+    audit-passed _ _ _ (at-sizes .sizes .ensures) (at-if1 .if1 .left) _ (at-records-ok .records-ok .ensures) (at-if2 .if2 .left) _ (at-classes-ok-unchecked .classes-ok-unchecked .ensures)
+    (c .before .before .if3 .left) _ (c .before .congruences-ok-unchecked .ensures) (c .if4 .left)))

@@ -19,32 +19,6 @@ pub record TermPut (l l′ : List ℕ) (n kind first second : ℕ) : Type 0 wher
   pub kept : termsView l′ n ≡ termsView l n
   pub zero : zeroTerm l′ ≡ zeroTerm l
 
--- a term with another class parent
-abbrev pub withClass : Term → ℕ → Term
-withClass x p = record {
-  kind = x .kind;
-  first = x .first;
-  second = x .second;
-  classParent = p;
-  forestParent = x .forestParent;
-  labelKind = x .labelKind;
-  labelValue = x .labelValue;
-  stamp = x .stamp;
-}
-
--- a term with another edge to its parent in the forest: the parent, the label's kind and value, the stamp
-abbrev pub withEdge : Term → ℕ → ℕ → ℕ → ℕ → Term
-withEdge x p k v s = record {
-  kind = x .kind;
-  first = x .first;
-  second = x .second;
-  classParent = x .classParent;
-  forestParent = p;
-  labelKind = k;
-  labelValue = v;
-  stamp = s;
-}
-
 -- record t of terms is x, and every other record stays: record 0 and those above a count too
 pub record TermSet (l l′ : List ℕ) (t : ℕ) (x : Term) : Type 0 where
   pub long : length l′ ≡ length l

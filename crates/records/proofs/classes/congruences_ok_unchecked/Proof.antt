@@ -7,8 +7,8 @@ use mathlib.Core.Path.{_≡_}
 use mathlib.Core.Bool.{true}
 use native.Mathlib.Omega.{arith}
 use borrow.Author.Needs.{needs}
-use Rattle.records.proofs.classes.congruences_ok.Statement.{statement}
-use Rattle.records.proofs.classes.congruences_ok.Tie as tie
+use Rattle.records.proofs.classes.congruences_ok_unchecked.Statement.{statement}
+use Rattle.records.proofs.classes.congruences_ok_unchecked.Tie as tie
 
 abbrev Inv-loop : tie.InvT-loop
 Inv-loop terms cells c i₀ i = (i ≤ c .terms) × (allBelow (λ j. edgeRule (chained terms cells c) (suc j)) i ≡ true)
@@ -57,8 +57,8 @@ returns-2 c =
     let s = at-start .args in
     each-done (edgeRule (chained (s .terms .now) (s .cells .now) (s .c))) (λ j. termAt (s .terms .now) (suc j)) (s .c .terms) (at-loop .loop .i) (at-loop .loop .inv .0) (c .if1 .left) (at-loop .loop .inv .1)
 
-pub congruences-ok-spec : {M : Type 1} → statement M
-congruences-ok-spec =
+pub congruences-ok-unchecked-spec : {M : Type 1} → statement M
+congruences-ok-unchecked-spec =
     tie.close
     (tie.spec
     Inv-loop

@@ -1,0 +1,35 @@
+use mathlib.Core.Path.{refl}
+use native.Mathlib.Omega.{arith}
+use Rattle.capi.proofs.Standings.{spacious-state, spacious-answer, number-told}
+use borrow.Author.Needs.{needs}
+use Rattle.capi.proofs.marks.tell_number.Statement.{statement}
+use Rattle.capi.proofs.marks.tell_number.Tie as tie
+
+pub tell-number-spec : {M : Type 1} → statement M
+tell-number-spec =
+    tie.close
+    (tie.spec
+    -- enum-known-told
+    (λ c. search needs)
+    -- write-standing-requires
+    (λ c κs.
+    let at-told = c .before .before in
+    let at-start = at-told .before .before .before .before in
+    (spacious-state _ _ (at-start .pre .0), at-start .pre .1 .counts _ _ (at-told .told .given .1)))
+    -- slice-write-answer
+    (λ c.
+    let at-start = c .before .before .before .before .before .before .before .before .before in
+    let h = spacious-answer _ _ (at-start .pre .0) in omega arith)
+    -- enum-known-told-2
+    (λ c. search needs)
+    -- same-length
+    (λ c. search needs)
+    -- same-length-2
+    (λ c. search needs)
+    -- returns
+    (λ c.
+    let at-write-standing = c .before .before in
+    let at-told = at-write-standing .before .before .before in
+    number-told (at-told .told .given .1) (at-write-standing .write-standing .ensures) refl)
+    -- returns-2
+    (λ c. search needs))
