@@ -243,8 +243,8 @@ uint32_t labels_go_back(LABELS_WORDS(state), LABELS_WORDS(terms), LABELS_READ(ce
 
 /* A STORE AND ITS CALLS
  *
- * The words are lent through pointers, so a store may be as small as its user likes. `list` is where the forms and the atoms of a Split come
- * to stand, `answer` the words of the last call. */
+ * The words are lent through pointers, so a store may be as small as its user likes, and one that is never joined needs no marks. `list` is
+ * where the forms and the atoms of a Split come to stand, `answer` the words of the last call that gave any. */
 typedef struct labels_store {
     uint32_t state[LABELS_STATE_WORDS];
     uint32_t *terms, *cells, *chars, *reasons, *keys, *marks, *list;

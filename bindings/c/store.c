@@ -17,7 +17,7 @@ static void hold(int true_, int line) {
 
 static void making(void) {
     const uint32_t text[] = {'a', 'b', 0x3BB};
-    uint32_t a, v, w, n, e, again, long_text;
+    uint32_t a = 0, v = 0, w = 0, n = 0, e = 0, again = 0, long_text = 0;
     static char big[LABELS_LIST_WORDS + 2];
     uint32_t parts[2];
     labels_store_over(&s, &memory);
@@ -44,7 +44,7 @@ static void making(void) {
 }
 
 static void joining(void) {
-    uint32_t x, y, mark, joined, root;
+    uint32_t x = 0, y = 0, mark = 0, joined = 0, root = 0;
     labels_store_over(&s, &memory);
     HOLD(labels_store_variable(&s, "x", &x) == 0 && labels_store_variable(&s, "y", &y) == 0);
     HOLD(labels_store_set_mark(&s, &mark) == 0 && mark == 1 && s.state[LABELS_COUNT_MARKS] == 1);
@@ -58,7 +58,7 @@ static void joining(void) {
 /* Questions on a store of x ++ "a" = y ++ "b", x and y of one class by a7: a conflict, and it names a7. */
 static void asking(void) {
     const uint32_t handed[] = {LABELS_INTERFACE, 9, LABELS_ASSERTED, 8}, bad[] = {3, 1}, large[] = {1, 0x80000000u};
-    uint32_t x, y, a, b, l[2], r[2], lhs, rhs, e, kind, number, equal;
+    uint32_t x = 0, y = 0, a = 0, b = 0, lhs = 0, rhs = 0, e = 0, kind = 0, number = 0, equal = 0, l[2], r[2];
     int i;
     labels_store_over(&s, &memory);
     HOLD(labels_store_variable(&s, "x", &x) == 0 && labels_store_variable(&s, "y", &y) == 0);
@@ -100,7 +100,7 @@ static void asking(void) {
 
 /* A store keeps its words to itself, and may be small. */
 static void small(void) {
-    uint32_t few[8 * 2], cell[3], characters[1], x;
+    uint32_t few[8 * 2], cell[3], characters[1], x = 0;
     labels_store_over(&t, &other);
     t.terms = few, t.terms_len = 16, t.cells = cell, t.cells_len = 3, t.chars = characters, t.chars_len = 1;
     t.reasons = t.keys = NULL;
