@@ -1,13 +1,23 @@
-/* The label resolver's calls for C; link libcapi.a (`rt staticlib capi`).
+/* The label resolver's calls for C and C++; link libcapi.a (`rt staticlib capi`).
  *
- * A slice is a pointer and a length in words. The store comes first: the state's six words (counts of terms, cells, characters, reasons
- * and keys, and the name counter), then the five slices. The result is 0 or the refusal's number; the state is written on success alone.
- * `answer` has eight words. A state under six or an answer under eight words is refusal 1. Joining, marks and going back ask for a state of
- * eight words; the other calls look at six and leave the rest alone.
+ * PLAIN CALLS. A slice is a pointer and a length in words. The store comes first: the state's words (counts of terms, cells, characters,
+ * reasons and keys, the name counter, counts of marks and of recorded joins), then the five slices. The result is 0 or the refusal's number;
+ * the state is written on success alone. `answer` has eight words. A state under six or an answer under eight words is refusal 1. Joining,
+ * marks and going back ask for a state of eight words; the other calls look at six and leave the rest alone.
  *
- * What the caller owes, and no call can test: each pointer is valid for its length and not null, for reading and, without `const`, for
- * writing, and aligned for `uint32_t`; the slices of a call are pairwise apart (two that the call only reads may be one); and until the call
- * returns nothing else writes them, or reads those that it may write. Where slices overlap a call can answer 0 and leave a broken store.
+ * A STORE. `labels_store` keeps all of that together, and each plain call has a `labels_store_..` beside it that takes the store and its own
+ * arguments alone. They are written in C below and only pass words on; what is proved is the plain call behind each.
+ *
+ * What the caller owes, and no call can test: each pointer is valid for its length, for reading and, without `const`, for writing, and
+ * aligned for `uint32_t`; the slices of a call are pairwise apart (two that the call only reads may be one); and until the call returns
+ * nothing else writes them, or reads those that it may write. Where slices overlap a call can answer 0 and leave a broken store.
+ *
+ * A null pointer with length 0 is an empty slice: tried on x86-64 Linux for every slice of every call (bindings/c/null.c), and each call
+ * answers and writes as it does for any other empty slice. A null pointer with another length is the caller's error.
+ *
+ * Stack: 512 KiB have to be free when a call is made. A tower of 506 congruences, which passes the audit, was measured to take 456,184
+ * bytes. The component's own calls make no congruences; without any the worst that was tried, the step on 508 concatenations within each
+ * other, took 88,000. No call uses the heap or data of its own, so calls on stores that share no words may run at the same time.
  */
 #ifndef LABELS_H
 #define LABELS_H
@@ -19,10 +29,145 @@
 extern "C" {
 #endif
 
+/* The version of this header, of the Rust crate and of CHANGELOG.md. */
+#define LABELS_VERSION "0.2.0"
+#define LABELS_VERSION_MAJOR 0
+#define LABELS_VERSION_MINOR 2
+#define LABELS_VERSION_PATCH 0
+
+/* The limits of the counts. */
+#define LABELS_MAX_TERMS 512
+#define LABELS_MAX_CELLS 2048
+#define LABELS_MAX_CHARS 16384
+#define LABELS_MAX_REASONS 4096
+#define LABELS_MAX_KEYS 4096
+#define LABELS_MAX_MARKS 64
+#define LABELS_MAX_JOINS 511
+
+/* The words of each slice at its limit; a shorter slice has less room, and a longer one no more. Terms and cells have a record 0 that takes
+ * room and is never read or written. A term has eight words, a cell three, a character one, a reason and a key two. */
+#define LABELS_TERM_WORDS (8 * (LABELS_MAX_TERMS + 1))
+#define LABELS_CELL_WORDS (3 * (LABELS_MAX_CELLS + 1))
+#define LABELS_CHAR_WORDS LABELS_MAX_CHARS
+#define LABELS_REASON_WORDS (2 * LABELS_MAX_REASONS)
+#define LABELS_KEY_WORDS (2 * LABELS_MAX_KEYS)
+
+/* The least that the calls ask of these: words of the state (six where nothing is joined or marked), of an answer, of a list that a call
+ * fills, of the marks (a word for each of 64 marks, three for each of 511 joins). */
+#define LABELS_STATE_WORDS 8
+#define LABELS_ANSWER_WORDS 8
+#define LABELS_LIST_WORDS 1024
+#define LABELS_MARK_WORDS 1597
+
+/* The words of the state. */
+enum labels_count {
+    LABELS_COUNT_TERMS = 0,
+    LABELS_COUNT_CELLS = 1,
+    LABELS_COUNT_CHARS = 2,
+    LABELS_COUNT_REASONS = 3,
+    LABELS_COUNT_KEYS = 4,
+    LABELS_COUNT_NAMES = 5, /* the name counter */
+    LABELS_COUNT_MARKS = 6,
+    LABELS_COUNT_JOINS = 7
+};
+
+/* The kinds of a reason, the first of its two words; the second is its number, below 2^31. */
+enum labels_reason_kind { LABELS_ASSERTED = 1, LABELS_INTERFACE = 2 };
+
+/* The cases of an answer, which `labels_resolve_equation` and `labels_step` put into word 0; the last is of the step alone. */
+enum labels_case {
+    LABELS_DONE = 0,
+    LABELS_SATURATED = 1,
+    LABELS_CONFLICT = 2,
+    LABELS_PROPAGATE = 3,
+    LABELS_SPLIT = 4,
+    LABELS_UNEXPANDED = 5
+};
+
+/* The other words of an answer: of Propagate the variable, its word and the link flag; of Split the count of its atoms and its guard. */
+enum labels_answer_word {
+    LABELS_ANSWER_CASE = 0,
+    LABELS_ANSWER_VARIABLE = 1,
+    LABELS_ANSWER_WORD = 2,
+    LABELS_ANSWER_LINK = 3,
+    LABELS_ANSWER_ATOMS = 1,
+    LABELS_ANSWER_GUARD = 2
+};
+
+/* Why a call was refused. After the first five and the last no word of any slice is written; after the others the counts and every counted
+ * record are as they were. */
+enum labels_refusal {
+    LABELS_ACCEPTED = 0,
+    LABELS_REFUSED_SIZES = 1,
+    LABELS_REFUSED_RECORDS = 2,
+    LABELS_REFUSED_CLASSES = 3,
+    LABELS_REFUSED_CONGRUENCES = 4,
+    LABELS_REFUSED_ARGUMENT = 5,
+    LABELS_REFUSED_LIST = 6,
+    LABELS_REFUSED_REASONS = 7,
+    LABELS_REFUSED_ROOM = 8,
+    LABELS_REFUSED_NAMES = 9,
+    LABELS_REFUSED_MARK = 10
+};
+
+/* A refusal's text, never null. */
+static inline const char *labels_refusal_text(uint32_t refusal) {
+    switch (refusal) {
+    case LABELS_ACCEPTED:
+        return "not refused";
+    case LABELS_REFUSED_SIZES:
+        return "a count above its limit, or a slice too short";
+    case LABELS_REFUSED_RECORDS:
+        return "a record that breaks its rule";
+    case LABELS_REFUSED_CLASSES:
+        return "classes and forest do not agree, or would not after going back to a mark";
+    case LABELS_REFUSED_CONGRUENCES:
+        return "a congruence that its arguments do not give";
+    case LABELS_REFUSED_ARGUMENT:
+        return "a wrong argument";
+    case LABELS_REFUSED_LIST:
+        return "a flattened list above 1,024 atoms";
+    case LABELS_REFUSED_REASONS:
+        return "no room for the next reason";
+    case LABELS_REFUSED_ROOM:
+        return "no room for a term, a cell, a character or a key";
+    case LABELS_REFUSED_NAMES:
+        return "no name left";
+    case LABELS_REFUSED_MARK:
+        return "a mark that is not standing, or a 65th";
+    default:
+        return "a refusal that no call gives";
+    }
+}
+
+/* The name of an answer's case, never null. */
+static inline const char *labels_case_text(uint32_t answer_case) {
+    switch (answer_case) {
+    case LABELS_DONE:
+        return "done";
+    case LABELS_SATURATED:
+        return "saturated";
+    case LABELS_CONFLICT:
+        return "conflict";
+    case LABELS_PROPAGATE:
+        return "propagate";
+    case LABELS_SPLIT:
+        return "split";
+    case LABELS_UNEXPANDED:
+        return "unexpanded";
+    default:
+        return "an answer that no call gives";
+    }
+}
+
 #define LABELS_WORDS(name) uint32_t *name, size_t name##_len
 #define LABELS_READ(name) const uint32_t *name, size_t name##_len
 
-uint32_t labels_audit(LABELS_READ(state), LABELS_READ(terms), LABELS_READ(cells), LABELS_READ(chars), LABELS_READ(reasons), LABELS_READ(keys));
+/* An array and its length in words, as a slice is lent. */
+#define LABELS_LEND(words) words, sizeof(words) / sizeof *(words)
+
+uint32_t labels_audit(LABELS_READ(state), LABELS_READ(terms), LABELS_READ(cells), LABELS_READ(chars), LABELS_READ(reasons),
+                      LABELS_READ(keys));
 
 /* The making calls and find put the term into word 0 of the answer. */
 uint32_t labels_make_constant(LABELS_WORDS(state), LABELS_WORDS(terms), LABELS_READ(cells), LABELS_WORDS(chars), LABELS_READ(reasons),
@@ -38,7 +183,10 @@ uint32_t labels_make_equation(LABELS_WORDS(state), LABELS_WORDS(terms), LABELS_R
 uint32_t labels_find(LABELS_READ(state), LABELS_READ(terms), LABELS_READ(cells), LABELS_READ(chars), LABELS_READ(reasons), LABELS_READ(keys),
                      uint32_t t, LABELS_WORDS(answer));
 
-/* The reasons named stand in `reasons` below the state's count. */
+/* THE REASONS. Those counted at entry are handed in and stay; the calls from here on append the reasons that they name, and those named stand
+ * in `reasons` below the state's count. So set the count to 0 before a question unless reasons are handed in with it: else the answer names
+ * those of the question before too, and once 4,096 stand there every further one is refused (7). Two normal forms and the word equation
+ * between them are one question: what the forms named has to be handed in with the equation, that is, left counted. */
 uint32_t labels_explain(LABELS_WORDS(state), LABELS_READ(terms), LABELS_READ(cells), LABELS_READ(chars), LABELS_WORDS(reasons),
                         LABELS_READ(keys), uint32_t a, uint32_t b);
 
@@ -50,7 +198,9 @@ uint32_t labels_deep_normal_form(LABELS_WORDS(state), LABELS_WORDS(terms), LABEL
 
 /* The case stands in word 0 of the answer: 0 Done, 1 Saturated, 2 Conflict, 3 Propagate, 4 Split. Propagate puts the variable, its word and
  * the link flag into words 1 to 3; Split puts the count of its atoms, which stand first in `list`, and the negated guard as a 32-bit two's
- * complement into words 1 and 2. */
+ * complement into words 1 and 2: the clause is, not the equation (the guard's literal, negated) or one of the atoms. A Conflict and a
+ * Propagate rest on the reasons below the state's count, and a Split and a Saturated of the step rest on reasons too, those of the normal
+ * forms: keep them with whatever is kept of the answer. */
 uint32_t labels_resolve_equation(LABELS_WORDS(state), LABELS_WORDS(terms), LABELS_WORDS(cells), LABELS_WORDS(chars), LABELS_WORDS(reasons),
                                  LABELS_WORDS(keys), LABELS_READ(lhs), LABELS_READ(rhs), int32_t guard, LABELS_WORDS(list),
                                  LABELS_WORDS(answer));
@@ -90,6 +240,174 @@ uint32_t labels_set_mark(LABELS_WORDS(state), LABELS_READ(terms), LABELS_READ(ce
  * of the state; the other counts, reasons, keys and the name counter stay. A mark that is not standing, 0 too: refusal 10. */
 uint32_t labels_go_back(LABELS_WORDS(state), LABELS_WORDS(terms), LABELS_READ(cells), LABELS_READ(chars), LABELS_READ(reasons),
                         LABELS_READ(keys), LABELS_READ(marks), uint32_t mark);
+
+/* A STORE AND ITS CALLS
+ *
+ * The words are lent through pointers, so a store may be as small as its user likes, and one that is never joined needs no marks. `list` is
+ * where the forms and the atoms of a Split come to stand, `answer` the words of the last call that gave any. */
+typedef struct labels_store {
+    uint32_t state[LABELS_STATE_WORDS];
+    uint32_t *terms, *cells, *chars, *reasons, *keys, *marks, *list;
+    size_t terms_len, cells_len, chars_len, reasons_len, keys_len, marks_len, list_len;
+    uint32_t answer[LABELS_ANSWER_WORDS];
+} labels_store;
+
+/* Words for a store with room up to every limit, 182,560 bytes: better static than on the stack. */
+typedef struct labels_memory {
+    uint32_t terms[LABELS_TERM_WORDS], cells[LABELS_CELL_WORDS], chars[LABELS_CHAR_WORDS], reasons[LABELS_REASON_WORDS];
+    uint32_t keys[LABELS_KEY_WORDS], marks[LABELS_MARK_WORDS], list[LABELS_LIST_WORDS];
+} labels_memory;
+
+/* Makes an empty store over the memory. What stands in the memory does not matter, and it is not written. */
+static inline void labels_store_over(labels_store *s, labels_memory *memory) {
+    size_t i;
+    for (i = 0; i < LABELS_STATE_WORDS; i++)
+        s->state[i] = 0;
+    for (i = 0; i < LABELS_ANSWER_WORDS; i++)
+        s->answer[i] = 0;
+    s->terms = memory->terms;
+    s->terms_len = LABELS_TERM_WORDS;
+    s->cells = memory->cells;
+    s->cells_len = LABELS_CELL_WORDS;
+    s->chars = memory->chars;
+    s->chars_len = LABELS_CHAR_WORDS;
+    s->reasons = memory->reasons;
+    s->reasons_len = LABELS_REASON_WORDS;
+    s->keys = memory->keys;
+    s->keys_len = LABELS_KEY_WORDS;
+    s->marks = memory->marks;
+    s->marks_len = LABELS_MARK_WORDS;
+    s->list = memory->list;
+    s->list_len = LABELS_LIST_WORDS;
+}
+
+/* The slices of a store as the plain calls take them, and its marks, list and answer. */
+#define LABELS_STORE(s)                                                                                                             \
+    (s)->state, (size_t)LABELS_STATE_WORDS, (s)->terms, (s)->terms_len, (s)->cells, (s)->cells_len, (s)->chars, (s)->chars_len,     \
+        (s)->reasons, (s)->reasons_len, (s)->keys, (s)->keys_len
+#define LABELS_STORE_MARKS(s) (s)->marks, (s)->marks_len
+#define LABELS_STORE_LIST(s) (s)->list, (s)->list_len
+#define LABELS_STORE_ANSWER(s) (s)->answer, (size_t)LABELS_ANSWER_WORDS
+
+/* Word 0 of the answer goes where the caller wants it, on success alone; a null pointer wants it nowhere. */
+static inline uint32_t labels_store_put(const labels_store *s, uint32_t refusal, uint32_t *into) {
+    if (refusal == LABELS_ACCEPTED && into != NULL)
+        *into = s->answer[0];
+    return refusal;
+}
+
+static inline uint32_t labels_store_audit(const labels_store *s) { return labels_audit(LABELS_STORE(s)); }
+
+/* The making calls; the last two take text in ASCII that ends with a zero, at most as many characters as the list has words, and use the
+ * list for them. Another character or a longer text is refused (5). */
+static inline uint32_t labels_store_make_constant(labels_store *s, LABELS_READ(text), uint32_t *term) {
+    return labels_store_put(s, labels_make_constant(LABELS_STORE(s), text, text_len, LABELS_STORE_ANSWER(s)), term);
+}
+static inline uint32_t labels_store_make_variable(labels_store *s, LABELS_READ(name), uint32_t *term) {
+    return labels_store_put(s, labels_make_variable(LABELS_STORE(s), name, name_len, LABELS_STORE_ANSWER(s)), term);
+}
+static inline uint32_t labels_store_make_concatenation(labels_store *s, LABELS_READ(parts), uint32_t *term) {
+    return labels_store_put(s, labels_make_concatenation(LABELS_STORE(s), parts, parts_len, LABELS_STORE_ANSWER(s)), term);
+}
+static inline uint32_t labels_store_make_length(labels_store *s, uint32_t t, uint32_t *term) {
+    return labels_store_put(s, labels_make_length(LABELS_STORE(s), t, LABELS_STORE_ANSWER(s)), term);
+}
+static inline uint32_t labels_store_make_equation(labels_store *s, uint32_t t, uint32_t u, uint32_t *term) {
+    return labels_store_put(s, labels_make_equation(LABELS_STORE(s), t, u, LABELS_STORE_ANSWER(s)), term);
+}
+static inline uint32_t labels_store_ascii(labels_store *s, const char *text, size_t *count) {
+    for (*count = 0; text[*count] != 0; ++*count) {
+        if (*count >= s->list_len || (unsigned char)text[*count] > 127)
+            return LABELS_REFUSED_ARGUMENT;
+        s->list[*count] = (uint32_t)(unsigned char)text[*count];
+    }
+    return LABELS_ACCEPTED;
+}
+static inline uint32_t labels_store_constant(labels_store *s, const char *text, uint32_t *term) {
+    size_t count;
+    uint32_t refusal = labels_store_ascii(s, text, &count);
+    return refusal != LABELS_ACCEPTED ? refusal : labels_store_make_constant(s, s->list, count, term);
+}
+static inline uint32_t labels_store_variable(labels_store *s, const char *name, uint32_t *term) {
+    size_t count;
+    uint32_t refusal = labels_store_ascii(s, name, &count);
+    return refusal != LABELS_ACCEPTED ? refusal : labels_store_make_variable(s, s->list, count, term);
+}
+
+static inline uint32_t labels_store_find(labels_store *s, uint32_t t, uint32_t *root) {
+    return labels_store_put(s, labels_find(LABELS_STORE(s), t, LABELS_STORE_ANSWER(s)), root);
+}
+
+/* Joining, marks, going back. `joined`: 1, or 0 where the terms are in one class already. */
+static inline uint32_t labels_store_join(labels_store *s, uint32_t a, uint32_t b, uint32_t kind, uint32_t number, uint32_t *joined) {
+    return labels_store_put(s, labels_join(LABELS_STORE(s), LABELS_STORE_MARKS(s), a, b, kind, number, LABELS_STORE_ANSWER(s)), joined);
+}
+static inline uint32_t labels_store_set_mark(labels_store *s, uint32_t *mark) {
+    return labels_store_put(s, labels_set_mark(LABELS_STORE(s), LABELS_STORE_MARKS(s), LABELS_STORE_ANSWER(s)), mark);
+}
+static inline uint32_t labels_store_go_back(labels_store *s, uint32_t mark) {
+    return labels_go_back(LABELS_STORE(s), LABELS_STORE_MARKS(s), mark);
+}
+
+/* The calls that name reasons. They append to the reasons counted, as the plain calls do: see ASKING A QUESTION below. */
+static inline uint32_t labels_store_explain(labels_store *s, uint32_t a, uint32_t b) { return labels_explain(LABELS_STORE(s), a, b); }
+static inline uint32_t labels_store_normal_form(labels_store *s, LABELS_READ(known), uint32_t t) {
+    return labels_normal_form(LABELS_STORE(s), known, known_len, t, LABELS_STORE_LIST(s), LABELS_STORE_ANSWER(s));
+}
+static inline uint32_t labels_store_deep_normal_form(labels_store *s, LABELS_READ(known), uint32_t t) {
+    return labels_deep_normal_form(LABELS_STORE(s), known, known_len, t, LABELS_STORE_LIST(s), LABELS_STORE_ANSWER(s));
+}
+static inline uint32_t labels_store_resolve_equation(labels_store *s, LABELS_READ(lhs), LABELS_READ(rhs), int32_t guard) {
+    return labels_resolve_equation(LABELS_STORE(s), lhs, lhs_len, rhs, rhs_len, guard, LABELS_STORE_LIST(s), LABELS_STORE_ANSWER(s));
+}
+static inline uint32_t labels_store_step(labels_store *s, LABELS_READ(known), uint32_t e, int32_t guard) {
+    return labels_step(LABELS_STORE(s), known, known_len, e, guard, LABELS_STORE_LIST(s), LABELS_STORE_ANSWER(s));
+}
+static inline uint32_t labels_store_nf_equal_explain(labels_store *s, LABELS_READ(lhs), LABELS_READ(rhs)) {
+    return labels_nf_equal_explain(LABELS_STORE(s), lhs, lhs_len, rhs, rhs_len);
+}
+static inline uint32_t labels_store_nf_equal(labels_store *s, LABELS_READ(lhs), LABELS_READ(rhs), uint32_t *equal) {
+    return labels_store_put(s, labels_nf_equal(LABELS_STORE(s), lhs, lhs_len, rhs, rhs_len, LABELS_STORE_ANSWER(s)), equal);
+}
+
+/* ASKING A QUESTION
+ *
+ * `labels_ask` sets the reasons' count to 0 and asks the step, so that the reasons below the count are those of this answer and no other's.
+ * `labels_ask_with` hands reasons in instead: pairs of a kind and a number, which the answer then rests on too. Afterwards read
+ * `labels_reason_count` reasons with `labels_reason` and keep them with the rule that is made of the answer: not of a Conflict and a Propagate
+ * alone, a Split and a Saturated of the step rest on reasons too. For the other calls that name reasons begin with `labels_hand_in`, with
+ * none (NULL and 0) or with those that are handed in. After a refusal the count is that with which the question began. */
+static inline uint32_t labels_hand_in(labels_store *s, const uint32_t *pairs, size_t count) {
+    size_t i;
+    if (count > LABELS_MAX_REASONS || count > s->reasons_len / 2)
+        return LABELS_REFUSED_REASONS;
+    for (i = 0; i < count; i++)
+        if ((pairs[2 * i] != LABELS_ASSERTED && pairs[2 * i] != LABELS_INTERFACE) || pairs[2 * i + 1] > 0x7FFFFFFFu)
+            return LABELS_REFUSED_ARGUMENT;
+    for (i = 0; i < 2 * count; i++)
+        s->reasons[i] = pairs[i];
+    s->state[LABELS_COUNT_REASONS] = (uint32_t)count;
+    return LABELS_ACCEPTED;
+}
+static inline uint32_t labels_ask_with(labels_store *s, const uint32_t *pairs, size_t count, LABELS_READ(known), uint32_t e, int32_t guard) {
+    uint32_t refusal = labels_hand_in(s, pairs, count);
+    return refusal != LABELS_ACCEPTED ? refusal : labels_store_step(s, known, known_len, e, guard);
+}
+static inline uint32_t labels_ask(labels_store *s, LABELS_READ(known), uint32_t e, int32_t guard) {
+    return labels_ask_with(s, NULL, 0, known, known_len, e, guard);
+}
+
+/* What the last question answered. The guard is the one that was handed to it, negated; the atoms of a Split stand first in `list`. */
+static inline uint32_t labels_answer_case(const labels_store *s) { return s->answer[LABELS_ANSWER_CASE]; }
+static inline int32_t labels_answer_guard(const labels_store *s) {
+    uint32_t word = s->answer[LABELS_ANSWER_GUARD];
+    return word <= 0x7FFFFFFFu ? (int32_t)word : -(int32_t)(0xFFFFFFFFu - word) - 1;
+}
+static inline uint32_t labels_reason_count(const labels_store *s) { return s->state[LABELS_COUNT_REASONS]; }
+static inline void labels_reason(const labels_store *s, uint32_t i, uint32_t *kind, uint32_t *number) {
+    *kind = s->reasons[2 * (size_t)i];
+    *number = s->reasons[2 * (size_t)i + 1];
+}
 
 #ifdef __cplusplus
 }

@@ -1,29 +1,30 @@
 /* The undone merge of the manual: site and "B" are joined for the reason a3, `site ++ batch = "A7"` is asked, the join is undone, and it is
- * asked again. */
+ * asked again. By the plain calls; `label.c` has the store and its calls. */
 #include "../labels.h"
 #include <stdio.h>
 #include <stdlib.h>
 
-#define LEND(words) words, sizeof words / sizeof *words
+#define LEND(words) LABELS_LEND(words)
 #define STORE LEND(state), LEND(terms), LEND(cells), LEND(chars), LEND(reasons), LEND(keys)
 
-static uint32_t state[8], terms[8 * 513], cells[3 * 2049], chars[16384], reasons[2 * 4096], keys[2 * 4096];
-static uint32_t marks[1597], list[1024], answer[8];
+static uint32_t state[LABELS_STATE_WORDS], terms[LABELS_TERM_WORDS], cells[LABELS_CELL_WORDS], chars[LABELS_CHAR_WORDS];
+static uint32_t reasons[LABELS_REASON_WORDS], keys[LABELS_KEY_WORDS], marks[LABELS_MARK_WORDS];
+static uint32_t list[LABELS_LIST_WORDS], answer[LABELS_ANSWER_WORDS];
 
 static void must(uint32_t refusal) {
     if (refusal != 0) {
-        printf("refusal %u\n", refusal);
+        printf("refused: %s\n", labels_refusal_text(refusal));
         exit(1);
     }
 }
 
 /* Asks a question with no reasons handed in, and prints the answer's case with the reasons that it names. */
 static void ask(const uint32_t *known, size_t known_len, uint32_t equation) {
-    state[3] = 0;
+    state[LABELS_COUNT_REASONS] = 0;
     must(labels_step(STORE, known, known_len, equation, 1, LEND(list), LEND(answer)));
-    printf(answer[0] == 2 ? "conflict" : "no conflict");
-    for (uint32_t i = 0; i < state[3]; i++)
-        printf(" %c%u", reasons[2 * i] == 1 ? 'a' : 'i', reasons[2 * i + 1]);
+    printf(answer[0] == LABELS_CONFLICT ? "conflict" : "no conflict");
+    for (uint32_t i = 0; i < state[LABELS_COUNT_REASONS]; i++)
+        printf(" %c%u", reasons[2 * i] == LABELS_ASSERTED ? 'a' : 'i', reasons[2 * i + 1]);
     printf("\n");
 }
 

@@ -3,15 +3,12 @@
 
 use labels::{Answer, Reason, Refusal, Store, Term};
 
-/// Asks a question with no reasons handed in, and prints the answer's case with the reasons that it names.
+/// Asks a question, and prints the answer's case with the reasons that it names.
 fn ask(store: &mut Store, known: &[Term], equation: Term) -> Result<(), Refusal> {
-    store.state[3] = 0;
-    print!("{}", if store.step(known, equation, 1)? == Answer::Conflict { "conflict" } else { "no conflict" });
-    for reason in store.reason_list() {
-        match reason {
-            Reason::Asserted(n) => print!(" a{n}"),
-            Reason::Interface(n) => print!(" i{n}"),
-        }
+    let answer = store.step(known, equation, 1)?;
+    print!("{}", if matches!(answer, Answer::Conflict { .. }) { "conflict" } else { "no conflict" });
+    for reason in answer.reasons() {
+        print!(" {reason}");
     }
     println!();
     Ok(())
@@ -31,6 +28,6 @@ fn main() -> Result<(), Refusal> {
     ask(&mut store, &known, equation)?; // conflict a3: keep the rule 'not a3' with the dropped branch
     store.go_back(mark)?;
     ask(&mut store, &known, equation)?; // no conflict: the rule named a3, so it went with the join
-    // :manual
+                                        // :manual
     Ok(())
 }

@@ -1,118 +1,147 @@
 //! The label resolver's store and calls, with nothing unsafe for their user. Each call audits the store first.
+//!
+//! A term stands for a word: a constant for its own characters, a variable for any word, a concatenation for the words of its parts in
+//! order. Classes of terms are joined for reasons, and a question about an equation is answered with the reasons that the answer rests on.
+//!
+//! ```
+//! use labels::{Answer, Reason, Store};
+//!
+//! let mut store = Store::new();
+//! let (site, batch) = (store.variable("site")?, store.variable("batch")?);
+//! let (b, code) = (store.constant("B")?, store.constant("A7")?);
+//! let label = store.concatenation(&[site, batch])?;
+//! let equation = store.equation(label, code)?;
+//! let known = [site, batch, b, code, label];
+//!
+//! let mark = store.set_mark()?;
+//! store.join(site, b, Reason::Asserted(3))?;
+//! // the label cannot be the code, and a3 is why: whatever is kept of this goes when a3 goes
+//! assert_eq!(store.step(&known, equation, 1)?, Answer::Conflict { reasons: vec![Reason::Asserted(3)] });
+//! store.go_back(mark)?;
+//! assert!(!matches!(store.step(&known, equation, 1)?, Answer::Conflict { .. }));
+//! # Ok::<(), labels::Refusal>(())
+//! ```
+//!
+//! # Asking a question
+//!
+//! The component appends the reasons that it names to those that the store counts. So that an answer names its own and no other's, each call
+//! of [`Store`] that names reasons begins with none, and hands back those that it named. Where an answer has to rest on reasons from before,
+//! [`Store::with_reasons`] hands them in.
+//!
+//! # What the caller sees to
+//!
+//! 512 KiB of stack have to be free when a call is made, as on a thread with Rust's default of 2 MiB. A store may be sent to another thread;
+//! calls on different stores may run at the same time.
 
+#![deny(missing_docs)]
+
+mod answer;
+mod display;
 mod raw;
 
+pub use answer::{Answer, Form, Reason, Refusal};
+pub use display::Shown;
+
+use answer::{answered_case, outcome};
+use std::fmt;
+
+/// The version of this crate, of `labels.h` and of the changelog.
+///
+/// ```
+/// assert_eq!(labels::VERSION, "0.2.0");
+/// ```
+pub const VERSION: &str = env!("CARGO_PKG_VERSION");
+
+/// How many terms a store counts at most. A term has eight words, and a record 0 that is never used stands before the first.
+///
+/// ```
+/// assert_eq!(labels::Store::new().terms.len(), 8 * (labels::TERMS + 1));
+/// ```
 pub const TERMS: usize = 512;
+
+/// How many cells of chains a store counts at most. A cell has three words, and a record 0 that is never used stands before the first.
+///
+/// ```
+/// assert_eq!(labels::Store::new().cells.len(), 3 * (labels::CELLS + 1));
+/// ```
 pub const CELLS: usize = 2048;
+
+/// How many characters a store counts at most, one word each.
+///
+/// ```
+/// assert_eq!(labels::Store::new().chars.len(), labels::CHARS);
+/// ```
 pub const CHARS: usize = 16384;
+
+/// How many reasons a store counts at most, two words each.
+///
+/// ```
+/// assert_eq!(labels::Store::new().reasons.len(), 2 * labels::REASONS);
+/// ```
 pub const REASONS: usize = 4096;
+
+/// How many keys, pairs of heads that were split, a store counts at most; two words each.
+///
+/// ```
+/// assert_eq!(labels::Store::new().keys.len(), 2 * labels::KEYS);
+/// ```
 pub const KEYS: usize = 4096;
+
+/// How many terms a list has at most, one that is handed in or one that is answered.
+///
+/// ```
+/// let mut store = labels::Store::new();
+/// let x = store.variable("x")?;
+/// assert!(store.nf_equal(&[x; labels::LIST], &[x; labels::LIST])?);
+/// assert_eq!(store.nf_equal(&[x; labels::LIST + 1], &[x]), Err(labels::Refusal::Argument));
+/// # Ok::<(), labels::Refusal>(())
+/// ```
 pub const LIST: usize = 1024;
-/// The words lent for marks: 64 marks, and three words for each of 511 joins.
+
+/// The words lent for marks: one for each of 64 marks, and three for each of 511 joins.
+///
+/// ```
+/// assert_eq!(labels::MARKS, 64 + 3 * 511);
+/// ```
 pub const MARKS: usize = 1597;
 
-/// Where a call puts the list that it answers.
-type List = [u32; LIST];
-
-/// A term's number, from 1 on.
+/// A term's number, from 1 on in the order in which terms are made.
+///
+/// ```
+/// let mut store = labels::Store::new();
+/// let first: labels::Term = store.constant("a")?;
+/// assert_eq!(first, 1);
+/// # Ok::<(), labels::Refusal>(())
+/// ```
 pub type Term = u32;
 
-/// Why a call was refused. After the first five, and after `Mark`, no word of the store has changed.
-#[derive(Clone, Copy, PartialEq, Eq, Debug)]
-pub enum Refusal {
-    /// a count above its limit, or a slice too short for it
-    Sizes,
-    /// a record that breaks its rule
-    Records,
-    /// classes and forest do not agree, or would not after going back to a mark
-    Classes,
-    /// a congruence that its arguments do not give
-    Congruences,
-    /// a wrong argument
-    Argument,
-    /// a list above 1,024
-    List,
-    /// no room for a reason
-    Reasons,
-    /// no room for a term, its characters or cells, or a key
-    Room,
-    /// no name left
-    Names,
-    /// a mark that is not standing, or a 65th
-    Mark,
-    /// a number that no call gives
-    Other(u32),
-}
-
-fn outcome(code: u32) -> Result<(), Refusal> {
-    Err(match code {
-        0 => return Ok(()),
-        1 => Refusal::Sizes,
-        2 => Refusal::Records,
-        3 => Refusal::Classes,
-        4 => Refusal::Congruences,
-        5 => Refusal::Argument,
-        6 => Refusal::List,
-        7 => Refusal::Reasons,
-        8 => Refusal::Room,
-        9 => Refusal::Names,
-        10 => Refusal::Mark,
-        n => Refusal::Other(n),
-    })
-}
-
-/// Why two terms are equal.
-#[derive(Clone, Copy, PartialEq, Eq, Debug)]
-pub enum Reason {
-    Asserted(u32),
-    Interface(u32),
-}
-
-impl Reason {
-    /// The kind and the number, as the words of the store have them.
-    fn words(self) -> (u32, u32) {
-        match self {
-            Reason::Asserted(n) => (1, n),
-            Reason::Interface(n) => (2, n),
-        }
-    }
-}
-
-/// What a word equation comes to. After Conflict and Propagate the reasons of the store end with those that the answer rests on.
-#[derive(Clone, PartialEq, Eq, Debug)]
-pub enum Answer {
-    Done,
-    Saturated,
-    /// the sides are unequal
-    Conflict,
-    /// the variable is equal to the word
-    Propagate { variable: Term, word: Term, link: bool },
-    /// one of the atoms is true, or the guard's literal
-    Split { atoms: Vec<Term>, guard: i32 },
-    /// a side has no deep form; of the step alone
-    Unexpanded,
-}
-
-fn answered_case(answer: &[u32; 8], list: &List) -> Answer {
-    match answer[0] {
-        0 => Answer::Done,
-        1 => Answer::Saturated,
-        2 => Answer::Conflict,
-        3 => Answer::Propagate { variable: answer[1], word: answer[2], link: answer[3] == 1 },
-        5 => Answer::Unexpanded,
-        _ => Answer::Split { atoms: list[..answer[1] as usize].to_vec(), guard: answer[2] as i32 },
-    }
-}
+/// Where the reasons' count stands in the state.
+const REASON_COUNT: usize = 3;
 
 /// A store in memory of its own, with room up to every limit. The words are the caller's to change: a call refuses what breaks a rule.
-#[derive(Clone, Debug)]
+///
+/// ```
+/// let mut store = labels::Store::new();
+/// store.variable("x")?;
+/// assert_eq!(store.state, [1, 0, 1, 0, 0, 0, 0, 0]);
+/// // a term of no kind
+/// store.terms[8] = 6;
+/// assert_eq!(store.audit(), Err(labels::Refusal::Records));
+/// # Ok::<(), labels::Refusal>(())
+/// ```
+#[derive(Clone)]
 pub struct Store {
     /// counts of terms, cells, characters, reasons and keys, the name counter, counts of marks and of recorded joins
     pub state: [u32; 8],
+    /// eight words a term: kind, first, second, class parent, forest parent, label kind, label value, stamp
     pub terms: Vec<u32>,
+    /// three words a cell: value, second value, next
     pub cells: Vec<u32>,
+    /// the characters of constants and of names
     pub chars: Vec<u32>,
+    /// two words a reason: 1 asserted or 2 interface, and its number
     pub reasons: Vec<u32>,
+    /// two words a key: the lower of two string terms, the higher
     pub keys: Vec<u32>,
     /// the standing marks and the joins since the first of them, as `join`, `set_mark` and `go_back` keep them
     pub marks: Vec<u32>,
@@ -132,38 +161,151 @@ impl Default for Store {
     }
 }
 
+/// The counts alone: the words are too many to read.
+///
+/// ```
+/// let mut store = labels::Store::new();
+/// store.constant("ab")?;
+/// assert_eq!(
+///     format!("{store:?}"),
+///     "Store { terms: 1, cells: 0, chars: 2, reasons: 0, keys: 0, names: 0, marks: 0, joins: 0 }"
+/// );
+/// # Ok::<(), labels::Refusal>(())
+/// ```
+impl fmt::Debug for Store {
+    fn fmt(&self, f: &mut fmt::Formatter<'_>) -> fmt::Result {
+        let mut counts = f.debug_struct("Store");
+        for (name, count) in ["terms", "cells", "chars", "reasons", "keys", "names", "marks", "joins"].iter().zip(&self.state) {
+            counts.field(name, count);
+        }
+        counts.finish()
+    }
+}
+
 impl Store {
+    /// An empty store.
+    ///
+    /// ```
+    /// assert_eq!(labels::Store::new().audit(), Ok(()));
+    /// ```
     pub fn new() -> Self {
         Store::default()
     }
 
+    /// Looks at every word that a call relies on, as each call does first.
+    ///
+    /// ```
+    /// let mut store = labels::Store::new();
+    /// store.state[0] = 513;
+    /// assert_eq!(store.audit(), Err(labels::Refusal::Sizes));
+    /// ```
     pub fn audit(&self) -> Result<(), Refusal> {
         outcome(raw::audit(self))
     }
 
+    /// The constant of a text, made where the store has none.
+    ///
+    /// ```
+    /// let mut store = labels::Store::new();
+    /// let a = store.constant("A7")?;
+    /// assert_eq!(store.constant("A7")?, a);
+    /// # Ok::<(), labels::Refusal>(())
+    /// ```
     pub fn constant(&mut self, text: &str) -> Result<Term, Refusal> {
-        let text: Vec<u32> = text.chars().map(u32::from).collect();
-        self.answered(|s, a| raw::make_constant(s, &text, a))
+        self.constant_chars(&characters(text))
     }
 
+    /// The constant of characters that stand as words, as in a store's own: 0 to 0xD7FF and 0xE000 to 0x10FFFF. Another is refused, where a
+    /// `&str` could not be made of it.
+    ///
+    /// ```
+    /// let mut store = labels::Store::new();
+    /// let a = store.constant_chars(&[0x41, 0x3BB])?;
+    /// assert_eq!(store.constant("Aλ")?, a);
+    /// assert_eq!(store.constant_chars(&[0xD800]), Err(labels::Refusal::Argument));
+    /// # Ok::<(), labels::Refusal>(())
+    /// ```
+    pub fn constant_chars(&mut self, text: &[u32]) -> Result<Term, Refusal> {
+        self.answered(|s, a| raw::make_constant(s, text, a))
+    }
+
+    /// The variable of a name, made where the store has none. A name has one character or more; those that begin with `!strk` are the
+    /// component's own.
+    ///
+    /// ```
+    /// let mut store = labels::Store::new();
+    /// let site = store.variable("site")?;
+    /// assert_eq!(store.variable("site")?, site);
+    /// assert_eq!(store.variable(""), Err(labels::Refusal::Argument));
+    /// # Ok::<(), labels::Refusal>(())
+    /// ```
     pub fn variable(&mut self, name: &str) -> Result<Term, Refusal> {
-        let name: Vec<u32> = name.chars().map(u32::from).collect();
-        self.answered(|s, a| raw::make_variable(s, &name, a))
+        self.variable_chars(&characters(name))
     }
 
+    /// The variable of a name whose characters stand as words.
+    ///
+    /// ```
+    /// let mut store = labels::Store::new();
+    /// let x = store.variable_chars(&[0x78])?;
+    /// assert_eq!(store.variable("x")?, x);
+    /// assert_eq!(store.variable_chars(&[0x110000]), Err(labels::Refusal::Argument));
+    /// # Ok::<(), labels::Refusal>(())
+    /// ```
+    pub fn variable_chars(&mut self, name: &[u32]) -> Result<Term, Refusal> {
+        self.answered(|s, a| raw::make_variable(s, name, a))
+    }
+
+    /// The concatenation of two or more string terms, made where the store has none.
+    ///
+    /// ```
+    /// let mut store = labels::Store::new();
+    /// let (site, batch) = (store.variable("site")?, store.variable("batch")?);
+    /// let label = store.concatenation(&[site, batch])?;
+    /// assert_eq!(store.display(label).to_string(), "site ++ batch");
+    /// assert_eq!(store.concatenation(&[site]), Err(labels::Refusal::Argument));
+    /// # Ok::<(), labels::Refusal>(())
+    /// ```
     pub fn concatenation(&mut self, parts: &[Term]) -> Result<Term, Refusal> {
         self.answered(|s, a| raw::make_concatenation(s, parts, a))
     }
 
+    /// The length of a string term, made where the store has none.
+    ///
+    /// ```
+    /// let mut store = labels::Store::new();
+    /// let site = store.variable("site")?;
+    /// let n = store.length(site)?;
+    /// assert_eq!(store.display(n).to_string(), "len(site)");
+    /// # Ok::<(), labels::Refusal>(())
+    /// ```
     pub fn length(&mut self, t: Term) -> Result<Term, Refusal> {
         self.answered(|s, a| raw::make_length(s, t, a))
     }
 
+    /// The equation of two string terms or of two lengths, made where the store has none. Nothing is said of whether it is true.
+    ///
+    /// ```
+    /// let mut store = labels::Store::new();
+    /// let (site, a) = (store.variable("site")?, store.constant("A")?);
+    /// let equation = store.equation(site, a)?;
+    /// assert_eq!(store.display(equation).to_string(), "site = \"A\"");
+    /// # Ok::<(), labels::Refusal>(())
+    /// ```
     pub fn equation(&mut self, t: Term, u: Term) -> Result<Term, Refusal> {
         self.answered(|s, a| raw::make_equation(s, t, u, a))
     }
 
-    /// The root of a string term's class.
+    /// The root of a string term's class: two terms are in one class where their roots are one.
+    ///
+    /// ```
+    /// let mut store = labels::Store::new();
+    /// let (x, y) = (store.variable("x")?, store.variable("y")?);
+    /// assert_ne!(store.find(x)?, store.find(y)?);
+    /// store.join(x, y, labels::Reason::Asserted(1))?;
+    /// assert_eq!(store.find(x)?, store.find(y)?);
+    /// # Ok::<(), labels::Refusal>(())
+    /// ```
     pub fn find(&self, t: Term) -> Result<Term, Refusal> {
         let mut answer = [0; 8];
         outcome(raw::find(self, t, &mut answer))?;
@@ -172,81 +314,212 @@ impl Store {
 
     /// Joins the classes of two string terms under a reason: true where it did, false where they are in one class already, and then nothing
     /// has changed. A reason's number is below 2^31.
+    ///
+    /// ```
+    /// use labels::Reason;
+    /// let mut store = labels::Store::new();
+    /// let (x, y) = (store.variable("x")?, store.variable("y")?);
+    /// assert!(store.join(x, y, Reason::Asserted(1))?);
+    /// assert!(!store.join(y, x, Reason::Asserted(2))?);
+    /// # Ok::<(), labels::Refusal>(())
+    /// ```
     pub fn join(&mut self, a: Term, b: Term, reason: Reason) -> Result<bool, Refusal> {
         let (kind, number) = reason.words();
         Ok(self.answered(|s, w| raw::join(s, a, b, kind, number, w))? == 1)
     }
 
     /// Sets a mark and gives its number: from 1 in the order set, at most 64 standing.
+    ///
+    /// ```
+    /// let mut store = labels::Store::new();
+    /// assert_eq!((store.set_mark()?, store.set_mark()?), (1, 2));
+    /// # Ok::<(), labels::Refusal>(())
+    /// ```
     pub fn set_mark(&mut self) -> Result<u32, Refusal> {
         self.answered(raw::set_mark)
     }
 
     /// Goes back to a mark, which uses up that mark and later ones. The joins since it are undone: each term counted then has the words that
     /// it had, and terms made since stay, each alone in its class. Reasons and keys stay too.
+    ///
+    /// ```
+    /// let mut store = labels::Store::new();
+    /// let (x, y) = (store.variable("x")?, store.variable("y")?);
+    /// let mark = store.set_mark()?;
+    /// store.join(x, y, labels::Reason::Asserted(1))?;
+    /// store.go_back(mark)?;
+    /// assert_ne!(store.find(x)?, store.find(y)?);
+    /// assert_eq!(store.go_back(mark), Err(labels::Refusal::Mark));
+    /// # Ok::<(), labels::Refusal>(())
+    /// ```
     pub fn go_back(&mut self, mark: u32) -> Result<(), Refusal> {
         outcome(raw::go_back(self, mark))
     }
 
-    /// Appends the reasons why two string terms of one class are equal, and gives them.
-    pub fn explain(&mut self, a: Term, b: Term) -> Result<Vec<Reason>, Refusal> {
-        let from = self.state[3] as usize;
-        outcome(raw::explain(self, a, b))?;
-        Ok(self.reason_list()[from..].to_vec())
+    /// Hands reasons in with the question that follows: its answer rests on them too, and names them first. A reason's number is below 2^31;
+    /// more than 4,096 reasons are refused.
+    ///
+    /// Who takes two normal forms and asks the equation between them hands in what the forms rest on. (`step` does so by itself.)
+    ///
+    /// ```
+    /// use labels::{Answer, Reason};
+    /// let mut store = labels::Store::new();
+    /// let (x, a, b) = (store.variable("x")?, store.constant("a")?, store.constant("b")?);
+    /// store.join(x, a, Reason::Asserted(3))?;
+    /// let lhs = store.normal_form(&[a], x)?;
+    /// let rhs = store.with_reasons(&lhs.reasons)?.normal_form(&[a], b)?;
+    /// let answer = store.with_reasons(&rhs.reasons)?.resolve_equation(&lhs.atoms, &rhs.atoms, 1)?;
+    /// assert_eq!(answer, Answer::Conflict { reasons: vec![Reason::Asserted(3)] });
+    /// # Ok::<(), labels::Refusal>(())
+    /// ```
+    pub fn with_reasons(&mut self, reasons: &[Reason]) -> Result<Question<'_>, Refusal> {
+        if reasons.iter().any(|reason| reason.words().1 >= 1 << 31) {
+            return Err(Refusal::Argument);
+        }
+        if reasons.len() > REASONS || 2 * reasons.len() > self.reasons.len() {
+            return Err(Refusal::Reasons);
+        }
+        for (pair, reason) in self.reasons.chunks_exact_mut(2).zip(reasons) {
+            (pair[0], pair[1]) = reason.words();
+        }
+        self.state[REASON_COUNT] = reasons.len() as u32;
+        Ok(Question { store: self })
     }
 
-    /// The normal form of a string term over the known list. The reasons that it rests on are appended to the store's.
-    pub fn normal_form(&mut self, known: &[Term], t: Term) -> Result<Vec<Term>, Refusal> {
-        let (mut list, mut answer) = ([0; LIST], [0; 8]);
-        outcome(raw::normal_form(self, known, t, &mut list, &mut answer))?;
-        Ok(list[..answer[1] as usize].to_vec())
+    /// The reasons why two string terms of one class are equal.
+    ///
+    /// ```
+    /// use labels::{Reason, Refusal};
+    /// let mut store = labels::Store::new();
+    /// let (x, y, z) = (store.variable("x")?, store.variable("y")?, store.variable("z")?);
+    /// store.join(x, y, Reason::Asserted(1))?;
+    /// assert_eq!(store.explain(x, y)?, [Reason::Asserted(1)]);
+    /// assert_eq!(store.explain(x, z), Err(Refusal::Argument));
+    /// # Ok::<(), labels::Refusal>(())
+    /// ```
+    pub fn explain(&mut self, a: Term, b: Term) -> Result<Vec<Reason>, Refusal> {
+        self.question().explain(a, b)
+    }
+
+    /// The normal form of a string term over the known list, with the reasons that it rests on.
+    ///
+    /// ```
+    /// use labels::Reason;
+    /// let mut store = labels::Store::new();
+    /// let (x, a) = (store.variable("x")?, store.constant("a")?);
+    /// store.join(x, a, Reason::Asserted(1))?;
+    /// let form = store.normal_form(&[a], x)?;
+    /// assert_eq!((form.atoms, form.reasons), (vec![a], vec![Reason::Asserted(1)]));
+    /// # Ok::<(), labels::Refusal>(())
+    /// ```
+    pub fn normal_form(&mut self, known: &[Term], t: Term) -> Result<Form, Refusal> {
+        self.question().normal_form(known, t)
     }
 
     /// The same with concatenations expanded, or None where that takes more than 256 atoms or meets one again.
-    pub fn deep_normal_form(&mut self, known: &[Term], t: Term) -> Result<Option<Vec<Term>>, Refusal> {
-        let (mut list, mut answer) = ([0; LIST], [0; 8]);
-        outcome(raw::deep_normal_form(self, known, t, &mut list, &mut answer))?;
-        Ok((answer[0] == 1).then(|| list[..answer[1] as usize].to_vec()))
+    ///
+    /// ```
+    /// use labels::Reason;
+    /// let mut store = labels::Store::new();
+    /// let (x, a, z) = (store.variable("x")?, store.constant("a")?, store.variable("z")?);
+    /// let az = store.concatenation(&[a, z])?;
+    /// store.join(x, az, Reason::Asserted(1))?;
+    /// assert_eq!(store.deep_normal_form(&[az], x)?.unwrap().atoms, [a, z]);
+    /// # Ok::<(), labels::Refusal>(())
+    /// ```
+    pub fn deep_normal_form(&mut self, known: &[Term], t: Term) -> Result<Option<Form>, Refusal> {
+        self.question().deep_normal_form(known, t)
     }
 
-    /// The word equation between two lists of string terms; the guard is neither 0 nor the lowest number.
+    /// The word equation between two lists of string terms; the guard, which a Split hands back negated, is neither 0 nor the lowest number.
+    ///
+    /// ```
+    /// use labels::Answer;
+    /// let mut store = labels::Store::new();
+    /// let (x, a) = (store.variable("x")?, store.constant("a")?);
+    /// let answer = store.resolve_equation(&[x], &[a], 1)?;
+    /// assert_eq!(answer, Answer::Propagate { variable: x, word: a, link: false, reasons: vec![] });
+    /// # Ok::<(), labels::Refusal>(())
+    /// ```
     pub fn resolve_equation(&mut self, lhs: &[Term], rhs: &[Term], guard: i32) -> Result<Answer, Refusal> {
-        let (mut list, mut answer) = ([0; LIST], [0; 8]);
-        outcome(raw::resolve_equation(self, lhs, rhs, guard, &mut list, &mut answer))?;
-        Ok(answered_case(&answer, &list))
+        self.question().resolve_equation(lhs, rhs, guard)
     }
 
     /// The step over an equation of two string terms: the deep forms of its sides over the known list, then the word equation between them.
+    /// Pass every string term as known: where one is left out the answer says less, and nothing wrong.
+    ///
+    /// ```
+    /// use labels::{Answer, Reason};
+    /// let mut store = labels::Store::new();
+    /// let (x, a, b) = (store.variable("x")?, store.constant("a")?, store.constant("b")?);
+    /// let equation = store.equation(x, b)?;
+    /// store.join(x, a, Reason::Interface(4))?;
+    /// assert_eq!(store.step(&[x, a, b], equation, 1)?, Answer::Conflict { reasons: vec![Reason::Interface(4)] });
+    /// # Ok::<(), labels::Refusal>(())
+    /// ```
     pub fn step(&mut self, known: &[Term], equation: Term, guard: i32) -> Result<Answer, Refusal> {
-        let (mut list, mut answer) = ([0; LIST], [0; 8]);
-        outcome(raw::step(self, known, equation, guard, &mut list, &mut answer))?;
-        Ok(answered_case(&answer, &list))
+        self.question().step(known, equation, guard)
     }
 
     /// Whether two lists are atom by atom the same.
+    ///
+    /// ```
+    /// let mut store = labels::Store::new();
+    /// let (x, y) = (store.variable("x")?, store.variable("y")?);
+    /// assert!(!store.nf_equal(&[x], &[y])?);
+    /// # Ok::<(), labels::Refusal>(())
+    /// ```
     pub fn nf_equal(&self, lhs: &[Term], rhs: &[Term]) -> Result<bool, Refusal> {
         let mut answer = [0; 8];
         outcome(raw::nf_equal(self, lhs, rhs, &mut answer))?;
         Ok(answer[0] == 1)
     }
 
-    /// Appends the reasons why the pairs of one class in two lists of equal length are equal, and gives them.
+    /// The reasons why the pairs of one class in two lists of equal length are equal.
+    ///
+    /// ```
+    /// use labels::Reason;
+    /// let mut store = labels::Store::new();
+    /// let (x, y) = (store.variable("x")?, store.variable("y")?);
+    /// store.join(x, y, Reason::Asserted(1))?;
+    /// assert_eq!(store.nf_equal_explain(&[x], &[y])?, [Reason::Asserted(1)]);
+    /// # Ok::<(), labels::Refusal>(())
+    /// ```
     pub fn nf_equal_explain(&mut self, lhs: &[Term], rhs: &[Term]) -> Result<Vec<Reason>, Refusal> {
-        let from = self.state[3] as usize;
-        outcome(raw::nf_equal_explain(self, lhs, rhs))?;
-        Ok(self.reason_list()[from..].to_vec())
+        self.question().nf_equal_explain(lhs, rhs)
     }
 
-    /// The reasons of the store. Of a store that no call has audited those are left out that are of no kind or not there.
+    /// The reasons that the store counts: those of the last question. Of a store that no call has audited those are left out that are of no
+    /// kind or not there; what an answer rests on is in the answer.
+    ///
+    /// ```
+    /// use labels::Reason;
+    /// let mut store = labels::Store::new();
+    /// let (x, y) = (store.variable("x")?, store.variable("y")?);
+    /// store.join(x, y, Reason::Asserted(1))?;
+    /// store.explain(x, y)?;
+    /// assert_eq!(store.reason_list(), [Reason::Asserted(1)]);
+    /// # Ok::<(), labels::Refusal>(())
+    /// ```
     pub fn reason_list(&self) -> Vec<Reason> {
-        let pairs = self.reasons.chunks_exact(2).take(self.state[3] as usize);
-        pairs
-            .filter_map(|p| match p[0] {
-                1 => Some(Reason::Asserted(p[1])),
-                2 => Some(Reason::Interface(p[1])),
-                _ => None,
-            })
-            .collect()
+        let pairs = self.reasons.chunks_exact(2).take(self.state[REASON_COUNT] as usize);
+        pairs.filter_map(|p| Reason::of(p[0], p[1])).collect()
+    }
+
+    /// Every reason counted, or an error where one is of no kind: an answer that left one out would be a wrong one.
+    fn named(&self) -> Result<Vec<Reason>, Refusal> {
+        let (reasons, count) = (self.reason_list(), self.state[REASON_COUNT]);
+        if reasons.len() == count as usize {
+            Ok(reasons)
+        } else {
+            Err(Refusal::UnknownAnswer(count))
+        }
+    }
+
+    /// A question with no reasons handed in.
+    fn question(&mut self) -> Question<'_> {
+        self.state[REASON_COUNT] = 0;
+        Question { store: self }
     }
 
     fn answered(&mut self, call: impl FnOnce(&mut Store, &mut [u32; 8]) -> u32) -> Result<Term, Refusal> {
@@ -254,4 +527,143 @@ impl Store {
         outcome(call(self, &mut answer))?;
         Ok(answer[0])
     }
+}
+
+/// A question with reasons handed in, as [`Store::with_reasons`] makes it. Each call is that of [`Store`] with the same name, and the reasons
+/// handed in come first among those that it gives.
+///
+/// ```
+/// use labels::Reason;
+/// let mut store = labels::Store::new();
+/// let (x, y) = (store.variable("x")?, store.variable("y")?);
+/// store.join(x, y, Reason::Asserted(1))?;
+/// let reasons = store.with_reasons(&[Reason::Interface(9)])?.explain(x, y)?;
+/// assert_eq!(reasons, [Reason::Interface(9), Reason::Asserted(1)]);
+/// // the next question begins with none
+/// assert_eq!(store.explain(x, y)?, [Reason::Asserted(1)]);
+/// # Ok::<(), labels::Refusal>(())
+/// ```
+#[must_use = "reasons are handed in with the call that follows"]
+#[derive(Debug)]
+pub struct Question<'a> {
+    store: &'a mut Store,
+}
+
+impl Question<'_> {
+    /// [`Store::explain`] with the reasons handed in.
+    ///
+    /// ```
+    /// # use labels::{Answer, Form, Reason, Store};
+    /// # let mut store = Store::new();
+    /// # let (x, y) = (store.variable("x")?, store.variable("y")?);
+    /// # store.join(x, y, Reason::Asserted(1))?;
+    /// let handed = [Reason::Interface(9)];
+    /// assert_eq!(store.with_reasons(&handed)?.explain(x, y)?, vec![Reason::Interface(9), Reason::Asserted(1)]);
+    /// # Ok::<(), labels::Refusal>(())
+    /// ```
+    pub fn explain(self, a: Term, b: Term) -> Result<Vec<Reason>, Refusal> {
+        outcome(raw::explain(self.store, a, b))?;
+        self.store.named()
+    }
+
+    /// [`Store::normal_form`] with the reasons handed in.
+    ///
+    /// ```
+    /// # use labels::{Answer, Form, Reason, Store};
+    /// # let mut store = Store::new();
+    /// # let (x, y) = (store.variable("x")?, store.variable("y")?);
+    /// # store.join(x, y, Reason::Asserted(1))?;
+    /// let handed = [Reason::Interface(9)];
+    /// let form = store.with_reasons(&handed)?.normal_form(&[x], y)?;
+    /// assert_eq!(form, Form { atoms: vec![x], reasons: vec![Reason::Interface(9), Reason::Asserted(1)] });
+    /// # Ok::<(), labels::Refusal>(())
+    /// ```
+    pub fn normal_form(self, known: &[Term], t: Term) -> Result<Form, Refusal> {
+        let (mut list, mut answer) = (list(), [0; 8]);
+        outcome(raw::normal_form(self.store, known, t, &mut list, &mut answer))?;
+        Form::of(&answer, &list, self.store.named()?)?.ok_or(Refusal::UnknownAnswer(answer[0]))
+    }
+
+    /// [`Store::deep_normal_form`] with the reasons handed in.
+    ///
+    /// ```
+    /// # use labels::{Answer, Form, Reason, Store};
+    /// # let mut store = Store::new();
+    /// # let (x, y) = (store.variable("x")?, store.variable("y")?);
+    /// # store.join(x, y, Reason::Asserted(1))?;
+    /// let handed = [Reason::Interface(9)];
+    /// let form = store.with_reasons(&handed)?.deep_normal_form(&[x], y)?;
+    /// assert_eq!(form, Some(Form { atoms: vec![x], reasons: vec![Reason::Interface(9), Reason::Asserted(1)] }));
+    /// # Ok::<(), labels::Refusal>(())
+    /// ```
+    pub fn deep_normal_form(self, known: &[Term], t: Term) -> Result<Option<Form>, Refusal> {
+        let (mut list, mut answer) = (list(), [0; 8]);
+        outcome(raw::deep_normal_form(self.store, known, t, &mut list, &mut answer))?;
+        Form::of(&answer, &list, self.store.named()?)
+    }
+
+    /// [`Store::resolve_equation`] with the reasons handed in.
+    ///
+    /// ```
+    /// # use labels::{Answer, Form, Reason, Store};
+    /// # let mut store = Store::new();
+    /// # let (x, y) = (store.variable("x")?, store.variable("y")?);
+    /// # store.join(x, y, Reason::Asserted(1))?;
+    /// let handed = [Reason::Interface(9)];
+    /// let a = store.constant("a")?;
+    /// let answer = store.with_reasons(&handed)?.resolve_equation(&[x], &[y, a], 1)?;
+    /// assert_eq!(answer, Answer::Conflict { reasons: vec![Reason::Interface(9), Reason::Asserted(1)] });
+    /// # Ok::<(), labels::Refusal>(())
+    /// ```
+    pub fn resolve_equation(self, lhs: &[Term], rhs: &[Term], guard: i32) -> Result<Answer, Refusal> {
+        let (mut list, mut answer) = (list(), [0; 8]);
+        outcome(raw::resolve_equation(self.store, lhs, rhs, guard, &mut list, &mut answer))?;
+        answered_case(&answer, &list, self.store.named()?)
+    }
+
+    /// [`Store::step`] with the reasons handed in.
+    ///
+    /// ```
+    /// # use labels::{Answer, Form, Reason, Store};
+    /// # let mut store = Store::new();
+    /// # let (x, y) = (store.variable("x")?, store.variable("y")?);
+    /// # store.join(x, y, Reason::Asserted(1))?;
+    /// let handed = [Reason::Interface(9)];
+    /// let a = store.constant("a")?;
+    /// let ya = store.concatenation(&[y, a])?;
+    /// let equation = store.equation(x, ya)?;
+    /// let answer = store.with_reasons(&handed)?.step(&[x, y, a, ya], equation, 1)?;
+    /// assert_eq!(answer, Answer::Conflict { reasons: vec![Reason::Interface(9), Reason::Asserted(1)] });
+    /// # Ok::<(), labels::Refusal>(())
+    /// ```
+    pub fn step(self, known: &[Term], equation: Term, guard: i32) -> Result<Answer, Refusal> {
+        let (mut list, mut answer) = (list(), [0; 8]);
+        outcome(raw::step(self.store, known, equation, guard, &mut list, &mut answer))?;
+        answered_case(&answer, &list, self.store.named()?)
+    }
+
+    /// [`Store::nf_equal_explain`] with the reasons handed in.
+    ///
+    /// ```
+    /// # use labels::{Answer, Form, Reason, Store};
+    /// # let mut store = Store::new();
+    /// # let (x, y) = (store.variable("x")?, store.variable("y")?);
+    /// # store.join(x, y, Reason::Asserted(1))?;
+    /// let handed = [Reason::Interface(9)];
+    /// assert_eq!(store.with_reasons(&handed)?.nf_equal_explain(&[x], &[y])?, vec![Reason::Interface(9), Reason::Asserted(1)]);
+    /// # Ok::<(), labels::Refusal>(())
+    /// ```
+    pub fn nf_equal_explain(self, lhs: &[Term], rhs: &[Term]) -> Result<Vec<Reason>, Refusal> {
+        outcome(raw::nf_equal_explain(self.store, lhs, rhs))?;
+        self.store.named()
+    }
+}
+
+/// Where a call puts the list that it answers: on the heap, so that the stack is the call's own.
+fn list() -> Vec<u32> {
+    vec![0; LIST]
+}
+
+fn characters(text: &str) -> Vec<u32> {
+    text.chars().map(u32::from).collect()
 }

@@ -1,6 +1,9 @@
 //! The C interface: a slice is a pointer and a length, and the library reads and writes within them alone, as is proved of it.
 
-use crate::{List, Store};
+// a call of the interface has as many arguments as it lends slices
+#![allow(clippy::too_many_arguments)]
+
+use crate::Store;
 
 macro_rules! interface {
     ($borrow:ty, $words:ty, $pointer:ident: $($symbol:ident $name:ident($($arg:ident: $ty:ty),*);)*) => {
@@ -107,15 +110,15 @@ pub fn go_back(s: &mut Store, mark: u32) -> u32 {
     gone_back(s, marks, marks_len, mark)
 }
 
-pub fn normal_form(s: &mut Store, known: &[u32], t: u32, list: &mut List, answer: &mut [u32; 8]) -> u32 {
+pub fn normal_form(s: &mut Store, known: &[u32], t: u32, list: &mut [u32], answer: &mut [u32; 8]) -> u32 {
     form(s, known.as_ptr(), known.len(), t, list.as_mut_ptr(), list.len(), answer.as_mut_ptr(), answer.len())
 }
 
-pub fn deep_normal_form(s: &mut Store, known: &[u32], t: u32, list: &mut List, answer: &mut [u32; 8]) -> u32 {
+pub fn deep_normal_form(s: &mut Store, known: &[u32], t: u32, list: &mut [u32], answer: &mut [u32; 8]) -> u32 {
     deep_form(s, known.as_ptr(), known.len(), t, list.as_mut_ptr(), list.len(), answer.as_mut_ptr(), answer.len())
 }
 
-pub fn resolve_equation(s: &mut Store, lhs: &[u32], rhs: &[u32], guard: i32, list: &mut List, answer: &mut [u32; 8]) -> u32 {
+pub fn resolve_equation(s: &mut Store, lhs: &[u32], rhs: &[u32], guard: i32, list: &mut [u32], answer: &mut [u32; 8]) -> u32 {
     resolved(s, lhs.as_ptr(), lhs.len(), rhs.as_ptr(), rhs.len(), guard, list.as_mut_ptr(), list.len(), answer.as_mut_ptr(), answer.len())
 }
 
@@ -127,6 +130,6 @@ pub fn nf_equal_explain(s: &mut Store, lhs: &[u32], rhs: &[u32]) -> u32 {
     reasons_of_lists(s, lhs.as_ptr(), lhs.len(), rhs.as_ptr(), rhs.len())
 }
 
-pub fn step(s: &mut Store, known: &[u32], e: u32, guard: i32, list: &mut List, answer: &mut [u32; 8]) -> u32 {
+pub fn step(s: &mut Store, known: &[u32], e: u32, guard: i32, list: &mut [u32], answer: &mut [u32; 8]) -> u32 {
     stepped(s, known.as_ptr(), known.len(), e, guard, list.as_mut_ptr(), list.len(), answer.as_mut_ptr(), answer.len())
 }

@@ -1,4 +1,4 @@
-use labels::{Answer, Reason, Refusal, Store, Term};
+use labels::{Answer, Form, Reason, Refusal, Store, Term};
 
 /// A root joins the class of another root by an asserted equality.
 fn merge(s: &mut Store, child: Term, parent: Term, number: u32) {
@@ -33,8 +33,10 @@ fn refusals_leave_the_store_alone() {
     assert_eq!(s.audit(), Err(Refusal::Records));
     s.reasons.clear();
     s.state[3] = u32::MAX;
-    assert_eq!(s.explain(1, 1), Err(Refusal::Sizes));
+    assert_eq!(s.audit(), Err(Refusal::Sizes));
     assert_eq!(s.reason_list(), []);
+    // a question begins with no reasons, whatever was counted
+    assert_eq!(s.explain(1, 1), Err(Refusal::Records));
 }
 
 #[test]
@@ -55,12 +57,13 @@ fn normal_forms() {
     let (x, a, z) = (s.variable("x").unwrap(), s.constant("a").unwrap(), s.variable("z").unwrap());
     let az = s.concatenation(&[a, z]).unwrap();
     let xax = s.concatenation(&[x, a, x]).unwrap();
-    assert_eq!(s.normal_form(&[], xax), Ok(vec![x, a, x]));
+    assert_eq!(s.normal_form(&[], xax), Ok(Form { atoms: vec![x, a, x], reasons: vec![] }));
     // x joins the class of "a" ++ z by the asserted equality 3
     merge(&mut s, x, az, 3);
-    assert_eq!(s.normal_form(&[az], x), Ok(vec![az]));
-    assert_eq!(s.reason_list(), [Reason::Asserted(3)]);
-    assert_eq!(s.deep_normal_form(&[az], x), Ok(Some(vec![a, z])));
+    let reasons = vec![Reason::Asserted(3)];
+    assert_eq!(s.normal_form(&[az], x), Ok(Form { atoms: vec![az], reasons: reasons.clone() }));
+    assert_eq!(s.reason_list(), reasons);
+    assert_eq!(s.deep_normal_form(&[az], x), Ok(Some(Form { atoms: vec![a, z], reasons })));
     // the concatenation is met for expansion twice
     assert_eq!(s.deep_normal_form(&[az], xax), Ok(None));
     assert_eq!(s.normal_form(&[0], x), Err(Refusal::Argument));
@@ -74,18 +77,17 @@ fn word_equations() {
     let (a, b) = (s.constant("a").unwrap(), s.constant("b").unwrap());
     assert_eq!(s.resolve_equation(&[], &[], 1), Ok(Answer::Done));
     assert_eq!(s.resolve_equation(&[v], &[a], 0), Err(Refusal::Argument));
-    assert_eq!(s.resolve_equation(&[v], &[x], 1), Ok(Answer::Propagate { variable: v, word: x, link: false }));
+    assert_eq!(s.resolve_equation(&[v], &[x], 1), Ok(Answer::Propagate { variable: v, word: x, link: false, reasons: vec![] }));
     merge(&mut s, u, v, 5);
-    assert_eq!(s.resolve_equation(&[v], &[a, u, b], 1), Ok(Answer::Conflict));
-    assert_eq!(s.reason_list(), [Reason::Asserted(5)]);
-    s.state[3] = 0;
+    assert_eq!(s.resolve_equation(&[v], &[a, u, b], 1), Ok(Answer::Conflict { reasons: vec![Reason::Asserted(5)] }));
     // x = "" or x = "a" ++ !strk0
     match s.resolve_equation(&[x, v], &[a, x], 7) {
-        Ok(Answer::Split { atoms, guard: -7 }) => assert_eq!(atoms.len(), 2),
+        Ok(Answer::Split { atoms, guard: -7, reasons }) => assert_eq!((atoms.len(), reasons), (2, vec![])),
         other => panic!("{other:?}"),
     }
-    assert_eq!(s.resolve_equation(&[x, v], &[a, x], 7), Ok(Answer::Saturated));
-    assert_eq!(s.resolve_equation(&[v, x], &[x, v], -3).unwrap(), Answer::Split { atoms: vec![13, 16, 19], guard: 3 });
+    assert_eq!(s.resolve_equation(&[x, v], &[a, x], 7), Ok(Answer::Saturated { reasons: vec![] }));
+    let split = Answer::Split { atoms: vec![13, 16, 19], guard: 3, reasons: vec![] };
+    assert_eq!(s.resolve_equation(&[v, x], &[x, v], -3), Ok(split));
     assert_eq!(s.audit(), Ok(()));
 }
 
@@ -101,7 +103,7 @@ fn equal_lists() {
     assert_eq!(s.nf_equal_explain(&[x], &[x, a]), Err(Refusal::Argument));
 }
 
-/// The program's own example of document 01: three equations, one after the other.
+/// Three equations, one after the other.
 #[test]
 fn steps() {
     let mut s = Store::new();
@@ -109,17 +111,14 @@ fn steps() {
     let (xa, b) = (s.concatenation(&[x, a]).unwrap(), s.constant("b").unwrap());
     let e = s.equation(xa, b).unwrap();
     let known = [x, a, xa, b];
-    assert_eq!(s.step(&known, e, 9), Ok(Answer::Conflict));
-    assert_eq!(s.reason_list(), []);
+    assert_eq!(s.step(&known, e, 9), Ok(Answer::Conflict { reasons: vec![] }));
     let y = s.variable("y").unwrap();
     merge(&mut s, y, x, 3);
     let by = s.concatenation(&[b, y]).unwrap();
     let e = s.equation(x, by).unwrap();
-    assert_eq!(s.step(&known, e, 10), Ok(Answer::Conflict));
-    assert_eq!(s.reason_list(), [Reason::Asserted(3)]);
-    s.state[3] = 0;
+    assert_eq!(s.step(&known, e, 10), Ok(Answer::Conflict { reasons: vec![Reason::Asserted(3)] }));
     let e = s.equation(x, b).unwrap();
-    assert_eq!(s.step(&known, e, 11), Ok(Answer::Propagate { variable: x, word: b, link: false }));
+    assert_eq!(s.step(&known, e, 11), Ok(Answer::Propagate { variable: x, word: b, link: false, reasons: vec![] }));
     assert_eq!(s.step(&known, x, 11), Err(Refusal::Argument));
     assert_eq!(s.step(&known, e, i32::MIN), Err(Refusal::Argument));
     assert_eq!(s.audit(), Ok(()));
@@ -149,18 +148,15 @@ fn a_join_is_undone() {
     assert_eq!(s.join(x, y, Reason::Asserted(3)), Ok(true));
     assert_eq!(s.find(x), s.find(y));
     assert_eq!(s.explain(x, y), Ok(vec![Reason::Asserted(3)]));
-    s.state[3] = 0;
-    assert_eq!(s.resolve_equation(&[x], &[a, y, b], 1), Ok(Answer::Conflict));
-    let rule = s.reason_list();
-    assert_eq!(rule, [Reason::Asserted(3)]);
-    s.state[3] = 0;
+    let answer = s.resolve_equation(&[x], &[a, y, b], 1).unwrap();
+    assert_eq!(answer, Answer::Conflict { reasons: vec![Reason::Asserted(3)] });
     assert_eq!(s.go_back(1), Ok(()));
     assert_eq!(s.state[6..], [0, 0]);
     assert_eq!(s.terms, before);
     assert_eq!(s.explain(x, y), Err(Refusal::Argument));
     // the rule named the join's reason: it is dropped with the join, and the equation conflicts no more
-    assert!(rule.contains(&Reason::Asserted(3)));
-    assert_ne!(s.resolve_equation(&[x], &[a, y, b], 1), Ok(Answer::Conflict));
+    assert!(answer.reasons().contains(&Reason::Asserted(3)));
+    assert!(!matches!(s.resolve_equation(&[x], &[a, y, b], 1).unwrap(), Answer::Conflict { .. }));
     assert_eq!(s.audit(), Ok(()));
 }
 

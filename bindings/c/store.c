@@ -1,0 +1,125 @@
+/* The calls of `labels_store`, each at least once, held to what the plain calls answer. Prints one line where all is as it should be. */
+#include "../labels.h"
+#include <stdio.h>
+#include <string.h>
+
+static labels_memory memory, other;
+static labels_store s, t;
+static int wrong;
+
+static void hold(int true_, int line) {
+    if (!true_) {
+        printf("store.c: line %d does not hold\n", line);
+        wrong = 1;
+    }
+}
+#define HOLD(condition) hold(condition, __LINE__)
+
+static void making(void) {
+    const uint32_t text[] = {'a', 'b', 0x3BB};
+    uint32_t a = 0, v = 0, w = 0, n = 0, e = 0, again = 0, long_text = 0;
+    static char big[LABELS_LIST_WORDS + 2];
+    uint32_t parts[2];
+    labels_store_over(&s, &memory);
+    HOLD(labels_store_audit(&s) == LABELS_ACCEPTED);
+    HOLD(labels_store_make_constant(&s, LABELS_LEND(text), &a) == 0 && a == 1);
+    HOLD(labels_store_make_variable(&s, text, 1, &v) == 0 && v == 2);
+    HOLD(labels_store_variable(&s, "a", &again) == 0 && again == v);
+    parts[0] = a;
+    parts[1] = v;
+    HOLD(labels_store_make_concatenation(&s, LABELS_LEND(parts), &w) == 0 && w == 3);
+    HOLD(labels_store_make_length(&s, w, &n) == 0 && n == 4);
+    HOLD(labels_store_make_equation(&s, w, a, &e) == 0 && e == 5);
+    HOLD(labels_store_find(&s, w, &again) == 0 && again == w);
+    /* a refusal leaves what it was to put alone, and a null pointer wants nothing */
+    again = 77;
+    HOLD(labels_store_make_length(&s, e, &again) == LABELS_REFUSED_ARGUMENT && again == 77);
+    HOLD(labels_store_constant(&s, "", NULL) == 0 && labels_store_variable(&s, "", &again) == LABELS_REFUSED_ARGUMENT);
+    HOLD(labels_store_constant(&s, "\xCE\xBB", &again) == LABELS_REFUSED_ARGUMENT);
+    memset(big, 'z', LABELS_LIST_WORDS);
+    HOLD(labels_store_constant(&s, big, &long_text) == 0 && s.terms[8 * long_text + 2] == LABELS_LIST_WORDS);
+    big[LABELS_LIST_WORDS] = 'z';
+    HOLD(labels_store_constant(&s, big, &again) == LABELS_REFUSED_ARGUMENT && again == 77);
+    HOLD(labels_store_audit(&s) == LABELS_ACCEPTED);
+}
+
+static void joining(void) {
+    uint32_t x = 0, y = 0, mark = 0, joined = 0, root = 0;
+    labels_store_over(&s, &memory);
+    HOLD(labels_store_variable(&s, "x", &x) == 0 && labels_store_variable(&s, "y", &y) == 0);
+    HOLD(labels_store_set_mark(&s, &mark) == 0 && mark == 1 && s.state[LABELS_COUNT_MARKS] == 1);
+    HOLD(labels_store_join(&s, x, y, LABELS_INTERFACE, 4, &joined) == 0 && joined == 1 && s.state[LABELS_COUNT_JOINS] == 1);
+    HOLD(labels_store_join(&s, x, y, LABELS_ASSERTED, 5, &joined) == 0 && joined == 0);
+    HOLD(labels_store_explain(&s, x, y) == 0 && labels_reason_count(&s) == 1);
+    HOLD(labels_store_go_back(&s, mark) == 0 && labels_store_find(&s, x, &root) == 0 && root == x);
+    HOLD(labels_store_go_back(&s, mark) == LABELS_REFUSED_MARK);
+}
+
+/* Questions on a store of x ++ "a" = y ++ "b", x and y of one class by a7: a conflict, and it names a7. */
+static void asking(void) {
+    const uint32_t handed[] = {LABELS_INTERFACE, 9, LABELS_ASSERTED, 8}, bad[] = {3, 1}, large[] = {1, 0x80000000u};
+    uint32_t x = 0, y = 0, a = 0, b = 0, lhs = 0, rhs = 0, e = 0, kind = 0, number = 0, equal = 0, l[2], r[2];
+    int i;
+    labels_store_over(&s, &memory);
+    HOLD(labels_store_variable(&s, "x", &x) == 0 && labels_store_variable(&s, "y", &y) == 0);
+    HOLD(labels_store_constant(&s, "a", &a) == 0 && labels_store_constant(&s, "b", &b) == 0);
+    l[0] = x, l[1] = a, r[0] = y, r[1] = b;
+    HOLD(labels_store_make_concatenation(&s, LABELS_LEND(l), &lhs) == 0 && labels_store_make_concatenation(&s, LABELS_LEND(r), &rhs) == 0);
+    HOLD(labels_store_make_equation(&s, lhs, rhs, &e) == 0);
+    HOLD(labels_store_join(&s, x, y, LABELS_ASSERTED, 7, NULL) == 0);
+    /* however often it is asked, the answer names its own reasons and no others */
+    for (i = 0; i < 5000; i++)
+        HOLD(labels_ask(&s, NULL, 0, e, 1) == 0 && labels_answer_case(&s) == LABELS_CONFLICT && labels_reason_count(&s) == 1);
+    labels_reason(&s, 0, &kind, &number);
+    HOLD(kind == LABELS_ASSERTED && number == 7);
+    /* the plain call appends */
+    HOLD(labels_store_step(&s, NULL, 0, e, 1) == 0 && labels_reason_count(&s) == 2);
+    /* reasons handed in come first and stay */
+    HOLD(labels_ask_with(&s, handed, 2, NULL, 0, e, 1) == 0 && labels_reason_count(&s) == 3);
+    labels_reason(&s, 1, &kind, &number);
+    HOLD(kind == LABELS_ASSERTED && number == 8);
+    HOLD(labels_hand_in(&s, bad, 1) == LABELS_REFUSED_ARGUMENT && labels_hand_in(&s, large, 1) == LABELS_REFUSED_ARGUMENT);
+    HOLD(labels_hand_in(&s, handed, LABELS_MAX_REASONS + 1) == LABELS_REFUSED_REASONS && labels_reason_count(&s) == 3);
+    /* the forms by hand are one question with their equation */
+    HOLD(labels_hand_in(&s, NULL, 0) == 0 && labels_store_normal_form(&s, NULL, 0, lhs) == 0 && s.answer[0] == 1 && s.answer[1] == 2);
+    HOLD(labels_store_deep_normal_form(&s, &x, 1, rhs) == 0 && s.answer[1] == 2 && s.list[0] == x && labels_reason_count(&s) == 1);
+    r[0] = s.list[0];
+    HOLD(labels_store_resolve_equation(&s, LABELS_LEND(l), LABELS_LEND(r), 1) == 0 && labels_answer_case(&s) == LABELS_CONFLICT);
+    HOLD(labels_reason_count(&s) == 1);
+    HOLD(labels_store_nf_equal(&s, &x, 1, &y, 1, &equal) == 0 && equal == 1);
+    HOLD(labels_hand_in(&s, NULL, 0) == 0 && labels_store_nf_equal_explain(&s, &x, 1, &y, 1) == 0 && labels_reason_count(&s) == 1);
+    /* a Split: its guard both ways round */
+    HOLD(labels_store_variable(&s, "z", &y) == 0 && labels_hand_in(&s, NULL, 0) == 0);
+    l[0] = y, l[1] = x, r[0] = a, r[1] = y;
+    HOLD(labels_store_resolve_equation(&s, LABELS_LEND(l), LABELS_LEND(r), 7) == 0 && labels_answer_case(&s) == LABELS_SPLIT);
+    HOLD(labels_answer_guard(&s) == -7 && s.answer[LABELS_ANSWER_ATOMS] == 2);
+    l[0] = x, l[1] = y, r[0] = y, r[1] = x;
+    HOLD(labels_store_resolve_equation(&s, LABELS_LEND(l), LABELS_LEND(r), -2147483647) == 0 && labels_answer_guard(&s) == 2147483647);
+    HOLD(labels_store_audit(&s) == LABELS_ACCEPTED);
+}
+
+/* A store keeps its words to itself, and may be small. */
+static void small(void) {
+    uint32_t few[8 * 2], cell[3], characters[1], x = 0;
+    labels_store_over(&t, &other);
+    t.terms = few, t.terms_len = 16, t.cells = cell, t.cells_len = 3, t.chars = characters, t.chars_len = 1;
+    t.reasons = t.keys = NULL;
+    t.reasons_len = t.keys_len = 0;
+    HOLD(labels_store_variable(&t, "x", &x) == 0 && x == 1 && labels_store_audit(&t) == 0);
+    HOLD(labels_store_variable(&t, "y", &x) == LABELS_REFUSED_ROOM && t.state[LABELS_COUNT_TERMS] == 1);
+}
+
+int main(void) {
+    uint32_t i, k;
+    making();
+    joining();
+    asking();
+    small();
+    for (i = 0; i <= 11; i++)
+        for (k = 0; k < i; k++)
+            HOLD(strcmp(labels_refusal_text(i), labels_refusal_text(k)) != 0);
+    HOLD(strcmp(labels_case_text(LABELS_UNEXPANDED), "unexpanded") == 0 && strcmp(labels_case_text(6), labels_case_text(7)) == 0);
+    if (!wrong)
+        printf("labels %s: every call of the store as expected\n", LABELS_VERSION);
+    return wrong;
+}

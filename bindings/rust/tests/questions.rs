@@ -1,0 +1,176 @@
+use labels::{Answer, Form, Reason, Refusal, Store, Term, REASONS};
+use std::collections::HashSet;
+
+/// x ++ "a" = y ++ "b" with x and y of one class by a7, and the string terms.
+fn clash() -> (Store, Term, Vec<Term>) {
+    let mut s = Store::new();
+    let (x, y) = (s.variable("x").unwrap(), s.variable("y").unwrap());
+    let (a, b) = (s.constant("a").unwrap(), s.constant("b").unwrap());
+    let (lhs, rhs) = (s.concatenation(&[x, a]).unwrap(), s.concatenation(&[y, b]).unwrap());
+    let e = s.equation(lhs, rhs).unwrap();
+    s.join(x, y, Reason::Asserted(7)).unwrap();
+    (s, e, vec![x, y, a, b, lhs, rhs])
+}
+
+/// However often it is asked, an answer names its own reasons and no others, and the room for reasons does not run out.
+#[test]
+fn a_question_begins_with_no_reasons() {
+    let (mut s, e, known) = clash();
+    for _ in 0..REASONS + 1 {
+        assert_eq!(s.step(&known, e, 1), Ok(Answer::Conflict { reasons: vec![Reason::Asserted(7)] }));
+    }
+    for _ in 0..REASONS + 1 {
+        assert_eq!(s.explain(known[0], known[1]), Ok(vec![Reason::Asserted(7)]));
+    }
+    // words that its user counted are not handed in either
+    s.reasons[..4].copy_from_slice(&[1, 1, 1, 2]);
+    s.state[3] = 2;
+    assert_eq!(s.nf_equal_explain(&known[..1], &known[1..2]), Ok(vec![Reason::Asserted(7)]));
+    assert_eq!(s.reason_list(), [Reason::Asserted(7)]);
+}
+
+#[test]
+fn reasons_are_handed_in() {
+    let (mut s, e, known) = clash();
+    let handed = [Reason::Interface(4), Reason::Asserted(5)];
+    let all = vec![Reason::Interface(4), Reason::Asserted(5), Reason::Asserted(7)];
+    assert_eq!(s.with_reasons(&handed).unwrap().step(&known, e, 1), Ok(Answer::Conflict { reasons: all.clone() }));
+    assert_eq!(s.with_reasons(&handed).unwrap().explain(known[0], known[1]), Ok(all.clone()));
+    assert_eq!(s.with_reasons(&handed).unwrap().nf_equal_explain(&known[..1], &known[1..2]), Ok(all.clone()));
+    let form = s.with_reasons(&handed).unwrap().normal_form(&known[..1], known[1]).unwrap();
+    assert_eq!(form, Form { atoms: vec![known[0]], reasons: all.clone() });
+    assert_eq!(s.with_reasons(&handed).unwrap().deep_normal_form(&known[..1], known[1]), Ok(Some(form)));
+    let answer = s.with_reasons(&handed).unwrap().resolve_equation(&known[..1], &known[1..2], 1);
+    assert_eq!(answer, Ok(Answer::Done));
+    let answer = s.with_reasons(&handed).unwrap().resolve_equation(&[known[0], known[2]], &[known[1], known[3]], 1);
+    assert_eq!(answer, Ok(Answer::Conflict { reasons: all }));
+}
+
+/// What cannot be handed in is refused before a word is written.
+#[test]
+fn reasons_that_cannot_be_handed_in() {
+    let (mut s, e, known) = clash();
+    let answer = s.step(&known, e, 1);
+    assert_eq!(s.with_reasons(&[Reason::Interface(1 << 31)]).unwrap_err(), Refusal::Argument);
+    assert_eq!(s.with_reasons(&[Reason::Asserted(1); REASONS + 1]).unwrap_err(), Refusal::Reasons);
+    assert_eq!(s.reason_list(), [Reason::Asserted(7)]);
+    // there is room for these, and none for the next
+    assert_eq!(s.with_reasons(&[Reason::Asserted(1); REASONS]).unwrap().step(&known, e, 1), Err(Refusal::Reasons));
+    assert_eq!(s.step(&known, e, 1), answer);
+    s.reasons.truncate(3);
+    assert_eq!(s.with_reasons(&[Reason::Asserted(1); 2]).unwrap_err(), Refusal::Reasons);
+    assert_eq!(s.step(&known, e, 1), answer);
+}
+
+/// A Split and a Saturated of the step rest on the reasons of the normal forms, and a Propagate on its own.
+#[test]
+fn every_answer_carries_its_reasons() {
+    let mut s = Store::new();
+    let [x, y, u, w] = ["x", "y", "u", "w"].map(|name| s.variable(name).unwrap());
+    let (lhs, rhs) = (s.concatenation(&[x, u, w]).unwrap(), s.concatenation(&[y, w, u]).unwrap());
+    let e = s.equation(lhs, rhs).unwrap();
+    s.join(x, y, Reason::Asserted(9)).unwrap();
+    let known = [x, y, u, w, lhs, rhs];
+    let split = s.step(&known, e, 2).unwrap();
+    assert!(matches!(&split, Answer::Split { atoms, guard: -2, .. } if atoms.len() == 3));
+    assert_eq!(split.reasons(), [Reason::Asserted(9)]);
+    let saturated = s.step(&known, e, 2).unwrap();
+    assert_eq!(saturated, Answer::Saturated { reasons: vec![Reason::Asserted(9)] });
+    let (a, b) = (s.constant("a").unwrap(), s.constant("b").unwrap());
+    let ux = s.concatenation(&[u, x]).unwrap();
+    let e = s.equation(ux, b).unwrap();
+    s.join(x, b, Reason::Interface(1)).unwrap();
+    let propagate = s.step(&[a, b], e, 1).unwrap();
+    assert!(matches!(propagate, Answer::Propagate { variable, .. } if variable == u), "{propagate:?}");
+    assert_eq!(propagate.reasons(), [Reason::Interface(1)]);
+    assert_eq!((Answer::Done.reasons(), Answer::Unexpanded.reasons()), (&[][..], &[][..]));
+}
+
+/// The rules that rest on a reason are looked up by it when it is undone.
+#[test]
+fn reasons_are_keys_of_a_map() {
+    let (mut s, e, known) = clash();
+    let named: HashSet<Reason> = s.step(&known, e, 1).unwrap().reasons().iter().copied().collect();
+    assert!(named.contains(&Reason::Asserted(7)) && !named.contains(&Reason::Interface(7)));
+    assert!(Reason::Asserted(9) < Reason::Interface(1));
+}
+
+#[test]
+fn refusals_are_errors() {
+    fn labelled() -> Result<Term, Box<dyn std::error::Error>> {
+        Ok(Store::new().variable("")?)
+    }
+    assert_eq!(labelled().unwrap_err().to_string(), "a wrong argument");
+}
+
+#[test]
+fn a_store_is_debugged_by_its_counts() {
+    let (mut s, _, known) = clash();
+    assert_eq!(s.explain(known[0], known[1]).unwrap().len(), 1);
+    let counts = "Store { terms: 7, cells: 4, chars: 4, reasons: 1, keys: 0, names: 0, marks: 0, joins: 0 }";
+    assert_eq!(format!("{s:?}"), counts);
+}
+
+#[test]
+fn terms_are_printed() {
+    let (mut s, e, known) = clash();
+    let shown = |s: &Store, t| s.display(t).to_string();
+    assert_eq!(shown(&s, e), r#"x ++ "a" = y ++ "b""#);
+    let n = s.length(known[4]).unwrap();
+    assert_eq!(shown(&s, n), r#"len(x ++ "a")"#);
+    let nested = s.concatenation(&[known[4], known[0]]).unwrap();
+    assert_eq!(shown(&s, nested), r#"(x ++ "a") ++ x"#);
+    let odd = s.constant("\"λ\u{0}\n").unwrap();
+    assert_eq!(shown(&s, odd), r#""\"λ\0\n""#);
+    let tab = s.variable("a\tb").unwrap();
+    assert_eq!(shown(&s, tab), r"a\tb");
+    assert_eq!((shown(&s, 0), shown(&s, tab + 1), shown(&s, u32::MAX)), ("?".into(), "?".into(), "?".into()));
+}
+
+/// A term of 2^200 parts is cut, and a store that breaks every rule is printed to an end.
+#[test]
+fn printing_ends() {
+    let mut s = Store::new();
+    let mut t = s.variable("x").unwrap();
+    for _ in 0..200 {
+        t = s.concatenation(&[t, t]).unwrap();
+    }
+    let shown = s.display(t).to_string();
+    assert_eq!(shown.matches("..").count(), 1);
+    assert!(shown.len() < 8 * 1024, "{}", shown.len());
+    // the last concatenation's first part is itself, then a chain that does not end
+    let cell = s.terms[8 * t as usize + 1] as usize;
+    s.cells[3 * cell] = t;
+    assert!(s.display(t).to_string().starts_with("? ++ "));
+    s.cells[3 * cell + 2] = cell as u32;
+    assert_eq!(s.display(t).to_string(), "?");
+    s.terms.fill(u32::MAX);
+    assert_eq!(s.display(t).to_string(), "?");
+    s.terms[8..11].copy_from_slice(&[1, u32::MAX, u32::MAX]);
+    assert_eq!(s.display(1).to_string(), "?");
+    s.terms.clear();
+    assert_eq!(s.display(1).to_string(), "?");
+}
+
+/// Characters as words: all that a constant may have, and the others refused.
+#[test]
+fn characters_as_words() {
+    let mut s = Store::new();
+    let edges = [0, 0xD7FF, 0xE000, 0x10FFFF];
+    let t = s.constant_chars(&edges).unwrap();
+    assert_eq!(s.constant("\u{0}\u{D7FF}\u{E000}\u{10FFFF}"), Ok(t));
+    let v = s.variable_chars(&edges).unwrap();
+    assert_eq!(s.variable("\u{0}\u{D7FF}\u{E000}\u{10FFFF}"), Ok(v));
+    for c in [0xD800, 0xDFFF, 0x110000, u32::MAX] {
+        assert_eq!((s.constant_chars(&[c]), s.variable_chars(&[c])), (Err(Refusal::Argument), Err(Refusal::Argument)));
+    }
+    assert_eq!((s.constant_chars(&[]), s.variable_chars(&[])), (Ok(v + 1), Err(Refusal::Argument)));
+}
+
+/// A store goes to another thread.
+#[test]
+fn a_store_is_sent() {
+    let (mut s, e, known) = clash();
+    let answer = std::thread::spawn(move || s.step(&known, e, 1)).join().unwrap();
+    assert_eq!(answer.unwrap().reasons(), [Reason::Asserted(7)]);
+}
