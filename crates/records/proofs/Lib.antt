@@ -23,4 +23,5 @@ pub mod Sequence
 pub mod Later
 pub mod Loops
 pub mod ListLaws
+mod Standard
 mod Refines

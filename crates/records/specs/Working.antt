@@ -3,4 +3,5 @@ pub mod Leaves
 pub mod Ends
 pub mod Hashes
 pub mod Puts
+pub mod Standard
 pub mod Audited

@@ -200,7 +200,8 @@ fn find_joined(terms: &[u32], chars: &[u32], n: usize, list: &[u32], total: usiz
     0
 }
 
-// The constant of the joined texts of a list of constants. A joined word that does not fit is never built.
+// The constant of the joined texts of a list of constants. It is looked for first; a joined word that does not fit is never built. It is built in the
+// standard's order, from the left, two words at a time, with no term on the way (`text::add_part_unchecked`).
 pub fn join_constants_unchecked(
     terms: &mut [u32],
     cells: &[u32],

@@ -1,11 +1,12 @@
 // Texts: characters compared and copied.
 ghost use mathlib.Core.Path.{_≡_};
-ghost use Prim.Native.Nat.{_+_, _≤_};
-ghost use lib.ListN.{length};
+ghost use Prim.Native.Nat.{_+_, _<_, _≤_};
+ghost use lib.ListN.{length, take};
 ghost use Rattle.records.specs.Lists.{sameWord, concatMap};
 ghost use Rattle.records.specs.View.{span, textAt, lengths};
 ghost use Rattle.records.specs.Rules.{listLimit};
 ghost use Rattle.records.specs.Working.Puts.{CharsPut, TextsWithin};
+ghost use Rattle.records.specs.Working.Standard.{HoldsJoin, PartAdded};
 use crate::fields::first;
 use crate::fields::second;
 use crate::fields::word;
@@ -118,20 +119,40 @@ fn copy_text(chars: &mut [u32], from: usize, n: usize, at: usize)
     }
 }
 
-// The joined texts of a list of terms, copied to place `to`, which is above them all.
+// Part i of a list added to the word held: `held` characters from place `to` on, above all texts. The standard joins from the left,
+// `(str.++ (str.++ a b) c)`: two words at a time, the word held and the next part. The word grows where it stands. Answers how many
+// characters are held then.
+fn add_part_unchecked(
+    terms: &[u32],
+    chars: &mut [u32],
+    list: &[u32],
+    i: usize,
+    to: usize,
+    held: usize,
+) -> usize
+    requires { ⌜ TextsWithin (now terms) to (now list) ⌝ }
+    requires { ⌜ to + lengths (now terms) (now list) ≤ length (now chars) ⌝ }
+    requires { ⌜ i < length (now list) ⌝ }
+    requires { ⌜ HoldsJoin (now terms) (now chars) (take i (now list)) to held ⌝ }
+    ensures { λ r. ⌜ PartAdded (now (terms .entry)) (now (chars .entry)) (now (chars .exit)) (now (list .entry)) to i r ⌝ }
+{
+    let part = list[i];
+    let from = first(terms, part) as usize;
+    let next = second(terms, part) as usize;
+    copy_text(chars, from, next, to + held);
+    held + next
+}
+
+// The joined texts of a list of terms from place `to` on, which is above them all: each part added to the word held, which is "" first.
 pub(crate) fn put_joined_unchecked(terms: &[u32], chars: &mut [u32], list: &[u32], to: usize)
     requires { ⌜ TextsWithin (now terms) to (now list) ⌝ }
     requires { ⌜ to + lengths (now terms) (now list) ≤ length (now chars) ⌝ }
     ensures { λ _. ⌜ CharsPut (now (chars .entry)) (now (chars .exit)) to (concatMap (textAt (now (terms .entry)) (now (chars .entry))) (now (list .entry))) ⌝ }
 {
-    let mut at = to;
+    let mut held: usize = 0;
     let mut i: usize = 0;
     while i < list.len() {
-        let t = list[i];
-        let from = first(terms, t) as usize;
-        let n = second(terms, t) as usize;
-        copy_text(chars, from, n, at);
-        at += n;
+        held = add_part_unchecked(terms, chars, list, i, to, held);
         i += 1;
     }
 }

@@ -1,20 +1,22 @@
 -- The joined texts of a list of terms: counted, compared and copied one after the other.
 use mathlib.Core.Path.{_≡_, refl, sym, ap, _∙_}
 use mathlib.Core.Bool.{Bool, true, false, not, _&&_}
-use mathlib.Core.List.{List, [], _∷_, _++_, append-nil}
+use mathlib.Core.List.{List, [], _∷_, _++_, map, map-append}
 use Prim.Native.Nat.{ℕ, zero, suc, _+_, _*_, _-_, _<_, _≤_}
 use native.Mathlib.Numerals.{add-one}
-use native.Mathlib.Nat.{add-assoc, add-zero}
+use native.Mathlib.Nat.{add-assoc}
 use native.Mathlib.Omega.{arith}
-use lib.ListN.{length, getD, set, take, drop, length-append, drop-of-length-le}
-use lib.Seq.{drop-cons, take-suc, take-all, split-at}
+use lib.ListN.{length, getD, set, take, drop, length-append, drop-of-length-le, take-append-drop}
+use lib.Seq.{drop-cons, take-suc, take-all}
 use borrow.Author.Tests.{not-true, not-false}
-use Rattle.records.specs.Lists.{table, concatMap, sameWord}
+use Rattle.records.specs.Lists.{table, concatMap, sameWord, Every}
 use Rattle.records.specs.View.{span, textAt, termAt, lengths, charsView}
 use Rattle.records.specs.Working.Puts.{CharsPut, TextsWithin}
-use Rattle.records.proofs.Lists.{left-false, word-append, every-at, table-at, table-same, table-add, table-length, concatMap-append}
+use Rattle.records.specs.Working.Standard.{standardJoin, HoldsJoin, PartAdded}
+use Rattle.records.proofs.Lists.{left-false, word-append, every-at, every-map, every-left, table-at, table-same, table-add, table-length, concatMap-same}
+use Rattle.records.proofs.Standard.{join-next, join-all, join-same}
 use Rattle.records.proofs.Loops.{Summing, summing-turn}
-use Rattle.records.proofs.Refines.Texts.{Copied, copied-one, copied-all, put-both}
+use Rattle.records.proofs.Refines.Texts.{Copied, copied-one, copied-all, lower-view, put-word}
 
 -- COUNTED
 
@@ -116,50 +118,87 @@ pub kept-span : (h h′ : List ℕ) (k a n : ℕ) → charsView h′ k ≡ chars
 kept-span h h′ k a n e b = table-same (λ i. getD h′ (a + i) 0) (λ i. getD h (a + i) 0) n (λ i q.
     sym (table-at (λ j. getD h′ j 0) k (a + i) 0 (omega arith)) ∙ ap (λ (w : List ℕ). getD w (a + i) 0) e ∙ table-at (λ j. getD h j 0) k (a + i) 0 (omega arith))
 
--- the first i texts stand from place `to` up to `at`
-pub record Joined (l h ts : List ℕ) (to : ℕ) (h′ : List ℕ) (at i : ℕ) : Type 0 where
+-- the first i texts, joined, are held from place `to` on, n characters
+pub record Joined (l h ts : List ℕ) (to : ℕ) (h′ : List ℕ) (n i : ℕ) : Type 0 where
   pub within : i ≤ length ts
   pub long : length h′ ≡ length h
-  pub place : at ≡ to + lengths l (take i ts)
-  pub put : CharsPut h h′ to (concatMap (textAt l h) (take i ts))
+  pub holds : HoldsJoin l h′ (take i ts) to n
+  pub kept : charsView h′ to ≡ charsView h to
 
-pub joined-none : (l h ts : List ℕ) (to : ℕ) → Joined l h ts to h to 0
-unfolding lengths concatMap
-joined-none l h ts to =
-    record { within = omega arith; long = refl; place = omega arith; put = record { grown = rw (add-zero to) (sym (append-nil (charsView h to))); kept = refl } }
+pub joined-none : (l h ts : List ℕ) (to : ℕ) → Joined l h ts to h 0 0
+unfolding standardJoin table
+joined-none l h ts to = record { within = omega arith; long = refl; holds = refl; kept = refl }
 
-module _ (l h ts : List ℕ) (to : ℕ) (h′ : List ℕ) (at i : ℕ) (j : Joined l h ts to h′ at i) where
-  pub joined-all : length ts ≤ i → CharsPut h h′ to (concatMap (textAt l h) ts)
-  joined-all b = rw (take-all i ts b) at (j .put)
+-- texts below a place are those of the slice that is as it was up to there
+texts-same : (l h h′ : List ℕ) (to : ℕ) {ts : List ℕ} → charsView h′ to ≡ charsView h to → TextsWithin l to ts → Every (λ t. textAt l h′ t ≡ textAt l h t) ts
+texts-same l h h′ to k texts = every-map (λ t b. kept-span h h′ to (termAt l t .first) (termAt l t .second) k b) texts
 
-  module _ (texts : TextsWithin l to ts) (room : to + lengths l ts ≤ length h) (b : i < length ts) (a n : ℕ)
-      (ea : a ≡ termAt l (getD ts i 0) .first) (en : n ≡ termAt l (getD ts i 0) .second) where
-    pub joined-below : a + n ≤ at
-    joined-below = let p = j .place in let q = within-at l ts to i a n texts b ea en in omega arith
+module _ (l h ts : List ℕ) (to : ℕ) (h′ : List ℕ) (n i : ℕ) (j : Joined l h ts to h′ n i) where
+  pub joined-room : to + lengths l ts ≤ length h → to + lengths l ts ≤ length h′
+  joined-room room = let e = j .long in omega arith
 
-    pub joined-room : at + n ≤ length h′
-    joined-room =
-        let p = j .place in
-        let q : lengths l ts ≡ lengths l (take i ts) + lengths l (drop i ts)
-        = ap (lengths l) (split-at ts i 0 b ∙ ap (λ (w : List ℕ). take i ts ++ w) (sym (drop-cons ts i 0 b))) ∙ lengths-append l (take i ts) (drop i ts) in
-        let r = lengths-at l ts i b in
-        let k = j .long in omega arith
+  pub joined-one : i < length ts → (h″ : List ℕ) (m : ℕ) → PartAdded l h′ h″ ts to i m → length h″ ≡ length h′ → Joined l h ts to h″ m (i + 1)
+  joined-one b h″ m p k = record { within = omega arith; long = k ∙ j .long; holds = p .holds; kept = p .kept ∙ j .kept }
 
-    pub joined-one : (h″ : List ℕ) → CharsPut h′ h″ at (span h′ a n) → length h″ ≡ length h′ → Joined l h ts to h″ (at + n) (i + 1)
-    unfolding lengths concatMap
-    joined-one h″ c k =
-        let s = take-suc ts i 0 b in
-        let m = lengths-concatMap l h (take i ts) in
-        let p = j .place in
-        let e : concatMap (textAt l h) (take (suc i) ts) ≡ concatMap (textAt l h) (take i ts) ++ span h′ a n
-        = ap (concatMap (textAt l h)) s ∙ concatMap-append (textAt l h) (take i ts) (getD ts i 0 ∷ []) ∙ ap (λ (w : List ℕ). concatMap (textAt l h) (take i ts) ++ w) last-is in
-        record {
-          within = omega arith;
-          long = k ∙ j .long;
-          place = rw (add-one i, s, lengths-append) (omega arith);
-          put = rw (add-one i, e) (put-both h h′ h″ to at (concatMap (textAt l h) (take i ts)) (span h′ a n) (omega arith) (j .put) c);
-        }
-      where
-        last-is : concatMap (textAt l h) (getD ts i 0 ∷ []) ≡ span h′ a n
-        last-is =
-            append-nil (textAt l h (getD ts i 0)) ∙ rw (← ea, ← en) (sym (kept-span h h′ to a n (j .put .kept) (within-at l ts to i a n texts b ea en)))
+  pub joined-all : TextsWithin l to ts → length ts ≤ i → CharsPut h h′ to (concatMap (textAt l h) ts)
+  joined-all texts b =
+      record { grown = rw long-is (table-add (λ x. getD h′ x 0) to n ∙ (let k = j .kept in let w = word-is in cc)); kept = j .kept }
+    where
+      word-is : span h′ to n ≡ concatMap (textAt l h) ts
+      word-is =
+          (rw (take-all i ts b) at (j .holds))
+          ∙ join-all (textAt l h′) ts
+          ∙ concatMap-same (textAt l h′) (textAt l h) (texts-same l h h′ to (j .kept) texts)
+
+      long-is : length (concatMap (textAt l h) ts) ≡ n
+      long-is = ap length (sym word-is) ∙ table-length (λ x. getD h′ (to + x) 0) n
+
+-- the part at i, of n characters from place a on, is added to the word held
+module _ (l h ts : List ℕ) (to i held : ℕ) (texts : TextsWithin l to ts) (room : to + lengths l ts ≤ length h) (b : i < length ts)
+    (holds : HoldsJoin l h (take i ts) to held) (a n : ℕ) (ea : a ≡ termAt l (getD ts i 0) .first) (en : n ≡ termAt l (getD ts i 0) .second) where
+  held-long : held ≡ lengths l (take i ts)
+  held-long =
+      sym (table-length (λ x. getD h (to + x) 0) held) ∙ ap length (holds ∙ join-all (textAt l h) (take i ts)) ∙ lengths-concatMap l h (take i ts)
+
+  pub part-below : a + n ≤ to + held
+  part-below = let q = within-at l ts to i a n texts b ea en in omega arith
+
+  pub part-room : to + held + n ≤ length h
+  part-room =
+      let p = held-long in
+      let q : lengths l ts ≡ lengths l (take i ts) + lengths l (drop i ts) = ap (lengths l) (sym (take-append-drop i ts)) ∙ lengths-append l (take i ts) (drop i ts) in
+      let r = lengths-at l ts i b in omega arith
+
+  pub part-added : (h′ : List ℕ) → CharsPut h h′ (to + held) (span h a n) → PartAdded l h h′ ts to i (held + n)
+  part-added h′ put = record { holds = rw (add-one i) (span-add h′ to held n ∙ both-are ∙ sym joined-is); kept = below }
+    where
+      below : charsView h′ to ≡ charsView h to
+      below = lower-view h h′ to (to + held) (omega arith) (put .kept)
+
+      texts-up-to : TextsWithin l to (take i ts)
+      texts-up-to = every-left {P = λ t. termAt l t .first + termAt l t .second ≤ to} (take i ts) (drop i ts) (rw (take-append-drop i ts) texts)
+
+      held-is : span h′ to held ≡ standardJoin (map (textAt l h′) (take i ts))
+      held-is =
+          kept-span h h′ (to + held) to held (put .kept) (omega arith)
+          ∙ holds
+          ∙ sym (join-same (textAt l h′) (textAt l h) (texts-same l h h′ to below texts-up-to))
+
+      part-is : span h′ a n ≡ textAt l h′ (getD ts i 0)
+      part-is = rw (ea, en) refl
+
+      next-is : span h′ (to + held) n ≡ textAt l h′ (getD ts i 0)
+      next-is =
+          let long = table-length (λ x. getD h (a + x) 0) n in
+          (rw long at (put-word h h′ (to + held) (span h a n) put))
+          ∙ sym (kept-span h h′ to a n below (within-at l ts to i a n texts b ea en))
+          ∙ part-is
+
+      both-are : span h′ to held ++ span h′ (to + held) n ≡ standardJoin (map (textAt l h′) (take i ts)) ++ textAt l h′ (getD ts i 0)
+      both-are = let p = held-is in let q = next-is in cc
+
+      joined-is : standardJoin (map (textAt l h′) (take (suc i) ts)) ≡ standardJoin (map (textAt l h′) (take i ts)) ++ textAt l h′ (getD ts i 0)
+      joined-is =
+          ap (λ (us : List ℕ). standardJoin (map (textAt l h′) us)) (take-suc ts i 0 b)
+          ∙ ap standardJoin (map-append (textAt l h′) (take i ts) (getD ts i 0 ∷ []))
+          ∙ join-next (map (textAt l h′) (take i ts)) (textAt l h′ (getD ts i 0))

@@ -1,7 +1,7 @@
 -- Texts: two words are equal where they are equal at each place.
 use mathlib.Core.Path.{_≡_, refl, sym, ap, _∙_}
 use mathlib.Core.Bool.{Bool, true, false}
-use mathlib.Core.List.{List, _++_, append-assoc}
+use mathlib.Core.List.{List, _++_, append-cancel-left}
 use mathlib.Core.Logic.{⊎-elim}
 use Prim.Native.Nat.{ℕ, _+_, _<_, _≤_}
 use native.Mathlib.Numerals.{add-one}
@@ -98,16 +98,13 @@ copied-all l l′ n w i a h =
         let e = span-length l′ w n in
         span-at l′ w n k (omega arith) ∙ a .copied k (omega arith))
 
--- one word after the other
-pub put-both : (l l₁ l₂ : List ℕ) (n k : ℕ) (u v : List ℕ) → k ≡ n + length u → CharsPut l l₁ n u → CharsPut l₁ l₂ k v → CharsPut l l₂ n (u ++ v)
-put-both l l₁ l₂ n k u v e p q =
-    let g = rw e at (q .grown) in
-    let h = rw e at (q .kept) in
-    record {
-      grown = rw (length-append u v, ← add-assoc n (length u) (length v), ← append-assoc (charsView l n) u v) (g ∙ ap (λ (x : List ℕ). x ++ v) (p .grown));
-      kept = lower-view l₁ l₂ n (n + length u) (omega arith) h ∙ p .kept;
-    }
-  where
-    lower-view : (a b : List ℕ) (i j : ℕ) → i ≤ j → charsView b j ≡ charsView a j → charsView b i ≡ charsView a i
-    lower-view a b i j t z = table-same (λ x. getD b x 0) (λ x. getD a x 0) i (λ x y.
-        sym (table-at (λ x. getD b x 0) j x 0 (omega arith)) ∙ ap (λ (w : List ℕ). getD w x 0) z ∙ table-at (λ x. getD a x 0) j x 0 (omega arith))
+-- what stands below a lower place is as it was too
+pub lower-view : (a b : List ℕ) (i j : ℕ) → i ≤ j → charsView b j ≡ charsView a j → charsView b i ≡ charsView a i
+lower-view a b i j t z = table-same (λ x. getD b x 0) (λ x. getD a x 0) i (λ x y.
+    sym (table-at (λ x. getD b x 0) j x 0 (omega arith)) ∙ ap (λ (w : List ℕ). getD w x 0) z ∙ table-at (λ x. getD a x 0) j x 0 (omega arith))
+
+-- the word that was put stands there
+pub put-word : (l l′ : List ℕ) (n : ℕ) (w : List ℕ) → CharsPut l l′ n w → span l′ n (length w) ≡ w
+put-word l l′ n w p =
+    append-cancel-left (charsView l n) (span l′ n (length w)) w
+    (ap (λ (v : List ℕ). v ++ span l′ n (length w)) (sym (p .kept)) ∙ sym (table-add (λ j. getD l′ j 0) n (length w)) ∙ p .grown)

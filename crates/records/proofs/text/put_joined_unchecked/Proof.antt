@@ -1,16 +1,15 @@
-use Rattle.records.proofs.Refines.JoinedTexts.{Joined, joined-none, joined-below, joined-room, joined-one, joined-all}
+use Rattle.records.proofs.Refines.JoinedTexts.{Joined, joined-none, joined-room, joined-one, joined-all}
 use lib.ListN.{length}
 use Prim.Native.Nat.{_-_}
-use native.Mathlib.Omega.{arith}
 use borrow.Author.Needs.{needs}
 use Rattle.records.proofs.text.put_joined_unchecked.Statement.{statement}
 use Rattle.records.proofs.text.put_joined_unchecked.Tie as tie
 
 abbrev Inv-loop : tie.InvT-loop
-Inv-loop terms chars₀ list to at₀ i₀ chars at i = Joined terms chars₀ list to chars at i
+Inv-loop terms chars₀ list to held₀ i₀ chars held i = Joined terms chars₀ list to chars held i
 
 abbrev μ-loop : tie.MeasureT-loop
-μ-loop terms chars₀ list to at₀ i₀ chars at i = length list - i
+μ-loop terms chars₀ list to held₀ i₀ chars held i = length list - i
 
 pub put-joined-unchecked-spec : {M : Type 1} → statement M
 put-joined-unchecked-spec =
@@ -20,56 +19,26 @@ put-joined-unchecked-spec =
     μ-loop
     -- loop-holds
     (λ c. joined-none _ _ _ _)
-    -- mul-t
-    (λ c. search needs)
-    -- shared-slice-read-t
-    (λ c. search needs)
-    -- first-requires
-    (λ c κs. search needs)
-    -- cast-from
-    (λ c. search needs)
-    -- second-requires
-    (λ c κs. search needs)
-    -- cast-n
-    (λ c. search needs)
-    -- copy-text-requires
+    -- add-part-unchecked-requires
     (λ c κs.
-    let at-first = c .before .before in
-    let at-loop-test = at-first .before .before in
-    let at-loop = at-loop-test .before in
-    let at-start = at-loop .before .before .before .before in (
-      joined-below _ _ _ _ _ _ _ (at-loop .loop .inv) (at-start .pre .0) (at-start .pre .1) (at-loop-test .loop-test .taken) _ _ (at-first .first .ensures)
-          (c .before .second .ensures),
-      joined-room _ _ _ _ _ _ _ (at-loop .loop .inv) (at-start .pre .0) (at-start .pre .1) (at-loop-test .loop-test .taken) _ _ (at-first .first .ensures)
-          (c .before .second .ensures),
-    ))
-    -- add-at
-    (λ c.
-    let at-second = c .before .before .before .before in
-    let at-first = at-second .before in
-    let at-loop-test = at-first .before .before in
+    let at-loop-test = c .before in
     let at-loop = at-loop-test .before in
     let at-start = at-loop .before .before .before .before in
-    omega (
-      arith,
-      joined-room _ _ _ _ _ _ _ (at-loop .loop .inv) (at-start .pre .0) (at-start .pre .1) (at-loop-test .loop-test .taken) _ _ (at-first .first .ensures)
-          (at-second .second .ensures),
-    ))
+    (at-start .pre .0, (joined-room _ _ _ _ _ _ _ (at-loop .loop .inv) (at-start .pre .1), (at-loop-test .loop-test .taken, at-loop .loop .inv .holds))))
     -- add-i
     (λ c. search needs)
     -- loop-less
     (λ c. search needs)
     -- loop-again
     (λ c.
-    let at-copy-text = c .before .before in
-    let at-second = at-copy-text .before .before in
-    let at-first = at-second .before in
-    let at-loop-test = at-first .before .before in
-    let at-loop = at-loop-test .before in
-    let at-start = at-loop .before .before .before .before in
-    joined-one _ _ _ _ _ _ _ (at-loop .loop .inv) (at-start .pre .0) (at-start .pre .1) (at-loop-test .loop-test .taken) _ _ (at-first .first .ensures)
-    (at-second .second .ensures) _ (at-copy-text .copy-text .ensures) (at-copy-text .copy-text .kept .0))
+    let at-add-part-unchecked = c .before .before in
+    let at-loop-test = at-add-part-unchecked .before .before in
+    joined-one _ _ _ _ _ _ _ (at-loop-test .before .loop .inv) (at-loop-test .loop-test .taken) _ _ (at-add-part-unchecked .add-part-unchecked .ensures)
+    (at-add-part-unchecked .add-part-unchecked .kept .1 .0))
     -- same-length
     (λ c. c .before .loop .inv .long)
     -- returns
-    (λ c. joined-all _ _ _ _ _ _ _ (c .before .loop .inv) (c .loop-test .left)))
+    (λ c.
+    let at-loop = c .before in
+    let at-start = at-loop .before .before .before .before in
+    joined-all _ _ _ _ _ _ _ (at-loop .loop .inv) (at-start .pre .0) (c .loop-test .left)))
