@@ -15,7 +15,7 @@
  * A null pointer with length 0 is an empty slice: tried on x86-64 Linux for every slice of every call (bindings/c/null.c), and each call
  * answers and writes as it does for any other empty slice. A null pointer with another length is the caller's error.
  *
- * Stack: 512 KiB have to be free when a call is made. A tower of 506 congruences, which passes the audit, was measured to take 456,184
+ * Stack: 512 KiB have to be free when a call is made. A tower of 506 congruences, which passes the audit, was measured to take 490,776
  * bytes. The component's own calls make no congruences; without any the worst that was tried, the step on 508 concatenations within each
  * other, took 88,000. No call uses the heap or data of its own, so calls on stores that share no words may run at the same time.
  */
@@ -30,9 +30,9 @@ extern "C" {
 #endif
 
 /* The version of this header, of the Rust crate and of CHANGELOG.md. */
-#define LABELS_VERSION "0.2.0"
+#define LABELS_VERSION "0.3.0"
 #define LABELS_VERSION_MAJOR 0
-#define LABELS_VERSION_MINOR 2
+#define LABELS_VERSION_MINOR 4
 #define LABELS_VERSION_PATCH 0
 
 /* The limits of the counts. */
@@ -93,6 +93,9 @@ enum labels_answer_word {
     LABELS_ANSWER_ATOMS = 1,
     LABELS_ANSWER_GUARD = 2
 };
+
+/* The words of `labels_empty_parts`' answer: how many variables are listed, the number of "", the link flag. */
+enum labels_parts_word { LABELS_PARTS_COUNT = 0, LABELS_PARTS_EMPTY = 1, LABELS_PARTS_LINK = 2 };
 
 /* Why a call was refused. After the first five and the last no word of any slice is written; after the others the counts and every counted
  * record are as they were. */
@@ -183,10 +186,11 @@ uint32_t labels_make_equation(LABELS_WORDS(state), LABELS_WORDS(terms), LABELS_R
 uint32_t labels_find(LABELS_READ(state), LABELS_READ(terms), LABELS_READ(cells), LABELS_READ(chars), LABELS_READ(reasons), LABELS_READ(keys),
                      uint32_t t, LABELS_WORDS(answer));
 
-/* THE REASONS. Those counted at entry are handed in and stay; the calls from here on append the reasons that they name, and those named stand
- * in `reasons` below the state's count. So set the count to 0 before a question unless reasons are handed in with it: else the answer names
- * those of the question before too, and once 4,096 stand there every further one is refused (7). Two normal forms and the word equation
- * between them are one question: what the forms named has to be handed in with the equation, that is, left counted. */
+/* THE REASONS. Those counted at entry are handed in and stay as they are; the calls from here on append the reasons that they name and that
+ * the list lacks, by kind and number, so each that they add stands there once. Those named stand in `reasons` below the state's count. So
+ * set the count to 0 before a question unless reasons are handed in with it: else the answer names those of the question before too, and
+ * once 4,096 stand there every further one is refused (7). Two normal forms and the word equation between them are one question: what the
+ * forms named has to be handed in with the equation, that is, left counted. What a call is worth is said of all reasons below the count. */
 uint32_t labels_explain(LABELS_WORDS(state), LABELS_READ(terms), LABELS_READ(cells), LABELS_READ(chars), LABELS_WORDS(reasons),
                         LABELS_READ(keys), uint32_t a, uint32_t b);
 
@@ -208,6 +212,14 @@ uint32_t labels_resolve_equation(LABELS_WORDS(state), LABELS_WORDS(terms), LABEL
 /* The step over one equation, with the known list: the same words, and 5 in word 0 for Unexpanded. */
 uint32_t labels_step(LABELS_WORDS(state), LABELS_WORDS(terms), LABELS_WORDS(cells), LABELS_WORDS(chars), LABELS_WORDS(reasons),
                      LABELS_WORDS(keys), LABELS_READ(known), uint32_t e, int32_t guard, LABELS_WORDS(list), LABELS_WORDS(answer));
+
+/* Every part of a label that must still become "": where one flattened list is empty and the other is two or more variables, "" is made if the
+ * store has none, and the variables that are not of its class yet stand first in `list`, in the order of their places, the first of each class.
+ * Words 0 to 2 of the answer: how many they are, the number of "", and the link flag, 1 where something is listed. For other lists nothing is
+ * made, and all three are 0. No reasons are added: that these variables become "" follows from the equation between the lists, and rests on
+ * what the lists rest on. */
+uint32_t labels_empty_parts(LABELS_WORDS(state), LABELS_WORDS(terms), LABELS_READ(cells), LABELS_WORDS(chars), LABELS_READ(reasons),
+                            LABELS_READ(keys), LABELS_READ(lhs), LABELS_READ(rhs), LABELS_WORDS(list), LABELS_WORDS(answer));
 
 /* Word 0 of the answer is 1 where the lists are equal, else 0. */
 uint32_t labels_nf_equal(LABELS_READ(state), LABELS_READ(terms), LABELS_READ(cells), LABELS_READ(chars), LABELS_READ(reasons),
@@ -244,7 +256,7 @@ uint32_t labels_go_back(LABELS_WORDS(state), LABELS_WORDS(terms), LABELS_READ(ce
 /* A STORE AND ITS CALLS
  *
  * The words are lent through pointers, so a store may be as small as its user likes, and one that is never joined needs no marks. `list` is
- * where the forms and the atoms of a Split come to stand, `answer` the words of the last call that gave any. */
+ * where the forms, the atoms of a Split and the empty parts come to stand, `answer` the words of the last call that gave any. */
 typedef struct labels_store {
     uint32_t state[LABELS_STATE_WORDS];
     uint32_t *terms, *cells, *chars, *reasons, *keys, *marks, *list;
@@ -349,7 +361,8 @@ static inline uint32_t labels_store_go_back(labels_store *s, uint32_t mark) {
     return labels_go_back(LABELS_STORE(s), LABELS_STORE_MARKS(s), mark);
 }
 
-/* The calls that name reasons. They append to the reasons counted, as the plain calls do: see ASKING A QUESTION below. */
+/* The calls that name reasons. They append to the reasons counted those that are not among them, as the plain calls do: see ASKING A QUESTION
+ * below. */
 static inline uint32_t labels_store_explain(labels_store *s, uint32_t a, uint32_t b) { return labels_explain(LABELS_STORE(s), a, b); }
 static inline uint32_t labels_store_normal_form(labels_store *s, LABELS_READ(known), uint32_t t) {
     return labels_normal_form(LABELS_STORE(s), known, known_len, t, LABELS_STORE_LIST(s), LABELS_STORE_ANSWER(s));
@@ -368,6 +381,11 @@ static inline uint32_t labels_store_nf_equal_explain(labels_store *s, LABELS_REA
 }
 static inline uint32_t labels_store_nf_equal(labels_store *s, LABELS_READ(lhs), LABELS_READ(rhs), uint32_t *equal) {
     return labels_store_put(s, labels_nf_equal(LABELS_STORE(s), lhs, lhs_len, rhs, rhs_len, LABELS_STORE_ANSWER(s)), equal);
+}
+
+/* Names no reasons. A join puts its own answer over the three words: copy them before the variables are joined. */
+static inline uint32_t labels_store_empty_parts(labels_store *s, LABELS_READ(lhs), LABELS_READ(rhs)) {
+    return labels_empty_parts(LABELS_STORE(s), lhs, lhs_len, rhs, rhs_len, LABELS_STORE_LIST(s), LABELS_STORE_ANSWER(s));
 }
 
 /* ASKING A QUESTION

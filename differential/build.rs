@@ -2,7 +2,7 @@
 
 use std::{env, fs, path::PathBuf};
 
-const CALLS: [&str; 17] = [
+const CALLS: [&str; 18] = [
     "labels_audit",
     "labels_make_constant",
     "labels_make_variable",
@@ -17,6 +17,7 @@ const CALLS: [&str; 17] = [
     "labels_step",
     "labels_nf_equal",
     "labels_nf_equal_explain",
+    "labels_empty_parts",
     "labels_join",
     "labels_set_mark",
     "labels_go_back",

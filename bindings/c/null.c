@@ -58,16 +58,20 @@ static uint32_t call(int which) {
         return labels_set_mark(STORE, S(FIRST), S(SECOND));
     case 15:
         return labels_go_back(STORE, S(FIRST), 1);
-    case 16: /* its list is tried by the next */
+    case 16: /* its list is tried by the next; so for the two after it */
         return labels_resolve_equation(STORE, S(FIRST), S(SECOND), 1, full.list, full.list_len, S(THIRD));
-    default:
+    case 17:
         return labels_resolve_equation(STORE, terms, 2, terms, 2, 1, S(FIRST), S(SECOND));
+    case 18:
+        return labels_empty_parts(STORE, S(FIRST), S(SECOND), full.list, full.list_len, S(THIRD));
+    default:
+        return labels_empty_parts(STORE, terms, 0, terms, 2, S(FIRST), S(SECOND));
     }
 }
 
 static const char *const names[] = {"audit", "make_constant", "make_variable", "make_concatenation", "make_length", "make_equation", "find",
                                     "explain", "normal_form", "deep_normal_form", "step", "nf_equal", "nf_equal_explain", "join",
-                                    "set_mark", "go_back", "resolve_equation", "resolve_equation"};
+                                    "set_mark", "go_back", "resolve_equation", "resolve_equation", "empty_parts", "empty_parts"};
 
 /* A store of the terms x, y, x ++ y, "ab", x ++ y = "ab", with one mark. */
 static void fresh(int which) {
@@ -100,14 +104,14 @@ static void fresh(int which) {
         lend(SECOND, full.list, full.list_len);
     if (which >= 13 && which <= 15)
         lend(FIRST, full.marks, full.marks_len);
-    if (which == 13 || which == 14 || which == 17)
+    if (which == 13 || which == 14 || which == 17 || which == 19)
         lend(SECOND, full.answer, LABELS_ANSWER_WORDS);
-    if (which == 17)
+    if (which == 17 || which == 19)
         lend(FIRST, full.list, full.list_len);
 }
 
 int main(void) {
-    static const int slices[] = {6, 8, 8, 8, 7, 7, 7, 6, 9, 9, 9, 9, 8, 8, 8, 7, 9, 8};
+    static const int slices[] = {6, 8, 8, 8, 7, 7, 7, 6, 9, 9, 9, 9, 8, 8, 8, 7, 9, 8, 9, 8};
     static labels_memory memory_kept;
     static labels_store store_kept;
     uint32_t word = 0, refusal[2];

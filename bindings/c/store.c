@@ -72,8 +72,9 @@ static void asking(void) {
         HOLD(labels_ask(&s, NULL, 0, e, 1) == 0 && labels_answer_case(&s) == LABELS_CONFLICT && labels_reason_count(&s) == 1);
     labels_reason(&s, 0, &kind, &number);
     HOLD(kind == LABELS_ASSERTED && number == 7);
-    /* the plain call appends */
-    HOLD(labels_store_step(&s, NULL, 0, e, 1) == 0 && labels_reason_count(&s) == 2);
+    /* the plain call appends what the list lacks */
+    HOLD(labels_store_step(&s, NULL, 0, e, 1) == 0 && labels_reason_count(&s) == 1);
+    HOLD(labels_hand_in(&s, handed, 1) == 0 && labels_store_step(&s, NULL, 0, e, 1) == 0 && labels_reason_count(&s) == 2);
     /* reasons handed in come first and stay */
     HOLD(labels_ask_with(&s, handed, 2, NULL, 0, e, 1) == 0 && labels_reason_count(&s) == 3);
     labels_reason(&s, 1, &kind, &number);
@@ -98,6 +99,29 @@ static void asking(void) {
     HOLD(labels_store_audit(&s) == LABELS_ACCEPTED);
 }
 
+/* Two variables of one class and a third against an empty list, and lists of another form. */
+static void emptying(void) {
+    uint32_t label[3], empty = 0, i;
+    labels_store_over(&s, &memory);
+    HOLD(labels_store_variable(&s, "x", &label[0]) == 0 && labels_store_variable(&s, "y", &label[1]) == 0);
+    HOLD(labels_store_variable(&s, "z", &label[2]) == 0 && labels_store_join(&s, label[1], label[0], LABELS_ASSERTED, 7, NULL) == 0);
+    /* another form: three zeros, and nothing is made; a refusal leaves the answer alone */
+    s.answer[LABELS_PARTS_COUNT] = s.answer[LABELS_PARTS_EMPTY] = s.answer[LABELS_PARTS_LINK] = s.answer[3] = 77;
+    HOLD(labels_store_empty_parts(&s, label, 1, label, 2) == 0 && s.state[LABELS_COUNT_TERMS] == 3);
+    HOLD(s.answer[LABELS_PARTS_COUNT] == 0 && s.answer[LABELS_PARTS_EMPTY] == 0 && s.answer[LABELS_PARTS_LINK] == 0 && s.answer[3] == 77);
+    HOLD(labels_store_empty_parts(&s, NULL, 0, LABELS_LEND(label)) == 0 && s.answer[LABELS_PARTS_COUNT] == 2);
+    HOLD(s.answer[LABELS_PARTS_EMPTY] == 4 && s.answer[LABELS_PARTS_LINK] == 1 && s.answer[3] == 77 && labels_reason_count(&s) == 0);
+    HOLD(s.list[0] == label[0] && s.list[1] == label[2] && labels_store_constant(&s, "", &empty) == 0 && empty == 4);
+    s.answer[0] = s.list[0] = 77;
+    label[2] = 9;
+    HOLD(labels_store_empty_parts(&s, LABELS_LEND(label), NULL, 0) == LABELS_REFUSED_ARGUMENT && s.answer[0] == 77 && s.list[0] == 77);
+    for (i = 1; i <= 3; i++)
+        HOLD(labels_store_join(&s, i, empty, LABELS_INTERFACE, i, NULL) == 0);
+    label[2] = 3;
+    HOLD(labels_store_empty_parts(&s, LABELS_LEND(label), NULL, 0) == 0 && s.answer[LABELS_PARTS_COUNT] == 0);
+    HOLD(s.answer[LABELS_PARTS_EMPTY] == empty && s.answer[LABELS_PARTS_LINK] == 0 && labels_store_audit(&s) == LABELS_ACCEPTED);
+}
+
 /* A store keeps its words to itself, and may be small. */
 static void small(void) {
     uint32_t few[8 * 2], cell[3], characters[1], x = 0;
@@ -114,6 +138,7 @@ int main(void) {
     making();
     joining();
     asking();
+    emptying();
     small();
     for (i = 0; i <= 11; i++)
         for (k = 0; k < i; k++)

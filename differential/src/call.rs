@@ -19,9 +19,10 @@ pub enum Call {
     Step { known: Vec<u32>, equation: u32, guard: i32 },
     NfEqual { lhs: Vec<u32>, rhs: Vec<u32> },
     NfEqualExplain { lhs: Vec<u32>, rhs: Vec<u32> },
+    EmptyParts { lhs: Vec<u32>, rhs: Vec<u32> },
 }
 
-pub const NAMES: [&str; 14] = [
+pub const NAMES: [&str; 15] = [
     "audit",
     "make_constant",
     "make_variable",
@@ -36,6 +37,7 @@ pub const NAMES: [&str; 14] = [
     "step",
     "nf_equal",
     "nf_equal_explain",
+    "empty_parts",
 ];
 
 impl Call {
@@ -55,6 +57,7 @@ impl Call {
             Call::Step { .. } => 11,
             Call::NfEqual { .. } => 12,
             Call::NfEqualExplain { .. } => 13,
+            Call::EmptyParts { .. } => 14,
         }
     }
 
@@ -63,7 +66,7 @@ impl Call {
     }
 
     pub fn answers_a_list(&self) -> bool {
-        (8..=11).contains(&self.number())
+        matches!(self.number(), 8..=11 | 14)
     }
 
     pub fn has_answer_words(&self) -> bool {
@@ -75,7 +78,10 @@ impl Call {
         match self {
             Call::MakeConcatenation { parts } => vec![parts],
             Call::NormalForm { known, .. } | Call::DeepNormalForm { known, .. } | Call::Step { known, .. } => vec![known],
-            Call::ResolveEquation { lhs, rhs, .. } | Call::NfEqual { lhs, rhs } | Call::NfEqualExplain { lhs, rhs } => vec![lhs, rhs],
+            Call::ResolveEquation { lhs, rhs, .. }
+            | Call::NfEqual { lhs, rhs }
+            | Call::NfEqualExplain { lhs, rhs }
+            | Call::EmptyParts { lhs, rhs } => vec![lhs, rhs],
             _ => vec![],
         }
     }
@@ -141,6 +147,7 @@ impl Outcome {
         match call {
             Call::Audit | Call::Explain { .. } | Call::NfEqualExplain { .. } => (0, 0),
             Call::NormalForm { .. } | Call::DeepNormalForm { .. } => (2, word(1)),
+            Call::EmptyParts { .. } => (3, word(0)),
             Call::ResolveEquation { .. } | Call::Step { .. } => match self.answer[0] {
                 PROPAGATE => (4, 0),
                 SPLIT => (3, word(1)),

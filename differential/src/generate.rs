@@ -114,7 +114,7 @@ fn equation(random: &mut Random, d: &mut Draft, strings: &[u32]) {
     d.add(Spec::Equation(a, b));
 }
 
-fn merges(random: &mut Random, d: &mut Draft, tries: usize) {
+pub(crate) fn merges(random: &mut Random, d: &mut Draft, tries: usize) {
     let strings = d.strings();
     if strings.is_empty() {
         return;
@@ -189,7 +189,7 @@ fn highest_stamp(d: &Draft, a: u32, b: u32) -> Option<u32> {
     walk(d, a, b, 0, None).expect("one class")
 }
 
-fn loose_ends(random: &mut Random, d: &mut Draft) {
+pub(crate) fn loose_ends(random: &mut Random, d: &mut Draft) {
     let strings = d.strings();
     for _ in 0..*random.pick(&[0, 0, 1, 3]) {
         d.reasons.push((random.between(1, 2) as u32, random.below(10) as u32));
@@ -363,6 +363,24 @@ fn full(random: &mut Random) -> Draft {
     d
 }
 
+fn reason(label: Label) -> Option<Pair> {
+    match label {
+        Label::Asserted(n) => Some((1, n)),
+        Label::Interface(n) => Some((2, n)),
+        _ => None,
+    }
+}
+
+/// Some reasons of merges come in, which explanations then find in the list; some twice.
+pub fn hand_in(random: &mut Random, d: &mut Draft) {
+    let merges: Vec<Pair> = d.edges.iter().filter_map(|e| reason(e.label)).collect();
+    if !merges.is_empty() && d.reasons.len() < 64 {
+        for _ in 0..*random.pick(&[0, 0, 1, 2, 4, 8]) {
+            d.reasons.push(*random.pick(&merges));
+        }
+    }
+}
+
 /// The inputs that cost most time: a name, a store that passes the audit, and a call.
 pub fn worst() -> Vec<(&'static str, Lent, Call)> {
     let resolve = |lhs: Vec<u32>, rhs: Vec<u32>| Call::ResolveEquation { lhs, rhs, guard: 1 };
@@ -427,11 +445,66 @@ pub fn worst() -> Vec<(&'static str, Lent, Call)> {
     let known = [concats, vec![ws[249]; 1024 - 120]].concat();
     list.push(("deep form: a known list of 1,024 for each of 121 forms", s, Call::DeepNormalForm { known, t }));
 
+    let (s, step) = repeating(|i| 1 + i, REASONS - 368);
+    list.push(("step: 248 reasons, each met 122,880 times on either side", s, step));
+    let (s, step) = repeating(|_| 1, REASONS - 1);
+    list.push(("the same with one reason for all merges, and room for one", s, step));
+
+    let (s, form) = through_congruence(240, 600);
+    list.push(("normal form: 1,024 atoms, each \"\" by a congruence of 600 pairs with paths of about 200 edges", s, form));
+
     let d = doubled(&mut random, 10, 1);
     list.push(("normal form: 2^10 atoms and one", lay_out(&d), Call::NormalForm { known: vec![], t: d.count() - 3 }));
     let d = doubled(&mut random, 200, 1);
     list.push(("normal form: 2^200 atoms", lay_out(&d), Call::NormalForm { known: vec![], t: d.count() - 3 }));
     list
+}
+
+// A chain of 248 variables merged with ""; 120 concatenations of 1,024 times its last one, each merged with a variable; an equation between
+// two concatenations of these. The merges are 368, asserted by the numbers given; so many other reasons come in.
+fn repeating(number: impl Fn(u32) -> u32, incoming: usize) -> (Lent, Call) {
+    let mut d = Draft { layout: 0, spare: [4, 4, 40, REASONS - incoming, 4], ..Draft::default() };
+    let mut merges = 0;
+    let mut merge = |d: &mut Draft, a: u32, b: u32| {
+        d.merge(a, b, Label::Asserted(number(merges)));
+        merges += 1;
+    };
+    let empty = d.constant("");
+    let xs: Vec<u32> = (0..248).map(|i| d.variable(&format!("x{i}"))).collect();
+    let chain = [&[empty][..], &xs].concat();
+    chain.windows(2).for_each(|pair| merge(&mut d, pair[1], pair[0]));
+    let half = (0..9).fold(xs[247], |t, _| d.concat(&[t, t]));
+    let concats: Vec<u32> = (0..120).map(|_| d.concat(&[half, half])).collect();
+    let ys: Vec<u32> = (0..120).map(|i| d.variable(&format!("y{i}"))).collect();
+    ys.iter().zip(&concats).for_each(|(&y, &c)| merge(&mut d, y, c));
+    let (t, u) = (d.concat(&ys), d.concat(&ys));
+    let equation = d.add(Spec::Equation(t, u));
+    d.reasons = (0..incoming as u32).map(|n| (2, n)).collect();
+    let mut s = lay_out(&d);
+    // a class tree as deep as the forest
+    for pair in chain.windows(2) {
+        s.terms[8 * pair[1] as usize + 3] = pair[0];
+    }
+    let known = [vec![empty], concats].concat();
+    (s, Call::Step { known, equation, guard: 1 })
+}
+
+// A concatenation of 1,024 times x; x is "" by a congruence, each of its pairs another one of the two ends of a chain of variables.
+fn through_congruence(variables: usize, pairs: usize) -> (Lent, Call) {
+    let mut d = Draft { layout: 0, spare: [4, 4, 40, variables, 4], ..Draft::default() };
+    let vs: Vec<u32> = (0..variables).map(|i| d.variable(&format!("v{i}"))).collect();
+    for (i, pair) in vs.windows(2).enumerate() {
+        d.merge(pair[0], pair[1], Label::Asserted(i as u32));
+    }
+    let end = variables / 8;
+    let (lefts, rights): (Vec<u32>, Vec<u32>) = (0..pairs).map(|i| (vs[i % end], vs[variables - 1 - i / end])).unzip();
+    let (a, b) = (d.concat(&lefts), d.concat(&rights));
+    d.edges.push(Edge { a, b, label: Label::Congruence, stamp: 1 });
+    let (x, empty) = (d.variable("x"), d.constant(""));
+    d.merge(x, a, Label::Definitional);
+    d.merge(b, empty, Label::Definitional);
+    let t = (0..10).fold(x, |t, _| d.concat(&[t, t]));
+    (lay_out(&d), Call::NormalForm { known: vec![empty], t })
 }
 
 fn list(random: &mut Random, strings: &[u32], longest: usize) -> Vec<u32> {
@@ -520,6 +593,34 @@ fn shaped_lists(random: &mut Random, s: &Lent, strings: &[u32]) -> (Vec<u32>, Ve
     }
 }
 
+/// Lists for document 02's Note 3: nothing against variables and concatenations of variables, and lists that just miss that form.
+fn label_lists(random: &mut Random, s: &Lent, strings: &[u32]) -> (Vec<u32>, Vec<u32>) {
+    let mut of_variables = vec![false];
+    for t in 1..=s.count() {
+        of_variables.push(match s.kind(t) {
+            VARIABLE => true,
+            CONCATENATION => s.parts(t).iter().all(|&p| of_variables[p as usize]),
+            _ => false,
+        });
+    }
+    let parts: Vec<u32> = strings.iter().copied().filter(|&t| of_variables[t as usize]).collect();
+    if parts.is_empty() {
+        return two_lists(random, s, strings);
+    }
+    let mut lhs = vec![];
+    let mut rhs: Vec<u32> = (0..*random.pick(&[0, 1, 2, 2, 3, 4, 6, 9])).map(|_| *random.pick(&parts)).collect();
+    match random.below(8) {
+        0 => rhs.insert(random.below(rhs.len() + 1), *random.pick(strings)),
+        1 => lhs.push(*random.pick(strings)),
+        _ => {}
+    }
+    if random.one_in(2) {
+        (lhs, rhs)
+    } else {
+        (rhs, lhs)
+    }
+}
+
 fn guard(random: &mut Random) -> i32 {
     match random.below(30) {
         0 => 0,
@@ -592,6 +693,14 @@ pub fn call(random: &mut Random, s: &Lent, kind: usize) -> Call {
                 Call::NfEqualExplain { lhs, rhs }
             }
         }
+        14 => {
+            let (lhs, rhs) = match random.below(6) {
+                0 => two_lists(random, s, &strings),
+                1 => shaped_lists(random, s, &strings),
+                _ => label_lists(random, s, &strings),
+            };
+            Call::EmptyParts { lhs, rhs }
+        }
         _ => unreachable!(),
     }
 }
@@ -634,6 +743,11 @@ pub fn long_request(random: &mut Random, s: &Lent, kind: usize) -> Request {
     for l in r.call.lists_mut() {
         let mut m: Vec<u32> = (0..n).map(|_| *random.pick(&from)).collect();
         std::mem::swap(l, &mut m);
+    }
+    if let Call::EmptyParts { lhs, rhs } = &mut r.call {
+        if random.one_in(2) {
+            *if random.one_in(2) { lhs } else { rhs } = vec![];
+        }
     }
     r
 }

@@ -8,6 +8,7 @@ pub mod compare;
 pub mod count;
 pub mod damage;
 pub mod draft;
+pub mod empties;
 pub mod generate;
 pub mod lent;
 pub mod lists;

@@ -7,12 +7,12 @@ use differential::{
     compare::difference,
     damage,
     draft::{lay_out, Draft},
-    generate,
+    empties, generate,
     lent::Lent,
     lists,
     marks::{self, Act, Marked, Told},
     model,
-    oracle::{self, Mode},
+    oracle::{self, Answer, Mode},
     random::Random,
     shrink, speed, trails, vectors,
 };
@@ -65,7 +65,7 @@ struct Options {
 
 fn usage() -> ! {
     eprintln!(
-        "differential compare|damaged|claims|lists|trails|faults|vectors|speed|count|pace|pace-count|worst|stack [--seed S] [--count N] [--from ROUND] [--threads T] [--kinds A,B] [--of port|model|rust] [--out FOLDER]"
+        "differential compare|damaged|claims|lists|trails|empties|faults|vectors|speed|count|pace|pace-count|worst|stack [--seed S] [--count N] [--from ROUND] [--threads T] [--kinds A,B] [--of port|model|rust] [--out FOLDER]"
     );
     exit(2);
 }
@@ -119,6 +119,11 @@ struct Tally {
     passed: u64,
     occurrence: u64,
     forced: u64,
+    /// by call: answered, and refused under 7 if reasons were repeated
+    seven: [u64; NAMES.len()],
+    /// the same, but refused under another number
+    seven_otherwise: u64,
+    held_back: u64,
     stood: u64,
     untried: u64,
     differences: u64,
@@ -135,6 +140,9 @@ impl Tally {
         self.passed += other.passed;
         self.occurrence += other.occurrence;
         self.forced += other.forced;
+        sum(&mut self.seven, &other.seven);
+        self.seven_otherwise += other.seven_otherwise;
+        self.held_back += other.held_back;
         self.stood += other.stood;
         self.untried += other.untried;
         self.differences += other.differences;
@@ -150,6 +158,28 @@ impl Tally {
                 _ => {}
             }
         }
+    }
+
+    fn met_once(&mut self, call: &Call, a: &Answer) {
+        if a.once.seven {
+            match a.outcome.code {
+                0 => self.seven[call.number()] += 1,
+                7 => {}
+                _ => self.seven_otherwise += 1,
+            }
+        }
+        self.held_back += a.once.held_back as u64;
+    }
+
+    fn print_once(&self) {
+        let each: Vec<String> = NAMES.iter().zip(self.seven).filter(|x| x.1 > 0).map(|(name, n)| format!("{name} {n}")).collect();
+        println!(
+            "refused under 7 if reasons were repeated: {} answered ({}), {} refused under another number; {} Splits held back by reasons that were listed already",
+            self.seven.iter().sum::<u64>(),
+            each.join(" "),
+            self.seven_otherwise,
+            self.held_back
+        );
     }
 
     fn print_calls(&self) {
@@ -197,7 +227,9 @@ fn draft(i: u64, random: &mut Random) -> Draft {
         generate::at_limits(random)
     } else {
         let p = generate::profile(random);
-        generate::draft(random, p)
+        let mut d = generate::draft(random, p);
+        generate::hand_in(random, &mut d);
+        d
     }
 }
 
@@ -251,6 +283,7 @@ fn compare(o: &Options) -> Tally {
             tally.passed += a.departures.passed as u64;
             tally.occurrence += a.departures.occurrence as u64;
             tally.forced += a.departures.forced as u64;
+            tally.met_once(&r.call, &a);
             if let Some(what) = difference(&s, &r, &a.outcome, &got) {
                 tally.differences += 1;
                 if tally.differences <= PRINTED {
@@ -260,6 +293,7 @@ fn compare(o: &Options) -> Tally {
         }
     });
     tally.print_calls();
+    tally.print_once();
     let c = &tally.codes;
     println!(
         "{} calls compared, {} that the port lacks; refused before work: {} {} {} {} {} (1 to 5); departures met: {} (A: {} no Conflict, {} occurrence explained; B: {}); limits met: {} ({} {} {} {}, 6 to 9); {} differences",
@@ -327,7 +361,9 @@ fn damaged(o: &Options) -> Tally {
 
 fn small_draft(random: &mut Random) -> Draft {
     let p = generate::Profile { terms: random.between(3, 9), merges: random.between(2, 12), letters: 2, longest: 2 };
-    generate::draft(random, p)
+    let mut d = generate::draft(random, p);
+    generate::hand_in(random, &mut d);
+    d
 }
 
 // demand 3 by trying
@@ -392,6 +428,24 @@ fn damaged_trails(o: &Options) -> trails::Tally {
     println!("{} trails to list without gaps", bases.len());
     let tally = rounds(o, trails::Tally::add, |i, random, tally| {
         if let Err(what) = trails::round(i, &bases, random, &by, tally) {
+            tally.differences += 1;
+            if tally.differences <= PRINTED {
+                println!("round {i}: {what}");
+            }
+        }
+    });
+    tally.print();
+    tally
+}
+
+// every empty part in one call, first on the small stores that are listed without gaps
+fn empty_parts(o: &Options) -> empties::Tally {
+    let of = o.of;
+    let by = lists::Answering { call: &move |s, r| of.run(s, r), act: &move |s, a, n| of.act(s, a, n) };
+    let small = empties::small();
+    println!("{} small stores to list without gaps", small.len());
+    let tally = rounds(o, empties::Tally::add, |i, random, tally| {
+        if let Err(what) = empties::round(i, &small, random, &by, tally) {
             tally.differences += 1;
             if tally.differences <= PRINTED {
                 println!("round {i}: {what}");
@@ -469,6 +523,10 @@ fn main() {
         }
         "trails" => {
             let t = damaged_trails(&o);
+            t.differences + t.absent
+        }
+        "empties" => {
+            let t = empty_parts(&o);
             t.differences + t.absent
         }
         "faults" => return faults(&o),

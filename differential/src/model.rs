@@ -1,6 +1,6 @@
-//! The port's calls once more, written from document 01 alone, departures and limits included. It shares no code with the unchanged
-//! Rust or with the oracle but the argument checks, so that a difference between the two shows where document 01 and the Rust part,
-//! and the comparison can be tried where the port's library is not at hand.
+//! The port's calls once more, written from document 01 and document 02's Notes 3 and 4 alone, departures and limits included. It shares no code
+//! with the unchanged Rust or with the oracle but the argument checks, so that a difference between the two shows where the documents and
+//! the Rust part, and the comparison can be tried where the port's library is not at hand.
 
 use crate::{call::*, lent::*, oracle::refused_at_entry};
 use std::collections::HashSet;
@@ -13,7 +13,7 @@ pub fn run(s: &Lent, request: &Request) -> Outcome {
     if outcome.code != 0 {
         return outcome;
     }
-    let mut m = Model { s: s.clone(), room: s.room() };
+    let mut m = Model { s: s.clone(), room: s.room(), held: s.reason_list().into_iter().collect() };
     match m.call(&request.call) {
         Ok((answer, list)) => {
             outcome.answer[..answer.len()].copy_from_slice(&answer);
@@ -28,6 +28,8 @@ pub fn run(s: &Lent, request: &Request) -> Outcome {
 struct Model {
     s: Lent,
     room: [usize; 5],
+    /// the list's reasons; none is added once some were taken back
+    held: HashSet<Pair>,
 }
 
 enum Case {
@@ -71,6 +73,7 @@ impl Model {
                 let equal = lhs.len() == rhs.len() && lhs.iter().zip(rhs).all(|(&a, &b)| self.same(a, b));
                 one(equal as u32)
             }
+            Call::EmptyParts { lhs, rhs } => self.empty_parts(lhs, rhs)?,
             Call::NfEqualExplain { lhs, rhs } => {
                 for (&a, &b) in lhs.iter().zip(rhs) {
                     let equal_texts = self.is_constant(a) && self.is_constant(b) && self.s.text(a) == self.s.text(b);
@@ -158,35 +161,35 @@ impl Model {
         self.s.class_root(a) == self.s.class_root(b)
     }
 
-    fn explain(&mut self, a: u32, b: u32) -> Work<()> {
-        self.pair(a, b, &mut HashSet::new())
+    // adds what the list lacks; whether the explanation has a reason, listed or not
+    fn explain(&mut self, a: u32, b: u32) -> Work<bool> {
+        let mut reasons = vec![];
+        self.pair(a, b, &mut HashSet::new(), &mut reasons);
+        for &r in &reasons {
+            if !self.held.contains(&r) {
+                self.has_room(3, 1, 7)?;
+                self.s.add_reason(r);
+                self.held.insert(r);
+            }
+        }
+        Ok(!reasons.is_empty())
     }
 
-    fn pair(&mut self, a: u32, b: u32, seen: &mut HashSet<Pair>) -> Work<()> {
-        if a == b || !seen.insert((a.min(b), a.max(b))) {
-            return Ok(());
+    fn pair(&self, a: u32, b: u32, seen: &mut HashSet<Pair>, reasons: &mut Vec<Pair>) {
+        if a != b && seen.insert((a.min(b), a.max(b))) {
+            for child in self.s.path(a, b).expect("one tree") {
+                self.edge(child, seen, reasons);
+            }
         }
-        for child in self.s.path(a, b).expect("one tree") {
-            self.edge(child, seen)?;
-        }
-        Ok(())
     }
 
-    fn edge(&mut self, child: u32, seen: &mut HashSet<Pair>) -> Work<()> {
+    fn edge(&self, child: u32, seen: &mut HashSet<Pair>, reasons: &mut Vec<Pair>) {
         let r = self.s.term(child);
         match r.label_kind {
-            1 | 2 => {
-                self.has_room(3, 1, 7)?;
-                self.s.add_reason((r.label_kind, r.label_value));
-            }
-            3 => {
-                for (a, b) in self.s.chain(r.label_value) {
-                    self.pair(a, b, seen)?;
-                }
-            }
+            1 | 2 => reasons.push((r.label_kind, r.label_value)),
+            3 => self.s.chain(r.label_value).into_iter().for_each(|(a, b)| self.pair(a, b, seen, reasons)),
             _ => {}
         }
-        Ok(())
     }
 
     // -- normalize --
@@ -355,17 +358,17 @@ impl Model {
     }
 
     fn steps(&mut self, lhs: &[u32], rhs: &[u32]) -> Work<Case> {
-        let incoming = self.s.state[3];
         // 1
         let (mut l, mut r) = (lhs, rhs);
+        let mut explained = false;
         while let ([a, more_l @ ..], [b, more_r @ ..]) = (l, r) {
-            if !self.strip(*a, *b)? {
+            if !self.strip(*a, *b, &mut explained)? {
                 break;
             }
             (l, r) = (more_l, more_r);
         }
         while let ([more_l @ .., a], [more_r @ .., b]) = (l, r) {
-            if !self.strip(*a, *b)? {
+            if !self.strip(*a, *b, &mut explained)? {
                 break;
             }
             (l, r) = (more_l, more_r);
@@ -417,8 +420,8 @@ impl Model {
             let differ = self.s.text(a).iter().zip(self.s.text(b)).any(|(x, y)| x != y);
             return Ok(if differ { Case::Conflict } else { Case::Done });
         }
-        // 7
-        if self.s.state[3] > incoming {
+        // 7: 'a stripped class match has a non-empty explanation of its own'
+        if explained {
             return Ok(Case::Saturated);
         }
         let key = (a.min(b), a.max(b));
@@ -430,12 +433,12 @@ impl Model {
         self.split(a, b)
     }
 
-    fn strip(&mut self, a: u32, b: u32) -> Work<bool> {
+    fn strip(&mut self, a: u32, b: u32, explained: &mut bool) -> Work<bool> {
         if !self.same(a, b) {
             return Ok(false);
         }
         if a != b && !(self.is_constant(a) && self.is_constant(b)) {
-            self.explain(a, b)?;
+            *explained |= self.explain(a, b)?;
         }
         Ok(true)
     }
@@ -471,6 +474,26 @@ impl Model {
             }
         }
         Ok(None)
+    }
+
+    // document 02's Note 3
+    fn empty_parts(&mut self, lhs: &[u32], rhs: &[u32]) -> Work<(Vec<u32>, Vec<u32>)> {
+        let mut flat = [vec![], vec![]];
+        for (list, flat) in [lhs, rhs].into_iter().zip(&mut flat) {
+            list.iter().try_for_each(|&t| self.flatten(t, flat))?;
+        }
+        let variables = match [&flat[0][..], &flat[1][..]] {
+            [[], vs] | [vs, []] if vs.len() >= 2 && vs.iter().all(|&t| self.s.kind(t) == VARIABLE) => vs,
+            _ => return Ok((vec![0, 0, 0], vec![])),
+        };
+        let empty = self.make_constant(&[])?;
+        let mut listed: Vec<u32> = vec![];
+        for &v in variables {
+            if !self.one_class(v, empty) && !listed.iter().any(|&u| self.one_class(v, u)) {
+                listed.push(v);
+            }
+        }
+        Ok((vec![listed.len() as u32, empty, !listed.is_empty() as u32], listed))
     }
 
     // step 5: the variable places of a side that no word for the one class makes equal to the constant side

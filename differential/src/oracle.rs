@@ -16,7 +16,7 @@ use shinri_str::{
 };
 use shinri_theory::{
     eq_engine::LentLabel,
-    types::{reasons_left, EqLeaf},
+    types::{count_reasons, leave_reasons, made, EqJust, EqLeaf, Made},
     EqualityEngine,
 };
 use std::panic::{catch_unwind, resume_unwind, AssertUnwindSafe};
@@ -40,10 +40,20 @@ pub enum Mode {
     Departing,
 }
 
+/// What it changes that a list takes each reason once.
+#[derive(Clone, Copy, PartialEq, Eq, Debug, Default)]
+pub struct Once {
+    /// with its repetitions the list would have been full: refusal 7 without Note 4
+    pub seven: bool,
+    /// a Split is held back by a stripped match, and the list had all reasons of such matches
+    pub held_back: bool,
+}
+
 #[derive(Clone, PartialEq, Eq, Debug)]
 pub struct Answer {
     pub outcome: Outcome,
     pub departures: Departures,
+    pub once: Once,
 }
 
 pub fn find(s: &Lent, t: u32) -> Answer {
@@ -108,22 +118,23 @@ fn arguments(s: &Lent, call: &Call) -> bool {
             let e = *equation;
             strings(known) && s.kind(e) == EQUATION && s.is_string(s.term(e).first) && guarded(*guard)
         }
-        Call::NfEqual { lhs, rhs } => strings(lhs) && strings(rhs),
+        Call::NfEqual { lhs, rhs } | Call::EmptyParts { lhs, rhs } => strings(lhs) && strings(rhs),
         Call::NfEqualExplain { lhs, rhs } => strings(lhs) && strings(rhs) && lhs.len() == rhs.len(),
     }
 }
 
 pub fn run(s: &Lent, request: &Request, mode: Mode) -> Answer {
     let code = refused_at_entry(s, request);
-    let idle = |code, departures| Answer { outcome: Outcome::idle(s, request, code), departures };
+    let idle = |code, departures, once| Answer { outcome: Outcome::idle(s, request, code), departures, once };
     if code != 0 || request.call == Call::Audit {
-        return idle(code, Departures::default());
+        return idle(code, Departures::default(), Once::default());
     }
     let mut world = World::load(s);
     let ran = catch_unwind(AssertUnwindSafe(|| work(&mut world, s, &request.call, mode)));
+    let once = Once { seven: made().all > s.room()[3] - s.state[3] as usize, held_back: world.held_back };
     // a key is added before any term is made, so a key too many was met first
     if world.keys.len() > world.entry_keys.len() && s.state[4] as usize >= s.room()[4] {
-        return idle(8, world.departures);
+        return idle(8, world.departures, once);
     }
     match ran {
         Ok((answer, list)) => {
@@ -131,10 +142,10 @@ pub fn run(s: &Lent, request: &Request, mode: Mode) -> Answer {
             outcome.answer[..answer.len()].copy_from_slice(&answer);
             outcome.list[..list.len()].copy_from_slice(&list);
             world.unload(&mut outcome.exit);
-            Answer { outcome, departures: world.departures }
+            Answer { outcome, departures: world.departures, once }
         }
         Err(payload) => match payload.downcast::<Refusal>() {
-            Ok(refusal) => idle(refusal.0, world.departures),
+            Ok(refusal) => idle(refusal.0, world.departures, once),
             Err(other) => resume_unwind(other),
         },
     }
@@ -149,6 +160,7 @@ pub struct World {
     pub names: u32,
     entry_keys: FxHashSet<(TermId, TermId)>,
     departures: Departures,
+    held_back: bool,
 }
 
 pub fn id(t: u32) -> TermId {
@@ -195,15 +207,15 @@ impl World {
             };
             eq.lend(r.class_parent, r.forest_parent, label);
         }
-        let reasons = s.reason_list().into_iter().map(|(kind, number)| EqLeaf { kind, number }).collect();
+        let reasons: Vec<EqLeaf> = s.reason_list().into_iter().map(|(kind, number)| EqLeaf { kind, number }).collect();
         let keys: FxHashSet<_> = s.key_list().into_iter().map(|(a, b)| (id(a), id(b))).collect();
-        reasons_left(left(3));
-        World { terms, eq, reasons, entry_keys: keys.clone(), keys, names: s.state[5], departures: Departures::default() }
+        count_reasons(&reasons, left(3));
+        World { terms, eq, reasons, entry_keys: keys.clone(), keys, names: s.state[5], departures: Departures::default(), held_back: false }
     }
 
     /// One call of the unchanged Rust, and back to the store as it was lent: for timing. Refusals are not looked for.
     pub fn timed(&mut self, s: &Lent, call: &Call) {
-        reasons_left(usize::MAX);
+        leave_reasons();
         let ran = catch_unwind(AssertUnwindSafe(|| std::hint::black_box(work(self, s, call, Mode::Unchanged))));
         drop(ran);
         let room = s.room();
@@ -245,8 +257,13 @@ impl World {
                 }
             }
         }
-        for r in &self.reasons[exit.state[3] as usize..] {
-            exit.add_reason((r.kind, r.number));
+        // 'after dropping each reason that its list already held'; what came in stays as it is
+        let (incoming, more) = self.reasons.split_at(exit.state[3] as usize);
+        let mut held: FxHashSet<EqLeaf> = incoming.iter().copied().collect();
+        for &r in more {
+            if held.insert(r) {
+                exit.add_reason((r.kind, r.number));
+            }
         }
         // one call adds one key at most
         for k in self.keys.difference(&self.entry_keys) {
@@ -339,6 +356,7 @@ fn work(w: &mut World, s: &Lent, call: &Call, mode: Mode) -> Words {
             wordeq::nf_equal_explain(&mut w.terms, &mut w.eq, &ids(lhs), &ids(rhs), &mut w.reasons);
             (vec![], vec![])
         }
+        Call::EmptyParts { lhs, rhs } => repeated(w, &ids(lhs), &ids(rhs)),
     }
 }
 
@@ -369,23 +387,59 @@ fn answered(w: &mut World, lhs: &[TermId], rhs: &[TermId], guard: i32, mode: Mod
     (answer, list)
 }
 
-fn resolve(w: &mut World, lhs: &[TermId], rhs: &[TermId], guard: Lit, mode: Mode) -> StepResult {
-    let flattens = lhs.iter().chain(rhs).any(|&t| w.is_concat(t));
-    if flattens {
-        for side in [lhs, rhs] {
-            if side.iter().map(|&t| w.terms.atoms(t) as u64).sum::<u64>() > shinri_core::LIST as u64 {
-                refuse(6);
-            }
+/// Whether a list has a concatenation; refusal 6 where a flattened list has too many atoms.
+fn flattens(w: &World, lhs: &[TermId], rhs: &[TermId]) -> bool {
+    for side in [lhs, rhs] {
+        if side.iter().map(|&t| w.terms.atoms(t) as u64).sum::<u64>() > shinri_core::LIST as u64 {
+            refuse(6);
         }
     }
+    lhs.iter().chain(rhs).any(|&t| w.is_concat(t))
+}
+
+/// Document 02's Note 3 by repetition: `resolve_equation` on the same two lists, and each Propagate's two terms merged in the engine before the
+/// next call, up to a call that gives no Propagate. Lists of another form are not asked about: 'for other lists it only returns none'.
+fn repeated(w: &mut World, lhs: &[TermId], rhs: &[TermId]) -> Words {
+    flattens(w, lhs, rhs);
+    if !is_label(w, lhs, rhs) {
+        return (vec![0, 0, 0], vec![]);
+    }
+    let mut listed = vec![];
+    while let StepResult::Propagate { var, word, just, link_len } = unchanged(w, lhs, rhs, Lit::new(1)) {
+        // a call that propagates has made ""
+        assert!(link_len && just == w.reasons && word == w.terms.mk_string_const(""), "a Propagate of another step");
+        let (v, e) = (w.eq.intern(var), w.eq.intern(word));
+        assert!(!w.eq.are_equal(v, e), "a Propagate of terms in one class");
+        assert!(w.eq.merge(v, e, EqJust::Asserted(Lit::new(1))).is_ok(), "no disequality was asserted");
+        listed.push(var);
+    }
+    // and so has one that finds them all there
+    let count = w.terms.count();
+    let empty = w.terms.mk_string_const("");
+    assert_eq!(w.terms.count(), count, "an ordinary call that does not make \"\"");
+    (vec![listed.len() as u32, empty.number(), !listed.is_empty() as u32], numbers(&listed))
+}
+
+/// 'one flattened list is empty and the other is two or more variables'
+fn is_label(w: &World, lhs: &[TermId], rhs: &[TermId]) -> bool {
+    let [l, r] = [lhs, rhs].map(|list| wordeq::flattened(&w.terms, list));
+    let one_empty = l.is_empty() || r.is_empty();
+    one_empty && l.len() + r.len() >= 2 && l.iter().chain(&r).all(|&t| !w.is_constant(t))
+}
+
+fn resolve(w: &mut World, lhs: &[TermId], rhs: &[TermId], guard: Lit, mode: Mode) -> StepResult {
+    let flattens = flattens(w, lhs, rhs);
     if mode == Mode::Unchanged {
         return unchanged(w, lhs, rhs, guard);
     }
     let seen = look(w, lhs, rhs);
+    let before = made();
     let reported = match &seen.step {
         Seen::OccursOnce => {
             w.departures.passed += 1;
-            return passed(w, &seen, guard);
+            let result = passed(w, &seen, guard);
+            w.held_back = held_back(w, &seen, &result, before);
+            return result;
         }
         Seen::Occurs(pair) => {
             w.departures.occurrence += 1;
@@ -399,6 +453,7 @@ fn resolve(w: &mut World, lhs: &[TermId], rhs: &[TermId], guard: Lit, mode: Mode
         Seen::NoConflict => {
             let result = unchanged(w, lhs, rhs, guard);
             assert!(!matches!(result, StepResult::Conflict(_)), "a Conflict of no known step");
+            w.held_back = held_back(w, &seen, &result, before);
             return result;
         }
     };
@@ -415,6 +470,14 @@ fn resolve(w: &mut World, lhs: &[TermId], rhs: &[TermId], guard: Lit, mode: Mode
     } else {
         StepResult::Conflict(w.reasons.clone())
     }
+}
+
+// the Rust's own list grew over step 1, so that no Split follows; one without repetitions did not grow, and the key is free
+fn held_back(w: &World, seen: &Look, result: &StepResult, before: Made) -> bool {
+    let after = made();
+    let ([a, ..], [b, ..]) = (&seen.lhs[..], &seen.rhs[..]) else { return false };
+    let key = (*a.min(b), *a.max(b));
+    matches!(result, StepResult::Saturated) && after.all > before.all && after.new == before.new && !w.keys.contains(&key)
 }
 
 fn unchanged(w: &mut World, lhs: &[TermId], rhs: &[TermId], guard: Lit) -> StepResult {

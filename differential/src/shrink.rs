@@ -48,6 +48,13 @@ fn smaller_drafts(d: &Draft, call: &Call) -> Vec<(Draft, Call)> {
     }
     if !d.reasons.is_empty() {
         list.push(same(Draft { reasons: vec![], ..d.clone() }));
+        // halves of a long list, one less of a short one
+        let n = d.reasons.len();
+        let part = n.div_ceil(if n > 16 { 2 } else { n });
+        for i in (0..n).step_by(part) {
+            let reasons = [&d.reasons[..i], &d.reasons[(i + part).min(n)..]].concat();
+            list.push(same(Draft { reasons, ..d.clone() }));
+        }
     }
     if !d.keys.is_empty() {
         list.push(same(Draft { keys: vec![], ..d.clone() }));

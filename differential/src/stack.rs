@@ -3,7 +3,7 @@
 use crate::{
     audit::audit,
     call::{Call, Request},
-    draft::{lay_out, Draft, Label, Spec},
+    draft::{lay_out, Draft, Edge, Label, Spec},
     generate,
     lent::{Lent, TERMS},
     marks::{Act, Marked, WORDS},
@@ -85,6 +85,25 @@ fn under_a_tower(height: usize) -> (Lent, [u32; 3]) {
     (lay_out(&d), [u, v, e])
 }
 
+// the same through a tower of 506 congruences, one term to a level: x is x ++ z, and each further t ++ z is congruent to t
+fn under_a_slim_tower() -> (Lent, [u32; 3]) {
+    let mut d = Draft { layout: 0, spare: [0, 8, 40, 2000, 8], ..Draft::default() };
+    let [x, z, u, v] = ["x", "z", "u", "v"].map(|n| d.variable(n));
+    let (mut below, mut top) = (x, d.concat(&[x, z]));
+    d.merge(x, top, Label::Asserted(1));
+    for stamp in 1..=506 {
+        let next = d.concat(&[top, z]);
+        d.edges.push(Edge { a: next, b: top, label: Label::Congruence, stamp });
+        (below, top) = (top, next);
+    }
+    d.merge(u, top, Label::Asserted(6));
+    d.merge(v, below, Label::Asserted(7));
+    let e = d.add(Spec::Equation(u, v));
+    // a layout that leaves few cells between the chains
+    d.layout = (0..200).find(|&layout| audit(&lay_out(&Draft { layout, ..d.clone() })) == 0).expect("a layout that fits");
+    (lay_out(&d), [u, v, e])
+}
+
 // concatenations within each other
 fn nested(height: usize) -> (Lent, u32) {
     let mut d = Draft { layout: 0, spare: [4, 8, 40, 2000, 8], ..Draft::default() };
@@ -102,6 +121,10 @@ pub fn table() {
     for (name, store, call) in generate::worst() {
         tell(name, &store, call);
     }
+    let (store, [u, v, e]) = under_a_slim_tower();
+    let slim = "through a tower of 506 congruences, one term to a level";
+    tell(slim, &store, Call::Explain { a: u, b: v });
+    tell(slim, &store, Call::Step { known: vec![u], equation: e, guard: 1 });
     let (store, [u, v, e]) = under_a_tower(250);
     let tower = "through a tower of 250 congruences";
     tell(tower, &store, Call::Explain { a: u, b: v });

@@ -1,5 +1,5 @@
-//! Stored vectors: calls on audited stores with the answers of the unchanged Rust, as input and output of the program `answers`, so that
-//! the port can be held to the Rust where the Rust is not at hand.
+//! Stored vectors: calls on audited stores with the answers of the unchanged Rust, each reason dropped that its list held, as input and output
+//! of the program `answers`, so that the port can be held to the Rust where the Rust is not at hand.
 
 use crate::{
     audit::audit,
@@ -7,7 +7,7 @@ use crate::{
     draft::{lay_out, Draft, Label, Spec},
     generate::{self, Profile},
     lent::*,
-    oracle::{self, Departures, Mode},
+    oracle::{self, Answer, Departures, Mode},
     random::Random,
     script::{Script, CASES, READ},
 };
@@ -67,7 +67,7 @@ struct Drawing {
 pub fn draw(seed: u64, count: u64) -> (Vec<File>, Tally) {
     let mut tally = Tally::default();
     let mut files = vec![];
-    for (number, name) in NAMES[6..].iter().copied().chain(["kept", "limits"]).enumerate() {
+    for (number, name) in NAMES[6..=13].iter().copied().chain(["kept", "limits"]).enumerate() {
         let file = File { name, commands: String::new(), printed: String::new() };
         let mut drawing = Drawing { file, stores: 0, tally };
         for i in 0..STORES {
@@ -87,7 +87,7 @@ pub fn draw(seed: u64, count: u64) -> (Vec<File>, Tally) {
 }
 
 /// Cases that are to be there, each as the start of a case's name.
-const DUE: [&str; 63] = [
+const DUE: [&str; 68] = [
     "find: root, 0",
     "find: root, 1",
     "find: root, 3",
@@ -133,6 +133,11 @@ const DUE: [&str; 63] = [
     "limits, reasons: resolve_equation: refused 7",
     "limits, reasons: step: refused 7",
     "limits, reasons: nf_equal_explain: refused 7",
+    "limits, reasons: explain: room for each once",
+    "limits, reasons: normal_form: room for each once",
+    "limits, reasons: deep_normal_form: room for each once",
+    "limits, reasons: step: room for each once",
+    "limits, reasons: nf_equal_explain: room for each once",
     "limits, terms: normal_form: refused 8",
     "limits, terms: resolve_equation: refused 8",
     "limits, terms: step: refused 8",
@@ -237,7 +242,7 @@ fn labels(s: &Lent, a: u32, b: u32) -> String {
 
 impl Drawing {
     /// The outcome of the unchanged Rust, but for the calls that are left out: where a departure applies, and where an argument is refused.
-    fn outcome(&mut self, s: &Lent, call: &Call) -> Option<Outcome> {
+    fn answer(&mut self, s: &Lent, call: &Call) -> Option<Answer> {
         assert_eq!(audit(s), 0, "{}: a store that should pass", self.file.name);
         let r = Request::new(call.clone());
         let met = oracle::run(s, &r, Mode::Departing).departures;
@@ -245,14 +250,14 @@ impl Drawing {
             self.tally.departing[(met.forced > 0) as usize] += 1;
             return None;
         }
-        let o = oracle::run(s, &r, Mode::Unchanged).outcome;
-        self.tally.arguments += (o.code == 5) as u64;
-        (o.code != 5).then_some(o)
+        let a = oracle::run(s, &r, Mode::Unchanged);
+        self.tally.arguments += (a.outcome.code == 5) as u64;
+        (a.outcome.code != 5).then_some(a)
     }
 
     // the same where the Rust's own run goes to its end
     fn finished(&mut self, s: &Lent, call: &Call) -> Option<Outcome> {
-        let o = self.outcome(s, call)?;
+        let o = self.answer(s, call)?.outcome;
         self.tally.limited += (o.code != 0) as u64;
         (o.code == 0).then_some(o)
     }
@@ -308,8 +313,9 @@ impl Drawing {
     fn at_limit(&mut self, random: &mut Random, count: u64) {
         let (sort, mut script, calls) = limited(random);
         for call in calls {
-            let Some(o) = self.outcome(&script.store, &call) else { continue };
+            let Some(Answer { outcome: o, once, .. }) = self.answer(&script.store, &call) else { continue };
             let (answer, count) = match o.code {
+                0 if once.seven => (format!("{}: room for each once", call.name()), count.div_ceil(2)),
                 0 if o.exit.state == script.store.state => continue,
                 0 if full(&o.exit, sort) && !full(&script.store, sort) => (format!("{}: the last taken", call.name()), count.div_ceil(2)),
                 0 => (format!("{}: added to", call.name()), count.div_ceil(4)),
@@ -326,7 +332,7 @@ impl Drawing {
     fn at_bound(&mut self, random: &mut Random, count: u64) {
         let (bound, mut script, calls) = bounded(random);
         for call in calls {
-            let Some(o) = self.outcome(&script.store, &call) else { continue };
+            let Some(Answer { outcome: o, .. }) = self.answer(&script.store, &call) else { continue };
             if self.wanted(format!("limits, {bound}: {}", answer(&call, &o)), count.div_ceil(4)) {
                 script.ask(&call, &o, false);
             }

@@ -61,7 +61,53 @@ fn unexpanded() {
     let o = run(&s, Call::Step { known: vec![az, x, y, z], equation: e, guard: 1 });
     assert_eq!((o.answer[0], o.exit.reason_list()), (UNEXPANDED, vec![]));
     let o = run(&s, Call::DeepNormalForm { known: vec![az], t });
-    assert_eq!((&o.answer[..2], o.exit.state[3]), (&[0, 0][..], 2));
+    assert_eq!((&o.answer[..2], o.exit.reason_list()), (&[0, 0][..], vec![(1, 1)]));
+}
+
+// document 02's Note 4: what the list has is not added, by kind and number; what came in stays as it is
+#[test]
+fn each_reason_once() {
+    let mut d = Draft::default();
+    let [x, y, z] = ["x", "y", "z"].map(|n| d.variable(n));
+    let empty = d.constant("");
+    d.merge(x, y, Label::Asserted(1));
+    d.merge(y, z, Label::Interface(1));
+    let explained = |incoming: &[Pair], room: usize| {
+        let mut d = Draft { reasons: incoming.to_vec(), layout: 0, ..d.clone() };
+        d.spare[3] = room;
+        let o = run(&lay_out(&d), Call::Explain { a: x, b: z });
+        (o.code, o.exit.reason_list())
+    };
+    let (a1, i1, a2) = ((1, 1), (2, 1), (1, 2));
+    assert_eq!(explained(&[], 2), (0, vec![a1, i1]));
+    assert_eq!(explained(&[], 1).0, 7);
+    assert_eq!(explained(&[a1], 1), (0, vec![a1, i1]));
+    assert_eq!(explained(&[i1], 1), (0, vec![i1, a1]));
+    assert_eq!(explained(&[i1, a2, a1], 0), (0, vec![i1, a2, a1]));
+    assert_eq!(explained(&[a2, a2, a1, a1], 1), (0, vec![a2, a2, a1, a1, i1]));
+    assert_eq!(explained(&[a2], 1).0, 7);
+    // room for one
+    let few = |d: &Draft, lhs: &[u32], rhs: &[u32]| {
+        let mut d = Draft { layout: 0, ..d.clone() };
+        d.spare[3] = 1;
+        resolve(&d, lhs, rhs)
+    };
+    assert_eq!(few(&d, &[x, x], &[y, y]), (vec![DONE], vec![]));
+    // [x, ""] = [y, x, x]: the match of x and y has a reason of its own, whether it came in or not; one number for both has none
+    assert_eq!(resolve(&d, &[x, empty], &[y, x, x]), (vec![SATURATED], vec![]));
+    d.reasons = vec![a1];
+    assert_eq!(resolve(&d, &[x, empty], &[y, x, x]), (vec![SATURATED], vec![a1]));
+    assert_eq!(resolve(&d, &[x, empty], &[x, y, y]), (vec![SPLIT, 3, -9i32 as u32], vec![a1]));
+}
+
+// a match by definitional merges alone has no reason, so that a Split follows
+#[test]
+fn no_reason_of_its_own() {
+    let mut d = Draft::default();
+    let [x, y] = ["x", "y"].map(|n| d.variable(n));
+    let empty = d.constant("");
+    d.merge(x, y, Label::Definitional);
+    assert_eq!(resolve(&d, &[x, empty], &[y, x, x]), (vec![SPLIT, 3, -9i32 as u32], vec![]));
 }
 
 // 256 and 257 atoms after the first form, after a round, and just after an atom's expansion

@@ -1,4 +1,4 @@
-//! Document 01, written anew, against the unchanged Rust with the departures laid on top.
+//! Document 01 and document 02's Note 4, written anew, against the unchanged Rust with the departures laid on top.
 
 use differential::{
     call::{Call, NAMES},
@@ -9,12 +9,14 @@ use differential::{
     random::Random,
 };
 
-// the results, the cases of wordeq and of the step, and the departures met
+// the results, the cases of wordeq and of the step, the departures met, calls answered that were refused under 7 if reasons were repeated,
+// and Splits held back by reasons that were listed already
 #[derive(Default)]
 struct Met {
     codes: [u32; 10],
     cases: [u32; 6],
     departures: [u32; 3],
+    once: [u32; 2],
 }
 
 fn compare(seed: u64, count: usize, limits: bool) -> Met {
@@ -25,7 +27,9 @@ fn compare(seed: u64, count: usize, limits: bool) -> Met {
             generate::at_limits(&mut random)
         } else {
             let p = generate::profile(&mut random);
-            generate::draft(&mut random, p)
+            let mut d = generate::draft(&mut random, p);
+            generate::hand_in(&mut random, &mut d);
+            d
         };
         let s = lay_out(&d);
         for kind in 0..NAMES.len() {
@@ -40,6 +44,8 @@ fn compare(seed: u64, count: usize, limits: bool) -> Met {
             if a.outcome.code == 0 && matches!(r.call, Call::ResolveEquation { .. } | Call::Step { .. }) {
                 met.cases[a.outcome.answer[0] as usize] += 1;
             }
+            met.once[0] += (a.once.seven && a.outcome.code == 0) as u32;
+            met.once[1] += a.once.held_back as u32;
             let d = a.departures;
             met.departures.iter_mut().zip([d.passed, d.occurrence, d.forced]).for_each(|(x, y)| *x += y);
             if let Some(what) = difference(&s, &r, &a.outcome, &b) {
@@ -53,8 +59,9 @@ fn compare(seed: u64, count: usize, limits: bool) -> Met {
 #[test]
 fn random_stores() {
     let met = compare(3, 4_000, false);
-    let all = [&met.codes[5..6], &met.codes[7..], &met.cases, &met.departures].concat();
-    assert!(met.codes[0] > 0 && all.iter().all(|&n| n > 0), "{:?} {:?} {:?}", met.codes, met.cases, met.departures);
+    let all = [&met.codes[5..6], &met.codes[7..], &met.cases, &met.departures, &met.once].concat();
+    let met = (met.codes, met.cases, met.departures, met.once);
+    assert!(met.0[0] > 0 && all.iter().all(|&n| n > 0), "{met:?}");
 }
 
 #[test]

@@ -184,6 +184,38 @@ impl Form {
     }
 }
 
+/// The parts of a label that must still become "": that they do follows from the equation between the two lists, and rests on what the lists
+/// rest on.
+///
+/// ```
+/// let mut store = labels::Store::new();
+/// let (site, batch) = (store.variable("site")?, store.variable("batch")?);
+/// let parts = store.empty_parts(&[], &[site, batch])?;
+/// assert_eq!(parts, labels::EmptyParts { variables: vec![site, batch], empty: Some(3), link: true });
+/// # Ok::<(), labels::Refusal>(())
+/// ```
+#[must_use = "the variables are to be joined with the empty constant"]
+#[derive(Clone, PartialEq, Eq, Hash, Debug)]
+pub struct EmptyParts {
+    /// the variables, in the order of their places, the first of each class
+    pub variables: Vec<Term>,
+    /// the constant "", or None where the lists have another form
+    pub empty: Option<Term>,
+    /// set where a variable is listed: an empty side stood against several variables
+    pub link: bool,
+}
+
+impl EmptyParts {
+    /// The parts in an answer's words.
+    pub(crate) fn of(answer: &[u32; 8], list: &[u32]) -> Result<EmptyParts, Refusal> {
+        let (count, empty, link) = (answer[0], answer[1], answer[2]);
+        if link > 1 || (link == 1) != (count > 0) || (count > 0 && empty == 0) {
+            return Err(Refusal::UnknownAnswer(link));
+        }
+        Ok(EmptyParts { variables: first(list, count)?, empty: (empty != 0).then_some(empty), link: link == 1 })
+    }
+}
+
 /// What a word equation comes to. What is said of the sides is true wherever the reasons hold, so each case but `Done` and `Unexpanded`, which
 /// say nothing of them, carries its reasons: keep them with whatever is kept of the answer. Reasons that were handed in come first.
 ///
@@ -298,6 +330,18 @@ mod tests {
         assert_eq!(Form::of(&[2, 0, 0, 0, 0, 0, 0, 0], &[], vec![]), Err(Refusal::UnknownAnswer(2)));
         assert_eq!(Form::of(&[1, 1, 0, 0, 0, 0, 0, 0], &[], vec![]), Err(Refusal::UnknownAnswer(1)));
         assert_eq!(outcome(11), Err(Refusal::Other(11)));
+    }
+
+    #[test]
+    fn empty_parts_are_those_of_the_words() {
+        let parts = |count, empty, link| EmptyParts::of(&[count, empty, link, 9, 9, 9, 9, 9], &[7, 8]);
+        assert_eq!(parts(2, 3, 1), Ok(EmptyParts { variables: vec![7, 8], empty: Some(3), link: true }));
+        assert_eq!(parts(0, 3, 0), Ok(EmptyParts { variables: vec![], empty: Some(3), link: false }));
+        assert_eq!(parts(0, 0, 0), Ok(EmptyParts { variables: vec![], empty: None, link: false }));
+        assert_eq!(parts(3, 3, 1), Err(Refusal::UnknownAnswer(3)));
+        for (count, empty, link) in [(2, 3, 2), (2, 3, 0), (0, 3, 1), (2, 0, 1)] {
+            assert_eq!(parts(count, empty, link), Err(Refusal::UnknownAnswer(link)));
+        }
     }
 
     #[test]

@@ -24,9 +24,9 @@
 //!
 //! # Asking a question
 //!
-//! The component appends the reasons that it names to those that the store counts. So that an answer names its own and no other's, each call
-//! of [`Store`] that names reasons begins with none, and hands back those that it named. Where an answer has to rest on reasons from before,
-//! [`Store::with_reasons`] hands them in.
+//! The component appends the reasons that it names to those that the store counts, each only if it is not among them. So that an answer names
+//! its own and no other's, each call of [`Store`] that names reasons begins with none, and hands back those that it named, each once. Where
+//! an answer has to rest on reasons from before, [`Store::with_reasons`] hands them in.
 //!
 //! # What the caller sees to
 //!
@@ -39,7 +39,7 @@ mod answer;
 mod display;
 mod raw;
 
-pub use answer::{Answer, Form, Reason, Refusal};
+pub use answer::{Answer, EmptyParts, Form, Reason, Refusal};
 pub use display::Shown;
 
 use answer::{answered_case, outcome};
@@ -48,7 +48,7 @@ use std::fmt;
 /// The version of this crate, of `labels.h` and of the changelog.
 ///
 /// ```
-/// assert_eq!(labels::VERSION, "0.2.0");
+/// assert_eq!(labels::VERSION, "0.3.0");
 /// ```
 pub const VERSION: &str = env!("CARGO_PKG_VERSION");
 
@@ -356,8 +356,8 @@ impl Store {
         outcome(raw::go_back(self, mark))
     }
 
-    /// Hands reasons in with the question that follows: its answer rests on them too, and names them first. A reason's number is below 2^31;
-    /// more than 4,096 reasons are refused.
+    /// Hands reasons in with the question that follows: its answer rests on them too, and names them first, as they were handed in. None of
+    /// them is named again after those. A reason's number is below 2^31; more than 4,096 reasons are refused.
     ///
     /// Who takes two normal forms and asks the equation between them hands in what the forms rest on. (`step` does so by itself.)
     ///
@@ -386,7 +386,7 @@ impl Store {
         Ok(Question { store: self })
     }
 
-    /// The reasons why two string terms of one class are equal.
+    /// The reasons why two string terms of one class are equal, each once.
     ///
     /// ```
     /// use labels::{Reason, Refusal};
@@ -461,6 +461,37 @@ impl Store {
         self.question().step(known, equation, guard)
     }
 
+    /// Every variable that must still become "", where one flattened list is empty and the other is two or more variables; "" is made where
+    /// the store has none. For other lists none, and nothing is made. No reasons are named, and those counted stay.
+    ///
+    /// The list is what [`Store::resolve_equation`] would have propagated, called again after each join.
+    ///
+    /// ```
+    /// use labels::{Answer, EmptyParts, Reason};
+    /// let mut store = labels::Store::new();
+    /// let (site, batch, serial) = (store.variable("site")?, store.variable("batch")?, store.variable("serial")?);
+    /// store.join(batch, site, Reason::Asserted(1))?;
+    /// let label = [site, batch, serial];
+    /// // one entry for site and batch, which are of one class
+    /// let parts = store.empty_parts(&[], &label)?;
+    /// assert_eq!((&parts.variables, parts.link), (&vec![site, serial], true));
+    /// if let Some(empty) = parts.empty {
+    ///     for variable in parts.variables {
+    ///         store.join(variable, empty, Reason::Interface(9))?;
+    ///     }
+    /// }
+    /// assert_eq!(store.empty_parts(&[], &label)?, EmptyParts { variables: vec![], empty: parts.empty, link: false });
+    /// assert_eq!(store.resolve_equation(&[], &label, 1)?, Answer::Done);
+    /// // a list of another form
+    /// assert_eq!(store.empty_parts(&[site], &[batch, serial])?.empty, None);
+    /// # Ok::<(), labels::Refusal>(())
+    /// ```
+    pub fn empty_parts(&mut self, lhs: &[Term], rhs: &[Term]) -> Result<EmptyParts, Refusal> {
+        let (mut list, mut answer) = (list(), [0; 8]);
+        outcome(raw::empty_parts(self, lhs, rhs, &mut list, &mut answer))?;
+        EmptyParts::of(&answer, &list)
+    }
+
     /// Whether two lists are atom by atom the same.
     ///
     /// ```
@@ -475,7 +506,7 @@ impl Store {
         Ok(answer[0] == 1)
     }
 
-    /// The reasons why the pairs of one class in two lists of equal length are equal.
+    /// The reasons why the pairs of one class in two lists of equal length are equal, each once.
     ///
     /// ```
     /// use labels::Reason;
@@ -483,6 +514,7 @@ impl Store {
     /// let (x, y) = (store.variable("x")?, store.variable("y")?);
     /// store.join(x, y, Reason::Asserted(1))?;
     /// assert_eq!(store.nf_equal_explain(&[x], &[y])?, [Reason::Asserted(1)]);
+    /// assert_eq!(store.nf_equal_explain(&[x, y], &[y, x])?, [Reason::Asserted(1)]);
     /// # Ok::<(), labels::Refusal>(())
     /// ```
     pub fn nf_equal_explain(&mut self, lhs: &[Term], rhs: &[Term]) -> Result<Vec<Reason>, Refusal> {
@@ -530,7 +562,7 @@ impl Store {
 }
 
 /// A question with reasons handed in, as [`Store::with_reasons`] makes it. Each call is that of [`Store`] with the same name, and the reasons
-/// handed in come first among those that it gives.
+/// handed in come first among those that it gives; none of them is given again.
 ///
 /// ```
 /// use labels::Reason;
@@ -539,6 +571,8 @@ impl Store {
 /// store.join(x, y, Reason::Asserted(1))?;
 /// let reasons = store.with_reasons(&[Reason::Interface(9)])?.explain(x, y)?;
 /// assert_eq!(reasons, [Reason::Interface(9), Reason::Asserted(1)]);
+/// let reasons = store.with_reasons(&[Reason::Asserted(1), Reason::Interface(9)])?.explain(x, y)?;
+/// assert_eq!(reasons, [Reason::Asserted(1), Reason::Interface(9)]);
 /// // the next question begins with none
 /// assert_eq!(store.explain(x, y)?, [Reason::Asserted(1)]);
 /// # Ok::<(), labels::Refusal>(())

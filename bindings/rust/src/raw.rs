@@ -54,6 +54,7 @@ interface! {
     labels_explain reasons_of(a: u32, b: u32);
     labels_nf_equal_explain reasons_of_lists(lhs: *const u32, lhs_len: usize, rhs: *const u32, rhs_len: usize);
     labels_resolve_equation resolved(lhs: *const u32, lhs_len: usize, rhs: *const u32, rhs_len: usize, guard: i32, list: *mut u32, list_len: usize, answer: *mut u32, answer_len: usize);
+    labels_empty_parts parts(lhs: *const u32, lhs_len: usize, rhs: *const u32, rhs_len: usize, list: *mut u32, list_len: usize, answer: *mut u32, answer_len: usize);
     labels_step stepped(known: *const u32, known_len: usize, e: u32, guard: i32, list: *mut u32, list_len: usize, answer: *mut u32, answer_len: usize);
     labels_normal_form form(known: *const u32, known_len: usize, t: u32, list: *mut u32, list_len: usize, answer: *mut u32, answer_len: usize);
     labels_join joined(marks: *mut u32, marks_len: usize, a: u32, b: u32, kind: u32, number: u32, answer: *mut u32, answer_len: usize);
@@ -120,6 +121,10 @@ pub fn deep_normal_form(s: &mut Store, known: &[u32], t: u32, list: &mut [u32], 
 
 pub fn resolve_equation(s: &mut Store, lhs: &[u32], rhs: &[u32], guard: i32, list: &mut [u32], answer: &mut [u32; 8]) -> u32 {
     resolved(s, lhs.as_ptr(), lhs.len(), rhs.as_ptr(), rhs.len(), guard, list.as_mut_ptr(), list.len(), answer.as_mut_ptr(), answer.len())
+}
+
+pub fn empty_parts(s: &mut Store, lhs: &[u32], rhs: &[u32], list: &mut [u32], answer: &mut [u32; 8]) -> u32 {
+    parts(s, lhs.as_ptr(), lhs.len(), rhs.as_ptr(), rhs.len(), list.as_mut_ptr(), list.len(), answer.as_mut_ptr(), answer.len())
 }
 
 pub fn nf_equal(s: &Store, lhs: &[u32], rhs: &[u32], answer: &mut [u32; 8]) -> u32 {

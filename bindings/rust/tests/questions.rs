@@ -29,6 +29,25 @@ fn a_question_begins_with_no_reasons() {
     assert_eq!(s.reason_list(), [Reason::Asserted(7)]);
 }
 
+/// A reason that the list has is not named again, and what is handed in stays as it is.
+#[test]
+fn each_reason_is_named_once() {
+    let (mut s, e, known) = clash();
+    let (x, y) = (known[0], known[1]);
+    let (a7, i7) = (Reason::Asserted(7), Reason::Interface(7));
+    assert_eq!(s.nf_equal_explain(&[x, y, x], &[y, x, y]), Ok(vec![a7]));
+    for handed in [vec![a7], vec![a7, a7], vec![i7, a7]] {
+        assert_eq!(s.with_reasons(&handed).unwrap().explain(x, y), Ok(handed.clone()));
+        assert_eq!(s.with_reasons(&handed).unwrap().step(&known, e, 1), Ok(Answer::Conflict { reasons: handed }));
+    }
+    assert_eq!(s.with_reasons(&[i7]).unwrap().explain(x, y), Ok(vec![i7, a7]));
+    // room for one
+    s.reasons.truncate(2);
+    assert_eq!(s.nf_equal_explain(&[x, x], &[y, y]), Ok(vec![a7]));
+    assert_eq!(s.with_reasons(&[a7]).unwrap().explain(x, y), Ok(vec![a7]));
+    assert_eq!(s.with_reasons(&[i7]).unwrap().explain(x, y), Err(Refusal::Reasons));
+}
+
 #[test]
 fn reasons_are_handed_in() {
     let (mut s, e, known) = clash();

@@ -1,4 +1,4 @@
-use labels::{Answer, Form, Reason, Refusal, Store, Term};
+use labels::{Answer, EmptyParts, Form, Reason, Refusal, Store, Term};
 
 /// A root joins the class of another root by an asserted equality.
 fn merge(s: &mut Store, child: Term, parent: Term, number: u32) {
@@ -89,6 +89,29 @@ fn word_equations() {
     let split = Answer::Split { atoms: vec![13, 16, 19], guard: 3, reasons: vec![] };
     assert_eq!(s.resolve_equation(&[v, x], &[x, v], -3), Ok(split));
     assert_eq!(s.audit(), Ok(()));
+}
+
+#[test]
+fn empty_parts() {
+    let mut s = Store::new();
+    let label: Vec<Term> = (0..8).map(|i| s.variable(&format!("part {i}")).unwrap()).collect();
+    let whole = s.concatenation(&label).unwrap();
+    merge(&mut s, label[1], label[0], 1);
+    s.explain(label[0], label[1]).unwrap();
+    // another form: none, and nothing is made
+    let before = s.state;
+    assert_eq!(s.empty_parts(&[], &label[..1]).unwrap(), EmptyParts { variables: vec![], empty: None, link: false });
+    assert_eq!(s.empty_parts(&[], &[whole, 10]), Err(Refusal::Argument));
+    assert_eq!(s.state, before);
+    // the reasons counted stay
+    let parts = s.empty_parts(&[whole], &[]).unwrap();
+    assert_eq!((&parts.variables[..2], parts.variables.len()), (&[label[0], label[2]][..], 7));
+    assert_eq!((parts.empty, parts.link, s.reason_list()), (Some(10), true, vec![Reason::Asserted(1)]));
+    // no room for ""
+    s.state = before;
+    s.terms.truncate(8 * 10);
+    assert_eq!(s.empty_parts(&[], &label), Err(Refusal::Room));
+    assert_eq!(s.state, before);
 }
 
 #[test]

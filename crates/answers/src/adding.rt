@@ -7,6 +7,7 @@ use crate::building::put_class;
 use crate::building::put_edge;
 use crate::building::put_expansions;
 use crate::building::put_line;
+use crate::building::put_numbered;
 use crate::building::put_pairs;
 use crate::building::put_reason;
 use crate::building::put_same;
@@ -188,6 +189,12 @@ fn reason(reasons: &mut [u32], kind: u32, value: u32, c: Counts) -> Counts {
     reasoned(c, wrapping_add_usize(c.reasons, 1))
 }
 
+// m reasons more of one kind, numbered from `first` on.
+fn numbered(reasons: &mut [u32], m: u32, kind: u32, first: u32, c: Counts) -> Counts {
+    put_numbered(reasons, c.reasons, m, kind, first);
+    reasoned(c, wrapping_add_usize(c.reasons, m as usize))
+}
+
 // The key (a, b) m times more.
 fn key(keys: &mut [u32], m: u32, a: u32, b: u32, c: Counts) -> Counts {
     put_pairs(keys, c.keys, m, a, b);
@@ -238,6 +245,7 @@ fn set(
         105 => named(c, a),
         107 => key(keys, a, b, word(n, 3), c),
         82 => reason(reasons, a, b, c),
+        108 => numbered(reasons, a, b, word(n, 3), c),
         87 => lent(c, a, b as usize),
         76 => list(known, n, last, c),
         74 => same(known, a, b, c),

@@ -199,6 +199,16 @@ pub fn put_pairs(to: &mut [u32], i: usize, n: u32, a: u32, b: u32) {
     }
 }
 
+// n reasons of one kind, numbered from `first` on, from record i on.
+pub fn put_numbered(to: &mut [u32], i: usize, n: u32, kind: u32, first: u32) {
+    let mut j: u32 = 0;
+    while j < n {
+        let value = wrapping_add_u32(first, j);
+        put_reason(to, wrapping_add_usize(i, j as usize), kind, value);
+        j += 1;
+    }
+}
+
 // The concatenation of xi and xn, in cells e + 2i and the next, equal to the variable before xi by asserted reason i.
 fn put_expansion(terms: &mut [u32], cells: &mut [u32], first: u32, n: u32, e: u32, i: u32) {
     let x = wrapping_add_u32(first, i);

@@ -18,6 +18,7 @@
 //   U n d           n times two concatenations t and t + 1 of the terms d and 6 - d before each, joined by congruence with stamp t
 //   Y n             variables x0 to xn and, for i from 1 to n, the concatenation of xi and xn, equal to the variable before xi by ai
 //   R k v           one reason more
+//   l n k v         n reasons of kind k more, numbered from v on
 //   k n a b         n times the key (a, b) more
 //   i n             n is the name counter
 //   W s n           n words are lent of slice s, and the others whole: 1 terms, 2 cells, 3 characters, 4 reasons, 5 keys, 6 the list that is
@@ -37,6 +38,7 @@
 //                   for a negative guard, so that 4294967295 is -1
 //   B p g           the same, and what it added stays
 //   s e g           the step over the equation e and the known list, with the guard g
+//   a p             empty_parts, the list's first p atoms against the rest; what it made stays
 //   q p             nf_equal, the list's first p atoms and the rest
 //   Q p             nf_equal_explain of the same
 //   j a b k v       join a and b under the reason of kind k and number v
@@ -53,6 +55,7 @@
 // after the call, and the texts of the constants made. What a form made is not counted from then on. For resolve_equation and the step: the
 // case with its values (the variable, the word and the link flag; the count of atoms, the atoms and the guard), the reasons, the counts
 // of terms, cells, characters and keys, the name counter, and each term made, a concatenation as t+u, a length as |t|, an equation as t=u.
+// For empty_parts: the count of variables and the variables, the number of "" and the link flag, then the same.
 // For join, set_mark and go_back: the number answered, and how many marks and joins are counted from then on. A term's class words stand
 // as (t class-parent forest-parent label-kind label-value stamp), a recorded join as (child old-root class-root) after the marks' counts.
 use asking::ask;

@@ -1,4 +1,4 @@
-// The commands that ask for resolve_equation, the step, nf_equal and nf_equal_explain.
+// The commands that ask for resolve_equation, the step, empty_parts, nf_equal and nf_equal_explain.
 ghost use mathlib.Core.Path.{_≡_};
 ghost use Prim.Native.Nat.{_<_, _≤_};
 ghost use lib.IntN.{pos};
@@ -11,6 +11,7 @@ use crate::saying::say_list;
 use crate::saying::say_reasons;
 use crate::stating::say_store;
 use commands::print::put_guard;
+use empties::Empties;
 use equation::Outcome;
 use records::Added;
 use records::fields::word;
@@ -48,12 +49,16 @@ fn say_guard(g: i32) {
     io::write_all(1, &piece[..n]);
 }
 
-fn say_propagate(v: u32, w: u32, link: bool) {
-    say(b": propagate ", v);
-    say(b" ", w);
+fn say_link(link: bool) {
     if link {
         io::write_all(1, b" link");
     }
+}
+
+fn say_propagate(v: u32, w: u32, link: bool) {
+    say(b": propagate ", v);
+    say(b" ", w);
+    say_link(link);
 }
 
 fn say_split(list: &[u32], n: usize, g: i32) {
@@ -147,6 +152,46 @@ fn ask_step(
     }
 }
 
+// The variables listed, the number of "", the link flag, and the store. Answers what is counted after the call.
+fn say_parts(
+    r: Empties,
+    terms: &[u32],
+    cells: &[u32],
+    chars: &[u32],
+    reasons: &[u32],
+    list: &[u32],
+    c: Counts,
+) -> Counts {
+    match r {
+        Empties::Parts(d, e, n, link) => {
+            io::write_all(1, b": ");
+            say_list(list, n);
+            say(b", ", e);
+            say_link(link);
+            say_store(b"", terms, cells, chars, reasons, c, d)
+        }
+        Empties::Refused(k) => {
+            say(b": refused ", k);
+            c
+        }
+    }
+}
+
+fn ask_empty_parts(
+    terms: &mut [u32],
+    cells: &[u32],
+    chars: &mut [u32],
+    reasons: &[u32],
+    keys: &[u32],
+    lhs: &[u32],
+    rhs: &[u32],
+    list: &mut [u32],
+    c: Counts,
+) -> Counts {
+    let r = empties::empty_parts(terms, cells, chars, reasons, keys, state(c), lhs, rhs, list);
+    say_parts(r, terms, cells, chars, reasons, list, c)
+}
+
 fn ask_equal(
     terms: &[u32],
     cells: &[u32],
@@ -205,6 +250,7 @@ fn pair<'a>(
     match l {
         113 => ask_equal(terms, cells, chars, reasons, keys, lhs, rhs, c),
         81 => ask_equal_explain(terms, cells, chars, reasons, keys, lhs, rhs, c),
+        97 => return ask_empty_parts(terms, cells, chars, reasons, keys, lhs, rhs, list, c),
         _ => {
             let d = ask_resolve(terms, cells, chars, reasons, keys, lhs, rhs, g, list, c);
             if l == 66 {

@@ -10,3 +10,4 @@ mod EqualExports
 mod Complements
 mod StepExports
 mod Standings
+mod PartExports

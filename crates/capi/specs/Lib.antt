@@ -3,4 +3,5 @@ pub mod Forms
 pub mod Equations
 pub mod Steps
 pub mod Marks
+pub mod Parts
 pub mod Working

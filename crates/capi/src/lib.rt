@@ -23,6 +23,7 @@ use telling::tell_outcome;
 use wordeq::Equality;
 
 pub mod marks;
+pub mod parts;
 mod telling;
 
 #[no_mangle]

@@ -1,6 +1,6 @@
 mod MovedClimbs
 mod Tables
-mod Alike
+pub mod Alike
 mod Turning
 mod Undoing
 mod Appending
@@ -9,10 +9,10 @@ mod Flips
 mod Rounds
 mod Cutting
 mod Enough
-mod Dividing
+pub mod Dividing
 mod Under
 mod Attaching
-mod JoinKept
+pub mod JoinKept
 mod MergeKept
 mod Undone
 mod Marking

@@ -11,4 +11,5 @@ mod Split
 pub mod Resolve
 pub mod Equal
 pub mod FewAtoms
+pub mod Flattened
 mod Refines

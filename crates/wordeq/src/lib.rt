@@ -55,7 +55,7 @@ pub enum Equality {
 }
 
 // Two lists of string terms, at most 1,024 each.
-fn are_lists(terms: &[u32], c: State, lhs: &[u32], rhs: &[u32]) -> bool
+pub fn are_lists(terms: &[u32], c: State, lhs: &[u32], rhs: &[u32]) -> bool
     ensures { λ r. ⌜ r ≡ equalArguments (now (lhs .entry)) (now (rhs .entry)) (termed (now (terms .entry)) c) ⌝ }
 {
     if !rules::is_list(terms, c, lhs) {

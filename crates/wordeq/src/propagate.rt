@@ -74,7 +74,7 @@ fn are_variables(terms: &[u32], c: State, l: &[u32]) -> bool
 }
 
 // An empty side against two or more variables.
-fn is_emptied(terms: &[u32], c: State, l: &[u32], r: &[u32]) -> bool
+pub fn is_emptied(terms: &[u32], c: State, l: &[u32], r: &[u32]) -> bool
     ensures { λ b. ⌜ b ≡ emptied (termed (now (terms .entry)) c) (now (l .entry)) (now (r .entry)) ⌝ }
 {
     if l.len() != 0 {

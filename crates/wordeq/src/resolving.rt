@@ -47,7 +47,7 @@ fn either_concat(terms: &[u32], c: State, lhs: &[u32], rhs: &[u32]) -> bool
 }
 
 // The atoms of each term of a list, from the start of `out`. Nothing is walked past the first atom that does not fit.
-fn flatten_list(terms: &[u32], cells: &[u32], c: State, l: &[u32], out: &mut [u32]) -> usize
+pub fn flatten_list(terms: &[u32], cells: &[u32], c: State, l: &[u32], out: &mut [u32]) -> usize
     requires { ⌜ Nested (bare (now terms) (c .terms) (now cells) (c .cells)) ⌝ ∗ ⌜ listLimit ≤ length (now out) ⌝ }
     ensures { λ r. ⌜ Appended (now (out .entry)) (now (out .exit)) 0 (concatMap (atoms (bare (now (terms .entry)) (c .terms) (now (cells .entry)) (c .cells))) (now (l .entry))) r ⌝ }
 {

@@ -45,7 +45,7 @@ pub(crate) fn same_text(terms: &[u32], chars: &[u32], c: State, a: u32, b: u32) 
     text::text_is(chars, fields::first(terms, a), &chars[from..from + n])
 }
 
-pub(crate) fn same_class(terms: &[u32], chars: &[u32], c: State, a: u32, b: u32) -> bool
+pub fn same_class(terms: &[u32], chars: &[u32], c: State, a: u32, b: u32) -> bool
     requires { ⌜ Readable (now terms) (now chars) c ⌝ ∗ ⌜ Pair (readIn (now terms) (now chars) c) a b ⌝ }
     ensures { λ r. ⌜ r ≡ sameClass (readIn (now (terms .entry)) (now (chars .entry)) c) a b ⌝ }
 {

@@ -1,7 +1,8 @@
 //! Stand-ins for the engine's types.
 
+use rustc_hash::FxHashSet;
 use shinri_core::{refuse, Lit};
-use std::cell::Cell;
+use std::cell::{Cell, RefCell};
 
 #[derive(Clone, Copy, PartialEq, Eq, Hash, PartialOrd, Ord, Debug)]
 pub struct ENodeId(u32);
@@ -49,19 +50,57 @@ pub struct MergeEvent {
 }
 
 /// A reason: its kind and its number. The two constructors are functions, so that refusal 7 is met when the reason is made.
-#[derive(Clone, Copy, PartialEq, Eq, Debug)]
+#[derive(Clone, Copy, PartialEq, Eq, Hash, Debug)]
 pub struct EqLeaf {
     pub kind: u32,
     pub number: u32,
 }
 
-thread_local! {
-    static LEFT: Cell<usize> = const { Cell::new(usize::MAX) };
+/// Reasons made: with repetitions, and those that the list lacked.
+#[derive(Clone, Copy, PartialEq, Eq, Debug, Default)]
+pub struct Made {
+    pub all: usize,
+    pub new: usize,
 }
 
-/// How many reasons more can be added.
-pub fn reasons_left(n: usize) {
-    LEFT.set(n);
+// the list that a call adds to, each reason once, and how many more it holds
+#[derive(Default)]
+struct Listed {
+    held: FxHashSet<EqLeaf>,
+    left: usize,
+    made: Made,
+}
+
+thread_local! {
+    static COUNTING: Cell<bool> = const { Cell::new(false) };
+    static LISTED: RefCell<Listed> = RefCell::default();
+}
+
+/// Refusal 7 is met from here on where a reason is made that the list lacks and `left` others were before it.
+pub fn count_reasons(incoming: &[EqLeaf], left: usize) {
+    COUNTING.set(true);
+    LISTED.set(Listed { held: incoming.iter().copied().collect(), left, made: Made::default() });
+}
+
+/// For timing: reasons are made and not counted.
+pub fn leave_reasons() {
+    COUNTING.set(false);
+}
+
+pub fn made() -> Made {
+    LISTED.with_borrow(|l| l.made)
+}
+
+impl Listed {
+    // whether it is there or finds room
+    fn take(&mut self, r: EqLeaf) -> bool {
+        self.made.all += 1;
+        if !self.held.insert(r) {
+            return true;
+        }
+        self.made.new += 1;
+        self.made.new <= self.left
+    }
 }
 
 #[allow(non_snake_case)]
@@ -78,11 +117,10 @@ impl EqLeaf {
 
     #[inline]
     fn counted(kind: u32, number: u32) -> Self {
-        let left = LEFT.get();
-        if left == 0 {
+        let r = EqLeaf { kind, number };
+        if COUNTING.get() && !LISTED.with_borrow_mut(|l| l.take(r)) {
             refuse(7);
         }
-        LEFT.set(left - 1);
-        EqLeaf { kind, number }
+        r
     }
 }

@@ -1,6 +1,7 @@
 use lib.ListN.{take}
 use Rattle.records.specs.View.{lent}
-use Rattle.wordeq.proofs.Refines.Flattening.{list-passes, list-says, list-flat, guard-passed, left-passes, right-passes, flat-done}
+use Rattle.wordeq.proofs.Flattened.{list-passes, list-says, list-flat}
+use Rattle.wordeq.proofs.Refines.Flattening.{guard-passed, left-passes, right-passes, flat-done}
 use Rattle.normalize.proofs.FormReady.{ready-nested}
 use lib.Seq.{length-take-le}
 use mathlib.Core.Path.{sym}

@@ -1,0 +1,5 @@
+mod Unmet
+mod Form
+mod Repeating
+pub mod Given
+mod Refines

@@ -1,0 +1,5 @@
+pub mod Empties
+pub mod Repeats
+pub mod Calls
+pub mod EmptyCases
+pub mod Working
