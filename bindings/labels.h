@@ -30,7 +30,7 @@ extern "C" {
 #endif
 
 /* The version of this header, of the Rust crate and of CHANGELOG.md. */
-#define LABELS_VERSION "0.3.0"
+#define LABELS_VERSION "0.4.0"
 #define LABELS_VERSION_MAJOR 0
 #define LABELS_VERSION_MINOR 4
 #define LABELS_VERSION_PATCH 0

@@ -48,7 +48,7 @@ use std::fmt;
 /// The version of this crate, of `labels.h` and of the changelog.
 ///
 /// ```
-/// assert_eq!(labels::VERSION, "0.3.0");
+/// assert_eq!(labels::VERSION, "0.4.0");
 /// ```
 pub const VERSION: &str = env!("CARGO_PKG_VERSION");
 

@@ -19,6 +19,7 @@ use Rattle.records.specs.declared.State.{State}
 use Rattle.records.specs.Lists.{all}
 use Rattle.records.specs.Store.{Store, ok, Work, isString}
 use Rattle.records.specs.View.{Lent, storeOf}
+use Rattle.records.specs.Make.{EachOnce}
 use Rattle.records.specs.Rules.{listLimit, isList}
 use Rattle.records.proofs.Lists.{both-left, both-right}
 use Rattle.normalize.specs.Calls.{listCall, PublicList}
@@ -126,7 +127,7 @@ answer-shows (step.Refused n) m′ k′ i = refl
 -- RESOLVE_EQUATION
 
 pub resolve-untold : (l r : List ℕ) (g : ℤ) (m : Lent) (k w a : List ℕ) → roomy w a ≡ false → ExportedResolve l r g m m k k w w a a 1
-resolve-untold l r g m k w a e = record { is = untold-list _ answerWords m k w a _ e; worth = λ z. absurd (omega arith) }
+resolve-untold l r g m k w a e = record { is = untold-list _ answerWords m k w a _ e; worth = λ z. absurd (omega arith); once = λ z. absurd (omega arith) }
 
 module _ {l r : List ℕ} {g : ℤ} {m m′ : Lent} {k k′ : List ℕ} {c : State} (o : StepResult) (fit : SFits w32 g)
     (public : PublicResolve l r (toZ w32 (ofZ w32 g)) m m′ k k′ c (resolved o m′ k′)) (same : length k′ ≡ length k) where
@@ -152,6 +153,7 @@ module _ {l r : List ℕ} {g : ℤ} {m m′ : Lent} {k k′ : List ℕ} {c : Sta
   resolve-exported room e u = record {
     is = list-exported (resolve-tells l r g) called answerWords (answerRead k′) (answerTelling o) shows room e (u .is);
     worth = list-worth (resolve-tells l r g) called answerWords (answerRead k′) (answerTelling o) shows room e (u .is) (λ s′ x q. subst (λ (d : State). Sound (storeOf m d) s′ l r x) e (here .worth s′ x q));
+    once = list-worth (resolve-tells l r g) called answerWords (answerRead k′) (answerTelling o) shows room e (u .is) (λ s′ x q. subst (λ (d : State). EachOnce (storeOf m d .reasons) (s′ .reasons)) e (here .once s′ x q));
   }
 
 -- TELLING
@@ -160,6 +162,8 @@ module _ {R : Type 0} {f : R → Telling} {r : R} {w w′ a a′ : List ℕ} {k 
   pub told-flag : {x y z u u′ : ℕ} → f r ≡ tells c (x ∷ y ∷ z ∷ u ∷ []) → u′ ≡ u → ToldWords w w′ a a′ (tells c (x ∷ y ∷ z ∷ u′ ∷ [])) k → ToldBy f w w′ a a′ r k
   told-flag {x} {y} {z} e q t = record { is = subst (λ (T : Telling). ToldWords w w′ a a′ T k) (ap (λ (v : ℕ). tells c (x ∷ y ∷ z ∷ v ∷ [])) q ∙ sym e) t }
 
+  pub told-third : {x y u u′ : ℕ} → f r ≡ tells c (x ∷ y ∷ u ∷ []) → u′ ≡ u → ToldWords w w′ a a′ (tells c (x ∷ y ∷ u′ ∷ [])) k → ToldBy f w w′ a a′ r k
+  told-third {x} {y} e q t = record { is = subst (λ (T : Telling). ToldWords w w′ a a′ T k) (ap (λ (v : ℕ). tells c (x ∷ y ∷ v ∷ [])) q ∙ sym e) t }
+
   pub told-guard : {x y : ℕ} {g : ℤ} {u : ℕ} → f r ≡ tells c (x ∷ y ∷ ofZ w32 g ∷ []) → SFits w32 g → u ≡ ofZ w32 (toZ w32 (ofZ w32 g)) → ToldWords w w′ a a′ (tells c (x ∷ y ∷ u ∷ [])) k → ToldBy f w w′ a a′ r k
-  told-guard {x} {y} {g} e h q t =
-      record { is = subst (λ (T : Telling). ToldWords w w′ a a′ T k) (ap (λ (v : ℕ). tells c (x ∷ y ∷ v ∷ [])) (q ∙ ap (ofZ w32) (toZ-ofZ w32 g h)) ∙ sym e) t }
+  told-guard {g = g} e h q t = told-third e (q ∙ ap (ofZ w32) (toZ-ofZ w32 g h)) t

@@ -13,6 +13,7 @@ use Rattle.records.specs.Lists.{Every}
 use Rattle.records.specs.Store.{Store, isString, sameClass}
 use Rattle.records.specs.View.{Lent, storeOf}
 use Rattle.records.specs.Working.Audited.{Audited}
+use Rattle.records.specs.Make.{EachOnce}
 use Rattle.records.specs.Calls.{call, Public, added}
 use Rattle.records.proofs.Lists.{both-left, both-right}
 use Rattle.engine.specs.declared.Found.{Found}
@@ -79,7 +80,7 @@ explain-tells a b = record {
     three s f = both-right (isString s a && isString s b) _ f
 
 pub explain-short : (a b : ℕ) (m : Lent) (w : List ℕ) → length w < 6 → ExportedExplain a b m m w w 1
-explain-short a b m w h = record { is = untold _ m w 0 [] tt (lt-leb 6 (length w) h); worth = λ e. absurd (omega arith); edges = λ e. absurd (omega arith); full = λ e. absurd (omega arith) }
+explain-short a b m w h = record { is = untold _ m w 0 [] tt (lt-leb 6 (length w) h); worth = λ e. absurd (omega arith); once = λ e. absurd (omega arith); edges = λ e. absurd (omega arith); full = λ e. absurd (omega arith) }
 
 module _ {a b : ℕ} {m m′ : Lent} {c : State} {r : Added} (called : PublicExplain a b m m′ c (added r m′)) where
   pub explain-tellable : (d : State) → r ≡ adding.Counts d → Narrow d
@@ -89,6 +90,7 @@ module _ {a b : ℕ} {m m′ : Lent} {c : State} {r : Added} (called : PublicExp
   explain-exported room e t = record {
     is = counts-exported (explain-tells a b) r (called .is) t room e;
     worth = counts-worth (explain-tells a b) r (called .is) t (λ s′ q. subst (λ (d : State). Explains (storeOf m d) s′ a b) e (called .worth s′ q));
+    once = counts-worth (explain-tells a b) r (called .is) t (λ s′ q. subst (λ (d : State). EachOnce (storeOf m d .reasons) (s′ .reasons)) e (called .once s′ q));
     edges = counts-worth (explain-tells a b) r (called .is) t (λ s′ q. subst (λ (d : State). Every (Labels (storeOf m d)) (addedTo (storeOf m d) s′)) e (called .edges s′ q));
     full = counts-full (explain-tells a b) r (called .is) t (called .full);
   }

@@ -11,6 +11,7 @@ use Rattle.records.specs.declared.Added.{Added}
 use Rattle.records.specs.declared.Added.the-variants as adding
 use Rattle.records.specs.View.{Lent, storeOf}
 use Rattle.records.specs.Working.Audited.{Audited}
+use Rattle.records.specs.Make.{EachOnce}
 use Rattle.records.specs.Calls.{call, Public, added}
 use Rattle.wordeq.specs.declared.Equality.{Equality}
 use Rattle.wordeq.specs.declared.Equality.the-variants as equality
@@ -74,7 +75,7 @@ pairs-tells l r = record {
 }
 
 pub pairs-short : (l r : List ℕ) (m : Lent) (w : List ℕ) → length w < 6 → ExportedEqualExplain l r m m w w 1
-pairs-short l r m w h = record { is = untold _ m w 0 [] tt (lt-leb 6 (length w) h); worth = λ e. absurd (omega arith); full = λ e. absurd (omega arith) }
+pairs-short l r m w h = record { is = untold _ m w 0 [] tt (lt-leb 6 (length w) h); worth = λ e. absurd (omega arith); once = λ e. absurd (omega arith); full = λ e. absurd (omega arith) }
 
 module _ {l r : List ℕ} {m m′ : Lent} {c : State} {x : Added} (called : PublicEqualExplain l r m m′ c (added x m′)) where
   pub pairs-tellable : (d : State) → x ≡ adding.Counts d → Narrow d
@@ -84,5 +85,6 @@ module _ {l r : List ℕ} {m m′ : Lent} {c : State} {x : Added} (called : Publ
   pairs-exported room e t = record {
     is = counts-exported (pairs-tells l r) x (called .is) t room e;
     worth = counts-worth (pairs-tells l r) x (called .is) t (λ s′ q. subst (λ (d : State). ExplainsEqual (storeOf m d) s′ l r) e (called .worth s′ q));
+    once = counts-worth (pairs-tells l r) x (called .is) t (λ s′ q. subst (λ (d : State). EachOnce (storeOf m d .reasons) (s′ .reasons)) e (called .once s′ q));
     full = counts-full (pairs-tells l r) x (called .is) t (called .full);
   }

@@ -9,6 +9,7 @@ use lib.ListN.{length, getD}
 use Rattle.records.specs.declared.State.{State}
 use Rattle.records.specs.Store.{Store, ok}
 use Rattle.records.specs.View.{Lent, storeOf}
+use Rattle.records.specs.Make.{EachOnce}
 use Rattle.records.specs.Rules.{listLimit}
 use Rattle.records.specs.Working.Audited.{Audited}
 use Rattle.records.proofs.Lists.{table-length}
@@ -62,7 +63,7 @@ form-shows (form.List n d) m′ l′ = record {
 form-shows (form.Refused k) m′ l′ = refl
 
 pub form-untold : (known : List ℕ) (t : ℕ) (m : Lent) (l w a : List ℕ) → roomy w a ≡ false → ExportedForm known t m m l l w w a a 1
-form-untold known t m l w a e = record { is = untold-list _ formWords m l w a _ e; worth = λ z. absurd (omega arith) }
+form-untold known t m l w a e = record { is = untold-list _ formWords m l w a _ e; worth = λ z. absurd (omega arith); once = λ z. absurd (omega arith) }
 
 module _ {known : List ℕ} {t : ℕ} {m m′ : Lent} {l l′ : List ℕ} {c : State} {r : Form} (called : PublicForm known t m m′ l l′ c (formed r m′ l′)) where
   pub form-tellable : (n : ℕ) (d : State) → r ≡ form.List n d → NarrowList n d
@@ -80,6 +81,7 @@ module _ {known : List ℕ} {t : ℕ} {m m′ : Lent} {l l′ : List ℕ} {c : S
   form-exported room e u = record {
     is = list-exported (form-tells known t) (called .is) formWords (formRead l′) (formTelling r) (form-shows r m′ l′) room e (u .is);
     worth = list-worth (form-tells known t) (called .is) formWords (formRead l′) (formTelling r) (form-shows r m′ l′) room e (u .is) (λ s′ x q. subst (λ (d : State). Forms (storeOf m d) s′ t x) e (called .worth s′ x q));
+    once = list-worth (form-tells known t) (called .is) formWords (formRead l′) (formTelling r) (form-shows r m′ l′) room e (u .is) (λ s′ x q. subst (λ (d : State). EachOnce (storeOf m d .reasons) (s′ .reasons)) e (called .once s′ x q));
   }
 
 -- THE DEEP FORM
@@ -96,7 +98,7 @@ deep-shows (deep.None d) m′ l′ = record { value = none; outcome = refl; spel
 deep-shows (deep.Refused k) m′ l′ = refl
 
 pub deep-untold : (known : List ℕ) (t : ℕ) (m : Lent) (l w a : List ℕ) → roomy w a ≡ false → ExportedDeepForm known t m m l l w w a a 1
-deep-untold known t m l w a e = record { is = untold-list _ deepWords m l w a _ e; worth = λ z. absurd (omega arith) }
+deep-untold known t m l w a e = record { is = untold-list _ deepWords m l w a _ e; worth = λ z. absurd (omega arith); once = λ z. absurd (omega arith) }
 
 module _ {known : List ℕ} {t : ℕ} {m m′ : Lent} {l l′ : List ℕ} {c : State} {r : DeepForm} (called : PublicDeepForm known t m m′ l l′ c (deepened r m′ l′)) where
   pub deep-tellable : (n : ℕ) (d : State) → r ≡ deep.List n d → NarrowList n d
@@ -117,4 +119,5 @@ module _ {known : List ℕ} {t : ℕ} {m m′ : Lent} {l l′ : List ℕ} {c : S
   deep-exported room e u = record {
     is = list-exported (deep-tells known t) (called .is) deepWords (deepRead l′) (deepTelling r) (deep-shows r m′ l′) room e (u .is);
     worth = list-worth (deep-tells known t) (called .is) deepWords (deepRead l′) (deepTelling r) (deep-shows r m′ l′) room e (u .is) (λ s′ x q. subst (λ (d : State). DeepForms (storeOf m d) s′ t x) e (called .worth s′ x q));
+    once = list-worth (deep-tells known t) (called .is) deepWords (deepRead l′) (deepTelling r) (deep-shows r m′ l′) room e (u .is) (λ s′ x q. subst (λ (d : State). EachOnce (storeOf m d .reasons) (s′ .reasons)) e (called .once s′ x q));
   }

@@ -13,6 +13,7 @@ use mir.ValLaws.{toZ-ofZ}
 use Rattle.records.specs.declared.State.{State}
 use Rattle.records.specs.Store.{Out, ok, andThen, give, term, isEquation, isString}
 use Rattle.records.specs.View.{Lent, storeOf}
+use Rattle.records.specs.Make.{EachOnce}
 use Rattle.records.specs.Rules.{isList}
 use Rattle.records.proofs.Lists.{both-right}
 use Rattle.normalize.specs.Calls.{listCall, PublicList}
@@ -77,7 +78,7 @@ outcome-narrow (outcome.Unexpanded c) k′ f i = f c (5 ∷ []) refl
 -- THE CALL
 
 pub step-untold : (known : List ℕ) (e : ℕ) (g : ℤ) (m : Lent) (k w a : List ℕ) → roomy w a ≡ false → ExportedStep known e g m m k k w w a a 1
-step-untold known e g m k w a q = record { is = untold-list _ stepWords m k w a _ q; worth = λ z. absurd (omega arith) }
+step-untold known e g m k w a q = record { is = untold-list _ stepWords m k w a _ q; worth = λ z. absurd (omega arith); once = λ z. absurd (omega arith) }
 
 module _ {known : List ℕ} {e : ℕ} {g : ℤ} {m m′ : Lent} {k k′ : List ℕ} {c : State} (o : Outcome) (fit : SFits w32 g)
     (public : PublicStep known e (toZ w32 (ofZ w32 g)) m m′ k k′ c (stepped o m′ k′)) (same : length k′ ≡ length k) where
@@ -106,4 +107,5 @@ module _ {known : List ℕ} {e : ℕ} {g : ℤ} {m m′ : Lent} {k k′ : List �
   step-exported room q u = record {
     is = list-exported (step-tells known e g) called stepWords (stepRead k′) (outcomeTelling o) shows room q (u .is);
     worth = list-worth (step-tells known e g) called stepWords (stepRead k′) (outcomeTelling o) shows room q (u .is) (λ s′ x i. subst (λ (d : State). StepSound (storeOf m d) s′ e x) q (here .worth s′ x i));
+    once = list-worth (step-tells known e g) called stepWords (stepRead k′) (outcomeTelling o) shows room q (u .is) (λ s′ x i. subst (λ (d : State). EachOnce (storeOf m d .reasons) (s′ .reasons)) q (here .once s′ x i));
   }

@@ -9,6 +9,7 @@ use lib.Dec.{eqb, leb}
 use mir.Syntax.{w32}
 use mir.Val.{toZ, ofZ}
 use Rattle.records.specs.View.{Lent, storeOf}
+use Rattle.records.specs.Make.{EachOnce}
 use Rattle.records.specs.Calls.{call, fullAlone}
 use Rattle.normalize.specs.Calls.{listCall}
 use Rattle.wordeq.specs.Wordeq.{Answer, done, saturated, conflict, propagate, split, resolve, resolveArguments, nfExplain, nfArguments}
@@ -41,10 +42,12 @@ answerBy (suc (suc (suc (suc n)))) l a = split (take (getD a 1 0) l) (toZ w32 (g
 abbrev pub answerRead : List ℕ → List ℕ → Answer
 answerRead l a = answerBy (getD a 0 0) l a
 
--- resolve_equation told in words, and what it is worth: demand 3
+-- resolve_equation told in words, and what it is worth: demand 3. The reasons at exit are those at entry and then reasons that the
+-- list lacked, each once
 pub record ExportedResolve (l r : List ℕ) (g : ℤ) (m m′ : Lent) (k k′ w w′ a a′ : List ℕ) (n : ℕ) : Type 0 where
   pub is : AnsweredList (over (roomy w a) (listCall k (resolveArguments l r g) (resolve l r g) m (stateOf w))) answerWords m m′ k k′ w w′ a a′ (answerRead k′ a′) n
   pub worth : n ≡ 0 → Sound (storeOf m (stateOf w)) (storeOf m′ (stateOf w′)) l r (answerRead k′ a′)
+  pub once : n ≡ 0 → EachOnce (storeOf m (stateOf w) .reasons) (storeOf m′ (stateOf w′) .reasons)
 
 -- 'nf_equal 0 or 1' into word 0
 abbrev pub flagWords : Bool → List ℕ
@@ -57,9 +60,11 @@ flagRead a = eqb (getD a 0 0) 1
 pub record ExportedEqual (l r : List ℕ) (m : Lent) (w a a′ : List ℕ) (k : ℕ) : Type 0 where
   pub is : Answered (over (roomy w a) (call (equalArguments l r) (equalLists l r) m (stateOf w))) flagWords m m w w a a′ (flagRead a′) k
 
--- nf_equal_explain told in words, and what it is worth: under the reasons that the call added and the definitional merges two lists that
--- nf_equal calls equal have equal words. Once the arguments pass, refusal 7 alone is given
+-- nf_equal_explain told in words, and what it is worth: under the reasons at exit and the definitional merges two lists that
+-- nf_equal calls equal have equal words. The reasons at exit are those at entry and then reasons that the list lacked, each once.
+-- Once the arguments pass, refusal 7 alone is given
 pub record ExportedEqualExplain (l r : List ℕ) (m m′ : Lent) (w w′ : List ℕ) (k : ℕ) : Type 0 where
   pub is : Exported (over (leb 6 (length w)) (call (nfArguments l r) (nfExplain l r) m (stateOf w))) m m′ w w′ 0 [] [] tt k
   pub worth : k ≡ 0 → ExplainsEqual (storeOf m (stateOf w)) (storeOf m′ (stateOf w′)) l r
+  pub once : k ≡ 0 → EachOnce (storeOf m (stateOf w) .reasons) (storeOf m′ (stateOf w′) .reasons)
   pub full : fullAlone k

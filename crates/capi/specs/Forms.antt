@@ -5,6 +5,7 @@ use mathlib.Core.Option.{Option, none, some}
 use Prim.Native.Nat.{ℕ, zero, suc}
 use lib.ListN.{length, getD}
 use Rattle.records.specs.View.{Lent, storeOf}
+use Rattle.records.specs.Make.{EachOnce}
 use Rattle.normalize.specs.Normalize.{normalForm, deepForm, formArguments}
 use Rattle.normalize.specs.Meaning.{Forms, DeepForms}
 use Rattle.normalize.specs.Calls.{firstWords, listCall}
@@ -29,13 +30,15 @@ someUnless0 (suc n) x = some x
 abbrev pub deepRead : List ℕ → List ℕ → Option (List ℕ)
 deepRead l a = someUnless0 (getD a 0 0) (firstWords l (getD a 1 0))
 
--- the normal form told in words, and what it is worth: under the reasons that the call added and the definitional merges the list has the
--- term's word
+-- the normal form told in words, and what it is worth: under the reasons at exit and the definitional merges the list has the
+-- term's word. The reasons at exit are those at entry and then reasons that the list lacked, each once
 pub record ExportedForm (known : List ℕ) (t : ℕ) (m m′ : Lent) (l l′ w w′ a a′ : List ℕ) (k : ℕ) : Type 0 where
   pub is : AnsweredList (over (roomy w a) (listCall l (formArguments known t) (normalForm known t) m (stateOf w))) formWords m m′ l l′ w w′ a a′ (formRead l′ a′) k
   pub worth : k ≡ 0 → Forms (storeOf m (stateOf w)) (storeOf m′ (stateOf w′)) t (formRead l′ a′)
+  pub once : k ≡ 0 → EachOnce (storeOf m (stateOf w) .reasons) (storeOf m′ (stateOf w′) .reasons)
 
 -- the same of the deep form
 pub record ExportedDeepForm (known : List ℕ) (t : ℕ) (m m′ : Lent) (l l′ w w′ a a′ : List ℕ) (k : ℕ) : Type 0 where
   pub is : AnsweredList (over (roomy w a) (listCall l (formArguments known t) (deepForm known t) m (stateOf w))) deepWords m m′ l l′ w w′ a a′ (deepRead l′ a′) k
   pub worth : k ≡ 0 → DeepForms (storeOf m (stateOf w)) (storeOf m′ (stateOf w′)) t (deepRead l′ a′)
+  pub once : k ≡ 0 → EachOnce (storeOf m (stateOf w) .reasons) (storeOf m′ (stateOf w′) .reasons)

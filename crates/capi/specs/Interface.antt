@@ -14,6 +14,7 @@ use Rattle.records.specs.View.{Lent, storeOf}
 use Rattle.records.specs.Store.{Store, Work}
 use Rattle.records.specs.View.{Slice}
 use Rattle.records.specs.Rules.{audit}
+use Rattle.records.specs.Make.{EachOnce}
 use Rattle.records.specs.Calls.{Public, call, writesNothing, fullAlone}
 use Rattle.engine.specs.Explain.{explain, explainArguments}
 use Rattle.engine.specs.Meaning.{Explains, addedTo, Labels}
@@ -74,10 +75,12 @@ abbrev pub ExportsList : (Lent → Lent → List ℕ → List ℕ → List ℕ �
 ExportsList P x list state answer k =
     P (x .entry) (x .exit) (now (list .entry)) (now (list .exit)) (now (state .entry)) (now (state .exit)) (now (answer .entry)) (now (answer .exit)) k
 
--- explain told in words, and what it is worth: under the reasons that the call added and the definitional merges the two terms have equal
--- words. Every reason added labels an edge of the store; once the arguments pass, refusal 7 alone is given
+-- explain told in words, and what it is worth: under the reasons at exit and the definitional merges the two terms have equal
+-- words. The reasons at exit are those at entry and then reasons that the list lacked, each once. Every reason
+-- added labels an edge of the store; once the arguments pass, refusal 7 alone is given
 pub record ExportedExplain (a b : ℕ) (m m′ : Lent) (w w′ : List ℕ) (k : ℕ) : Type 0 where
   pub is : Exported (over (leb 6 (length w)) (call (explainArguments a b) (explain a b) m (stateOf w))) m m′ w w′ 0 [] [] tt k
   pub worth : k ≡ 0 → Explains (storeOf m (stateOf w)) (storeOf m′ (stateOf w′)) a b
+  pub once : k ≡ 0 → EachOnce (storeOf m (stateOf w) .reasons) (storeOf m′ (stateOf w′) .reasons)
   pub edges : k ≡ 0 → Every (Labels (storeOf m (stateOf w))) (addedTo (storeOf m (stateOf w)) (storeOf m′ (stateOf w′)))
   pub full : fullAlone k

@@ -7,6 +7,7 @@ use lib.IntN.{ℤ}
 use lib.Dec.{ltb}
 use Rattle.records.specs.Lists.{if_then_else_}
 use Rattle.records.specs.View.{Lent, storeOf}
+use Rattle.records.specs.Make.{EachOnce}
 use Rattle.normalize.specs.Calls.{listCall}
 use Rattle.equation.specs.Equation.{Stepped, unexpanded, answered, step, stepArguments, StepSound}
 use Rattle.capi.specs.Interface.{stateOf, roomy, over, AnsweredList}
@@ -24,7 +25,9 @@ stepBy n l a = if ltb 4 n then unexpanded else answered (answerBy n l a)
 abbrev pub stepRead : List ℕ → List ℕ → Stepped
 stepRead l a = stepBy (getD a 0 0) l a
 
--- the step told in words, and what it is worth: demand 3
+-- the step told in words, and what it is worth: demand 3. The reasons at exit are those at entry and then reasons that the list
+-- lacked, each once
 pub record ExportedStep (known : List ℕ) (e : ℕ) (g : ℤ) (m m′ : Lent) (k k′ w w′ a a′ : List ℕ) (n : ℕ) : Type 0 where
   pub is : AnsweredList (over (roomy w a) (listCall k (stepArguments known e g) (step known e g) m (stateOf w))) stepWords m m′ k k′ w w′ a a′ (stepRead k′ a′) n
   pub worth : n ≡ 0 → StepSound (storeOf m (stateOf w)) (storeOf m′ (stateOf w′)) e (stepRead k′ a′)
+  pub once : n ≡ 0 → EachOnce (storeOf m (stateOf w) .reasons) (storeOf m′ (stateOf w′) .reasons)

@@ -11,11 +11,11 @@ use lib.Dec.{eqb, T}
 use Rattle.records.specs.Lists.{all, any, firstOf, keep, concatMap, table, sameWord, isIn, firsts, seconds, upTo, allBelow, firstBelow}
 use Rattle.records.specs.Store.{Store, noTerm, noCell, Out, ok, stop, Work, _>>=_, _>>_, give, store, put, term, termIn, cellIn, within, textIn, chainBy, climb, aboveBy, nearestIn, pathIn}
 use Rattle.records.specs.Rules.{isChar, isNumber, reasonRule, keyRule, cellRule, textRule, named, nameRule, partRule, concatRule, lengthRule, isEquatable, equationRule, termRule, recordsRule, parentsRule, endsRule, alikeRule, aloneRule, edgeLabel, labelRule, classesRule, pairsOf, fallsRule, congruenceRule, congruencesRule, auditStore}
-use Rattle.records.specs.Make.{withTerms, withReasons, addReason, samePair, isKey, addKey, addText, chainFrom, addChain, addTerm, lookup, lowest, constantOf, concatOf, lengthOf, equationOf, makeConstant, makeVariable, makeConcat, makeLength, makeEquation, decimalBy, nameOf, isTaken, takeNameBy, takeName}
+use Rattle.records.specs.Make.{withTerms, withReasons, samePair, isListed, addReason, isKey, addKey, addText, chainFrom, addChain, addTerm, lookup, lowest, constantOf, concatOf, lengthOf, equationOf, makeConstant, makeVariable, makeConcat, makeLength, makeEquation, decimalBy, nameOf, isTaken, takeNameBy, takeName}
 use Rattle.classes.specs.Merge.{mergeIn}
-use Rattle.engine.specs.Explain.{wasSeen, each, edge, highest, walk, walked, explain}
+use Rattle.engine.specs.Explain.{wasSeen, each, edge, highest, walk, walked, explain, isReasoned}
 use Rattle.normalize.specs.Normalize.{atomsBy, flatten}
-use Rattle.wordeq.specs.Wordeq.{Answer, done, saturated, conflict, propagate, split, same, fixed, lettersOf, letters, sameHeads, sameTails, rest, explainMatch, explainMatches, strip, isFull, occurrence, occurs, unequal, short, absent, constants, isPlain, alias, empties, assigns, filled, lead, firstSpan, fits, explainAll, tileBy, tile, differ, clashes, freshVariable, splitCharacter, splitHeads, splits, after, steps, resolve}
+use Rattle.wordeq.specs.Wordeq.{Answer, done, saturated, conflict, propagate, split, same, fixed, lettersOf, letters, sameHeads, sameTails, rest, explainMatch, explainMatches, needsReason, strip, isFull, occurrence, occurs, unequal, short, absent, constants, isPlain, alias, empties, assigns, filled, lead, firstSpan, fits, explainAll, tileBy, tile, differ, clashes, freshVariable, splitCharacter, splitHeads, splits, after, steps, resolve}
 
 -- STORES, line by line as `labelstep` builds them
 
@@ -159,5 +159,5 @@ starred =
     ∷ []
 
 pub starred-hold : T (all holds starred)
-unfolding starred holds samePairs build line merged codes all any firstOf keep concatMap table sameWord isIn firsts seconds upTo allBelow firstBelow termIn cellIn within textIn chainBy climb aboveBy nearestIn pathIn isChar isNumber reasonRule keyRule cellRule textRule named nameRule partRule concatRule lengthRule isEquatable equationRule termRule recordsRule parentsRule endsRule alikeRule aloneRule edgeLabel labelRule classesRule pairsOf fallsRule congruenceRule congruencesRule auditStore addReason samePair isKey addKey addText chainFrom addChain addTerm lookup lowest constantOf concatOf lengthOf equationOf makeConstant makeVariable makeConcat makeLength makeEquation decimalBy nameOf isTaken takeNameBy takeName wasSeen each edge highest walk walked explain atomsBy flatten same fixed lettersOf letters sameHeads sameTails rest explainMatch explainMatches strip isFull occurrence occurs unequal short absent constants isPlain alias empties assigns filled lead firstSpan fits explainAll tileBy tile differ clashes freshVariable splitCharacter splitHeads splits after steps resolve
+unfolding starred holds samePairs build line merged codes all any firstOf keep concatMap table sameWord isIn firsts seconds upTo allBelow firstBelow termIn cellIn within textIn chainBy climb aboveBy nearestIn pathIn isChar isNumber reasonRule keyRule cellRule textRule named nameRule partRule concatRule lengthRule isEquatable equationRule termRule recordsRule parentsRule endsRule alikeRule aloneRule edgeLabel labelRule classesRule pairsOf fallsRule congruenceRule congruencesRule auditStore samePair isListed addReason isKey addKey addText chainFrom addChain addTerm lookup lowest constantOf concatOf lengthOf equationOf makeConstant makeVariable makeConcat makeLength makeEquation decimalBy nameOf isTaken takeNameBy takeName wasSeen each edge highest walk walked explain isReasoned atomsBy flatten same fixed lettersOf letters sameHeads sameTails rest explainMatch explainMatches needsReason strip isFull occurrence occurs unequal short absent constants isPlain alias empties assigns filled lead firstSpan fits explainAll tileBy tile differ clashes freshVariable splitCharacter splitHeads splits after steps resolve
 starred-hold = tt

@@ -9,10 +9,10 @@ use lib.Dec.{eqb, T}
 use Rattle.records.specs.Lists.{all, any, firstOf, keep, concatMap, table, sameWord, isIn, firsts, seconds, upTo, allBelow, firstBelow}
 use Rattle.records.specs.Store.{Out, ok, stop, _>>=_, _>>_, termIn, cellIn, within, textIn, chainBy, climb, aboveBy, nearestIn, pathIn}
 use Rattle.records.specs.Rules.{isChar, isNumber, reasonRule, keyRule, cellRule, textRule, named, nameRule, partRule, concatRule, lengthRule, isEquatable, equationRule, termRule, recordsRule, parentsRule, endsRule, alikeRule, aloneRule, edgeLabel, labelRule, classesRule, pairsOf, fallsRule, congruenceRule, congruencesRule, auditStore}
-use Rattle.records.specs.Make.{addReason, samePair, isKey, addKey, addText, chainFrom, addChain, addTerm, lookup, lowest, constantOf, concatOf, lengthOf, equationOf, makeConstant, makeVariable, makeConcat, makeLength, makeEquation, decimalBy, nameOf, isTaken, takeNameBy, takeName}
-use Rattle.engine.specs.Explain.{wasSeen, each, edge, highest, walk, walked, explain}
+use Rattle.records.specs.Make.{samePair, isListed, addReason, isKey, addKey, addText, chainFrom, addChain, addTerm, lookup, lowest, constantOf, concatOf, lengthOf, equationOf, makeConstant, makeVariable, makeConcat, makeLength, makeEquation, decimalBy, nameOf, isTaken, takeNameBy, takeName}
+use Rattle.engine.specs.Explain.{wasSeen, each, edge, highest, walk, walked, explain, isReasoned}
 use Rattle.normalize.specs.Normalize.{atomsBy, flatten, representative, substitute, join, push, pushAll, pushForms, normalForm, expand, settle, rounds, deepForm}
-use Rattle.wordeq.specs.Wordeq.{Answer, conflict, propagate, same, fixed, lettersOf, letters, sameHeads, sameTails, rest, explainMatch, explainMatches, strip, isFull, occurrence, occurs, unequal, short, absent, constants, isPlain, alias, empties, assigns, filled, lead, firstSpan, fits, explainAll, tileBy, tile, differ, clashes, freshVariable, splitCharacter, splitHeads, splits, after, steps, resolve}
+use Rattle.wordeq.specs.Wordeq.{Answer, conflict, propagate, same, fixed, lettersOf, letters, sameHeads, sameTails, rest, explainMatch, explainMatches, needsReason, strip, isFull, occurrence, occurs, unequal, short, absent, constants, isPlain, alias, empties, assigns, filled, lead, firstSpan, fits, explainAll, tileBy, tile, differ, clashes, freshVariable, splitCharacter, splitHeads, splits, after, steps, resolve}
 use Rattle.equation.specs.Equation.{Stepped, unexpanded, answered, step}
 use Rattle.cases.specs.Cases.{empty, codes, Line, con, var, cat, by, merged, line, build, number, values, guardOf, sameGuard, samePairs}
 
@@ -67,5 +67,5 @@ unfoldable pub atoms256 : Bool
 atoms256 = lengthIs 256 (formOf (var "x" ∷ doubled 8 1) [] 9) && isNone (formOf (var "x" ∷ doubled 8 1 ++ (cat (9 ∷ 1 ∷ []) ∷ [])) [] 10)
 
 pub others-hold : T (example && twice && atoms256)
-unfolding example twice run formOf doubled atoms256 samePairs build line merged codes all any firstOf keep concatMap table sameWord isIn firsts seconds upTo allBelow firstBelow termIn cellIn within textIn chainBy climb aboveBy nearestIn pathIn isChar isNumber reasonRule keyRule cellRule textRule named nameRule partRule concatRule lengthRule isEquatable equationRule termRule recordsRule parentsRule endsRule alikeRule aloneRule edgeLabel labelRule classesRule pairsOf fallsRule congruenceRule congruencesRule auditStore addReason samePair isKey addKey addText chainFrom addChain addTerm lookup lowest constantOf concatOf lengthOf equationOf makeConstant makeVariable makeConcat makeLength makeEquation decimalBy nameOf isTaken takeNameBy takeName wasSeen each edge highest walk walked explain atomsBy flatten same fixed lettersOf letters sameHeads sameTails rest explainMatch explainMatches strip isFull occurrence occurs unequal short absent constants isPlain alias empties assigns filled lead firstSpan fits explainAll tileBy tile differ clashes freshVariable splitCharacter splitHeads splits after steps resolve representative substitute join push pushAll pushForms normalForm expand settle rounds deepForm step
+unfolding example twice run formOf doubled atoms256 samePairs build line merged codes all any firstOf keep concatMap table sameWord isIn firsts seconds upTo allBelow firstBelow termIn cellIn within textIn chainBy climb aboveBy nearestIn pathIn isChar isNumber reasonRule keyRule cellRule textRule named nameRule partRule concatRule lengthRule isEquatable equationRule termRule recordsRule parentsRule endsRule alikeRule aloneRule edgeLabel labelRule classesRule pairsOf fallsRule congruenceRule congruencesRule auditStore samePair isListed addReason isKey addKey addText chainFrom addChain addTerm lookup lowest constantOf concatOf lengthOf equationOf makeConstant makeVariable makeConcat makeLength makeEquation decimalBy nameOf isTaken takeNameBy takeName wasSeen each edge highest walk walked explain isReasoned atomsBy flatten same fixed lettersOf letters sameHeads sameTails rest explainMatch explainMatches needsReason strip isFull occurrence occurs unequal short absent constants isPlain alias empties assigns filled lead firstSpan fits explainAll tileBy tile differ clashes freshVariable splitCharacter splitHeads splits after steps resolve representative substitute join push pushAll pushForms normalForm expand settle rounds deepForm step
 others-hold = tt

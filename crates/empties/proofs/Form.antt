@@ -18,7 +18,7 @@ use Rattle.records.specs.Store.{Store, Out, ok, stop, Work, andThen, _>>=_, giv
 use Rattle.records.specs.Make.{withReasons, makeConstant}
 use Rattle.records.proofs.Lists.{both-left, both-right, both-true, left-false, right-false, either, all-every}
 use Rattle.normalize.specs.Normalize.{flatten}
-use Rattle.wordeq.specs.Wordeq.{Answer, done, propagate, Tried, settled, _orElse_, answer, same, fixed, lettersOf, letters, sameHeads, sameTails, explainMatches, rest, strip, occurs, unequal, short, absent, constants, alias, emptiesAt, empties, assigns, filled, lead, firstSpan, fits, variables, tileBy, tile, clashes, splits, after, isBare, orDone, steps, softened, closed, resolve}
+use Rattle.wordeq.specs.Wordeq.{Answer, done, propagate, Tried, settled, _orElse_, answer, same, fixed, lettersOf, letters, sameHeads, sameTails, explainMatches, matches, needsReason, rest, strip, occurs, unequal, short, absent, constants, alias, emptiesAt, empties, assigns, filled, lead, firstSpan, fits, variables, tileBy, tile, clashes, splits, after, isBare, orDone, steps, softened, closed, resolve}
 use Rattle.empties.specs.Empties.{emptyAgainst, emptied, sides}
 
 -- WHAT IT ANSWERS
@@ -275,29 +275,29 @@ module _ (s : Store) (a b : ℕ) (q : List ℕ) (h : all (isVariable s) (a ∷ b
   abbrev p₂ : List ℕ
   p₂ = a ∷ b ∷ q
 
-  abbrev grew : Bool
-  grew = ltb (length (s .reasons)) (length (s .reasons))
+  abbrev asked : List ℕ → List ℕ → Bool
+  asked l r = any (needsReason s) (matches s l r)
 
-  steps-left-is : steps g [] p₂ s ≡ andThen orDone (after g grew [] p₂ s)
+  steps-left-is : steps g [] p₂ s ≡ andThen orDone (after g (asked [] p₂) [] p₂ s)
   unfolding steps
   steps-left-is = rw (strip-left s a b q h)
 
-  steps-right-is : steps g p₂ [] s ≡ andThen orDone (after g grew p₂ [] s)
+  steps-right-is : steps g p₂ [] s ≡ andThen orDone (after g (asked p₂ []) p₂ [] s)
   unfolding steps
   steps-right-is = rw (strip-right s a b q h)
 
   pub steps-left-stops : {k : ℕ} → makeConstant [] s ≡ stop k → steps g [] p₂ s ≡ stop k
-  steps-left-stops c = steps-left-is ∙ ap (andThen orDone) (after-left-stops s a b q h g grew c)
+  steps-left-stops c = steps-left-is ∙ ap (andThen orDone) (after-left-stops s a b q h g (asked [] p₂) c)
 
   pub steps-right-stops : {k : ℕ} → makeConstant [] s ≡ stop k → steps g p₂ [] s ≡ stop k
-  steps-right-stops c = steps-right-is ∙ ap (andThen orDone) (after-right-stops s a b q h g grew c)
+  steps-right-stops c = steps-right-is ∙ ap (andThen orDone) (after-right-stops s a b q h g (asked p₂ []) c)
 
   module _ {s₁ : Store} {e : ℕ} (c : makeConstant [] s ≡ ok s₁ e) (h₁ : all (isVariable s₁) (a ∷ b ∷ q) ≡ true) where
     pub steps-left : steps g [] p₂ s ≡ ok s₁ (says e (firstNot s₁ e p₂))
-    steps-left = steps-left-is ∙ ap (andThen orDone) (after-left s a b q h g grew c h₁ (firstNot s₁ e p₂) refl) ∙ tries-done s₁ e (firstNot s₁ e p₂)
+    steps-left = steps-left-is ∙ ap (andThen orDone) (after-left s a b q h g (asked [] p₂) c h₁ (firstNot s₁ e p₂) refl) ∙ tries-done s₁ e (firstNot s₁ e p₂)
 
     pub steps-right : steps g p₂ [] s ≡ ok s₁ (says e (firstNot s₁ e p₂))
-    steps-right = steps-right-is ∙ ap (andThen orDone) (after-right s a b q h g grew c h₁ (firstNot s₁ e p₂) refl) ∙ tries-done s₁ e (firstNot s₁ e p₂)
+    steps-right = steps-right-is ∙ ap (andThen orDone) (after-right s a b q h g (asked p₂ []) c h₁ (firstNot s₁ e p₂) refl) ∙ tries-done s₁ e (firstNot s₁ e p₂)
 
 -- WHICHEVER LIST IS EMPTY
 

@@ -36,12 +36,12 @@ fn is_met(terms: &[u32], chars: &[u32], c: State, v: u32, e: u32, met: &[u32]) -
     requires { ⌜ all (isString (readIn (now terms) (now chars) c)) (v ∷ e ∷ now met) ≡ true ⌝ }
     ensures { λ r. ⌜ r ≡ any (sameClass (readIn (now (terms .entry)) (now (chars .entry)) c) v) (e ∷ now (met .entry)) ⌝ }
 {
-    if stripping::same_class(terms, chars, c, v, e) {
+    if stripping::same_class_unchecked(terms, chars, c, v, e) {
         return true;
     }
     let mut i: usize = 0;
     while i < met.len() {
-        if stripping::same_class(terms, chars, c, v, met[i]) {
+        if stripping::same_class_unchecked(terms, chars, c, v, met[i]) {
             return true;
         }
         i += 1;
@@ -165,12 +165,12 @@ pub fn empty_parts_unchecked(
     ensures { λ o. ⌜ Does (emptyParts (now (lhs .entry)) (now (rhs .entry))) (across terms cells chars reasons keys) c (listed o into list) ⌝ }
 {
     let mut left: [u32; 1024] = [0; 1024];
-    let n = resolving::flatten_list(terms, cells, c, lhs, &mut left);
+    let n = resolving::flatten_list_unchecked(terms, cells, c, lhs, &mut left);
     if LIST_LIMIT < n {
         return Empties::Refused(6);
     }
     let mut right: [u32; 1024] = [0; 1024];
-    let k = resolving::flatten_list(terms, cells, c, rhs, &mut right);
+    let k = resolving::flatten_list_unchecked(terms, cells, c, rhs, &mut right);
     if LIST_LIMIT < k {
         return Empties::Refused(6);
     }

@@ -18,7 +18,7 @@ use Rattle.engine.specs.Explain.{Seen, wasSeen, each, edge, walk}
 use Rattle.engine.specs.Meaning.{Labels}
 use Rattle.engine.proofs.Paths.{path-edges}
 use Rattle.engine.proofs.Fits.{Fit, fit-zero, fit-more, pairs-fit}
-use Rattle.engine.proofs.Cites.{cites, citing, citing-then}
+use Rattle.engine.proofs.Cites.{roomed, cites, citing, citing-then, found-is}
 
 -- equal, or seen
 abbrev pub EqualOrSeen : Seen → ℕ × ℕ → Type 0
@@ -58,7 +58,7 @@ module _ (s : Store) where
   pub record Run (f : Work Seen) (seen : Seen) (J : List (ℕ × ℕ) → Seen → Type 0) : Type 0 where
     pub cited : List (ℕ × ℕ)
     pub after : Seen
-    pub is : (rs : List (ℕ × ℕ)) → f (withReasons s rs) ≡ citing s cited after rs
+    pub is : (n : ℕ) (rs : List (ℕ × ℕ)) → f (withReasons (roomed s n) rs) ≡ citing (roomed s n) cited after rs
     pub causes : Every (Labels s) cited
     pub grows : (q : ℕ × ℕ) → List·Memᴰ q seen → List·Memᴰ q after
     pub fresh : (q : ℕ × ℕ) → List·Memᴰ q after → List·Memᴰ q seen ⊎ Settled cited after q
@@ -66,12 +66,12 @@ module _ (s : Store) where
 
   run-give : {J : List (ℕ × ℕ) → Seen → Type 0} (seen : Seen) → J [] seen → Run (give seen) seen J
   unfolding cites
-  run-give seen j = record { cited = []; after = seen; is = λ rs. refl; causes = none-left; grows = λ q m. m; fresh = λ q m. inl m; ends = j }
+  run-give seen j = record { cited = []; after = seen; is = λ n rs. refl; causes = none-left; grows = λ q m. m; fresh = λ q m. inl m; ends = j }
 
   -- other work that does the same
-  run-as : {f : Work Seen} {seen : Seen} {J K : List (ℕ × ℕ) → Seen → Type 0} (g : Work Seen) → ((rs : List (ℕ × ℕ)) → g (withReasons s rs) ≡ f (withReasons s rs))
+  run-as : {f : Work Seen} {seen : Seen} {J K : List (ℕ × ℕ) → Seen → Type 0} (g : Work Seen) → ((n : ℕ) (rs : List (ℕ × ℕ)) → g (withReasons (roomed s n) rs) ≡ f (withReasons (roomed s n) rs))
       → ((l : List (ℕ × ℕ)) (v : Seen) → J l v → K l v) → Run f seen J → Run g seen K
-  run-as g e k x = record { cited = x .cited; after = x .after; is = λ rs. e rs ∙ x .is rs; causes = x .causes; grows = x .grows; fresh = x .fresh; ends = k _ _ (x .ends) }
+  run-as g e k x = record { cited = x .cited; after = x .after; is = λ n rs. e n rs ∙ x .is n rs; causes = x .causes; grows = x .grows; fresh = x .fresh; ends = k _ _ (x .ends) }
 
   -- in sequence
   module _ {f : Work Seen} {seen : Seen} (g : Seen → Work Seen) {J K : List (ℕ × ℕ) → Seen → Type 0} (x : Run f seen J) (y : Run (g (x .after)) (x .after) K) where
@@ -85,7 +85,7 @@ module _ (s : Store) where
     run-then l = record {
       cited = x .cited ++ y .cited;
       after = y .after;
-      is = λ rs. ap (andThen g) (x .is rs) ∙ citing-then s g (x .cited) (y .cited) (x .after) (y .after) (y .is) rs;
+      is = λ n rs. ap (andThen g) (x .is n rs) ∙ citing-then (roomed s n) g (x .cited) (y .cited) (x .after) (y .after) (y .is n) rs;
       causes = every-append (x .causes) (y .causes);
       grows = λ q m. y .grows q (x .grows q m);
       fresh = λ q m. ⊎-elim (λ n. ⊎-elim inl (λ w. inr (settled-more more-left w)) (x .fresh q n)) (λ w. inr (settled-more more-right w)) (y .fresh q m);
@@ -103,15 +103,9 @@ module _ (s : Store) where
         let y : Run (each f l (x .after)) (x .after) (λ c v. Every (λ a. R a c v) l) = each-run k (x .after) in
         run-then (each f l) x y (and (keeps _ _ _ _ (more-left (each f l) x y) a (x .ends)) (every-map (keeps _ _ _ _ (more-right (each f l) x y)) (y .ends)))
 
-pair-is : (a b c d : ℕ) → a ≡ c → b ≡ d → _≡_ {A = ℕ × ℕ} (a, b) (c, d)
-pair-is a b c d p q = cc
-
 seen-is : (p : ℕ × ℕ) (seen : Seen) → wasSeen p seen ≡ true → List·Memᴰ (ordered (p .0) (p .1)) seen
-unfolding wasSeen any samePair
-seen-is p [] e = clash e refl
-seen-is p (q ∷ seen) e =
-    ⊎-elim (λ h. List·Memᴰ·head (pair-is _ _ (q .0) (q .1) (eqb-true _ _ (both-left _ _ h)) (eqb-true _ _ (both-right (eqb (min (p .0) (p .1)) (q .0)) _ h))))
-    (λ h. List·Memᴰ·tail (seen-is p seen h)) (either (samePair (ordered (p .0) (p .1)) q) _ e)
+unfolding wasSeen
+seen-is p seen e = found-is (ordered (p .0) (p .1)) seen e
 
 -- a reason and then an answer
 reason-then : (o : Out (Unit {0})) (seen : Seen)
@@ -124,13 +118,13 @@ module _ (s : Store) (d : Audited s) where
   Walks h = (p : ℕ × ℕ) → Fit s h p → (seen : Seen) → Run s (walk h p seen) seen (λ l v. EqualOrSeen v p)
 
   reason-run : (h t : ℕ) (seen : Seen) → isEdge s t ≡ true → reasonRule (term s t .labelKind, term s t .labelValue) ≡ true
-      → ((rs : List (ℕ × ℕ)) → edge (walk h) t seen (withReasons s rs) ≡ andThen (λ (u : Unit {0}). give seen) (addReason (term s t .labelKind) (term s t .labelValue) (withReasons s rs)))
+      → ((n : ℕ) (rs : List (ℕ × ℕ)) → edge (walk h) t seen (withReasons (roomed s n) rs) ≡ andThen (λ (u : Unit {0}). give seen) (addReason (term s t .labelKind) (term s t .labelValue) (withReasons (roomed s n) rs)))
       → Run s (edge (walk h) t seen) seen (λ l v. Accounted s l v t)
   unfolding cites reasonRule
   reason-run h t seen e g q = record {
     cited = (term s t .labelKind, term s t .labelValue) ∷ [];
     after = seen;
-    is = λ rs. q rs ∙ reason-then (addReason (term s t .labelKind) (term s t .labelValue) (withReasons s rs)) seen;
+    is = λ n rs. q n rs ∙ reason-then (addReason (term s t .labelKind) (term s t .labelValue) (withReasons (roomed s n) rs)) seen;
     causes = and (record { at = t; edge = e; is = refl; good = g }) none-left;
     grows = λ q m. m;
     fresh = λ q m. inl m;
@@ -143,12 +137,12 @@ module _ (s : Store) (d : Audited s) where
   edge-run h ih t i e b seen = go (d .classed .labels t i e)
     where
       go : Label s t → Run s (edge (walk h) t seen) seen (λ l v. Accounted s l v t)
-      go (asserted k n) = reason-run h t seen e (rw k n) (λ rs. rw k)
-      go (interface k n) = reason-run h t seen e (rw k n) (λ rs. rw k)
+      go (asserted k n) = reason-run h t seen e (rw k n) (λ n rs. rw k)
+      go (interface k n) = reason-run h t seen e (rw k n) (λ n rs. rw k)
       go (congruence k) =
-          run-as s (edge (walk h) t seen) (λ rs. rw k) (λ l v. by-pairs k)
+          run-as s (edge (walk h) t seen) (λ n rs. rw k) (λ l v. by-pairs k)
           (each-run s (walk h) (Fit s h) (λ p l v. EqualOrSeen v p) (λ l l′ v v′. equal-more) ih (every-map (λ p f. fit-more b f) (pairs-fit s d t (d .congruences t e k))) seen)
-      go (definitional k n) = run-as s (edge (walk h) t seen) (λ rs. rw k) (λ l v j. j) (run-give s seen (by-definition k))
+      go (definitional k n) = run-as s (edge (walk h) t seen) (λ n rs. rw k) (λ l v j. j) (run-give s seen (by-definition k))
 
   seen-run : (p : ℕ × ℕ) (seen : Seen) {f : Work Seen}
       → Run s f (ordered (p .0) (p .1) ∷ seen) (λ l v. Every (Accounted s l v) (path s (p .0) (p .1))) → Run s f seen (λ l v. EqualOrSeen v p)
@@ -169,9 +163,9 @@ module _ (s : Store) (d : Audited s) where
     where
       go : Walks h → (b : Bool) → (eqb (p .0) (p .1) || wasSeen p seen) ≡ b → Run s (walk (suc h) p seen) seen (λ l v. EqualOrSeen v p)
       go ih true e =
-          run-as s (walk (suc h) p seen) (λ rs. rw e) (λ l v j. j)
+          run-as s (walk (suc h) p seen) (λ n rs. rw e) (λ l v j. j)
           (run-give s seen (⊎-elim (λ q. inl (eqb-true _ _ q)) (λ q. inr (seen-is p seen q)) (either (eqb (p .0) (p .1)) _ e)))
       go ih false e =
-          run-as s (walk (suc h) p seen) (λ rs. rw e) (λ l v j. j)
+          run-as s (walk (suc h) p seen) (λ n rs. rw e) (λ l v j. j)
           (seen-run p seen (each-run s (edge (walk h)) (λ t. ((isTerm s t ≡ true) × (isEdge s t ≡ true)) × (term s t .stamp < suc h)) (λ t l v. Accounted s l v t) (λ l l′ v v′. accounted-more s)
           (λ t q. edge-run h ih t (q .0 .0) (q .0 .1) (let m = q .1 in omega arith)) (every-both (path-edges s d p (f .together)) (f .stamps)) (ordered (p .0) (p .1) ∷ seen)))

@@ -30,8 +30,8 @@ module _ (s : Store) where
   each-same f g Q J good same none-left seen rs = refl
   each-same f g Q J good same (and {a = a} {l = l} q k) seen rs =
       let x = good a q seen in
-      ap (andThen (each f l)) (x .is rs) ∙ citing-same s (each f l) (each g l) (x .cited) (x .after) (each-same f g Q J good same k (x .after)) rs
-      ∙ ap (andThen (each g l)) (sym (x .is rs) ∙ same a q seen rs)
+      ap (andThen (each f l)) (x .is (s .room .reasons) rs) ∙ citing-same s (each f l) (each g l) (x .cited) (x .after) (each-same f g Q J good same k (x .after)) rs
+      ∙ ap (andThen (each g l)) (sym (x .is (s .room .reasons) rs) ∙ same a q seen rs)
 
 -- one level of walk, each pair below walked with its own height
 abbrev pub level : Store → ℕ × ℕ → Seen → Work Seen

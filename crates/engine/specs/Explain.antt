@@ -1,10 +1,11 @@
 -- Document 01, 'Engine': find and explain.
-use mathlib.Core.Bool.{Bool, _&&_, _||_}
+use mathlib.Core.Bool.{Bool, true, _&&_, _||_}
 use mathlib.Core.List.{List, [], _∷_}
 use Prim.Native.Nat.{ℕ, zero, suc, max}
-use lib.Dec.{eqb}
+use lib.ListN.{length}
+use lib.Dec.{eqb, ltb}
 use Rattle.records.specs.Lists.{if_then_else_, any}
-use Rattle.records.specs.Store.{Term, Store, ok, Work, _>>=_, _>>_, give, refuse, store, termIn, term, isString, chain, root, sameClass, path}
+use Rattle.records.specs.Store.{Term, Store, Out, ok, stop, Work, _>>=_, _>>_, give, refuse, store, termIn, term, isString, chain, root, sameClass, path}
 use Rattle.records.specs.Make.{addReason, ordered, samePair}
 
 -- find: the class root
@@ -70,3 +71,34 @@ unfoldable pub explain : ℕ → ℕ → Work (Unit {0})
 explain a b = do
   walked (a, b) []
   give tt
+
+-- AN EXPLANATION OF ITS OWN
+
+-- a store whose list of reasons is empty and has room for one
+abbrev pub emptied : Store → Store
+emptied s = record {
+  terms = s .terms;
+  cells = s .cells;
+  chars = s .chars;
+  reasons = [];
+  keys = s .keys;
+  names = s .names;
+  room = record {
+    terms = s .room .terms;
+    cells = s .room .cells;
+    chars = s .room .chars;
+    reasons = 1;
+    keys = s .room .keys;
+    zeroTerm = s .room .zeroTerm;
+    zeroCell = s .room .zeroCell;
+  };
+}
+
+-- a reason is listed, or the next finds no room
+abbrev pub givesReason : Out (Unit {0}) → Bool
+givesReason (ok s u) = ltb 0 (length (s .reasons))
+givesReason (stop n) = true
+
+-- 'a non-empty explanation of its own', whatever the list has already
+unfoldable pub isReasoned : Store → ℕ → ℕ → Bool
+isReasoned s a b = givesReason (explain a b (emptied s))

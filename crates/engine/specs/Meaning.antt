@@ -12,9 +12,9 @@ use Rattle.records.specs.Meaning.{Words, Reading, Holds}
 abbrev pub addedTo : Store → Store → List (ℕ × ℕ)
 addedTo s s′ = drop (length (s .reasons)) (s′ .reasons)
 
--- for all words under which the definitional merges and the reasons that the call added hold, the two terms have equal words
+-- for all words under which the definitional merges and the reasons at exit hold, the two terms have equal words
 abbrev pub Explains : Store → Store → ℕ → ℕ → Type 0
-Explains s s′ a b = (w : Words) → Reading s w → Holds s (addedTo s s′) w → w a ≡ w b
+Explains s s′ a b = (w : Words) → Reading s w → Holds s (s′ .reasons) w → w a ≡ w b
 
 -- an asserted or interface reason that labels an edge of the store
 pub record Labels (s : Store) (r : ℕ × ℕ) : Type 0 where

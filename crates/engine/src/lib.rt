@@ -3,10 +3,10 @@ ghost use mathlib.Core.Path.{_≡_};
 ghost use mathlib.Core.Bool.{true, false};
 ghost use Prim.Native.Nat.{_+_, _*_, _≤_, _<_};
 ghost use lib.ListN.{length};
-ghost use Rattle.records.specs.View.{storeOf, lends, across};
+ghost use Rattle.records.specs.View.{storeOf, lends, across, reasonRoom};
 ghost use Rattle.records.specs.Working.Audited.{Ready};
 ghost use Rattle.records.specs.Calls.{added, Does, Answers, Promises};
-ghost use Rattle.engine.specs.Explain.{find, findArguments, walked, edge, explain, explainArguments};
+ghost use Rattle.engine.specs.Explain.{find, findArguments, walked, edge, explain, explainArguments, isReasoned};
 ghost use Rattle.engine.specs.Working.Seen.{place, seenAt, Noted};
 ghost use Rattle.engine.specs.Working.Walks.{Walkable, Together, Edge, Walks, Gives, Explainable, Plainly, PlainEdge, PlainPair, PlainPath, Along, PairExplained};
 ghost use Rattle.engine.specs.Calls.{found, PublicExplain};
@@ -16,6 +16,8 @@ use records::classes;
 use records::fields;
 use records::put;
 use records::rules;
+
+mod listing;
 
 // How far a walk came: 0 and the count of reasons, or the refusal. A walk is given the counts and hands back that of the reasons alone,
 // because a walk within a walk keeps what it was handed on the stack.
@@ -91,10 +93,24 @@ fn note_seen(table: &mut [u32], k: usize)
     table[i] = w + (1 << j);
 }
 
-// One reason more.
-fn give(reasons: &mut [u32], c: State, kind: u32, value: u32) -> Walked
+// One reason more, that of the edge from node, unless the list has it.
+fn give(
+    reasons: &mut [u32],
+    c: State,
+    kind: u32,
+    value: u32,
+    node: u32,
+    places: &mut [u32],
+) -> Walked
+    requires { ⌜ c .reasons ≤ reasonRoom (now reasons) ⌝ }
     ensures { λ r. ⌜ Gives (now (reasons .entry)) (now (reasons .exit)) (c .reasons) kind value r ⌝ }
 {
+    if listing::is_listed(reasons, c.reasons, places, node, kind, value) {
+        return Walked {
+            code: 0,
+            count: c.reasons,
+        };
+    }
     let p = put::push_reason_unchecked(reasons, c, kind, value);
     match p {
         Added::Counts(d) => Walked {
@@ -117,8 +133,9 @@ fn explain_rec(
     b: u32,
     seen: &mut [u32],
     reasons: &mut [u32],
+    places: &mut [u32],
 ) -> Walked
-    requires { ⌜ Walkable (now terms) (now cells) (now seen) (now reasons) (c .terms) (c .cells) (λ s. Together s (a, b)) ⌝ }
+    requires { ⌜ Walkable (now terms) (now cells) (now seen) (now reasons) (c .terms) (c .cells) (c .reasons) (λ s. Together s (a, b)) ⌝ }
     ensures { λ r. ⌜ Along (Walks (walked (a, b)) (λ s. Together s (a, b))) terms cells seen reasons c r ⌝ }
 {
     if a == b {
@@ -150,7 +167,8 @@ fn explain_rec(
             last = true;
             x = b;
         } else {
-            let r = expand_edge(terms, cells, c.with_reasons(given), x, seen, reasons);
+            let d = c.with_reasons(given);
+            let r = expand_edge(terms, cells, d, x, seen, reasons, places);
             if r.code != 0 {
                 return r;
             }
@@ -168,22 +186,24 @@ fn expand_edge(
     node: u32,
     seen: &mut [u32],
     reasons: &mut [u32],
+    places: &mut [u32],
 ) -> Walked
-    requires { ⌜ Walkable (now terms) (now cells) (now seen) (now reasons) (c .terms) (c .cells) (λ s. Edge s node) ⌝ }
+    requires { ⌜ Walkable (now terms) (now cells) (now seen) (now reasons) (c .terms) (c .cells) (c .reasons) (λ s. Edge s node) ⌝ }
     ensures { λ r. ⌜ Along (Walks (edge walked node) (λ s. Edge s node)) terms cells seen reasons c r ⌝ }
 {
     let kind = fields::label_kind(terms, node);
     let value = fields::label_value(terms, node);
     match kind {
-        1 => give(reasons, c, 1, value),
-        2 => give(reasons, c, 2, value),
+        1 => give(reasons, c, 1, value, node, places),
+        2 => give(reasons, c, 2, value, node, places),
         3 => {
             let mut at = value;
             let mut given = c.reasons;
             while at != 0 {
                 let s = fields::value(cells, at);
                 let t = fields::other(cells, at);
-                let r = explain_rec(terms, cells, c.with_reasons(given), s, t, seen, reasons);
+                let d = c.with_reasons(given);
+                let r = explain_rec(terms, cells, d, s, t, seen, reasons, places);
                 if r.code != 0 {
                     return r;
                 }
@@ -206,7 +226,7 @@ fn expand_edge(
     }
 }
 
-// The table is cleared at each call, so a store of few terms has a small one.
+// The tables are cleared at each call, so a store of few terms has small ones.
 fn explain_few(
     terms: &[u32],
     cells: &[u32],
@@ -215,11 +235,12 @@ fn explain_few(
     b: u32,
     reasons: &mut [u32],
 ) -> Walked
-    requires { ⌜ (c .terms ≤ 31) × Explainable (now terms) (now cells) (now reasons) (c .terms) (c .cells) a b ⌝ }
+    requires { ⌜ (c .terms ≤ 31) × Explainable (now terms) (now cells) (now reasons) (c .terms) (c .cells) a b (c .reasons) ⌝ }
     ensures { λ r. ⌜ PairExplained terms cells reasons c a b r ⌝ }
 {
     let mut seen: [u32; 32] = [0; 32];
-    explain_rec(terms, cells, c, a, b, &mut seen, reasons)
+    let mut places: [u32; 32] = [0; 32];
+    explain_rec(terms, cells, c, a, b, &mut seen, reasons, &mut places)
 }
 
 fn explain_some(
@@ -230,11 +251,12 @@ fn explain_some(
     b: u32,
     reasons: &mut [u32],
 ) -> Walked
-    requires { ⌜ (c .terms ≤ 127) × Explainable (now terms) (now cells) (now reasons) (c .terms) (c .cells) a b ⌝ }
+    requires { ⌜ (c .terms ≤ 127) × Explainable (now terms) (now cells) (now reasons) (c .terms) (c .cells) a b (c .reasons) ⌝ }
     ensures { λ r. ⌜ PairExplained terms cells reasons c a b r ⌝ }
 {
     let mut seen: [u32; 512] = [0; 512];
-    explain_rec(terms, cells, c, a, b, &mut seen, reasons)
+    let mut places: [u32; 128] = [0; 128];
+    explain_rec(terms, cells, c, a, b, &mut seen, reasons, &mut places)
 }
 
 fn explain_many(
@@ -245,22 +267,24 @@ fn explain_many(
     b: u32,
     reasons: &mut [u32],
 ) -> Walked
-    requires { ⌜ (c .terms ≤ 512) × Explainable (now terms) (now cells) (now reasons) (c .terms) (c .cells) a b ⌝ }
+    requires { ⌜ (c .terms ≤ 512) × Explainable (now terms) (now cells) (now reasons) (c .terms) (c .cells) a b (c .reasons) ⌝ }
     ensures { λ r. ⌜ PairExplained terms cells reasons c a b r ⌝ }
 {
     let mut seen: [u32; 8225] = [0; 8225];
-    explain_rec(terms, cells, c, a, b, &mut seen, reasons)
+    let mut places: [u32; 513] = [0; 513];
+    explain_rec(terms, cells, c, a, b, &mut seen, reasons, &mut places)
 }
 
 // As expand_edge, for an edge that leads to no other pair. Any other is left to expand_edge.
-fn plain_edge(terms: &[u32], c: State, node: u32, reasons: &mut [u32]) -> Plain
+fn plain_edge(terms: &[u32], c: State, node: u32, reasons: &mut [u32], places: &mut [u32]) -> Plain
+    requires { ⌜ c .reasons ≤ reasonRoom (now reasons) ⌝ }
     ensures { λ r. ⌜ Plainly (PlainEdge (now (terms .entry)) (now (reasons .entry)) (now (reasons .exit)) node (c .reasons)) (now (reasons .entry)) (now (reasons .exit)) (c .reasons) r ⌝ }
 {
     let kind = fields::label_kind(terms, node);
     let value = fields::label_value(terms, node);
     match kind {
-        1 => Plain::Ended(give(reasons, c, 1, value)),
-        2 => Plain::Ended(give(reasons, c, 2, value)),
+        1 => Plain::Ended(give(reasons, c, 1, value, node, places)),
+        2 => Plain::Ended(give(reasons, c, 2, value, node, places)),
         4 => Plain::Ended(Walked {
             code: 0,
             count: c.reasons,
@@ -270,8 +294,15 @@ fn plain_edge(terms: &[u32], c: State, node: u32, reasons: &mut [u32]) -> Plain
 }
 
 // As explain_rec, for a path without congruence edges. It meets no second pair, so it needs no table.
-fn explain_plain(terms: &[u32], c: State, a: u32, b: u32, reasons: &mut [u32]) -> Plain
-    requires { ⌜ (c .terms ≤ 512) × PlainPair (now terms) (now reasons) (c .terms) a b ⌝ }
+fn explain_plain(
+    terms: &[u32],
+    c: State,
+    a: u32,
+    b: u32,
+    reasons: &mut [u32],
+    places: &mut [u32],
+) -> Plain
+    requires { ⌜ (c .terms ≤ 512) × PlainPair (now terms) (now reasons) (c .terms) a b (c .reasons) ⌝ }
     ensures { λ r. ⌜ Plainly (PlainPath (now (terms .entry)) (now (reasons .entry)) (now (reasons .exit)) (c .terms) a b (c .reasons)) (now (reasons .entry)) (now (reasons .exit)) (c .reasons) r ⌝ }
 {
     if a == b {
@@ -295,7 +326,7 @@ fn explain_plain(terms: &[u32], c: State, a: u32, b: u32, reasons: &mut [u32]) -
             last = true;
             node = b;
         } else {
-            let p = plain_edge(terms, c.with_reasons(given), node, reasons);
+            let p = plain_edge(terms, c.with_reasons(given), node, reasons, places);
             let Plain::Ended(r) = p else {
                 return Plain::Congruence;
             };
@@ -317,14 +348,15 @@ fn explain_pair(
     a: u32,
     b: u32,
     reasons: &mut [u32],
+    places: &mut [u32],
 ) -> Walked
-    requires { ⌜ (c .terms ≤ 512) × Explainable (now terms) (now cells) (now reasons) (c .terms) (c .cells) a b ⌝ }
+    requires { ⌜ (c .terms ≤ 512) × Explainable (now terms) (now cells) (now reasons) (c .terms) (c .cells) a b (c .reasons) ⌝ }
     ensures { λ r. ⌜ PairExplained terms cells reasons c a b r ⌝ }
 {
     if c.terms < 32 {
         return explain_few(terms, cells, c, a, b, reasons);
     }
-    let p = explain_plain(terms, c, a, b, reasons);
+    let p = explain_plain(terms, c, a, b, reasons, places);
     if let Plain::Ended(r) = p {
         return r;
     }
@@ -334,7 +366,9 @@ fn explain_pair(
     explain_many(terms, cells, c, a, b, reasons)
 }
 
-// The reasons why a and b, string terms of one class, are equal, after those that are there.
+// The reasons why a and b, string terms of one class, are equal, after those that are there; one that is there is not added. A loop
+// that explains keeps `places` from one pair to the next (see is_listed): 513 words, a term's number being at most 512; for one pair none.
+// A walk through congruences, which can meet an edge again, has a table of its own.
 pub fn explain_unchecked(
     terms: &[u32],
     cells: &[u32],
@@ -344,15 +378,40 @@ pub fn explain_unchecked(
     c: State,
     a: u32,
     b: u32,
+    places: &mut [u32],
 ) -> Added
     requires { ⌜ (Ready (lends terms cells chars reasons keys) c) × (explainArguments a b (storeOf (lends terms cells chars reasons keys) c) ≡ true) ⌝ }
     ensures { λ r. ⌜ Does (explain a b) (across terms cells chars reasons keys) c (added r) ⌝ }
 {
-    let r = explain_pair(terms, cells, c, a, b, reasons);
+    let r = explain_pair(terms, cells, c, a, b, reasons, places);
     if r.code != 0 {
         return Added::Refused(r.code);
     }
     Added::Counts(c.with_reasons(r.count))
+}
+
+// Whether the explanation of a and b, string terms of one class, has a reason, whatever the list has: it is given a list of its own.
+pub fn is_reasoned_unchecked(
+    terms: &[u32],
+    cells: &[u32],
+    chars: &[u32],
+    reasons: &[u32],
+    keys: &[u32],
+    c: State,
+    a: u32,
+    b: u32,
+    places: &mut [u32],
+) -> bool
+    requires { ⌜ (Ready (lends terms cells chars reasons keys) c) × (explainArguments a b (storeOf (lends terms cells chars reasons keys) c) ≡ true) ⌝ }
+    ensures { λ r. ⌜ r ≡ isReasoned (storeOf (across terms cells chars reasons keys .entry) c) a b ⌝ }
+{
+    let mut own: [u32; 2] = [0; 2];
+    let d = c.with_reasons(0);
+    let r = explain_unchecked(terms, cells, chars, &mut own, keys, d, a, b, places);
+    match r {
+        Added::Counts(e) => 0 < e.reasons,
+        Added::Refused(_k) => true,
+    }
 }
 
 // Two string terms of one class.
@@ -378,7 +437,7 @@ fn can_explain(
     classes::root_unchecked(terms, c.terms, a) == classes::root_unchecked(terms, c.terms, b)
 }
 
-// The reasons why two terms of one class are equal, after those that are there.
+// The reasons why two terms of one class are equal, after those that are there; one that is there is not added.
 pub fn explain(
     terms: &[u32],
     cells: &[u32],
@@ -398,5 +457,6 @@ pub fn explain(
     if !can_explain(terms, cells, chars, reasons, keys, c, a, b) {
         return Added::Refused(5);
     }
-    explain_unchecked(terms, cells, chars, reasons, keys, c, a, b)
+    let mut places: [u32; 0] = [];
+    explain_unchecked(terms, cells, chars, reasons, keys, c, a, b, &mut places)
 }

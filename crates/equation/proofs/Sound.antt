@@ -1,7 +1,7 @@
 -- Demand 3 of the step over one equation, from the deep forms of its two sides and wordeq over them.
-use mathlib.Core.Path.{_≡_, sym, subst, _∙_}
+use mathlib.Core.Path.{_≡_, sym, _∙_}
 use mathlib.Core.Bool.{true, _&&_}
-use mathlib.Core.List.{List, _++_}
+use mathlib.Core.List.{List}
 use mathlib.Core.Logic.{⊎-elim}
 use mathlib.Core.Option.{Option, none, some}
 use Prim.Native.Nat.{ℕ}
@@ -11,11 +11,12 @@ use borrow.Author.Tests.{eqb-true}
 use Rattle.records.specs.Lists.{concatMap}
 use Rattle.records.specs.Store.{Store, ok, stop, _>>=_, term, kind, isString, isLength, isEquation, within}
 use Rattle.records.specs.Rules.{isEquatable, isList}
-use Rattle.records.specs.Make.{withReasons}
+use Rattle.records.specs.Make.{withReasons, EachOnce}
 use Rattle.records.specs.Meaning.{Words, Reading, Holds}
 use Rattle.records.specs.Working.Audited.{Audited}
 use Rattle.records.proofs.Lists.{both-left, both-right, either, within-high}
-use Rattle.records.proofs.Grown.{string-here, grown-then, grown-string, holds-before, holds-left, holds-right, Strings, strings-later}
+use Rattle.records.proofs.Grown.{string-here, grown-string, holds-before, Strings, strings-later}
+use Rattle.engine.proofs.Sound.{holds-earlier}
 use Rattle.normalize.specs.Normalize.{deepForm}
 use Rattle.records.proofs.ListLaws.{list-every}
 use Rattle.normalize.proofs.Deep.{DeepFormed, Deepened, deep-ends}
@@ -41,17 +42,12 @@ second-string s d e q i =
 form-ends : (known : List ℕ) (t : ℕ) (s : Store) → Audited s → Strings s known → isString s t ≡ true → Ends (Deepened s t) (deepForm known t s)
 form-ends known t s d h i = ends-wider (omega arith) (deep-ends known t s d h i)
 
--- under the reasons of both forms, equal words of the terms are equal words of the lists
-forms-equal : {s s₁ s₂ : Store} {a b : ℕ} {l r : List ℕ} (rs : List (ℕ × ℕ)) → DeepFormed s s₁ a l → DeepFormed s₁ s₂ b r → (w : Words) → Reading s₂ w → Holds s₂ (s₂ .reasons ++ rs) w → w a ≡ w b → concatMap w l ≡ concatMap w r
-forms-equal {s} {s₁} {s₂} {a} {b} rs p q w rd h e =
-    let h₂ = holds-left (s₂ .reasons) rs h in
-    let m₁ : List (ℕ × ℕ) = p .later .reasons .more in
-    let m₂ : List (ℕ × ℕ) = q .later .reasons .more in
-    let h₁ = subst (λ (x : List (ℕ × ℕ)). Holds s₂ x w) (q .later .reasons .is) h₂ in
-    let k₂ = holds-before (q .later .grown) m₂ (holds-right (s₁ .reasons) m₂ h₁) in
-    let h₀ = subst (λ (x : List (ℕ × ℕ)). Holds s₂ x w) (p .later .reasons .is) (holds-left (s₁ .reasons) m₂ h₁) in
-    let k₁ = holds-before (grown-then (p .later .grown) (q .later .grown)) m₁ (holds-right (s .reasons) m₁ h₀) in
-    sym (p .word w (q .later .grown .down w rd) k₁) ∙ e ∙ q .word w rd k₂
+-- under a list that has the reasons of both forms, equal words of the terms are equal words of the lists
+forms-equal : {s s₁ s₂ : Store} {a b : ℕ} {l r : List ℕ} {rs : List (ℕ × ℕ)} → DeepFormed s s₁ a l → DeepFormed s₁ s₂ b r → EachOnce (s₂ .reasons) rs → (w : Words) → Reading s₂ w → Holds s₂ rs w → w a ≡ w b → concatMap w l ≡ concatMap w r
+forms-equal {s₁ = s₁} {s₂ = s₂} p q o w rd h e =
+    let k = holds-before (q .later .grown) (s₂ .reasons) (holds-earlier o h) in
+    let j = holds-before (p .later .grown) (s₁ .reasons) (holds-earlier (q .later .reasons) k) in
+    sym (p .word w (q .later .grown .down w rd) j) ∙ e ∙ q .word w rd k
 
 -- THE STEP
 
@@ -90,11 +86,11 @@ module _ (known : List ℕ) (e : ℕ) (g : ℤ) (s : Store) (audited : Audited s
   returned-ends (split atoms n) s₁ k h = ends-give (record { later = k; sound = h })
 
   resolved-ends : {s₁ s₂ : Store} {l r : List ℕ} → DeepFormed s s₁ a l → DeepFormed s₁ s₂ b r → (s₃ : Store) (x : Answer) → Resolved l r s₂ s₃ x → Ends (StepGood s e) (returned (s .reasons) x s₃)
-  resolved-ends {s₁} {s₂} {l} {r} p q s₃ x y =
+  resolved-ends {l = l} {r = r} p q s₃ x y =
       let k = later-then (p .later) (q .later) in
       returned-ends x s₃ (later-then k (y .later))
       (worth-back x (λ w. w a) (λ w. w b) (λ w. concatMap w l) (λ w. concatMap w r) (k .grown) (λ t i. p .variables t (q .variables t i)) (y .later .grown) (λ w w₁ f. f a (string-here s a left)) (λ w w₁ f. f b (string-here s b right))
-      (λ w rd h i. forms-equal (y .later .reasons .more) p q w rd (subst (λ (z : List (ℕ × ℕ)). Holds s₂ z w) (y .later .reasons .is) h) i) (y .sound))
+      (forms-equal p q (y .later .reasons)) (y .sound))
 
   right-ends : {s₁ : Store} {l : List ℕ} → DeepFormed s s₁ a l → (s₂ : Store) (o : Option (List ℕ)) → Deepened s₁ b s₂ o
       → Ends (StepGood s e) (orUnexpanded (s .reasons) (λ r. resolve l r g >>= returned (s .reasons)) o s₂)

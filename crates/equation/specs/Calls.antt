@@ -6,6 +6,7 @@ use lib.IntN.{ℤ}
 use Rattle.records.specs.declared.State.{State}
 use Rattle.records.specs.Store.{Store, Out, ok, andThen, give}
 use Rattle.records.specs.View.{Lent, storeOf}
+use Rattle.records.specs.Make.{EachOnce}
 use Rattle.normalize.specs.Calls.{listCall, PublicList}
 use Rattle.wordeq.specs.Calls.{resolved}
 use Rattle.equation.specs.declared.Outcome.{Outcome}
@@ -17,7 +18,8 @@ abbrev pub stepped : Outcome → Lent → List ℕ → Out Stepped
 stepped (Answered r) m k = andThen (λ x. give (answered x)) (resolved r m k)
 stepped (Unexpanded c) m k = ok (storeOf m c) unexpanded
 
--- demand 3 is a clause of the contract
+-- demand 3 is a clause of the contract. The reasons at exit are those at entry and then reasons that the list lacked, each once
 pub record PublicStep (known : List ℕ) (e : ℕ) (g : ℤ) (m m′ : Lent) (k k′ : List ℕ) (c : State) (o : Out Stepped) : Type 0 where
   pub is : PublicList (listCall k (stepArguments known e g) (step known e g) m c) m m′ k k′ c o
   pub worth : (s′ : Store) (x : Stepped) → o ≡ ok s′ x → StepSound (storeOf m c) s′ e x
+  pub once : (s′ : Store) (x : Stepped) → o ≡ ok s′ x → EachOnce (storeOf m c .reasons) (s′ .reasons)

@@ -19,7 +19,7 @@ use Rattle.normalize.specs.Meaning.{DeepForms}
 use Rattle.normalize.proofs.Ends.{Ends}
 use Rattle.records.proofs.Outcomes.{Refused, ends-give, ends-if, ends-map, ends-then}
 use Rattle.normalize.proofs.Rewritten.{Rewritten, rewritten-none, rewritten-then, rewritten-after, rewritten-before, rewritten-as}
-use Rattle.records.proofs.Later.{Later, later-none, later-then, more-after}
+use Rattle.records.proofs.Later.{Later, later-none, later-then}
 use Rattle.records.proofs.Grown.{OldVariables, Strings, strings-later}
 use Rattle.normalize.proofs.Formed.{all-ends, Formed, form-ends}
 use Rattle.records.proofs.ListLaws.{list-every}
@@ -101,14 +101,14 @@ module _ (known : List ℕ) where
 
 -- THE DEEP FORM
 
--- a deep form answered: a reading of the store after, under which the definitional merges and the reasons added hold, gives the list the
--- term's word
+-- a deep form answered: a reading of the store after, under which the definitional merges and the reasons at exit hold, gives the list
+-- the term's word
 pub record DeepFormed (s s′ : Store) (t : ℕ) (l : List ℕ) : Type 0 where
   pub later : Later s s′
   pub variables : OldVariables s s′
   pub strings : Strings s′ l
   pub long : length l ≤ deepLimit
-  pub word : (w : Words) → Reading s′ w → Holds s (later .reasons .more) w → w t ≡ concatMap w l
+  pub word : (w : Words) → Reading s′ w → Holds s (s′ .reasons) w → w t ≡ concatMap w l
 
 abbrev pub Deepened : Store → ℕ → Store → Option (List ℕ) → Type 0
 Deepened s t s′ none = Later s s′
@@ -144,4 +144,4 @@ module _ (known : List ℕ) (t : ℕ) (s : Store) (audited : Audited s) (good : 
 
   pub deep-sound : (s′ : Store) (o : Option (List ℕ)) → deepForm known t s ≡ ok s′ o → DeepForms s s′ t o
   deep-sound s′ none e = tt
-  deep-sound s′ (some l) e = λ w r h. let f = deep-gives s′ l e in f .word w r (subst (λ (x : List (ℕ × ℕ)). Holds s x w) (more-after (f .later .reasons)) h)
+  deep-sound s′ (some l) e = deep-gives s′ l e .word

@@ -27,7 +27,7 @@ use Rattle.normalize.proofs.Atoms.{Flat, flatten-flat, flatten-atoms, f
 use Rattle.normalize.proofs.Ends.{Ends}
 use Rattle.records.proofs.Outcomes.{Refused, ends-give, ends-by, ends-if, ends-map, ends-then}
 use Rattle.normalize.proofs.Rewritten.{Rewritten, rewritten-none, rewritten-then, rewritten-after, rewritten-before, rewritten-explained, rewritten-as}
-use Rattle.records.proofs.Later.{Later, later-none, more-after, later-made}
+use Rattle.records.proofs.Later.{Later, later-none, later-made}
 use Rattle.records.proofs.Grown.{OldVariables, Strings, strings-later}
 use Rattle.records.proofs.ListLaws.{list-every}
 
@@ -173,14 +173,14 @@ forms-end cs (a ∷ l) out s audited h (and i j) k =
 
 -- THE NORMAL FORM
 
--- a normal form answered: a reading of the store after, under which the definitional merges and the reasons added hold, gives the list
+-- a normal form answered: a reading of the store after, under which the definitional merges and the reasons at exit hold, gives the list
 -- the term's word
 pub record Formed (s s′ : Store) (t : ℕ) (l : List ℕ) : Type 0 where
   pub later : Later s s′
   pub variables : OldVariables s s′
   pub strings : Strings s′ l
   pub long : length l ≤ listLimit
-  pub word : (w : Words) → Reading s′ w → Holds s (later .reasons .more) w → w t ≡ concatMap w l
+  pub word : (w : Words) → Reading s′ w → Holds s (s′ .reasons) w → w t ≡ concatMap w l
 
 form-of : (cs m : List ℕ) (t : ℕ) (s : Store) → Audited s → Strings s cs → Strings s m → length m ≤ listLimit → ((w : Words) → Reading s w → concatMap w (t ∷ []) ≡ concatMap w m)
     → Ends (λ s′ l. Formed s s′ t l) ((pushForms cs m [] >>= (λ out. give (reverse out))) s)
@@ -217,7 +217,7 @@ module _ (known : List ℕ) (t : ℕ) (s : Store) (audited : Audited s) (good : 
   form-stops n e = ends .stopped n e
 
   pub form-sound : (s′ : Store) (l : List ℕ) → normalForm known t s ≡ ok s′ l → Forms s s′ t l
-  form-sound s′ l e w r h = let f = form-gives s′ l e in f .word w r (subst (λ (x : List (ℕ × ℕ)). Holds s x w) (more-after (f .later .reasons)) h)
+  form-sound s′ l e = form-gives s′ l e .word
 
   pub form-kept : (s′ : Store) (l : List ℕ) → normalForm known t s ≡ ok s′ l → Later s s′
   form-kept s′ l e = form-gives s′ l e .later

@@ -9,29 +9,26 @@ use Rattle.records.specs.Store.{Store, isString}
 use Rattle.records.specs.Meaning.{Words, Reading, Holds}
 use Rattle.records.specs.Working.Audited.{Audited}
 use Rattle.records.proofs.Lists.{every-append, concatMap-append}
-use Rattle.records.proofs.Grown.{OldVariables, grown-string, holds-left, holds-right, Strings, strings-later}
-use Rattle.records.proofs.Later.{more-then, Later, later-none, later-then, later-added, variables-added}
-use Rattle.engine.proofs.Sound.{Gave}
+use Rattle.records.proofs.Grown.{OldVariables, grown-string, Strings, strings-later}
+use Rattle.records.proofs.Later.{Later, later-none, later-then, later-added, variables-added}
+use Rattle.engine.proofs.Sound.{Gave, holds-earlier}
 
 -- l of s, rewritten to m of s′
 pub record Rewritten (s s′ : Store) (l m : List ℕ) : Type 0 where
   pub later : Later s s′
   pub variables : OldVariables s s′
   pub strings : Strings s′ m
-  pub words : (w : Words) → Reading s′ w → Holds s (later .reasons .more) w → concatMap w l ≡ concatMap w m
+  pub words : (w : Words) → Reading s′ w → Holds s (s′ .reasons) w → concatMap w l ≡ concatMap w m
 
 pub rewritten-none : (s : Store) (l : List ℕ) → Audited s → Strings s l → Rewritten s s l l
 rewritten-none s l a k = record { later = later-none a; variables = λ t e. e; strings = k; words = λ w r h. refl }
 
 pub rewritten-then : {s s₁ s₂ : Store} {l m n : List ℕ} → Rewritten s s₁ l m → Rewritten s₁ s₂ m n → Rewritten s s₂ l n
-unfolding later-then more-then
-rewritten-then p q = record {
+rewritten-then {s₂ = s₂} p q = record {
   later = later-then (p .later) (q .later);
   variables = λ t e. p .variables t (q .variables t e);
   strings = q .strings;
-  words = λ w r h.
-      p .words w (q .later .grown .down w r) (holds-left (p .later .reasons .more) (q .later .reasons .more) h)
-      ∙ q .words w r (p .later .grown .holds w (q .later .reasons .more) (holds-right (p .later .reasons .more) (q .later .reasons .more) h));
+  words = λ w r h. p .words w (q .later .grown .down w r) (holds-earlier (q .later .reasons) h) ∙ q .words w r (p .later .grown .holds w (s₂ .reasons) h);
 }
 
 -- more terms before it and after it
@@ -53,7 +50,7 @@ rewritten-before {l = l} {m = m} k i p = record {
 
 -- a term replaced by an equal one
 pub rewritten-explained : {s s′ : Store} {a b : ℕ} → Gave s s′ a b → isString s b ≡ true → Rewritten s s′ (a ∷ []) (b ∷ [])
-unfolding later-added concatMap
+unfolding concatMap
 rewritten-explained g i = record {
   later = later-added (g .added) (g .audited);
   variables = variables-added (g .added);

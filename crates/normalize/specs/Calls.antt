@@ -10,6 +10,7 @@ use Rattle.records.specs.declared.State.{State}
 use Rattle.records.specs.Lists.{if_then_else_, table}
 use Rattle.records.specs.Store.{Store, Out, ok, stop, Work}
 use Rattle.records.specs.View.{Lent, storeOf}
+use Rattle.records.specs.Make.{EachOnce}
 use Rattle.records.specs.Calls.{Public, call, writesNothing}
 use Rattle.normalize.specs.Normalize.{normalForm, deepForm, formArguments}
 use Rattle.records.specs.Rules.{listLimit}
@@ -44,13 +45,15 @@ module _ {A : Type 0} where
     pub store : Public o m m′ c r
     pub idle : (k : ℕ) → r ≡ stop k → writesNothing k → l′ ≡ l
 
--- the normal form's answer, and what it is worth: under the reasons that the call added and the definitional merges the list has the
--- term's word
+-- the normal form's answer, and what it is worth: under the reasons at exit and the definitional merges the list has the term's word. The
+-- reasons at exit are those at entry and then reasons that the list lacked, each once
 pub record PublicForm (known : List ℕ) (t : ℕ) (m m′ : Lent) (l l′ : List ℕ) (c : State) (r : Out (List ℕ)) : Type 0 where
   pub is : PublicList (listCall l (formArguments known t) (normalForm known t) m c) m m′ l l′ c r
   pub worth : (s′ : Store) (w : List ℕ) → r ≡ ok s′ w → Forms (storeOf m c) s′ t w
+  pub once : (s′ : Store) (w : List ℕ) → r ≡ ok s′ w → EachOnce (storeOf m c .reasons) (s′ .reasons)
 
 -- the same of the deep form
 pub record PublicDeepForm (known : List ℕ) (t : ℕ) (m m′ : Lent) (l l′ : List ℕ) (c : State) (r : Out (Option (List ℕ))) : Type 0 where
   pub is : PublicList (listCall l (formArguments known t) (deepForm known t) m c) m m′ l l′ c r
   pub worth : (s′ : Store) (w : Option (List ℕ)) → r ≡ ok s′ w → DeepForms (storeOf m c) s′ t w
+  pub once : (s′ : Store) (w : Option (List ℕ)) → r ≡ ok s′ w → EachOnce (storeOf m c .reasons) (s′ .reasons)

@@ -3,15 +3,14 @@ use mathlib.Core.Path.{_≡_}
 use mathlib.Core.List.{List}
 use mathlib.Core.Option.{Option, none, some}
 use Prim.Native.Nat.{ℕ}
-use lib.ListN.{length, drop}
 use Rattle.records.specs.Lists.{concatMap}
 use Rattle.records.specs.Store.{Store}
 use Rattle.records.specs.Meaning.{Words, Reading, Holds}
 
--- for all words under which the definitional merges and the reasons that the call added hold, the term's word is that of the list
--- answered, read in the store at exit
+-- for all words under which the definitional merges and the reasons at exit hold, the term's word is that of the list answered, read in
+-- the store at exit
 abbrev pub Forms : Store → Store → ℕ → List ℕ → Type 0
-Forms s s′ t l = (w : Words) → Reading s′ w → Holds s (drop (length (s .reasons)) (s′ .reasons)) w → w t ≡ concatMap w l
+Forms s s′ t l = (w : Words) → Reading s′ w → Holds s (s′ .reasons) w → w t ≡ concatMap w l
 
 -- of the deep form, which can answer None
 abbrev pub DeepForms : Store → Store → ℕ → Option (List ℕ) → Type 0

@@ -34,6 +34,7 @@ fn cite(
     c: State,
     a: u32,
     r: u32,
+    places: &mut [u32],
 ) -> Added
     requires { ⌜ Ready (lends terms cells chars reasons keys) c ⌝ }
     requires { ⌜ explainArguments a r (storeOf (lends terms cells chars reasons keys) c) ≡ true ⌝ }
@@ -42,7 +43,7 @@ fn cite(
     if r == a {
         return Added::Counts(c);
     }
-    explain_unchecked(terms, cells, chars, reasons, keys, c, a, r)
+    explain_unchecked(terms, cells, chars, reasons, keys, c, a, r, places)
 }
 
 // The atom a as its representative r.
@@ -57,6 +58,7 @@ fn push_for(
     r: u32,
     list: &mut [u32],
     count: usize,
+    places: &mut [u32],
 ) -> Form
     requires { ⌜ Ready (lends terms cells chars reasons keys) c ⌝ }
     requires { ⌜ explainArguments a r (storeOf (lends terms cells chars reasons keys) c) ≡ true ⌝ }
@@ -64,14 +66,14 @@ fn push_for(
     requires { ⌜ listLimit ≤ length (now list) ⌝ }
     ensures { λ x. ⌜ Does (pushFor a r (reverse (firstWords (now (list .entry)) count))) (across terms cells chars reasons keys) c (pushed x into list) ⌝ }
 {
-    let cited = cite(terms, cells, chars, reasons, keys, c, a, r);
+    let cited = cite(terms, cells, chars, reasons, keys, c, a, r, places);
     match cited {
         Added::Counts(d) => pushes::push(terms, cells, chars, reasons, keys, d, r, list, count),
         Added::Refused(k) => Form::Refused(k),
     }
 }
 
-// Atom by atom. The table is that of the known list followed by the atoms.
+// Atom by atom. The table is that of the known list followed by the atoms; `places` has where the reason of each edge was found last.
 fn push_forms(
     terms: &mut [u32],
     cells: &[u32],
@@ -83,6 +85,7 @@ fn push_forms(
     flat: &[u32],
     table: &[u32; 513],
     list: &mut [u32],
+    places: &mut [u32],
 ) -> Form
     requires { ⌜ Ready (lends terms cells chars reasons keys) c ⌝ }
     requires { ⌜ Candidates (storeOf (lends terms cells chars reasons keys) c) (now known ++ now flat) (now table) ⌝ }
@@ -96,7 +99,19 @@ fn push_forms(
     while i < flat.len() {
         let a = flat[i];
         let r = nodes::rep(terms, d.terms, table, a);
-        let form = push_for(terms, cells, chars, reasons, keys, d, a, r, list, count);
+        let form = push_for(
+            terms,
+            cells,
+            chars,
+            reasons,
+            keys,
+            d,
+            a,
+            r,
+            list,
+            count,
+            places,
+        );
         match form {
             Form::List(n, e) => {
                 count = n;
@@ -111,7 +126,7 @@ fn push_forms(
     Form::List(count, d)
 }
 
-// From the atoms on. The table is that of the known list.
+// From the atoms on. The table is that of the known list. For few atoms there are no places: to clear them costs more than to do without.
 fn form_atoms(
     terms: &mut [u32],
     cells: &[u32],
@@ -133,6 +148,23 @@ fn form_atoms(
 {
     let mut own: [u32; 513] = *table;
     nodes::build_node_of(terms, c.terms, flat, &mut own);
+    if flat.len() < 8 {
+        let mut none: [u32; 0] = [];
+        return push_forms(
+            terms,
+            cells,
+            chars,
+            reasons,
+            keys,
+            c,
+            known,
+            flat,
+            &own,
+            list,
+            &mut none,
+        );
+    }
+    let mut places: [u32; 513] = [0; 513];
     push_forms(
         terms,
         cells,
@@ -144,6 +176,7 @@ fn form_atoms(
         flat,
         &own,
         list,
+        &mut places,
     )
 }
 

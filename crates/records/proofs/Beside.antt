@@ -1,5 +1,5 @@
--- Reasons, keys and the name counter stand beside the terms: with others in their place a store is audited as it was, and has the same
--- words.
+-- Reasons, keys, the name counter and the room stand beside the terms: with others in their place a store is audited as it was, and has
+-- the same words.
 use mathlib.Core.Path.{_≡_, refl}
 use mathlib.Core.Bool.{true}
 use mathlib.Core.List.{List}
@@ -8,21 +8,18 @@ use Prim.Native.Nat.{ℕ, _≤_}
 use native.Mathlib.Omega.{arith}
 use lib.ListN.{length}
 use Rattle.records.specs.Lists.{all}
-use Rattle.records.specs.Store.{Store, term}
+use Rattle.records.specs.Store.{Room, Store, term}
 use Rattle.records.specs.Rules.{reasonRule, keyRule, isEquatable}
 use Rattle.records.specs.Meaning.{Words, Reading, Holds}
 use Rattle.records.specs.Working.Audited
-use Rattle.records.specs.Working.Audited.{Part, Label, Unlabelled, Falls, Pairs, Congruent, Recorded, Classed, Audited}
+use Rattle.records.specs.Working.Audited.{Part, Label, Unlabelled, Falls, Pairs, Congruent, Recorded, Classed, Roomy, Audited}
 use Rattle.records.proofs.Lists.{every-map}
 use Rattle.records.proofs.Grown.{Grown}
 
--- other reasons, keys and counter
-abbrev pub beside : Store → List (ℕ × ℕ) → List (ℕ × ℕ) → ℕ → Store
-beside s rs ks m = record { terms = s .terms; cells = s .cells; chars = s .chars; reasons = rs; keys = ks; names = m; room = s .room }
-
-module _ (s : Store) (rs ks : List (ℕ × ℕ)) (m : ℕ) where
+-- other reasons, keys, counter and room
+module _ (s : Store) (rs ks : List (ℕ × ℕ)) (m : ℕ) (room : Room) where
   abbrev s′ : Store
-  s′ = beside s rs ks m
+  s′ = record { terms = s .terms; cells = s .cells; chars = s .chars; reasons = rs; keys = ks; names = m; room = room }
 
   part-beside : (t : ℕ) (p : ℕ × ℕ) → Part s t p → Part s′ t p
   part-beside t p q = record { string = q .string; lower = q .lower; plain = q .plain }
@@ -85,22 +82,22 @@ module _ (s : Store) (rs ks : List (ℕ × ℕ)) (m : ℕ) where
     falls = every-map (falls-beside (term s t .stamp)) (c .falls);
   }
 
-  pub audited-beside : Audited s → all reasonRule rs ≡ true → all (keyRule s) ks ≡ true → length rs ≤ s .room .reasons → length ks ≤ s .room .keys → Audited s′
-  audited-beside a good keyed p q = record {
-    roomy = record { terms = a .roomy .terms; cells = a .roomy .cells; chars = a .roomy .chars; reasons = p; keys = q };
+  pub audited-within : Audited s → all reasonRule rs ≡ true → all (keyRule s) ks ≡ true → Roomy s′ → Audited s′
+  audited-within a good keyed r = record {
+    roomy = r;
     recorded = recorded-beside (a .recorded) good keyed;
     classed = classed-beside (a .classed);
     congruences = λ t q e. congruent-beside t (a .congruences t q e);
   }
 
-  pub reading-beside : (w : Words) → Reading s w → Reading s′ w
-  reading-beside w r = record { characters = r .characters; constants = r .constants; concats = r .concats }
+  pub reading-within : (w : Words) → Reading s w → Reading s′ w
+  reading-within w r = record { characters = r .characters; constants = r .constants; concats = r .concats }
 
-  pub holds-beside : (w : Words) (l : List (ℕ × ℕ)) → Holds s l w → Holds s′ l w
-  holds-beside w l h = record { merges = h .merges; reasons = h .reasons }
+  pub holds-within : (w : Words) (l : List (ℕ × ℕ)) → Holds s l w → Holds s′ l w
+  holds-within w l h = record { merges = h .merges; reasons = h .reasons }
 
-  pub grown-beside : Grown s s′
-  grown-beside = record {
+  pub grown-within : Grown s s′
+  grown-within = record {
     more = omega arith;
     old = λ t h. refl;
     constants = λ t e. refl;
@@ -108,6 +105,24 @@ module _ (s : Store) (rs ks : List (ℕ × ℕ)) (m : ℕ) where
     concats = λ t e. refl;
     roots = λ t e. refl;
     down = λ w r. record { characters = r .characters; constants = r .constants; concats = r .concats };
-    holds = holds-beside;
-    extend = λ w r. record { words = w; reading = reading-beside w r; agree = λ t h. refl; held = holds-beside w };
+    holds = holds-within;
+    extend = λ w r. record { words = w; reading = reading-within w r; agree = λ t h. refl; held = holds-within w };
   }
+
+-- the room as it was
+abbrev pub beside : Store → List (ℕ × ℕ) → List (ℕ × ℕ) → ℕ → Store
+beside s rs ks m = record { terms = s .terms; cells = s .cells; chars = s .chars; reasons = rs; keys = ks; names = m; room = s .room }
+
+module _ (s : Store) (rs ks : List (ℕ × ℕ)) (m : ℕ) where
+  pub audited-beside : Audited s → all reasonRule rs ≡ true → all (keyRule s) ks ≡ true → length rs ≤ s .room .reasons → length ks ≤ s .room .keys → Audited (beside s rs ks m)
+  audited-beside a good keyed p q =
+      audited-within s rs ks m (s .room) a good keyed (record { terms = a .roomy .terms; cells = a .roomy .cells; chars = a .roomy .chars; reasons = p; keys = q })
+
+  pub reading-beside : (w : Words) → Reading s w → Reading (beside s rs ks m) w
+  reading-beside = reading-within s rs ks m (s .room)
+
+  pub holds-beside : (w : Words) (l : List (ℕ × ℕ)) → Holds s l w → Holds (beside s rs ks m) l w
+  holds-beside = holds-within s rs ks m (s .room)
+
+  pub grown-beside : Grown s (beside s rs ks m)
+  grown-beside = grown-within s rs ks m (s .room)

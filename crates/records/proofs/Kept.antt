@@ -25,42 +25,6 @@ use Rattle.records.proofs.Append.{grow, More, New, kept-audited, new-te
 use Rattle.records.proofs.Extend.{Chosen, choose, kept-grown}
 use Rattle.records.proofs.Beside.{audited-beside, grown-beside, reading-beside, holds-beside}
 
--- REASONS
-
-pub record ReasonAdded (k v : ℕ) (s s′ : Store) : Type 0 where
-  pub is : s′ ≡ withReasons s (oneMore (s .reasons) (k, v))
-  pub audited : Audited s′
-  pub grown : Grown s s′
-  pub room : length (s .reasons) < s .room .reasons
-
-reason-room : (k v : ℕ) (s s′ : Store) → addReason k v s ≡ ok s′ tt → (length (s .reasons) < s .room .reasons) × (s′ ≡ withReasons s (oneMore (s .reasons) (k, v)))
-unfolding addReason
-reason-room k v s s′ e =
-    branch (ltb (length (s .reasons)) (s .room .reasons)) _ _ {s = s} (λ b d. (ltb-true _ _ b, cc)) (λ b d. stop-not d) e
-
-pub reason-kept : (k v : ℕ) (s s′ : Store) → Audited s → reasonRule (k, v) ≡ true → addReason k v s ≡ ok s′ tt → ReasonAdded k v s s′
-unfolding all
-reason-kept k v s s′ a good e =
-    let p = reason-room k v s s′ e in
-    let l = oneMore (s .reasons) (k, v) in
-    let h = p .0 in
-    let n = length-append (s .reasons) ((k, v) ∷ []) in
-    let f = all-append reasonRule (s .reasons) ((k, v) ∷ []) ∙ both-true _ _ (a .recorded .reasons) (both-true _ _ good refl) in
-    record {
-      is = p .1;
-      audited = subst Audited (sym (p .1)) (audited-beside s l (s .keys) (s .names) a f (a .recorded .keys) (omega arith) (a .roomy .keys));
-      grown = subst (Grown s) (sym (p .1)) (grown-beside s l (s .keys) (s .names));
-      room = p .0;
-    }
-
-pub reason-stops : (k v : ℕ) (s : Store) (n : ℕ) → addReason k v s ≡ stop n → n ≡ 7
-unfolding addReason
-reason-stops k v s n e = go (ltb (length (s .reasons)) (s .room .reasons)) e
-  where
-    go : (b : Bool) → (if b then put (withReasons s (oneMore (s .reasons) (k, v))) else refuse 7) s ≡ stop n → n ≡ 7
-    go true d = let z : _≡_ {A = ℕ} 0 1 = cc in absurd (omega arith)
-    go false d = cc
-
 -- TERMS
 
 -- how a store came from another by making a term: it was found, or one term is appended; or the name counter was moved before

@@ -1,6 +1,7 @@
 -- A store later on: terms, reasons and keys may have been added.
 use mathlib.Core.Path.{_≡_, refl, sym, ap, subst, _∙_}
-use mathlib.Core.List.{List, [], _++_, append-assoc, append-nil}
+use mathlib.Core.Bool.{true, not}
+use mathlib.Core.List.{List, [], _∷_, _++_, append-assoc, append-nil}
 use Prim.Native.Nat.{ℕ, _≤_}
 use native.Mathlib.Omega.{arith}
 use lib.ListN.{length, drop, length-append}
@@ -8,8 +9,10 @@ use lib.Seq.{drop-append-seam}
 use Rattle.records.specs.declared.State.{State}
 use Rattle.records.specs.Store.{Store, kind}
 use Rattle.records.specs.View.{Lent, storeOf}
-use Rattle.records.specs.Make.{withReasons}
+use Rattle.records.specs.Lists.{oneMore}
+use Rattle.records.specs.Make.{withReasons, isListed, eachNew, EachOnce}
 use Rattle.records.specs.Working.Audited.{Audited}
+use Rattle.records.proofs.Lists.{both-left, both-right, both-true}
 use Rattle.records.proofs.Grown.{Grown, OldVariables, grown-none, grown-then}
 use Rattle.records.proofs.Beside.{audited-beside, grown-beside}
 use Rattle.records.proofs.Kept.{MadeIn, KeyAdded}
@@ -33,17 +36,40 @@ module _ {A : Type 0} where
   pub more-after : {l m : List A} (p : More l m) → drop (length l) m ≡ p .more
   more-after {l} p = ap (drop (length l)) (p .is) ∙ drop-append-seam l (p .more)
 
+-- reasons that a list lacked, each once: none, and then more
+pub new-then : (l m n : List (ℕ × ℕ)) → eachNew l m ≡ true → eachNew (l ++ m) n ≡ true → eachNew l (m ++ n) ≡ true
+unfolding eachNew
+new-then l [] n p q = subst (λ (x : List (ℕ × ℕ)). eachNew x n ≡ true) (append-nil l) q
+new-then l (r ∷ m) n p q =
+    both-true (not (isListed r l)) _ (both-left (not (isListed r l)) (eachNew (oneMore l r) m) p)
+    (new-then (oneMore l r) m n (both-right (not (isListed r l)) (eachNew (oneMore l r) m) p) (subst (λ (x : List (ℕ × ℕ)). eachNew x n ≡ true) (sym (append-assoc l (r ∷ []) m)) q))
+
+unfoldable pub once-none : {l l′ : List (ℕ × ℕ)} → l′ ≡ l → EachOnce l l′
+unfolding eachNew
+once-none {l} e = record { more = []; is = e ∙ sym (append-nil l); new = refl }
+
+unfoldable pub once-then : {l m n : List (ℕ × ℕ)} → EachOnce l m → EachOnce m n → EachOnce l n
+once-then {l} {m} {n} p q = record {
+  more = p .more ++ q .more;
+  is = q .is ∙ ap (λ (x : List (ℕ × ℕ)). x ++ q .more) (p .is) ∙ append-assoc l (p .more) (q .more);
+  new = new-then l (p .more) (q .more) (p .new) (subst (λ (x : List (ℕ × ℕ)). eachNew x (q .more) ≡ true) (p .is) (q .new));
+}
+
+-- what is at the end of a list that grew
+pub once-more : {l l′ : List (ℕ × ℕ)} → EachOnce l l′ → More l l′
+once-more e = record { more = e .more; is = e .is }
+
 pub record Later (s s′ : Store) : Type 0 where
   pub audited : Audited s′
   pub grown : Grown s s′
   pub cells : length (s .cells) ≤ length (s′ .cells)
   pub chars : length (s .chars) ≤ length (s′ .chars)
-  pub reasons : More (s .reasons) (s′ .reasons)
+  pub reasons : EachOnce (s .reasons) (s′ .reasons)
   pub keys : More (s .keys) (s′ .keys)
   pub room : s′ .room ≡ s .room
 
 pub later-none : {s : Store} → Audited s → Later s s
-later-none {s} d = record { audited = d; grown = grown-none s; cells = omega arith; chars = omega arith; reasons = more-none refl; keys = more-none refl; room = refl }
+later-none {s} d = record { audited = d; grown = grown-none s; cells = omega arith; chars = omega arith; reasons = once-none refl; keys = more-none refl; room = refl }
 
 unfoldable pub later-then : {s s₁ s₂ : Store} → Later s s₁ → Later s₁ s₂ → Later s s₂
 later-then p q = record {
@@ -51,14 +77,14 @@ later-then p q = record {
   grown = grown-then (p .grown) (q .grown);
   cells = (let a = p .cells in let b = q .cells in omega arith);
   chars = (let a = p .chars in let b = q .chars in omega arith);
-  reasons = more-then (p .reasons) (q .reasons);
+  reasons = once-then (p .reasons) (q .reasons);
   keys = more-then (p .keys) (q .keys);
   room = q .room ∙ p .room;
 }
 
 -- after a term was made, after a key was added
 unfoldable pub later-made : {s s′ : Store} {t k : ℕ} → MadeIn s s′ t k → Later s s′
-later-made m = record { audited = m .audited; grown = m .grown; cells = m .cells; chars = m .chars; reasons = more-none (m .reasons); keys = more-none (m .keys); room = m .room }
+later-made m = record { audited = m .audited; grown = m .grown; cells = m .cells; chars = m .chars; reasons = once-none (m .reasons); keys = more-none (m .keys); room = m .room }
 
 pub later-key : {a b : ℕ} {s s′ : Store} → KeyAdded a b s s′ → Later s s′
 later-key k = record {
@@ -66,7 +92,7 @@ later-key k = record {
   grown = k .grown;
   cells = (let e = ap (λ (x : Store). length (x .cells)) (k .is) in omega arith);
   chars = (let e = ap (λ (x : Store). length (x .chars)) (k .is) in omega arith);
-  reasons = more-none (k .reasons);
+  reasons = once-none (k .reasons);
   keys = record { more = _; is = ap (λ (x : Store). x .keys) (k .is) };
   room = ap (λ (x : Store). x .room) (k .is);
 }
@@ -75,15 +101,21 @@ later-key k = record {
 pub record Added (s s′ : Store) : Type 0 where
   pub more : List (ℕ × ℕ)
   pub is : s′ ≡ withReasons s (s .reasons ++ more)
+  pub new : eachNew (s .reasons) more ≡ true
 
 unfoldable pub added-none : (s : Store) → Added s s
-added-none s = record { more = []; is = ap (withReasons s) (sym (append-nil (s .reasons))) }
+unfolding eachNew
+added-none s = record { more = []; is = ap (withReasons s) (sym (append-nil (s .reasons))); new = refl }
 
 unfoldable pub added-then : {s s₁ s₂ : Store} → Added s s₁ → Added s₁ s₂ → Added s s₂
 added-then {s} p q = record {
   more = p .more ++ q .more;
   is = q .is ∙ ap (λ (x : Store). withReasons x (x .reasons ++ q .more)) (p .is) ∙ ap (withReasons s) (append-assoc (s .reasons) (p .more) (q .more));
+  new = new-then (s .reasons) (p .more) (q .more) (p .new) (subst (λ (x : Store). eachNew (x .reasons) (q .more) ≡ true) (p .is) (q .new));
 }
+
+pub added-once : {s s′ : Store} → Added s s′ → EachOnce (s .reasons) (s′ .reasons)
+added-once a = record { more = a .more; is = ap (λ (x : Store). x .reasons) (a .is); new = a .new }
 
 -- by which no variable is made
 unfoldable pub later-added : {s s′ : Store} → Added s s′ → Audited s′ → Later s s′
@@ -92,7 +124,7 @@ later-added {s} a d = record {
   grown = subst (Grown s) (sym (a .is)) (grown-beside s (s .reasons ++ a .more) (s .keys) (s .names));
   cells = (let e = ap (λ (x : Store). length (x .cells)) (a .is) in omega arith);
   chars = (let e = ap (λ (x : Store). length (x .chars)) (a .is) in omega arith);
-  reasons = record { more = a .more; is = ap (λ (x : Store). x .reasons) (a .is) };
+  reasons = added-once a;
   keys = more-none (ap (λ (x : Store). x .keys) (a .is));
   room = ap (λ (x : Store). x .room) (a .is);
 }
@@ -110,14 +142,14 @@ later-cut {s} {s₁} d k =
       grown = grown-then (k .grown) (grown-beside s₁ (s .reasons) (s₁ .keys) (s₁ .names));
       cells = k .cells;
       chars = k .chars;
-      reasons = more-none refl;
+      reasons = once-none refl;
       keys = k .keys;
       room = k .room;
     }
 
 -- no count is lower
 pub later-higher : {s s′ : Store} → Later s s′ → Higher s s′
-later-higher l = record { terms = l .grown .more; cells = l .cells; chars = l .chars; reasons = more-longer (l .reasons); keys = more-longer (l .keys) }
+later-higher l = record { terms = l .grown .more; cells = l .cells; chars = l .chars; reasons = more-longer (once-more (l .reasons)); keys = more-longer (l .keys) }
 
 pub later-below : (m m′ : Lent) (c d : State) → Later (storeOf m c) (storeOf m′ d) → Below c d
 later-below m m′ c d l = higher-below m m′ c d (later-higher l)

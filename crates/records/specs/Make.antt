@@ -1,5 +1,6 @@
 -- Adding records: a reason, a key, and a term, which is the lowest-numbered equal record, else one appended.
-use mathlib.Core.Bool.{Bool, true, false, _&&_}
+use mathlib.Core.Path.{_≡_}
+use mathlib.Core.Bool.{Bool, true, false, not, _&&_}
 use mathlib.Core.List.{List, [], _∷_, _++_}
 use mathlib.Core.Option.{Option, none, some}
 use Prim.Native.Nat.{ℕ, zero, suc, _+_, _-_, _/_, _%_, min, max}
@@ -55,18 +56,36 @@ withEdge x p k v s = record {
 
 -- REASONS AND KEYS
 
--- refusal 7: 'the next reason finds its slice (or 4,096) full'
+unfoldable pub samePair : ℕ × ℕ → ℕ × ℕ → Bool
+samePair p q = eqb (p .0) (q .0) && eqb (p .1) (q .1)
+
+-- a reason is one of a list: its kind and its number are
+unfoldable pub isListed : ℕ × ℕ → List (ℕ × ℕ) → Bool
+isListed r l = any (samePair r) l
+
+-- 'an explanation appends a reason only if the list lacks it, and the first stays in its position'; refusal 7: 'the next reason finds
+-- its slice (or 4,096) full'
 unfoldable pub addReason : ℕ → ℕ → Work (Unit {0})
 addReason k v = do
   s ← store
-  if ltb (length (s .reasons)) (s .room .reasons) then put (withReasons s (oneMore (s .reasons) (k, v))) else refuse 7
+  if isListed (k, v) (s .reasons) then give tt
+      else if ltb (length (s .reasons)) (s .room .reasons) then put (withReasons s (oneMore (s .reasons) (k, v)))
+      else refuse 7
+
+-- no reason of the second list is in the first, or in the second twice
+unfoldable pub eachNew : List (ℕ × ℕ) → List (ℕ × ℕ) → Bool
+eachNew l [] = true
+eachNew l (r ∷ m) = not (isListed r l) && eachNew (oneMore l r) m
+
+-- the reasons at exit: those at entry, and then reasons that the list lacked, each once
+pub record EachOnce (l l′ : List (ℕ × ℕ)) : Type 0 where
+  pub more : List (ℕ × ℕ)
+  pub is : l′ ≡ l ++ more
+  pub new : eachNew l more ≡ true
 
 -- an unordered pair, 'lower number first'
 abbrev pub ordered : ℕ → ℕ → ℕ × ℕ
 ordered a b = (min a b, max a b)
-
-unfoldable pub samePair : ℕ × ℕ → ℕ × ℕ → Bool
-samePair p q = eqb (p .0) (q .0) && eqb (p .1) (q .1)
 
 unfoldable pub isKey : Store → ℕ → ℕ → Bool
 isKey s a b = any (samePair (ordered a b)) (s .keys)

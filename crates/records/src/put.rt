@@ -167,12 +167,12 @@ pub fn add_key_unchecked(
     crate::Added::Refused(8)
 }
 
-fn pair_is(pairs: &[u32], i: usize, a: u32, b: u32) -> bool
+pub fn pair_is_unchecked(pairs: &[u32], i: usize, a: u32, b: u32) -> bool
     requires { ⌜ 2 * i + 2 ≤ length (now pairs) ⌝ }
     ensures { λ r. ⌜ r ≡ samePair (a, b) (pairAt (now (pairs .entry)) i) ⌝ }
 {
-    if a == pairs[2 * i] {
-        return b == pairs[2 * i + 1];
+    if b == pairs[2 * i + 1] {
+        return a == pairs[2 * i];
     }
     false
 }
@@ -183,7 +183,7 @@ fn has_pair(pairs: &[u32], n: usize, a: u32, b: u32) -> bool
 {
     let mut i: usize = 0;
     while i < n {
-        if pair_is(pairs, i, a, b) {
+        if pair_is_unchecked(pairs, i, a, b) {
             return true;
         }
         i += 1;

@@ -1,34 +1,31 @@
--- What holds of all words under the reasons that work added.
-use mathlib.Core.Path.{_≡_, sym, ap, subst}
+-- What holds of all words under the reasons that are there when work has ended.
+use mathlib.Core.Path.{_≡_, sym, subst}
 use mathlib.Core.Bool.{true}
-use mathlib.Core.List.{List, _++_, List·Memᴰ, Memᴰ·append-left, Memᴰ·append-right}
+use mathlib.Core.List.{List, _++_}
 use Prim.Native.Nat.{ℕ}
 use native.Mathlib.Omega.{arith}
 use Rattle.records.specs.Store.{Store, isString, sameClass}
 use Rattle.records.specs.Meaning.{Words, Reading, Holds}
 use Rattle.records.specs.Working.Audited.{Audited}
-use Rattle.records.proofs.Grown.{Grown, grown-none, grown-then, holds-fewer}
+use Rattle.records.proofs.Grown.{Grown, grown-none, grown-then}
 use Rattle.records.proofs.Beside.{reading-beside}
 use Rattle.engine.specs.Explain.{explain}
-use Rattle.records.proofs.Later.{Added, added-none, added-then}
-use Rattle.engine.proofs.Sound.{Gave, explain-gives, explain-stops}
+use Rattle.records.proofs.Later.{Added, added-none, added-then, added-once}
+use Rattle.engine.proofs.Sound.{Gave, explain-gives, explain-stops, holds-earlier}
 use Rattle.records.proofs.Outcomes.{ends-by}
 use Rattle.wordeq.proofs.Ends.{Ends}
 
 abbrev pub Under : Store → List (ℕ × ℕ) → (Words → Type 0) → Type 0
 Under s rs P = (w : Words) → Reading s w → Holds s rs w → P w
 
--- s′ has more reasons than s, and P holds of all words under them
+-- s′ has more reasons than s, and P holds of all words under those of s′
 pub record Cited (P : Words → Type 0) (s s′ : Store) : Type 0 where
   pub added : Added s s′
   pub audited : Audited s′
   pub grown : Grown s s′
-  pub holds : Under s (added .more) P
+  pub holds : Under s (s′ .reasons) P
 
 module _ {s s′ : Store} (a : Added s s′) where
-  pub added-reasons : s′ .reasons ≡ s .reasons ++ a .more
-  added-reasons = ap (λ (x : Store). x .reasons) (a .is)
-
   pub reading-on : {w : Words} → Reading s w → Reading s′ w
   reading-on {w} r = subst (λ (x : Store). Reading x w) (sym (a .is)) (reading-beside s (s .reasons ++ a .more) (s .keys) (s .names) w r)
 
@@ -42,20 +39,12 @@ pub cited-map : {P Q : Words → Type 0} {s s′ : Store} → ((w : Words) → P
 cited-map f c = record { added = c .added; audited = c .audited; grown = c .grown; holds = λ w r h. f w (c .holds w r h) }
 
 pub cited-then : {P Q R : Words → Type 0} {s s₁ s₂ : Store} → ((w : Words) → P w → Q w → R w) → Cited P s s₁ → Cited Q s₁ s₂ → Cited R s s₂
-unfolding added-then
-cited-then f p q = record {
+cited-then {s₂ = s₂} f p q = record {
   added = added-then (p .added) (q .added);
   audited = q .audited;
   grown = grown-then (p .grown) (q .grown);
-  holds = λ w r h.
-      f w (p .holds w r (holds-fewer (λ x k. Memᴰ·append-left (q .added .more) k) h))
-      (q .holds w (reading-on (p .added) r) (p .grown .holds w (q .added .more) (holds-fewer (λ x k. Memᴰ·append-right (p .added .more) k) h)));
+  holds = λ w r h. f w (p .holds w r (holds-earlier (added-once (q .added)) h)) (q .holds w (reading-on (p .added) r) (p .grown .holds w (s₂ .reasons) h));
 }
-
--- under all the reasons at the end
-pub cited-all : {P : Words → Type 0} {s s′ : Store} → Cited P s s′ → Under s (s′ .reasons) P
-cited-all {s = s} {s′ = s′} c w r h =
-    c .holds w r (holds-fewer (λ x k. subst (List·Memᴰ x) (sym (added-reasons (c .added))) (Memᴰ·append-right (s .reasons) k)) h)
 
 -- EXPLAIN
 

@@ -3,8 +3,7 @@ use mathlib.Core.Path.{_≡_, refl, sym, ap, _∙_}
 use mathlib.Core.Bool.{Bool, true, false, not, _&&_, _||_}
 use mathlib.Core.List.{List, [], _∷_, _++_}
 use Prim.Native.Nat.{ℕ}
-use lib.ListN.{length, drop}
-use lib.Seq.{drop-append-seam}
+use lib.ListN.{length}
 use native.Mathlib.Omega.{arith}
 use lib.Dec.{eqb}
 use borrow.Author.Tests.{not-false}
@@ -22,7 +21,7 @@ use Rattle.records.proofs.Grown.{Strings, strings-later}
 use Rattle.wordeq.specs.Wordeq.{same, nfEqual, explainPair, nfExplain}
 use Rattle.wordeq.specs.Meaning.{ExplainsEqual}
 use Rattle.wordeq.proofs.Ends.{Ends}
-use Rattle.wordeq.proofs.Cited.{Cited, cited-none, cited-map, cited-then, added-reasons, explain-ends}
+use Rattle.wordeq.proofs.Cited.{Cited, cited-none, cited-map, cited-then, explain-ends}
 use Rattle.wordeq.proofs.Strip.{plainly, same-word, same-class}
 
 -- a pair that needs no reason, or is not of one class
@@ -105,13 +104,7 @@ module _ (l r : List ℕ) (s : Store) (audited : Audited s) (left : all (isStrin
   explain-equal-gives s′ u e = ends .given s′ u e
 
   pub explain-equal-sound : (s′ : Store) (u : Unit {0}) → nfExplain l r s ≡ ok s′ u → ExplainsEqual s s′ l r
-  explain-equal-sound s′ u e f w rd h = go (explain-equal-gives s′ u e)
-    where
-      go : Cited (λ w. nfEqual s l r ≡ true → concatMap w l ≡ concatMap w r) s s′ → concatMap w l ≡ concatMap w r
-      go c =
-          let k : drop (length (s .reasons)) (s′ .reasons) ≡ c .added .more =
-          ap (drop (length (s .reasons))) (added-reasons (c .added)) ∙ drop-append-seam (s .reasons) (c .added .more) in
-          c .holds w rd (rw k at h) f
+  explain-equal-sound s′ u e f w rd h = explain-equal-gives s′ u e .holds w rd h f
 
   pub explain-equal-kept : (s′ : Store) (u : Unit {0}) → nfExplain l r s ≡ ok s′ u → Audited s′
   explain-equal-kept s′ u e = explain-equal-gives s′ u e .audited

@@ -5,16 +5,15 @@ use mathlib.Core.List.{List, [], _∷_, _++_}
 use mathlib.Core.Option.{Option, none, some}
 use Prim.Native.Nat.{ℕ, suc, _≤_}
 use native.Mathlib.Omega.{arith}
-use lib.ListN.{length}
 use lib.IntN.{ℤ, negℤ}
-use lib.Dec.{ltb}
+use lib.ListN.{length}
 use Rattle.records.specs.Lists.{if_then_else_, all, any, firstOf}
 use Rattle.records.specs.Store.{Store, Out, ok, stop, Work, andThen, isConstant, isVariable, isConcat, text}
 use Rattle.records.specs.Make.{addKey, isKey, makeConstant, makeConcat, makeLength, makeEquation}
 use Rattle.records.proofs.Works.{stop-not}
 use Rattle.engine.specs.Explain.{explain}
 use Rattle.normalize.specs.Normalize.{flatten}
-use Rattle.wordeq.specs.Wordeq.{Answer, done, saturated, conflict, propagate, split, Tried, settled, _orElse_, same, fixed, letters, occurrence, occursAt, occurs, constants, alias, isPlain, emptiesAt, empties, assigns, fits, explainAll, variables, tileBy, tile, clashes, differ, freshVariable, splitCharacter, splitHeads, splitBy, splits, after, isBare, orDone, strip, steps, softened, closed, resolve, unequal, short, absent}
+use Rattle.wordeq.specs.Wordeq.{Answer, done, saturated, conflict, propagate, split, Tried, settled, _orElse_, same, matches, needsReason, fixed, letters, occurrence, occursAt, occurs, constants, alias, isPlain, emptiesAt, empties, assigns, fits, explainAll, variables, tileBy, tile, clashes, differ, freshVariable, splitCharacter, splitHeads, splitBy, splits, after, isBare, orDone, strip, steps, softened, closed, resolve, unequal, short, absent}
 
 -- WHAT EVERY VALUE OF A WORK HAS
 
@@ -136,32 +135,32 @@ module _ (g : ℤ) where
   by-few v [] other h s = h s
   by-few v (x ∷ w) other h s = character-few v x s
 
-  splits-few : (added : Bool) (l r : List ℕ) → Step (splits g added l r)
+  splits-few : (needed : Bool) (l r : List ℕ) → Step (splits g needed l r)
   unfolding splits
-  splits-few added [] r s = give-has tt
-  splits-few added (a ∷ l) [] s = give-has tt
-  splits-few added (a ∷ l) (b ∷ r) s =
+  splits-few needed [] r s = give-has tt
+  splits-few needed (a ∷ l) [] s = give-has tt
+  splits-few needed (a ∷ l) (b ∷ r) s =
       if-has (isConstant s a && isConstant s b) _ _ (give-has tt)
-      (if-has (added || isKey s a b) _ _ (give-has tt)
+      (if-has (needed || isKey s a b) _ _ (give-has tt)
       (then-has _ (addKey a b s) (λ s₁ u. if-has (isConstant s b) _ _ (by-few a (text s b) (splitHeads g a b) (heads-few a b) s₁)
       (if-has (isConstant s a) _ _ (by-few b (text s a) (splitHeads g a b) (heads-few a b) s₁) (heads-few a b s₁)))))
 
-  after-few : (added : Bool) (l r : List ℕ) → Step (after g added l r)
+  after-few : (needed : Bool) (l r : List ℕ) → Step (after g needed l r)
   unfolding after
-  after-few added l r =
+  after-few needed l r =
       else-few _ _ (else-few _ _ (else-few _ _ (else-few _ _ (else-few _ _ (else-few _ _ (else-few _ _ (else-few _ _ (else-few _ _ (else-few _ _ (else-few _ _
       (occurs-few l r) (occurs-few r l))
       (constants-few l r))
       (alias-few l r)) (empties-few l r)) (empties-few r l)) (assigns-few l r)) (assigns-few r l))
       (tile-few l r)) (tile-few r l))
       (clashes-few l r))
-      (splits-few added l r)
+      (splits-few needed l r)
 
   steps-few : (l r : List ℕ) (s : Store) → Always Few (steps g l r s)
   unfolding steps
   steps-few l r s = then-has _ (strip l r s) (λ s₁ v. next-has orDone _ (tried s₁ v) finished)
     where
-      tried : (s₁ : Store) (v : List ℕ × List ℕ) → Always FewIf ((if isBare (v .0) (v .1) then (λ t. ok t (some done)) else after g (ltb (length (s .reasons)) (length (s₁ .reasons))) (v .0) (v .1)) s₁)
+      tried : (s₁ : Store) (v : List ℕ × List ℕ) → Always FewIf ((if isBare (v .0) (v .1) then (λ t. ok t (some done)) else after g (any (needsReason s) (matches s l r)) (v .0) (v .1)) s₁)
       tried s₁ v = if-has (isBare (v .0) (v .1)) _ _ (give-has tt) (after-few _ (v .0) (v .1) s₁)
 
       finished : (s₂ : Store) (o : Option Answer) → FewIf o → Always Few (orDone o s₂)

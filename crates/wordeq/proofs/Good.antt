@@ -15,7 +15,7 @@ use Rattle.records.proofs.Outcomes.{ends-give, ends-map, ends-then}
 use Rattle.wordeq.specs.Wordeq.{Answer, done, saturated, conflict, propagate, split, Tried, answer, pass, settled, _orElse_}
 use Rattle.wordeq.specs.Meaning.{Worth, Sound}
 use Rattle.wordeq.proofs.Ends.{Ends}
-use Rattle.wordeq.proofs.Cited.{Under, Cited, cited-all}
+use Rattle.wordeq.proofs.Cited.{Under, Cited}
 
 pub later-cited : {P : Words → Type 0} {s s′ : Store} → Cited P s s′ → Later s s′
 later-cited c = later-added (c .added) (c .audited)
@@ -63,59 +63,59 @@ worth-flip (split atoms n) s s′ L R h = λ w rd k e. h w rd k (sym e)
 
 -- STEPS
 
--- a Split comes only where step 1 added no reason, and adds none
+-- a Split comes only where no stripped match needs a reason, and adds none
 abbrev pub Calm : Bool → Store → Store → Answer → Type 0
-Calm added s s′ done = Unit {0}
-Calm added s s′ saturated = Unit {0}
-Calm added s s′ conflict = Unit {0}
-Calm added s s′ (propagate v y f) = Unit {0}
-Calm added s s′ (split atoms g) = (added ≡ false) × (s′ .reasons ≡ s .reasons)
+Calm needed s s′ done = Unit {0}
+Calm needed s s′ saturated = Unit {0}
+Calm needed s s′ conflict = Unit {0}
+Calm needed s s′ (propagate v y f) = Unit {0}
+Calm needed s s′ (split atoms g) = (needed ≡ false) × (s′ .reasons ≡ s .reasons)
 
 -- what is shown of each step: it passes and adds no reason and no variable, or its answer is sound
-pub data Good (added : Bool) (l r : List ℕ) (s s′ : Store) : Option Answer → Type 0 where
-  passes : Later s s′ → OldVariables s s′ → s′ .reasons ≡ s .reasons → Good added l r s s′ none
-  answers : {x : Answer} → Later s s′ → Sound s s′ l r x → Calm added s s′ x → Good added l r s s′ (some x)
+pub data Good (needed : Bool) (l r : List ℕ) (s s′ : Store) : Option Answer → Type 0 where
+  passes : Later s s′ → OldVariables s s′ → s′ .reasons ≡ s .reasons → Good needed l r s s′ none
+  answers : {x : Answer} → Later s s′ → Sound s s′ l r x → Calm needed s s′ x → Good needed l r s s′ (some x)
 
 abbrev pub Step : Bool → List ℕ → List ℕ → Tried → Type 0
-Step added l r m = (s : Store) → Audited s → Strings s l → Strings s r → Ends (Good added l r s) (m s)
+Step needed l r m = (s : Store) → Audited s → Strings s l → Strings s r → Ends (Good needed l r s) (m s)
 
-calm-after : (x : Answer) (added : Bool) (s s₁ s′ : Store) → s₁ .reasons ≡ s .reasons → Calm added s₁ s′ x → Calm added s s′ x
-calm-after done added s s₁ s′ n c = tt
-calm-after saturated added s s₁ s′ n c = tt
-calm-after conflict added s s₁ s′ n c = tt
-calm-after (propagate v y f) added s s₁ s′ n c = tt
-calm-after (split atoms g) added s s₁ s′ n c = (c .0, c .1 ∙ n)
+calm-after : (x : Answer) (needed : Bool) (s s₁ s′ : Store) → s₁ .reasons ≡ s .reasons → Calm needed s₁ s′ x → Calm needed s s′ x
+calm-after done needed s s₁ s′ n c = tt
+calm-after saturated needed s s₁ s′ n c = tt
+calm-after conflict needed s s₁ s′ n c = tt
+calm-after (propagate v y f) needed s s₁ s′ n c = tt
+calm-after (split atoms g) needed s s₁ s′ n c = (c .0, c .1 ∙ n)
 
-module _ {added : Bool} {l r : List ℕ} where
-  pub step-pass : {s : Store} → Audited s → Ends (Good added l r s) (pass s)
+module _ {needed : Bool} {l r : List ℕ} where
+  pub step-pass : {s : Store} → Audited s → Ends (Good needed l r s) (pass s)
   step-pass d = ends-give (passes (later-none d) (λ t e. e) refl)
 
-  pub step-conflict : {s s₁ : Store} → Cited (λ w. concatMap w l ≡ concatMap w r → ⊥) s s₁ → Ends (Good added l r s) (answer conflict s₁)
-  step-conflict c = ends-give (answers (later-cited c) (cited-all c) tt)
+  pub step-conflict : {s s₁ : Store} → Cited (λ w. concatMap w l ≡ concatMap w r → ⊥) s s₁ → Ends (Good needed l r s) (answer conflict s₁)
+  step-conflict c = ends-give (answers (later-cited c) (c .holds) tt)
 
   pub step-propagate : {s s₁ : Store} (v y : ℕ) (f : Bool) → Later s s₁ → kind s v ≡ 2 → Under s₁ (s₁ .reasons) (λ w. concatMap w l ≡ concatMap w r → w v ≡ w y)
-      → Ends (Good added l r s) (answer (propagate v y f) s₁)
+      → Ends (Good needed l r s) (answer (propagate v y f) s₁)
   step-propagate {s₁ = s₁} v y f k i h = ends-give (answers k (record { variable = i; equal = λ w rd u e. h w rd (k .grown .holds w (s₁ .reasons) u) e }) tt)
 
   -- after work that adds no reason and no variable
-  pub good-after : {s s₁ s′ : Store} {o : Option Answer} → Strings s l → Strings s r → Later s s₁ → OldVariables s s₁ → s₁ .reasons ≡ s .reasons → Good added l r s₁ s′ o → Good added l r s s′ o
+  pub good-after : {s s₁ s′ : Store} {o : Option Answer} → Strings s l → Strings s r → Later s s₁ → OldVariables s s₁ → s₁ .reasons ≡ s .reasons → Good needed l r s₁ s′ o → Good needed l r s s′ o
   good-after hl hr k v n (passes h u e) = passes (later-then k h) (λ t i. v t (u t i)) (e ∙ n)
   good-after {s} {s₁} {s′} hl hr k v n (answers {x} h e c) =
       answers (later-then k h)
       (worth-back x (λ w. concatMap w l) (λ w. concatMap w r) (λ w. concatMap w l) (λ w. concatMap w r) (k .grown) v (h .grown) (concatMap-local s hl) (concatMap-local s hr) (λ w rd u z. z) e)
-      (calm-after x added s s₁ s′ n c)
+      (calm-after x needed s s₁ s′ n c)
 
-  pub step-else : (m n : Tried) → Step added l r m → Step added l r n → Step added l r (m orElse n)
+  pub step-else : (m n : Tried) → Step needed l r m → Step needed l r n → Step needed l r (m orElse n)
   step-else m n gm gn s d hl hr = ends-then (settled n) (m s) (gm s d hl hr) by
     where
-      by : (s₁ : Store) (o : Option Answer) → Good added l r s s₁ o → Ends (Good added l r s) (settled n o s₁)
+      by : (s₁ : Store) (o : Option Answer) → Good needed l r s s₁ o → Ends (Good needed l r s) (settled n o s₁)
       by s₁ (some x) g = ends-give g
       by s₁ none (passes k v e) =
           ends-map (λ s′ o h. good-after hl hr k v e h) (gn s₁ (k .audited) (strings-later (k .grown) hl) (strings-later (k .grown) hr))
 
-pub good-flip : {added : Bool} {l r : List ℕ} {s s′ : Store} {o : Option Answer} → Good added r l s s′ o → Good added l r s s′ o
+pub good-flip : {needed : Bool} {l r : List ℕ} {s s′ : Store} {o : Option Answer} → Good needed r l s s′ o → Good needed l r s s′ o
 good-flip (passes k v e) = passes k v e
-good-flip {added} {l} {r} {s} {s′} (answers {x} k h c) = answers k (worth-flip x s s′ (λ w. concatMap w l) (λ w. concatMap w r) h) c
+good-flip {needed} {l} {r} {s} {s′} (answers {x} k h c) = answers k (worth-flip x s s′ (λ w. concatMap w l) (λ w. concatMap w r) h) c
 
-pub step-flip : {added : Bool} {l r : List ℕ} {m : Tried} → Step added r l m → Step added l r m
+pub step-flip : {needed : Bool} {l r : List ℕ} {m : Tried} → Step needed r l m → Step needed l r m
 step-flip g s d hl hr = ends-map (λ s′ o h. good-flip h) (g s d hr hl)

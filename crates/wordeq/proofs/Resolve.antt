@@ -1,33 +1,31 @@
 -- Demand 3 of wordeq: the steps in sequence.
 use mathlib.Core.Path.{_≡_, refl, sym, ap, subst, _∙_}
 use mathlib.Core.Bool.{Bool, true, false}
-use mathlib.Core.List.{List, [], _∷_, _++_, append-nil, List·Memᴰ, Memᴰ·append-left, Memᴰ·append-right}
+use mathlib.Core.List.{List, _++_}
 use mathlib.Core.Option.{Option, none, some}
 use Prim.Native.Nat.{ℕ}
 use native.Mathlib.Omega.{arith}
-use lib.ListN.{length, length-append}
 use lib.IntN.{ℤ}
-use lib.Dec.{ltb}
-use borrow.Author.Tests.{ltb-false}
 use Rattle.records.specs.Lists.{if_then_else_, all, any, concatMap}
-use Rattle.records.specs.Store.{Store, ok, stop, _>>=_, give, isConcat, isString}
+use Rattle.records.specs.Store.{Store, Out, ok, stop, _>>=_, give, isConcat, isString}
 use Rattle.records.specs.Make.{withReasons}
 use Rattle.records.specs.Meaning
 use Rattle.records.specs.Meaning.{Words, Reading, Holds, True}
 use Rattle.records.specs.Working.Audited.{Audited}
 use Rattle.records.proofs.Lists.{all-every, every-all, every-map}
-use Rattle.records.proofs.Grown.{Grown, grown-none, holds-before, Strings, holds-fewer}
+use Rattle.records.proofs.Grown.{Grown, grown-none, holds-before, Strings}
 use Rattle.records.proofs.Beside.{reading-beside}
+use Rattle.engine.proofs.Sound.{holds-earlier}
 use Rattle.normalize.specs.Normalize.{flatten}
 use Rattle.normalize.proofs.Atoms.{Flat, flatten-flat, flatten-stops, flatten-atoms}
 use Rattle.records.proofs.Outcomes.{ends-give, ends-map, ends-by, ends-if, ends-then}
-use Rattle.wordeq.specs.Wordeq.{Answer, done, saturated, conflict, propagate, split, answer, after, isBare, orDone, steps, softened, closed, resolve}
+use Rattle.wordeq.specs.Wordeq.{Answer, done, saturated, conflict, propagate, split, answer, needsReason, matches, strip, after, isBare, orDone, steps, softened, closed, resolve}
 use Rattle.wordeq.specs.Meaning.{Chosen, Sound}
 use Rattle.wordeq.proofs.Ends.{RefusedAtWork, Ends}
-use Rattle.wordeq.proofs.Cited.{Under, added-reasons}
+use Rattle.wordeq.proofs.Cited.{Under}
 use Rattle.wordeq.proofs.Good.{concatMap-local, worth-back, Calm, Good, passes, answers, Step, step-else, step-flip, later-cited}
-use Rattle.records.proofs.Later.{More, Later, later-then, later-cut, variables-added}
-use Rattle.wordeq.proofs.Strip.{Apart, Stripped, strip-ends}
+use Rattle.records.proofs.Later.{Later, later-then, later-cut, variables-added}
+use Rattle.wordeq.proofs.Strip.{Apart, Stripped, strip-still, strip-ends}
 use Rattle.wordeq.proofs.Occurs.{occurs-step}
 use Rattle.wordeq.proofs.Constants.{constants-step, alias-step, empties-step, assigns-step, clashes-step}
 use Rattle.wordeq.proofs.Tile.{tile-step}
@@ -35,18 +33,22 @@ use Rattle.wordeq.proofs.Split.{splits-step}
 
 -- STEPS 2 TO 7
 
-pub after-step : (g : ℤ) (added : Bool) (l r : List ℕ) → Apart l r → Step added l r (after g added l r)
+pub after-step : (g : ℤ) (needed : Bool) (l r : List ℕ) → Apart l r → Step needed l r (after g needed l r)
 unfolding after
-after-step g added l r n =
+after-step g needed l r n =
     step-else _ _ (step-else _ _ (step-else _ _ (step-else _ _ (step-else _ _ (step-else _ _ (step-else _ _ (step-else _ _ (step-else _ _ (step-else _ _ (step-else _ _
     (occurs-step l r) (step-flip (occurs-step r l)))
     (constants-step l r))
     (alias-step l r)) (empties-step l r)) (step-flip (empties-step r l))) (assigns-step l r)) (step-flip (assigns-step r l)))
     (tile-step l r)) (step-flip (tile-step r l)))
     (clashes-step l r))
-    (splits-step g added l r n)
+    (splits-step g needed l r n)
 
 -- STEPS 1 TO 8
+
+-- what work gives, and that it gives it
+ends-known : {A : Type 0} {P : Store → A → Type 0} {o : Out A} → Ends P o → Ends (λ s x. P s x × (o ≡ ok s x)) o
+ends-known e = record { given = λ s x q. (e .given s x q, q); stopped = e .stopped }
 
 -- a run of the steps; a Split adds no reason
 pub record Ran (l r : List ℕ) (s s′ : Store) (x : Answer) : Type 0 where
@@ -58,53 +60,41 @@ data Stepped (l r : List ℕ) (s s′ : Store) : Option Answer → Type 0 where
   nothing : Later s s′ → Stepped l r s s′ none
   something : {x : Answer} → Ran l r s s′ x → Stepped l r s s′ (some x)
 
--- no reason more: the same reasons
-none-added : {A : Type 0} {l m : List A} → More l m → ltb (length l) (length m) ≡ false → m ≡ l
-none-added {A} {l} {m} a e = a .is ∙ go (a .more) (a .is)
-  where
-    go : (n : List A) → m ≡ l ++ n → l ++ n ≡ l
-    go [] p = append-nil l
-    go (x ∷ n) p =
-        let k = ap length p ∙ length-append l (x ∷ n) in
-        let h = ltb-false (length l) (length m) e in
-        absurd (omega arith)
-
 module _ (l r : List ℕ) (s : Store) (hl : Strings s l) (hr : Strings s r) where
   -- what is sound of the stripped sides is sound of the sides
-  stepped : (added : Bool) (s₁ : Store) (v : List ℕ × List ℕ) → Stripped l r s s₁ v → ltb (length (s .reasons)) (length (s₁ .reasons)) ≡ added
-      → (s′ : Store) (o : Option Answer) → Good added (v .0) (v .1) s₁ s′ o → Stepped l r s s′ o
-  stepped added s₁ v t a s′ none (passes k u e) = nothing (later-then (later-cited (t .cited)) k)
-  stepped added s₁ v t a s′ (some x) (answers k h c) =
+  stepped : (needed : Bool) (s₁ : Store) (v : List ℕ × List ℕ) → Stripped l r s s₁ v → (needed ≡ false → s₁ .reasons ≡ s .reasons)
+      → (s′ : Store) (o : Option Answer) → Good needed (v .0) (v .1) s₁ s′ o → Stepped l r s s′ o
+  stepped needed s₁ v t a s′ none (passes k u e) = nothing (later-then (later-cited (t .cited)) k)
+  stepped needed s₁ v t a s′ (some x) (answers k h c) =
       something (record {
         later = later-then (later-cited (t .cited)) k;
         sound = worth-back x (λ w. concatMap w l) (λ w. concatMap w r) (λ w. concatMap w (v .0)) (λ w. concatMap w (v .1)) (t .cited .grown) (variables-added (t .cited .added)) (k .grown) (concatMap-local s hl) (concatMap-local s hr) sides h;
         calm = calmed x c;
       })
     where
-      cited-here : (q : ℕ × ℕ) → List·Memᴰ q (t .cited .added .more) → List·Memᴰ q (s′ .reasons)
-      cited-here q m =
-          subst (List·Memᴰ q) (sym (k .reasons .is)) (Memᴰ·append-left (k .reasons .more) (subst (List·Memᴰ q) (sym (added-reasons (t .cited .added))) (Memᴰ·append-right (s .reasons) m)))
-
       sides : Under s₁ (s′ .reasons) (λ w. concatMap w l ≡ concatMap w r → concatMap w (v .0) ≡ concatMap w (v .1))
-      sides w rd u = t .cited .holds w (t .cited .grown .down w rd) (holds-fewer cited-here (holds-before (t .cited .grown) (s′ .reasons) u))
+      sides w rd u = t .cited .holds w (t .cited .grown .down w rd) (holds-earlier (k .reasons) (holds-before (t .cited .grown) (s′ .reasons) u))
 
-      calmed : (x : Answer) → Calm added s₁ s′ x → Calm false s s′ x
+      calmed : (x : Answer) → Calm needed s₁ s′ x → Calm false s s′ x
       calmed done c = tt
       calmed saturated c = tt
       calmed conflict c = tt
       calmed (propagate v y f) c = tt
-      calmed (split atoms g) c = (refl, c .1 ∙ none-added (later-cited (t .cited) .reasons) (a ∙ c .0))
+      calmed (split atoms g) c = (refl, c .1 ∙ a (c .0))
 
   pub steps-ends : (g : ℤ) → Audited s → Ends (Ran l r s) (steps g l r s)
   unfolding steps
-  steps-ends g d = ends-then _ _ (strip-ends l r s d hl hr) (λ s₁ v t. ends-then orDone _ (tried s₁ v t) finished)
+  steps-ends g d = ends-then _ _ (ends-known (strip-ends l r s d hl hr)) (λ s₁ v t. ends-then orDone _ (tried s₁ v (t .0) (t .1)) finished)
     where
-      tried : (s₁ : Store) (v : List ℕ × List ℕ) → Stripped l r s s₁ v
-          → Ends (Stepped l r s) ((if isBare (v .0) (v .1) then answer done else after g (ltb (length (s .reasons)) (length (s₁ .reasons))) (v .0) (v .1)) s₁)
-      tried s₁ v t =
+      still : (s₁ : Store) (v : List ℕ × List ℕ) → strip l r s ≡ ok s₁ v → any (needsReason s) (matches s l r) ≡ false → s₁ .reasons ≡ s .reasons
+      still s₁ v e f = let z = strip-still l r s d hl hr f in let q : s₁ ≡ s = cc in ap (λ (x : Store). x .reasons) q
+
+      tried : (s₁ : Store) (v : List ℕ × List ℕ) → Stripped l r s s₁ v → strip l r s ≡ ok s₁ v
+          → Ends (Stepped l r s) ((if isBare (v .0) (v .1) then answer done else after g (any (needsReason s) (matches s l r)) (v .0) (v .1)) s₁)
+      tried s₁ v t e =
           ends-if (isBare (v .0) (v .1)) _ _
           (λ b. ends-give (something (record { later = later-cited (t .cited); sound = tt; calm = tt })))
-          (λ b. ends-map (stepped _ s₁ v t refl) (after-step g _ (v .0) (v .1) (t .apart) s₁ (t .cited .audited) (t .left) (t .right)))
+          (λ b. ends-map (stepped _ s₁ v t (still s₁ v e)) (after-step g _ (v .0) (v .1) (t .apart) s₁ (t .cited .audited) (t .left) (t .right)))
 
       finished : (s₂ : Store) (o : Option Answer) → Stepped l r s s₂ o → Ends (Ran l r s) (orDone o s₂)
       finished s₂ none (nothing k) = ends-give (record { later = k; sound = tt; calm = tt })

@@ -173,11 +173,11 @@ two-ways v b c cs l r e₁ e₂ z g s s₉ hv kb tb pick is-empty is-char w rd h
 
 -- THE SPLITS
 
-module _ {added : Bool} (none-added : added ≡ false) (g : ℤ) where
-  split-ends : {l r : List ℕ} (atoms : List ℕ) {s s₁ : Store} → Later s s₁ → s₁ .reasons ≡ s .reasons → Sound s s₁ l r (split atoms (negℤ g)) → Ends (Good added l r s) (answer (split atoms (negℤ g)) s₁)
+module _ {needed : Bool} (none-added : needed ≡ false) (g : ℤ) where
+  split-ends : {l r : List ℕ} (atoms : List ℕ) {s s₁ : Store} → Later s s₁ → s₁ .reasons ≡ s .reasons → Sound s s₁ l r (split atoms (negℤ g)) → Ends (Good needed l r s) (answer (split atoms (negℤ g)) s₁)
   split-ends atoms k n h = ends-give (answers k h (none-added, n))
 
-  pub heads-split : (a b : ℕ) (l r : List ℕ) (s : Store) → Audited s → isString s a ≡ true → isString s b ≡ true → Ends (Good added (a ∷ l) (b ∷ r) s) (splitHeads g a b s)
+  pub heads-split : (a b : ℕ) (l r : List ℕ) (s : Store) → Audited s → isString s a ≡ true → isString s b ≡ true → Ends (Good needed (a ∷ l) (b ∷ r) s) (splitHeads g a b s)
   unfolding splitHeads within
   heads-split a b l r s d sa sb =
       ends-then _ _ (length-ends a s d sa) λ s₁ la m₁.
@@ -212,7 +212,7 @@ module _ {added : Bool} (none-added : added ≡ false) (g : ℤ) where
       (λ w rd h. grown-true g₆₉ (k₆ .audited .recorded) q₁ (equation-true a t₁ m₆ (grown-string (k₅ .grown) a sa) (h ∙ sym (pair-word w m₅ g₅₉ rd))))
       (λ w rd h. equation-true b t₂ m₉ (grown-string (k₈ .grown) b sb) (h ∙ sym (pair-word w m₈ (m₉ .made .grown) rd))))
 
-  pub character-split : (v b c : ℕ) (cs l r : List ℕ) (s : Store) → Audited s → isString s v ≡ true → kind s b ≡ 1 → text s b ≡ c ∷ cs → Ends (Good added (v ∷ l) (b ∷ r) s) (splitCharacter g v c s)
+  pub character-split : (v b c : ℕ) (cs l r : List ℕ) (s : Store) → Audited s → isString s v ≡ true → kind s b ≡ 1 → text s b ≡ c ∷ cs → Ends (Good needed (v ∷ l) (b ∷ r) s) (splitCharacter g v c s)
   unfolding splitCharacter all within
   character-split v b c cs l r s d sv kb tb =
       ends-then _ _ (constant-ends [] s d refl) λ s₁ n m₁.
@@ -241,13 +241,13 @@ module _ {added : Bool} (none-added : added ≡ false) (g : ℤ) where
 
   -- where one head has a first character
   split-by : (v b : ℕ) (l r cs : List ℕ) (other : Tried) (s : Store) → Audited s → isString s v ≡ true → kind s b ≡ 1 → text s b ≡ cs
-      → Ends (Good added (v ∷ l) (b ∷ r) s) (other s) → Ends (Good added (v ∷ l) (b ∷ r) s) (splitBy g v cs other s)
+      → Ends (Good needed (v ∷ l) (b ∷ r) s) (other s) → Ends (Good needed (v ∷ l) (b ∷ r) s) (splitBy g v cs other s)
   split-by v b l r [] other s d sv kb tb e = e
   split-by v b l r (c ∷ cs) other s d sv kb tb e = character-split v b c cs l r s d sv kb tb
 
   -- behind the key
   keyed-split : (a b : ℕ) (l r : List ℕ) (s s₁ : Store) → Grown s s₁ → Audited s₁ → isString s a ≡ true → isString s b ≡ true
-      → Ends (Good added (a ∷ l) (b ∷ r) s₁) ((if isConstant s b then splitBy g a (text s b) (splitHeads g a b)
+      → Ends (Good needed (a ∷ l) (b ∷ r) s₁) ((if isConstant s b then splitBy g a (text s b) (splitHeads g a b)
       else if isConstant s a then splitBy g b (text s a) (splitHeads g a b)
       else splitHeads g a b) s₁)
   keyed-split a b l r s s₁ k d sa sb =
@@ -264,15 +264,15 @@ module _ {added : Bool} (none-added : added ≡ false) (g : ℤ) where
 key-ends : (a b : ℕ) (s : Store) → Audited s → isString s a ≡ true → isString s b ≡ true → (a ≡ b → ⊥) → Ends (λ s′ u. KeyAdded a b s s′) (addKey a b s)
 key-ends a b s d p q n = ends-by 8 (omega arith) (omega arith) (λ s′ u e. key-kept a b s s′ d p q n e) (key-stops a b s)
 
-pub splits-step : (g : ℤ) (added : Bool) (l r : List ℕ) → Apart l r → Step added l r (splits g added l r)
+pub splits-step : (g : ℤ) (needed : Bool) (l r : List ℕ) → Apart l r → Step needed l r (splits g needed l r)
 unfolding splits
-splits-step g added [] r n s d hl hr = step-pass d
-splits-step g added (a ∷ l) [] n s d hl hr = step-pass d
-splits-step g added (a ∷ l) (b ∷ r) n s d (and sa hl) (and sb hr) =
-    ends-if (isConstant s a && isConstant s b) _ _ (λ c. step-pass d) (λ c. ends-if (added || isKey s a b) _ _
+splits-step g needed [] r n s d hl hr = step-pass d
+splits-step g needed (a ∷ l) [] n s d hl hr = step-pass d
+splits-step g needed (a ∷ l) (b ∷ r) n s d (and sa hl) (and sb hr) =
+    ends-if (isConstant s a && isConstant s b) _ _ (λ c. step-pass d) (λ c. ends-if (needed || isKey s a b) _ _
     (λ e. ends-give (answers (later-none d) tt tt))
     (λ e. ends-then _ _ (key-ends a b s d sa sb n) (λ s₁ u k.
-    ends-map (λ s′ o h. good-after (and sa hl) (and sb hr) (later-key k) (λ t i. ap (λ (x : Store). kind x t) (sym (k .is)) ∙ i) (k .reasons) h) (keyed-split (no-left added e) g a b l r s s₁ (k .grown) (k .audited) sa sb))))
+    ends-map (λ s′ o h. good-after (and sa hl) (and sb hr) (later-key k) (λ t i. ap (λ (x : Store). kind x t) (sym (k .is)) ∙ i) (k .reasons) h) (keyed-split (no-left needed e) g a b l r s s₁ (k .grown) (k .audited) sa sb))))
   where
     no-left : (x : Bool) → x || isKey s a b ≡ false → x ≡ false
     no-left true e = e

@@ -6,15 +6,17 @@ use Prim.Native.Nat.{ℕ}
 use lib.ListN.{length, take, drop, take-append-drop}
 use lib.Dec.{eqb}
 use borrow.Author.Tests.{eqb-true, eq-eqb}
-use Rattle.records.specs.Lists.{if_then_else_, concatMap, sameWord, firsts, seconds, Every, none-left, and}
-use Rattle.records.specs.Store.{Store, Out, ok, stop, andThen, isConstant, isString, text, sameClass}
+use Rattle.records.specs.Lists.{if_then_else_, any, concatMap, sameWord, firsts, seconds, Every, none-left, and}
+use Rattle.records.specs.Store.{Store, Out, ok, stop, andThen, give, isConstant, isString, text, sameClass}
 use Rattle.records.specs.Make.{withReasons}
 use Rattle.records.specs.Meaning.{Words, Reading}
 use Rattle.records.specs.Working.Audited.{Audited}
 use Rattle.records.proofs.Lists.{word-is, clash, every-append, every-left, every-right, every-map}
 use Rattle.records.proofs.Outcomes.{ends-give, ends-map, ends-if, ends-then}
 use Rattle.records.proofs.Grown.{Strings, strings-later}
-use Rattle.wordeq.specs.Wordeq.{same, explainMatch, strip, sameHeads, sameTails, rest, explainMatches}
+use Rattle.engine.specs.Explain.{explain, isReasoned}
+use Rattle.engine.proofs.Sound.{unreasoned}
+use Rattle.wordeq.specs.Wordeq.{same, explainMatch, needsReason, strip, sameHeads, sameTails, matches, rest, explainMatches}
 use Rattle.records.proofs.Later.{Added}
 use Rattle.wordeq.proofs.Words
 use Rattle.wordeq.proofs.Words.{Alike, alike-reverse, cancel-front, cancel-back, unturn}
@@ -94,6 +96,30 @@ matches-end [] s d none-left = ends-give (cited-none s d (λ w rd. Words.Alike.n
 matches-end (p ∷ l) s d (and m k) =
     ends-then _ _ (match-ends (p .0) (p .1) s d (m .one) (m .other) (m .alike))
     (λ s₁ u c. ends-map (λ s′ v q. cited-then (λ w e x. Words.Alike.pair e x) c q) (matches-end l s₁ (c .audited) (every-map (λ q. match-later (c .added)) k)))
+
+-- matches that need no reason add none
+neither-left : (a b : Bool) → a || b ≡ false → a ≡ false
+neither-left true b e = e
+neither-left false b e = refl
+
+neither-right : (a b : Bool) → a || b ≡ false → b ≡ false
+neither-right true b e = clash refl e
+neither-right false b e = e
+
+unneeded-match : (s : Store) (p : ℕ × ℕ) → Audited s → Match s p → needsReason s p ≡ false → explainMatch (p .0) (p .1) s ≡ ok s tt
+unfolding explainMatch needsReason
+unneeded-match s p d m e = go (plainly s (p .0) (p .1)) refl e
+  where
+    go : (x : Bool) → plainly s (p .0) (p .1) ≡ x → (if x then false else isReasoned s (p .0) (p .1)) ≡ false → (if x then give tt else explain (p .0) (p .1)) s ≡ ok s tt
+    go true f i = refl
+    go false f i = unreasoned s d (p .0) (p .1) (m .one) (m .other) (same-class s (p .0) (p .1) (m .alike) f) i (s .reasons)
+
+pub unneeded : (s : Store) → Audited s → {l : List (ℕ × ℕ)} → Every (Match s) l → any (needsReason s) l ≡ false → explainMatches l s ≡ ok s tt
+unfolding explainMatches any
+unneeded s d none-left e = refl
+unneeded s d (and {a = p} {l = l} m k) e =
+    ap (andThen (λ (u : Unit {0}). explainMatches l)) (unneeded-match s p d m (neither-left (needsReason s p) (any (needsReason s) l) e))
+    ∙ unneeded s d k (neither-right (needsReason s p) (any (needsReason s) l) e)
 
 -- WHAT IS LEFT
 
@@ -204,6 +230,14 @@ module _ (s : Store) (l r : List ℕ) (hl : Strings s l) (hr : Strings s r) wher
       rw (matches-append heads tails s)
       (ends-then _ _ (matches-end heads s d (heads-off .matched))
       (λ s₁ u c₁. ends-map (λ s₂ v c₂. both-off s₁ s₂ c₁ c₂) (matches-end tails s₁ (c₁ .audited) (every-map (λ q. match-later (c₁ .added)) (tails-off .matched)))))
+
+  -- all the matches
+  pub all-matched : Every (Match s) (heads ++ tails)
+  all-matched = every-append (heads-off .matched) (tails-off .matched)
+
+pub strip-still : (l r : List ℕ) (s : Store) → Audited s → Strings s l → Strings s r → any (needsReason s) (matches s l r) ≡ false → strip l r s ≡ ok s (rest s l r)
+unfolding strip
+strip-still l r s d hl hr e = ap (andThen (λ (u : Unit {0}). give (rest s l r))) (unneeded s d (all-matched s l r hl hr) e)
 
 pub strip-ends : (l r : List ℕ) (s : Store) → Audited s → Strings s l → Strings s r → Ends (Stripped l r s) (strip l r s)
 unfolding strip rest

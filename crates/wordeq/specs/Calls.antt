@@ -8,6 +8,7 @@ use lib.IntN.{ℤ}
 use Rattle.records.specs.declared.State.{State}
 use Rattle.records.specs.Store.{Store, Out, ok, stop, Work}
 use Rattle.records.specs.View.{Lent, storeOf}
+use Rattle.records.specs.Make.{EachOnce}
 use Rattle.records.specs.Rules.{isList}
 use Rattle.records.specs.Calls.{Public, call, fullAlone}
 use Rattle.normalize.specs.Calls.{listCall, PublicList}
@@ -33,11 +34,13 @@ abbrev pub compared : Equality → Lent → State → Out Bool
 compared (equality.Is b) m c = ok (storeOf m c) b
 compared (equality.Refused k) m c = stop k
 
--- nf_equal_explain's answer, and what it is worth: under the reasons that the call added and the definitional merges two lists that
--- nf_equal calls equal have equal words. Once the arguments pass, refusal 7 alone is given
+-- nf_equal_explain's answer, and what it is worth: under the reasons at exit and the definitional merges two lists that nf_equal calls
+-- equal have equal words. The reasons at exit are those at entry and then reasons that the list lacked, each once. Once the arguments pass,
+-- refusal 7 alone is given
 pub record PublicEqualExplain (l r : List ℕ) (m m′ : Lent) (c : State) (o : Out (Unit {0})) : Type 0 where
   pub is : Public (call (nfArguments l r) (nfExplain l r) m c) m m′ c o
   pub worth : (s′ : Store) → o ≡ ok s′ tt → ExplainsEqual (storeOf m c) s′ l r
+  pub once : (s′ : Store) → o ≡ ok s′ tt → EachOnce (storeOf m c .reasons) (s′ .reasons)
   pub full : (k : ℕ) → o ≡ stop k → fullAlone k
 
 -- RESOLVE_EQUATION
@@ -51,7 +54,8 @@ resolved (step.Propagate c v w f) m k = ok (storeOf m c) (propagate v w f)
 resolved (step.Split c n g) m k = ok (storeOf m c) (split (take n k) g)
 resolved (step.Refused n) m k = stop n
 
--- its answer, and what it is worth: demand 3
+-- its answer, and what it is worth: demand 3. The reasons at exit are those at entry and then reasons that the list lacked, each once
 pub record PublicResolve (l r : List ℕ) (g : ℤ) (m m′ : Lent) (k k′ : List ℕ) (c : State) (o : Out Answer) : Type 0 where
   pub is : PublicList (listCall k (resolveArguments l r g) (resolve l r g) m c) m m′ k k′ c o
   pub worth : (s′ : Store) (x : Answer) → o ≡ ok s′ x → Sound (storeOf m c) s′ l r x
+  pub once : (s′ : Store) (x : Answer) → o ≡ ok s′ x → EachOnce (storeOf m c .reasons) (s′ .reasons)

@@ -3,7 +3,6 @@ use mathlib.Core.Path.{_≡_}
 use mathlib.Core.Bool.{true}
 use mathlib.Core.List.{List, List·Memᴰ}
 use Prim.Native.Nat.{ℕ}
-use lib.ListN.{length, drop}
 use Rattle.records.specs.Lists.{concatMap}
 use Rattle.records.specs.Store.{Store, kind}
 use Rattle.records.specs.Meaning.{Words, Reading, Holds, True}
@@ -39,8 +38,6 @@ Worth s s′ L R (split atoms g) = (w : Words) → Reading s w → Holds s (s′
 abbrev pub Sound : Store → Store → List ℕ → List ℕ → Answer → Type 0
 Sound s s′ l r = Worth s s′ (λ w. concatMap w l) (λ w. concatMap w r)
 
--- lists that `nfEqual` calls equal have equal words, for all words under which the definitional merges and the reasons that `nfExplain`
--- added hold
+-- lists that `nfEqual` calls equal have equal words, for all words under which the definitional merges and the reasons at exit hold
 abbrev pub ExplainsEqual : Store → Store → List ℕ → List ℕ → Type 0
-ExplainsEqual s s′ l r =
-    nfEqual s l r ≡ true → (w : Words) → Reading s w → Holds s (drop (length (s .reasons)) (s′ .reasons)) w → concatMap w l ≡ concatMap w r
+ExplainsEqual s s′ l r = nfEqual s l r ≡ true → (w : Words) → Reading s w → Holds s (s′ .reasons) w → concatMap w l ≡ concatMap w r

@@ -9,7 +9,7 @@ use lib.Dec.{eqb, ltb}
 use Rattle.records.specs.Lists.{if_then_else_, all, any, firstOf, keep, concatMap, sameWord, isIn}
 use Rattle.records.specs.Store.{Store, ok, Work, _>>=_, _>>_, give, store, isConstant, isVariable, isConcat, text, sameClass}
 use Rattle.records.specs.Make.{withReasons, addKey, isKey, makeConstant, makeVariable, makeConcat, makeLength, makeEquation, strk, takeName}
-use Rattle.engine.specs.Explain.{explain}
+use Rattle.engine.specs.Explain.{explain, isReasoned}
 use Rattle.normalize.specs.Normalize.{flatten}
 use Rattle.records.specs.Rules.{isList}
 
@@ -90,6 +90,10 @@ explainMatch a b = do
 unfoldable pub explainMatches : List (ℕ × ℕ) → Work (Unit {0})
 explainMatches [] = give tt
 explainMatches (p ∷ l) = explainMatch (p .0) (p .1) >> explainMatches l
+
+-- 'a stripped class match has a non-empty explanation of its own'
+unfoldable pub needsReason : Store → ℕ × ℕ → Bool
+needsReason s p = if eqb (p .0) (p .1) || (isConstant s (p .0) && isConstant s (p .1)) then false else isReasoned s (p .0) (p .1)
 
 -- what is left is found first, and then each match is explained: reasons change nothing in what is the same
 unfoldable pub strip : List ℕ → List ℕ → Work (List ℕ × List ℕ)
@@ -230,8 +234,8 @@ clashes (a ∷ l) (b ∷ r) = do
   s ← store
   if isConstant s a && isConstant s b && differ (text s a) (text s b) then answer conflict else pass
 
--- 7. 'Where neither list is empty, variable head against a non-empty constant head, or else any variable head: if step 1 added a reason,
--- Saturated, no key. If the unordered head pair is a key, Saturated. Else add the key and Split: (v = "", v = ch ++ z), or (equal lengths,
+-- 7. 'Where neither list is empty, variable head against a non-empty constant head, or else any variable head: if a stripped class match has
+-- a non-empty explanation of its own, Saturated, no key. If the unordered head pair is a key, Saturated. Else add the key and Split: (v = "", v = ch ++ z), or (equal lengths,
 -- a = b ++ z1, b = a ++ z2), guard negated; terms are made in the order written, parts first'
 
 unfoldable pub freshVariable : Work ℕ
@@ -266,25 +270,25 @@ splitBy g v [] other = other
 splitBy g v (x ∷ w) other = splitCharacter g v x
 
 unfoldable pub splits : ℤ → Bool → List ℕ → List ℕ → Tried
-splits g added [] r = pass
-splits g added (a ∷ l) [] = pass
-splits g added (a ∷ l) (b ∷ r) = do
+splits g needed [] r = pass
+splits g needed (a ∷ l) [] = pass
+splits g needed (a ∷ l) (b ∷ r) = do
   s ← store
   if isConstant s a && isConstant s b then pass
-      else if added || isKey s a b then answer saturated
+      else if needed || isKey s a b then answer saturated
       else (addKey a b >> (if isConstant s b then splitBy g a (text s b) (splitHeads g a b)
       else if isConstant s a then splitBy g b (text s a) (splitHeads g a b)
       else splitHeads g a b))
 
--- steps 2 to 8 in this order, on what step 1 left; added: it added a reason
+-- steps 2 to 8 in this order, on what step 1 left; needed: a match that it stripped needs a reason
 unfoldable pub after : ℤ → Bool → List ℕ → List ℕ → Tried
-after g added l r =
+after g needed l r =
     occurs l r orElse occurs r l
     orElse constants l r
     orElse alias l r orElse empties l r orElse empties r l orElse assigns l r orElse assigns r l
     orElse tile l r orElse tile r l
     orElse clashes l r
-    orElse splits g added l r
+    orElse splits g needed l r
 
 abbrev pub isBare : List ℕ → List ℕ → Bool
 isBare [] [] = true
@@ -300,8 +304,7 @@ unfoldable pub steps : ℤ → List ℕ → List ℕ → Work Answer
 steps g l r = do
   s ← store
   (l₁, r₁) ← strip l r
-  s₁ ← store
-  x ← if isBare l₁ r₁ then answer done else after g (ltb (length (s .reasons)) (length (s₁ .reasons))) l₁ r₁
+  x ← if isBare l₁ r₁ then answer done else after g (any (needsReason s) (matches s l r)) l₁ r₁
   orDone x
 
 -- 'Flatten both lists, left first, if any atom of either is a concatenation; then any Conflict becomes Saturated.'

@@ -62,6 +62,7 @@ fn explain_pair(
     c: State,
     a: u32,
     b: u32,
+    places: &mut [u32],
 ) -> Added
     requires { ⌜ Ready (lends terms cells chars reasons keys) c ⌝ ∗ ⌜ Pair (readIn (now terms) (now chars) c) a b ⌝ }
     ensures { λ r. ⌜ Does (explainPair a b) (across terms cells chars reasons keys) c (added r) ⌝ }
@@ -72,10 +73,10 @@ fn explain_pair(
     if is_alike(terms, chars, c, a, b) {
         return Added::Counts(c);
     }
-    if !stripping::same_class(terms, chars, c, a, b) {
+    if !stripping::same_class_unchecked(terms, chars, c, a, b) {
         return Added::Counts(c);
     }
-    engine::explain_unchecked(terms, cells, chars, reasons, keys, c, a, b)
+    engine::explain_unchecked(terms, cells, chars, reasons, keys, c, a, b, places)
 }
 
 // The reasons why two lists of equal length are equal, pair by pair.
@@ -96,9 +97,20 @@ pub(crate) fn nf_equal_explain_unchecked(
     ensures { λ r. ⌜ Does (nfExplain (now (lhs .entry)) (now (rhs .entry))) (across terms cells chars reasons keys) c (added r) ⌝ }
 {
     let mut d = c;
+    let mut places: [u32; 513] = [0; 513];
     let mut i: usize = 0;
     while i < lhs.len() {
-        match explain_pair(terms, cells, chars, reasons, keys, d, lhs[i], rhs[i]) {
+        match explain_pair(
+            terms,
+            cells,
+            chars,
+            reasons,
+            keys,
+            d,
+            lhs[i],
+            rhs[i],
+            &mut places,
+        ) {
             Added::Counts(e) => {
                 d = e;
             }

@@ -19,6 +19,7 @@ fn explain_atom(
     c: State,
     u: u32,
     v: u32,
+    places: &mut [u32],
 ) -> Added
     requires { ⌜ Ready (lends terms cells chars reasons keys) c ⌝ }
     requires { ⌜ Pair (readIn (now terms) (now chars) c) u v ⌝ }
@@ -28,7 +29,7 @@ fn explain_atom(
     if rules::kind_of(terms, c.terms, u) == 1 {
         return Added::Counts(c);
     }
-    engine::explain_unchecked(terms, cells, chars, reasons, keys, c, u, v)
+    engine::explain_unchecked(terms, cells, chars, reasons, keys, c, u, v, places)
 }
 
 // The reasons why each variable of a side equals v, in place order.
@@ -47,10 +48,24 @@ pub(crate) fn explain_all_unchecked(
     requires { ⌜ Every (λ u. OneClass (termsView (now terms) (c .terms)) u v) (now side) ⌝ }
     ensures { λ r. ⌜ Does (explainAll (variables (readIn (now (terms .entry)) (now (chars .entry)) c) (now (side .entry))) v) (across terms cells chars reasons keys) c (added r) ⌝ }
 {
+    if side.len() == 0 {
+        return Added::Counts(c);
+    }
     let mut d = c;
+    let mut places: [u32; 513] = [0; 513];
     let mut i: usize = 0;
     while i < side.len() {
-        match explain_atom(terms, cells, chars, reasons, keys, d, side[i], v) {
+        match explain_atom(
+            terms,
+            cells,
+            chars,
+            reasons,
+            keys,
+            d,
+            side[i],
+            v,
+            &mut places,
+        ) {
             Added::Counts(e) => {
                 d = e;
             }

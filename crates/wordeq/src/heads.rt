@@ -117,7 +117,7 @@ fn split_new(
     }
 }
 
-// Two constant heads that differ at a character: Conflict. A variable head: Saturated where step 1 added a reason or the head pair is a
+// Two constant heads that differ at a character: Conflict. A variable head: Saturated where a stripped match needs a reason or the head pair is a
 // key, else Split.
 pub(crate) fn split_unchecked(
     terms: &mut [u32],
@@ -129,7 +129,7 @@ pub(crate) fn split_unchecked(
     lhs: &[u32],
     rhs: &[u32],
     guard: i32,
-    added: bool,
+    needed: bool,
     list: &mut [u32],
 ) -> StepResult
     requires { ⌜ Ready (lends terms cells chars reasons keys) c ⌝ }
@@ -140,7 +140,7 @@ pub(crate) fn split_unchecked(
     ensures { λ o. do
       let l = now (lhs .entry)
       let r = now (rhs .entry)
-      ⌜ Does (clashes l r orElse splits guard added l r) (across terms cells chars reasons keys) c (tried o into list) ⌝ }
+      ⌜ Does (clashes l r orElse splits guard needed l r) (across terms cells chars reasons keys) c (tried o into list) ⌝ }
 {
     if lhs.len() == 0 {
         return StepResult::Done(c);
@@ -156,7 +156,7 @@ pub(crate) fn split_unchecked(
     if stripping::both_constant(terms, c.terms, a, b) {
         return StepResult::Done(c);
     }
-    if added {
+    if needed {
         return StepResult::Saturated(c);
     }
     if put::is_key_unchecked(keys, c.keys, a, b) {

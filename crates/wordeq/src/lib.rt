@@ -42,9 +42,9 @@ pub struct Rest {
     pub rhs: usize,
 }
 
-// What step 1 leaves: the counts, and these places; or the refusal.
+// What step 1 leaves: the counts, these places, and whether a match that it stripped needs a reason; or the refusal.
 pub enum Stripped {
-    Parts(records::State, usize, usize, usize),
+    Parts(records::State, usize, usize, usize, bool),
     Refused(u32),
 }
 

@@ -108,7 +108,18 @@ fn occurs_in(
     if side.len() <= i {
         return StepResult::Done(c);
     }
-    match engine::explain_unchecked(terms, cells, chars, reasons, keys, c, side[i], x) {
+    let mut places: [u32; 0] = [];
+    match engine::explain_unchecked(
+        terms,
+        cells,
+        chars,
+        reasons,
+        keys,
+        c,
+        side[i],
+        x,
+        &mut places,
+    ) {
         Added::Counts(d) => StepResult::Conflict(d),
         Added::Refused(k) => StepResult::Refused(k),
     }

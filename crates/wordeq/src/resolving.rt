@@ -47,7 +47,13 @@ fn either_concat(terms: &[u32], c: State, lhs: &[u32], rhs: &[u32]) -> bool
 }
 
 // The atoms of each term of a list, from the start of `out`. Nothing is walked past the first atom that does not fit.
-pub fn flatten_list(terms: &[u32], cells: &[u32], c: State, l: &[u32], out: &mut [u32]) -> usize
+pub fn flatten_list_unchecked(
+    terms: &[u32],
+    cells: &[u32],
+    c: State,
+    l: &[u32],
+    out: &mut [u32],
+) -> usize
     requires { ⌜ Nested (bare (now terms) (c .terms) (now cells) (c .cells)) ⌝ ∗ ⌜ listLimit ≤ length (now out) ⌝ }
     ensures { λ r. ⌜ Appended (now (out .entry)) (now (out .exit)) 0 (concatMap (atoms (bare (now (terms .entry)) (c .terms) (now (cells .entry)) (c .cells))) (now (l .entry))) r ⌝ }
 {
@@ -97,12 +103,12 @@ fn flat_steps(
     ensures { λ o. ⌜ Does (flatSteps (now (lhs .entry)) (now (rhs .entry)) guard) (across terms cells chars reasons keys) c (resolved o into list) ⌝ }
 {
     let mut left: [u32; 1024] = [0; 1024];
-    let n = flatten_list(terms, cells, c, lhs, &mut left);
+    let n = flatten_list_unchecked(terms, cells, c, lhs, &mut left);
     if LIST_LIMIT < n {
         return StepResult::Refused(6);
     }
     let mut right: [u32; 1024] = [0; 1024];
-    let k = flatten_list(terms, cells, c, rhs, &mut right);
+    let k = flatten_list_unchecked(terms, cells, c, rhs, &mut right);
     if LIST_LIMIT < k {
         return StepResult::Refused(6);
     }

@@ -49,7 +49,7 @@ fn conflicts_unchecked<'a>(
     StepResult::Done(d)
 }
 
-// Steps 2 to 7 on what step 1 left; added: it added a reason.
+// Steps 2 to 7 on what step 1 left; needed: a match that it stripped needs a reason.
 pub(crate) fn after_unchecked<'a>(
     terms: &mut [u32],
     cells: &mut [u32],
@@ -60,7 +60,7 @@ pub(crate) fn after_unchecked<'a>(
     lhs: &'a [u32],
     rhs: &'a [u32],
     guard: i32,
-    added: bool,
+    needed: bool,
     list: &mut [u32],
 ) -> StepResult
     requires { ⌜ Ready (lends terms cells chars reasons keys) c ⌝ }
@@ -68,7 +68,7 @@ pub(crate) fn after_unchecked<'a>(
     requires { ⌜ HeadsApart (now lhs) (now rhs) ⌝ }
     requires { ⌜ isGuard guard ≡ true ⌝ }
     requires { ⌜ listLimit ≤ length (now list) ⌝ }
-    ensures { λ o. ⌜ Does (after guard added (now (lhs .entry)) (now (rhs .entry))) (across terms cells chars reasons keys) c (tried o into list) ⌝ }
+    ensures { λ o. ⌜ Does (after guard needed (now (lhs .entry)) (now (rhs .entry))) (across terms cells chars reasons keys) c (tried o into list) ⌝ }
 {
     let early = conflicts_unchecked(terms, cells, chars, reasons, keys, c, lhs, rhs);
     let StepResult::Done(d) = early else {
@@ -92,7 +92,7 @@ pub(crate) fn after_unchecked<'a>(
         lhs,
         rhs,
         guard,
-        added,
+        needed,
         list,
     )
 }
@@ -127,13 +127,12 @@ pub(crate) fn steps_unchecked<'a>(
 {
     let parts = stripping::strip_unchecked(terms, cells, chars, reasons, keys, c, lhs, rhs);
     match parts {
-        Stripped::Parts(d, from, x, y) => {
+        Stripped::Parts(d, from, x, y, needed) => {
             let left = &lhs[from..x];
             let right = &rhs[from..y];
             if is_bare(left, right) {
                 return StepResult::Done(d);
             }
-            let added = c.reasons < d.reasons;
             after_unchecked(
                 terms,
                 cells,
@@ -144,7 +143,7 @@ pub(crate) fn steps_unchecked<'a>(
                 left,
                 right,
                 guard,
-                added,
+                needed,
                 list,
             )
         }

@@ -7,11 +7,11 @@ ghost use lib.ListN.{length};
 ghost use lib.Dec.{eqb};
 ghost use Rattle.records.specs.Lists.{all, sameWord};
 ghost use Rattle.records.specs.Store.{termIn, isConstant, isString, text, sameClass};
-ghost use Rattle.records.specs.View.{termsView, lends, across, Between, readIn};
+ghost use Rattle.records.specs.View.{storeOf, termsView, lends, across, Between, readIn};
 ghost use Rattle.records.specs.Working.Audited.{Ready};
 ghost use Rattle.records.specs.Calls.{added, Does};
-ghost use Rattle.wordeq.specs.Wordeq.{same, sameHeads, sameTails, matches, explainMatch, explainMatches};
-ghost use Rattle.wordeq.specs.Working.Stripping.{Readable, Pair, Finds, Strips};
+ghost use Rattle.wordeq.specs.Wordeq.{same, sameHeads, sameTails, matches, explainMatch, explainMatches, needsReason};
+ghost use Rattle.wordeq.specs.Working.Stripping.{Readable, Pair, Finds, Strips, Needs, Asked};
 use crate::Rest;
 use crate::Stripped;
 use records::Added;
@@ -45,7 +45,7 @@ pub(crate) fn same_text(terms: &[u32], chars: &[u32], c: State, a: u32, b: u32) 
     text::text_is(chars, fields::first(terms, a), &chars[from..from + n])
 }
 
-pub fn same_class(terms: &[u32], chars: &[u32], c: State, a: u32, b: u32) -> bool
+pub fn same_class_unchecked(terms: &[u32], chars: &[u32], c: State, a: u32, b: u32) -> bool
     requires { ⌜ Readable (now terms) (now chars) c ⌝ ∗ ⌜ Pair (readIn (now terms) (now chars) c) a b ⌝ }
     ensures { λ r. ⌜ r ≡ sameClass (readIn (now (terms .entry)) (now (chars .entry)) c) a b ⌝ }
 {
@@ -65,7 +65,7 @@ pub(crate) fn same_unchecked(terms: &[u32], chars: &[u32], c: State, a: u32, b: 
     if both_constant(terms, c.terms, a, b) {
         return same_text(terms, chars, c, a, b);
     }
-    same_class(terms, chars, c, a, b)
+    same_class_unchecked(terms, chars, c, a, b)
 }
 
 // The reasons why two same string terms are equal: none for one number or two constants.
@@ -78,6 +78,7 @@ pub(crate) fn explain_match_unchecked(
     c: State,
     a: u32,
     b: u32,
+    places: &mut [u32],
 ) -> Added
     requires { ⌜ Ready (lends terms cells chars reasons keys) c ⌝ }
     requires { ⌜ Pair (readIn (now terms) (now chars) c) a b ⌝ }
@@ -90,7 +91,7 @@ pub(crate) fn explain_match_unchecked(
     if both_constant(terms, c.terms, a, b) {
         return Added::Counts(c);
     }
-    engine::explain_unchecked(terms, cells, chars, reasons, keys, c, a, b)
+    engine::explain_unchecked(terms, cells, chars, reasons, keys, c, a, b, places)
 }
 
 fn shorter(a: usize, b: usize) -> usize
@@ -181,6 +182,7 @@ fn explain_heads(
     lhs: &[u32],
     rhs: &[u32],
     n: usize,
+    places: &mut [u32],
 ) -> Added
     requires { ⌜ Ready (lends terms cells chars reasons keys) c ⌝ }
     requires { ⌜ all (isString (readIn (now terms) (now chars) c)) (now lhs) ≡ true ⌝ }
@@ -195,7 +197,7 @@ fn explain_heads(
     while i < n {
         let a = lhs[i];
         let b = rhs[i];
-        match explain_match_unchecked(terms, cells, chars, reasons, keys, d, a, b) {
+        match explain_match_unchecked(terms, cells, chars, reasons, keys, d, a, b, places) {
             Added::Counts(e) => {
                 d = e;
             }
@@ -220,6 +222,7 @@ fn explain_tails(
     rhs: &[u32],
     from: usize,
     n: usize,
+    places: &mut [u32],
 ) -> Added
     requires { ⌜ Ready (lends terms cells chars reasons keys) c ⌝ }
     requires { ⌜ all (isString (readIn (now terms) (now chars) c)) (now lhs) ≡ true ⌝ }
@@ -234,7 +237,7 @@ fn explain_tails(
     while i < n {
         let a = lhs[lhs.len() - 1 - i];
         let b = rhs[rhs.len() - 1 - i];
-        match explain_match_unchecked(terms, cells, chars, reasons, keys, d, a, b) {
+        match explain_match_unchecked(terms, cells, chars, reasons, keys, d, a, b, places) {
             Added::Counts(e) => {
                 d = e;
             }
@@ -258,6 +261,7 @@ fn explain_stripped(
     lhs: &[u32],
     rhs: &[u32],
     rest: Rest,
+    places: &mut [u32],
 ) -> Added
     requires { ⌜ Ready (lends terms cells chars reasons keys) c ⌝ }
     requires { ⌜ all (isString (readIn (now terms) (now chars) c)) (now lhs) ≡ true ⌝ }
@@ -269,15 +273,231 @@ fn explain_stripped(
 {
     let from = rest.from;
     let n = lhs.len() - rest.lhs;
-    match explain_heads(terms, cells, chars, reasons, keys, c, lhs, rhs, from) {
+    match explain_heads(
+        terms,
+        cells,
+        chars,
+        reasons,
+        keys,
+        c,
+        lhs,
+        rhs,
+        from,
+        places,
+    ) {
         Added::Counts(d) => {
-            explain_tails(terms, cells, chars, reasons, keys, d, lhs, rhs, from, n)
+            explain_tails(
+                terms,
+                cells,
+                chars,
+                reasons,
+                keys,
+                d,
+                lhs,
+                rhs,
+                from,
+                n,
+                places,
+            )
         }
         Added::Refused(k) => Added::Refused(k),
     }
 }
 
-// Step 1 on two lists of string terms: what is left is found, and then each match is explained.
+// Whether a match needs a reason: one number and two constants need none.
+fn needs_reason(
+    terms: &[u32],
+    cells: &[u32],
+    chars: &[u32],
+    reasons: &[u32],
+    keys: &[u32],
+    c: State,
+    a: u32,
+    b: u32,
+    places: &mut [u32],
+) -> bool
+    requires { ⌜ Ready (lends terms cells chars reasons keys) c ⌝ }
+    requires { ⌜ Pair (readIn (now terms) (now chars) c) a b ⌝ }
+    requires { ⌜ same (readIn (now terms) (now chars) c) a b ≡ true ⌝ }
+    ensures { λ r. ⌜ r ≡ needsReason (storeOf (across terms cells chars reasons keys .entry) c) (a, b) ⌝ }
+{
+    if a == b {
+        return false;
+    }
+    if both_constant(terms, c.terms, a, b) {
+        return false;
+    }
+    engine::is_reasoned_unchecked(terms, cells, chars, reasons, keys, c, a, b, places)
+}
+
+// Whether one of the first n heads, which are the same, needs a reason.
+fn heads_need(
+    terms: &[u32],
+    cells: &[u32],
+    chars: &[u32],
+    reasons: &[u32],
+    keys: &[u32],
+    c: State,
+    lhs: &[u32],
+    rhs: &[u32],
+    n: usize,
+    places: &mut [u32],
+) -> bool
+    requires { ⌜ Ready (lends terms cells chars reasons keys) c ⌝ }
+    requires { ⌜ all (isString (readIn (now terms) (now chars) c)) (now lhs) ≡ true ⌝ }
+    requires { ⌜ all (isString (readIn (now terms) (now chars) c)) (now rhs) ≡ true ⌝ }
+    requires { ⌜ n ≡ length (sameHeads (readIn (now terms) (now chars) c) (now lhs) (now rhs)) ⌝ }
+    ensures { λ r. ⌜ Needs (across terms cells chars reasons keys .entry) c (sameHeads (readIn (now (terms .entry)) (now (chars .entry)) c) (now (lhs .entry)) (now (rhs .entry))) r ⌝ }
+{
+    let mut i: usize = 0;
+    while i < n {
+        let a = lhs[i];
+        let b = rhs[i];
+        if needs_reason(terms, cells, chars, reasons, keys, c, a, b, places) {
+            return true;
+        }
+        i += 1;
+    }
+    false
+}
+
+// Whether one of the last n tails, which are the same, needs a reason.
+fn tails_need(
+    terms: &[u32],
+    cells: &[u32],
+    chars: &[u32],
+    reasons: &[u32],
+    keys: &[u32],
+    c: State,
+    lhs: &[u32],
+    rhs: &[u32],
+    from: usize,
+    n: usize,
+    places: &mut [u32],
+) -> bool
+    requires { ⌜ Ready (lends terms cells chars reasons keys) c ⌝ }
+    requires { ⌜ all (isString (readIn (now terms) (now chars) c)) (now lhs) ≡ true ⌝ }
+    requires { ⌜ all (isString (readIn (now terms) (now chars) c)) (now rhs) ≡ true ⌝ }
+    requires { ⌜ n ≡ length (sameTails (readIn (now terms) (now chars) c) from (now lhs) (now rhs)) ⌝ }
+    ensures { λ r. ⌜ Needs (across terms cells chars reasons keys .entry) c (sameTails (readIn (now (terms .entry)) (now (chars .entry)) c) from (now (lhs .entry)) (now (rhs .entry))) r ⌝ }
+{
+    let mut i: usize = 0;
+    while i < n {
+        let a = lhs[lhs.len() - 1 - i];
+        let b = rhs[rhs.len() - 1 - i];
+        if needs_reason(terms, cells, chars, reasons, keys, c, a, b, places) {
+            return true;
+        }
+        i += 1;
+    }
+    false
+}
+
+// Whether a match outside `rest` needs a reason. Where nothing is left nobody asks.
+fn matches_need(
+    terms: &[u32],
+    cells: &[u32],
+    chars: &[u32],
+    reasons: &[u32],
+    keys: &[u32],
+    c: State,
+    lhs: &[u32],
+    rhs: &[u32],
+    rest: Rest,
+    places: &mut [u32],
+) -> bool
+    requires { ⌜ Ready (lends terms cells chars reasons keys) c ⌝ }
+    requires { ⌜ all (isString (readIn (now terms) (now chars) c)) (now lhs) ≡ true ⌝ }
+    requires { ⌜ all (isString (readIn (now terms) (now chars) c)) (now rhs) ≡ true ⌝ }
+    requires { ⌜ Finds (readIn (now terms) (now chars) c) (now lhs) (now rhs) rest ⌝ }
+    ensures { λ r. ⌜ Asked (across terms cells chars reasons keys .entry) c (now (lhs .entry)) (now (rhs .entry)) (rest .from) (rest .lhs) (rest .rhs) r ⌝ }
+{
+    let from = rest.from;
+    if rest.lhs == from {
+        if rest.rhs == from {
+            return false;
+        }
+    }
+    if heads_need(
+        terms,
+        cells,
+        chars,
+        reasons,
+        keys,
+        c,
+        lhs,
+        rhs,
+        from,
+        places,
+    ) {
+        return true;
+    }
+    let n = lhs.len() - rest.lhs;
+    tails_need(
+        terms,
+        cells,
+        chars,
+        reasons,
+        keys,
+        c,
+        lhs,
+        rhs,
+        from,
+        n,
+        places,
+    )
+}
+
+// Each match outside `rest` explained, over one table of places for all of them.
+fn strip_by(
+    terms: &[u32],
+    cells: &[u32],
+    chars: &[u32],
+    reasons: &mut [u32],
+    keys: &[u32],
+    c: State,
+    lhs: &[u32],
+    rhs: &[u32],
+    rest: Rest,
+    places: &mut [u32],
+) -> Stripped
+    requires { ⌜ Ready (lends terms cells chars reasons keys) c ⌝ }
+    requires { ⌜ all (isString (readIn (now terms) (now chars) c)) (now lhs) ≡ true ⌝ }
+    requires { ⌜ all (isString (readIn (now terms) (now chars) c)) (now rhs) ≡ true ⌝ }
+    requires { ⌜ Finds (readIn (now terms) (now chars) c) (now lhs) (now rhs) rest ⌝ }
+    ensures { λ r. ⌜ Between Strips (across terms cells chars reasons keys) c (now (lhs .entry)) (now (rhs .entry)) r ⌝ }
+{
+    let needed = matches_need(
+        terms,
+        cells,
+        chars,
+        reasons,
+        keys,
+        c,
+        lhs,
+        rhs,
+        rest,
+        places,
+    );
+    match explain_stripped(
+        terms,
+        cells,
+        chars,
+        reasons,
+        keys,
+        c,
+        lhs,
+        rhs,
+        rest,
+        places,
+    ) {
+        Added::Counts(d) => Stripped::Parts(d, rest.from, rest.lhs, rest.rhs, needed),
+        Added::Refused(k) => Stripped::Refused(k),
+    }
+}
+
+// Step 1 on two lists of string terms: what is left is found, and then each match is explained. To clear the table of places costs more than
+// to do without it where a list is short, and matches are no more than its atoms.
 pub(crate) fn strip_unchecked(
     terms: &[u32],
     cells: &[u32],
@@ -294,8 +514,32 @@ pub(crate) fn strip_unchecked(
     ensures { λ r. ⌜ Between Strips (across terms cells chars reasons keys) c (now (lhs .entry)) (now (rhs .entry)) r ⌝ }
 {
     let rest = find_rest_unchecked(terms, chars, c, lhs, rhs);
-    match explain_stripped(terms, cells, chars, reasons, keys, c, lhs, rhs, rest) {
-        Added::Counts(d) => Stripped::Parts(d, rest.from, rest.lhs, rest.rhs),
-        Added::Refused(k) => Stripped::Refused(k),
+    if lhs.len() < 8 {
+        let mut none: [u32; 0] = [];
+        return strip_by(
+            terms,
+            cells,
+            chars,
+            reasons,
+            keys,
+            c,
+            lhs,
+            rhs,
+            rest,
+            &mut none,
+        );
     }
+    let mut places: [u32; 513] = [0; 513];
+    strip_by(
+        terms,
+        cells,
+        chars,
+        reasons,
+        keys,
+        c,
+        lhs,
+        rhs,
+        rest,
+        &mut places,
+    )
 }

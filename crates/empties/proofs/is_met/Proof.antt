@@ -24,22 +24,22 @@ is-met-spec =
     (tie.spec
     Inv-loop
     μ-loop
-    -- same-class-requires
+    -- same-class-unchecked-requires
     (λ c κs.
     let at-start = c .before .before .before in
     (at-start .pre .0, met-empty (readIn (at-start .args .terms .now) (at-start .args .chars .now) (at-start .args .c)) _ _ (at-start .args .met .now) (at-start .pre .1)))
     -- returns
     (λ c.
     let at-start = c .before .before .before .before .before in
-    met-first (readIn (at-start .args .terms .now) (at-start .args .chars .now) (at-start .args .c)) _ _ (at-start .args .met .now) _ (c .before .same-class .ensures)
+    met-first (readIn (at-start .args .terms .now) (at-start .args .chars .now) (at-start .args .c)) _ _ (at-start .args .met .now) _ (c .before .same-class-unchecked .ensures)
     (c .if1 .taken))
     -- loop-holds
     (λ c. (omega arith, refl))
-    -- mul-same-class
+    -- mul-same-class-unchecked
     (λ c. search needs)
-    -- shared-slice-read-same-class
+    -- shared-slice-read-same-class-unchecked
     (λ c. search needs)
-    -- same-class-requires-2
+    -- same-class-unchecked-requires-2
     (λ c κs.
     let at-start = c .before .before .before .before .before .before .before .before in (
       at-start .pre .0,
@@ -51,12 +51,12 @@ is-met-spec =
     let at-loop-test = c .before .before .before in
     let at-loop = at-loop-test .before in
     let at-if1 = at-loop .before in
-    let at-same-class = at-if1 .before in
-    let at-start = at-same-class .before .before .before .before in
+    let at-same-class-unchecked = at-if1 .before in
+    let at-start = at-same-class-unchecked .before .before .before .before in
     met-later (readIn (at-start .args .terms .now) (at-start .args .chars .now) (at-start .args .c)) (at-start .args .v) (at-start .args .e) (at-start .args .met .now) _
-    (at-same-class .same-class .ensures) (at-if1 .if1 .left) true
+    (at-same-class-unchecked .same-class-unchecked .ensures) (at-if1 .if1 .left) true
     (any-stop (sameClass (readIn (at-start .args .terms .now) (at-start .args .chars .now) (at-start .args .c)) (at-start .args .v)) (at-start .args .met .now) _
-    (at-loop .loop .inv .1) (at-loop-test .loop-test .taken) (sym (c .before .same-class2 .ensures) ∙ c .if2 .taken)))
+    (at-loop .loop .inv .1) (at-loop-test .loop-test .taken) (sym (c .before .same-class-unchecked2 .ensures) ∙ c .if2 .taken)))
     -- add-i
     (λ c. search needs)
     -- loop-less
@@ -68,13 +68,13 @@ is-met-spec =
     let at-start = at-loop .before .before .before .before .before .before in (
       let h = at-loop-test .loop-test .taken in omega arith,
       any-turn (sameClass (readIn (at-start .args .terms .now) (at-start .args .chars .now) (at-start .args .c)) (at-start .args .v)) (at-start .args .met .now) _
-          (at-loop .loop .inv .1) (at-loop-test .loop-test .taken) (sym (c .before .same-class2 .ensures) ∙ c .if2 .left),
+          (at-loop .loop .inv .1) (at-loop-test .loop-test .taken) (sym (c .before .same-class-unchecked2 .ensures) ∙ c .if2 .left),
     ))
     -- returns-3
     (λ c.
-    let at-same-class = c .before .before .before in
-    let at-start = at-same-class .before .before .before .before in
+    let at-same-class-unchecked = c .before .before .before in
+    let at-start = at-same-class-unchecked .before .before .before .before in
     met-later (readIn (at-start .args .terms .now) (at-start .args .chars .now) (at-start .args .c)) (at-start .args .v) (at-start .args .e) (at-start .args .met .now) _
-    (at-same-class .same-class .ensures) (c .before .before .if1 .left) false
+    (at-same-class-unchecked .same-class-unchecked .ensures) (c .before .before .if1 .left) false
     (any-done (sameClass (readIn (at-start .args .terms .now) (at-start .args .chars .now) (at-start .args .c)) (at-start .args .v)) (at-start .args .met .now) _
     (c .before .loop .inv .1) (c .loop-test .left))))

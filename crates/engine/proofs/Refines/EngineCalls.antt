@@ -14,6 +14,7 @@ use Rattle.records.specs.Working.Audited.{Audited, Ready, Closed}
 use Rattle.records.specs.Calls.{Working, Public, call}
 use lib.Seq.{drop-append-seam}
 use Rattle.records.proofs.Lists.{both-left, both-right, left-false, right-false}
+use Rattle.records.proofs.Later.{added-once}
 use Rattle.records.proofs.Passed.{ready-of}
 use Rattle.records.proofs.Public.{call-unready, call-unfit, call-works, audit-low}
 use Rattle.records.proofs.Grown.{string-term}
@@ -74,6 +75,7 @@ module _ (m : Lent) (c : State) (a b k : ℕ) (v : k ≡ audit m c) where
   explain-unready d = record {
     is = call-unready (explainArguments a b) (explain a b) m c k v d;
     worth = λ s′ e. let y : _≡_ {A = ℕ} 0 1 = cc in absurd (omega arith);
+    once = λ s′ e. let y : _≡_ {A = ℕ} 0 1 = cc in absurd (omega arith);
     edges = λ s′ e. let y : _≡_ {A = ℕ} 0 1 = cc in absurd (omega arith);
     full = λ j e h. let y : k ≡ j = cc in let l = audit-low m c in absurd (omega arith);
   }
@@ -83,6 +85,7 @@ module _ (m : Lent) (c : State) (a b k : ℕ) (v : k ≡ audit m c) where
     explain-unfit h = record {
       is = call-unfit (explainArguments a b) (explain a b) m c k v z x e (not-true x h);
       worth = λ s′ i. let y : _≡_ {A = ℕ} 0 1 = cc in absurd (omega arith);
+      once = λ s′ i. let y : _≡_ {A = ℕ} 0 1 = cc in absurd (omega arith);
       edges = λ s′ i. let y : _≡_ {A = ℕ} 0 1 = cc in absurd (omega arith);
       full = λ j i l. let y : 5 ≡ j = cc in absurd (omega arith);
     }
@@ -94,6 +97,7 @@ module _ (m : Lent) (c : State) (a b k : ℕ) (v : k ≡ audit m c) where
     explain-called h m′ r w = record {
       is = call-works (explainArguments a b) (explain a b) m c k v z x e (not-false x h) (λ j n. let q = explain-stops s audited a b one two three j n in omega arith) w;
       worth = λ s′ i. explain-sound s audited a b one two three s′ tt (w .says ∙ i);
+      once = λ s′ i. added-once (explain-gives s audited a b one two three s′ tt (w .says ∙ i) .added);
       edges = λ s′ i. labelled s s′ (explain-gives s audited a b one two three s′ tt (w .says ∙ i));
       full = λ j i l. explain-stops s audited a b one two three j (w .says ∙ i);
     }

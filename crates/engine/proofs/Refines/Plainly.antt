@@ -7,14 +7,14 @@ use mathlib.Core.Logic.{_⊎_}
 use Prim.Native.Nat.{ℕ, _+_, _≤_}
 use native.Mathlib.Omega.{arith}
 use lib.ListN.{length, replicate, length-replicate}
-use Rattle.records.specs.View.{pairsView}
+use Rattle.records.specs.View.{pairsView, reasonRoom}
 use Rattle.engine.specs.declared.Walked.{Walked}
 use Rattle.engine.specs.declared.Plain.the-variants.{Ended, Congruence}
 use Rattle.engine.specs.Explain.{walked}
 use Rattle.engine.specs.Working.Seen.{place, seenAt, Noted}
 use Rattle.engine.specs.Working.Walks.{Together, Walkable, Walks, Gives, Explained, Explainable, Plainly, PlainEdge, PlainPath, PlainPair}
 use Rattle.engine.proofs.Refines.Bits.{note-set}
-use Rattle.engine.proofs.Refines.Turns.{standing-on, fewer, Labelled, edge-gives, edge-nothing}
+use Rattle.engine.proofs.Refines.Turns.{standing-on, fewer, stays-room, Labelled, edge-gives, edge-nothing}
 use Rattle.engine.proofs.Refines.Rises.{pair-same, Rising, rising-stop, rising-done}
 use Rattle.engine.proofs.Refines.Starts.{none-noted, explained-by, explainable-walk}
 
@@ -42,11 +42,15 @@ plain-nothing terms reasons node kind value count i l = plainly-ended refl (λ c
 abbrev pub Walking : List ℕ → List ℕ → List ℕ → ℕ → ℕ → ℕ → ℕ → ℕ → Bool → ℕ → ℕ → Type 0
 Walking terms reasons reasons′ n a b m x late c c′ = (cells tab : List ℕ) (k : ℕ) → Rising terms cells tab tab reasons reasons′ n k a b m x late c c′
 
-pub plain-walkable : (terms reasons : List ℕ) (n a b : ℕ) → n ≤ 512 → (p : PlainPair terms reasons n a b) → Walkable terms (p .cells) (replicate 8225 0) reasons n (p .k) (λ s. Together s (a, b))
+pub plain-walkable : (terms reasons : List ℕ) (n a b : ℕ) {c : ℕ} → n ≤ 512 → (p : PlainPair terms reasons n a b c) → Walkable terms (p .cells) (replicate 8225 0) reasons n (p .k) c (λ s. Together s (a, b))
 plain-walkable terms reasons n a b h p = explainable-walk terms (p .cells) reasons n (p .k) a b 512 8225 h (omega arith) (omega arith) (p .can)
 
 pub plain-same : (terms reasons : List ℕ) (n a b c : ℕ) → a ≡ b → Plainly (PlainPath terms reasons reasons n a b c) reasons reasons c (Ended (record { code = 0; count = c }))
 plain-same terms reasons n a b c i = plainly-ended refl (λ cells k. explained-by terms cells _ reasons reasons n k a b c 0 _ (pair-same terms cells (replicate 0 0) reasons n k a b c i))
+
+-- the reasons given so far fit
+pub plain-room : {terms reasons reasons₁ : List ℕ} {n a b m x c c₁ : ℕ} {late : Bool} → PlainPair terms reasons n a b c → Walking terms reasons reasons₁ n a b m x late c c₁ → c₁ ≤ reasonRoom reasons₁
+plain-room p g = stays-room (g [] [] 0 .stays) (p .can .roomy)
 
 -- a walk over any table that lacks the pair, and has it noted, is an explanation: a table of zeros lacks every pair
 explained-alone : {terms cells reasons reasons′ : List ℕ} {n k a b c : ℕ} {r : Walked}
@@ -81,8 +85,8 @@ module _ (terms reasons reasons₁ : List ℕ) (n a b m x c c₁ : ℕ) (late : 
 
 -- what was given above the count is written over
 module _ (terms cells reasons reasons₁ : List ℕ) (n k a b c : ℕ) (l : length reasons₁ ≡ length reasons) where
-  pub explainable-on : Explainable terms cells reasons n k a b → Explainable terms cells reasons₁ n k a b
-  explainable-on e = record { standing = standing-on reasons₁ l (e .standing); together = e .together }
+  pub explainable-on : Explainable terms cells reasons n k a b c → Explainable terms cells reasons₁ n k a b c
+  explainable-on e = record { standing = standing-on reasons₁ l (e .standing); together = e .together; roomy = let h = e .roomy in omega arith }
 
   pub explained-anew : pairsView reasons₁ c ≡ pairsView reasons c → (reasons′ : List ℕ) (r : Walked) → Explained terms cells reasons₁ reasons′ n k a b c r
       → Explained terms cells reasons reasons′ n k a b c r

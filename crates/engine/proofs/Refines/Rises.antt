@@ -24,7 +24,7 @@ use Rattle.engine.proofs.Refines.Bits.{place-pair, place-small}
 use Rattle.engine.proofs.Fits.{highest-high}
 use Rattle.engine.proofs.Paths.{nearest, path-edges}
 use Rattle.engine.proofs.Walk.{walked-same}
-use Rattle.engine.proofs.Refines.Turns.{standing-within, standing-term, standing-on, Left, left-turn, left-stopped, left-none, Stays, stays-none, stays-then, every-head, every-tail, wide-on}
+use Rattle.engine.proofs.Refines.Turns.{standing-within, standing-term, standing-on, Left, left-turn, left-stopped, left-none, Stays, stays-none, stays-then, stays-room, every-head, every-tail, wide-on}
 
 -- A PAIR
 
@@ -33,6 +33,7 @@ pub pair-same : (terms cells tab reasons : List ℕ) (n k a b c : ℕ) → a ≡
 pair-same terms cells tab reasons n k a b c i = record {
   kept = refl;
   more = omega arith;
+  fits = λ h. h;
   shows = λ e q seen m. came refl seen m (walked-same (e .store) (e .audited) (a, b) q seen (pairsView reasons c) ∙ rw (or-left (eqb a b) (wasSeen (a, b) seen) (eq-eqb a b i)));
 }
 
@@ -48,17 +49,18 @@ pub pair-seen : (terms cells tab reasons : List ℕ) (n k a b c at : ℕ) (v : B
 pair-seen terms cells tab reasons n k a b c at v i j h = record {
   kept = refl;
   more = omega arith;
+  fits = λ h. h;
   shows = λ e q seen m.
       let w : wasSeen (a, b) seen ≡ true = sym (m .says a b (left-low e q) (right-low e q)) ∙ ap (seenAt tab) (sym i) ∙ sym j ∙ h in
       came refl seen m (walked-same (e .store) (e .audited) (a, b) q seen (pairsView reasons c) ∙ rw (or-right (eqb a b) (wasSeen (a, b) seen) w));
 }
 
-pub place-inside : (terms cells tab reasons : List ℕ) (n k a b at : ℕ) → Walkable terms cells tab reasons n k (λ s. Together s (a, b)) → at ≡ place n a b → at < 32 * length tab
+pub place-inside : (terms cells tab reasons : List ℕ) (n k a b at : ℕ) {c : ℕ} → Walkable terms cells tab reasons n k c (λ s. Together s (a, b)) → at ≡ place n a b → at < 32 * length tab
 place-inside terms cells tab reasons n k a b at w i =
     let z = place-small n a b (left-low (w .standing) (w .fit)) (right-low (w .standing) (w .fit)) in
     let l = w .wide .long in omega arith
 
-pub nearest-fit : (terms cells tab reasons : List ℕ) (n k a b : ℕ) → Walkable terms cells tab reasons n k (λ s. Together s (a, b))
+pub nearest-fit : (terms cells tab reasons : List ℕ) (n k a b : ℕ) {c : ℕ} → Walkable terms cells tab reasons n k c (λ s. Together s (a, b))
     → (n ≤ 512) × (within n a ≡ true) × (within n b ≡ true) × Closed (forestUp (termsView terms n)) n
 nearest-fit terms cells tab reasons n k a b w =
     let e = w .standing in
@@ -178,7 +180,7 @@ module _ (terms cells tab tab₁ reasons reasons₁ : List ℕ) (n k a b m x : �
   module _ (late : Bool) (g : Rising terms cells tab tab₁ reasons reasons₁ n k a b m x late c c₁) (d : x ≡ m → ⊥) (tab₂ reasons₂ : List ℕ) (r : Walked)
       (t : length tab₂ ≡ length tab₁) (l : length reasons₂ ≡ length reasons₁) (w : Walks (edge walked x) (λ s. Edge s x) terms cells tab₁ tab₂ reasons₁ reasons₂ n k c₁ r) where
     rising-stays : Stays tab tab₂ reasons reasons₂ c (r .count)
-    rising-stays = stays-then (g .stays) t l (w .kept) (w .more)
+    rising-stays = stays-then (g .stays) t l (w .kept) (w .more) (w .fits)
 
     rising-left : (e : Standing terms cells reasons n k) (q : Together (e .store) (a, b)) (seen : Seen) → Tables n tab seen
         → Left (edge walked) (e .store) n tab₁ reasons₁ c₁ (x ∷ ahead (e .store .terms) m b late (forestUp (e .store .terms) x)) (each (edge walked) (path (e .store) a b) seen (withReasons (e .store) (pairsView reasons c)))
@@ -225,6 +227,7 @@ module _ (terms cells tab tab₁ reasons : List ℕ) (n k a b c at : ℕ) (apart
   rising-stop tab₁′ reasons₁ m x late c₁ g u tab₂ reasons₂ r t l w z = record {
     kept = on .kept;
     more = on .more;
+    fits = on .fits;
     shows = λ e q seen v₁. pair-shows tab₂ reasons₂ r e q seen v₁ (rising-refused terms cells tab₁ tab₁′ reasons reasons₁ n k a b m x c c₁ late g u tab₂ reasons₂ r t l w z e q);
   }
     where
@@ -236,6 +239,7 @@ module _ (terms cells tab tab₁ reasons : List ℕ) (n k a b c at : ℕ) (apart
   rising-done tab₂ reasons₂ m x c₂ true g z u = record {
     kept = g .stays .kept;
     more = g .stays .more;
+    fits = g .stays .fits;
     shows = λ e q seen v₁. pair-shows tab₂ reasons₂ _ e q seen v₁ (λ seen₁ v₂. left-none (edge walked) (e .store) n (rw (up-here (e .store .terms) x m u) at (g .left e q seen₁ v₂)));
   }
   rising-done tab₂ reasons₂ m x c₂ false g z u = clash z refl
@@ -251,7 +255,7 @@ pub far-switch : (ts : List Term) (m b x : ℕ) (late : Bool) → x ≡ m → la
 far-switch ts m b x true i j = clash refl j
 far-switch ts m b x false i j = rw (up-here ts x m i) (omega arith)
 
-pub far-turn : (terms cells tab₀ tab tab₁ reasons reasons₁ : List ℕ) (n k a b m x : ℕ) (late : Bool) (c c₁ : ℕ) → Walkable terms cells tab₀ reasons n k (λ s. Together s (a, b))
+pub far-turn : (terms cells tab₀ tab tab₁ reasons reasons₁ : List ℕ) (n k a b m x : ℕ) (late : Bool) (c c₁ : ℕ) {c₀ : ℕ} → Walkable terms cells tab₀ reasons n k c₀ (λ s. Together s (a, b))
     → Rising terms cells tab tab₁ reasons reasons₁ n k a b m x late c c₁ → (x ≡ m → ⊥) → (y : ℕ) → y ≡ termAt terms x .forestParent
     → far (termsView terms n) m b late y < far (termsView terms n) m b late x
 far-turn terms cells tab₀ tab tab₁ reasons reasons₁ n k a b m x late c c₁ w g d y j =
@@ -268,13 +272,14 @@ far-turn terms cells tab₀ tab tab₁ reasons reasons₁ n k a b m x late c c�
 
 -- WHAT THE CALLS ASK, AND WHAT FALLS
 
-module _ (terms cells tab₀ tab tab₁ reasons reasons₁ : List ℕ) (n k a b m x : ℕ) (late : Bool) (c c₁ : ℕ) (u : Walkable terms cells tab₀ reasons n k (λ s. Together s (a, b)))
+module _ (terms cells tab₀ tab tab₁ reasons reasons₁ : List ℕ) (n k a b m x : ℕ) (late : Bool) (c c₁ : ℕ) (u : Walkable terms cells tab₀ reasons n k c (λ s. Together s (a, b)))
     (g : Rising terms cells tab tab₁ reasons reasons₁ n k a b m x late c c₁) (d : x ≡ m → ⊥) where
-  pub rising-walkable : length tab ≡ length tab₀ → Walkable terms cells tab₁ reasons₁ n k (λ s. Edge s x)
+  pub rising-walkable : length tab ≡ length tab₀ → Walkable terms cells tab₁ reasons₁ n k c₁ (λ s. Edge s x)
   rising-walkable i = record {
     standing = standing-on reasons₁ (g .stays .long) (u .standing);
     fit = rising-on terms cells tab tab₁ reasons reasons₁ n k a b m x c c₁ late g d (u .standing) (u .fit) .edge-is;
     wide = wide-on (g .stays .tables ∙ i) (u .wide);
+    roomy = stays-room (g .stays) (u .roomy);
   }
 
   pub rising-low : termIn (termsView terms n) x .stamp < highest (termsView terms n) (pathIn (termsView terms n) a b)

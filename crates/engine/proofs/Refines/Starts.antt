@@ -5,17 +5,20 @@ use mathlib.Core.List.{List, []}
 use Prim.Native.Nat.{ℕ, zero, suc, _+_, _*_, _/_, _%_, _^_, _≤_}
 use native.Mathlib.Omega.{arith}
 use lib.ListN.{length, getD, replicate, length-replicate}
-use Rattle.records.specs.Lists.{any}
+use lib.Dec.{ltb}
+use Rattle.records.specs.Lists.{any, all, table}
 use Rattle.records.specs.Store.{Store, ok, stop, andThen, store, count, isString}
 use Rattle.records.specs.declared.State.{State}
+use Rattle.records.specs.declared.Added.{Added}
 use Rattle.records.specs.declared.Added.the-variants.{Counts, Refused}
 use Rattle.records.specs.Calls.{Working, added}
 use Rattle.records.specs.View.{Lent, lent, storeOf, pairsView, reasonsAt}
 use Rattle.records.specs.Make.{withReasons}
 use Rattle.records.specs.Working.Audited.{Ready}
-use Rattle.records.proofs.Lists.{both-left, both-right}
+use Rattle.records.proofs.Lists.{both-left, both-right, table-length}
+use Rattle.records.proofs.Beside.{audited-within}
 use Rattle.engine.specs.declared.Walked.{Walked}
-use Rattle.engine.specs.Explain.{wasSeen, walked, explain, explainArguments}
+use Rattle.engine.specs.Explain.{wasSeen, walked, explain, explainArguments, emptied, givesReason, isReasoned}
 use Rattle.engine.specs.Working.Seen.{place, bit, seenAt, Tables}
 use Rattle.engine.specs.Working.Walks.{Standing, Together, Walkable, Shows, came, refused, Walks, Comes, explained, stopped, Explained, Explainable}
 use Rattle.engine.proofs.Sound.{class-together}
@@ -50,11 +53,11 @@ explained-by terms cells tab′ reasons reasons′ n k a b c w r g = record { ke
     go e (came h seen m i) = explained h (ap (andThen (λ v. λ s. ok s tt)) i)
     go e (refused h i) = stopped h (ap (andThen (λ v. λ s. ok s tt)) i)
 
-pub explainable-walk : (terms cells reasons : List ℕ) (n k a b m w : ℕ) → n ≤ m → m ≤ 512 → (m + 1) * (m + 1) ≤ 32 * w → Explainable terms cells reasons n k a b
-    → Walkable terms cells (replicate w 0) reasons n k (λ s. Together s (a, b))
+pub explainable-walk : (terms cells reasons : List ℕ) (n k a b m w : ℕ) {c : ℕ} → n ≤ m → m ≤ 512 → (m + 1) * (m + 1) ≤ 32 * w → Explainable terms cells reasons n k a b c
+    → Walkable terms cells (replicate w 0) reasons n k c (λ s. Together s (a, b))
 explainable-walk terms cells reasons n k a b m w i j h e =
     let q = native.Mathlib.Nat.mul-le-mul {n₁ = n + 1} {m₁ = n + 1} {n₂ = m + 1} {m₂ = m + 1} (omega arith) (omega arith) in
-    record { standing = e .standing; fit = e .together; wide = record { few = omega arith; long = rw (length-replicate {A = ℕ} w 0) (omega arith) } }
+    record { standing = e .standing; fit = e .together; wide = record { few = omega arith; long = rw (length-replicate {A = ℕ} w 0) (omega arith) }; roomy = e .roomy }
 
 -- THE LENT STORE
 
@@ -62,12 +65,13 @@ module _ (m : Lent) (c : State) where
   abbrev pub standing-of : Ready m c → Standing (m .terms) (m .cells) (m .reasons) (c .terms) (c .cells)
   standing-of d = record { store = storeOf m c; audited = d .audited; terms-are = refl; cells-are = refl; room-is = refl }
 
-  abbrev pub explainable-of : (a b : ℕ) → Ready m c → explainArguments a b (storeOf m c) ≡ true → Explainable (m .terms) (m .cells) (m .reasons) (c .terms) (c .cells) a b
+  abbrev pub explainable-of : (a b : ℕ) → Ready m c → explainArguments a b (storeOf m c) ≡ true → Explainable (m .terms) (m .cells) (m .reasons) (c .terms) (c .cells) a b (c .reasons)
   explainable-of a b d h =
       let i = both-left (isString (storeOf m c) a && isString (storeOf m c) b) _ h in
       record {
         standing = standing-of d;
         together = class-together (storeOf m c) (d .audited) a b (both-left _ _ i) (both-right (isString (storeOf m c) a) _ i) (both-right (isString (storeOf m c) a && isString (storeOf m c) b) _ h);
+        roomy = let l = d .sized .reasonLimited in let r = d .sized .reasonRoom in omega arith;
       }
 
   module _ (a b : ℕ) (d : Ready m c) (h : explainArguments a b (storeOf m c) ≡ true) (reasons′ : List ℕ) (l : length reasons′ ≡ length (m .reasons)) (r : Walked)
@@ -93,3 +97,48 @@ module _ (m : Lent) (c : State) where
         go : Comes (storeOf m c) reasons′ r (explain a b (storeOf m c)) → explain a b (storeOf m c) ≡ stop (r .code)
         go (explained i e) = absurd (z i)
         go (stopped i e) = e
+
+-- A LIST OF ITS OWN
+
+module _ (m : Lent) (c : State) (a b : ℕ) where
+  abbrev pub ownly : List ℕ → Lent
+  ownly l = lent (m .terms) (m .cells) (m .chars) l (m .keys)
+
+  abbrev pub own : Lent
+  own = ownly (replicate 2 0)
+
+  own-is : storeOf own (reasonsAt c 0) ≡ emptied (storeOf m c)
+  unfolding table
+  own-is = refl
+
+  pub own-ready : (e : State) → e ≡ reasonsAt c 0 → Ready m c → Ready own e
+  unfolding table all
+  own-ready e q d = rw q (record {
+    sized = record {
+      termLimited = d .sized .termLimited;
+      termRoom = d .sized .termRoom;
+      cellLimited = d .sized .cellLimited;
+      cellRoom = d .sized .cellRoom;
+      charLimited = d .sized .charLimited;
+      charRoom = d .sized .charRoom;
+      reasonLimited = omega arith;
+      reasonRoom = omega arith;
+      keyLimited = d .sized .keyLimited;
+      keyRoom = d .sized .keyRoom;
+    };
+    audited = audited-within (storeOf m c) [] (storeOf m c .keys) (c .names) (emptied (storeOf m c) .room) (d .audited) refl (d .audited .recorded .keys)
+        (record { terms = d .audited .roomy .terms; cells = d .audited .roomy .cells; chars = d .audited .roomy .chars; reasons = omega arith; keys = d .audited .roomy .keys });
+  })
+
+  module _ (e : State) (q : e ≡ reasonsAt c 0) (l : List ℕ) (r : Added) (w : Working (explain a b) own (ownly l) e (added r (ownly l))) where
+    own-says : isReasoned (storeOf m c) a b ≡ givesReason (added r (ownly l))
+    unfolding isReasoned
+    own-says = ap (λ (s : Store). givesReason (explain a b s)) (sym own-is ∙ ap (storeOf own) (sym q)) ∙ ap givesReason (w .says)
+
+    pub own-counts : (f : State) → r ≡ Counts f → ltb 0 (f .reasons) ≡ isReasoned (storeOf m c) a b
+    own-counts f i =
+        let z : givesReason (added r (ownly l)) ≡ ltb 0 (length (pairsView l (f .reasons))) = ap (λ (x : Added). givesReason (added x (ownly l))) i in
+        ap (ltb 0) (sym (table-length _ (f .reasons))) ∙ sym z ∙ sym own-says
+
+    pub own-refused : (k : ℕ) → r ≡ Refused k → true ≡ isReasoned (storeOf m c) a b
+    own-refused k i = let z : givesReason (added r (ownly l)) ≡ true = ap (λ (x : Added). givesReason (added x (ownly l))) i in sym z ∙ sym own-says

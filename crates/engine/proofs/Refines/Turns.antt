@@ -7,13 +7,14 @@ use Prim.Native.Nat.{ℕ, suc, _+_, _/_, _≤_, _<_, min}
 use native.Mathlib.Omega.{arith}
 use lib.ListN.{length}
 use lib.Dec.{ltb}
+use borrow.Author.Tests.{ltb-true}
 use Rattle.records.specs.declared.State.{State}
 use Rattle.records.specs.declared.Added.{Added}
 use Rattle.records.specs.declared.Added.the-variants.{Counts, Refused}
 use Rattle.records.specs.Lists.{firsts, oneMore, Every, and}
 use Rattle.records.specs.Store.{Term, Cell, Store, Out, ok, stop, Work, andThen, store, term, cell, count, isTerm, isEdge, within, kind, parts, chain, chainIn, pathIn, termIn, cellIn}
 use Rattle.records.specs.View.{termAt, cellAt, termsView, cellsView, pairsView, reasonRoom, reasonLimit, oneReason}
-use Rattle.records.specs.Make.{withReasons, addReason}
+use Rattle.records.specs.Make.{withReasons, isListed, addReason}
 use Rattle.records.specs.Working.Audited.{Audited, Label, asserted, interface, congruence, definitional, Next, last, later}
 use Rattle.records.specs.Working.Puts.{Pushed}
 use Rattle.records.proofs.Lists.{clash, decide, within-low, within-high, within-is, within-zero, table-length}
@@ -64,25 +65,42 @@ fewer l l′ m n h e = Rattle.records.proofs.Lists.table-same _ _ m (λ i b. ta
 
 -- ONE REASON
 
-module _ (l l′ : List ℕ) (c : State) (kind value : ℕ) (r : Added) (p : Pushed l l′ c kind value r) where
+pub gives-listed : (l : List ℕ) (n kind value : ℕ) (b : Bool) → b ≡ isListed (kind, value) (pairsView l n) → b ≡ true → Gives l l n kind value (record { code = 0; count = n })
+gives-listed l n kind value b i z = record {
+  kept = refl;
+  more = omega arith;
+  fits = λ h. h;
+  listed = λ y. (refl, refl);
+  given = λ y h. clash (sym i ∙ z) y;
+  full = λ y h. clash (sym i ∙ z) y;
+}
+
+module _ (l l′ : List ℕ) (c : State) (kind value : ℕ) (b : Bool) (i : b ≡ isListed (kind, value) (pairsView l (c .reasons))) (z : b ≡ false)
+    (r : Added) (p : Pushed l l′ c kind value r) where
+  lacked : {X : Type 0} → isListed (kind, value) (pairsView l (c .reasons)) ≡ true → X
+  lacked y = clash y (sym i ∙ z)
+
   pub gives-counts : (d : State) → r ≡ Counts d → Gives l l′ (c .reasons) kind value (record { code = 0; count = d .reasons })
-  gives-counts d i = decide (ltb (c .reasons) (reasonRoom l)) yes no
+  gives-counts d e = decide (ltb (c .reasons) (reasonRoom l)) yes no
     where
       yes : ltb (c .reasons) (reasonRoom l) ≡ true → Gives l l′ (c .reasons) kind value (record { code = 0; count = d .reasons })
       yes h =
-          let z = p .grown h .0 in
+          let u = p .grown h .0 in
           let q : d ≡ oneReason c = cc in
-          rw q (record { kept = p .kept; more = omega arith; given = λ y. (refl, p .grown y .1); full = λ y. clash h y })
+          let low = ltb-true (c .reasons) (reasonRoom l) h in
+          rw q (record { kept = p .kept; more = omega arith; fits = λ y. omega arith; listed = lacked; given = λ x y. (refl, p .grown y .1); full = λ x y. clash h y })
 
       no : ltb (c .reasons) (reasonRoom l) ≡ false → Gives l l′ (c .reasons) kind value (record { code = 0; count = d .reasons })
-      no h = let z = p .full h in let y : _≡_ {A = ℕ} 0 1 = cc in absurd (omega arith)
+      no h = let u = p .full h in let y : _≡_ {A = ℕ} 0 1 = cc in absurd (omega arith)
 
   pub gives-refused : (k : ℕ) → r ≡ Refused k → Gives l l′ (c .reasons) kind value (record { code = k; count = c .reasons })
-  gives-refused k i = record {
+  gives-refused k e = record {
     kept = p .kept;
     more = omega arith;
-    given = λ h. let z = p .grown h .0 in let y : _≡_ {A = ℕ} 0 1 = cc in absurd (omega arith);
-    full = λ h. let z = p .full h in cc;
+    fits = λ h. h;
+    listed = lacked;
+    given = λ x h. let u = p .grown h .0 in let y : _≡_ {A = ℕ} 0 1 = cc in absurd (omega arith);
+    full = λ x h. let u = p .full h in cc;
   }
 
 -- AN EDGE BY ITS LABEL
@@ -106,17 +124,22 @@ unfolding edge
 edge-adds s node j v seen (inl a) e f = rw (e, f, a)
 edge-adds s node j v seen (inr a) e f = rw (e, f, a)
 
-added-fits : (s : Store) (j v : ℕ) (rs : List (ℕ × ℕ)) → ltb (length rs) (s .room .reasons) ≡ true → addReason j v (withReasons s rs) ≡ ok (withReasons s (oneMore rs (j, v))) tt
-unfolding addReason
-added-fits s j v rs h = rw h
+module _ (s : Store) (j v : ℕ) (rs : List (ℕ × ℕ)) where
+  added-there : isListed (j, v) rs ≡ true → addReason j v (withReasons s rs) ≡ ok (withReasons s rs) tt
+  unfolding addReason
+  added-there y = rw y
 
-added-full : (s : Store) (j v : ℕ) (rs : List (ℕ × ℕ)) → ltb (length rs) (s .room .reasons) ≡ false → addReason j v (withReasons s rs) ≡ stop 7
-unfolding addReason
-added-full s j v rs h = rw h
+  added-fits : isListed (j, v) rs ≡ false → ltb (length rs) (s .room .reasons) ≡ true → addReason j v (withReasons s rs) ≡ ok (withReasons s (oneMore rs (j, v))) tt
+  unfolding addReason
+  added-fits y h = rw (y, h)
+
+  added-full : isListed (j, v) rs ≡ false → ltb (length rs) (s .room .reasons) ≡ false → addReason j v (withReasons s rs) ≡ stop 7
+  unfolding addReason
+  added-full y h = rw (y, h)
 
 pub edge-gives : (terms cells tab reasons reasons′ : List ℕ) (n k node j kind value count : ℕ) (r : Walked) → (j ≡ 1) ⊎ (j ≡ 2) → kind ≡ j → Labelled terms node kind value
     → Gives reasons reasons′ count j value r → Walks (edge walked node) (λ s. Edge s node) terms cells tab tab reasons reasons′ n k count r
-edge-gives terms cells tab reasons reasons′ n k node j kind value count r two i l g = record { kept = g .kept; more = g .more; shows = λ e q seen m. go e q seen m }
+edge-gives terms cells tab reasons reasons′ n k node j kind value count r two i l g = record { kept = g .kept; more = g .more; fits = g .fits; shows = λ e q seen m. go e q seen m }
   where
     go : (e : Standing terms cells reasons n k) → Edge (e .store) node → (seen : Seen) → Tables n tab seen
         → Shows (e .store) n tab reasons′ r (edge walked node seen (withReasons (e .store) (pairsView reasons count)))
@@ -125,10 +148,12 @@ edge-gives terms cells tab reasons reasons′ n k node j kind value count r two 
         let rs = pairsView reasons count in
         let z = edge-adds (withReasons s rs) node j value seen two (label-kind e q l ∙ i) (label-value e q l) in
         let len : length (pairsView reasons count) ≡ count = table-length _ count in
-        decide (ltb count (reasonRoom reasons))
-        (λ h. came (g .given h .0) seen m (z ∙ ap (andThen (λ u. λ s₁. ok s₁ seen)) (added-fits s j value rs (rw (len, e .room-is) h)) ∙ ap (λ (x : List (ℕ × ℕ)). ok (withReasons s x) seen) (sym (g .given h .1))))
-        (λ h. refused (λ c. let y : _≡_ {A = ℕ} 0 7 = sym c ∙ g .full h in omega arith)
-        (z ∙ ap (andThen (λ u. λ s₁. ok s₁ seen)) (added-full s j value rs (rw (len, e .room-is) h)) ∙ ap stop (sym (g .full h))))
+        decide (isListed (j, value) rs)
+        (λ y. came (g .listed y .0) seen m (z ∙ ap (andThen (λ u. λ s₁. ok s₁ seen)) (added-there s j value rs y) ∙ ap (λ (x : List (ℕ × ℕ)). ok (withReasons s x) seen) (sym (g .listed y .1))))
+        (λ y. decide (ltb count (reasonRoom reasons))
+        (λ h. came (g .given y h .0) seen m (z ∙ ap (andThen (λ u. λ s₁. ok s₁ seen)) (added-fits s j value rs y (rw (len, e .room-is) h)) ∙ ap (λ (x : List (ℕ × ℕ)). ok (withReasons s x) seen) (sym (g .given y h .1))))
+        (λ h. refused (λ c. let w : _≡_ {A = ℕ} 0 7 = sym c ∙ g .full y h in omega arith)
+        (z ∙ ap (andThen (λ u. λ s₁. ok s₁ seen)) (added-full s j value rs y (rw (len, e .room-is) h)) ∙ ap stop (sym (g .full y h)))))
 
 pub edge-nothing : (terms cells tab reasons : List ℕ) (n k node kind value count : ℕ) → kind ≡ 4 → Labelled terms node kind value
     → Walks (edge walked node) (λ s. Edge s node) terms cells tab tab reasons reasons n k count (record { code = 0; count = count })
@@ -136,12 +161,13 @@ unfolding edge
 edge-nothing terms cells tab reasons n k node kind value count i l = record {
   kept = refl;
   more = omega arith;
+  fits = λ h. h;
   shows = λ e q seen m. came refl seen m (rw (label-kind e q l, i));
 }
 
 -- no edge has another label
 pub edge-other : (terms cells tab reasons : List ℕ) (n k node kind value count : ℕ) → (kind ≡ 1 → ⊥) → (kind ≡ 2 → ⊥) → (kind ≡ 3 → ⊥) → (kind ≡ 4 → ⊥)
-    → Labelled terms node kind value → Walkable terms cells tab reasons n k (λ s. Edge s node)
+    → Labelled terms node kind value → Walkable terms cells tab reasons n k count (λ s. Edge s node)
     → Walks (edge walked node) (λ s. Edge s node) terms cells tab tab reasons reasons n k count (record { code = 3; count = count })
 edge-other terms cells tab reasons n k node kind value count d₁ d₂ d₃ d₄ l w =
     absurd (go (w .standing .audited .classed .labels node (w .fit .here) (w .fit .joins)))
@@ -197,19 +223,25 @@ pub record Stays (tab tab′ reasons reasons′ : List ℕ) (count count′ : �
   pub long : length reasons′ ≡ length reasons
   pub kept : pairsView reasons′ count ≡ pairsView reasons count
   pub more : count ≤ count′
+  pub fits : count ≤ reasonRoom reasons → count′ ≤ reasonRoom reasons
 
 pub stays-none : (tab reasons : List ℕ) (count : ℕ) → Stays tab tab reasons reasons count count
-stays-none tab reasons count = record { tables = refl; long = refl; kept = refl; more = omega arith }
+stays-none tab reasons count = record { tables = refl; long = refl; kept = refl; more = omega arith; fits = λ h. h }
 
 pub stays-then : {tab tab₁ tab₂ reasons reasons₁ reasons₂ : List ℕ} {count count₁ count₂ : ℕ} → Stays tab tab₁ reasons reasons₁ count count₁
     → length tab₂ ≡ length tab₁ → length reasons₂ ≡ length reasons₁ → pairsView reasons₂ count₁ ≡ pairsView reasons₁ count₁ → count₁ ≤ count₂
-    → Stays tab tab₂ reasons reasons₂ count count₂
-stays-then {reasons₁ = r₁} {reasons₂ = r₂} {count = c} {count₁ = c₁} a t l v m = record {
+    → (count₁ ≤ reasonRoom reasons₁ → count₂ ≤ reasonRoom reasons₁) → Stays tab tab₂ reasons reasons₂ count count₂
+stays-then {reasons₁ = r₁} {reasons₂ = r₂} {count = c} {count₁ = c₁} a t l v m f = record {
   tables = t ∙ a .tables;
   long = l ∙ a .long;
   kept = fewer r₁ r₂ c c₁ (a .more) v ∙ a .kept;
   more = let h = a .more in omega arith;
+  fits = λ h. let e = a .long in let u = a .fits h in let w = f (omega arith) in omega arith;
 }
+
+-- a count that fits still fits
+pub stays-room : {tab tab₁ reasons reasons₁ : List ℕ} {count count₁ : ℕ} → Stays tab tab₁ reasons reasons₁ count count₁ → count ≤ reasonRoom reasons → count₁ ≤ reasonRoom reasons₁
+stays-room a h = let e = a .long in let u = a .fits h in omega arith
 
 -- the chain from a cell on, or none
 pub data At (s : Store) (at : ℕ) : Type 0 where
@@ -317,7 +349,7 @@ module _ (terms cells tab tab₁ reasons reasons₁ : List ℕ) (n k node first 
     pairing-left e q seen v = rw (pair-chain e (at-here _ at (g .at-is e q) d) p) at (g .left e q seen v)
 
     on : Stays tab tab₂ reasons reasons₂ c (r .count)
-    on = stays-then (g .stays) t m (w .kept) (w .more)
+    on = stays-then (g .stays) t m (w .kept) (w .more) (w .fits)
 
     pub pairing-turn : r .code ≡ 0 → Pairing terms cells tab tab₂ reasons reasons₂ n k node first z c (r .count)
     pairing-turn i = record {
@@ -333,6 +365,7 @@ module _ (terms cells tab tab₁ reasons reasons₁ : List ℕ) (n k node first 
     pairing-stop i kind value j u l = record {
       kept = on .kept;
       more = on .more;
+      fits = on .fits;
       shows = λ e q seen v. let f = pairing-left e q seen v in
           edge-shows c e q l j u seen (left-stopped walked (e .store) n f (pairing-shows e q (f .seen) (f .tabled)) i);
     }
@@ -343,6 +376,7 @@ pub pairing-done : (terms cells tab tab₁ reasons reasons₁ : List ℕ) (n k n
 pairing-done terms cells tab tab₁ reasons reasons₁ n k node first at c c₁ g z kind value j u l = record {
   kept = g .stays .kept;
   more = g .stays .more;
+  fits = g .stays .fits;
   shows = λ e q seen v. edge-shows c e q l j u seen (left-none walked (e .store) n (rw (ap (chain (e .store)) z ∙ chain-none (e .store .cells) 0 (within-zero _ 0 refl)) at (g .left e q seen v)));
 }
 
@@ -351,13 +385,14 @@ pairing-done terms cells tab tab₁ reasons reasons₁ n k node first at c c₁ 
 pub wide-on : {n : ℕ} {tab tab₁ : List ℕ} → length tab₁ ≡ length tab → Wide n tab → Wide n tab₁
 wide-on i w = record { few = w .few; long = (let l = w .long in omega arith) }
 
-module _ (terms cells tab tab₁ reasons reasons₁ : List ℕ) (n k node first at x y c c₁ : ℕ) (u : Walkable terms cells tab reasons n k (λ s. Edge s node))
+module _ (terms cells tab tab₁ reasons reasons₁ : List ℕ) (n k node first at x y c c₁ : ℕ) (u : Walkable terms cells tab reasons n k c (λ s. Edge s node))
     (g : Pairing terms cells tab tab₁ reasons reasons₁ n k node first at c c₁) (d : at ≡ 0 → ⊥) where
-  pub pairing-walkable : x ≡ cellAt cells at .value → y ≡ cellAt cells at .other → Walkable terms cells tab₁ reasons₁ n k (λ s. Together s (x, y))
+  pub pairing-walkable : x ≡ cellAt cells at .value → y ≡ cellAt cells at .other → Walkable terms cells tab₁ reasons₁ n k c₁ (λ s. Together s (x, y))
   pairing-walkable i j = record {
     standing = standing-on reasons₁ (g .stays .long) (u .standing);
     fit = pairing-fit terms cells tab tab₁ reasons reasons₁ n k node first at x y _ c c₁ g d (record { one = i; other = j; next-is = refl }) (u .standing) (u .fit) .together;
     wide = wide-on (g .stays .tables) (u .wide);
+    roomy = stays-room (g .stays) (u .roomy);
   }
 
   pub pairing-low : x ≡ cellAt cells at .value → y ≡ cellAt cells at .other → highest (termsView terms n) (pathIn (termsView terms n) x y) ≤ termIn (termsView terms n) node .stamp

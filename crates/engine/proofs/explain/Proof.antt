@@ -24,18 +24,22 @@ explain-spec =
     let at-if1 = c .before .before .before in
     let at-audit = at-if1 .before in
     explain-unfit _ _ _ _ _ (at-audit .audit .ensures) (at-if1 .if1 .left) _ (c .before .can-explain .ensures) (c .if2 .taken))
+    -- slice-aggregate-explain-unchecked
+    (λ c. search needs)
     -- explain-unchecked-requires
     (λ c κs.
-    let at-if1 = c .before .before .before .before in
+    let at-can-explain = c .before .before .before in
+    let at-if1 = at-can-explain .before .before in
     let at-audit = at-if1 .before in
-    explain-fit _ _ _ _ _ (at-audit .audit .ensures) (at-if1 .if1 .left) _ (c .before .before .can-explain .ensures) (c .before .if2 .left))
+    explain-fit _ _ _ _ _ (at-audit .audit .ensures) (at-if1 .if1 .left) _ (at-can-explain .can-explain .ensures) (c .before .before .if2 .left))
     -- same-length-3
     (λ c. search needs)
     -- returns-3
     (λ c.
-    let at-if2 = c .before .before .before .before in
+    let at-explain-unchecked = c .before .before .before in
+    let at-if2 = at-explain-unchecked .before .before .before in
     let at-can-explain = at-if2 .before in
     let at-if1 = at-can-explain .before .before in
     let at-audit = at-if1 .before in
     explain-called _ _ _ _ _ (at-audit .audit .ensures) (at-if1 .if1 .left) _ (at-can-explain .can-explain .ensures) (at-if2 .if2 .left) _ _
-    (c .before .before .explain-unchecked .ensures)))
+    (at-explain-unchecked .explain-unchecked .ensures)))

@@ -20,33 +20,39 @@ explain-pair-spec =
     (λ c. search needs)
     -- same-length-2
     (λ c. search needs)
+    -- same-length-3
+    (λ c. search needs)
     -- returns-2
     (λ c.
-    let at-explain-plain = c .before .before .before .before .before in
+    let at-explain-plain = c .before .before .before .before .before .before .before in
     at-explain-plain .explain-plain .ensures .done _ (c .before .p .given .1) _ _)
     -- enum-told
     (λ c. search needs)
     -- explain-some-requires
     (λ c κs.
-    let at-explain-plain = c .before .before .before .before .before .before .before in
-    let at-start = at-explain-plain .before .before .before .before .before .before .before in
-    (omega arith, explainable-on _ _ _ _ _ _ _ _ 0 (at-explain-plain .explain-plain .kept .1 .1 .1 .1 .0) (at-start .pre .1)))
-    -- same-length-3
+    let at-explain-plain = c .before .before .before .before .before .before .before .before .before in
+    let at-start = at-explain-plain .before .before .before .before .before .before .before .before .before in
+    (omega arith, explainable-on _ _ _ _ _ _ _ _ _ (at-explain-plain .explain-plain .kept .1 .1 .1 .1 .0) (at-start .pre .1)))
+    -- same-length-4
+    (λ c. search needs)
+    -- same-length-5
     (λ c. search needs)
     -- returns-3
     (λ c.
-    let at-explain-plain = c .before .before .before .before .before .before .before .before .before .before in
+    let at-explain-plain = c .before .before .before .before .before .before .before .before .before .before .before .before in
     explained-anew _ _ _ _ _ _ _ _ _ (at-explain-plain .explain-plain .kept .1 .1 .1 .1 .0) (at-explain-plain .explain-plain .ensures .kept) _ _
     (c .before .before .explain-some .ensures))
     -- explain-many-requires
     (λ c κs.
-    let at-explain-plain = c .before .before .before .before .before .before .before in
-    let at-start = at-explain-plain .before .before .before .before .before .before .before in
-    (at-start .pre .0, explainable-on _ _ _ _ _ _ _ _ 0 (at-explain-plain .explain-plain .kept .1 .1 .1 .1 .0) (at-start .pre .1)))
-    -- same-length-4
+    let at-explain-plain = c .before .before .before .before .before .before .before .before .before in
+    let at-start = at-explain-plain .before .before .before .before .before .before .before .before .before in
+    (at-start .pre .0, explainable-on _ _ _ _ _ _ _ _ _ (at-explain-plain .explain-plain .kept .1 .1 .1 .1 .0) (at-start .pre .1)))
+    -- same-length-6
+    (λ c. search needs)
+    -- same-length-7
     (λ c. search needs)
     -- returns-4
     (λ c.
-    let at-explain-plain = c .before .before .before .before .before .before .before .before .before .before in
+    let at-explain-plain = c .before .before .before .before .before .before .before .before .before .before .before .before in
     explained-anew _ _ _ _ _ _ _ _ _ (at-explain-plain .explain-plain .kept .1 .1 .1 .1 .0) (at-explain-plain .explain-plain .ensures .kept) _ _
     (c .before .before .explain-many .ensures)))

@@ -18,4 +18,5 @@ is-seen-spec = tie.close (tie.spec
     (λ c. search needs)
     -- shr-result
     (λ c. search needs)
+    -- returns
     returns)

@@ -21,6 +21,7 @@ note-seen-spec =
     (λ c. search needs)
     -- shl-table
     (λ c. search needs)
+    -- add-table
     add-table
     -- mul-table
     (λ c. search needs)

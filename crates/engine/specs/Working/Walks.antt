@@ -10,7 +10,7 @@ use Rattle.records.specs.declared.State.{State}
 use Rattle.records.specs.Lists.{upTo, oneMore}
 use Rattle.records.specs.Store.{Term, Store, Out, ok, stop, Work, isTerm, isEdge, top, aboveIn}
 use Rattle.records.specs.View.{Slice, termsView, cellsView, pairsView, reasonRoom}
-use Rattle.records.specs.Make.{withReasons}
+use Rattle.records.specs.Make.{withReasons, isListed}
 use Rattle.records.specs.Working.Audited.{Audited}
 use Rattle.engine.specs.declared.Walked.{Walked}
 use Rattle.engine.specs.declared.Plain.{Plain}
@@ -42,10 +42,11 @@ pub record Wide (n : ℕ) (table : List ℕ) : Type 0 where
   pub few : n ≤ 512
   pub long : (n + 1) * (n + 1) ≤ 32 * length table
 
-pub record Walkable (terms cells table reasons : List ℕ) (n k : ℕ) (P : Store → Type 0) : Type 0 where
+pub record Walkable (terms cells table reasons : List ℕ) (n k count : ℕ) (P : Store → Type 0) : Type 0 where
   pub standing : Standing terms cells reasons n k
   pub fit : P (standing .store)
   pub wide : Wide n table
+  pub roomy : count ≤ reasonRoom reasons
 
 -- what a walk came to
 pub data Shows (s : Store) (n : ℕ) (table reasons : List ℕ) (r : Walked) (o : Out Seen) : Type 0 where
@@ -56,6 +57,7 @@ pub data Shows (s : Store) (n : ℕ) (table reasons : List ℕ) (r : Walked) (o 
 pub record Walks (work : Seen → Work Seen) (P : Store → Type 0) (terms cells table table′ reasons reasons′ : List ℕ) (n k count : ℕ) (r : Walked) : Type 0 where
   pub kept : pairsView reasons′ count ≡ pairsView reasons count
   pub more : count ≤ r .count
+  pub fits : count ≤ reasonRoom reasons → r .count ≤ reasonRoom reasons
   pub shows : (e : Standing terms cells reasons n k) → P (e .store) → (seen : Seen) → Tables n table seen
       → Shows (e .store) n table′ reasons′ r (work seen (withReasons (e .store) (pairsView reasons count)))
 
@@ -64,12 +66,15 @@ abbrev pub ahead : List Term → ℕ → ℕ → Bool → ℕ → List ℕ
 ahead ts m b true x = upTo m (aboveIn ts x)
 ahead ts m b false x = upTo m (aboveIn ts x) ++ upTo m (aboveIn ts b)
 
--- one reason more, where it fits
+-- one reason more, where the list lacks it and it fits
 pub record Gives (l l′ : List ℕ) (n kind value : ℕ) (r : Walked) : Type 0 where
   pub kept : pairsView l′ n ≡ pairsView l n
   pub more : n ≤ r .count
-  pub given : ltb n (reasonRoom l) ≡ true → (r .code ≡ 0) × (pairsView l′ (r .count) ≡ oneMore (pairsView l n) (kind, value))
-  pub full : ltb n (reasonRoom l) ≡ false → r .code ≡ 7
+  pub fits : n ≤ reasonRoom l → r .count ≤ reasonRoom l
+  pub listed : isListed (kind, value) (pairsView l n) ≡ true → (r .code ≡ 0) × (pairsView l′ (r .count) ≡ pairsView l n)
+  pub given : isListed (kind, value) (pairsView l n) ≡ false → ltb n (reasonRoom l) ≡ true
+      → (r .code ≡ 0) × (pairsView l′ (r .count) ≡ oneMore (pairsView l n) (kind, value))
+  pub full : isListed (kind, value) (pairsView l n) ≡ false → ltb n (reasonRoom l) ≡ false → r .code ≡ 7
 
 -- what an explanation came to
 pub data Comes (s : Store) (reasons : List ℕ) (r : Walked) (o : Out (Unit {0})) : Type 0 where
@@ -83,9 +88,10 @@ pub record Explained (terms cells reasons reasons′ : List ℕ) (n k a b count 
       → Comes (e .store) reasons′ r (explain a b (withReasons (e .store) (pairsView reasons count)))
 
 -- terms and cells of which a pair can be explained
-pub record Explainable (terms cells reasons : List ℕ) (n k a b : ℕ) : Type 0 where
+pub record Explainable (terms cells reasons : List ℕ) (n k a b count : ℕ) : Type 0 where
   pub standing : Standing terms cells reasons n k
   pub together : Together (standing .store) (a, b)
+  pub roomy : count ≤ reasonRoom reasons
 
 -- a walk without a table: what is counted stays, and the work is done unless a congruence edge was met
 pub record Plainly (Done : Walked → Type 0) (reasons reasons′ : List ℕ) (count : ℕ) (p : Plain) : Type 0 where
@@ -101,10 +107,10 @@ abbrev pub PlainPath : List ℕ → List ℕ → List ℕ → ℕ → ℕ → �
 PlainPath terms reasons reasons′ n a b count r = (cells : List ℕ) (k : ℕ) → Explained terms cells reasons reasons′ n k a b count r
 
 -- terms of which, with some cells, a pair can be explained
-pub record PlainPair (terms reasons : List ℕ) (n a b : ℕ) : Type 0 where
+pub record PlainPair (terms reasons : List ℕ) (n a b count : ℕ) : Type 0 where
   pub cells : List ℕ
   pub k : ℕ
-  pub can : Explainable terms cells reasons n k a b
+  pub can : Explainable terms cells reasons n k a b count
 
 -- THE WORDS OF CONTRACTS. Slices are passed by their names, and the counts as they were at entry
 

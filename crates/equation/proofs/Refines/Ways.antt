@@ -43,7 +43,7 @@ use Rattle.equation.specs.declared.Outcome.the-variants.{Answered}
 use Rattle.equation.specs.Equation.{Stepped, unexpanded, returned, orUnexpanded, step, stepArguments}
 use Rattle.equation.specs.Calls.{stepped, PublicStep}
 use Rattle.equation.specs.Working.Forms.{resolveForms, rightForm, carried}
-use Rattle.equation.proofs.Sound.{second-string, step-sound, step-stops}
+use Rattle.equation.proofs.Sound.{second-string, step-gives, step-sound, step-stops}
 
 -- THE INCOMING REASONS
 
@@ -235,18 +235,18 @@ module _ (known : List ℕ) (e : ℕ) (g : ℤ) (m : Lent) (c : State) (ready : 
 
 module _ (known : List ℕ) (e : ℕ) (g : ℤ) (m : Lent) (c : State) (l : List ℕ) where
   pub call-short : length l < listLimit → PublicStep known e g m m l l c (stop 1)
-  call-short h = record { is = listed-short (stepArguments known e g) (step known e g) m c l h; worth = λ s′ w q. stop-not q }
+  call-short h = record { is = listed-short (stepArguments known e g) (step known e g) m c l h; worth = λ s′ w q. stop-not q; once = λ s′ w q. stop-not q }
 
   module _ (h : listLimit ≤ length l) (k : ℕ) (v : k ≡ audit m c) where
     pub call-unready : (k ≡ 0 → ⊥) → PublicStep known e g m m l l c (stop k)
-    call-unready d = record { is = listed-unready (stepArguments known e g) (step known e g) m c l h k v d; worth = λ s′ w q. stop-not q }
+    call-unready d = record { is = listed-unready (stepArguments known e g) (step known e g) m c l h k v d; worth = λ s′ w q. stop-not q; once = λ s′ w q. stop-not q }
 
     module _ (z : k ≡ 0) (f : ℤ) (u : f ≡ g) (b : Bool) (q : b ≡ stepArguments known e f (storeOf m c)) where
       i : b ≡ stepArguments known e g (storeOf m c)
       i = q ∙ ap (λ (y : ℤ). stepArguments known e y (storeOf m c)) u
 
       pub call-unfit : not b ≡ true → PublicStep known e g m m l l c (stop 5)
-      call-unfit n = record { is = listed-unfit (stepArguments known e g) (step known e g) m c l h k v z b i n; worth = λ s′ w q. stop-not q }
+      call-unfit n = record { is = listed-unfit (stepArguments known e g) (step known e g) m c l h k v z b i n; worth = λ s′ w q. stop-not q; once = λ s′ w q. stop-not q }
 
       module _ (n : not b ≡ false) where
         pub call-ready : Ready m c
@@ -262,6 +262,7 @@ module _ (known : List ℕ) (e : ℕ) (g : ℤ) (m : Lent) (c : State) (l : List
         call-steps {m′} {l′} {o} y = let w = subst (λ (h : ℤ). Working (step known e h) m m′ c o) u y in record {
           is = listed-works (stepArguments known e g) (step known e g) m c l h k v z b i n (λ j q. step-stops known e g (storeOf m c) (call-ready .audited) fit j q .from) w;
           worth = λ s′ x q. step-sound known e g (storeOf m c) (call-ready .audited) fit s′ x (w .says ∙ q);
+          once = λ s′ x q. step-gives known e g (storeOf m c) (call-ready .audited) fit s′ x (w .says ∙ q) .later .reasons;
         }
 
 -- THE ARGUMENTS

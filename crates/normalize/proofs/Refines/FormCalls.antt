@@ -19,8 +19,8 @@ use Rattle.records.proofs.Works.{stop-not}
 use Rattle.normalize.specs.Normalize.{normalForm, deepForm, formArguments}
 use Rattle.normalize.specs.Calls.{listCall, PublicList, PublicForm, PublicDeepForm}
 use Rattle.normalize.proofs.ListCalls.{listed-short, listed-unready, listed-unfit, listed-works}
-use Rattle.normalize.proofs.Formed.{form-stops, form-sound}
-use Rattle.normalize.proofs.Deep.{deep-stops, deep-sound}
+use Rattle.normalize.proofs.Formed.{form-stops, form-sound, form-kept}
+use Rattle.normalize.proofs.Deep.{deep-stops, deep-sound, deep-kept}
 
 -- ARGUMENTS
 
@@ -35,24 +35,24 @@ module _ (s : Store) (known : List ℕ) (t : ℕ) (b : Bool) (e : b ≡ isList s
 
 module _ (known : List ℕ) (t : ℕ) (m : Lent) (c : State) (l : List ℕ) where
   pub form-short : length l < listLimit → PublicForm known t m m l l c (stop 1)
-  form-short h = record { is = listed-short (formArguments known t) (normalForm known t) m c l h; worth = λ s′ w e. stop-not e }
+  form-short h = record { is = listed-short (formArguments known t) (normalForm known t) m c l h; worth = λ s′ w e. stop-not e; once = λ s′ w e. stop-not e }
 
   pub deep-short : length l < listLimit → PublicDeepForm known t m m l l c (stop 1)
-  deep-short h = record { is = listed-short (formArguments known t) (deepForm known t) m c l h; worth = λ s′ w e. stop-not e }
+  deep-short h = record { is = listed-short (formArguments known t) (deepForm known t) m c l h; worth = λ s′ w e. stop-not e; once = λ s′ w e. stop-not e }
 
   module _ (h : listLimit ≤ length l) (k : ℕ) (v : k ≡ audit m c) where
     pub form-unready : (k ≡ 0 → ⊥) → PublicForm known t m m l l c (stop k)
-    form-unready d = record { is = listed-unready (formArguments known t) (normalForm known t) m c l h k v d; worth = λ s′ w e. stop-not e }
+    form-unready d = record { is = listed-unready (formArguments known t) (normalForm known t) m c l h k v d; worth = λ s′ w e. stop-not e; once = λ s′ w e. stop-not e }
 
     pub deep-unready : (k ≡ 0 → ⊥) → PublicDeepForm known t m m l l c (stop k)
-    deep-unready d = record { is = listed-unready (formArguments known t) (deepForm known t) m c l h k v d; worth = λ s′ w e. stop-not e }
+    deep-unready d = record { is = listed-unready (formArguments known t) (deepForm known t) m c l h k v d; worth = λ s′ w e. stop-not e; once = λ s′ w e. stop-not e }
 
     module _ (z : k ≡ 0) (b : Bool) (e : b ≡ formArguments known t (storeOf m c)) where
       pub form-unfit : not b ≡ true → PublicForm known t m m l l c (stop 5)
-      form-unfit g = record { is = listed-unfit (formArguments known t) (normalForm known t) m c l h k v z b e g; worth = λ s′ w q. stop-not q }
+      form-unfit g = record { is = listed-unfit (formArguments known t) (normalForm known t) m c l h k v z b e g; worth = λ s′ w q. stop-not q; once = λ s′ w q. stop-not q }
 
       pub deep-unfit : not b ≡ true → PublicDeepForm known t m m l l c (stop 5)
-      deep-unfit g = record { is = listed-unfit (formArguments known t) (deepForm known t) m c l h k v z b e g; worth = λ s′ w q. stop-not q }
+      deep-unfit g = record { is = listed-unfit (formArguments known t) (deepForm known t) m c l h k v z b e g; worth = λ s′ w q. stop-not q; once = λ s′ w q. stop-not q }
 
       module _ (g : not b ≡ false) where
         pub form-ready : Ready m c
@@ -65,10 +65,12 @@ module _ (known : List ℕ) (t : ℕ) (m : Lent) (c : State) (l : List ℕ) wher
         form-called w = record {
           is = listed-works (formArguments known t) (normalForm known t) m c l h k v z b e g (λ j q. form-stops known t (storeOf m c) (form-ready .audited) form-fit j q .from) w;
           worth = λ s′ x q. form-sound known t (storeOf m c) (form-ready .audited) form-fit s′ x (w .says ∙ q);
+          once = λ s′ x q. form-kept known t (storeOf m c) (form-ready .audited) form-fit s′ x (w .says ∙ q) .reasons;
         }
 
         pub deep-called : {m′ : Lent} {l′ : List ℕ} {r : Out (Option (List ℕ))} → Working (deepForm known t) m m′ c r → PublicDeepForm known t m m′ l l′ c r
         deep-called w = record {
           is = listed-works (formArguments known t) (deepForm known t) m c l h k v z b e g (λ j q. deep-stops known t (storeOf m c) (form-ready .audited) form-fit j q .from) w;
           worth = λ s′ x q. deep-sound known t (storeOf m c) (form-ready .audited) form-fit s′ x (w .says ∙ q);
+          once = λ s′ x q. deep-kept known t (storeOf m c) (form-ready .audited) form-fit s′ x (w .says ∙ q) .reasons;
         }

@@ -1,6 +1,6 @@
 -- Adding a key: the ways through, over the store that is seen.
-use mathlib.Core.Path.{_≡_, refl}
-use mathlib.Core.Bool.{Bool, true, false}
+use mathlib.Core.Path.{_≡_, refl, sym}
+use mathlib.Core.Bool.{Bool, true, false, and-true, and-false}
 use mathlib.Core.List.{List}
 use Prim.Native.Nat.{ℕ, _+_, _*_, min, max}
 use native.Mathlib.Numerals.{add-one}
@@ -37,10 +37,10 @@ key-known l n a b x y r p q e = rw (p, q) at e
 
 -- the test of one pair
 module _ (l : List ℕ) (i a b : ℕ) where
-  pub pair-same : a ≡ getD l (2 * i) 0 → eqb b (getD l (2 * i + 1) 0) ≡ samePair (a, b) (pairAt l i)
+  pub pair-same : b ≡ getD l (2 * i + 1) 0 → eqb a (getD l (2 * i) 0) ≡ samePair (a, b) (pairAt l i)
   unfolding samePair
-  pair-same e = let z : 2 * i + 0 ≡ 2 * i = omega arith in rw (z, eq-eqb a (getD l (2 * i) 0) e)
+  pair-same e = let z : 2 * i + 0 ≡ 2 * i = omega arith in rw (z, eq-eqb b (getD l (2 * i + 1) 0) e) (sym (and-true (eqb a (getD l (2 * i) 0))))
 
-  pub pair-other : (a ≡ getD l (2 * i) 0 → ⊥) → samePair (a, b) (pairAt l i) ≡ false
+  pub pair-other : (b ≡ getD l (2 * i + 1) 0 → ⊥) → samePair (a, b) (pairAt l i) ≡ false
   unfolding samePair
-  pair-other d = let z : 2 * i + 0 ≡ 2 * i = omega arith in rw (z, ne-eqb a (getD l (2 * i) 0) d)
+  pair-other d = let z : 2 * i + 0 ≡ 2 * i = omega arith in rw (z, ne-eqb b (getD l (2 * i + 1) 0) d) (and-false (eqb a (getD l (2 * i) 0)))

@@ -22,7 +22,8 @@ use Rattle.records.proofs.ListLaws.{list-strings}
 use Rattle.wordeq.specs.Wordeq.{same, nfEqual, nfExplain, nfArguments}
 use Rattle.wordeq.specs.Working.Stripping.{Readable}
 use Rattle.wordeq.specs.Calls.{equalArguments, equalLists, PublicEqualExplain}
-use Rattle.wordeq.proofs.Equal.{explain-equal-sound, explain-equal-stops}
+use Rattle.wordeq.proofs.Equal.{explain-equal-gives, explain-equal-sound, explain-equal-stops}
+use Rattle.records.proofs.Later.{added-once}
 
 -- ARGUMENTS
 
@@ -84,6 +85,7 @@ module _ (m : Lent) (c : State) (l r : List ℕ) (k : ℕ) (v : k ≡ audit m c)
   explain-unready d = record {
     is = call-unready (nfArguments l r) (nfExplain l r) m c k v d;
     worth = λ s′ e. stop-not e;
+    once = λ s′ e. stop-not e;
     full = λ j e h. let y : k ≡ j = cc in let q = audit-low m c in absurd (omega arith);
   }
 
@@ -92,6 +94,7 @@ module _ (m : Lent) (c : State) (l r : List ℕ) (k : ℕ) (v : k ≡ audit m c)
     explain-unfit h = record {
       is = call-unfit (nfArguments l r) (nfExplain l r) m c k v z b e (not-true b h);
       worth = λ s′ i. stop-not i;
+      once = λ s′ i. stop-not i;
       full = λ j i q. let y : 5 ≡ j = cc in absurd (omega arith);
     }
 
@@ -118,6 +121,7 @@ module _ (m : Lent) (c : State) (l r : List ℕ) (k : ℕ) (v : k ≡ audit m c)
       explain-called m′ o w = record {
         is = call-works (nfArguments l r) (nfExplain l r) m c k v z b e (not-false b h) (λ j n. let q = seven j n in omega arith) w;
         worth = λ s′ i. explain-equal-sound l r (storeOf m c) (explain-ready .audited) explain-left explain-right s′ tt (w .says ∙ i);
+        once = λ s′ i. added-once (explain-equal-gives l r (storeOf m c) (explain-ready .audited) explain-left explain-right s′ tt (w .says ∙ i) .added);
         full = λ j i q. seven j (w .says ∙ i);
       }
         where

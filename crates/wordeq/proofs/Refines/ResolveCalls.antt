@@ -29,7 +29,7 @@ use Rattle.wordeq.specs.Working.Results.{BothLists}
 use Rattle.wordeq.specs.Working.Resolving.{closing, flatSteps, ran}
 use Rattle.wordeq.specs.Calls.{equalArguments, PublicResolve, resolved}
 use Rattle.records.proofs.ListLaws.{list-strings}
-use Rattle.wordeq.proofs.Resolve.{resolve-sound, resolve-stops}
+use Rattle.wordeq.proofs.Resolve.{resolve-gives, resolve-sound, resolve-stops}
 
 -- CLOSED
 
@@ -92,18 +92,18 @@ module _ (s : Store) (l r : List ℕ) (g : ℤ) (b : Bool) (e : b ≡ equalArgum
 
 module _ (l r : List ℕ) (g : ℤ) (m : Lent) (c : State) (k : List ℕ) where
   pub resolve-short : length k < listLimit → PublicResolve l r g m m k k c (stop 1)
-  resolve-short h = record { is = listed-short (resolveArguments l r g) (resolve l r g) m c k h; worth = λ s′ x e. stop-not e }
+  resolve-short h = record { is = listed-short (resolveArguments l r g) (resolve l r g) m c k h; worth = λ s′ x e. stop-not e; once = λ s′ x e. stop-not e }
 
   module _ (h : listLimit ≤ length k) (j : ℕ) (v : j ≡ audit m c) where
     pub resolve-unready : (j ≡ 0 → ⊥) → PublicResolve l r g m m k k c (stop j)
-    resolve-unready d = record { is = listed-unready (resolveArguments l r g) (resolve l r g) m c k h j v d; worth = λ s′ x e. stop-not e }
+    resolve-unready d = record { is = listed-unready (resolveArguments l r g) (resolve l r g) m c k h j v d; worth = λ s′ x e. stop-not e; once = λ s′ x e. stop-not e }
 
     module _ (z : j ≡ 0) (y : SFits w32 g) (b : Bool) (i : b ≡ resolveArguments l r (toZ w32 (ofZ w32 g)) (storeOf m c)) where
       e : b ≡ resolveArguments l r g (storeOf m c)
       e = i ∙ ap (λ (x : ℤ). resolveArguments l r x (storeOf m c)) (toZ-ofZ w32 g y)
 
       pub resolve-unfit : not b ≡ true → PublicResolve l r g m m k k c (stop 5)
-      resolve-unfit f = record { is = listed-unfit (resolveArguments l r g) (resolve l r g) m c k h j v z b e f; worth = λ s′ x q. stop-not q }
+      resolve-unfit f = record { is = listed-unfit (resolveArguments l r g) (resolve l r g) m c k h j v z b e f; worth = λ s′ x q. stop-not q; once = λ s′ x q. stop-not q }
 
       module _ (f : not b ≡ false) where
         fit : resolveArguments l r g (storeOf m c) ≡ true
@@ -125,6 +125,7 @@ module _ (l r : List ℕ) (g : ℤ) (m : Lent) (c : State) (k : List ℕ) where
         resolve-called {m′} {k′} {o} u = record {
           is = listed-works (resolveArguments l r g) (resolve l r g) m c k h j v z b e f (λ n q. resolve-stops l r g (storeOf m c) (resolve-ready .audited) left right n q .from) w;
           worth = λ s′ x q. resolve-sound l r g (storeOf m c) (resolve-ready .audited) left right s′ x (w .says ∙ q);
+          once = λ s′ x q. resolve-gives l r g (storeOf m c) (resolve-ready .audited) left right s′ x (w .says ∙ q) .later .reasons;
         }
           where
             w : Working (resolve l r g) m m′ c o

@@ -7,27 +7,27 @@ use Prim.Native.Nat.{ℕ, _-_, _*_, _^_, _≤_, _<_}
 use native.Mathlib.Omega.{arith}
 use lib.ListN.{length, drop, length-append, length-take, length-drop}
 use lib.IntN.{ℤ}
-use lib.Dec.{eqb, ltb, leb}
+use lib.Dec.{eqb, leb}
 use borrow.Author.Tests.{ne-eqb, le-leb}
 use Rattle.records.specs.declared.State.{State}
-use Rattle.records.specs.Lists.{if_then_else_, all}
+use Rattle.records.specs.Lists.{if_then_else_, all, any}
 use Rattle.records.specs.Store.{Store, Out, ok, andThen, isString}
-use Rattle.records.specs.View.{Lent, storeOf, pairAt, readIn}
+use Rattle.records.specs.View.{Lent, storeOf, readIn}
 use Rattle.records.specs.Rules.{listLimit}
 use Rattle.records.specs.Calls.{Working}
-use Rattle.records.proofs.Lists.{both-right, both-true, every-all, table-length}
+use Rattle.records.proofs.Lists.{both-right, both-true, every-all}
 use Rattle.records.proofs.Passed.{ready-after}
 use Rattle.records.proofs.Later.{Added}
 use Rattle.wordeq.specs.declared.StepResult.{StepResult}
 use Rattle.wordeq.specs.declared.StepResult.the-variants as step
 use Rattle.wordeq.specs.declared.Stripped.{Stripped}
 use Rattle.wordeq.specs.declared.Stripped.the-variants.{Parts, Refused}
-use Rattle.wordeq.specs.Wordeq.{Answer, done, Tried, answer, _orElse_, clashes, splits, after, isBare, orDone, strip, steps}
+use Rattle.wordeq.specs.Wordeq.{Answer, done, Tried, answer, _orElse_, clashes, splits, after, isBare, orDone, matches, needsReason, strip, steps}
 use Rattle.wordeq.specs.Working.Results.{tried, Tries}
 use Rattle.wordeq.specs.Calls.{resolved}
 use Rattle.wordeq.specs.Working.Sides.{Spelled}
 use Rattle.wordeq.specs.Working.Heads.{HeadsApart}
-use Rattle.wordeq.specs.Working.Stripping.{part, stripped, Inside, Strips}
+use Rattle.wordeq.specs.Working.Stripping.{part, stripped, Inside, Needed, Strips}
 use Rattle.wordeq.proofs.Refines.LackingTries.{constants-need, constants-conflict, constants-pass}
 use Rattle.wordeq.proofs.Strip.{strip-ends}
 use Rattle.wordeq.proofs.Strip as strip
@@ -52,29 +52,29 @@ module _ (l r : List ℕ) {m m₁ : Lent} {c d : State} {o : StepResult} (w : Tr
 
 -- STEPS 2 TO 7
 
-module _ (l r : List ℕ) (g : ℤ) (added : Bool) where
-  regrouped : {m m₁ : Lent} {c : State} {o : Out (Option Answer)} → Working (grouped l r g added) m m₁ c o → Working (after g added l r) m m₁ c o
-  regrouped {m} {m₁} {c} {o} w = subst (λ (x : Tried). Working x m m₁ c o) (after-groups l r g added) w
+module _ (l r : List ℕ) (g : ℤ) (needed : Bool) where
+  regrouped : {m m₁ : Lent} {c : State} {o : Out (Option Answer)} → Working (grouped l r g needed) m m₁ c o → Working (after g needed l r) m m₁ c o
+  regrouped {m} {m₁} {c} {o} w = subst (λ (x : Tried). Working x m m₁ c o) (after-groups l r g needed) w
 
   module _ {m₀ m₁ : Lent} {c : State} {o₁ : StepResult} (w₁ : Tries (conflicts l r) m₀ m₁ c o₁) where
-    pub after-early : Last o₁ → (k : List ℕ) → Working (after g added l r) m₀ m₁ c (tried o₁ m₁ k)
-    after-early z k = regrouped (else-last (propagates l r orElse (tiles l r orElse (clashes l r orElse splits g added l r))) z w₁ .is k)
+    pub after-early : Last o₁ → (k : List ℕ) → Working (after g needed l r) m₀ m₁ c (tried o₁ m₁ k)
+    after-early z k = regrouped (else-last (propagates l r orElse (tiles l r orElse (clashes l r orElse splits g needed l r))) z w₁ .is k)
 
     module _ {d : State} (e₁ : o₁ ≡ step.Done d) {m₂ : Lent} {o₂ : StepResult} (w₂ : Tries (propagates l r) m₁ m₂ d o₂) where
-      pub after-known : Last o₂ → (k : List ℕ) → Working (after g added l r) m₀ m₂ c (tried o₂ m₂ k)
-      after-known z k = regrouped (else-tries (conflicts-goes l r) (done-is e₁ w₁) (else-last (tiles l r orElse (clashes l r orElse splits g added l r)) z w₂) .is k)
+      pub after-known : Last o₂ → (k : List ℕ) → Working (after g needed l r) m₀ m₂ c (tried o₂ m₂ k)
+      after-known z k = regrouped (else-tries (conflicts-goes l r) (done-is e₁ w₁) (else-last (tiles l r orElse (clashes l r orElse splits g needed l r)) z w₂) .is k)
 
       module _ {e : State} (e₂ : o₂ ≡ step.Done e) {m₃ : Lent} {o₃ : StepResult} (w₃ : Tries (tiles l r) m₂ m₃ e o₃) where
-        pub after-tiled : Last o₃ → (k : List ℕ) → Working (after g added l r) m₀ m₃ c (tried o₃ m₃ k)
+        pub after-tiled : Last o₃ → (k : List ℕ) → Working (after g needed l r) m₀ m₃ c (tried o₃ m₃ k)
         after-tiled z k =
             regrouped (else-tries (conflicts-goes l r) (done-is e₁ w₁) (else-tries (propagates-goes l r) (done-is e₂ w₂)
-            (else-last (clashes l r orElse splits g added l r) z w₃)) .is k)
+            (else-last (clashes l r orElse splits g needed l r) z w₃)) .is k)
 
         -- the guard is handed on as its bits are read
-        pub after-split : {h : ℤ} → h ≡ g → {f : State} {m₄ : Lent} {o : Out (Option Answer)} → o₃ ≡ step.Done f → Working (clashes l r orElse splits h added l r) m₃ m₄ f o → Working (after g added l r) m₀ m₄ c o
+        pub after-split : {h : ℤ} → h ≡ g → {f : State} {m₄ : Lent} {o : Out (Option Answer)} → o₃ ≡ step.Done f → Working (clashes l r orElse splits h needed l r) m₃ m₄ f o → Working (after g needed l r) m₀ m₄ c o
         after-split q {f} {m₄} {o} e₃ v =
             regrouped (else-works (conflicts-goes l r) (done-is e₁ w₁) (else-works (propagates-goes l r) (done-is e₂ w₂) (else-works (tiles-goes l r) (done-is e₃ w₃)
-            (subst (λ (z : ℤ). Working (clashes l r orElse splits z added l r) m₃ m₄ f o) q v))))
+            (subst (λ (z : ℤ). Working (clashes l r orElse splits z needed l r) m₃ m₄ f o) q v))))
 
 -- STEP 1 FIRST
 
@@ -113,7 +113,7 @@ module _ (g : ℤ) (l r : List ℕ) {m m₁ : Lent} {c : State} {y : Stripped} (
   unfolding steps
   steps-refused k j ks = record { says = rw (w .is .says ∙ ap (λ (o : Stripped). stripped o m₁ l r) j); kept = w .is .kept }
 
-  module _ {d : State} {i p q : ℕ} (j : y ≡ Parts d i p q) where
+  module _ {d : State} {i p q : ℕ} {f : Bool} (j : y ≡ Parts d i p q f) where
     pub parts-inside : (i ≤ p) × (p ≤ length l) × (i ≤ q) × (q ≤ length r)
     parts-inside = subst (λ (o : Stripped). Inside o l r) j (w .inside)
 
@@ -123,18 +123,19 @@ module _ (g : ℤ) (l r : List ℕ) {m m₁ : Lent} {c : State} {y : Stripped} (
     abbrev rest : Bool → Bool → Out Answer
     rest bare added = andThen orDone ((if bare then answer done else after g added (part l i p) (part r i q)) (storeOf m₁ d))
 
-    opened : steps g l r (storeOf m c) ≡ rest (isBare (part l i p) (part r i q)) (ltb (length ((storeOf m c) .reasons)) (length ((storeOf m₁ d) .reasons)))
+    abbrev asked : Bool
+    asked = any (needsReason (storeOf m c)) (matches (storeOf m c) l r)
+
+    opened : steps g l r (storeOf m c) ≡ rest (isBare (part l i p) (part r i q)) asked
     unfolding steps
     opened = rw strip-says
 
-    counted : ltb (length ((storeOf m c) .reasons)) (length ((storeOf m₁ d) .reasons)) ≡ ltb (c .reasons) (d .reasons)
-    counted =
-        ap (λ (n : ℕ). ltb n (length ((storeOf m₁ d) .reasons))) (table-length (pairAt (m .reasons)) (c .reasons))
-        ∙ ap (λ (n : ℕ). ltb (c .reasons) n) (table-length (pairAt (m₁ .reasons)) (d .reasons))
+    counted : isBare (part l i p) (part r i q) ≡ false → f ≡ asked
+    counted z = subst (λ (o : Stripped). Needed m c l r o) j (w .needs) .is z
 
     pub steps-bare : (b : Bool) → b ≡ isBare (part l i p) (part r i q) → b ≡ true → (k : List ℕ) → Working (steps g l r) m m₁ c (resolved (step.Done d) m₁ k)
     steps-bare b e z k = record {
-      says = opened ∙ ap (λ (x : Bool). rest x (ltb (length ((storeOf m c) .reasons)) (length ((storeOf m₁ d) .reasons)))) (sym e ∙ z);
+      says = opened ∙ ap (λ (x : Bool). rest x asked) (sym e ∙ z);
       kept = w .is .kept;
     }
 
@@ -168,11 +169,10 @@ module _ (g : ℤ) (l r : List ℕ) {m m₁ : Lent} {c : State} {y : Stripped} (
       pub parts-apart : HeadsApart (part l i p) (part r i q)
       parts-apart = heads-apart (part l i p) (part r i q) (off .apart)
 
-      pub steps-after : (b : Bool) → b ≡ isBare (part l i p) (part r i q) → b ≡ false → (added : Bool) → added ≡ ltb (c .reasons) (d .reasons)
-          → {h : ℤ} → h ≡ g → {m₂ : Lent} (o : StepResult) (k : List ℕ) → Working (after h added (part l i p) (part r i q)) m₁ m₂ d (tried o m₂ k) → Working (steps g l r) m m₂ c (resolved o m₂ k)
-      steps-after b e z added a n {m₂} o k v = record {
+      pub steps-after : (b : Bool) → b ≡ isBare (part l i p) (part r i q) → b ≡ false → {h : ℤ} → h ≡ g → {m₂ : Lent} (o : StepResult) (k : List ℕ) → Working (after h f (part l i p) (part r i q)) m₁ m₂ d (tried o m₂ k) → Working (steps g l r) m m₂ c (resolved o m₂ k)
+      steps-after b e z n {m₂} o k v = record {
         says =
-            opened ∙ ap (λ (x : Bool). rest x (ltb (length ((storeOf m c) .reasons)) (length ((storeOf m₁ d) .reasons)))) (sym e ∙ z) ∙ ap (rest false) (counted ∙ sym a)
-            ∙ ap (λ (y : ℤ). andThen orDone (after y added (part l i p) (part r i q) (storeOf m₁ d))) (sym n) ∙ ap (andThen orDone) (v .says) ∙ finished o m₂ k;
+            opened ∙ ap (λ (x : Bool). rest x asked) (sym e ∙ z) ∙ ap (rest false) (sym (counted (sym e ∙ z)))
+            ∙ ap (λ (y : ℤ). andThen orDone (after y f (part l i p) (part r i q) (storeOf m₁ d))) (sym n) ∙ ap (andThen orDone) (v .says) ∙ finished o m₂ k;
         kept = agree-below m m₁ m₂ c d (higher-added (off .cited .added)) (v .kept) ∙ w .is .kept;
       }

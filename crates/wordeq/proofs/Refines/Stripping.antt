@@ -1,6 +1,6 @@
 -- The loops of step 1: same heads and tails counted, and the matches explained one after the other.
 use mathlib.Core.Path.{_≡_, refl, sym, ap, _∙_}
-use mathlib.Core.Bool.{Bool, true, false, not, _&&_}
+use mathlib.Core.Bool.{Bool, true, false, not, _&&_, _||_}
 use mathlib.Core.List.{List, [], _∷_, _++_, append-assoc, reverse, reverse-append, reverse-cons, reverse-reverse}
 use Prim.Native.Nat.{ℕ, zero, suc, _+_, _-_, _≤_, _<_, min}
 use native.Mathlib.Numerals.{add-one}
@@ -10,19 +10,19 @@ use lib.Seq.{take-all, drop-cons, drop-at, getD-at, getD-drop, split-at}
 use borrow.Author.Tests.{not-true, not-false, eq-eqb, ne-eqb}
 use Rattle.records.specs.declared.State.{State}
 use Rattle.records.specs.declared.Added.the-variants as adding
-use Rattle.records.specs.Lists.{all}
+use Rattle.records.specs.Lists.{all, any}
 use Rattle.records.specs.Store.{Store, Out, ok, stop, Work, andThen, isConstant, isString}
 use Rattle.records.specs.View.{Lent, lent, storeOf, readIn}
 use Rattle.records.specs.Working.Audited.{Ready}
 use Rattle.records.specs.Calls.{Working, added}
-use Rattle.records.proofs.Lists.{both-true, all-every, every-at}
+use Rattle.records.proofs.Lists.{both-true, all-every, every-at, any-append, or-left, clash}
 use Rattle.records.proofs.Passed.{ready-after}
 use Rattle.records.proofs.Grown.{Strings}
-use Rattle.engine.specs.Explain.{explain, explainArguments}
+use Rattle.engine.specs.Explain.{explain, explainArguments, isReasoned}
 use Rattle.wordeq.specs.declared.Rest.{Rest}
 use Rattle.wordeq.specs.declared.Stripped.the-variants.{Parts, Refused}
-use Rattle.wordeq.specs.Wordeq.{same, sameHeads, sameTails, matches, inner, rest, explainMatch, explainMatches, strip}
-use Rattle.wordeq.specs.Working.Stripping.{Pair, part, Finds, Strips}
+use Rattle.wordeq.specs.Wordeq.{same, sameHeads, sameTails, matches, inner, rest, explainMatch, explainMatches, needsReason, isBare, strip}
+use Rattle.wordeq.specs.Working.Stripping.{Pair, part, Finds, Strips, Needs, Asked}
 use Rattle.wordeq.proofs.Strip.{plainly, same-class, match-ends, matches-append, matches-end, off-heads, every-back, Match}
 use Rattle.wordeq.proofs.Refines.Going.{Going, going-pair, going-same, kept-down}
 use Rattle.wordeq.proofs.Refines.Turning.{Turning, turning-none, turning-end, turning-refused, turning-on}
@@ -61,6 +61,22 @@ module _ (t e h r ks : List ℕ) (c : State) (a b : ℕ) where
       pub match-explained : {m′ : Lent} {o : Out (Unit {0})} → Working (explain a b) m m′ c o → Working (explainMatch a b) m m′ c o
       unfolding explainMatch
       match-explained w = record { says = rw (ne-eqb a b d, sym i ∙ j) (w .says); kept = w .kept }
+
+-- ONE MATCH THAT NEEDS A REASON OR NONE
+
+module _ (m : Lent) (c : State) (a b : ℕ) where
+  pub need-number : a ≡ b → false ≡ needsReason (storeOf m c) (a, b)
+  unfolding needsReason
+  need-number i = rw (eq-eqb a b i)
+
+  module _ (d : a ≡ b → ⊥) (x : Bool) (i : x ≡ (isConstant (storeOf m c) a && isConstant (storeOf m c) b)) where
+    pub need-constants : x ≡ true → false ≡ needsReason (storeOf m c) (a, b)
+    unfolding needsReason
+    need-constants j = rw (ne-eqb a b d, sym i ∙ j)
+
+    pub need-reasoned : x ≡ false → (y : Bool) → y ≡ isReasoned (storeOf m c) a b → y ≡ needsReason (storeOf m c) (a, b)
+    unfolding needsReason
+    need-reasoned j y e = rw (ne-eqb a b d, sym i ∙ j) e
 
 -- PARTS
 
@@ -223,6 +239,10 @@ pub record Place (s : Store) (ps : List (ℕ × ℕ)) (i a b : ℕ) : Type 0 whe
   pub pair : Pair s a b
   pub alike : same s a b ≡ true
 
+-- a match is of two string terms that are the same
+pub place-both : {s : Store} {ps : List (ℕ × ℕ)} {i a b : ℕ} → Place s ps i a b → Pair s a b × (same s a b ≡ true)
+place-both p = (p .pair, p .alike)
+
 place : (s : Store) (l r : List ℕ) → Strings s l → Strings s r → (i : ℕ) → i < length (sameHeads s l r) → Place s (sameHeads s l r) i (getD l i 0) (getD r i 0)
 place s l r p q i h =
     let m : Match s (getD l i 0, getD r i 0) = rw (heads-at s l r i h) at (every-at (sameHeads s l r) i (0, 0) (off-heads s l r p q .matched) h) in
@@ -271,6 +291,30 @@ module _ (t e h ks : List ℕ) (ps : List (ℕ × ℕ)) where
         matching-turn d₂ j =
             turning-on t e h ks left g (explainMatch a b) next rs₂ y w d₂ j
             (match-ends a b (now rs₁ d) (g .going .ready .audited) (matching-pair .one) (matching-pair .other) (same-read t e h ks rs₁ d a b ∙ matching-same) .given (now rs₂ d₂) tt)
+
+-- the matches ps, the first i of which need no reason
+pub record Needing (m : Lent) (c : State) (ps : List (ℕ × ℕ)) (i : ℕ) : Type 0 where
+  pub is : any (needsReason (storeOf m c)) (drop i ps) ≡ any (needsReason (storeOf m c)) ps
+
+module _ (m : Lent) (c : State) (ps : List (ℕ × ℕ)) where
+  pub needing-none : Needing m c ps 0
+  needing-none = record { is = refl }
+
+  pub needing-end : {i : ℕ} → Needing m c ps i → length ps ≤ i → Needs m c ps false
+  unfolding any
+  needing-end g z = record { is = rw (drop-of-length-le ps z) at (g .is) }
+
+  module _ {i : ℕ} (g : Needing m c ps i) {s : Store} {a b : ℕ} (p : Place s ps i a b) (x : Bool) (e : x ≡ needsReason (storeOf m c) (a, b)) where
+    opened : any (needsReason (storeOf m c)) ((a, b) ∷ drop (i + 1) ps) ≡ any (needsReason (storeOf m c)) ps
+    opened = rw (p .next) at (g .is)
+
+    pub needing-stop : x ≡ true → Needs m c ps true
+    unfolding any
+    needing-stop z = record { is = rw (sym e ∙ z) at opened }
+
+    pub needing-turn : x ≡ false → Needing m c ps (i + 1)
+    unfolding any
+    needing-turn z = record { is = rw (sym e ∙ z) at opened }
 
 -- two atoms of two lists
 pub strings-pair : (s : Store) (l r : List ℕ) → all (isString s) l ≡ true → all (isString s) r ≡ true → (i j : ℕ) → i < length l → j < length r → Pair s (getD l i 0) (getD r j 0)
@@ -387,6 +431,38 @@ module _ (t e h ks l r : List ℕ) {c : State} {rs rs₁ : List ℕ} (x : Rest) 
       kept = kept-down t e h ks heads-going rs₂ (v .kept);
     }
 
+-- WHETHER A MATCH NEEDS A REASON
+
+module _ (t e h rs ks l r : List ℕ) (c : State) (x : Rest) (f : Finds (readIn t h c) l r x) where
+  abbrev lentNow : Lent
+  lentNow = lent t e h rs ks
+
+  pub asked-bare : x .lhs ≡ x .from → x .rhs ≡ x .from → Asked lentNow c l r (x .from) (x .lhs) (x .rhs) false
+  asked-bare i j = record { is = λ z. clash (bare (x .lhs - x .from) (x .rhs - x .from) (omega arith) (omega arith)) z }
+    where
+      bare : (m n : ℕ) → m ≡ 0 → n ≡ 0 → isBare (take m (drop (x .from) l)) (take n (drop (x .from) r)) ≡ true
+      bare m n p q = rw (p, q)
+
+  both-needed : (b : Bool) → b ≡ any (needsReason (storeOf lentNow c)) (sameHeads (readIn t h c) l r ++ sameTails (readIn t h c) (x .from) l r)
+      → Asked lentNow c l r (x .from) (x .lhs) (x .rhs) b
+  both-needed b q = record {
+    is = λ z. q
+        ∙ ap (λ (n : ℕ). any (needsReason (storeOf lentNow c)) (sameHeads (readIn t h c) l r ++ sameTails (readIn t h c) n l r)) (f .heads)
+        ∙ ap (any (needsReason (storeOf lentNow c))) (sym (matches-by (storeOf lentNow c) (readIn t h c) (same-read t e h ks rs c) l r));
+  }
+
+  module _ (b : Bool) (p : Needs lentNow c (sameHeads (readIn t h c) l r) b) where
+    pub asked-heads : b ≡ true → Asked lentNow c l r (x .from) (x .lhs) (x .rhs) true
+    asked-heads z = both-needed true (sym (any-append (needsReason (storeOf lentNow c)) (sameHeads (readIn t h c) l r) (sameTails (readIn t h c) (x .from) l r) ∙ or-left _ _ (sym (p .is) ∙ z)))
+
+    pub asked-tails : b ≡ false → (d : Bool) → Needs lentNow c (sameTails (readIn t h c) (x .from) l r) d → Asked lentNow c l r (x .from) (x .lhs) (x .rhs) d
+    asked-tails z d q =
+        both-needed d (q .is ∙ sym (any-append (needsReason (storeOf lentNow c)) (sameHeads (readIn t h c) l r) (sameTails (readIn t h c) (x .from) l r)
+        ∙ ap (λ (y : Bool). y || any (needsReason (storeOf lentNow c)) (sameTails (readIn t h c) (x .from) l r)) (sym (p .is) ∙ z)))
+
+  pub asked-counted : (n : ℕ) → n ≡ length l - x .lhs → n ≡ length (sameTails (readIn t h c) (x .from) l r)
+  asked-counted n q = let a = f .left in let b = tails-short (readIn t h c) (x .from) l r in omega arith
+
 -- STEP 1
 
 module _ (t e h ks l r : List ℕ) {c : State} {rs rs₁ : List ℕ} (x : Rest) (f : Finds (readIn t h c) l r x) (y : Answered)
@@ -399,14 +475,15 @@ module _ (t e h ks l r : List ℕ) {c : State} {rs rs₁ : List ℕ} (x : Rest) 
 
   pub strip-refused : (k : ℕ) → y ≡ adding.Refused k → Strips (lent t e h rs ks) (lent t e h rs₁ ks) c l r (Refused k)
   unfolding strip
-  strip-refused k j = record { is = record { says = rw (explained (stop k) (ap (λ (o : Answered). added o (lent t e h rs₁ ks)) j)); kept = w .kept }; inside = tt }
+  strip-refused k j = record { is = record { says = rw (explained (stop k) (ap (λ (o : Answered). added o (lent t e h rs₁ ks)) j)); kept = w .kept }; inside = tt; needs = tt }
 
-  pub strip-parts : (d : State) → y ≡ adding.Counts d → Strips (lent t e h rs ks) (lent t e h rs₁ ks) c l r (Parts d (x .from) (x .lhs) (x .rhs))
+  pub strip-parts : (d : State) → y ≡ adding.Counts d → (b : Bool) → Asked (lent t e h rs ks) c l r (x .from) (x .lhs) (x .rhs) b → Strips (lent t e h rs ks) (lent t e h rs₁ ks) c l r (Parts d (x .from) (x .lhs) (x .rhs) b)
   unfolding strip
-  strip-parts d j = record {
+  strip-parts d j b a = record {
     is = record {
       says = rw (explained (ok (storeOf (lent t e h rs₁ ks) d) tt) (ap (λ (o : Answered). added o (lent t e h rs₁ ks)) j)) (ap (ok (storeOf (lent t e h rs₁ ks) d)) (rest-by entry (readIn t h c) (same-read t e h ks rs c) l r ∙ f .is));
       kept = w .kept;
     };
     inside = f .inside;
+    needs = a;
   }

@@ -11,5 +11,10 @@ cite-spec = tie.close (tie.spec
     (λ c κs. search needs)
     -- same-length
     (λ c. search needs)
+    -- same-length-2
+    (λ c. search needs)
     -- returns-2
-    (λ c. let at-if1 = c .before .before .before .before in cite-other _ _ (at-if1 .if1 .left) (c .before .before .explain-unchecked .ensures)))
+    (λ c.
+    let at-explain-unchecked = c .before .before .before .before in
+    let at-if1 = at-explain-unchecked .before .before .before in
+    cite-other _ _ (at-if1 .if1 .left) (at-explain-unchecked .explain-unchecked .ensures)))

@@ -24,7 +24,7 @@ has-pair-spec =
     μ-loop
     -- loop-holds
     (λ c. (omega arith, any-zero _ _))
-    -- pair-is-requires
+    -- pair-is-unchecked-requires
     (λ c κs. search needs)
     -- returns
     (λ c. search any-stop)

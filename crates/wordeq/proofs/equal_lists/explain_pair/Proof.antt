@@ -10,35 +10,41 @@ explain-pair-spec =
     -- returns
     (λ c. pair-number _ _ _ _ _ _ _ _ (c .if1 .taken))
     -- is-alike-requires
-    (λ c κs. let at-start = c .before .before .before .before .before .before in ready-readable (at-start .pre .0))
+    (λ c κs. let at-start = c .before .before .before .before .before .before .before in ready-readable (at-start .pre .0))
     -- returns-2
     (λ c. pair-alike _ _ _ _ _ _ _ _ (c .before .before .if1 .left) _ (c .before .is-alike .ensures) (c .if2 .taken))
-    -- same-class-requires
-    (λ c κs. let at-start = c .before .before .before .before .before .before .before .before in (ready-readable (at-start .pre .0), at-start .pre .1))
+    -- same-class-unchecked-requires
+    (λ c κs.
+    let at-start = c .before .before .before .before .before .before .before .before .before in
+    (ready-readable (at-start .pre .0), at-start .pre .1))
     -- returns-3
     (λ c.
     let at-is-alike = c .before .before .before in
     let at-if1 = at-is-alike .before in
-    pair-apart _ _ _ _ _ _ _ _ (at-if1 .if1 .left) _ (at-is-alike .is-alike .ensures) (c .before .before .if2 .left) _ (c .before .same-class .ensures) (c .if3 .taken))
+    pair-apart _ _ _ _ _ _ _ _ (at-if1 .if1 .left) _ (at-is-alike .is-alike .ensures) (c .before .before .if2 .left) _ (c .before .same-class-unchecked .ensures) (c .if3 .taken))
     -- explain-unchecked-requires
     (λ c κs.
-    let at-if2 = c .before .before .before in
+    let at-same-class-unchecked = c .before .before .before in
+    let at-if2 = at-same-class-unchecked .before in
     let at-is-alike = at-if2 .before in
     let at-if1 = at-is-alike .before in
-    let at-start = at-if1 .before .before .before .before .before .before in (
+    let at-start = at-if1 .before .before .before .before .before .before .before in (
       at-start .pre .0,
       pair-arguments (at-start .args .terms .now) (at-start .args .cells .now) (at-start .args .chars .now) (at-start .args .reasons .now) (at-start .args .keys .now)
-          (at-start .args .c) _ _ (at-if1 .if1 .left) _ (at-is-alike .is-alike .ensures) (at-if2 .if2 .left) _ (c .before .before .same-class .ensures) (c .before .if3 .left)
+          (at-start .args .c) _ _ (at-if1 .if1 .left) _ (at-is-alike .is-alike .ensures) (at-if2 .if2 .left) _ (at-same-class-unchecked .same-class-unchecked .ensures) (c .before .before .if3 .left)
           (at-start .pre .1),
     ))
     -- same-length
     (λ c. search needs)
+    -- same-length-2
+    (λ c. search needs)
     -- returns-4
     (λ c.
-    let at-if3 = c .before .before .before .before in
-    let at-same-class = at-if3 .before in
-    let at-if2 = at-same-class .before in
+    let at-explain-unchecked = c .before .before .before .before in
+    let at-if3 = at-explain-unchecked .before .before .before in
+    let at-same-class-unchecked = at-if3 .before in
+    let at-if2 = at-same-class-unchecked .before in
     let at-is-alike = at-if2 .before in
     let at-if1 = at-is-alike .before in
-    pair-explained _ _ _ _ _ _ _ _ (at-if1 .if1 .left) _ (at-is-alike .is-alike .ensures) (at-if2 .if2 .left) _ (at-same-class .same-class .ensures) (at-if3 .if3 .left)
-    (c .before .before .explain-unchecked .ensures)))
+    pair-explained _ _ _ _ _ _ _ _ (at-if1 .if1 .left) _ (at-is-alike .is-alike .ensures) (at-if2 .if2 .left) _ (at-same-class-unchecked .same-class-unchecked .ensures) (at-if3 .if3 .left)
+    (at-explain-unchecked .explain-unchecked .ensures)))

@@ -56,19 +56,6 @@ mul-explain-unchecked c = search needs
 shared-slice-read-explain-unchecked : tie.Need-shared-slice-read-explain-unchecked
 shared-slice-read-explain-unchecked c = search needs
 
-explain-unchecked-requires : tie.Need-explain-unchecked-requires
-explain-unchecked-requires c κs =
-    let at-find = c .before .before .before in
-    let at-if2 = at-find .before in
-    let at-kind-of = at-if2 .before in
-    let at-if1 = at-kind-of .before .before in
-    let at-start = at-if1 .before .before .before .before .before .before .before .before in (
-      at-start .pre .0,
-      found-arguments (at-start .args .terms .now) (at-start .args .cells .now) (at-start .args .chars .now) (at-start .args .reasons .now) (at-start .args .keys .now)
-          (at-start .args .c) (at-start .args .lone .now) (at-start .args .side .now) (at-start .pre .0) (at-start .pre .1) (at-if1 .if1 .left) _ (at-kind-of .kind-of .ensures)
-          (at-if2 .if2 .left) _ (at-find .find .ensures) (c .before .before .if3 .left),
-    )
-
 enum-known-d : tie.Need-enum-known-d
 enum-known-d c = search needs
 
@@ -78,10 +65,54 @@ enum-known-k c = search needs
 same-length : tie.Need-same-length
 same-length c = search needs
 
-returns-4 : tie.Need-returns-4
-returns-4 c =
-    let at-explain-unchecked = c .before .before .before .before .before in
-    let at-if3 = at-explain-unchecked .before .before .before in
+same-length-2 : tie.Need-same-length-2
+same-length-2 c = search needs
+
+pub occurs-in-spec : {M : Type 1} → statement M
+occurs-in-spec =
+    tie.close
+    (tie.spec
+    -- returns
+    returns
+    -- shared-slice-read-x
+    shared-slice-read-x
+    -- kind-of-requires
+    kind-of-requires
+    -- returns-2
+    returns-2
+    -- find-requires
+    find-requires
+    -- returns-3
+    returns-3
+    -- mul-explain-unchecked
+    mul-explain-unchecked
+    -- shared-slice-read-explain-unchecked
+    shared-slice-read-explain-unchecked
+    -- slice-aggregate-explain-unchecked
+    (λ c. search needs)
+    -- explain-unchecked-requires
+    (λ c κs.
+    let at-if3 = c .before .before .before in
+    let at-find = at-if3 .before in
+    let at-if2 = at-find .before in
+    let at-kind-of = at-if2 .before in
+    let at-if1 = at-kind-of .before .before in
+    let at-start = at-if1 .before .before .before .before .before .before .before .before in (
+      at-start .pre .0,
+      found-arguments (at-start .args .terms .now) (at-start .args .cells .now) (at-start .args .chars .now) (at-start .args .reasons .now) (at-start .args .keys .now)
+          (at-start .args .c) (at-start .args .lone .now) (at-start .args .side .now) (at-start .pre .0) (at-start .pre .1) (at-if1 .if1 .left) _ (at-kind-of .kind-of .ensures)
+          (at-if2 .if2 .left) _ (at-find .find .ensures) (at-if3 .if3 .left),
+    ))
+    -- enum-known-d
+    enum-known-d
+    -- enum-known-k
+    enum-known-k
+    -- same-length
+    same-length
+    -- returns-4
+    (λ c.
+    let at-explain-unchecked = c .before .before .before .before .before .before in
+    let at-if3 = at-explain-unchecked .before .before .before .before in
     let at-find = at-if3 .before in
     let at-if2 = at-find .before in
     let at-kind-of = at-if2 .before in
@@ -89,15 +120,13 @@ returns-4 c =
     let at-start = at-if1 .before .before .before .before .before .before .before .before in
     found-conflict (at-start .args .terms .now) (at-start .args .cells .now) (at-start .args .chars .now) (at-start .args .reasons .now) (at-start .args .keys .now)
     (at-start .args .c) (at-start .args .lone .now) (at-start .args .side .now) (at-start .pre .0) (at-start .pre .1) (at-if1 .if1 .left) _ (at-kind-of .kind-of .ensures)
-    (at-if2 .if2 .left) _ (at-find .find .ensures) (at-if3 .if3 .left) _ _ (at-explain-unchecked .explain-unchecked .ensures) _ (c .before .d .given .1)
-
-same-length-2 : tie.Need-same-length-2
-same-length-2 c = search needs
-
-returns-5 : tie.Need-returns-5
-returns-5 c =
-    let at-explain-unchecked = c .before .before .before .before .before in
-    let at-if3 = at-explain-unchecked .before .before .before in
+    (at-if2 .if2 .left) _ (at-find .find .ensures) (at-if3 .if3 .left) _ _ (at-explain-unchecked .explain-unchecked .ensures) _ (c .before .d .given .1))
+    -- same-length-2
+    same-length-2
+    -- returns-5
+    (λ c.
+    let at-explain-unchecked = c .before .before .before .before .before .before in
+    let at-if3 = at-explain-unchecked .before .before .before .before in
     let at-find = at-if3 .before in
     let at-if2 = at-find .before in
     let at-kind-of = at-if2 .before in
@@ -105,24 +134,4 @@ returns-5 c =
     let at-start = at-if1 .before .before .before .before .before .before .before .before in
     found-refused (at-start .args .terms .now) (at-start .args .cells .now) (at-start .args .chars .now) (at-start .args .reasons .now) (at-start .args .keys .now)
     (at-start .args .c) (at-start .args .lone .now) (at-start .args .side .now) (at-start .pre .0) (at-start .pre .1) (at-if1 .if1 .left) _ (at-kind-of .kind-of .ensures)
-    (at-if2 .if2 .left) _ (at-find .find .ensures) (at-if3 .if3 .left) _ _ (at-explain-unchecked .explain-unchecked .ensures) _ (c .before .k .given .1)
-
-pub occurs-in-spec : {M : Type 1} → statement M
-occurs-in-spec =
-    tie.close
-    (tie.spec
-    returns
-    shared-slice-read-x
-    kind-of-requires
-    returns-2
-    find-requires
-    returns-3
-    mul-explain-unchecked
-    shared-slice-read-explain-unchecked
-    explain-unchecked-requires
-    enum-known-d
-    enum-known-k
-    same-length
-    returns-4
-    same-length-2
-    returns-5)
+    (at-if2 .if2 .left) _ (at-find .find .ensures) (at-if3 .if3 .left) _ _ (at-explain-unchecked .explain-unchecked .ensures) _ (c .before .k .given .1)))

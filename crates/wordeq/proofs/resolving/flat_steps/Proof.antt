@@ -14,9 +14,9 @@ pub flat-steps-spec : {M : Type 1} → statement M
 flat-steps-spec =
     tie.close
     (tie.spec
-    -- slice-aggregate-flatten-list
+    -- slice-aggregate-flatten-list-unchecked
     (λ c. search needs)
-    -- flatten-list-requires
+    -- flatten-list-unchecked-requires
     (λ c κs. (
       let at-start = c .before .before .before .before .before .before .before .before .before .before .before in ready-nested (at-start .pre .0),
       search needs,
@@ -29,10 +29,10 @@ flat-steps-spec =
     (λ c.
     let at-start = c .before .before .before .before .before .before .before .before .before .before .before .before .before .before in
     left-passes _ _ (at-start .args .lhs .now) (at-start .args .rhs .now) (at-start .args .guard)
-    (list-passes (at-start .pre .0) (at-start .args .lhs .now) _ _ _ (c .before .before .flatten-list .ensures) (c .if1 .taken)))
-    -- slice-aggregate-flatten-list-2
+    (list-passes (at-start .pre .0) (at-start .args .lhs .now) _ _ _ (c .before .before .flatten-list-unchecked .ensures) (c .if1 .taken)))
+    -- slice-aggregate-flatten-list-unchecked-2
     (λ c. search needs)
-    -- flatten-list-requires-2
+    -- flatten-list-unchecked-requires-2
     (λ c κs. (
       let at-start = c .before .before .before .before .before .before .before .before .before .before .before .before .before .before .before .before .before in
           ready-nested (at-start .pre .0),
@@ -45,38 +45,38 @@ flat-steps-spec =
     -- returns-2
     (λ c.
     let at-if1 = c .before .before .before .before .before .before in
-    let at-flatten-list = at-if1 .before .before in
-    let at-start = at-flatten-list .before .before .before .before .before .before .before .before .before .before .before .before in
+    let at-flatten-list-unchecked = at-if1 .before .before in
+    let at-start = at-flatten-list-unchecked .before .before .before .before .before .before .before .before .before .before .before .before in
     right-passes _ _ (at-start .args .lhs .now) (at-start .args .rhs .now) (at-start .args .guard) _
-    (list-says (at-start .pre .0) (at-start .args .lhs .now) _ _ _ (at-flatten-list .flatten-list .ensures) (at-if1 .if1 .left)
-    (let k = at-flatten-list .flatten-list .kept .1 .1 .1 .1 .0 in omega arith))
-    (list-passes (at-start .pre .0) (at-start .args .rhs .now) _ _ _ (c .before .before .flatten-list2 .ensures) (c .if2 .taken)))
+    (list-says (at-start .pre .0) (at-start .args .lhs .now) _ _ _ (at-flatten-list-unchecked .flatten-list-unchecked .ensures) (at-if1 .if1 .left)
+    (let k = at-flatten-list-unchecked .flatten-list-unchecked .kept .1 .1 .1 .1 .0 in omega arith))
+    (list-passes (at-start .pre .0) (at-start .args .rhs .now) _ _ _ (c .before .before .flatten-list-unchecked2 .ensures) (c .if2 .taken)))
     -- array-share-prefix-left
     (λ c. search needs)
     -- slice-aggregate-steps-unchecked
     (λ c.
     let at-if1 = c .before .before .before .before .before .before .before .before .before .before .before .before in
-    let at-flatten-list = at-if1 .before .before in
-    (let k = at-flatten-list .flatten-list .kept .1 .1 .1 .1 .0 in
-    let h = at-if1 .if1 .left in sym (length-take-le _ (at-flatten-list .flatten-list .last .1 .1 .1 .1 .0) (omega arith))))
+    let at-flatten-list-unchecked = at-if1 .before .before in
+    (let k = at-flatten-list-unchecked .flatten-list-unchecked .kept .1 .1 .1 .1 .0 in
+    let h = at-if1 .if1 .left in sym (length-take-le _ (at-flatten-list-unchecked .flatten-list-unchecked .last .1 .1 .1 .1 .0) (omega arith))))
     -- array-share-prefix-right
     (λ c. search needs)
     -- slice-aggregate-steps-unchecked-2
     (λ c.
     let at-if2 = c .before .before .before .before .before .before .before in
-    let at-flatten-list2 = at-if2 .before .before in
-    (let k = at-flatten-list2 .flatten-list2 .kept .1 .1 .1 .1 .0 in
-    let h = at-if2 .if2 .left in sym (length-take-le _ (at-flatten-list2 .flatten-list2 .last .1 .1 .1 .1 .0) (omega arith))))
+    let at-flatten-list-unchecked2 = at-if2 .before .before in
+    (let k = at-flatten-list-unchecked2 .flatten-list-unchecked2 .kept .1 .1 .1 .1 .0 in
+    let h = at-if2 .if2 .left in sym (length-take-le _ (at-flatten-list-unchecked2 .flatten-list-unchecked2 .last .1 .1 .1 .1 .0) (omega arith))))
     -- steps-unchecked-requires
     (λ c κs.
     let at-if2 = c .before .before .before .before .before .before .before .before in
-    let at-flatten-list2 = at-if2 .before .before in
-    let at-if1 = at-flatten-list2 .before .before .before .before in
-    let at-flatten-list = at-if1 .before .before in
-    let at-start = at-flatten-list .before .before .before .before .before .before .before .before .before .before .before .before in (
+    let at-flatten-list-unchecked2 = at-if2 .before .before in
+    let at-if1 = at-flatten-list-unchecked2 .before .before .before .before in
+    let at-flatten-list-unchecked = at-if1 .before .before in
+    let at-start = at-flatten-list-unchecked .before .before .before .before .before .before .before .before .before .before .before .before in (
       at-start .pre .0,
       (
-        record { left = list-flat (at-start .pre .0) (at-start .args .lhs .now) _ _ _ (at-flatten-list .flatten-list .ensures) (at-if1 .if1 .left) (let k = at-flatten-list .flatten-list .kept .1 .1 .1 .1 .0 in omega arith) (at-start .pre .1 .0 .left); right = list-flat (at-start .pre .0) (at-start .args .rhs .now) _ _ _ (at-flatten-list2 .flatten-list2 .ensures) (at-if2 .if2 .left) (let k = at-flatten-list2 .flatten-list2 .kept .1 .1 .1 .1 .0 in omega arith) (at-start .pre .1 .0 .right) },
+        record { left = list-flat (at-start .pre .0) (at-start .args .lhs .now) _ _ _ (at-flatten-list-unchecked .flatten-list-unchecked .ensures) (at-if1 .if1 .left) (let k = at-flatten-list-unchecked .flatten-list-unchecked .kept .1 .1 .1 .1 .0 in omega arith) (at-start .pre .1 .0 .left); right = list-flat (at-start .pre .0) (at-start .args .rhs .now) _ _ _ (at-flatten-list-unchecked2 .flatten-list-unchecked2 .ensures) (at-if2 .if2 .left) (let k = at-flatten-list-unchecked2 .flatten-list-unchecked2 .kept .1 .1 .1 .1 .0 in omega arith) (at-start .pre .1 .0 .right) },
         (guard-passed _ (at-start .fits .guard) (at-start .pre .1 .1 .0), at-start .pre .1 .1 .1),
       ),
     ))
@@ -98,19 +98,19 @@ flat-steps-spec =
     (λ c.
     let at-steps-unchecked = c .before .before .before .before .before .before .before .before .before .before .before .before .before in
     let at-if2 = at-steps-unchecked .before .before .before .before .before .before .before .before .before in
-    let at-flatten-list2 = at-if2 .before .before in
-    let at-if1 = at-flatten-list2 .before .before .before .before in
-    let at-flatten-list = at-if1 .before .before in
-    let at-start = at-flatten-list .before .before .before .before .before .before .before .before .before .before .before .before in
+    let at-flatten-list-unchecked2 = at-if2 .before .before in
+    let at-if1 = at-flatten-list-unchecked2 .before .before .before .before in
+    let at-flatten-list-unchecked = at-if1 .before .before in
+    let at-start = at-flatten-list-unchecked .before .before .before .before .before .before .before .before .before .before .before .before in
     let the-reasons = at-start .args .reasons .now in
     flat-done (lent (at-start .args .terms .now) (at-start .args .cells .now) (at-start .args .chars .now) the-reasons (at-start .args .keys .now)) (at-start .args .c)
     (at-start .args .lhs .now) (at-start .args .rhs .now) (at-start .args .guard)
-    (take (at-flatten-list .flatten-list .result) (at-flatten-list .flatten-list .last .1 .1 .1 .1 .0))
+    (take (at-flatten-list-unchecked .flatten-list-unchecked .result) (at-flatten-list-unchecked .flatten-list-unchecked .last .1 .1 .1 .1 .0))
     (list-says {m = lent (at-start .args .terms .now) (at-start .args .cells .now) (at-start .args .chars .now) the-reasons (at-start .args .keys .now)}
-    {c = at-start .args .c} (at-start .pre .0) (at-start .args .lhs .now) _ _ _ (at-flatten-list .flatten-list .ensures) (at-if1 .if1 .left)
-    (let k = at-flatten-list .flatten-list .kept .1 .1 .1 .1 .0 in omega arith))
-    (at-start .fits .guard) (take (at-flatten-list2 .flatten-list2 .result) (at-flatten-list2 .flatten-list2 .last .1 .1 .1 .1 .0))
+    {c = at-start .args .c} (at-start .pre .0) (at-start .args .lhs .now) _ _ _ (at-flatten-list-unchecked .flatten-list-unchecked .ensures) (at-if1 .if1 .left)
+    (let k = at-flatten-list-unchecked .flatten-list-unchecked .kept .1 .1 .1 .1 .0 in omega arith))
+    (at-start .fits .guard) (take (at-flatten-list-unchecked2 .flatten-list-unchecked2 .result) (at-flatten-list-unchecked2 .flatten-list-unchecked2 .last .1 .1 .1 .1 .0))
     (list-says {m = lent (at-start .args .terms .now) (at-start .args .cells .now) (at-start .args .chars .now) the-reasons (at-start .args .keys .now)}
-    {c = at-start .args .c} (at-start .pre .0) (at-start .args .rhs .now) _ _ _ (at-flatten-list2 .flatten-list2 .ensures) (at-if2 .if2 .left)
-    (let k = at-flatten-list2 .flatten-list2 .kept .1 .1 .1 .1 .0 in omega arith))
+    {c = at-start .args .c} (at-start .pre .0) (at-start .args .rhs .now) _ _ _ (at-flatten-list-unchecked2 .flatten-list-unchecked2 .ensures) (at-if2 .if2 .left)
+    (let k = at-flatten-list-unchecked2 .flatten-list-unchecked2 .kept .1 .1 .1 .1 .0 in omega arith))
     _ (at-steps-unchecked .steps-unchecked .result) (at-steps-unchecked .steps-unchecked .ensures) _ (c .soften .ensures)))

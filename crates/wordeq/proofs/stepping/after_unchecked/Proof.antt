@@ -29,7 +29,7 @@ after-unchecked-spec =
     (λ c.
     let at-conflicts-unchecked = c .before .before .before in
     let at-start = at-conflicts-unchecked .before .before .before .before .before .before .before .before .before .before .before .before .before .before in
-    after-early (at-start .args .lhs .now) (at-start .args .rhs .now) (at-start .args .guard) (at-start .args .added) (at-conflicts-unchecked .conflicts-unchecked .ensures)
+    after-early (at-start .args .lhs .now) (at-start .args .rhs .now) (at-start .args .guard) (at-start .args .needed) (at-conflicts-unchecked .conflicts-unchecked .ensures)
     (last-of (at-conflicts-unchecked .conflicts-unchecked .result) (c .match .keys2)) (at-start .args .list .now))
     -- propagate-unchecked-requires
     (λ c κs.
@@ -56,7 +56,7 @@ after-unchecked-spec =
     let at-early = at-propagate-unchecked .before .before .before .before .before .before .before in
     let at-conflicts-unchecked = at-early .before .before .before .before in
     let at-start = at-conflicts-unchecked .before .before .before .before .before .before .before .before .before .before .before .before .before .before in
-    after-known (at-start .args .lhs .now) (at-start .args .rhs .now) (at-start .args .guard) (at-start .args .added) (at-conflicts-unchecked .conflicts-unchecked .ensures) (at-early .early .given .1) (at-propagate-unchecked .propagate-unchecked .ensures)
+    after-known (at-start .args .lhs .now) (at-start .args .rhs .now) (at-start .args .guard) (at-start .args .needed) (at-conflicts-unchecked .conflicts-unchecked .ensures) (at-early .early .given .1) (at-propagate-unchecked .propagate-unchecked .ensures)
     (last-of (at-propagate-unchecked .propagate-unchecked .result) (c .match2 .keys2)) (at-start .args .list .now))
     -- tile-unchecked-requires
     (λ c κs.
@@ -91,7 +91,7 @@ after-unchecked-spec =
     let at-early = at-propagate-unchecked .before .before .before .before .before .before .before in
     let at-conflicts-unchecked = at-early .before .before .before .before in
     let at-start = at-conflicts-unchecked .before .before .before .before .before .before .before .before .before .before .before .before .before .before in
-    after-tiled (at-start .args .lhs .now) (at-start .args .rhs .now) (at-start .args .guard) (at-start .args .added) (at-conflicts-unchecked .conflicts-unchecked .ensures) (at-early .early .given .1) (at-propagate-unchecked .propagate-unchecked .ensures) (at-known .known .given .1)
+    after-tiled (at-start .args .lhs .now) (at-start .args .rhs .now) (at-start .args .guard) (at-start .args .needed) (at-conflicts-unchecked .conflicts-unchecked .ensures) (at-early .early .given .1) (at-propagate-unchecked .propagate-unchecked .ensures) (at-known .known .given .1)
     (at-tile-unchecked .tile-unchecked .ensures) (last-of (at-tile-unchecked .tile-unchecked .result) (c .match3 .keys2)) (at-start .args .list .now))
     -- split-unchecked-requires
     (λ c κs.
@@ -143,5 +143,5 @@ after-unchecked-spec =
     let at-early = at-propagate-unchecked .before .before .before .before .before .before .before in
     let at-conflicts-unchecked = at-early .before .before .before .before in
     let at-start = at-conflicts-unchecked .before .before .before .before .before .before .before .before .before .before .before .before .before .before in
-    after-split (at-start .args .lhs .now) (at-start .args .rhs .now) (at-start .args .guard) (at-start .args .added) (at-conflicts-unchecked .conflicts-unchecked .ensures) (at-early .early .given .1) (at-propagate-unchecked .propagate-unchecked .ensures) (at-known .known .given .1)
+    after-split (at-start .args .lhs .now) (at-start .args .rhs .now) (at-start .args .guard) (at-start .args .needed) (at-conflicts-unchecked .conflicts-unchecked .ensures) (at-early .early .given .1) (at-propagate-unchecked .propagate-unchecked .ensures) (at-known .known .given .1)
     (at-tile-unchecked .tile-unchecked .ensures) (toZ-ofZ (at-start .fits .guard)) (at-tiled .tiled .given .1) (at-split-unchecked .split-unchecked .ensures)))

@@ -81,12 +81,21 @@ steps-unchecked-spec =
     (c .before .is-bare .result) (c .before .is-bare .ensures) (c .if1 .taken) (at-start .args .list .now))
     -- after-unchecked-requires
     (λ c κs.
-    let at-parts = c .before .before .before .before .before .before .before .before .before .before .before .before .before in
+    let at-parts = c .before .before .before .before .before .before .before .before .before .before .before in
     let at-strip-unchecked = at-parts .before .before .before .before in
     let at-start = at-strip-unchecked .before .before .before .before .before .before .before .before .before .before .before .before .before .before in
     let x = lined (at-start .pre .0) (at-start .pre .1 .0) in
-    let y = parts-lined (at-start .args .guard) (at-start .args .lhs .now) (at-start .args .rhs .now) (at-strip-unchecked .strip-unchecked .ensures) (at-parts .parts .given .1) x refl refl in
-    (y .ready, (y .lists, (parts-apart (at-start .args .guard) (at-start .args .lhs .now) (at-start .args .rhs .now) (at-strip-unchecked .strip-unchecked .ensures) (at-parts .parts .given .1) x, (ap isGuard (toZ-ofZ (at-start .fits .guard)) ∙ at-start .pre .1 .1 .0, at-start .pre .1 .1 .1)))))
+    let y = parts-lined (at-start .args .guard) (at-start .args .lhs .now) (at-start .args .rhs .now) (at-strip-unchecked .strip-unchecked .ensures) (at-parts .parts .given .1) x
+    refl refl in (
+      y .ready,
+      (
+        y .lists,
+        (
+          parts-apart (at-start .args .guard) (at-start .args .lhs .now) (at-start .args .rhs .now) (at-strip-unchecked .strip-unchecked .ensures) (at-parts .parts .given .1) x,
+          (ap isGuard (toZ-ofZ (at-start .fits .guard)) ∙ at-start .pre .1 .1 .0, at-start .pre .1 .1 .1),
+        ),
+      ),
+    ))
     -- enum-known-parts-2
     (λ c. search needs)
     -- same-length-6
@@ -104,7 +113,7 @@ steps-unchecked-spec =
     -- same-length-9
     (λ c.
     let at-after-unchecked = c .before .before .before .before .before .before .before .before .before .before .before .before in
-    let at-strip-unchecked = at-after-unchecked .before .before .before .before .before .before .before .before .before .before .before .before .before .before .before .before .before .before in
+    let at-strip-unchecked = at-after-unchecked .before .before .before .before .before .before .before .before .before .before .before .before .before .before .before .before in
     at-after-unchecked .after-unchecked .kept .1 .1 .1 .0 ∙ at-strip-unchecked .strip-unchecked .kept .1 .1 .1 .0)
     -- same-length-10
     (λ c.
@@ -117,13 +126,14 @@ steps-unchecked-spec =
     -- returns-2
     (λ c.
     let at-after-unchecked = c .before .before .before .before .before .before .before .before .before .before .before .before in
-    let at-if1 = at-after-unchecked .before .before .before .before .before .before .before .before .before in
+    let at-if1 = at-after-unchecked .before .before .before .before .before .before .before in
     let at-is-bare = at-if1 .before in
     let at-parts = at-is-bare .before .before .before .before in
     let at-strip-unchecked = at-parts .before .before .before .before in
     let at-start = at-strip-unchecked .before .before .before .before .before .before .before .before .before .before .before .before .before .before in
-    steps-after (at-start .args .guard) (at-start .args .lhs .now) (at-start .args .rhs .now) (at-strip-unchecked .strip-unchecked .ensures) (at-parts .parts .given .1) (lined (at-start .pre .0) (at-start .pre .1 .0)) (at-is-bare .is-bare .result) (at-is-bare .is-bare .ensures) (at-if1 .if1 .left)
-    _ refl (toZ-ofZ (at-start .fits .guard)) (at-after-unchecked .after-unchecked .result) (at-after-unchecked .after-unchecked .last .1 .1 .1 .1 .1 .1 .1 .1 .1 .1 .0) (at-after-unchecked .after-unchecked .ensures))
+    steps-after (at-start .args .guard) (at-start .args .lhs .now) (at-start .args .rhs .now) (at-strip-unchecked .strip-unchecked .ensures) (at-parts .parts .given .1)
+    (lined (at-start .pre .0) (at-start .pre .1 .0)) (at-is-bare .is-bare .result) (at-is-bare .is-bare .ensures) (at-if1 .if1 .left) (toZ-ofZ (at-start .fits .guard))
+    (at-after-unchecked .after-unchecked .result) (at-after-unchecked .after-unchecked .last .1 .1 .1 .1 .1 .1 .1 .1 .1 .1 .0) (at-after-unchecked .after-unchecked .ensures))
     -- same-length-12
     (λ c. search needs)
     -- same-length-13

@@ -18,9 +18,9 @@ same-unchecked-spec =
     (λ c.
     let at-if1 = c .before .before .before in
     same-constants _ _ _ (at-if1 .if1 .left) _ (c .before .before .both-constant .ensures) (c .before .if2 .taken) _ (c .same-text .ensures))
-    -- same-class-requires
+    -- same-class-unchecked-requires
     (λ c κs. search needs)
     -- returns-3
     (λ c.
     let at-if1 = c .before .before .before in
-    same-classes _ _ _ (at-if1 .if1 .left) _ (c .before .before .both-constant .ensures) (c .before .if2 .left) _ (c .same-class .ensures)))
+    same-classes _ _ _ (at-if1 .if1 .left) _ (c .before .before .both-constant .ensures) (c .before .if2 .left) _ (c .same-class-unchecked .ensures)))

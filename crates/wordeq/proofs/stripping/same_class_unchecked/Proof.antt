@@ -1,9 +1,9 @@
 use Rattle.wordeq.proofs.Refines.Alike.{string-within, roots-closed, classes-compared}
-use Rattle.wordeq.proofs.stripping.same_class.Statement.{statement}
-use Rattle.wordeq.proofs.stripping.same_class.Tie as tie
+use Rattle.wordeq.proofs.stripping.same_class_unchecked.Statement.{statement}
+use Rattle.wordeq.proofs.stripping.same_class_unchecked.Tie as tie
 
-pub same-class-spec : {M : Type 1} → statement M
-same-class-spec = tie.close (tie.spec
+pub same-class-unchecked-spec : {M : Type 1} → statement M
+same-class-unchecked-spec = tie.close (tie.spec
     -- root-unchecked-requires
     (λ c κs. let at-start = c .before .before in (string-within (at-start .pre .0) _ (at-start .pre .1 .one), roots-closed (at-start .pre .0)))
     -- root-unchecked-requires-2

@@ -5,8 +5,8 @@ use Rattle.normalize.specs.Working.Flat.{bare}
 use Rattle.wordeq.proofs.Refines.Flattening.{Flattening, flattening-end, flattening-turn, flattening-passes}
 use native.Mathlib.Omega.{arith}
 use borrow.Author.Needs.{needs}
-use Rattle.wordeq.proofs.resolving.flatten_list.Statement.{statement}
-use Rattle.wordeq.proofs.resolving.flatten_list.Tie as tie
+use Rattle.wordeq.proofs.resolving.flatten_list_unchecked.Statement.{statement}
+use Rattle.wordeq.proofs.resolving.flatten_list_unchecked.Tie as tie
 
 abbrev Inv-loop : tie.InvT-loop
 Inv-loop terms cells c l out₀ n₀ i₀ out n i = (i ≤ length l) × ((length out ≡ length out₀) × Flattening (bare terms (c .terms) cells (c .cells)) l out₀ out i n)
@@ -14,8 +14,8 @@ Inv-loop terms cells c l out₀ n₀ i₀ out n i = (i ≤ length l) × ((length
 abbrev μ-loop : tie.MeasureT-loop
 μ-loop terms cells c l out₀ n₀ i₀ out n i = length l - i
 
-pub flatten-list-spec : {M : Type 1} → statement M
-flatten-list-spec =
+pub flatten-list-unchecked-spec : {M : Type 1} → statement M
+flatten-list-unchecked-spec =
     tie.close
     (tie.spec
     Inv-loop
