@@ -30,9 +30,9 @@ extern "C" {
 #endif
 
 /* The version of this header, of the Rust crate and of CHANGELOG.md. */
-#define LABELS_VERSION "0.4.0"
+#define LABELS_VERSION "0.5.0"
 #define LABELS_VERSION_MAJOR 0
-#define LABELS_VERSION_MINOR 4
+#define LABELS_VERSION_MINOR 5
 #define LABELS_VERSION_PATCH 0
 
 /* The limits of the counts. */
@@ -59,6 +59,10 @@ extern "C" {
 #define LABELS_LIST_WORDS 1024
 #define LABELS_MARK_WORDS 1597
 
+/* The most terms that a Split makes: over two heads, and over a character. Word 3 of its answer says how many it made. */
+#define LABELS_MAX_SPLIT_TERMS 9
+#define LABELS_MAX_CHARACTER_SPLIT_TERMS 6
+
 /* The words of the state. */
 enum labels_count {
     LABELS_COUNT_TERMS = 0,
@@ -84,14 +88,16 @@ enum labels_case {
     LABELS_UNEXPANDED = 5
 };
 
-/* The other words of an answer: of Propagate the variable, its word and the link flag; of Split the count of its atoms and its guard. */
+/* The other words of an answer: of Propagate the variable, its word and the link flag; of Split the count of its atoms, its guard and how
+ * many terms it made. */
 enum labels_answer_word {
     LABELS_ANSWER_CASE = 0,
     LABELS_ANSWER_VARIABLE = 1,
     LABELS_ANSWER_WORD = 2,
     LABELS_ANSWER_LINK = 3,
     LABELS_ANSWER_ATOMS = 1,
-    LABELS_ANSWER_GUARD = 2
+    LABELS_ANSWER_GUARD = 2,
+    LABELS_ANSWER_TERMS_MADE = 3
 };
 
 /* The words of `labels_empty_parts`' answer: how many variables are listed, the number of "", the link flag. */
@@ -202,9 +208,12 @@ uint32_t labels_deep_normal_form(LABELS_WORDS(state), LABELS_WORDS(terms), LABEL
 
 /* The case stands in word 0 of the answer: 0 Done, 1 Saturated, 2 Conflict, 3 Propagate, 4 Split. Propagate puts the variable, its word and
  * the link flag into words 1 to 3; Split puts the count of its atoms, which stand first in `list`, and the negated guard as a 32-bit two's
- * complement into words 1 and 2: the clause is, not the equation (the guard's literal, negated) or one of the atoms. A Conflict and a
- * Propagate rest on the reasons below the state's count, and a Split and a Saturated of the step rest on reasons too, those of the normal
- * forms: keep them with whatever is kept of the answer. */
+ * complement into words 1 and 2: the clause is, not the equation (the guard's literal, negated) or one of the atoms. Into word 3 Split puts
+ * how many terms it made, which is how much the terms' count grew within the word equation: over two heads six, and one for each of the two
+ * lengths and their equation that was absent; over a character three, and one for each of "", its equation and the character's constant that
+ * was absent. The step's count may have grown by more, since its normal forms make constants of their own. A Conflict and a Propagate rest on
+ * the reasons below the state's count, and a Split and a Saturated of the step rest on reasons too, those of the normal forms: keep them with
+ * whatever is kept of the answer. */
 uint32_t labels_resolve_equation(LABELS_WORDS(state), LABELS_WORDS(terms), LABELS_WORDS(cells), LABELS_WORDS(chars), LABELS_WORDS(reasons),
                                  LABELS_WORDS(keys), LABELS_READ(lhs), LABELS_READ(rhs), int32_t guard, LABELS_WORDS(list),
                                  LABELS_WORDS(answer));
@@ -415,12 +424,14 @@ static inline uint32_t labels_ask(labels_store *s, LABELS_READ(known), uint32_t 
     return labels_ask_with(s, NULL, 0, known, known_len, e, guard);
 }
 
-/* What the last question answered. The guard is the one that was handed to it, negated; the atoms of a Split stand first in `list`. */
+/* What the last question answered. The guard is the one that was handed to it, negated; the atoms of a Split stand first in `list`. The guard
+ * and the terms made are those of a Split. */
 static inline uint32_t labels_answer_case(const labels_store *s) { return s->answer[LABELS_ANSWER_CASE]; }
 static inline int32_t labels_answer_guard(const labels_store *s) {
     uint32_t word = s->answer[LABELS_ANSWER_GUARD];
     return word <= 0x7FFFFFFFu ? (int32_t)word : -(int32_t)(0xFFFFFFFFu - word) - 1;
 }
+static inline uint32_t labels_answer_terms_made(const labels_store *s) { return s->answer[LABELS_ANSWER_TERMS_MADE]; }
 static inline uint32_t labels_reason_count(const labels_store *s) { return s->state[LABELS_COUNT_REASONS]; }
 static inline void labels_reason(const labels_store *s, uint32_t i, uint32_t *kind, uint32_t *number) {
     *kind = s->reasons[2 * (size_t)i];

@@ -93,10 +93,47 @@ static void asking(void) {
     HOLD(labels_store_variable(&s, "z", &y) == 0 && labels_hand_in(&s, NULL, 0) == 0);
     l[0] = y, l[1] = x, r[0] = a, r[1] = y;
     HOLD(labels_store_resolve_equation(&s, LABELS_LEND(l), LABELS_LEND(r), 7) == 0 && labels_answer_case(&s) == LABELS_SPLIT);
-    HOLD(labels_answer_guard(&s) == -7 && s.answer[LABELS_ANSWER_ATOMS] == 2);
+    HOLD(labels_answer_guard(&s) == -7 && s.answer[LABELS_ANSWER_ATOMS] == 2 && labels_answer_terms_made(&s) == 5);
     l[0] = x, l[1] = y, r[0] = y, r[1] = x;
     HOLD(labels_store_resolve_equation(&s, LABELS_LEND(l), LABELS_LEND(r), -2147483647) == 0 && labels_answer_guard(&s) == 2147483647);
     HOLD(labels_store_audit(&s) == LABELS_ACCEPTED);
+}
+
+/* A Split of two lists: it made so many terms, the count of terms grew by more where the step's forms made some, and no word of the answer
+ * after the fourth is written. The keys are not counted, so that the same heads can be split again. */
+static void split(uint32_t refusal, uint32_t before, uint32_t made, uint32_t grown) {
+    HOLD(refusal == LABELS_ACCEPTED && labels_answer_case(&s) == LABELS_SPLIT && labels_answer_terms_made(&s) == made);
+    HOLD(s.state[LABELS_COUNT_TERMS] == before + grown && s.answer[LABELS_ANSWER_TERMS_MADE + 1] == 77);
+    s.state[LABELS_COUNT_KEYS] = 0;
+}
+
+static void splitting(void) {
+    uint32_t x = 0, y = 0, a = 0, b = 0, e = 0, l[3], r[2], n;
+    labels_store_over(&s, &memory);
+    s.answer[LABELS_ANSWER_TERMS_MADE + 1] = 77;
+    HOLD(labels_store_variable(&s, "x", &x) == 0 && labels_store_variable(&s, "y", &y) == 0);
+    l[0] = r[1] = x, l[1] = r[0] = y, n = s.state[LABELS_COUNT_TERMS];
+    split(labels_store_resolve_equation(&s, l, 2, r, 2, 1), n, LABELS_MAX_SPLIT_TERMS, 9);
+    /* lengths and equation are there; with the sides exchanged the equation is another */
+    split(labels_store_resolve_equation(&s, l, 2, r, 2, 1), n + 9, 6, 6);
+    split(labels_store_resolve_equation(&s, r, 2, l, 2, 1), n + 15, 7, 7);
+    /* a character: "", x = "" and "a" are absent, then there */
+    HOLD(labels_store_constant(&s, "ab", &r[0]) == 0);
+    r[1] = y, n = s.state[LABELS_COUNT_TERMS];
+    split(labels_store_resolve_equation(&s, l, 1, r, 2, 1), n, LABELS_MAX_CHARACTER_SPLIT_TERMS, 6);
+    split(labels_store_resolve_equation(&s, l, 1, r, 2, 1), n + 6, 3, 3);
+    /* the step over x ++ "a" ++ "b" = y ++ x: the form of the left side makes "ab" */
+    labels_store_over(&s, &memory);
+    HOLD(labels_store_variable(&s, "x", &x) == 0 && labels_store_variable(&s, "y", &y) == 0);
+    HOLD(labels_store_constant(&s, "a", &a) == 0 && labels_store_constant(&s, "b", &b) == 0);
+    l[0] = r[1] = x, l[1] = a, l[2] = b, r[0] = y;
+    HOLD(labels_store_make_concatenation(&s, l, 3, &a) == 0 && labels_store_make_concatenation(&s, r, 2, &b) == 0);
+    HOLD(labels_store_make_equation(&s, a, b, &e) == 0);
+    split(labels_ask(&s, NULL, 0, e, 1), e, 9, 10);
+    /* other answers and refusals leave the word alone */
+    s.answer[LABELS_ANSWER_TERMS_MADE] = 78;
+    HOLD(labels_store_resolve_equation(&s, l, 3, l, 3, 1) == 0 && labels_answer_case(&s) == LABELS_DONE);
+    HOLD(labels_store_resolve_equation(&s, l, 1, r, 2, 0) == LABELS_REFUSED_ARGUMENT && labels_answer_terms_made(&s) == 78);
 }
 
 /* Two variables of one class and a third against an empty list, and lists of another form. */
@@ -138,6 +175,7 @@ int main(void) {
     making();
     joining();
     asking();
+    splitting();
     emptying();
     small();
     for (i = 0; i <= 11; i++)

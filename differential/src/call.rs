@@ -150,7 +150,7 @@ impl Outcome {
             Call::EmptyParts { .. } => (3, word(0)),
             Call::ResolveEquation { .. } | Call::Step { .. } => match self.answer[0] {
                 PROPAGATE => (4, 0),
-                SPLIT => (3, word(1)),
+                SPLIT => (4, word(1)),
                 _ => (1, 0),
             },
             _ => (1, 0),

@@ -381,6 +381,38 @@ pub fn hand_in(random: &mut Random, d: &mut Draft) {
     }
 }
 
+/// In one store of three, terms that a Split looks for, so that it makes fewer: "", equations of variables with it, constants of one character,
+/// lengths of variables and equations between these.
+pub fn lay_ahead(random: &mut Random, d: &mut Draft) {
+    if !random.one_in(3) {
+        return;
+    }
+    let variables: Vec<u32> = d.strings().into_iter().filter(|&t| matches!(d.spec(t), Spec::Variable(_))).take(8).collect();
+    let firsts: HashSet<u32> = d.specs.iter().filter_map(|s| if let Spec::Constant(w) = s { w.first().copied() } else { None }).collect();
+    let mut firsts: Vec<u32> = firsts.into_iter().collect();
+    firsts.sort_unstable();
+    let empty = d.constant("");
+    for c in firsts {
+        d.add(Spec::Constant(vec![c]));
+    }
+    let mut lengths = vec![];
+    for &v in &variables {
+        if random.one_in(2) {
+            d.add(Spec::Equation(v, empty));
+        }
+        if !random.one_in(4) {
+            lengths.push(d.add(Spec::Length(v)));
+        }
+    }
+    for &a in &lengths {
+        for &b in &lengths {
+            if a != b && random.one_in(2) {
+                d.add(Spec::Equation(a, b));
+            }
+        }
+    }
+}
+
 /// The inputs that cost most time: a name, a store that passes the audit, and a call.
 pub fn worst() -> Vec<(&'static str, Lent, Call)> {
     let resolve = |lhs: Vec<u32>, rhs: Vec<u32>| Call::ResolveEquation { lhs, rhs, guard: 1 };

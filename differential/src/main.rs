@@ -124,6 +124,10 @@ struct Tally {
     /// the same, but refused under another number
     seven_otherwise: u64,
     held_back: u64,
+    /// Splits over a character and over two heads, by how many terms they made
+    made: [[u64; 10]; 2],
+    /// Splits of a step whose normal forms made terms too
+    forms_made: u64,
     stood: u64,
     untried: u64,
     differences: u64,
@@ -143,6 +147,8 @@ impl Tally {
         sum(&mut self.seven, &other.seven);
         self.seven_otherwise += other.seven_otherwise;
         self.held_back += other.held_back;
+        self.made.iter_mut().zip(&other.made).for_each(|(a, b)| sum(a, b));
+        self.forms_made += other.forms_made;
         self.stood += other.stood;
         self.untried += other.untried;
         self.differences += other.differences;
@@ -169,6 +175,24 @@ impl Tally {
             }
         }
         self.held_back += a.once.held_back as u64;
+    }
+
+    fn met_split(&mut self, s: &Lent, call: &Call, outcome: &Outcome) {
+        let split = matches!(call, Call::ResolveEquation { .. } | Call::Step { .. }) && outcome.code == 0 && outcome.answer[0] == SPLIT;
+        if split {
+            let made = outcome.answer[3];
+            self.made[(outcome.answer[1] == 3) as usize][made as usize] += 1;
+            self.forms_made += (outcome.exit.state[0] - s.state[0] > made) as u64;
+        }
+    }
+
+    fn print_made(&self) {
+        let each = |n: &[u64; 10]| n.iter().enumerate().filter(|x| *x.1 > 0).map(|(i, n)| format!("{i}: {n}")).collect::<Vec<_>>().join(" ");
+        let [character, heads] = self.made.each_ref().map(each);
+        println!(
+            "Splits by the terms that they made, over a character {character}, over two heads {heads}; {} of steps whose forms made terms too",
+            self.forms_made
+        );
     }
 
     fn print_once(&self) {
@@ -229,6 +253,7 @@ fn draft(i: u64, random: &mut Random) -> Draft {
         let p = generate::profile(random);
         let mut d = generate::draft(random, p);
         generate::hand_in(random, &mut d);
+        generate::lay_ahead(random, &mut d);
         d
     }
 }
@@ -284,6 +309,7 @@ fn compare(o: &Options) -> Tally {
             tally.occurrence += a.departures.occurrence as u64;
             tally.forced += a.departures.forced as u64;
             tally.met_once(&r.call, &a);
+            tally.met_split(&s, &r.call, &a.outcome);
             if let Some(what) = difference(&s, &r, &a.outcome, &got) {
                 tally.differences += 1;
                 if tally.differences <= PRINTED {
@@ -294,6 +320,7 @@ fn compare(o: &Options) -> Tally {
     });
     tally.print_calls();
     tally.print_once();
+    tally.print_made();
     let c = &tally.codes;
     println!(
         "{} calls compared, {} that the port lacks; refused before work: {} {} {} {} {} (1 to 5); departures met: {} (A: {} no Conflict, {} occurrence explained; B: {}); limits met: {} ({} {} {} {}, 6 to 9); {} differences",

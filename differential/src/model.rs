@@ -1,4 +1,4 @@
-//! The port's calls once more, written from document 01 and document 02's Notes 3 and 4 alone, departures and limits included. It shares no code
+//! The port's calls once more, written from document 01 and document 02's Notes 3 to 5 alone, departures and limits included. It shares no code
 //! with the unchanged Rust or with the oracle but the argument checks, so that a difference between the two shows where the documents and
 //! the Rust part, and the comparison can be tried where the port's library is not at hand.
 
@@ -37,7 +37,8 @@ enum Case {
     Saturated,
     Conflict,
     Propagate(u32, u32, bool),
-    Split(Vec<u32>),
+    /// the atoms, and how many terms were made
+    Split(Vec<u32>, u32),
 }
 
 impl Model {
@@ -106,16 +107,23 @@ impl Model {
     }
 
     // a length or an equation
-    fn make(&mut self, kind: u32, first: u32, second: u32) -> Work<u32> {
-        let there = self.lowest(|t| {
+    fn of_words(&self, kind: u32, first: u32, second: u32) -> Option<u32> {
+        self.lowest(|t| {
             let r = self.s.term(t);
             (r.kind, r.first, r.second) == (kind, first, second)
-        });
-        there.map_or_else(|| self.append(kind, first, second), Ok)
+        })
+    }
+
+    fn make(&mut self, kind: u32, first: u32, second: u32) -> Work<u32> {
+        self.of_words(kind, first, second).map_or_else(|| self.append(kind, first, second), Ok)
+    }
+
+    fn of_text(&self, kind: u32, text: &[u32]) -> Option<u32> {
+        self.lowest(|t| self.s.kind(t) == kind && self.s.text(t) == text)
     }
 
     fn make_text(&mut self, kind: u32, text: &[u32]) -> Work<u32> {
-        if let Some(t) = self.lowest(|t| self.s.kind(t) == kind && self.s.text(t) == text) {
+        if let Some(t) = self.of_text(kind, text) {
             return Ok(t);
         }
         self.has_room(2, text.len(), 8)?;
@@ -149,7 +157,7 @@ impl Model {
             }
             self.s.state[5] = n + 1;
             let name: Vec<u32> = format!("!strk{n}").chars().map(u32::from).collect();
-            if self.lowest(|t| self.s.kind(t) == VARIABLE && self.s.text(t) == name).is_none() {
+            if self.of_text(VARIABLE, &name).is_none() {
                 return self.make_variable(&name);
             }
         }
@@ -314,7 +322,7 @@ impl Model {
             Case::Saturated => (vec![SATURATED], vec![]),
             Case::Conflict => (vec![CONFLICT], vec![]),
             Case::Propagate(v, w, link) => (vec![PROPAGATE, v, w, link as u32], vec![]),
-            Case::Split(atoms) => (vec![SPLIT, atoms.len() as u32, (-guard) as u32], atoms),
+            Case::Split(atoms, made) => (vec![SPLIT, atoms.len() as u32, (-guard) as u32, made], atoms),
         })
     }
 
@@ -520,17 +528,26 @@ impl Model {
     fn split(&mut self, a: u32, b: u32) -> Work<Case> {
         for (v, c) in [(a, b), (b, a)] {
             if !self.is_constant(v) && self.is_constant(c) && !self.s.text(c).is_empty() {
+                // 'three, plus one for each of the empty constant, its equation and the character constant that was absent'
+                let mut made = 3;
                 let first = self.s.text(c)[0];
+                made += absent(self.of_text(CONSTANT, &[]));
                 let empty = self.make_constant(&[])?;
+                made += absent(self.of_words(EQUATION, v, empty));
                 let v_empty = self.make(EQUATION, v, empty)?;
+                made += absent(self.of_text(CONSTANT, &[first]));
                 let ch = self.make_constant(&[first])?;
                 let z = self.fresh()?;
                 let joined = self.make_concatenation(&[ch, z])?;
-                return Ok(Case::Split(vec![v_empty, self.make(EQUATION, v, joined)?]));
+                return Ok(Case::Split(vec![v_empty, self.make(EQUATION, v, joined)?], made));
             }
         }
+        // 'six terms, plus one for each of the two lengths and their equation that was absent'
+        let mut made = 6 + absent(self.of_words(LENGTH, a, 0));
         let la = self.make(LENGTH, a, 0)?;
+        made += absent(self.of_words(LENGTH, b, 0));
         let lb = self.make(LENGTH, b, 0)?;
+        made += absent(self.of_words(EQUATION, la, lb));
         let equal = self.make(EQUATION, la, lb)?;
         let z1 = self.fresh()?;
         let bz = self.make_concatenation(&[b, z1])?;
@@ -538,6 +555,10 @@ impl Model {
         let z2 = self.fresh()?;
         let az = self.make_concatenation(&[a, z2])?;
         let b_is = self.make(EQUATION, b, az)?;
-        Ok(Case::Split(vec![equal, a_is, b_is]))
+        Ok(Case::Split(vec![equal, a_is, b_is], made))
     }
+}
+
+fn absent(there: Option<u32>) -> u32 {
+    there.is_none() as u32
 }

@@ -364,7 +364,10 @@ fn deep(w: &mut World, known: &[TermId], t: TermId) -> Option<Vec<TermId>> {
     normalize::deep_normal_form_with_reasons(&mut w.terms, &mut w.eq, known, t, &mut w.reasons)
 }
 
+/// The Rust's Split has no number of terms made: it is how much its arena grew within the call, so that terms of the normal forms, which are made
+/// before, are left out.
 fn answered(w: &mut World, lhs: &[TermId], rhs: &[TermId], guard: i32, mode: Mode, incoming: usize) -> Words {
+    let before = w.terms.count();
     let result = resolve(w, lhs, rhs, Lit::new(guard), mode);
     let mut list = vec![];
     let answer = match result {
@@ -380,7 +383,7 @@ fn answered(w: &mut World, lhs: &[TermId], rhs: &[TermId], guard: i32, mode: Mod
         }
         StepResult::Split { atoms, guard } => {
             list = numbers(&atoms);
-            vec![SPLIT, atoms.len() as u32, guard.number() as u32]
+            vec![SPLIT, atoms.len() as u32, guard.number() as u32, w.terms.count() - before]
         }
     };
     w.reasons.truncate(incoming);

@@ -219,7 +219,13 @@ fn printed(entry: &Lent, call: &Call, o: &Outcome) -> String {
         }
         _ => {
             let [terms, cells, chars, _, keys, names] = s.state[..] else { panic!("a state of six words") };
-            format!(": {}, {}, {terms} {cells} {chars} {keys} {names}{}", case(o), reasons(s), made(entry, s))
+            let line = format!(": {}, {}, {terms} {cells} {chars} {keys} {names}{}", case(o), reasons(s), made(entry, s));
+            // a line of its own
+            if o.answer[0] == SPLIT {
+                format!("{line}\n made {}", o.answer[3])
+            } else {
+                line
+            }
         }
     }
 }

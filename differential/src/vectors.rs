@@ -45,7 +45,7 @@ impl Tally {
     }
 
     pub fn summary(&self, files: &[File]) -> String {
-        let calls: usize = files.iter().map(|f| f.printed.lines().filter(|line| !line.starts_with('#')).count()).sum();
+        let calls: usize = files.iter().map(|f| f.printed.lines().filter(|line| !line.starts_with(['#', ' '])).count()).sum();
         format!(
             "{calls} calls on {} stores; left out: {} where departure A applies, {} where B does, {} refused for an argument, {} refused at a limit in a file that is not of limits",
             self.stores, self.departing[0], self.departing[1], self.arguments, self.limited
@@ -87,7 +87,7 @@ pub fn draw(seed: u64, count: u64) -> (Vec<File>, Tally) {
 }
 
 /// Cases that are to be there, each as the start of a case's name.
-const DUE: [&str; 68] = [
+const DUE: [&str; 80] = [
     "find: root, 0",
     "find: root, 1",
     "find: root, 3",
@@ -105,15 +105,27 @@ const DUE: [&str; 68] = [
     "resolve_equation: conflict",
     "resolve_equation: propagate,",
     "resolve_equation: propagate with the link flag",
-    "resolve_equation: split of 2",
-    "resolve_equation: split of 3",
+    "resolve_equation: split of 2, 3 made",
+    "resolve_equation: split of 2, 4 made",
+    "resolve_equation: split of 2, 5 made",
+    "resolve_equation: split of 2, 6 made",
+    "resolve_equation: split of 3, 6 made",
+    "resolve_equation: split of 3, 7 made",
+    "resolve_equation: split of 3, 8 made",
+    "resolve_equation: split of 3, 9 made",
     "step: done",
     "step: saturated",
     "step: conflict",
     "step: propagate,",
     "step: propagate with the link flag",
-    "step: split of 2",
-    "step: split of 3",
+    "step: split of 2, 3 made",
+    "step: split of 2, 4 made",
+    "step: split of 2, 5 made",
+    "step: split of 2, 6 made",
+    "step: split of 3, 6 made",
+    "step: split of 3, 7 made",
+    "step: split of 3, 8 made",
+    "step: split of 3, 9 made",
     "step: unexpanded",
     "nf_equal: true",
     "nf_equal: false",
@@ -178,12 +190,18 @@ fn seen(d: &Draft) -> bool {
 }
 
 fn small(random: &mut Random) -> Script {
+    small_with(random, |_, _| {})
+}
+
+// with terms that are laid behind those drawn
+fn small_with(random: &mut Random, more: impl Fn(&mut Random, &mut Draft)) -> Script {
     let p =
         Profile { terms: random.between(2, 23), merges: random.below(14), letters: random.between(1, 3), longest: random.between(1, 4) };
     let mut d = generate::draft(random, p);
     while !seen(&d) {
         d = generate::draft(random, p);
     }
+    more(random, &mut d);
     Script::of(&lay_out(&d), random.one_in(2))
 }
 
@@ -209,7 +227,7 @@ fn answer(call: &Call, o: &Outcome) -> String {
     format!("{}: {answer}", call.name())
 }
 
-/// The same with what the call goes over, and whether reasons and terms were added.
+/// The same with how many terms a Split made, what the call goes over, and whether reasons and terms were added.
 fn case(s: &Lent, call: &Call, o: &Outcome) -> String {
     let over = match call {
         Call::Find { t } => format!(", {} up", class_path(s, *t).min(3)),
@@ -219,8 +237,12 @@ fn case(s: &Lent, call: &Call, o: &Outcome) -> String {
         Call::ResolveEquation { lhs, rhs, .. } if lhs.iter().chain(rhs).any(|&t| s.kind(t) == CONCATENATION) => ", flattened".into(),
         _ => String::new(),
     };
+    let made = match call {
+        Call::ResolveEquation { .. } | Call::Step { .. } if o.answer[0] == SPLIT => format!(", {} made", o.answer[3]),
+        _ => String::new(),
+    };
     let added = |i: usize, what: &'static str| if o.exit.state[i] > s.state[i] { what } else { "" };
-    format!("{}{over}{}{}", answer(call, o), added(3, ", reasons"), added(0, ", terms"))
+    format!("{}{made}{over}{}{}", answer(call, o), added(3, ", reasons"), added(0, ", terms"))
 }
 
 // class parents from t to its root
@@ -282,7 +304,8 @@ impl Drawing {
     }
 
     fn of_kind(&mut self, random: &mut Random, kind: usize, count: u64) {
-        let mut script = small(random);
+        // calls that split: so that they make fewer terms too
+        let mut script = if matches!(kind, 10 | 11) { small_with(random, generate::lay_ahead) } else { small(random) };
         for _ in 0..CALLS {
             let call = generate::call(random, &script.store, kind);
             let Some(o) = self.finished(&script.store, &call) else { continue };

@@ -1,4 +1,4 @@
-//! Document 01's label cases and its example of the program: the port's answers held to the unchanged Rust's with the departures on top, and
+//! Document 01's label cases and its example of the program, and document 02's Notes 4 and 5 on their smallest inputs: the port's answers held to the unchanged Rust's with the departures on top, and
 //! these to document 01 written anew. Without the feature `port` the port is left out.
 
 use differential::{
@@ -37,7 +37,7 @@ fn starred() {
         d.merge(p, q, Label::Asserted(n));
         d
     };
-    let split = |atoms: u32| (vec![SPLIT, atoms, -9i32 as u32], vec![]);
+    let split = |atoms: u32| (vec![SPLIT, atoms, -9i32 as u32, 9], vec![]);
     assert_eq!(resolve(&d, &[], &[]), (vec![DONE], vec![]));
     assert_eq!(resolve(&d, &[a, x], &[ab, y]), (vec![DONE], vec![]));
     assert_eq!(resolve(&merged(u, v, 5), &[v], &[a, u, b]), (vec![CONFLICT], vec![(1, 5)]));
@@ -97,7 +97,7 @@ fn each_reason_once() {
     assert_eq!(resolve(&d, &[x, empty], &[y, x, x]), (vec![SATURATED], vec![]));
     d.reasons = vec![a1];
     assert_eq!(resolve(&d, &[x, empty], &[y, x, x]), (vec![SATURATED], vec![a1]));
-    assert_eq!(resolve(&d, &[x, empty], &[x, y, y]), (vec![SPLIT, 3, -9i32 as u32], vec![a1]));
+    assert_eq!(resolve(&d, &[x, empty], &[x, y, y]), (vec![SPLIT, 3, -9i32 as u32, 9], vec![a1]));
 }
 
 // a match by definitional merges alone has no reason, so that a Split follows
@@ -107,7 +107,95 @@ fn no_reason_of_its_own() {
     let [x, y] = ["x", "y"].map(|n| d.variable(n));
     let empty = d.constant("");
     d.merge(x, y, Label::Definitional);
-    assert_eq!(resolve(&d, &[x, empty], &[y, x, x]), (vec![SPLIT, 3, -9i32 as u32], vec![]));
+    assert_eq!(resolve(&d, &[x, empty], &[y, x, x]), (vec![SPLIT, 3, -9i32 as u32, 9], vec![]));
+}
+
+// document 02's Note 5: the number of a Split, and by how much the store has more terms
+fn made(d: &Draft, call: Call) -> (u32, u32) {
+    let s = lay_out(d);
+    let o = run(&s, call);
+    assert_eq!(o.answer[0], SPLIT);
+    (o.answer[3], o.exit.count() - s.count())
+}
+
+fn made_by(d: &Draft, lhs: &[u32], rhs: &[u32]) -> u32 {
+    let (number, grown) = made(d, Call::ResolveEquation { lhs: lhs.to_vec(), rhs: rhs.to_vec(), guard: 9 });
+    assert_eq!(number, grown);
+    number
+}
+
+// 'six terms, plus one for each of the two lengths and their equation that was absent'
+#[test]
+fn terms_of_a_split_over_heads() {
+    let mut none = Draft::default();
+    let [x, y] = ["x", "y"].map(|n| none.variable(n));
+    let empty = none.constant("");
+    let heads = |d: &Draft| made_by(d, &[x, y], &[y, x]);
+    // lengths of these terms, then an equation between two of the lengths
+    let with = |lengths: &[u32], equation: Option<(usize, usize)>| {
+        let mut d = none.clone();
+        let l: Vec<u32> = lengths.iter().map(|&t| d.add(Spec::Length(t))).collect();
+        equation.map(|(a, b)| d.add(Spec::Equation(l[a], l[b])));
+        d
+    };
+    assert_eq!(heads(&none), 9);
+    assert_eq!(heads(&with(&[x], None)), 8);
+    assert_eq!(heads(&with(&[y], None)), 8);
+    assert_eq!(heads(&with(&[x, y], None)), 7);
+    assert_eq!(heads(&with(&[x, y], Some((1, 0)))), 7);
+    assert_eq!(heads(&with(&[x, y], Some((0, 1)))), 6);
+    assert_eq!(made_by(&with(&[x, y], Some((0, 1))), &[y, x], &[x, y]), 7);
+    // the lowest record decides
+    assert_eq!(heads(&with(&[x, x, y], Some((1, 2)))), 7);
+    assert_eq!(heads(&with(&[x, x, y], Some((0, 2)))), 6);
+    // a head "" against a variable is a split over two heads
+    assert_eq!(made_by(&none, &[empty, y], &[x, x]), 9);
+    assert_eq!(made_by(&with(&[empty, x], Some((0, 1))), &[empty, y], &[x, x]), 6);
+}
+
+// 'three, plus one for each of the empty constant, its equation and the character constant that was absent'
+#[test]
+fn terms_of_a_split_over_a_character() {
+    let mut none = Draft::default();
+    let [x, y] = ["x", "y"].map(|n| none.variable(n));
+    let ab = none.constant("ab");
+    let with = |words: &[&str], equation: Option<(u32, usize)>| {
+        let mut d = none.clone();
+        let l: Vec<u32> = words.iter().map(|w| d.constant(w)).collect();
+        equation.map(|(v, at)| d.add(Spec::Equation(v, l[at])));
+        d
+    };
+    for (words, equation, number) in [
+        (&[][..], None, 6),
+        (&[""][..], None, 5),
+        (&["a"][..], None, 5),
+        (&["", "a"][..], None, 4),
+        (&[""][..], Some((x, 0)), 4),
+        (&["", "a"][..], Some((x, 0)), 3),
+        (&["", "a"][..], Some((y, 0)), 4),
+        (&["", "", "a"][..], Some((x, 1)), 4),
+        (&["b", "ab"][..], None, 6),
+    ] {
+        let d = with(words, equation);
+        assert_eq!(made_by(&d, &[x], &[ab, y]), number);
+        assert_eq!(made_by(&d, &[ab, y], &[x]), number);
+    }
+    let mut d = with(&["", "a"], None);
+    d.add(Spec::Equation(ab + 1, x));
+    assert_eq!(made_by(&d, &[x], &[ab, y]), 4);
+}
+
+// 'terms of the normal forms left out': x ++ "a" ++ "b" = y ++ x, whose left form makes "ab"
+#[test]
+fn terms_of_a_split_in_the_step() {
+    let mut d = Draft::default();
+    let (x, y, a, b) = (d.variable("x"), d.variable("y"), d.constant("a"), d.constant("b"));
+    let (l, r) = (d.concat(&[x, a, b]), d.concat(&[y, x]));
+    let equation = d.add(Spec::Equation(l, r));
+    assert_eq!(made(&d, Call::Step { known: vec![], equation, guard: 9 }), (9, 10));
+    let aby = d.concat(&[a, b, y]);
+    let equation = d.add(Spec::Equation(x, aby));
+    assert_eq!(made(&d, Call::Step { known: vec![], equation, guard: 9 }), (5, 6));
 }
 
 // 256 and 257 atoms after the first form, after a round, and just after an atom's expansion

@@ -1,7 +1,7 @@
-//! Document 01 and document 02's Note 4, written anew, against the unchanged Rust with the departures laid on top.
+//! Document 01 and document 02's Notes 4 and 5, written anew, against the unchanged Rust with the departures laid on top.
 
 use differential::{
-    call::{Call, NAMES},
+    call::{Call, NAMES, SPLIT},
     compare::difference,
     draft::lay_out,
     generate, model,
@@ -10,13 +10,14 @@ use differential::{
 };
 
 // the results, the cases of wordeq and of the step, the departures met, calls answered that were refused under 7 if reasons were repeated,
-// and Splits held back by reasons that were listed already
+// Splits held back by reasons that were listed already, and Splits by the terms that they made, over a character and over two heads
 #[derive(Default)]
 struct Met {
     codes: [u32; 10],
     cases: [u32; 6],
     departures: [u32; 3],
     once: [u32; 2],
+    made: [[u32; 4]; 2],
 }
 
 fn compare(seed: u64, count: usize, limits: bool) -> Met {
@@ -29,6 +30,7 @@ fn compare(seed: u64, count: usize, limits: bool) -> Met {
             let p = generate::profile(&mut random);
             let mut d = generate::draft(&mut random, p);
             generate::hand_in(&mut random, &mut d);
+            generate::lay_ahead(&mut random, &mut d);
             d
         };
         let s = lay_out(&d);
@@ -43,6 +45,10 @@ fn compare(seed: u64, count: usize, limits: bool) -> Met {
             met.codes[a.outcome.code as usize] += 1;
             if a.outcome.code == 0 && matches!(r.call, Call::ResolveEquation { .. } | Call::Step { .. }) {
                 met.cases[a.outcome.answer[0] as usize] += 1;
+                if a.outcome.answer[0] == SPLIT {
+                    let heads = a.outcome.answer[1] as usize - 2;
+                    met.made[heads][a.outcome.answer[3] as usize - [3, 6][heads]] += 1;
+                }
             }
             met.once[0] += (a.once.seven && a.outcome.code == 0) as u32;
             met.once[1] += a.once.held_back as u32;
@@ -59,8 +65,8 @@ fn compare(seed: u64, count: usize, limits: bool) -> Met {
 #[test]
 fn random_stores() {
     let met = compare(3, 4_000, false);
-    let all = [&met.codes[5..6], &met.codes[7..], &met.cases, &met.departures, &met.once].concat();
-    let met = (met.codes, met.cases, met.departures, met.once);
+    let all = [&met.codes[5..6], &met.codes[7..], &met.cases, &met.departures, &met.once, &met.made.concat()].concat();
+    let met = (met.codes, met.cases, met.departures, met.once, met.made);
     assert!(met.0[0] > 0 && all.iter().all(|&n| n > 0), "{met:?}");
 }
 

@@ -229,9 +229,11 @@ impl EmptyParts {
 /// store.join(x, y, Reason::Asserted(9))?;
 /// // u ++ w = w ++ u is what is left, and that it is left rests on a9
 /// match store.step(&[x, y, u, w], equation, 2)? {
-///     Answer::Split { atoms, guard, reasons } => {
+///     Answer::Split { atoms, guard, terms_made, reasons } => {
 ///         assert_eq!(store.display(atoms[0]).to_string(), "len(u) = len(w)");
 ///         assert_eq!((guard, reasons), (-2, vec![Reason::Asserted(9)]));
+///         // the lengths of u and w and their equation, and six more
+///         assert_eq!(terms_made, 9);
 ///     }
 ///     other => panic!("{other:?}"),
 /// }
@@ -271,6 +273,10 @@ pub enum Answer {
         atoms: Vec<Term>,
         /// the guard that was handed in, negated
         guard: i32,
+        /// how many terms the Split made, at most [`SPLIT_TERMS`](crate::SPLIT_TERMS): over two heads six, and one for each of the two lengths
+        /// and their equation that was absent; over a character three, and one for each of "", its equation and the character's constant that
+        /// was absent. Of the step the terms of the normal forms are left out
+        terms_made: u32,
         /// of the step those of the normal forms
         reasons: Vec<Reason>,
     },
@@ -304,7 +310,9 @@ pub(crate) fn answered_case(answer: &[u32; 8], list: &[u32], reasons: Vec<Reason
         1 => Answer::Saturated { reasons },
         2 => Answer::Conflict { reasons },
         3 if answer[3] <= 1 => Answer::Propagate { variable: answer[1], word: answer[2], link: answer[3] == 1, reasons },
-        4 => Answer::Split { atoms: first(list, answer[1])?, guard: answer[2] as i32, reasons },
+        4 if (3..=9).contains(&answer[3]) => {
+            Answer::Split { atoms: first(list, answer[1])?, guard: answer[2] as i32, terms_made: answer[3], reasons }
+        }
         5 => Answer::Unexpanded,
         n => return Err(Refusal::UnknownAnswer(n)),
     })
@@ -324,9 +332,15 @@ mod tests {
         let case = |answer| answered_case(&answer, &[7, 8], vec![Reason::Asserted(3)]);
         assert_eq!(case([6, 1, 0, 0, 0, 0, 0, 0]), Err(Refusal::UnknownAnswer(6)));
         assert_eq!(case([3, 1, 2, 9, 0, 0, 0, 0]), Err(Refusal::UnknownAnswer(3)));
-        assert_eq!(case([4, 3, 1, 0, 0, 0, 0, 0]), Err(Refusal::UnknownAnswer(3)));
-        let split = Answer::Split { atoms: vec![7, 8], guard: -1, reasons: vec![Reason::Asserted(3)] };
-        assert_eq!(case([4, 2, u32::MAX, 0, 0, 0, 0, 0]), Ok(split));
+        assert_eq!(case([4, 3, 1, 6, 0, 0, 0, 0]), Err(Refusal::UnknownAnswer(3)));
+        let split = |terms_made| Answer::Split { atoms: vec![7, 8], guard: -1, terms_made, reasons: vec![Reason::Asserted(3)] };
+        for made in [3, 9] {
+            assert_eq!(case([4, 2, u32::MAX, made, 0, 0, 0, 0]), Ok(split(made)));
+        }
+        // a library that does not count the terms leaves the word as it was
+        for made in [0, 2, 10] {
+            assert_eq!(case([4, 2, u32::MAX, made, 0, 0, 0, 0]), Err(Refusal::UnknownAnswer(4)));
+        }
         assert_eq!(Form::of(&[2, 0, 0, 0, 0, 0, 0, 0], &[], vec![]), Err(Refusal::UnknownAnswer(2)));
         assert_eq!(Form::of(&[1, 1, 0, 0, 0, 0, 0, 0], &[], vec![]), Err(Refusal::UnknownAnswer(1)));
         assert_eq!(outcome(11), Err(Refusal::Other(11)));

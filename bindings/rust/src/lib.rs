@@ -48,7 +48,7 @@ use std::fmt;
 /// The version of this crate, of `labels.h` and of the changelog.
 ///
 /// ```
-/// assert_eq!(labels::VERSION, "0.4.0");
+/// assert_eq!(labels::VERSION, "0.5.0");
 /// ```
 pub const VERSION: &str = env!("CARGO_PKG_VERSION");
 
@@ -86,6 +86,18 @@ pub const REASONS: usize = 4096;
 /// assert_eq!(labels::Store::new().keys.len(), 2 * labels::KEYS);
 /// ```
 pub const KEYS: usize = 4096;
+
+/// How many terms a Split makes at most: so many over two heads, six over a character. [`Answer::Split`] has how many it made.
+///
+/// ```
+/// use labels::{Answer, SPLIT_TERMS};
+/// let mut store = labels::Store::new();
+/// let (x, y) = (store.variable("x")?, store.variable("y")?);
+/// let Answer::Split { terms_made, .. } = store.resolve_equation(&[x, y], &[y, x], 1)? else { panic!() };
+/// assert_eq!(terms_made as usize, SPLIT_TERMS);
+/// # Ok::<(), labels::Refusal>(())
+/// ```
+pub const SPLIT_TERMS: usize = 9;
 
 /// How many terms a list has at most, one that is handed in or one that is answered.
 ///

@@ -91,7 +91,7 @@ fn every_answer_carries_its_reasons() {
     s.join(x, y, Reason::Asserted(9)).unwrap();
     let known = [x, y, u, w, lhs, rhs];
     let split = s.step(&known, e, 2).unwrap();
-    assert!(matches!(&split, Answer::Split { atoms, guard: -2, .. } if atoms.len() == 3));
+    assert!(matches!(&split, Answer::Split { atoms, guard: -2, terms_made: 9, .. } if atoms.len() == 3));
     assert_eq!(split.reasons(), [Reason::Asserted(9)]);
     let saturated = s.step(&known, e, 2).unwrap();
     assert_eq!(saturated, Answer::Saturated { reasons: vec![Reason::Asserted(9)] });

@@ -82,13 +82,50 @@ fn word_equations() {
     assert_eq!(s.resolve_equation(&[v], &[a, u, b], 1), Ok(Answer::Conflict { reasons: vec![Reason::Asserted(5)] }));
     // x = "" or x = "a" ++ !strk0
     match s.resolve_equation(&[x, v], &[a, x], 7) {
-        Ok(Answer::Split { atoms, guard: -7, reasons }) => assert_eq!((atoms.len(), reasons), (2, vec![])),
+        Ok(Answer::Split { atoms, guard: -7, terms_made: 5, reasons }) => assert_eq!((atoms.len(), reasons), (2, vec![])),
         other => panic!("{other:?}"),
     }
     assert_eq!(s.resolve_equation(&[x, v], &[a, x], 7), Ok(Answer::Saturated { reasons: vec![] }));
-    let split = Answer::Split { atoms: vec![13, 16, 19], guard: 3, reasons: vec![] };
+    let split = Answer::Split { atoms: vec![13, 16, 19], guard: 3, terms_made: 9, reasons: vec![] };
     assert_eq!(s.resolve_equation(&[v, x], &[x, v], -3), Ok(split));
     assert_eq!(s.audit(), Ok(()));
+}
+
+/// A Split's number and by how much the store has more terms after it. The keys are not counted, so that the same heads can be split again.
+fn made(s: &mut Store, ask: impl FnOnce(&mut Store) -> Result<Answer, Refusal>) -> (u32, u32) {
+    let before = s.state[0];
+    match ask(s) {
+        Ok(Answer::Split { terms_made, .. }) => {
+            s.state[4] = 0;
+            (terms_made, s.state[0] - before)
+        }
+        other => panic!("{other:?}"),
+    }
+}
+
+#[test]
+fn terms_that_a_split_makes() {
+    let mut s = Store::new();
+    let (x, y) = (s.variable("x").unwrap(), s.variable("y").unwrap());
+    let heads = |s: &mut Store| made(s, |s| s.resolve_equation(&[x, y], &[y, x], 1));
+    assert_eq!(heads(&mut s), (9, 9));
+    // the lengths and their equation are there; len y = len x is not
+    assert_eq!(heads(&mut s), (6, 6));
+    assert_eq!(made(&mut s, |s| s.resolve_equation(&[y, x], &[x, y], 1)), (7, 7));
+    let mut s = Store::new();
+    let (x, y, ab) = (s.variable("x").unwrap(), s.variable("y").unwrap(), s.constant("ab").unwrap());
+    let lengths = (s.length(y).unwrap(), s.length(x).unwrap());
+    s.equation(lengths.0, lengths.1).unwrap();
+    assert_eq!(made(&mut s, |s| s.resolve_equation(&[x, y], &[y, x], 1)), (7, 7));
+    let character = |s: &mut Store| made(s, |s| s.resolve_equation(&[x], &[ab, y], 1));
+    assert_eq!(character(&mut s), (6, 6));
+    assert_eq!(character(&mut s), (3, 3));
+    // the form of x ++ "a" ++ "b" makes a constant of its own
+    let mut s = Store::new();
+    let (x, y, a, b) = (s.variable("x").unwrap(), s.variable("y").unwrap(), s.constant("a").unwrap(), s.constant("b").unwrap());
+    let (lhs, rhs) = (s.concatenation(&[x, a, b]).unwrap(), s.concatenation(&[y, x]).unwrap());
+    let e = s.equation(lhs, rhs).unwrap();
+    assert_eq!(made(&mut s, |s| s.step(&[], e, 1)), (9, 10));
 }
 
 #[test]

@@ -55,6 +55,8 @@
 // after the call, and the texts of the constants made. What a form made is not counted from then on. For resolve_equation and the step: the
 // case with its values (the variable, the word and the link flag; the count of atoms, the atoms and the guard), the reasons, the counts
 // of terms, cells, characters and keys, the name counter, and each term made, a concatenation as t+u, a length as |t|, an equation as t=u.
+// After a Split a line of its own, which begins with a space, has the number of terms that it says it made; the step's normal forms may have
+// made others.
 // For empty_parts: the count of variables and the variables, the number of "" and the link flag, then the same.
 // For join, set_mark and go_back: the number answered, and how many marks and joins are counted from then on. A term's class words stand
 // as (t class-parent forest-parent label-kind label-value stamp), a recorded join as (child old-root class-root) after the marks' counts.

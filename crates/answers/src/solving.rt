@@ -84,9 +84,11 @@ fn say_answer(
             say_propagate(v, w, link);
             say_store(b"", terms, cells, chars, reasons, c, d)
         }
-        StepResult::Split(d, n, g) => {
+        StepResult::Split(d, n, g, k) => {
             say_split(list, n, g);
-            say_store(b"", terms, cells, chars, reasons, c, d)
+            let e = say_store(b"", terms, cells, chars, reasons, c, d);
+            say(b"\n made ", k);
+            e
         }
         StepResult::Refused(k) => {
             say(b": refused ", k);

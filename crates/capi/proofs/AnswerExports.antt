@@ -3,12 +3,12 @@ use mathlib.Core.Path.{_≡_, refl, sym, ap, subst, _∙_}
 use mathlib.Core.Bool.{Bool, true, false, _&&_}
 use mathlib.Core.List.{List, [], _∷_}
 use mathlib.Core.Logic.{⊎-elim}
-use Prim.Native.Nat.{ℕ, zero, suc, _≤_, _<_}
+use Prim.Native.Nat.{ℕ, zero, suc, _+_, _≤_, _<_}
 use native.Mathlib.Omega.{arith}
 use native.Mathlib.Decide.{decLe}
 use native.Mathlib.Nat.{min-comm, min-eq-left, eq-or-lt-of-le}
 use lib.Seq.{length-take-le}
-use lib.ListN.{length, take, length-take}
+use lib.ListN.{length, getD, take, length-take}
 use lib.IntN.{ℤ, pos, negsuc, negℤ}
 use lib.Dec.{eqb, leb}
 use borrow.Author.Tests.{not-true, eqb-false}
@@ -17,11 +17,11 @@ use mir.Val.{toZ, ofZ, SFits}
 use mir.ValLaws.{toZ-ofZ}
 use Rattle.records.specs.declared.State.{State}
 use Rattle.records.specs.Lists.{all}
-use Rattle.records.specs.Store.{Store, ok, Work, isString}
+use Rattle.records.specs.Store.{Store, ok, Work, count, isString}
 use Rattle.records.specs.View.{Lent, storeOf}
 use Rattle.records.specs.Make.{EachOnce}
 use Rattle.records.specs.Rules.{listLimit, isList}
-use Rattle.records.proofs.Lists.{both-left, both-right}
+use Rattle.records.proofs.Lists.{both-left, both-right, table-length}
 use Rattle.normalize.specs.Calls.{listCall, PublicList}
 use Rattle.wordeq.specs.declared.StepResult.{StepResult}
 use Rattle.wordeq.specs.declared.StepResult.the-variants as step
@@ -31,8 +31,9 @@ use Rattle.wordeq.specs.Calls.{PublicResolve, resolved}
 use Rattle.wordeq.proofs.Resolve.{resolve-kept, resolve-stops}
 use Rattle.wordeq.proofs.FewAtoms.{Few, resolve-few}
 use Rattle.capi.specs.Interface.{stateOf, roomy}
-use Rattle.capi.specs.Equations.{flag, answerWords, answerRead, ExportedResolve}
+use Rattle.capi.specs.Equations.{flag, answerWords, answerBy, answerRead, ExportedResolve}
 use Rattle.capi.specs.Working.Leaves.{Narrow, NarrowAnswer, Telling, tells, ToldWords, ToldBy, answerTelling}
+use Rattle.capi.proofs.Words.{told-by}
 use Rattle.capi.proofs.Exports.{Tells, Shows}
 use Rattle.capi.proofs.Listings.{list-gives, list-room, list-tellable, list-exported, list-worth, untold-list}
 
@@ -88,46 +89,50 @@ stands-in g h guarded fit n k k′ i q same j = by (decLe n (length k′))
         absurd (omega arith)
 
 pub record Stands (r : StepResult) (k′ : List ℕ) : Type 0 where
-  pub split : (c : State) (n : ℕ) (g : ℤ) → r ≡ step.Split c n g → StandsIn n g k′
+  pub split : (c : State) (n : ℕ) (g : ℤ) (j : ℕ) → r ≡ step.Split c n g j → StandsIn n g k′
 
 -- the Split of a call whose answers are wordeq's, under `says`
 module _ {A : Type 0} {fit : Store → Bool} {work : Work A} (can : Tells fit work) (says : Answer → A) (g : ℤ) (fits : SFits w32 g) (guarded : (s : Store) → fit s ≡ true → isGuard g ≡ true)
     (few : (s s′ : Store) (x : Answer) → work s ≡ ok s′ (says x) → Few g x) (m m′ : Lent) (k k′ : List ℕ) (c : State) (same : length k′ ≡ length k) where
-  pub split-stands : (d : State) (n : ℕ) (h : ℤ) → listCall k fit work m c ≡ ok (storeOf m′ d) (says (split (take n k′) h)) → StandsIn n h k′
-  split-stands d n h e = stands-in g h guard fits n k k′ (long .0) (long .1) same (list-room can m k c _ _ e)
+  pub split-stands : (d : State) (n : ℕ) (h : ℤ) (j : ℕ) → listCall k fit work m c ≡ ok (storeOf m′ d) (says (split (take n k′) h j)) → StandsIn n h k′
+  split-stands d n h j e = stands-in g h guard fits n k k′ (long .0) (long .1 .0) same (list-room can m k c _ _ e)
     where
-      long : Few g (split (take n k′) h)
+      long : Few g (split (take n k′) h j)
       long =
-          list-gives can m k c {P = λ s y. (x : Answer) → y ≡ says x → Few g x} (λ s s′ y a f q x i. few s s′ x (q ∙ ap (ok s′) i)) (storeOf m′ d) (says (split (take n k′) h)) e
-          (split (take n k′) h) refl
+          list-gives can m k c {P = λ s y. (x : Answer) → y ≡ says x → Few g x} (λ s s′ y a f q x i. few s s′ x (q ∙ ap (ok s′) i)) (storeOf m′ d) (says (split (take n k′) h j)) e
+          (split (take n k′) h j) refl
 
       guard : isGuard g ≡ true
-      guard = list-gives can m k c {P = λ s x. isGuard g ≡ true} (λ s s′ x a f q. guarded s f) (storeOf m′ d) (says (split (take n k′) h)) e
+      guard = list-gives can m k c {P = λ s x. isGuard g ≡ true} (λ s s′ x a f q. guarded s f) (storeOf m′ d) (says (split (take n k′) h j)) e
 
 -- the counts and the Split of an answer are narrow
 pub answer-narrow : (r : StepResult) {k′ : List ℕ} → ((c : State) (v : List ℕ) → answerTelling r ≡ tells c v → Narrow c) → Stands r k′ → NarrowAnswer r
-answer-narrow r f i = record { counts = f; split = λ d n h e. (let j = i .split d n h e in let p = j .three in record { list = omega arith; guard = j .guard }) }
+answer-narrow r f i = record { counts = f; split = λ d n h u e. (let j = i .split d n h u e in let p = j .three in record { list = omega arith; guard = j .guard }) }
 
 pub answer-shows : (r : StepResult) (m′ : Lent) (k′ : List ℕ) → Stands r k′ → Shows 8 answerWords (answerRead k′) m′ (resolved r m′ k′) (answerTelling r)
 answer-shows (step.Done c) m′ k′ i = record { value = done; outcome = refl; spelt = refl; few = omega arith; back = λ z. refl }
 answer-shows (step.Saturated c) m′ k′ i = record { value = saturated; outcome = refl; spelt = refl; few = omega arith; back = λ z. refl }
 answer-shows (step.Conflict c) m′ k′ i = record { value = conflict; outcome = refl; spelt = refl; few = omega arith; back = λ z. refl }
 answer-shows (step.Propagate c v x f) m′ k′ i = record { value = propagate v x f; outcome = refl; spelt = refl; few = omega arith; back = λ z. ap (propagate v x) (flag-back f) }
-answer-shows (step.Split c n g) m′ k′ i =
-    let j = i .split c n g refl in
+answer-shows (step.Split c n g u) m′ k′ i =
+    let j = i .split c n g u refl in
     record {
-      value = split (take n k′) g;
+      value = split (take n k′) g u;
       outcome = refl;
-      spelt = ap (λ (x : ℕ). 4 ∷ x ∷ ofZ w32 g ∷ []) (sym (length-take-le n k′ (j .here)));
+      spelt = ap (λ (x : ℕ). 4 ∷ x ∷ ofZ w32 g ∷ u ∷ []) (sym (length-take-le n k′ (j .here)));
       few = omega arith;
-      back = λ z. ap (split (take n k′)) (toZ-ofZ w32 g (j .guard));
+      back = λ z. ap (λ (x : ℤ). split (take n k′) x u) (toZ-ofZ w32 g (j .guard));
     }
 answer-shows (step.Refused n) m′ k′ i = refl
 
 -- RESOLVE_EQUATION
 
 pub resolve-untold : (l r : List ℕ) (g : ℤ) (m : Lent) (k w a : List ℕ) → roomy w a ≡ false → ExportedResolve l r g m m k k w w a a 1
-resolve-untold l r g m k w a e = record { is = untold-list _ answerWords m k w a _ e; worth = λ z. absurd (omega arith); once = λ z. absurd (omega arith) }
+resolve-untold l r g m k w a e = record { is = untold-list _ answerWords m k w a _ e; worth = λ z. absurd (omega arith); once = λ z. absurd (omega arith); grows = λ z y. absurd (omega arith) }
+
+-- the terms counted are those of the state
+pub counted : (m : Lent) (w : List ℕ) → count (storeOf m (stateOf w)) ≡ getD w 0 0
+counted m w = table-length _ (getD w 0 0)
 
 module _ {l r : List ℕ} {g : ℤ} {m m′ : Lent} {k k′ : List ℕ} {c : State} (o : StepResult) (fit : SFits w32 g)
     (public : PublicResolve l r (toZ w32 (ofZ w32 g)) m m′ k k′ c (resolved o m′ k′)) (same : length k′ ≡ length k) where
@@ -139,7 +144,7 @@ module _ {l r : List ℕ} {g : ℤ} {m m′ : Lent} {k k′ : List ℕ} {c : Sta
 
   stands : Stands o k′
   stands = record {
-    split = λ d n h e. split-stands (resolve-tells l r g) (λ x. x) g fit (λ s f. both-right (isList s l && isList s r) _ f) (λ s s′ x q. resolve-few g l r s .given s′ x q) m m′ k k′ c same d n h (sym (called .store .says) ∙ ap (λ (x : StepResult). resolved x m′ k′) e);
+    split = λ d n h j e. split-stands (resolve-tells l r g) (λ x. x) g fit (λ s f. both-right (isList s l && isList s r) _ f) (λ s s′ x q. resolve-few g l r s .given s′ x q) m m′ k k′ c same d n h j (sym (called .store .says) ∙ ap (λ (x : StepResult). resolved x m′ k′) e);
   }
 
   shows : Shows 8 answerWords (answerRead k′) m′ (resolved o m′ k′) (answerTelling o)
@@ -150,20 +155,33 @@ module _ {l r : List ℕ} {g : ℤ} {m m′ : Lent} {k k′ : List ℕ} {c : Sta
 
   pub resolve-exported : {w w′ a a′ : List ℕ} {n : ℕ} → roomy w a ≡ true → c ≡ stateOf w → ToldBy answerTelling w w′ a a′ o n
       → ExportedResolve l r g m m′ k k′ w w′ a a′ n
-  resolve-exported room e u = record {
+  resolve-exported {w} {w′} {a} {a′} {n} room e u = record {
     is = list-exported (resolve-tells l r g) called answerWords (answerRead k′) (answerTelling o) shows room e (u .is);
     worth = list-worth (resolve-tells l r g) called answerWords (answerRead k′) (answerTelling o) shows room e (u .is) (λ s′ x q. subst (λ (d : State). Sound (storeOf m d) s′ l r x) e (here .worth s′ x q));
     once = list-worth (resolve-tells l r g) called answerWords (answerRead k′) (answerTelling o) shows room e (u .is) (λ s′ x q. subst (λ (d : State). EachOnce (storeOf m d .reasons) (s′ .reasons)) e (here .once s′ x q));
+    grows = λ z y. grown z y;
   }
+    where
+      Grown : Store → Answer → Type 0
+      Grown s′ x = (atoms : List ℕ) (h : ℤ) (i : ℕ) → x ≡ split atoms h i → count s′ ≡ i + count (storeOf m (stateOf w))
+
+      grown : n ≡ 0 → getD a′ 0 0 ≡ 4 → getD w′ 0 0 ≡ getD a′ 3 0 + getD w 0 0
+      grown z y =
+          let f = list-worth (resolve-tells l r g) called answerWords (answerRead k′) (answerTelling o) shows room e (u .is) {P = Grown} (λ s′ x q atoms h i p. subst (λ (d : State). count s′ ≡ i + count (storeOf m d)) e (here .grows s′ atoms h i (q ∙ ap (ok s′) p))) z in
+          sym (counted m′ w′) ∙ f _ _ _ (ap (λ (j : ℕ). answerBy j k′ a′) y) ∙ ap (λ (j : ℕ). getD a′ 3 0 + j) (counted m w)
 
 -- TELLING
 
 module _ {R : Type 0} {f : R → Telling} {r : R} {w w′ a a′ : List ℕ} {k : ℕ} {c : State} where
+  -- words that are the telling's own
+  told-as : {v v′ : List ℕ} → f r ≡ tells c v → v′ ≡ v → ToldWords w w′ a a′ (tells c v′) k → ToldBy f w w′ a a′ r k
+  told-as e q t = told-by (e ∙ ap (tells c) (sym q)) t
+
   pub told-flag : {x y z u u′ : ℕ} → f r ≡ tells c (x ∷ y ∷ z ∷ u ∷ []) → u′ ≡ u → ToldWords w w′ a a′ (tells c (x ∷ y ∷ z ∷ u′ ∷ [])) k → ToldBy f w w′ a a′ r k
-  told-flag {x} {y} {z} e q t = record { is = subst (λ (T : Telling). ToldWords w w′ a a′ T k) (ap (λ (v : ℕ). tells c (x ∷ y ∷ z ∷ v ∷ [])) q ∙ sym e) t }
+  told-flag {x} {y} {z} e q t = told-as e (ap (λ (v : ℕ). x ∷ y ∷ z ∷ v ∷ []) q) t
 
   pub told-third : {x y u u′ : ℕ} → f r ≡ tells c (x ∷ y ∷ u ∷ []) → u′ ≡ u → ToldWords w w′ a a′ (tells c (x ∷ y ∷ u′ ∷ [])) k → ToldBy f w w′ a a′ r k
-  told-third {x} {y} e q t = record { is = subst (λ (T : Telling). ToldWords w w′ a a′ T k) (ap (λ (v : ℕ). tells c (x ∷ y ∷ v ∷ [])) q ∙ sym e) t }
+  told-third {x} {y} e q t = told-as e (ap (λ (v : ℕ). x ∷ y ∷ v ∷ []) q) t
 
-  pub told-guard : {x y : ℕ} {g : ℤ} {u : ℕ} → f r ≡ tells c (x ∷ y ∷ ofZ w32 g ∷ []) → SFits w32 g → u ≡ ofZ w32 (toZ w32 (ofZ w32 g)) → ToldWords w w′ a a′ (tells c (x ∷ y ∷ u ∷ [])) k → ToldBy f w w′ a a′ r k
-  told-guard {g = g} e h q t = told-third e (q ∙ ap (ofZ w32) (toZ-ofZ w32 g h)) t
+  pub told-guard : {x y z : ℕ} {g : ℤ} {u : ℕ} → f r ≡ tells c (x ∷ y ∷ ofZ w32 g ∷ z ∷ []) → SFits w32 g → u ≡ ofZ w32 (toZ w32 (ofZ w32 g)) → ToldWords w w′ a a′ (tells c (x ∷ y ∷ u ∷ z ∷ [])) k → ToldBy f w w′ a a′ r k
+  told-guard {x} {y} {z} {g} e h q t = told-as e (ap (λ (v : ℕ). x ∷ y ∷ v ∷ z ∷ []) (q ∙ ap (ofZ w32) (toZ-ofZ w32 g h))) t

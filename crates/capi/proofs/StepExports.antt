@@ -11,7 +11,7 @@ use mir.Syntax.{w32}
 use mir.Val.{toZ, ofZ, SFits}
 use mir.ValLaws.{toZ-ofZ}
 use Rattle.records.specs.declared.State.{State}
-use Rattle.records.specs.Store.{Out, ok, andThen, give, term, isEquation, isString}
+use Rattle.records.specs.Store.{Store, Out, ok, andThen, give, term, isEquation, isString}
 use Rattle.records.specs.View.{Lent, storeOf}
 use Rattle.records.specs.Make.{EachOnce}
 use Rattle.records.specs.Rules.{isList}
@@ -22,13 +22,13 @@ use Rattle.wordeq.specs.Wordeq.{Answer, done, saturated, conflict, propagate, s
 use Rattle.wordeq.specs.Calls.{resolved}
 use Rattle.equation.specs.declared.Outcome.{Outcome}
 use Rattle.equation.specs.declared.Outcome.the-variants as outcome
-use Rattle.equation.specs.Equation.{Stepped, unexpanded, answered, step, stepArguments, StepSound}
+use Rattle.equation.specs.Equation.{Stepped, unexpanded, answered, step, stepArguments, GrowsAfterForms, StepSound}
 use Rattle.equation.specs.Calls.{stepped, PublicStep}
 use Rattle.equation.proofs.Sound.{step-kept, step-stops}
 use Rattle.equation.proofs.FewAtoms.{step-few}
 use Rattle.capi.specs.Interface.{stateOf, roomy}
 use Rattle.capi.specs.Equations.{answerWords, answerRead}
-use Rattle.capi.specs.Steps.{stepWords, stepRead, ExportedStep}
+use Rattle.capi.specs.Steps.{stepWords, stepBy, stepRead, ExportedStep}
 use Rattle.capi.specs.Working.Leaves.{Narrow, NarrowOutcome, Telling, tells, refuses, ToldBy, answerTelling, outcomeTelling}
 use Rattle.capi.proofs.Exports.{Tells, Shows}
 use Rattle.capi.proofs.Listings.{list-tellable, list-exported, list-worth, untold-list}
@@ -51,7 +51,7 @@ below-five done z = refl
 below-five saturated z = refl
 below-five conflict z = refl
 below-five (propagate v w f) z = refl
-below-five (split l g) z = refl
+below-five (split l g n) z = refl
 
 answered-shows : (k′ : List ℕ) (m′ : Lent) (r : Out Answer) (T : Telling) → Shows 8 answerWords (answerRead k′) m′ r T → Shows 8 stepWords (stepRead k′) m′ (andAnswered r) T
 answered-shows k′ m′ r (tells d v) s = record {
@@ -78,7 +78,7 @@ outcome-narrow (outcome.Unexpanded c) k′ f i = f c (5 ∷ []) refl
 -- THE CALL
 
 pub step-untold : (known : List ℕ) (e : ℕ) (g : ℤ) (m : Lent) (k w a : List ℕ) → roomy w a ≡ false → ExportedStep known e g m m k k w w a a 1
-step-untold known e g m k w a q = record { is = untold-list _ stepWords m k w a _ q; worth = λ z. absurd (omega arith); once = λ z. absurd (omega arith) }
+step-untold known e g m k w a q = record { is = untold-list _ stepWords m k w a _ q; worth = λ z. absurd (omega arith); once = λ z. absurd (omega arith); grows = λ z y. absurd (omega arith) }
 
 module _ {known : List ℕ} {e : ℕ} {g : ℤ} {m m′ : Lent} {k k′ : List ℕ} {c : State} (o : Outcome) (fit : SFits w32 g)
     (public : PublicStep known e (toZ w32 (ofZ w32 g)) m m′ k k′ c (stepped o m′ k′)) (same : length k′ ≡ length k) where
@@ -90,7 +90,7 @@ module _ {known : List ℕ} {e : ℕ} {g : ℤ} {m m′ : Lent} {k k′ : List �
 
   stood : (x : Outcome) → listCall k (stepArguments known e g) (step known e g) m c ≡ stepped x m′ k′ → Stood x k′
   stood (outcome.Answered r) q = record {
-    split = λ d n h i. split-stands (step-tells known e g) answered g fit (λ s f. both-right (isList s known && isEquation s e && isString s (term s e .first)) _ f) (λ s s′ x j. step-few g known e s .given s′ (answered x) j) m m′ k k′ c same d n h (q ∙ ap (λ (y : StepResult). andAnswered (resolved y m′ k′)) i);
+    split = λ d n h u i. split-stands (step-tells known e g) answered g fit (λ s f. both-right (isList s known && isEquation s e && isString s (term s e .first)) _ f) (λ s s′ x j. step-few g known e s .given s′ (answered x) j) m m′ k k′ c same d n h u (q ∙ ap (λ (y : StepResult). andAnswered (resolved y m′ k′)) i);
   }
   stood (outcome.Unexpanded d) q = tt
 
@@ -104,8 +104,17 @@ module _ {known : List ℕ} {e : ℕ} {g : ℤ} {m m′ : Lent} {k k′ : List �
   step-tellable = outcome-narrow o k′ (list-tellable (step-tells known e g) called stepWords (stepRead k′) (outcomeTelling o) shows) stands
 
   pub step-exported : {w w′ a a′ : List ℕ} {n : ℕ} → roomy w a ≡ true → c ≡ stateOf w → ToldBy outcomeTelling w w′ a a′ o n → ExportedStep known e g m m′ k k′ w w′ a a′ n
-  step-exported room q u = record {
+  step-exported {w} {w′} {a} {a′} {n} room q u = record {
     is = list-exported (step-tells known e g) called stepWords (stepRead k′) (outcomeTelling o) shows room q (u .is);
     worth = list-worth (step-tells known e g) called stepWords (stepRead k′) (outcomeTelling o) shows room q (u .is) (λ s′ x i. subst (λ (d : State). StepSound (storeOf m d) s′ e x) q (here .worth s′ x i));
     once = list-worth (step-tells known e g) called stepWords (stepRead k′) (outcomeTelling o) shows room q (u .is) (λ s′ x i. subst (λ (d : State). EachOnce (storeOf m d .reasons) (s′ .reasons)) q (here .once s′ x i));
+    grows = λ z y. grown z y;
   }
+    where
+      Grown : Store → Stepped → Type 0
+      Grown s′ x = (atoms : List ℕ) (h : ℤ) (j : ℕ) → x ≡ answered (split atoms h j) → GrowsAfterForms known e (storeOf m (stateOf w)) s′ j
+
+      grown : n ≡ 0 → getD a′ 0 0 ≡ 4 → GrowsAfterForms known e (storeOf m (stateOf w)) (storeOf m′ (stateOf w′)) (getD a′ 3 0)
+      grown z y =
+          let f = list-worth (step-tells known e g) called stepWords (stepRead k′) (outcomeTelling o) shows room q (u .is) {P = Grown} (λ s′ x i atoms h j p. subst (λ (d : State). GrowsAfterForms known e (storeOf m d) s′ j) q (here .grows s′ atoms h j (i ∙ ap (ok s′) p))) z in
+          f _ _ _ (ap (λ (j : ℕ). stepBy j k′ a′) y)

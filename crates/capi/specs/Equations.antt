@@ -2,7 +2,7 @@
 use mathlib.Core.Path.{_≡_}
 use mathlib.Core.Bool.{Bool, true, false}
 use mathlib.Core.List.{List, [], _∷_}
-use Prim.Native.Nat.{ℕ, zero, suc, _<_}
+use Prim.Native.Nat.{ℕ, zero, suc, _+_, _<_}
 use lib.ListN.{length, getD, take}
 use lib.IntN.{ℤ}
 use lib.Dec.{eqb, leb}
@@ -23,13 +23,14 @@ flag true = 1
 flag false = 0
 
 -- 'the case (0 Done, 1 Saturated, 2 Conflict, 3 Propagate, 4 Split ..) into word 0, for Propagate variable, word and link flag into 1 to
--- 3, for Split the atom count and the negated guard as a 32-bit two's complement into 1 and 2'
+-- 3, for Split the atom count and the negated guard as a 32-bit two's complement into 1 and 2'; and into 3 how many terms the Split made:
+-- 'The result carries the number'
 abbrev pub answerWords : Answer → List ℕ
 answerWords done = 0 ∷ []
 answerWords saturated = 1 ∷ []
 answerWords conflict = 2 ∷ []
 answerWords (propagate v x f) = 3 ∷ v ∷ x ∷ flag f ∷ []
-answerWords (split l g) = 4 ∷ length l ∷ ofZ w32 g ∷ []
+answerWords (split l g n) = 4 ∷ length l ∷ ofZ w32 g ∷ n ∷ []
 
 -- the answer of this case that the answer a and the list's slice l give
 abbrev pub answerBy : ℕ → List ℕ → List ℕ → Answer
@@ -37,17 +38,19 @@ answerBy zero l a = done
 answerBy (suc zero) l a = saturated
 answerBy (suc (suc zero)) l a = conflict
 answerBy (suc (suc (suc zero))) l a = propagate (getD a 1 0) (getD a 2 0) (eqb (getD a 3 0) 1)
-answerBy (suc (suc (suc (suc n)))) l a = split (take (getD a 1 0) l) (toZ w32 (getD a 2 0))
+answerBy (suc (suc (suc (suc n)))) l a = split (take (getD a 1 0) l) (toZ w32 (getD a 2 0)) (getD a 3 0)
 
 abbrev pub answerRead : List ℕ → List ℕ → Answer
 answerRead l a = answerBy (getD a 0 0) l a
 
 -- resolve_equation told in words, and what it is worth: demand 3. The reasons at exit are those at entry and then reasons that the
--- list lacked, each once
+-- list lacked, each once. After a Split the state's count of terms has grown by word 3 of the answer: the number 'equals the growth of the
+-- term count within wordeq'
 pub record ExportedResolve (l r : List ℕ) (g : ℤ) (m m′ : Lent) (k k′ w w′ a a′ : List ℕ) (n : ℕ) : Type 0 where
   pub is : AnsweredList (over (roomy w a) (listCall k (resolveArguments l r g) (resolve l r g) m (stateOf w))) answerWords m m′ k k′ w w′ a a′ (answerRead k′ a′) n
   pub worth : n ≡ 0 → Sound (storeOf m (stateOf w)) (storeOf m′ (stateOf w′)) l r (answerRead k′ a′)
   pub once : n ≡ 0 → EachOnce (storeOf m (stateOf w) .reasons) (storeOf m′ (stateOf w′) .reasons)
+  pub grows : n ≡ 0 → getD a′ 0 0 ≡ 4 → getD w′ 0 0 ≡ getD a′ 3 0 + getD w 0 0
 
 -- 'nf_equal 0 or 1' into word 0
 abbrev pub flagWords : Bool → List ℕ

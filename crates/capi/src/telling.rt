@@ -196,7 +196,7 @@ pub(crate) fn tell_answer(state: &mut [u32], answer: &mut [u32], made: StepResul
         StepResult::Saturated(c) => tell_one(state, answer, c, 1),
         StepResult::Conflict(c) => tell_one(state, answer, c, 2),
         StepResult::Propagate(c, v, w, f) => tell_four(state, answer, c, 3, v, w, flag_of(f)),
-        StepResult::Split(c, n, g) => tell_three(state, answer, c, 4, n as u32, bits_of(g)),
+        StepResult::Split(c, n, g, k) => tell_four(state, answer, c, 4, n as u32, bits_of(g), k),
         StepResult::Refused(k) => k,
     }
 }

@@ -15,7 +15,7 @@ use Rattle.records.specs.Make.{withTerms, withReasons, samePair, isListed, addR
 use Rattle.classes.specs.Merge.{mergeIn}
 use Rattle.engine.specs.Explain.{wasSeen, each, edge, highest, walk, walked, explain, isReasoned}
 use Rattle.normalize.specs.Normalize.{atomsBy, flatten}
-use Rattle.wordeq.specs.Wordeq.{Answer, done, saturated, conflict, propagate, split, same, fixed, lettersOf, letters, sameHeads, sameTails, rest, explainMatch, explainMatches, needsReason, strip, isFull, occurrence, occurs, unequal, short, absent, constants, isPlain, alias, empties, assigns, filled, lead, firstSpan, fits, explainAll, tileBy, tile, differ, clashes, freshVariable, splitCharacter, splitHeads, splits, after, steps, resolve}
+use Rattle.wordeq.specs.Wordeq.{Answer, done, saturated, conflict, propagate, split, same, fixed, lettersOf, letters, sameHeads, sameTails, rest, explainMatch, explainMatches, needsReason, strip, isFull, occurrence, occurs, unequal, short, absent, constants, isPlain, alias, empties, assigns, filled, lead, firstSpan, fits, explainAll, tileBy, tile, differ, clashes, freshVariable, oneIfAbsent, splitCharacter, splitHeads, splits, after, steps, resolve}
 
 -- STORES, line by line as `labelstep` builds them
 
@@ -34,11 +34,13 @@ unfoldable pub codes : String → List ℕ
 codes String.[] = []
 codes (String._∷_ c s) = code c ∷ codes s
 
--- a constant, a variable, a concatenation, a class under another by an asserted reason (its stamp given)
+-- a constant, a variable, a concatenation, a length, an equation, a class under another by an asserted reason (its stamp given)
 pub data Line : Type 0 where
   con : String → Line
   var : String → Line
   cat : List ℕ → Line
+  len : ℕ → Line
+  equal : ℕ → ℕ → Line
   by : ℕ → ℕ → ℕ → ℕ → Line
 
 unfoldable pub merged : ℕ → ℕ → ℕ → ℕ → Store → Store
@@ -48,6 +50,8 @@ unfoldable pub line : Line → Work ℕ
 line (con x) = makeConstant (codes x)
 line (var x) = makeVariable (codes x)
 line (cat l) = makeConcat l
+line (len a) = makeLength a
+line (equal a b) = makeEquation a b
 line (by c p n m) = do
   s ← store
   put (merged c p n m s)
@@ -71,7 +75,7 @@ number done = 0
 number saturated = 1
 number conflict = 2
 number (propagate v w k) = 3
-number (split l g) = 4
+number (split l g n) = 4
 
 abbrev pub flag : Bool → ℕ
 flag true = 1
@@ -82,14 +86,14 @@ values done = []
 values saturated = []
 values conflict = []
 values (propagate v w k) = v ∷ w ∷ flag k ∷ []
-values (split l g) = l
+values (split l g n) = n ∷ l
 
 abbrev pub guardOf : Answer → ℤ
 guardOf done = pos 0
 guardOf saturated = pos 0
 guardOf conflict = pos 0
 guardOf (propagate v w k) = pos 0
-guardOf (split l g) = g
+guardOf (split l g n) = g
 
 -- a Split adds the key of its heads, and no other answer adds one
 abbrev pub keysOf : Answer → ℕ
@@ -97,7 +101,7 @@ keysOf done = 0
 keysOf saturated = 0
 keysOf conflict = 0
 keysOf (propagate v w k) = 0
-keysOf (split l g) = 1
+keysOf (split l g n) = 1
 
 unfoldable pub samePairs : List (ℕ × ℕ) → List (ℕ × ℕ) → Bool
 samePairs [] [] = true
@@ -143,13 +147,13 @@ starred =
     -- [v] = ["a",u,"b"], u and v merged by a5: Conflict, a5
     ∷ case (var "v" ∷ var "u" ∷ con "a" ∷ con "b" ∷ by 2 1 5 1 ∷ []) (1 ∷ []) (3 ∷ 2 ∷ 4 ∷ []) conflict ((1, 5) ∷ [])
     -- [v] = [x,"a",y], v and "a" merged: Split
-    ∷ case (var "v" ∷ var "x" ∷ con "a" ∷ var "y" ∷ by 1 3 5 1 ∷ []) (1 ∷ []) (2 ∷ 3 ∷ 4 ∷ []) (split (7 ∷ 10 ∷ 13 ∷ []) (negsuc 8)) []
+    ∷ case (var "v" ∷ var "x" ∷ con "a" ∷ var "y" ∷ by 1 3 5 1 ∷ []) (1 ∷ []) (2 ∷ 3 ∷ 4 ∷ []) (split (7 ∷ 10 ∷ 13 ∷ []) (negsuc 8) 9) []
     -- [u,"z",w] = ["bzc"], w and u merged by a7: Conflict, a7
     ∷ case (var "u" ∷ con "z" ∷ var "w" ∷ con "bzc" ∷ by 3 1 7 1 ∷ []) (1 ∷ 2 ∷ 3 ∷ []) (4 ∷ []) conflict ((1, 7) ∷ [])
     -- [] = [x,y], x and "" merged: Propagate y
     ∷ case (var "x" ∷ var "y" ∷ con "" ∷ by 1 3 1 1 ∷ []) [] (1 ∷ 2 ∷ []) (propagate 2 3 true) []
     -- [!strk0] = [x]: Split
-    ∷ case (var "!strk0" ∷ var "x" ∷ []) (1 ∷ []) (2 ∷ []) (split (5 ∷ 8 ∷ 11 ∷ []) (negsuc 8)) []
+    ∷ case (var "!strk0" ∷ var "x" ∷ []) (1 ∷ []) (2 ∷ []) (split (5 ∷ 8 ∷ 11 ∷ []) (negsuc 8) 9) []
     -- [x,u] = [y,"a"], x and y merged by a9: Propagate u "a", a9
     ∷ case (var "x" ∷ var "u" ∷ var "y" ∷ con "a" ∷ by 1 3 9 1 ∷ []) (1 ∷ 2 ∷ []) (3 ∷ 4 ∷ []) (propagate 2 4 false) ((1, 9) ∷ [])
     -- the same with i4 handed in
@@ -159,5 +163,5 @@ starred =
     ∷ []
 
 pub starred-hold : T (all holds starred)
-unfolding starred holds samePairs build line merged codes all any firstOf keep concatMap table sameWord isIn firsts seconds upTo allBelow firstBelow termIn cellIn within textIn chainBy climb aboveBy nearestIn pathIn isChar isNumber reasonRule keyRule cellRule textRule named nameRule partRule concatRule lengthRule isEquatable equationRule termRule recordsRule parentsRule endsRule alikeRule aloneRule edgeLabel labelRule classesRule pairsOf fallsRule congruenceRule congruencesRule auditStore samePair isListed addReason isKey addKey addText chainFrom addChain addTerm lookup lowest constantOf concatOf lengthOf equationOf makeConstant makeVariable makeConcat makeLength makeEquation decimalBy nameOf isTaken takeNameBy takeName wasSeen each edge highest walk walked explain isReasoned atomsBy flatten same fixed lettersOf letters sameHeads sameTails rest explainMatch explainMatches needsReason strip isFull occurrence occurs unequal short absent constants isPlain alias empties assigns filled lead firstSpan fits explainAll tileBy tile differ clashes freshVariable splitCharacter splitHeads splits after steps resolve
+unfolding starred holds samePairs build line merged codes all any firstOf keep concatMap table sameWord isIn firsts seconds upTo allBelow firstBelow termIn cellIn within textIn chainBy climb aboveBy nearestIn pathIn isChar isNumber reasonRule keyRule cellRule textRule named nameRule partRule concatRule lengthRule isEquatable equationRule termRule recordsRule parentsRule endsRule alikeRule aloneRule edgeLabel labelRule classesRule pairsOf fallsRule congruenceRule congruencesRule auditStore samePair isListed addReason isKey addKey addText chainFrom addChain addTerm lookup lowest constantOf concatOf lengthOf equationOf makeConstant makeVariable makeConcat makeLength makeEquation decimalBy nameOf isTaken takeNameBy takeName wasSeen each edge highest walk walked explain isReasoned atomsBy flatten same fixed lettersOf letters sameHeads sameTails rest explainMatch explainMatches needsReason strip isFull occurrence occurs unequal short absent constants isPlain alias empties assigns filled lead firstSpan fits explainAll tileBy tile differ clashes freshVariable oneIfAbsent splitCharacter splitHeads splits after steps resolve
 starred-hold = tt

@@ -35,7 +35,7 @@ answered next k n x (ok s done) = lists []
 answered next k n x (ok s saturated) = lists []
 answered next k n x (ok s conflict) = lists []
 answered next k n x (ok s (propagate v w f)) = put v (landed next (joinTerms v w k n s x))
-answered next k n x (ok s (split l g)) = lists []
+answered next k n x (ok s (split l g j)) = lists []
 answered next k n x (stop j) = stops j
 
 -- the ordinary call on two lists, again and again, at most as many times as is said; `why` has the reason of each merge

@@ -1,4 +1,4 @@
--- A Split of the step lists at most three atoms, and its guard is the one handed in, negated.
+-- A Split of the step lists at most three atoms, its guard is the one handed in, negated, and it makes at most nine terms.
 use mathlib.Core.List.{List}
 use mathlib.Core.Option.{Option, none, some}
 use Prim.Native.Nat.{ℕ}
@@ -19,7 +19,7 @@ module _ (g : ℤ) where
   returned-few rs s saturated k = give-has tt
   returned-few rs s conflict k = give-has tt
   returned-few rs s (propagate v x f) k = give-has tt
-  returned-few rs s (split l h) k = give-has k
+  returned-few rs s (split l h n) k = give-has k
 
   or-few : (rs : List (ℕ × ℕ)) (f : List ℕ → Work Stepped) → ((l : List ℕ) (s : Store) → Always FewStep (f l s)) → (s : Store) (o : Option (List ℕ)) → Always FewStep (orUnexpanded rs f o s)
   or-few rs f h s none = give-has tt

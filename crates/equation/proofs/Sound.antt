@@ -26,8 +26,8 @@ use Rattle.records.proofs.Outcomes.{ends-give, ends-wider, ends-then}
 use Rattle.wordeq.proofs.Ends.{RefusedAtWork, Ends}
 use Rattle.wordeq.proofs.Good.{worth-back}
 use Rattle.records.proofs.Later.{Later, later-then, later-cut}
-use Rattle.wordeq.proofs.Resolve.{Resolved, resolve-ends}
-use Rattle.equation.specs.Equation.{Stepped, unexpanded, returned, orUnexpanded, step, stepArguments, StepSound}
+use Rattle.wordeq.proofs.Resolve.{ends-known, Counts, Resolved, resolve-ends}
+use Rattle.equation.specs.Equation.{Stepped, unexpanded, answered, returned, orUnexpanded, step, stepArguments, GrowsAfterForms, StepSound}
 
 -- THE SIDES
 
@@ -51,10 +51,20 @@ forms-equal {s₁ = s₁} {s₂ = s₂} p q o w rd h e =
 
 -- THE STEP
 
--- what is shown of the step: the store after, and demand 3
-pub record StepGood (s : Store) (e : ℕ) (s′ : Store) (x : Stepped) : Type 0 where
+-- a Split's number is wordeq's
+abbrev pub StepGrows : List ℕ → ℕ → Store → Store → Stepped → Type 0
+StepGrows known e s s′ unexpanded = Unit {0}
+StepGrows known e s s′ (answered done) = Unit {0}
+StepGrows known e s s′ (answered saturated) = Unit {0}
+StepGrows known e s s′ (answered conflict) = Unit {0}
+StepGrows known e s s′ (answered (propagate v y f)) = Unit {0}
+StepGrows known e s s′ (answered (split atoms g n)) = GrowsAfterForms known e s s′ n
+
+-- what is shown of the step: the store after, demand 3, and the number of a Split
+pub record StepGood (known : List ℕ) (s : Store) (e : ℕ) (s′ : Store) (x : Stepped) : Type 0 where
   pub later : Later s s′
   pub sound : StepSound s s′ e x
+  pub grows : StepGrows known e s s′ x
 
 module _ (known : List ℕ) (e : ℕ) (g : ℤ) (s : Store) (audited : Audited s) (good : stepArguments known e g s ≡ true) where
   abbrev a : ℕ
@@ -75,41 +85,50 @@ module _ (known : List ℕ) (e : ℕ) (g : ℤ) (s : Store) (audited : Audited s
   right : isString s b ≡ true
   right = second-string s audited e (both-right (isList s known) _ (both-left (isList s known && isEquation s e) _ list)) left
 
-  unexpanded-good : (s₁ : Store) → Later s s₁ → StepGood s e (withReasons s₁ (s .reasons)) unexpanded
-  unexpanded-good s₁ k = record { later = later-cut audited k; sound = tt }
+  unexpanded-good : (s₁ : Store) → Later s s₁ → StepGood known s e (withReasons s₁ (s .reasons)) unexpanded
+  unexpanded-good s₁ k = record { later = later-cut audited k; sound = tt; grows = tt }
 
-  returned-ends : (x : Answer) (s₁ : Store) → Later s s₁ → Worth s s₁ (λ w. w a) (λ w. w b) x → Ends (StepGood s e) (returned (s .reasons) x s₁)
-  returned-ends done s₁ k h = ends-give (record { later = later-cut audited k; sound = tt })
-  returned-ends saturated s₁ k h = ends-give (record { later = k; sound = tt })
-  returned-ends conflict s₁ k h = ends-give (record { later = k; sound = h })
-  returned-ends (propagate v y f) s₁ k h = ends-give (record { later = k; sound = h })
-  returned-ends (split atoms n) s₁ k h = ends-give (record { later = k; sound = h })
+  returned-ends : (x : Answer) (s₁ : Store) → Later s s₁ → Worth s s₁ (λ w. w a) (λ w. w b) x → StepGrows known e s s₁ (answered x) → Ends (StepGood known s e) (returned (s .reasons) x s₁)
+  returned-ends done s₁ k h j = ends-give (record { later = later-cut audited k; sound = tt; grows = tt })
+  returned-ends saturated s₁ k h j = ends-give (record { later = k; sound = tt; grows = tt })
+  returned-ends conflict s₁ k h j = ends-give (record { later = k; sound = h; grows = tt })
+  returned-ends (propagate v y f) s₁ k h j = ends-give (record { later = k; sound = h; grows = tt })
+  returned-ends (split atoms z n) s₁ k h j = ends-give (record { later = k; sound = h; grows = j })
 
-  resolved-ends : {s₁ s₂ : Store} {l r : List ℕ} → DeepFormed s s₁ a l → DeepFormed s₁ s₂ b r → (s₃ : Store) (x : Answer) → Resolved l r s₂ s₃ x → Ends (StepGood s e) (returned (s .reasons) x s₃)
-  resolved-ends {l = l} {r = r} p q s₃ x y =
+  -- the growth within wordeq, from the forms on
+  grows-from : {s₁ s₂ : Store} {l r : List ℕ} → deepForm known a s ≡ ok s₁ (some l) → deepForm known b s₁ ≡ ok s₂ (some r) → (s₃ : Store) (x : Answer) → Counts s₂ s₃ x → StepGrows known e s s₃ (answered x)
+  grows-from i j s₃ done k = tt
+  grows-from i j s₃ saturated k = tt
+  grows-from i j s₃ conflict k = tt
+  grows-from i j s₃ (propagate v y f) k = tt
+  grows-from {s₁} {s₂} {l} {r} i j s₃ (split atoms z n) k = record { left = l; right = r; afterLeft = s₁; afterBoth = s₂; leftForm = i; rightForm = j; grows = k .1 }
+
+  resolved-ends : {s₁ s₂ : Store} {l r : List ℕ} → DeepFormed s s₁ a l → deepForm known a s ≡ ok s₁ (some l) → DeepFormed s₁ s₂ b r → deepForm known b s₁ ≡ ok s₂ (some r)
+      → (s₃ : Store) (x : Answer) → Resolved l r s₂ s₃ x → Ends (StepGood known s e) (returned (s .reasons) x s₃)
+  resolved-ends {l = l} {r = r} p i q j s₃ x y =
       let k = later-then (p .later) (q .later) in
       returned-ends x s₃ (later-then k (y .later))
       (worth-back x (λ w. w a) (λ w. w b) (λ w. concatMap w l) (λ w. concatMap w r) (k .grown) (λ t i. p .variables t (q .variables t i)) (y .later .grown) (λ w w₁ f. f a (string-here s a left)) (λ w w₁ f. f b (string-here s b right))
-      (forms-equal p q (y .later .reasons)) (y .sound))
+      (forms-equal p q (y .later .reasons)) (y .sound)) (grows-from i j s₃ x (y .counts))
 
-  right-ends : {s₁ : Store} {l : List ℕ} → DeepFormed s s₁ a l → (s₂ : Store) (o : Option (List ℕ)) → Deepened s₁ b s₂ o
-      → Ends (StepGood s e) (orUnexpanded (s .reasons) (λ r. resolve l r g >>= returned (s .reasons)) o s₂)
-  right-ends p s₂ none y = ends-give (unexpanded-good s₂ (later-then (p .later) y))
-  right-ends {l = l} p s₂ (some r) y =
-      ends-then (returned (s .reasons)) (resolve l r g s₂) (resolve-ends l r g s₂ (y .later .audited) (strings-later (y .later .grown) (p .strings)) (y .strings)) (resolved-ends p y)
+  right-ends : {s₁ : Store} {l : List ℕ} → DeepFormed s s₁ a l → deepForm known a s ≡ ok s₁ (some l) → (s₂ : Store) (o : Option (List ℕ)) → Deepened s₁ b s₂ o × (deepForm known b s₁ ≡ ok s₂ o)
+      → Ends (StepGood known s e) (orUnexpanded (s .reasons) (λ r. resolve l r g >>= returned (s .reasons)) o s₂)
+  right-ends p i s₂ none y = ends-give (unexpanded-good s₂ (later-then (p .later) (y .0)))
+  right-ends {l = l} p i s₂ (some r) y =
+      ends-then (returned (s .reasons)) (resolve l r g s₂) (resolve-ends l r g s₂ (y .0 .later .audited) (strings-later (y .0 .later .grown) (p .strings)) (y .0 .strings)) (resolved-ends p i (y .0) (y .1))
 
-  left-ends : (s₁ : Store) (o : Option (List ℕ)) → Deepened s a s₁ o
-      → Ends (StepGood s e) (orUnexpanded (s .reasons) (λ l. deepForm known b >>= orUnexpanded (s .reasons) (λ r. resolve l r g >>= returned (s .reasons))) o s₁)
-  left-ends s₁ none y = ends-give (unexpanded-good s₁ y)
+  left-ends : (s₁ : Store) (o : Option (List ℕ)) → Deepened s a s₁ o × (deepForm known a s ≡ ok s₁ o)
+      → Ends (StepGood known s e) (orUnexpanded (s .reasons) (λ l. deepForm known b >>= orUnexpanded (s .reasons) (λ r. resolve l r g >>= returned (s .reasons))) o s₁)
+  left-ends s₁ none y = ends-give (unexpanded-good s₁ (y .0))
   left-ends s₁ (some l) y =
-      let g = y .later .grown in
-      ends-then _ (deepForm known b s₁) (form-ends known b s₁ (y .later .audited) (strings-later g strings) (grown-string g b right)) (right-ends y)
+      let g = y .0 .later .grown in
+      ends-then _ (deepForm known b s₁) (ends-known (form-ends known b s₁ (y .0 .later .audited) (strings-later g strings) (grown-string g b right))) (right-ends (y .0) (y .1))
 
-  ends : Ends (StepGood s e) (step known e g s)
+  ends : Ends (StepGood known s e) (step known e g s)
   unfolding step
-  ends = ends-then _ (deepForm known a s) (form-ends known a s audited strings left) left-ends
+  ends = ends-then _ (deepForm known a s) (ends-known (form-ends known a s audited strings left)) left-ends
 
-  pub step-gives : (s′ : Store) (x : Stepped) → step known e g s ≡ ok s′ x → StepGood s e s′ x
+  pub step-gives : (s′ : Store) (x : Stepped) → step known e g s ≡ ok s′ x → StepGood known s e s′ x
   step-gives s′ x q = ends .given s′ x q
 
   -- demand 3

@@ -124,7 +124,7 @@ fn say_answer(r: StepResult, reasons: &[u32], list: &[u32], was: State) -> State
             say_propagate(v, w, link, reasons, c.reasons);
             c
         }
-        StepResult::Split(c, n, g) => {
+        StepResult::Split(c, n, g, _) => {
             say_split(list, n, g, reasons, c.reasons);
             c
         }

@@ -108,7 +108,7 @@ empties-step {added} [] (a ∷ b ∷ r) s d hl hr =
     ends-if (all (isVariable s) (a ∷ b ∷ r)) _ _ (λ c. ends-then _ _ (constant-ends [] s d refl) (λ s₁ t m. by c s₁ t m (firstOf (λ v. not (same s₁ v t)) (a ∷ b ∷ r)) refl)) (λ c. step-pass d)
   where
     by : all (isVariable s) (a ∷ b ∷ r) ≡ true → (s₁ : Store) (t : ℕ) → ConstantMade [] s s₁ t → (y : Option ℕ) → firstOf (λ v. not (same s₁ v t)) (a ∷ b ∷ r) ≡ y → Ends (Good added [] (a ∷ b ∷ r) s) (emptiesAt t y s₁)
-    by c s₁ t m none q = ends-give (passes (later-made (m .made)) (m .made .variables (λ e. omega arith)) (m .made .reasons))
+    by c s₁ t m none q = ends-give (passes (later-made (m .made)) (m .made .variables (λ e. omega arith)) (m .made .reasons) (λ p q. absurd (omega arith)))
     by c s₁ t m (some v) q =
         step-propagate v t true (later-made (m .made)) (eqb-true _ _ (first-has _ (a ∷ b ∷ r) v (all-every (isVariable s) (a ∷ b ∷ r) c) q .0))
         (λ w rd h z. first-has _ (a ∷ b ∷ r) v (empty-each w (a ∷ b ∷ r) (sym z)) q .0 ∙ sym (constant-word m rd))

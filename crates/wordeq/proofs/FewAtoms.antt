@@ -1,19 +1,20 @@
--- A Split lists at most three atoms, and its guard is the one handed in, negated.
+-- A Split lists at most three atoms, its guard is the one handed in, negated, and it makes at most nine terms.
 use mathlib.Core.Path.{_≡_, refl, subst}
 use mathlib.Core.Bool.{Bool, true, false, not, _&&_, _||_}
 use mathlib.Core.List.{List, [], _∷_, _++_}
 use mathlib.Core.Option.{Option, none, some}
-use Prim.Native.Nat.{ℕ, suc, _≤_}
+use Prim.Native.Nat.{ℕ, suc, _+_, _≤_}
 use native.Mathlib.Omega.{arith}
 use lib.IntN.{ℤ, negℤ}
 use lib.ListN.{length}
 use Rattle.records.specs.Lists.{if_then_else_, all, any, firstOf}
 use Rattle.records.specs.Store.{Store, Out, ok, stop, Work, andThen, isConstant, isVariable, isConcat, text}
-use Rattle.records.specs.Make.{addKey, isKey, makeConstant, makeConcat, makeLength, makeEquation}
+use Rattle.records.specs.Make.{addKey, isKey, isSome, lookup, constantOf, lengthOf, equationOf, makeConstant, makeConcat, makeLength, makeEquation}
 use Rattle.records.proofs.Works.{stop-not}
 use Rattle.engine.specs.Explain.{explain}
 use Rattle.normalize.specs.Normalize.{flatten}
-use Rattle.wordeq.specs.Wordeq.{Answer, done, saturated, conflict, propagate, split, Tried, settled, _orElse_, same, matches, needsReason, fixed, letters, occurrence, occursAt, occurs, constants, alias, isPlain, emptiesAt, empties, assigns, fits, explainAll, variables, tileBy, tile, clashes, differ, freshVariable, splitCharacter, splitHeads, splitBy, splits, after, isBare, orDone, strip, steps, softened, closed, resolve, unequal, short, absent}
+use Rattle.wordeq.specs.Wordeq.{Answer, done, saturated, conflict, propagate, split, Tried, settled, _orElse_, same, matches, needsReason, fixed, letters, occurrence, occursAt, occurs, constants, alias, isPlain, emptiesAt, empties, assigns, fits, explainAll, variables, tileBy, tile, clashes, differ, oneIfAbsent, freshVariable, splitCharacter, splitHeads, splitBy, splits, after, isBare, orDone, strip, steps, softened, closed, resolve, unequal, short, absent}
+use Rattle.wordeq.proofs.Counted.{absence}
 
 -- WHAT EVERY VALUE OF A WORK HAS
 
@@ -48,9 +49,9 @@ module _ (g : ℤ) where
   Few saturated = Unit {0}
   Few conflict = Unit {0}
   Few (propagate v x f) = Unit {0}
-  Few (split l h) = (length l ≤ 3) × (h ≡ negℤ g)
+  Few (split l h n) = (length l ≤ 3) × (h ≡ negℤ g) × (n ≤ 9)
 
-  abbrev FewIf : Option Answer → Type 0
+  abbrev pub FewIf : Option Answer → Type 0
   FewIf none = Unit {0}
   FewIf (some x) = Few x
 
@@ -118,22 +119,38 @@ module _ (g : ℤ) where
   clashes-few (a ∷ l) [] s = give-has tt
   clashes-few (a ∷ l) (b ∷ r) s = if-has (isConstant s a && isConstant s b && differ (text s a) (text s b)) _ _ (give-has tt) (give-has tt)
 
+  one-most : (b : Bool) → (if b then 0 else 1) ≤ 1
+  one-most true = omega arith
+  one-most false = omega arith
+
+  -- what was absent
+  three-most : (s₁ s₂ s₃ : Store) (p q r : Store → ℕ → Bool) → absence p s₁ + absence q s₂ + absence r s₃ ≤ 3
+  three-most s₁ s₂ s₃ p q r = let a = one-most (isSome (lookup p s₁)) in let b = one-most (isSome (lookup q s₂)) in let c = one-most (isSome (lookup r s₃)) in omega arith
+
   character-few : (v c : ℕ) → Step (splitCharacter g v c)
-  unfolding splitCharacter
+  unfolding splitCharacter oneIfAbsent
   character-few v c s =
       then-has _ (makeConstant [] s) (λ s₁ e. then-has _ (makeEquation v e s₁) (λ s₂ p. then-has _ (makeConstant (c ∷ []) s₂) (λ s₃ h.
-      then-has _ (freshVariable s₃) (λ s₄ z. then-has _ (makeConcat (h ∷ z ∷ []) s₄) (λ s₅ t. then-has _ (makeEquation v t s₅) (λ s₆ q. give-has (omega arith, refl)))))))
+      then-has _ (freshVariable s₃) (λ s₄ z. then-has _ (makeConcat (h ∷ z ∷ []) s₄) (λ s₅ t. then-has _ (makeEquation v t s₅) (λ s₆ q.
+      let n = three-most s s₁ s₂ (constantOf []) (equationOf v e) (constantOf (c ∷ [])) in give-has (omega arith, refl, omega arith)))))))
 
   heads-few : (a b : ℕ) → Step (splitHeads g a b)
-  unfolding splitHeads
+  unfolding splitHeads oneIfAbsent
   heads-few a b s =
       then-has _ (makeLength a s) (λ s₁ la. then-has _ (makeLength b s₁) (λ s₂ lb. then-has _ (makeEquation la lb s₂) (λ s₃ p.
       then-has _ (freshVariable s₃) (λ s₄ z₁. then-has _ (makeConcat (b ∷ z₁ ∷ []) s₄) (λ s₅ t₁. then-has _ (makeEquation a t₁ s₅) (λ s₆ q₁.
-      then-has _ (freshVariable s₆) (λ s₇ z₂. then-has _ (makeConcat (a ∷ z₂ ∷ []) s₇) (λ s₈ t₂. then-has _ (makeEquation b t₂ s₈) (λ s₉ q₂. give-has (omega arith, refl))))))))))
+      then-has _ (freshVariable s₆) (λ s₇ z₂. then-has _ (makeConcat (a ∷ z₂ ∷ []) s₇) (λ s₈ t₂. then-has _ (makeEquation b t₂ s₈) (λ s₉ q₂.
+      let n = three-most s s₁ s₂ (lengthOf a) (lengthOf b) (equationOf la lb) in give-has (omega arith, refl, omega arith))))))))))
 
   by-few : (v : ℕ) (w : List ℕ) (other : Tried) → Step other → Step (splitBy g v w other)
   by-few v [] other h s = h s
   by-few v (x ∷ w) other h s = character-few v x s
+
+  -- behind the key
+  pub chosen-few : (a b : ℕ) (s s₁ : Store) → Always FewIf ((if isConstant s b then splitBy g a (text s b) (splitHeads g a b) else if isConstant s a then splitBy g b (text s a) (splitHeads g a b) else splitHeads g a b) s₁)
+  chosen-few a b s s₁ =
+      if-has (isConstant s b) _ _ (by-few a (text s b) (splitHeads g a b) (heads-few a b) s₁)
+      (if-has (isConstant s a) _ _ (by-few b (text s a) (splitHeads g a b) (heads-few a b) s₁) (heads-few a b s₁))
 
   splits-few : (needed : Bool) (l r : List ℕ) → Step (splits g needed l r)
   unfolding splits
@@ -142,8 +159,7 @@ module _ (g : ℤ) where
   splits-few needed (a ∷ l) (b ∷ r) s =
       if-has (isConstant s a && isConstant s b) _ _ (give-has tt)
       (if-has (needed || isKey s a b) _ _ (give-has tt)
-      (then-has _ (addKey a b s) (λ s₁ u. if-has (isConstant s b) _ _ (by-few a (text s b) (splitHeads g a b) (heads-few a b) s₁)
-      (if-has (isConstant s a) _ _ (by-few b (text s a) (splitHeads g a b) (heads-few a b) s₁) (heads-few a b s₁)))))
+      (then-has _ (addKey a b s) (λ s₁ u. chosen-few a b s s₁)))
 
   after-few : (needed : Bool) (l r : List ℕ) → Step (after g needed l r)
   unfolding after
@@ -172,14 +188,14 @@ module _ (g : ℤ) where
   soft-few saturated k = tt
   soft-few conflict k = tt
   soft-few (propagate v x f) k = tt
-  soft-few (split l h) k = k
+  soft-few (split l h n) k = k
 
   closed-few : (rs : List (ℕ × ℕ)) (s : Store) (x : Answer) → Few x → Always Few (closed rs x s)
   closed-few rs s done k = give-has tt
   closed-few rs s saturated k = give-has tt
   closed-few rs s conflict k = give-has tt
   closed-few rs s (propagate v x f) k = give-has tt
-  closed-few rs s (split l h) k = give-has k
+  closed-few rs s (split l h n) k = give-has k
 
   pub resolve-few : (l r : List ℕ) (s : Store) → Always Few (resolve l r g s)
   unfolding resolve

@@ -7,6 +7,7 @@ mod OnePass
 mod Occurs
 mod Tile
 mod Constants
+mod Counted
 mod Split
 pub mod Resolve
 pub mod Equal

@@ -3,11 +3,11 @@ use mathlib.Core.Path.{_≡_, refl, sym, ap, subst, _∙_}
 use mathlib.Core.Bool.{Bool, true, false}
 use mathlib.Core.List.{List, _++_}
 use mathlib.Core.Option.{Option, none, some}
-use Prim.Native.Nat.{ℕ}
+use Prim.Native.Nat.{ℕ, _+_}
 use native.Mathlib.Omega.{arith}
 use lib.IntN.{ℤ}
 use Rattle.records.specs.Lists.{if_then_else_, all, any, concatMap}
-use Rattle.records.specs.Store.{Store, Out, ok, stop, _>>=_, give, isConcat, isString}
+use Rattle.records.specs.Store.{Store, Out, ok, stop, _>>=_, give, count, isConcat, isString}
 use Rattle.records.specs.Make.{withReasons}
 use Rattle.records.specs.Meaning
 use Rattle.records.specs.Meaning.{Words, Reading, Holds, True}
@@ -47,14 +47,22 @@ after-step g needed l r n =
 -- STEPS 1 TO 8
 
 -- what work gives, and that it gives it
-ends-known : {A : Type 0} {P : Store → A → Type 0} {o : Out A} → Ends P o → Ends (λ s x. P s x × (o ≡ ok s x)) o
+pub ends-known : {A : Type 0} {P : Store → A → Type 0} {o : Out A} → Ends P o → Ends (λ s x. P s x × (o ≡ ok s x)) o
 ends-known e = record { given = λ s x q. (e .given s x q, q); stopped = e .stopped }
 
--- a run of the steps; a Split adds no reason
+-- a Split adds no reason, and its number is that of the terms made
+abbrev pub Counts : Store → Store → Answer → Type 0
+Counts s s′ done = Unit {0}
+Counts s s′ saturated = Unit {0}
+Counts s s′ conflict = Unit {0}
+Counts s s′ (propagate v y f) = Unit {0}
+Counts s s′ (split atoms g n) = (s′ .reasons ≡ s .reasons) × (count s′ ≡ n + count s)
+
+-- a run of the steps
 pub record Ran (l r : List ℕ) (s s′ : Store) (x : Answer) : Type 0 where
   pub later : Later s s′
   pub sound : Sound s s′ l r x
-  pub calm : Calm false s s′ x
+  pub counts : Counts s s′ x
 
 data Stepped (l r : List ℕ) (s s′ : Store) : Option Answer → Type 0 where
   nothing : Later s s′ → Stepped l r s s′ none
@@ -64,23 +72,23 @@ module _ (l r : List ℕ) (s : Store) (hl : Strings s l) (hr : Strings s r) wher
   -- what is sound of the stripped sides is sound of the sides
   stepped : (needed : Bool) (s₁ : Store) (v : List ℕ × List ℕ) → Stripped l r s s₁ v → (needed ≡ false → s₁ .reasons ≡ s .reasons)
       → (s′ : Store) (o : Option Answer) → Good needed (v .0) (v .1) s₁ s′ o → Stepped l r s s′ o
-  stepped needed s₁ v t a s′ none (passes k u e) = nothing (later-then (later-cited (t .cited)) k)
+  stepped needed s₁ v t a s′ none (passes k u e i) = nothing (later-then (later-cited (t .cited)) k)
   stepped needed s₁ v t a s′ (some x) (answers k h c) =
       something (record {
         later = later-then (later-cited (t .cited)) k;
         sound = worth-back x (λ w. concatMap w l) (λ w. concatMap w r) (λ w. concatMap w (v .0)) (λ w. concatMap w (v .1)) (t .cited .grown) (variables-added (t .cited .added)) (k .grown) (concatMap-local s hl) (concatMap-local s hr) sides h;
-        calm = calmed x c;
+        counts = counted x c;
       })
     where
       sides : Under s₁ (s′ .reasons) (λ w. concatMap w l ≡ concatMap w r → concatMap w (v .0) ≡ concatMap w (v .1))
       sides w rd u = t .cited .holds w (t .cited .grown .down w rd) (holds-earlier (k .reasons) (holds-before (t .cited .grown) (s′ .reasons) u))
 
-      calmed : (x : Answer) → Calm needed s₁ s′ x → Calm false s s′ x
-      calmed done c = tt
-      calmed saturated c = tt
-      calmed conflict c = tt
-      calmed (propagate v y f) c = tt
-      calmed (split atoms g) c = (refl, c .1 ∙ a (c .0))
+      counted : (x : Answer) → Calm needed (v .0) (v .1) s₁ s′ x → Counts s s′ x
+      counted done c = tt
+      counted saturated c = tt
+      counted conflict c = tt
+      counted (propagate v y f) c = tt
+      counted (split atoms g n) c = (c .reasons ∙ a (c .unneeded), c .counts ∙ ap (λ (x : Store). n + count x) (t .cited .added .is))
 
   pub steps-ends : (g : ℤ) → Audited s → Ends (Ran l r s) (steps g l r s)
   unfolding steps
@@ -93,11 +101,11 @@ module _ (l r : List ℕ) (s : Store) (hl : Strings s l) (hr : Strings s r) wher
           → Ends (Stepped l r s) ((if isBare (v .0) (v .1) then answer done else after g (any (needsReason s) (matches s l r)) (v .0) (v .1)) s₁)
       tried s₁ v t e =
           ends-if (isBare (v .0) (v .1)) _ _
-          (λ b. ends-give (something (record { later = later-cited (t .cited); sound = tt; calm = tt })))
+          (λ b. ends-give (something (record { later = later-cited (t .cited); sound = tt; counts = tt })))
           (λ b. ends-map (stepped _ s₁ v t (still s₁ v e)) (after-step g _ (v .0) (v .1) (t .apart) s₁ (t .cited .audited) (t .left) (t .right)))
 
       finished : (s₂ : Store) (o : Option Answer) → Stepped l r s s₂ o → Ends (Ran l r s) (orDone o s₂)
-      finished s₂ none (nothing k) = ends-give (record { later = k; sound = tt; calm = tt })
+      finished s₂ none (nothing k) = ends-give (record { later = k; sound = tt; counts = tt })
       finished s₂ (some x) (something k) = ends-give k
 
 -- FLATTENED
@@ -114,15 +122,15 @@ flatten-ends l s d h =
 
 module _ (l r m n : List ℕ) (s : Store) (hl : Strings s l) (hr : Strings s r) (fl : (w : Words) → Reading s w → concatMap w l ≡ concatMap w m) (fr : (w : Words) → Reading s w → concatMap w r ≡ concatMap w n) where
   ran-flat : (s′ : Store) (x : Answer) → Ran m n s s′ x → Ran l r s s′ (softened x)
-  ran-flat s′ x k = soft x (k .calm) (worth-back x (λ w. concatMap w l) (λ w. concatMap w r) (λ w. concatMap w m) (λ w. concatMap w n) (grown-none s) (λ t e. e) (k .later .grown) (concatMap-local s hl) (concatMap-local s hr)
+  ran-flat s′ x k = soft x (k .counts) (worth-back x (λ w. concatMap w l) (λ w. concatMap w r) (λ w. concatMap w m) (λ w. concatMap w n) (grown-none s) (λ t e. e) (k .later .grown) (concatMap-local s hl) (concatMap-local s hr)
       (λ w rd h e. sym (fl w rd) ∙ e ∙ fr w rd) (k .sound))
     where
-      soft : (x : Answer) → Calm false s s′ x → Sound s s′ l r x → Ran l r s s′ (softened x)
-      soft done c h = record { later = k .later; sound = h; calm = c }
-      soft saturated c h = record { later = k .later; sound = h; calm = c }
-      soft conflict c h = record { later = k .later; sound = tt; calm = tt }
-      soft (propagate v y f) c h = record { later = k .later; sound = h; calm = c }
-      soft (split atoms g) c h = record { later = k .later; sound = h; calm = c }
+      soft : (x : Answer) → Counts s s′ x → Sound s s′ l r x → Ran l r s s′ (softened x)
+      soft done c h = record { later = k .later; sound = h; counts = c }
+      soft saturated c h = record { later = k .later; sound = h; counts = c }
+      soft conflict c h = record { later = k .later; sound = tt; counts = tt }
+      soft (propagate v y f) c h = record { later = k .later; sound = h; counts = c }
+      soft (split atoms g n) c h = record { later = k .later; sound = h; counts = c }
 
 -- CLOSED
 
@@ -132,13 +140,14 @@ Incoming s s′ done = s′ .reasons ≡ s .reasons
 Incoming s s′ saturated = s′ .reasons ≡ s .reasons
 Incoming s s′ conflict = Unit {0}
 Incoming s s′ (propagate v y f) = Unit {0}
-Incoming s s′ (split atoms g) = s′ .reasons ≡ s .reasons
+Incoming s s′ (split atoms g n) = s′ .reasons ≡ s .reasons
 
 -- what resolve gives
 pub record Resolved (l r : List ℕ) (s s′ : Store) (x : Answer) : Type 0 where
   pub later : Later s s′
   pub sound : Sound s s′ l r x
   pub incoming : Incoming s s′ x
+  pub counts : Counts s s′ x
 
 module _ (s₁ : Store) (rs : List (ℕ × ℕ)) where
   true-cut : {w : Words} {a : ℕ} → True s₁ w a → True (withReasons s₁ rs) w a
@@ -156,15 +165,16 @@ module _ (s₁ : Store) (rs : List (ℕ × ℕ)) where
   }
 
 closed-ends : (l r : List ℕ) (s s₁ : Store) → Audited s → (x : Answer) → Ran l r s s₁ x → Ends (Resolved l r s) (closed (s .reasons) x s₁)
-closed-ends l r s s₁ d done k = ends-give (record { later = later-cut d (k .later); sound = tt; incoming = refl })
-closed-ends l r s s₁ d saturated k = ends-give (record { later = later-cut d (k .later); sound = tt; incoming = refl })
-closed-ends l r s s₁ d conflict k = ends-give (record { later = k .later; sound = k .sound; incoming = tt })
-closed-ends l r s s₁ d (propagate v y f) k = ends-give (record { later = k .later; sound = k .sound; incoming = tt })
-closed-ends l r s s₁ d (split atoms g) k =
+closed-ends l r s s₁ d done k = ends-give (record { later = later-cut d (k .later); sound = tt; incoming = refl; counts = tt })
+closed-ends l r s s₁ d saturated k = ends-give (record { later = later-cut d (k .later); sound = tt; incoming = refl; counts = tt })
+closed-ends l r s s₁ d conflict k = ends-give (record { later = k .later; sound = k .sound; incoming = tt; counts = tt })
+closed-ends l r s s₁ d (propagate v y f) k = ends-give (record { later = k .later; sound = k .sound; incoming = tt; counts = tt })
+closed-ends l r s s₁ d (split atoms g n) k =
     ends-give (record {
       later = later-cut d (k .later);
-      sound = λ w rd h e. chosen-cut s₁ (s .reasons) (k .sound w rd (subst (λ (x : List (ℕ × ℕ)). Holds s x w) (sym (k .calm .1)) h) e);
+      sound = λ w rd h e. chosen-cut s₁ (s .reasons) (k .sound w rd (subst (λ (x : List (ℕ × ℕ)). Holds s x w) (sym (k .counts .0)) h) e);
       incoming = refl;
+      counts = (refl, k .counts .1);
     })
 
 -- RESOLVE
@@ -194,6 +204,9 @@ module _ (l r : List ℕ) (g : ℤ) (s : Store) (audited : Audited s) (left : al
 
   pub resolve-sound : (s′ : Store) (x : Answer) → resolve l r g s ≡ ok s′ x → Sound s s′ l r x
   resolve-sound s′ x e = resolve-gives s′ x e .sound
+
+  pub resolve-grows : (s′ : Store) (atoms : List ℕ) (h : ℤ) (n : ℕ) → resolve l r g s ≡ ok s′ (split atoms h n) → count s′ ≡ n + count s
+  resolve-grows s′ atoms h n e = resolve-gives s′ (split atoms h n) e .counts .1
 
   pub resolve-kept : (s′ : Store) (x : Answer) → resolve l r g s ≡ ok s′ x → Audited s′
   resolve-kept s′ x e = resolve-gives s′ x e .later .audited

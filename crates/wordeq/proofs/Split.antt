@@ -1,34 +1,36 @@
 -- Step 7: both splits.
-use mathlib.Core.Path.{_≡_, refl, sym, ap, _∙_}
+use mathlib.Core.Path.{_≡_, refl, sym, ap, subst, _∙_}
 use mathlib.Core.Bool.{Bool, true, false, _&&_, _||_}
 use mathlib.Core.List.{List, [], _∷_, _++_, append-nil, List·Memᴰ, List·Memᴰ·head, List·Memᴰ·tail}
 use mathlib.Core.Logic.{⊎-elim}
-use Prim.Native.Nat.{ℕ, _≤_}
+use Prim.Native.Nat.{ℕ, _-_, _≤_}
 use native.Mathlib.Omega.{arith}
 use native.Mathlib.Decide.{decLe, ℕ-discrete}
 use lib.ListN.{length, drop}
 use lib.IntN.{ℤ, negℤ}
-use borrow.Author.Tests.{eqb-true, eq-eqb}
+use borrow.Author.Tests.{eqb-true}
 use Rattle.records.specs.Lists.{if_then_else_, all, concatMap, none-left, and}
 use Rattle.records.specs.Store.{Store, Term, count, term, kind, within, isConstant, isString, text}
 use Rattle.records.specs.Rules.{isChar, isEquatable}
 use Rattle.records.specs.Make.{addKey, isKey, makeConcat, makeLength, makeEquation}
 use Rattle.records.specs.Meaning.{Words, Reading, True}
 use Rattle.records.specs.Working.Audited.{Audited}
-use Rattle.records.proofs.Lists.{both-left, both-right, both-true, or-left, or-right, every-all, all-drop}
+use Rattle.records.proofs.Lists.{both-left, both-right, both-true, every-all, all-drop}
 use Rattle.records.proofs.Readings.{text-characters}
 use Rattle.records.proofs.Grown.{Grown, grown-then, grown-kind, grown-string, present, string-here}
 use Rattle.records.proofs.Kept.{made-string, ConcatMade, concat-kept, concat-stops, LengthMade, length-kept, length-stops, EquationMade, equation-kept, equation-stops, KeyAdded, key-kept, key-stops, Fresh, fresh-kept, fresh-stops}
 use Rattle.records.proofs.Meant.{constant-word, concat-word, equation-true, lengths-true, grown-true}
 use Rattle.records.proofs.Outcomes.{ends-give, ends-map, ends-by, ends-if, ends-then}
-use Rattle.wordeq.specs.Wordeq.{split, Tried, answer, freshVariable, splitCharacter, splitHeads, splitBy, splits}
+use Rattle.wordeq.specs.Wordeq.{split, Tried, freshVariable, splitCharacter, splitHeads, splitBy, splits}
 use Rattle.wordeq.specs.Meaning.{Chosen, Sound}
+use Rattle.wordeq.specs.Working.Heads.{splitFrom}
 use Rattle.wordeq.proofs.Words.{longer-is, first-is}
 use Rattle.wordeq.proofs.Ends.{Ends}
 use Rattle.wordeq.proofs.Good.{Good, answers, good-after, good-flip, Step, step-pass}
 use Rattle.records.proofs.Later.{Later, later-none, later-then, later-made, later-key}
 use Rattle.wordeq.proofs.Strip.{Apart}
 use Rattle.wordeq.proofs.Constants.{constant-ends}
+use Rattle.wordeq.proofs.Counted.{equatable-strings, equatable-lengths, character-counted, heads-counted}
 
 -- MAKING
 
@@ -49,14 +51,6 @@ fresh-ends s d = record {
   stopped = λ n e.
       ⊎-elim (λ h. record { from = omega arith; to = omega arith }) (λ h. record { from = omega arith; to = omega arith }) (fresh-stops s n e);
 }
-
-pub equatable-strings : (s : Store) (a b : ℕ) → isString s a ≡ true → isString s b ≡ true → isEquatable s a b ≡ true
-unfolding isEquatable
-equatable-strings s a b p q = or-left (isString s a && isString s b) _ (both-true _ _ p q)
-
-pub equatable-lengths : (s : Store) (a b : ℕ) → kind s a ≡ 4 → kind s b ≡ 4 → isEquatable s a b ≡ true
-unfolding isEquatable
-equatable-lengths s a b p q = or-right (isString s a && isString s b) _ (both-true _ _ (eq-eqb _ _ p) (eq-eqb _ _ q))
 
 -- a concatenation of two made has their words in each later store
 pair-word : {a b : ℕ} {s s₁ s₂ : Store} {t : ℕ} (w : Words) → ConcatMade (a ∷ b ∷ []) s s₁ t → Grown s₁ s₂ → Reading s₂ w → w t ≡ w a ++ w b
@@ -123,14 +117,14 @@ variables-agree s f t k = f t (present s t 1 k)
 -- WAYS
 
 -- a word is as long as another, or longer, or shorter
-three-ways : (a b : ℕ) (l r : List ℕ) (e₁ e₂ e₃ z₁ z₂ : ℕ) (g : ℤ) (s s₉ : Store) → a ≤ count s → b ≤ count s
+three-ways : (a b : ℕ) (l r : List ℕ) (e₁ e₂ e₃ z₁ z₂ : ℕ) (g : ℤ) (n : ℕ) (s s₉ : Store) → a ≤ count s → b ≤ count s
     → ((w : Words) → Reading s w → (u₁ u₂ : List ℕ) → all isChar u₁ ≡ true → all isChar u₂ ≡ true → Two s s₉ w z₁ z₂ u₁ u₂)
     → ((w : Words) → Reading s₉ w → length (w a) ≡ length (w b) → True s₉ w e₁)
     → ((w : Words) → Reading s₉ w → w a ≡ w b ++ w z₁ → True s₉ w e₂)
     → ((w : Words) → Reading s₉ w → w b ≡ w a ++ w z₂ → True s₉ w e₃)
-    → Sound s s₉ (a ∷ l) (b ∷ r) (split (e₁ ∷ e₂ ∷ e₃ ∷ []) g)
+    → Sound s s₉ (a ∷ l) (b ∷ r) (split (e₁ ∷ e₂ ∷ e₃ ∷ []) g n)
 unfolding concatMap all
-three-ways a b l r e₁ e₂ e₃ z₁ z₂ g s s₉ ha hb pick is-long is-first is-second w rd h e =
+three-ways a b l r e₁ e₂ e₃ z₁ z₂ g n s s₉ ha hb pick is-long is-first is-second w rd h e =
     go (ℕ-discrete (length (w a)) (length (w b))) (decLe (length (w b)) (length (w a)))
   where
     chosen : {u₁ u₂ : List ℕ} (t : Two s s₉ w z₁ z₂ u₁ u₂) (x : ℕ) → List·Memᴰ x (e₁ ∷ e₂ ∷ e₃ ∷ []) → True s₉ (t .words) x → Chosen s s₉ w (e₁ ∷ e₂ ∷ e₃ ∷ [])
@@ -149,13 +143,13 @@ three-ways a b l r e₁ e₂ e₃ z₁ z₂ g s s₉ ha hb pick is-long is-first
         (is-second (t .words) (t .reading) (rw (t .agree a ha, t .agree b hb, t .two) (longer-is (w b) (w a) (concatMap w r) (concatMap w l) (sym e) (omega arith))))
 
 -- a word is empty, or begins with the character
-two-ways : (v b c : ℕ) (cs l r : List ℕ) (e₁ e₂ z : ℕ) (g : ℤ) (s s₉ : Store) → v ≤ count s → kind s b ≡ 1 → text s b ≡ c ∷ cs
+two-ways : (v b c : ℕ) (cs l r : List ℕ) (e₁ e₂ z : ℕ) (g : ℤ) (n : ℕ) (s s₉ : Store) → v ≤ count s → kind s b ≡ 1 → text s b ≡ c ∷ cs
     → ((w : Words) → Reading s w → (u : List ℕ) → all isChar u ≡ true → One s s₉ w z u)
     → ((w : Words) → Reading s₉ w → w v ≡ [] → True s₉ w e₁)
     → ((w : Words) → Reading s₉ w → w v ≡ (c ∷ []) ++ w z → True s₉ w e₂)
-    → Sound s s₉ (v ∷ l) (b ∷ r) (split (e₁ ∷ e₂ ∷ []) g)
+    → Sound s s₉ (v ∷ l) (b ∷ r) (split (e₁ ∷ e₂ ∷ []) g n)
 unfolding concatMap all
-two-ways v b c cs l r e₁ e₂ z g s s₉ hv kb tb pick is-empty is-char w rd h e =
+two-ways v b c cs l r e₁ e₂ z g n s s₉ hv kb tb pick is-empty is-char w rd h e =
     go (w v) refl (e ∙ ap (λ (y : List ℕ). y ++ concatMap w r) (rd .constants b kb ∙ tb))
   where
     chosen : {u : List ℕ} (t : One s s₉ w z u) (x : ℕ) → List·Memᴰ x (e₁ ∷ e₂ ∷ []) → True s₉ (t .words) x → Chosen s s₉ w (e₁ ∷ e₂ ∷ [])
@@ -174,12 +168,13 @@ two-ways v b c cs l r e₁ e₂ z g s s₉ hv kb tb pick is-empty is-char w rd h
 -- THE SPLITS
 
 module _ {needed : Bool} (none-added : needed ≡ false) (g : ℤ) where
-  split-ends : {l r : List ℕ} (atoms : List ℕ) {s s₁ : Store} → Later s s₁ → s₁ .reasons ≡ s .reasons → Sound s s₁ l r (split atoms (negℤ g)) → Ends (Good needed l r s) (answer (split atoms (negℤ g)) s₁)
-  split-ends atoms k n h = ends-give (answers k h (none-added, n))
+  split-ends : {a b : ℕ} {l r : List ℕ} (atoms : List ℕ) {s s₁ : Store} → Later s s₁ → s₁ .reasons ≡ s .reasons → ((n : ℕ) → Sound s s₁ (a ∷ l) (b ∷ r) (split atoms (negℤ g) n)) → Ends (Good needed (a ∷ l) (b ∷ r) s) (splitFrom g (count s) atoms s₁)
+  unfolding splitFrom
+  split-ends atoms {s} {s₁} k n h = let m = k .grown .more in ends-give (answers k (h (count s₁ - count s)) (record { unneeded = none-added; reasons = n; left = omega arith; right = omega arith; counts = omega arith }))
 
   pub heads-split : (a b : ℕ) (l r : List ℕ) (s : Store) → Audited s → isString s a ≡ true → isString s b ≡ true → Ends (Good needed (a ∷ l) (b ∷ r) s) (splitHeads g a b s)
-  unfolding splitHeads within
-  heads-split a b l r s d sa sb =
+  unfolding within
+  heads-split a b l r s d sa sb = subst (Ends (Good needed (a ∷ l) (b ∷ r) s)) (sym (heads-counted g s d a b sa sb)) (
       ends-then _ _ (length-ends a s d sa) λ s₁ la m₁.
       let k₁ = later-made (m₁ .made) in
       ends-then _ _ (length-ends b s₁ (k₁ .audited) (grown-string (k₁ .grown) b sb)) λ s₂ lb m₂.
@@ -206,20 +201,22 @@ module _ {needed : Bool} (none-added : needed ≡ false) (g : ℤ) where
       let still = m₉ .made .reasons ∙ m₈ .made .reasons ∙ m₇ .made .reasons ∙ m₆ .made .reasons ∙ m₅ .made .reasons ∙ m₄ .made .reasons ∙ m₃ .made .reasons ∙ m₂ .made .reasons ∙ m₁ .made .reasons in
       let la-first : term s₂ la .first ≡ a = ap (λ (x : Term). x .first) (m₂ .made .grown .old la (present s₁ la 3 (m₁ .made .kind-is))) ∙ m₁ .first-is in
       split-ends (p ∷ q₁ ∷ q₂ ∷ []) k₉ still
-      (three-ways a b l r p q₁ q₂ z₁ z₂ (negℤ g) s s₉ (string-here s a sa) (string-here s b sb)
+      (λ n. three-ways a b l r p q₁ q₂ z₁ z₂ (negℤ g) n s s₉ (string-here s a sa) (string-here s b sb)
       (choose-two s s₃ s₄ s₆ s₇ s₉ z₁ z₂ (k₃ .grown) m₄ (grown-then (m₅ .made .grown) (m₆ .made .grown)) m₇ g₇₉)
       (λ w rd h. grown-true g₃₉ (k₃ .audited .recorded) p (lengths-true la lb a b m₃ la-kind (m₂ .made .kind-is) la-first (m₂ .first-is) h))
       (λ w rd h. grown-true g₆₉ (k₆ .audited .recorded) q₁ (equation-true a t₁ m₆ (grown-string (k₅ .grown) a sa) (h ∙ sym (pair-word w m₅ g₅₉ rd))))
-      (λ w rd h. equation-true b t₂ m₉ (grown-string (k₈ .grown) b sb) (h ∙ sym (pair-word w m₈ (m₉ .made .grown) rd))))
+      (λ w rd h. equation-true b t₂ m₉ (grown-string (k₈ .grown) b sb) (h ∙ sym (pair-word w m₈ (m₉ .made .grown) rd)))))
 
   pub character-split : (v b c : ℕ) (cs l r : List ℕ) (s : Store) → Audited s → isString s v ≡ true → kind s b ≡ 1 → text s b ≡ c ∷ cs → Ends (Good needed (v ∷ l) (b ∷ r) s) (splitCharacter g v c s)
-  unfolding splitCharacter all within
+  unfolding all within
   character-split v b c cs l r s d sv kb tb =
+      let good : isChar c ≡ true = both-left (isChar c) _ (ap (all isChar) (sym tb) ∙ text-characters s (d .recorded) b) in
+      subst (Ends (Good needed (v ∷ l) (b ∷ r) s)) (sym (character-counted g s d v c sv good)) (
       ends-then _ _ (constant-ends [] s d refl) λ s₁ n m₁.
       let k₁ = later-made (m₁ .made) in
       ends-then _ _ (equation-ends v n s₁ (k₁ .audited) (equatable-strings s₁ v n (grown-string (k₁ .grown) v sv) (made-string (m₁ .made) refl))) λ s₂ p m₂.
       let k₂ = later-then k₁ (later-made (m₂ .made)) in
-      ends-then _ _ (constant-ends (c ∷ []) s₂ (k₂ .audited) (both-true (isChar c) true (both-left (isChar c) _ (ap (all isChar) (sym tb) ∙ text-characters s (d .recorded) b)) refl)) λ s₃ h m₃.
+      ends-then _ _ (constant-ends (c ∷ []) s₂ (k₂ .audited) (both-true (isChar c) true good refl)) λ s₃ h m₃.
       let k₃ = later-then k₂ (later-made (m₃ .made)) in
       ends-then _ _ (fresh-ends s₃ (k₃ .audited)) λ s₄ z m₄.
       let k₄ = later-then k₃ (later-made (m₄ .made)) in
@@ -233,11 +230,11 @@ module _ {needed : Bool} (none-added : needed ≡ false) (g : ℤ) where
       let g₁₆ = grown-then (m₂ .made .grown) g₂₆ in
       let still = m₆ .made .reasons ∙ m₅ .made .reasons ∙ m₄ .made .reasons ∙ m₃ .made .reasons ∙ m₂ .made .reasons ∙ m₁ .made .reasons in
       split-ends (p ∷ q ∷ []) k₆ still
-      (two-ways v b c cs l r p q z (negℤ g) s s₆ (string-here s v sv) kb tb
+      (λ j. two-ways v b c cs l r p q z (negℤ g) j s s₆ (string-here s v sv) kb tb
       (choose-one s s₃ s₄ s₆ z (k₃ .grown) m₄ g₄₆)
       (λ w rd e. grown-true g₂₆ (k₂ .audited .recorded) p (equation-true v n m₂ (grown-string (k₁ .grown) v sv) (e ∙ sym (constant-word m₁ (g₁₆ .down w rd)))))
       (λ w rd e. equation-true v t m₆ (grown-string (k₅ .grown) v sv)
-      (e ∙ ap (λ (y : List ℕ). y ++ w z) (sym (constant-word m₃ (g₃₆ .down w rd))) ∙ sym (pair-word w m₅ (m₆ .made .grown) rd))))
+      (e ∙ ap (λ (y : List ℕ). y ++ w z) (sym (constant-word m₃ (g₃₆ .down w rd))) ∙ sym (pair-word w m₅ (m₆ .made .grown) rd)))))
 
   -- where one head has a first character
   split-by : (v b : ℕ) (l r cs : List ℕ) (other : Tried) (s : Store) → Audited s → isString s v ≡ true → kind s b ≡ 1 → text s b ≡ cs
@@ -272,7 +269,7 @@ splits-step g needed (a ∷ l) (b ∷ r) n s d (and sa hl) (and sb hr) =
     ends-if (isConstant s a && isConstant s b) _ _ (λ c. step-pass d) (λ c. ends-if (needed || isKey s a b) _ _
     (λ e. ends-give (answers (later-none d) tt tt))
     (λ e. ends-then _ _ (key-ends a b s d sa sb n) (λ s₁ u k.
-    ends-map (λ s′ o h. good-after (and sa hl) (and sb hr) (later-key k) (λ t i. ap (λ (x : Store). kind x t) (sym (k .is)) ∙ i) (k .reasons) h) (keyed-split (no-left needed e) g a b l r s s₁ (k .grown) (k .audited) sa sb))))
+    ends-map (λ s′ o h. good-after (and sa hl) (and sb hr) (later-key k) (λ t i. ap (λ (x : Store). kind x t) (sym (k .is)) ∙ i) (k .reasons) (λ p q. ap (λ (x : Store). count x) (k .is)) h) (keyed-split (no-left needed e) g a b l r s s₁ (k .grown) (k .audited) sa sb))))
   where
     no-left : (x : Bool) → x || isKey s a b ≡ false → x ≡ false
     no-left true e = e

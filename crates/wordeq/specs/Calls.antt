@@ -3,10 +3,10 @@ use mathlib.Core.Path.{_≡_}
 use mathlib.Core.Bool.{Bool, _&&_}
 use mathlib.Core.List.{List}
 use lib.ListN.{take}
-use Prim.Native.Nat.{ℕ, _<_}
+use Prim.Native.Nat.{ℕ, _+_, _<_}
 use lib.IntN.{ℤ}
 use Rattle.records.specs.declared.State.{State}
-use Rattle.records.specs.Store.{Store, Out, ok, stop, Work}
+use Rattle.records.specs.Store.{Store, Out, ok, stop, Work, count}
 use Rattle.records.specs.View.{Lent, storeOf}
 use Rattle.records.specs.Make.{EachOnce}
 use Rattle.records.specs.Rules.{isList}
@@ -51,11 +51,13 @@ resolved (step.Done c) m k = ok (storeOf m c) done
 resolved (step.Saturated c) m k = ok (storeOf m c) saturated
 resolved (step.Conflict c) m k = ok (storeOf m c) conflict
 resolved (step.Propagate c v w f) m k = ok (storeOf m c) (propagate v w f)
-resolved (step.Split c n g) m k = ok (storeOf m c) (split (take n k) g)
+resolved (step.Split c n g j) m k = ok (storeOf m c) (split (take n k) g j)
 resolved (step.Refused n) m k = stop n
 
--- its answer, and what it is worth: demand 3. The reasons at exit are those at entry and then reasons that the list lacked, each once
+-- its answer, and what it is worth: demand 3. The reasons at exit are those at entry and then reasons that the list lacked, each once. A
+-- Split's number 'equals the growth of the term count within wordeq'
 pub record PublicResolve (l r : List ℕ) (g : ℤ) (m m′ : Lent) (k k′ : List ℕ) (c : State) (o : Out Answer) : Type 0 where
   pub is : PublicList (listCall k (resolveArguments l r g) (resolve l r g) m c) m m′ k k′ c o
   pub worth : (s′ : Store) (x : Answer) → o ≡ ok s′ x → Sound (storeOf m c) s′ l r x
   pub once : (s′ : Store) (x : Answer) → o ≡ ok s′ x → EachOnce (storeOf m c .reasons) (s′ .reasons)
+  pub grows : (s′ : Store) (atoms : List ℕ) (h : ℤ) (n : ℕ) → o ≡ ok s′ (split atoms h n) → count s′ ≡ n + count (storeOf m c)

@@ -32,7 +32,7 @@ Worth s s′ L R done = Unit {0}
 Worth s s′ L R saturated = Unit {0}
 Worth s s′ L R conflict = (w : Words) → Reading s w → Holds s (s′ .reasons) w → L w ≡ R w → ⊥
 Worth s s′ L R (propagate v x k) = Propagates s s′ L R v x
-Worth s s′ L R (split atoms g) = (w : Words) → Reading s w → Holds s (s′ .reasons) w → L w ≡ R w → Chosen s s′ w atoms
+Worth s s′ L R (split atoms g n) = (w : Words) → Reading s w → Holds s (s′ .reasons) w → L w ≡ R w → Chosen s s′ w atoms
 
 -- 'The two sides are the two lists'
 abbrev pub Sound : Store → Store → List ℕ → List ℕ → Answer → Type 0

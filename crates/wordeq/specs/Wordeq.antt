@@ -8,18 +8,18 @@ use lib.IntN.{ℤ, pos, negsuc, negℤ}
 use lib.Dec.{eqb, ltb}
 use Rattle.records.specs.Lists.{if_then_else_, all, any, firstOf, keep, concatMap, sameWord, isIn}
 use Rattle.records.specs.Store.{Store, ok, Work, _>>=_, _>>_, give, store, isConstant, isVariable, isConcat, text, sameClass}
-use Rattle.records.specs.Make.{withReasons, addKey, isKey, makeConstant, makeVariable, makeConcat, makeLength, makeEquation, strk, takeName}
+use Rattle.records.specs.Make.{withReasons, addKey, isKey, isSome, lookup, constantOf, lengthOf, equationOf, makeConstant, makeVariable, makeConcat, makeLength, makeEquation, strk, takeName}
 use Rattle.engine.specs.Explain.{explain, isReasoned}
 use Rattle.normalize.specs.Normalize.{flatten}
 use Rattle.records.specs.Rules.{isList}
 
--- the answers: Propagate's variable, word and link flag; Split's atoms and the guard negated
+-- the answers: Propagate's variable, word and link flag; Split's atoms, the guard negated and the number of terms made
 pub data Answer : Type 0 where
   done : Answer
   saturated : Answer
   conflict : Answer
   propagate : ℕ → ℕ → Bool → Answer
-  split : List ℕ → ℤ → Answer
+  split : List ℕ → ℤ → ℕ → Answer
 
 -- a step answers, or the next step is tried
 abbrev pub Tried : Type 0
@@ -241,20 +241,35 @@ clashes (a ∷ l) (b ∷ r) = do
 unfoldable pub freshVariable : Work ℕ
 freshVariable = takeName >>= makeVariable
 
+-- Document 02, Note 5: 'State the number exactly', 'plus one for each .. that was absent': 1 where no term is equal at that moment, so that making appends one, else 0
+unfoldable pub oneIfAbsent : (Store → ℕ → Bool) → Work ℕ
+oneIfAbsent equal = do
+  s ← store
+  give (if isSome (lookup equal s) then 0 else 1)
+
+-- 'A split over a character makes three, plus one for each of the empty constant, its equation and the character constant that was
+-- absent'
 unfoldable pub splitCharacter : ℤ → ℕ → ℕ → Tried
 splitCharacter g v c = do
+  n₁ ← oneIfAbsent (constantOf [])
   e ← makeConstant []
+  n₂ ← oneIfAbsent (equationOf v e)
   p ← makeEquation v e
+  n₃ ← oneIfAbsent (constantOf (c ∷ []))
   h ← makeConstant (c ∷ [])
   z ← freshVariable
   t ← makeConcat (h ∷ z ∷ [])
   q ← makeEquation v t
-  answer (split (p ∷ q ∷ []) (negℤ g))
+  answer (split (p ∷ q ∷ []) (negℤ g) (3 + n₁ + n₂ + n₃))
 
+-- 'A split over two heads makes six terms, plus one for each of the two lengths and their equation that was absent'
 unfoldable pub splitHeads : ℤ → ℕ → ℕ → Tried
 splitHeads g a b = do
+  n₁ ← oneIfAbsent (lengthOf a)
   la ← makeLength a
+  n₂ ← oneIfAbsent (lengthOf b)
   lb ← makeLength b
+  n₃ ← oneIfAbsent (equationOf la lb)
   p ← makeEquation la lb
   z₁ ← freshVariable
   t₁ ← makeConcat (b ∷ z₁ ∷ [])
@@ -262,7 +277,7 @@ splitHeads g a b = do
   z₂ ← freshVariable
   t₂ ← makeConcat (a ∷ z₂ ∷ [])
   q₂ ← makeEquation b t₂
-  answer (split (p ∷ q₁ ∷ q₂ ∷ []) (negℤ g))
+  answer (split (p ∷ q₁ ∷ q₂ ∷ []) (negℤ g) (6 + n₁ + n₂ + n₃))
 
 -- v against the constant of these characters
 abbrev pub splitBy : ℤ → ℕ → List ℕ → Tried → Tried
@@ -313,7 +328,7 @@ softened done = done
 softened saturated = saturated
 softened conflict = saturated
 softened (propagate v w k) = propagate v w k
-softened (split l g) = split l g
+softened (split l g n) = split l g n
 
 -- 'Conflict and Propagate end with the incoming reasons and those added; other answers return the incoming count.'
 abbrev pub closed : List (ℕ × ℕ) → Answer → Work Answer
@@ -321,7 +336,7 @@ closed rs done = λ s. ok (withReasons s rs) done
 closed rs saturated = λ s. ok (withReasons s rs) saturated
 closed rs conflict = give conflict
 closed rs (propagate v w k) = give (propagate v w k)
-closed rs (split l g) = λ s. ok (withReasons s rs) (split l g)
+closed rs (split l g n) = λ s. ok (withReasons s rs) (split l g n)
 
 unfoldable pub resolve : List ℕ → List ℕ → ℤ → Work Answer
 resolve l r g = do

@@ -84,7 +84,7 @@ fn put_atoms(
     splits::split_heads_unchecked(terms, cells, chars, reasons, keys, c, a, b, list)
 }
 
-// Two heads whose pair is no key: the key, then the atoms.
+// Two heads whose pair is no key: the key, then the atoms and how many terms they took.
 fn split_new(
     terms: &mut [u32],
     cells: &mut [u32],
@@ -109,7 +109,10 @@ fn split_new(
         Added::Counts(d) => {
             let atoms = put_atoms(terms, cells, chars, reasons, keys, d, a, b, list);
             match atoms {
-                Form::List(n, e) => StepResult::Split(e, n, opposite),
+                Form::List(n, e) => {
+                    let more = (e.terms - d.terms) as u32;
+                    StepResult::Split(e, n, opposite, more)
+                }
                 Form::Refused(k) => StepResult::Refused(k),
             }
         }

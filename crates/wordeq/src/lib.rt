@@ -30,8 +30,8 @@ pub enum StepResult {
     Conflict(records::State),
     // the variable, its word, the link flag
     Propagate(records::State, u32, u32, bool),
-    // how many atoms are listed, the guard negated
-    Split(records::State, usize, i32),
+    // how many atoms are listed, the guard negated, how many terms were made
+    Split(records::State, usize, i32, u32),
     Refused(u32),
 }
 

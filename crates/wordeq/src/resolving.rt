@@ -78,7 +78,7 @@ fn soften(o: StepResult) -> StepResult
         StepResult::Saturated(d) => StepResult::Saturated(d),
         StepResult::Conflict(d) => StepResult::Saturated(d),
         StepResult::Propagate(d, v, w, f) => StepResult::Propagate(d, v, w, f),
-        StepResult::Split(d, n, g) => StepResult::Split(d, n, g),
+        StepResult::Split(d, n, g, j) => StepResult::Split(d, n, g, j),
         StepResult::Refused(k) => StepResult::Refused(k),
     }
 }
@@ -160,7 +160,7 @@ fn close(n: usize, o: StepResult) -> StepResult
         StepResult::Saturated(d) => StepResult::Saturated(d.with_reasons(n)),
         StepResult::Conflict(d) => StepResult::Conflict(d),
         StepResult::Propagate(d, v, w, f) => StepResult::Propagate(d, v, w, f),
-        StepResult::Split(d, k, g) => StepResult::Split(d.with_reasons(n), k, g),
+        StepResult::Split(d, k, g, j) => StepResult::Split(d.with_reasons(n), k, g, j),
         StepResult::Refused(k) => StepResult::Refused(k),
     }
 }

@@ -91,13 +91,13 @@ answerTelling (step.Done c) = tells c (0 ∷ [])
 answerTelling (step.Saturated c) = tells c (1 ∷ [])
 answerTelling (step.Conflict c) = tells c (2 ∷ [])
 answerTelling (step.Propagate c v w f) = tells c (3 ∷ v ∷ w ∷ flag f ∷ [])
-answerTelling (step.Split c n g) = tells c (4 ∷ n ∷ ofZ w32 g ∷ [])
+answerTelling (step.Split c n g k) = tells c (4 ∷ n ∷ ofZ w32 g ∷ k ∷ [])
 answerTelling (step.Refused k) = refuses k
 
 -- counts and a Split that words hold
 pub record NarrowAnswer (r : StepResult) : Type 0 where
   pub counts : (c : State) (v : List ℕ) → answerTelling r ≡ tells c v → Narrow c
-  pub split : (c : State) (n : ℕ) (g : ℤ) → r ≡ step.Split c n g → NarrowSplit n g
+  pub split : (c : State) (n : ℕ) (g : ℤ) (k : ℕ) → r ≡ step.Split c n g k → NarrowSplit n g
 
 -- the same of the step over one equation
 abbrev pub outcomeTelling : Outcome → Telling

@@ -37,10 +37,10 @@ use Rattle.normalize.proofs.ListCalls.{listed-short, listed-unready, listed-unf
 use Rattle.wordeq.proofs.StepResult.{the-type}
 use Rattle.wordeq.specs.declared.StepResult.{StepResult}
 use Rattle.wordeq.specs.declared.StepResult.the-variants.{Done, Saturated, Conflict, Propagate, Split, Refused}
-use Rattle.wordeq.specs.Wordeq.{isGuard, resolve}
+use Rattle.wordeq.specs.Wordeq.{split, isGuard, resolve}
 use Rattle.wordeq.specs.Calls.{resolved}
 use Rattle.equation.specs.declared.Outcome.the-variants.{Answered}
-use Rattle.equation.specs.Equation.{Stepped, unexpanded, returned, orUnexpanded, step, stepArguments}
+use Rattle.equation.specs.Equation.{Stepped, unexpanded, answered, returned, orUnexpanded, step, stepArguments}
 use Rattle.equation.specs.Calls.{stepped, PublicStep}
 use Rattle.equation.specs.Working.Forms.{resolveForms, rightForm, carried}
 use Rattle.equation.proofs.Sound.{second-string, step-gives, step-sound, step-stops}
@@ -60,7 +60,7 @@ returned-is (Done c) m k n = refl
 returned-is (Saturated c) m k n = refl
 returned-is (Conflict c) m k n = refl
 returned-is (Propagate c v w f) m k n = refl
-returned-is (Split c j g) m k n = refl
+returned-is (Split c j g i) m k n = refl
 returned-is (Refused j) m k n = refl
 
 pub forms-resolved : {m m′ : Lent} {c : State} (l r k : List ℕ) (g z : ℤ) (n : ℕ) (o x : StepResult) → n ≤ c .reasons → z ≡ g → Working (resolve l r z) m m′ c (resolved o m′ k) → x ≡ carried n o
@@ -84,7 +84,7 @@ carried-same (Done c) n k = absurd (miss (1 ∷ 2 ∷ 3 ∷ 4 ∷ 5 ∷ []) 0 tt
 carried-same (Saturated c) n k = refl
 carried-same (Conflict c) n k = refl
 carried-same (Propagate c v w f) n k = refl
-carried-same (Split c j g) n k = refl
+carried-same (Split c j g i) n k = refl
 carried-same (Refused j) n k = refl
 
 -- A DEEP FORM, AND WHAT FOLLOWS IT
@@ -235,18 +235,18 @@ module _ (known : List ℕ) (e : ℕ) (g : ℤ) (m : Lent) (c : State) (ready : 
 
 module _ (known : List ℕ) (e : ℕ) (g : ℤ) (m : Lent) (c : State) (l : List ℕ) where
   pub call-short : length l < listLimit → PublicStep known e g m m l l c (stop 1)
-  call-short h = record { is = listed-short (stepArguments known e g) (step known e g) m c l h; worth = λ s′ w q. stop-not q; once = λ s′ w q. stop-not q }
+  call-short h = record { is = listed-short (stepArguments known e g) (step known e g) m c l h; worth = λ s′ w q. stop-not q; once = λ s′ w q. stop-not q; grows = λ s′ atoms z n q. stop-not q }
 
   module _ (h : listLimit ≤ length l) (k : ℕ) (v : k ≡ audit m c) where
     pub call-unready : (k ≡ 0 → ⊥) → PublicStep known e g m m l l c (stop k)
-    call-unready d = record { is = listed-unready (stepArguments known e g) (step known e g) m c l h k v d; worth = λ s′ w q. stop-not q; once = λ s′ w q. stop-not q }
+    call-unready d = record { is = listed-unready (stepArguments known e g) (step known e g) m c l h k v d; worth = λ s′ w q. stop-not q; once = λ s′ w q. stop-not q; grows = λ s′ atoms z n q. stop-not q }
 
     module _ (z : k ≡ 0) (f : ℤ) (u : f ≡ g) (b : Bool) (q : b ≡ stepArguments known e f (storeOf m c)) where
       i : b ≡ stepArguments known e g (storeOf m c)
       i = q ∙ ap (λ (y : ℤ). stepArguments known e y (storeOf m c)) u
 
       pub call-unfit : not b ≡ true → PublicStep known e g m m l l c (stop 5)
-      call-unfit n = record { is = listed-unfit (stepArguments known e g) (step known e g) m c l h k v z b i n; worth = λ s′ w q. stop-not q; once = λ s′ w q. stop-not q }
+      call-unfit n = record { is = listed-unfit (stepArguments known e g) (step known e g) m c l h k v z b i n; worth = λ s′ w q. stop-not q; once = λ s′ w q. stop-not q; grows = λ s′ atoms z n q. stop-not q }
 
       module _ (n : not b ≡ false) where
         pub call-ready : Ready m c
@@ -263,6 +263,7 @@ module _ (known : List ℕ) (e : ℕ) (g : ℤ) (m : Lent) (c : State) (l : List
           is = listed-works (stepArguments known e g) (step known e g) m c l h k v z b i n (λ j q. step-stops known e g (storeOf m c) (call-ready .audited) fit j q .from) w;
           worth = λ s′ x q. step-sound known e g (storeOf m c) (call-ready .audited) fit s′ x (w .says ∙ q);
           once = λ s′ x q. step-gives known e g (storeOf m c) (call-ready .audited) fit s′ x (w .says ∙ q) .later .reasons;
+          grows = λ s′ atoms z j q. step-gives known e g (storeOf m c) (call-ready .audited) fit s′ (answered (split atoms z j)) (w .says ∙ q) .grows;
         }
 
 -- THE ARGUMENTS

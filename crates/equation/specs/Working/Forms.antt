@@ -27,5 +27,5 @@ carried n (Done c) = Done (reasonsAt c n)
 carried n (Saturated c) = Saturated c
 carried n (Conflict c) = Conflict c
 carried n (Propagate c v w f) = Propagate c v w f
-carried n (Split c j g) = Split c j g
+carried n (Split c j g i) = Split c j g i
 carried n (Refused k) = Refused k

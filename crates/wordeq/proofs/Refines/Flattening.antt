@@ -93,7 +93,7 @@ softened-is m k (step.Done d) = refl
 softened-is m k (step.Saturated d) = refl
 softened-is m k (step.Conflict d) = refl
 softened-is m k (step.Propagate d v w f) = refl
-softened-is m k (step.Split d n g) = refl
+softened-is m k (step.Split d n g j) = refl
 softened-is m k (step.Refused n) = refl
 
 module _ (m : Lent) (c : State) (l r : List ℕ) (g : ℤ) where

@@ -4,7 +4,7 @@ use mathlib.Core.Bool.{Bool, true, false, _&&_, _||_}
 use mathlib.Core.List.{List, [], _∷_, _++_}
 use mathlib.Core.Logic.{⊎-elim}
 use mathlib.Core.Option.{Option, none, some}
-use Prim.Native.Nat.{ℕ, zero, suc, _+_, _≤_, _<_}
+use Prim.Native.Nat.{ℕ, zero, suc, _+_, _-_, _≤_, _<_}
 use native.Mathlib.Nat.{eq-or-lt-of-le}
 use native.Mathlib.Omega.{arith}
 use lib.ListN.{length, take, drop, getD}
@@ -19,11 +19,11 @@ use Rattle.records.specs.declared.State.{State}
 use Rattle.records.specs.declared.Added.{Added}
 use Rattle.records.specs.declared.Added.the-variants as adding
 use Rattle.records.specs.Lists.{if_then_else_, all, any}
-use Rattle.records.specs.Store.{Store, Out, ok, stop, andThen, _>>=_, _>>_, refuse, put, kind, isConstant, isString, text}
+use Rattle.records.specs.Store.{Store, Out, ok, stop, andThen, _>>=_, _>>_, count, kind, isConstant, isString, text}
 use Rattle.records.specs.View.{Lent, storeOf, pairsView, readIn, termed, termAt}
 use Rattle.records.specs.Rules.{isChar, isList, listLimit}
 use Rattle.records.specs.Make.{withKeys, ordered, samePair, addKey, isKey}
-use Rattle.records.specs.Working.Audited.{Ready}
+use Rattle.records.specs.Working.Audited.{Audited, Ready}
 use Rattle.records.specs.Calls.{Working, added}
 use Rattle.records.proofs.Lists.{both-left, both-right, left-false, and-stop, and-next, clash, decide, table-at, table-length}
 use Rattle.records.proofs.Readings.{text-characters}
@@ -35,12 +35,15 @@ use Rattle.wordeq.specs.Wordeq.{Answer, saturated, conflict, split, Trie
 use Rattle.wordeq.specs.Working.Results.{BothLists}
 use Rattle.wordeq.specs.Working.Sides.{Texts, Spelled}
 use Rattle.wordeq.specs.Working.Splits.{listed, characterAtoms, headAtoms}
-use Rattle.wordeq.specs.Working.Heads.{HeadsApart, HeadPair, atomsBy, atomsOf, splitNew}
+use Rattle.wordeq.specs.Working.Heads.{HeadsApart, HeadPair, atomsBy, atomsOf, splitFrom, splitNew}
+use Rattle.records.proofs.Counts.{higher-below}
 use Rattle.records.proofs.Sequence.{grows-key, working-then, working-stop}
 use Rattle.wordeq.proofs.Strip.{Apart}
 use Rattle.wordeq.proofs.Refines.SideTexts.{text-words}
 use Rattle.wordeq.proofs.Refines.SideReady.{ready-readIn}
-use Rattle.wordeq.proofs.Refines.SplitAtoms.{splitting, characters-split, heads-split-is, split-done, split-stop}
+use Rattle.wordeq.proofs.Counted.{then-same, character-counted, heads-counted}
+use Rattle.wordeq.proofs.FewAtoms.{chosen-few}
+use Rattle.wordeq.proofs.Refines.SplitAtoms.{characters-then, heads-then, grows-atoms}
 
 -- THE GUARD
 
@@ -169,10 +172,48 @@ module _ {m m₁ : Lent} {c : State} {o : Out (List ℕ)} (a b : ℕ) where
 
 -- A NEW PAIR
 
+-- the definition splits by the heads as they were before the key, which are as they are after it
+module _ (g : ℤ) (a b : ℕ) where
+  abbrev chosen : Store → Tried
+  chosen s =
+      if isConstant s b then splitBy g a (text s b) (splitHeads g a b)
+      else if isConstant s a then splitBy g b (text s a) (splitHeads g a b)
+      else splitHeads g a b
+
+  module _ (s : Store) (audited : Audited s) (left : isString s a ≡ true) (right : isString s b ≡ true) where
+    abbrev from : List ℕ → Tried
+    from = splitFrom g (count s)
+
+    heads-is : splitHeads g a b s ≡ (headAtoms a b >>= from) s
+    heads-is = heads-counted g s audited a b left right ∙ sym (heads-then from a b s)
+
+    by-word : (v : ℕ) (u : List ℕ) → isString s v ≡ true → all isChar u ≡ true → splitBy g v u (splitHeads g a b) s ≡ (atomsBy v u (headAtoms a b) >>= from) s
+    unfolding all
+    by-word v [] h k = heads-is
+    by-word v (x ∷ u) h k = character-counted g s audited v x h (both-left (isChar x) _ k) ∙ sym (characters-then from v x s)
+
+    chosen-by : (p q : Bool) (u v : List ℕ) → all isChar u ≡ true → all isChar v ≡ true
+        → (if p then splitBy g a u (splitHeads g a b) else if q then splitBy g b v (splitHeads g a b) else splitHeads g a b) s
+        ≡ ((if p then atomsBy a u (headAtoms a b) else if q then atomsBy b v (headAtoms a b) else headAtoms a b) >>= from) s
+    chosen-by true q u v h k = by-word a u left h
+    chosen-by false true u v h k = by-word b v right k
+    chosen-by false false u v h k = heads-is
+
+    chosen-is : chosen s s ≡ (atomsOf a b >>= from) s
+    unfolding atomsOf
+    chosen-is = chosen-by (isConstant s b) (isConstant s a) (text s b) (text s a) (text-characters s (audited .recorded) b) (text-characters s (audited .recorded) a)
+
+  new-is : (s : Store) → Audited s → HeadPair s a b → (addKey a b >> chosen s) s ≡ splitNew g a b s
+  unfolding splitNew
+  new-is s d p = then-same _ _ (addKey a b s) (λ s₁ u e. let k = key-kept a b s s₁ d (p .left) (p .right) (p .apart) e in at s₁ (k .is) (k .audited))
+    where
+      at : (s₁ : Store) → s₁ ≡ withKeys s (s .keys ++ (ordered a b ∷ [])) → Audited s₁ → chosen s s₁ ≡ (atomsOf a b >>= splitFrom g (count s₁)) s₁
+      at s₁ q k = subst (λ (x : Store). chosen s x ≡ (atomsOf a b >>= splitFrom g (count x)) x) (sym q) (chosen-is (withKeys s (s .keys ++ (ordered a b ∷ []))) (subst Audited q k) (p .left) (p .right))
+
 module _ {m m₁ : Lent} {c : State} {r : Added} (g : ℤ) (a b : ℕ) (w : Working (addKey a b) m m₁ c (added r m₁)) where
   pub new-stop : {k : ℕ} → r ≡ adding.Refused k → Working (splitNew g a b) m m₁ c (stop k)
   unfolding splitNew
-  new-stop e = working-stop {w = addKey a b} (λ u. atomsOf a b >>= splitting g) (record { says = w .says ∙ ap (λ (x : Added). added x m₁) e; kept = w .kept })
+  new-stop e = working-stop {w = addKey a b} (λ u s. (atomsOf a b >>= splitFrom g (count s)) s) (record { says = w .says ∙ ap (λ (x : Added). added x m₁) e; kept = w .kept })
 
   module _ {d : State} (e : r ≡ adding.Counts d) where
     counted : Working (addKey a b) m m₁ c (ok (storeOf m₁ d) tt)
@@ -188,46 +229,39 @@ module _ {m m₁ : Lent} {c : State} {r : Added} (g : ℤ) (a b : ℕ) (w : Work
       pub new-pair : HeadPair (storeOf m₁ d) a b
       new-pair = subst (λ (s : Store). HeadPair s a b) (sym (key-added .is)) (record { left = p .left; right = p .right; apart = p .apart; mixed = p .mixed })
 
+    -- what follows the key
+    after-key : {m₂ : Lent} {o : Out (List ℕ)} → Working (atomsOf a b) m₁ m₂ d o → Working (splitNew g a b) m m₂ c (andThen (splitFrom g (count (storeOf m₁ d))) o)
+    unfolding splitNew
+    after-key w₂ = working-then {w = addKey a b} (λ u s. (atomsOf a b >>= splitFrom g (count s)) s) d tt (grows-key a b) counted (record { says = ap (andThen (splitFrom g (count (storeOf m₁ d)))) (w₂ .says); kept = w₂ .kept })
+
     module _ {m₂ : Lent} {f : Form} (l : List ℕ) (w₂ : Working (atomsOf a b) m₁ m₂ d (listed f m₂ l)) where
-      pub new-done : {n : ℕ} {d₂ : State} {z : ℤ} → f ≡ form.List n d₂ → z ≡ negℤ g → Working (splitNew g a b) m m₂ c (ok (storeOf m₂ d₂) (some (split (take n l) z)))
-      unfolding splitNew
-      new-done {n} {d₂} {z} i j =
-          rw j (working-then (λ u. atomsOf a b >>= splitting g) d tt (grows-key a b) counted (split-done g l {t = atomsOf a b >>= splitting g} (λ s. refl) w₂ i))
+      -- the atoms, by the form
+      atoms-are : {y : Form} → f ≡ y → Working (atomsOf a b) m₁ m₂ d (listed y m₂ l)
+      atoms-are i = record { says = w₂ .says ∙ ap (λ (x : Form). listed x m₂ l) i; kept = w₂ .kept }
+
+      pub new-done : {n j : ℕ} {d₂ : State} {z : ℤ} → f ≡ form.List n d₂ → z ≡ negℤ g → j ≡ d₂ .terms - d .terms → Working (splitNew g a b) m m₂ c (ok (storeOf m₂ d₂) (some (split (take n l) z j)))
+      unfolding splitFrom
+      new-done {n} {j} {d₂} {z} i p q =
+          let t₁ = table-length (λ i. termAt (m₁ .terms) (suc i)) (d .terms) in
+          let t₂ = table-length (λ i. termAt (m₂ .terms) (suc i)) (d₂ .terms) in
+          let e : count (storeOf m₂ d₂) - count (storeOf m₁ d) ≡ j = omega arith in
+          rw (p, sym e) (after-key (atoms-are i))
 
       pub new-stop-2 : {k : ℕ} → f ≡ form.Refused k → Working (splitNew g a b) m m₂ c (stop k)
-      unfolding splitNew
-      new-stop-2 i = working-then (λ u. atomsOf a b >>= splitting g) d tt (grows-key a b) counted (split-stop g l {t = atomsOf a b >>= splitting g} (λ s. refl) w₂ i)
+      new-stop-2 i = after-key (atoms-are i)
 
--- the definition splits by the heads as they were before the key, which are as they are after it
-module _ (g : ℤ) (a b : ℕ) where
-  abbrev chosen : Store → Tried
-  chosen s =
-      if isConstant s b then splitBy g a (text s b) (splitHeads g a b)
-      else if isConstant s a then splitBy g b (text s a) (splitHeads g a b)
-      else splitHeads g a b
+      -- no term is taken away, and at most nine are made
+      pub new-below : {n : ℕ} {d₂ : State} → f ≡ form.List n d₂ → d .terms ≤ d₂ .terms
+      new-below {n} {d₂} i = higher-below m₁ m₂ d d₂ (grows-atoms a b .higher (storeOf m₁ d) (storeOf m₂ d₂) (take n l) (atoms-are i .says)) .terms
 
-  by-word : (s : Store) (v : ℕ) (u : List ℕ) → splitBy g v u (splitHeads g a b) s ≡ (atomsBy v u (headAtoms a b) >>= splitting g) s
-  by-word s v [] = sym (heads-split-is g a b s)
-  by-word s v (x ∷ u) = sym (characters-split g v x s)
-
-  chosen-by : (s : Store) (p q : Bool) (u v : List ℕ) → (if p then splitBy g a u (splitHeads g a b) else if q then splitBy g b v (splitHeads g a b) else splitHeads g a b) s
-      ≡ ((if p then atomsBy a u (headAtoms a b) else if q then atomsBy b v (headAtoms a b) else headAtoms a b) >>= splitting g) s
-  chosen-by s true q u v = by-word s a u
-  chosen-by s false true u v = by-word s b v
-  chosen-by s false false u v = sym (heads-split-is g a b s)
-
-  chosen-is : (s : Store) → chosen s s ≡ (atomsOf a b >>= splitting g) s
-  unfolding atomsOf
-  chosen-is s = chosen-by s (isConstant s b) (isConstant s a) (text s b) (text s a)
-
-  new-is : (s : Store) → (addKey a b >> chosen s) s ≡ splitNew g a b s
-  unfolding addKey splitNew
-  new-is s = go (ltb (length (s .keys)) (s .room .keys))
-    where
-      go : (x : Bool) → andThen (λ u. chosen s) ((if x then put (withKeys s (s .keys ++ (ordered a b ∷ []))) else refuse 8) s)
-          ≡ andThen (λ u. atomsOf a b >>= splitting g) ((if x then put (withKeys s (s .keys ++ (ordered a b ∷ []))) else refuse 8) s)
-      go true = chosen-is (withKeys s (s .keys ++ (ordered a b ∷ [])))
-      go false = refl
+      pub new-small : Ready m₁ d → HeadPair (storeOf m₁ d) a b → {n : ℕ} {d₂ : State} → f ≡ form.List n d₂ → d₂ .terms - d .terms ≤ 9
+      unfolding splitFrom
+      new-small ready p {n} {d₂} i =
+          let t₁ = table-length (λ i. termAt (m₁ .terms) (suc i)) (d .terms) in
+          let t₂ = table-length (λ i. termAt (m₂ .terms) (suc i)) (d₂ .terms) in
+          let e = chosen-is g a b (storeOf m₁ d) (ready .audited) (p .left) (p .right) ∙ ap (andThen (splitFrom g (count (storeOf m₁ d)))) (atoms-are i .says) in
+          let h = chosen-few g a b (storeOf m₁ d) (storeOf m₁ d) .given (storeOf m₂ d₂) (some (split (take n l) (negℤ g) (count (storeOf m₂ d₂) - count (storeOf m₁ d)))) e .2 in
+          omega arith
 
 -- THE HEADS
 
@@ -274,17 +308,17 @@ module _ {m : Lent} {c : State} (g : ℤ) (x : Bool) where
         go (a ∷ l) [] p q e f h = absurd (q refl)
         go (a ∷ l) (b ∷ r) p q e f h = record { says = rw (e, f, h); kept = refl }
 
-    pub heads-new : (x || isKey (storeOf m c) (getD l 0 0) (getD r 0 0)) ≡ false → {m₁ : Lent} {o : Out (Option Answer)} {g₁ : ℤ} → g₁ ≡ g
+    pub heads-new : Ready m c → HeadPair (storeOf m c) (getD l 0 0) (getD r 0 0) → (x || isKey (storeOf m c) (getD l 0 0) (getD r 0 0)) ≡ false → {m₁ : Lent} {o : Out (Option Answer)} {g₁ : ℤ} → g₁ ≡ g
         → Working (splitNew g₁ (getD l 0 0) (getD r 0 0)) m m₁ c o → Working (clashes l r orElse splits g x l r) m m₁ c o
     unfolding clashes splits
-    heads-new h {m₁} {o} i w = go l r p q e f h (subst (λ (z : ℤ). Working (splitNew z (getD l 0 0) (getD r 0 0)) m m₁ c o) i w)
+    heads-new ready pair h {m₁} {o} i w = go l r p q e f pair h (subst (λ (z : ℤ). Working (splitNew z (getD l 0 0) (getD r 0 0)) m m₁ c o) i w)
       where
         go : (l r : List ℕ) → (length l ≡ 0 → ⊥) → (length r ≡ 0 → ⊥) → differs (storeOf m c) (getD l 0 0) (getD r 0 0) ≡ false
-            → (isConstant (storeOf m c) (getD l 0 0) && isConstant (storeOf m c) (getD r 0 0)) ≡ false
+            → (isConstant (storeOf m c) (getD l 0 0) && isConstant (storeOf m c) (getD r 0 0)) ≡ false → HeadPair (storeOf m c) (getD l 0 0) (getD r 0 0)
             → (x || isKey (storeOf m c) (getD l 0 0) (getD r 0 0)) ≡ false → Working (splitNew g (getD l 0 0) (getD r 0 0)) m m₁ c o → Working (clashes l r orElse splits g x l r) m m₁ c o
-        go [] r p q e f h w = absurd (p refl)
-        go (a ∷ l) [] p q e f h w = absurd (q refl)
-        go (a ∷ l) (b ∷ r) p q e f h w = record { says = rw (e, f, h) (new-is g a b (storeOf m c) ∙ w .says); kept = w .kept }
+        go [] r p q e f y h w = absurd (p refl)
+        go (a ∷ l) [] p q e f y h w = absurd (q refl)
+        go (a ∷ l) (b ∷ r) p q e f y h w = record { says = rw (e, f, h) (new-is g a b (storeOf m c) (ready .audited) y ∙ w .says); kept = w .kept }
 
 -- the heads that step 1 leaves
 pub heads-apart : (l r : List ℕ) → Apart l r → HeadsApart l r

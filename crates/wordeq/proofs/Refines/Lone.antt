@@ -154,7 +154,7 @@ module _ (m m₁ : Lent) (c : State) (l o : List ℕ) where
   first-answers (step.Saturated d) w n = record { is = λ k. record { says = ap (andThen (settled (occurs o l))) (w .is k .says); kept = w .is k .kept } }
   first-answers (step.Conflict d) w n = record { is = λ k. record { says = ap (andThen (settled (occurs o l))) (w .is k .says); kept = w .is k .kept } }
   first-answers (step.Propagate d a b f) w n = record { is = λ k. record { says = ap (andThen (settled (occurs o l))) (w .is k .says); kept = w .is k .kept } }
-  first-answers (step.Split d a g) w n = record { is = λ k. record { says = ap (andThen (settled (occurs o l))) (w .is k .says); kept = w .is k .kept } }
+  first-answers (step.Split d a g j) w n = record { is = λ k. record { says = ap (andThen (settled (occurs o l))) (w .is k .says); kept = w .is k .kept } }
   first-answers (step.Refused q) w n = record { is = λ k. record { says = ap (andThen (settled (occurs o l))) (w .is k .says); kept = w .is k .kept } }
 
   module _ (y : StepResult) (w : Tries (occurs l o) m m₁ c y) (d : State) (g : y ≡ step.Done d) where

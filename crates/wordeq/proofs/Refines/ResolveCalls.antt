@@ -29,11 +29,11 @@ use Rattle.wordeq.specs.Working.Results.{BothLists}
 use Rattle.wordeq.specs.Working.Resolving.{closing, flatSteps, ran}
 use Rattle.wordeq.specs.Calls.{equalArguments, PublicResolve, resolved}
 use Rattle.records.proofs.ListLaws.{list-strings}
-use Rattle.wordeq.proofs.Resolve.{resolve-gives, resolve-sound, resolve-stops}
+use Rattle.wordeq.proofs.Resolve.{resolve-gives, resolve-grows, resolve-sound, resolve-stops}
 
 -- CLOSED
 
-pub split-same : {d d′ : State} {n : ℕ} {g g′ : ℤ} → d ≡ d′ → g ≡ g′ → step.Split d n g ≡ step.Split d′ n g′
+pub split-same : {d d′ : State} {n j : ℕ} {g g′ : ℤ} → d ≡ d′ → g ≡ g′ → step.Split d n g j ≡ step.Split d′ n g′ j
 split-same p q = cc
 
 module _ (m m′ : Lent) (c : State) (k : List ℕ) (kept : storeOf m′ c ≡ storeOf m c) where
@@ -46,7 +46,7 @@ module _ (m m′ : Lent) (c : State) (k : List ℕ) (kept : storeOf m′ c ≡ s
   closed-is (step.Saturated d) = ap (λ (x : List (ℕ × ℕ)). ok (withReasons (storeOf m′ d) x) saturated) incoming
   closed-is (step.Conflict d) = refl
   closed-is (step.Propagate d v w f) = refl
-  closed-is (step.Split d n g) = ap (λ (x : List (ℕ × ℕ)). ok (withReasons (storeOf m′ d) x) (split (take n k) g)) incoming
+  closed-is (step.Split d n g j) = ap (λ (x : List (ℕ × ℕ)). ok (withReasons (storeOf m′ d) x) (split (take n k) g j)) incoming
   closed-is (step.Refused n) = refl
 
 resolve-is : (l r : List ℕ) (g : ℤ) (s : Store) → resolve l r g s ≡ andThen (closed (s .reasons)) (ran l r g s)
@@ -92,18 +92,18 @@ module _ (s : Store) (l r : List ℕ) (g : ℤ) (b : Bool) (e : b ≡ equalArgum
 
 module _ (l r : List ℕ) (g : ℤ) (m : Lent) (c : State) (k : List ℕ) where
   pub resolve-short : length k < listLimit → PublicResolve l r g m m k k c (stop 1)
-  resolve-short h = record { is = listed-short (resolveArguments l r g) (resolve l r g) m c k h; worth = λ s′ x e. stop-not e; once = λ s′ x e. stop-not e }
+  resolve-short h = record { is = listed-short (resolveArguments l r g) (resolve l r g) m c k h; worth = λ s′ x e. stop-not e; once = λ s′ x e. stop-not e; grows = λ s′ l′ h n e. stop-not e }
 
   module _ (h : listLimit ≤ length k) (j : ℕ) (v : j ≡ audit m c) where
     pub resolve-unready : (j ≡ 0 → ⊥) → PublicResolve l r g m m k k c (stop j)
-    resolve-unready d = record { is = listed-unready (resolveArguments l r g) (resolve l r g) m c k h j v d; worth = λ s′ x e. stop-not e; once = λ s′ x e. stop-not e }
+    resolve-unready d = record { is = listed-unready (resolveArguments l r g) (resolve l r g) m c k h j v d; worth = λ s′ x e. stop-not e; once = λ s′ x e. stop-not e; grows = λ s′ l′ h n e. stop-not e }
 
     module _ (z : j ≡ 0) (y : SFits w32 g) (b : Bool) (i : b ≡ resolveArguments l r (toZ w32 (ofZ w32 g)) (storeOf m c)) where
       e : b ≡ resolveArguments l r g (storeOf m c)
       e = i ∙ ap (λ (x : ℤ). resolveArguments l r x (storeOf m c)) (toZ-ofZ w32 g y)
 
       pub resolve-unfit : not b ≡ true → PublicResolve l r g m m k k c (stop 5)
-      resolve-unfit f = record { is = listed-unfit (resolveArguments l r g) (resolve l r g) m c k h j v z b e f; worth = λ s′ x q. stop-not q; once = λ s′ x q. stop-not q }
+      resolve-unfit f = record { is = listed-unfit (resolveArguments l r g) (resolve l r g) m c k h j v z b e f; worth = λ s′ x q. stop-not q; once = λ s′ x q. stop-not q; grows = λ s′ l′ h n q. stop-not q }
 
       module _ (f : not b ≡ false) where
         fit : resolveArguments l r g (storeOf m c) ≡ true
@@ -126,6 +126,7 @@ module _ (l r : List ℕ) (g : ℤ) (m : Lent) (c : State) (k : List ℕ) where
           is = listed-works (resolveArguments l r g) (resolve l r g) m c k h j v z b e f (λ n q. resolve-stops l r g (storeOf m c) (resolve-ready .audited) left right n q .from) w;
           worth = λ s′ x q. resolve-sound l r g (storeOf m c) (resolve-ready .audited) left right s′ x (w .says ∙ q);
           once = λ s′ x q. resolve-gives l r g (storeOf m c) (resolve-ready .audited) left right s′ x (w .says ∙ q) .later .reasons;
+          grows = λ s′ atoms z n q. resolve-grows l r g (storeOf m c) (resolve-ready .audited) left right s′ atoms z n (w .says ∙ q);
         }
           where
             w : Working (resolve l r g) m m′ c o

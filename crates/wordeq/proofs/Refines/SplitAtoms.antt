@@ -2,34 +2,32 @@
 use mathlib.Core.Path.{_≡_, refl, sym, ap, _∙_}
 use mathlib.Core.Bool.{Bool, true}
 use mathlib.Core.List.{List, [], _∷_}
-use mathlib.Core.Option.{none, some}
+use mathlib.Core.Option.{none}
 use Prim.Native.Nat.{ℕ, _≤_}
 use native.Mathlib.Omega.{arith}
 use lib.ListN.{length, take, set}
-use lib.IntN.{ℤ, negℤ}
 use borrow.Author.Tests.{eq-eqb, ne-eqb}
 use Rattle.records.specs.declared.State.{State}
 use Rattle.records.specs.declared.Made.{Made}
 use Rattle.records.specs.declared.Made.the-variants.{Term, Refused}
 use Rattle.records.specs.declared.Named.{Named}
 use Rattle.records.specs.Lists.{if_then_else_, all, none-left, and}
-use Rattle.records.specs.Store.{Store, Out, ok, stop, Work, andThen, _>>=_, give, within, isString}
+use Rattle.records.specs.Store.{Store, Out, ok, stop, Work, andThen, _>>=_, give, within, isConstant, isString, text}
 use Rattle.records.specs.View.{Lent, storeOf}
 use Rattle.records.specs.Rules.{isChar, isEquatable, named}
 use Rattle.records.specs.Make.{lookup, makeConstant, makeVariable, makeConcat, makeLength, makeEquation, takeName}
 use Rattle.records.specs.Working.Audited.{Audited, Ready}
 use Rattle.records.specs.Calls.{Working, made, Taken}
 use Rattle.records.proofs.Lists.{both-true, every-all}
-use Rattle.records.proofs.Works.{via}
+use Rattle.records.proofs.Works.{via, branch}
 use Rattle.records.proofs.Grown.{Grown, grown-string, grown-kind, grown-then}
 use Rattle.records.proofs.Kept.{MadeIn, made-string, constant-kept, concat-kept, length-kept, equation-kept, name-taken, name-audited, fresh-kept}
 use Rattle.records.proofs.Passed.{ready-after}
-use Rattle.wordeq.specs.Wordeq.{split, Tried, answer, freshVariable, splitCharacter, splitHeads}
-use Rattle.normalize.specs.declared.Form.{Form}
-use Rattle.normalize.specs.declared.Form.the-variants as form
-use Rattle.wordeq.specs.Working.Splits.{listed, prefixAtom, emptyAtom, characterAtom, lengthsAtom, characterAtoms, prefixAtoms, headAtoms}
-use Rattle.wordeq.proofs.Split.{equatable-strings, equatable-lengths}
-use Rattle.records.proofs.Sequence.{Grows, grows-then, grows-constant, grows-variable, grows-concat, grows-length, grows-equation, grows-name, working-then, working-stop, made-is, made-then, made-stop}
+use Rattle.wordeq.specs.Wordeq.{Tried, freshVariable}
+use Rattle.wordeq.specs.Working.Splits.{prefixAtom, emptyAtom, characterAtom, lengthsAtom, characterAtoms, prefixAtoms, headAtoms}
+use Rattle.wordeq.specs.Working.Heads.{atomsBy, atomsOf}
+use Rattle.wordeq.proofs.Counted.{equatable-strings, equatable-lengths, characterThen, headsThen}
+use Rattle.records.proofs.Sequence.{Grows, grows-then, grows-constant, grows-variable, grows-concat, grows-length, grows-equation, grows-give, grows-name, working-then, working-stop, made-is, made-then, made-stop}
 
 -- A FRESH VARIABLE
 
@@ -223,6 +221,26 @@ pub grows-lengths : (a b : ℕ) → Grows (lengthsAtom a b)
 unfolding lengthsAtom
 grows-lengths a b = grows-then (grows-length a) (λ la. grows-then (grows-length b) (grows-equation la))
 
+characters-grow : (v ch : ℕ) → Grows (characterAtoms v ch)
+unfolding characterAtoms
+characters-grow v ch = grows-then (grows-empty v) (λ p. grows-then (grows-character v ch) (λ q. grows-give (p ∷ q ∷ [])))
+
+heads-grow : (a b : ℕ) → Grows (headAtoms a b)
+unfolding headAtoms prefixAtoms
+heads-grow a b = grows-then (grows-lengths a b) (λ p. grows-then (grows-prefix a b) (λ q. grows-then (grows-prefix b a) (λ u. grows-give (p ∷ q ∷ u ∷ []))))
+
+pub grows-atoms : (a b : ℕ) → Grows (atomsOf a b)
+unfolding atomsOf
+grows-atoms a b = record {
+  higher = λ s s′ l e.
+      branch (isConstant s b) _ _ (λ p i. by a (text s b) .higher s s′ l i)
+      (λ p i. branch (isConstant s a) _ _ (λ q j. by b (text s a) .higher s s′ l j) (λ q j. heads-grow a b .higher s s′ l j) i) e;
+}
+  where
+    by : (v : ℕ) (w : List ℕ) → Grows (atomsBy v w (headAtoms a b))
+    by v [] = heads-grow a b
+    by v (x ∷ w) = characters-grow v x
+
 two-put : (l : List ℕ) (p q : ℕ) → 2 ≤ length l → take 2 (set (set l 0 p) 1 q) ≡ p ∷ q ∷ []
 two-put [] p q h = absurd (omega arith)
 two-put (x ∷ []) p q h = absurd (omega arith)
@@ -305,14 +323,11 @@ module _ {m m₁ : Lent} {c d : State} {r₁ : Made} {p : ℕ} (a b : ℕ) (read
   pub heads-string-2 : isString (storeOf m₁ d) b ≡ true
   heads-string-2 = grown-string (heads-left .grown) b sb
 
--- THE SPLITS: their atoms, with the guard negated
+-- THE SPLITS: their atoms, and what is done with them
 
 assoc : {A B C : Type 0} (o : Out A) (f : A → Work B) (g : B → Work C) → andThen g (andThen f o) ≡ andThen (λ a. f a >>= g) o
 assoc (ok s a) f g = refl
 assoc (stop n) f g = refl
-
-abbrev pub splitting : ℤ → List ℕ → Tried
-splitting g l = answer (split l (negℤ g))
 
 prefix-seq : {B : Type 0} (v h : ℕ) (k : ℕ → Work B) (s : Store) → andThen k (prefixAtom v h s) ≡ andThen (λ z. makeConcat (h ∷ z ∷ []) >>= (λ t. makeEquation v t >>= k)) (freshVariable s)
 unfolding prefixAtom
@@ -322,33 +337,33 @@ prefix-seq {B} v h k s = go (freshVariable s)
     go (ok s₁ z) = assoc (makeConcat (h ∷ z ∷ []) s₁) (makeEquation v) k
     go (stop n) = refl
 
-module _ (g : ℤ) (v c : ℕ) where
+module _ (k : List ℕ → Tried) (v c : ℕ) where
   abbrev lastOf : ℕ → ℕ → Tried
-  lastOf p q = answer (split (p ∷ q ∷ []) (negℤ g))
+  lastOf p q = k (p ∷ q ∷ [])
 
   abbrev tailOf : ℕ → ℕ → Tried
   tailOf p h = freshVariable >>= (λ z. makeConcat (h ∷ z ∷ []) >>= (λ t. makeEquation v t >>= lastOf p))
 
-  character-tail : (p : ℕ) (o : Out ℕ) → andThen (splitting g) (andThen (λ q. give (p ∷ q ∷ [])) (andThen (prefixAtom v) o)) ≡ andThen (tailOf p) o
-  character-tail p (ok s h) = assoc (prefixAtom v h s) (λ q. give (p ∷ q ∷ [])) (splitting g) ∙ prefix-seq v h (lastOf p) s
+  character-tail : (p : ℕ) (o : Out ℕ) → andThen k (andThen (λ q. give (p ∷ q ∷ [])) (andThen (prefixAtom v) o)) ≡ andThen (tailOf p) o
+  character-tail p (ok s h) = assoc (prefixAtom v h s) (λ q. give (p ∷ q ∷ [])) k ∙ prefix-seq v h (lastOf p) s
   character-tail p (stop n) = refl
 
-  character-rest : (o : Out ℕ) → andThen (splitting g) (andThen (λ p. characterAtom v c >>= (λ q. give (p ∷ q ∷ []))) o) ≡ andThen (λ p. makeConstant (c ∷ []) >>= tailOf p) o
+  character-rest : (o : Out ℕ) → andThen k (andThen (λ p. characterAtom v c >>= (λ q. give (p ∷ q ∷ []))) o) ≡ andThen (λ p. makeConstant (c ∷ []) >>= tailOf p) o
   unfolding characterAtom
   character-rest (ok s p) = character-tail p (makeConstant (c ∷ []) s)
   character-rest (stop n) = refl
 
-  character-whole : (o : Out ℕ) → andThen (splitting g) (andThen (λ p. characterAtom v c >>= (λ q. give (p ∷ q ∷ []))) (andThen (makeEquation v) o)) ≡ andThen (λ e. makeEquation v e >>= (λ p. makeConstant (c ∷ []) >>= tailOf p)) o
+  character-whole : (o : Out ℕ) → andThen k (andThen (λ p. characterAtom v c >>= (λ q. give (p ∷ q ∷ []))) (andThen (makeEquation v) o)) ≡ andThen (λ e. makeEquation v e >>= (λ p. makeConstant (c ∷ []) >>= tailOf p)) o
   character-whole (ok s e) = character-rest (makeEquation v e s)
   character-whole (stop n) = refl
 
-  pub characters-split : (s : Store) → (characterAtoms v c >>= splitting g) s ≡ splitCharacter g v c s
-  unfolding characterAtoms emptyAtom splitCharacter
-  characters-split s = character-whole (makeConstant [] s)
+  pub characters-then : (s : Store) → (characterAtoms v c >>= k) s ≡ characterThen v c k s
+  unfolding characterAtoms emptyAtom
+  characters-then s = character-whole (makeConstant [] s)
 
-module _ (g : ℤ) (a b : ℕ) where
+module _ (k : List ℕ → Tried) (a b : ℕ) where
   abbrev thirdOf : ℕ → ℕ → ℕ → Tried
-  thirdOf p q u = answer (split (p ∷ q ∷ u ∷ []) (negℤ g))
+  thirdOf p q u = k (p ∷ q ∷ u ∷ [])
 
   abbrev secondOf : ℕ → ℕ → Tried
   secondOf p q = freshVariable >>= (λ z. makeConcat (a ∷ z ∷ []) >>= (λ t. makeEquation b t >>= thirdOf p q))
@@ -356,31 +371,23 @@ module _ (g : ℤ) (a b : ℕ) where
   abbrev firstOf : ℕ → Tried
   firstOf p = freshVariable >>= (λ z. makeConcat (b ∷ z ∷ []) >>= (λ t. makeEquation a t >>= secondOf p))
 
-  heads-second : (p : ℕ) (o : Out ℕ) → andThen (splitting g) (andThen (λ q. prefixAtom b a >>= (λ u. give (p ∷ q ∷ u ∷ []))) o) ≡ andThen (secondOf p) o
-  heads-second p (ok s q) = assoc (prefixAtom b a s) (λ u. give (p ∷ q ∷ u ∷ [])) (splitting g) ∙ prefix-seq b a (thirdOf p q) s
+  heads-second : (p : ℕ) (o : Out ℕ) → andThen k (andThen (λ q. prefixAtom b a >>= (λ u. give (p ∷ q ∷ u ∷ []))) o) ≡ andThen (secondOf p) o
+  heads-second p (ok s q) = assoc (prefixAtom b a s) (λ u. give (p ∷ q ∷ u ∷ [])) k ∙ prefix-seq b a (thirdOf p q) s
   heads-second p (stop n) = refl
 
-  heads-first : (o : Out ℕ) → andThen (splitting g) (andThen (λ p. prefixAtoms p a b) o) ≡ andThen firstOf o
+  heads-first : (o : Out ℕ) → andThen k (andThen (λ p. prefixAtoms p a b) o) ≡ andThen firstOf o
   unfolding prefixAtoms
   heads-first (ok s p) = heads-second p (prefixAtom a b s) ∙ prefix-seq a b (secondOf p) s
   heads-first (stop n) = refl
 
-  heads-lengths : (la : ℕ) (o : Out ℕ) → andThen (splitting g) (andThen (λ p. prefixAtoms p a b) (andThen (makeEquation la) o)) ≡ andThen (λ lb. makeEquation la lb >>= firstOf) o
+  heads-lengths : (la : ℕ) (o : Out ℕ) → andThen k (andThen (λ p. prefixAtoms p a b) (andThen (makeEquation la) o)) ≡ andThen (λ lb. makeEquation la lb >>= firstOf) o
   heads-lengths la (ok s lb) = heads-first (makeEquation la lb s)
   heads-lengths la (stop n) = refl
 
-  heads-whole : (o : Out ℕ) → andThen (splitting g) (andThen (λ p. prefixAtoms p a b) (andThen (λ la. makeLength b >>= makeEquation la) o)) ≡ andThen (λ la. makeLength b >>= (λ lb. makeEquation la lb >>= firstOf)) o
+  heads-whole : (o : Out ℕ) → andThen k (andThen (λ p. prefixAtoms p a b) (andThen (λ la. makeLength b >>= makeEquation la) o)) ≡ andThen (λ la. makeLength b >>= (λ lb. makeEquation la lb >>= firstOf)) o
   heads-whole (ok s la) = heads-lengths la (makeLength b s)
   heads-whole (stop n) = refl
 
-  pub heads-split-is : (s : Store) → (headAtoms a b >>= splitting g) s ≡ splitHeads g a b s
-  unfolding headAtoms lengthsAtom splitHeads
-  heads-split-is s = heads-whole (makeLength a s)
-
--- a split's answer by the answer of its atoms
-module _ {m m₁ : Lent} {c : State} {r : Form} (g : ℤ) (l : List ℕ) {w : Work (List ℕ)} {t : Tried} (is : (s : Store) → (w >>= splitting g) s ≡ t s) (x : Working w m m₁ c (listed r m₁ l)) where
-  pub split-done : {n : ℕ} {d : State} → r ≡ form.List n d → Working t m m₁ c (ok (storeOf m₁ d) (some (split (take n l) (negℤ g))))
-  split-done e = record { says = sym (is (storeOf m c)) ∙ ap (andThen (splitting g)) (x .says ∙ ap (λ (y : Form). listed y m₁ l) e); kept = x .kept }
-
-  pub split-stop : {k : ℕ} → r ≡ form.Refused k → Working t m m₁ c (stop k)
-  split-stop e = record { says = sym (is (storeOf m c)) ∙ ap (andThen (splitting g)) (x .says ∙ ap (λ (y : Form). listed y m₁ l) e); kept = x .kept }
+  pub heads-then : (s : Store) → (headAtoms a b >>= k) s ≡ headsThen a b k s
+  unfolding headAtoms lengthsAtom
+  heads-then s = heads-whole (makeLength a s)

@@ -101,7 +101,7 @@ finished (step.Done c) m k = refl
 finished (step.Saturated c) m k = refl
 finished (step.Conflict c) m k = refl
 finished (step.Propagate c v w f) m k = refl
-finished (step.Split c n g) m k = refl
+finished (step.Split c n g j) m k = refl
 finished (step.Refused n) m k = refl
 
 -- what step 1 requires

@@ -76,7 +76,7 @@ goes-flip p = record { step-of = step-flip (p .step-of); rises = p .rises }
 -- ONE STEP, THEN THE REST
 
 later-of : {l r : List ℕ} {s s′ : Store} {o : Option Answer} → Good false l r s s′ o → Later s s′
-later-of (passes k v h) = k
+later-of (passes k v h i) = k
 later-of (Good.answers k h c) = k
 
 module _ {l r : List ℕ} {a : Tried} (g : Goes l r a) {m m₁ : Lent} {c d : State} (w : Tries a m m₁ c (step.Done d)) where
@@ -128,7 +128,7 @@ Last (step.Done d) = ⊥
 Last (step.Saturated d) = Unit {0}
 Last (step.Conflict d) = Unit {0}
 Last (step.Propagate d v w f) = Unit {0}
-Last (step.Split d n g) = Unit {0}
+Last (step.Split d n g j) = Unit {0}
 Last (step.Refused n) = Unit {0}
 
 not-zero : OneOf (1 ∷ 2 ∷ 3 ∷ 4 ∷ 5 ∷ []) 0 → ⊥
@@ -144,7 +144,7 @@ last-of (step.Done d) h = not-zero h
 last-of (step.Saturated d) h = tt
 last-of (step.Conflict d) h = tt
 last-of (step.Propagate d v w f) h = tt
-last-of (step.Split d n g) h = tt
+last-of (step.Split d n g j) h = tt
 last-of (step.Refused n) h = tt
 
 settles : (b : Tried) (m : Lent) (o : StepResult) (k : List ℕ) → Last o → andThen (settled b) (tried o m k) ≡ tried o m k
@@ -152,7 +152,7 @@ settles b m (step.Done d) k z = absurd z
 settles b m (step.Saturated d) k z = refl
 settles b m (step.Conflict d) k z = refl
 settles b m (step.Propagate d v w f) k z = refl
-settles b m (step.Split d n g) k z = refl
+settles b m (step.Split d n g j) k z = refl
 settles b m (step.Refused n) k z = refl
 
 pub else-last : {a : Tried} (b : Tried) {m m₁ : Lent} {c : State} {o : StepResult} → Last o → Tries a m m₁ c o → Tries (a orElse b) m m₁ c o

@@ -2,11 +2,11 @@
 use mathlib.Core.Path.{_≡_}
 use mathlib.Core.Bool.{true, false, _&&_}
 use mathlib.Core.List.{List, [], _∷_}
-use Prim.Native.Nat.{ℕ, _<_}
+use Prim.Native.Nat.{ℕ, _-_, _<_}
 use lib.ListN.{length, getD}
 use lib.IntN.{ℤ, negℤ}
 use Rattle.records.specs.Lists.{if_then_else_}
-use Rattle.records.specs.Store.{Store, Work, _>>=_, _>>_, store, isConstant, isString, text}
+use Rattle.records.specs.Store.{Store, Work, _>>=_, _>>_, store, count, isConstant, isString, text}
 use Rattle.records.specs.Make.{addKey}
 use Rattle.wordeq.specs.Wordeq.{split, Tried, answer}
 use Rattle.wordeq.specs.Working.Splits.{characterAtoms, headAtoms}
@@ -35,6 +35,15 @@ atomsOf a b = do
       else if isConstant s a then atomsBy b (text s a) (headAtoms a b)
       else headAtoms a b
 
+-- a Split that says how many terms the store has more than n
+unfoldable pub splitFrom : ℤ → ℕ → List ℕ → Tried
+splitFrom g n l = do
+  s ← store
+  answer (split l (negℤ g) (count s - n))
+
 -- 'add the key and Split'
 unfoldable pub splitNew : ℤ → ℕ → ℕ → Tried
-splitNew g a b = addKey a b >> (atomsOf a b >>= (λ l. answer (split l (negℤ g))))
+splitNew g a b = do
+  addKey a b
+  s ← store
+  atomsOf a b >>= splitFrom g (count s)

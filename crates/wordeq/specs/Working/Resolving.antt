@@ -30,7 +30,7 @@ soft (step.Done d) = step.Done d
 soft (step.Saturated d) = step.Saturated d
 soft (step.Conflict d) = step.Saturated d
 soft (step.Propagate d v w f) = step.Propagate d v w f
-soft (step.Split d n g) = step.Split d n g
+soft (step.Split d n g j) = step.Split d n g j
 soft (step.Refused k) = step.Refused k
 
 -- 'Conflict and Propagate end with the incoming reasons and those added; other answers return the incoming count.'
@@ -39,5 +39,5 @@ closing n (step.Done d) = step.Done (reasonsAt d n)
 closing n (step.Saturated d) = step.Saturated (reasonsAt d n)
 closing n (step.Conflict d) = step.Conflict d
 closing n (step.Propagate d v w f) = step.Propagate d v w f
-closing n (step.Split d k g) = step.Split (reasonsAt d n) k g
+closing n (step.Split d k g j) = step.Split (reasonsAt d n) k g j
 closing n (step.Refused k) = step.Refused k

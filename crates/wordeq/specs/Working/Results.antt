@@ -25,7 +25,7 @@ tried (step.Done c) m k = ok (storeOf m c) none
 tried (step.Saturated c) m k = ok (storeOf m c) (some saturated)
 tried (step.Conflict c) m k = ok (storeOf m c) (some conflict)
 tried (step.Propagate c v w f) m k = ok (storeOf m c) (some (propagate v w f))
-tried (step.Split c n g) m k = ok (storeOf m c) (some (split (take n k) g))
+tried (step.Split c n g j) m k = ok (storeOf m c) (some (split (take n k) g j))
 tried (step.Refused n) m k = stop n
 
 -- a step that lists no atoms: so whatever words the list's slice has

@@ -42,14 +42,14 @@ tell-answer-spec =
     (at-start .pre .0, at-start .pre .1 .counts _ _ (ap answerTelling (at-made4 .made4 .given .1))))
     -- enum-known-made-5
     (λ c. search needs)
-    -- cast-tell-three
+    -- cast-tell-four
     (λ c.
     let at-made5 = c .before .before .before in
     let at-start = at-made5 .before .before .before .before in
-    record { fits = at-start .pre .1 .split _ _ _ (at-made5 .made5 .given .1) .list })
+    record { fits = at-start .pre .1 .split _ _ _ _ (at-made5 .made5 .given .1) .list })
     -- bits-of-requires
     (λ c κs. search needs)
-    -- tell-three-requires
+    -- tell-four-requires-2
     (λ c κs.
     let at-made5 = c .before .before .before .before in
     let at-start = at-made5 .before .before .before .before in
@@ -99,11 +99,11 @@ tell-answer-spec =
     (λ c. search needs)
     -- returns-5
     (λ c.
-    let at-tell-three = c .before .before .before .before in
-    let at-bits-of = at-tell-three .before in
+    let at-tell-four2 = c .before .before .before .before in
+    let at-bits-of = at-tell-four2 .before in
     let at-made5 = at-bits-of .before .before .before .before in
     let at-start = at-made5 .before .before .before .before in
-    told-guard (ap answerTelling (at-made5 .made5 .given .1)) (at-start .pre .1 .split _ _ _ (at-made5 .made5 .given .1) .guard) (at-bits-of .bits-of .ensures)
-    (at-tell-three .tell-three .ensures))
+    told-guard (ap answerTelling (at-made5 .made5 .given .1)) (at-start .pre .1 .split _ _ _ _ (at-made5 .made5 .given .1) .guard) (at-bits-of .bits-of .ensures)
+    (at-tell-four2 .tell-four2 .ensures))
     -- returns-6
     (λ c. told-refuses (ap answerTelling (c .before .made6 .given .1))))

@@ -1,5 +1,6 @@
 use mathlib.Core.Path.{refl}
-use Rattle.wordeq.proofs.Refines.Heads.{opposite-kept, new-ready, new-pair, new-done, new-stop, new-stop-2}
+use Rattle.wordeq.proofs.Refines.Heads.{opposite-kept, new-ready, new-pair, new-below, new-small, new-done, new-stop, new-stop-2}
+use native.Mathlib.Omega.{arith}
 use borrow.Author.Needs.{needs}
 use Rattle.wordeq.proofs.heads.split_new.Statement.{statement}
 use Rattle.wordeq.proofs.heads.split_new.Tie as tie
@@ -30,6 +31,31 @@ put-atoms-requires c κs =
 enum-known-atoms : tie.Need-enum-known-atoms
 enum-known-atoms c = search needs
 
+sub-more : tie.Need-sub-more
+sub-more c =
+    let at-more = c .before .before in
+    let at-put-atoms = at-more .before .before .before .before .before .before .before .before .before .before .before in
+    let at-key = at-put-atoms .before .before .before .before .before .before .before in
+    let at-add-key-unchecked = at-key .before .before .before .before in
+    let at-start = at-add-key-unchecked .before .before .before .before .before .before .before .before .before .before .before .before in
+    new-below (at-start .args .guard) (at-start .args .a) (at-start .args .b) (at-add-key-unchecked .add-key-unchecked .ensures) (at-key .key .given .1) _
+    (at-put-atoms .put-atoms .ensures) (at-more .before .atoms .given .1)
+
+cast-more : tie.Need-cast-more
+cast-more c =
+    let at-more = c .before .before in
+    let at-put-atoms = at-more .before .before .before .before .before .before .before .before .before .before .before in
+    let at-key = at-put-atoms .before .before .before .before .before .before .before in
+    let at-add-key-unchecked = at-key .before .before .before .before in
+    let at-start = at-add-key-unchecked .before .before .before .before .before .before .before .before .before .before .before .before in
+    let ready = new-ready (at-start .args .guard) (at-start .args .a) (at-start .args .b) (at-add-key-unchecked .add-key-unchecked .ensures) (at-key .key .given .1)
+    (at-start .pre .0) (at-start .pre .1 .0) refl refl in
+    let pair = new-pair (at-start .args .guard) (at-start .args .a) (at-start .args .b) (at-add-key-unchecked .add-key-unchecked .ensures) (at-key .key .given .1)
+    (at-start .pre .0) (at-start .pre .1 .0) in
+    let small = new-small (at-start .args .guard) (at-start .args .a) (at-start .args .b) (at-add-key-unchecked .add-key-unchecked .ensures) (at-key .key .given .1) _
+    (at-put-atoms .put-atoms .ensures) ready pair (at-more .before .atoms .given .1) in
+    record { fits = omega arith }
+
 enum-known-atoms-2 : tie.Need-enum-known-atoms-2
 enum-known-atoms-2 c = search needs
 
@@ -46,21 +72,26 @@ same-length-3 : tie.Need-same-length-3
 same-length-3 c = search needs
 
 same-length-4 : tie.Need-same-length-4
-same-length-4 c = search needs
+same-length-4 c =
+    let at-put-atoms = c .before .before .before .before .before .before .before .before .before .before .before .before .before in
+    let at-key = at-put-atoms .before .before .before .before .before .before .before in
+    let at-add-key-unchecked = at-key .before .before .before .before in
+    at-add-key-unchecked .add-key-unchecked .kept .1 .1 .1 .1 .0
 
 same-length-5 : tie.Need-same-length-5
 same-length-5 c = search needs
 
 returns : tie.Need-returns
 returns c =
-    let at-put-atoms = c .before .before .before .before .before .before .before .before .before .before .before in
+    let at-more = c .before .before in
+    let at-put-atoms = at-more .before .before .before .before .before .before .before .before .before .before .before in
     let at-key = at-put-atoms .before .before .before .before .before .before .before in
     let at-add-key-unchecked = at-key .before .before .before .before in
     let at-negated = at-add-key-unchecked .before .before .before .before .before in
     let at-start = at-negated .before .before .before .before .before .before .before in
     new-done (at-start .args .guard) (at-start .args .a) (at-start .args .b) (at-add-key-unchecked .add-key-unchecked .ensures) (at-key .key .given .1) _
-    (at-put-atoms .put-atoms .ensures) (c .before .atoms .given .1)
-    (opposite-kept (at-start .args .guard) (at-start .pre .1 .1 .0) (at-start .fits .guard) _ (at-negated .negated .ensures))
+    (at-put-atoms .put-atoms .ensures) (at-more .before .atoms .given .1)
+    (opposite-kept (at-start .args .guard) (at-start .pre .1 .1 .0) (at-start .fits .guard) _ (at-negated .negated .ensures)) refl
 
 same-length-6 : tie.Need-same-length-6
 same-length-6 c = search needs
@@ -113,6 +144,8 @@ split-new-spec =
     enum-known-key
     put-atoms-requires
     enum-known-atoms
+    sub-more
+    cast-more
     enum-known-atoms-2
     enum-known-key-2
     same-length

@@ -154,6 +154,8 @@ returns-7 c =
     heads-new {m = (lent (at-start .args .terms .now) (at-start .args .cells .now) (at-start .args .chars .now) (at-start .args .reasons .now) (at-start .args .keys .now))}
     {c = at-start .args .c} (at-start .args .guard) (at-start .args .needed) (at-start .args .lhs .now) (at-start .args .rhs .now) (at-if1 .if1 .left) (at-if2 .if2 .left)
     (sym (at-constants-differ .constants-differ .ensures) ∙ at-if3 .if3 .left) (sym (at-both-constant .both-constant .ensures) ∙ at-if4 .if4 .left)
+    (at-start .pre .0)
+    (pair-of _ _ _ (at-start .pre .1 .0) (at-start .pre .1 .1 .0) (at-if1 .if1 .left) (at-if2 .if2 .left) (sym (at-both-constant .both-constant .ensures) ∙ at-if4 .if4 .left))
     (key-read (lent (at-start .args .terms .now) (at-start .args .cells .now) (at-start .args .chars .now) (at-start .args .reasons .now) (at-start .args .keys .now))
     (at-start .args .c) (getD (at-start .args .lhs .now) 0 0) (getD (at-start .args .rhs .now) 0 0) (at-is-key-unchecked .is-key-unchecked .ensures) (at-if5 .if5 .left)
     (at-if6 .if6 .left))
