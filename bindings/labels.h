@@ -30,9 +30,9 @@ extern "C" {
 #endif
 
 /* The version of this header, of the Rust crate and of CHANGELOG.md. */
-#define LABELS_VERSION "0.5.0"
+#define LABELS_VERSION "0.6.0"
 #define LABELS_VERSION_MAJOR 0
-#define LABELS_VERSION_MINOR 5
+#define LABELS_VERSION_MINOR 6
 #define LABELS_VERSION_PATCH 0
 
 /* The limits of the counts. */
@@ -103,7 +103,21 @@ enum labels_answer_word {
 /* The words of `labels_empty_parts`' answer: how many variables are listed, the number of "", the link flag. */
 enum labels_parts_word { LABELS_PARTS_COUNT = 0, LABELS_PARTS_EMPTY = 1, LABELS_PARTS_LINK = 2 };
 
-/* Why a call was refused. After the first five and the last no word of any slice is written; after the others the counts and every counted
+/* The words of `labels_forced_length`'s answer: which case it is; k, c and l; m and r, or the shortage and 0. */
+enum labels_fit_word {
+    LABELS_FIT_CASE = 0,
+    LABELS_FIT_VARIABLES = 1,
+    LABELS_FIT_CONSTANT = 2,
+    LABELS_FIT_AGAINST = 3,
+    LABELS_FIT_LENGTH = 4,
+    LABELS_FIT_REST = 5,
+    LABELS_FIT_SHORTAGE = 4
+};
+
+/* Its cases: m and r, or a shortage. */
+enum labels_fit_case { LABELS_FIT_SPANS = 0, LABELS_FIT_SHORT = 1 };
+
+/* Why a call was refused. After the first five and the last two no word of any slice is written; after the others the counts and every counted
  * record are as they were. */
 enum labels_refusal {
     LABELS_ACCEPTED = 0,
@@ -116,7 +130,8 @@ enum labels_refusal {
     LABELS_REFUSED_REASONS = 7,
     LABELS_REFUSED_ROOM = 8,
     LABELS_REFUSED_NAMES = 9,
-    LABELS_REFUSED_MARK = 10
+    LABELS_REFUSED_MARK = 10,
+    LABELS_REFUSED_FORM = 11
 };
 
 /* A refusal's text, never null. */
@@ -144,6 +159,8 @@ static inline const char *labels_refusal_text(uint32_t refusal) {
         return "no name left";
     case LABELS_REFUSED_MARK:
         return "a mark that is not standing, or a 65th";
+    case LABELS_REFUSED_FORM:
+        return "no side of constants against one variable class";
     default:
         return "a refusal that no call gives";
     }
@@ -229,6 +246,13 @@ uint32_t labels_step(LABELS_WORDS(state), LABELS_WORDS(terms), LABELS_WORDS(cell
  * what the lists rest on. */
 uint32_t labels_empty_parts(LABELS_WORDS(state), LABELS_WORDS(terms), LABELS_READ(cells), LABELS_WORDS(chars), LABELS_READ(reasons),
                             LABELS_READ(keys), LABELS_READ(lhs), LABELS_READ(rhs), LABELS_WORDS(list), LABELS_WORDS(answer));
+
+/* The length that a side of constants forces on the one variable class of the other side. Both lists are flattened, and same heads and then
+ * same tails are stripped. With k variables and c constant characters against l characters, l = c + k * m + r and r below k: words 0 to 5 of
+ * the answer are 0, k, c, l, m and r. Where l is below c they are 1, k, c, l, the shortage c - l, and 0. With a remainder above 0 or a shortage
+ * no text fits. Lists that have another form are refused with 11. Nothing but the answer is written. */
+uint32_t labels_forced_length(LABELS_READ(state), LABELS_READ(terms), LABELS_READ(cells), LABELS_READ(chars), LABELS_READ(reasons),
+                              LABELS_READ(keys), LABELS_READ(lhs), LABELS_READ(rhs), LABELS_WORDS(answer));
 
 /* Word 0 of the answer is 1 where the lists are equal, else 0. */
 uint32_t labels_nf_equal(LABELS_READ(state), LABELS_READ(terms), LABELS_READ(cells), LABELS_READ(chars), LABELS_READ(reasons),
@@ -395,6 +419,10 @@ static inline uint32_t labels_store_nf_equal(labels_store *s, LABELS_READ(lhs), 
 /* Names no reasons. A join puts its own answer over the three words: copy them before the variables are joined. */
 static inline uint32_t labels_store_empty_parts(labels_store *s, LABELS_READ(lhs), LABELS_READ(rhs)) {
     return labels_empty_parts(LABELS_STORE(s), lhs, lhs_len, rhs, rhs_len, LABELS_STORE_LIST(s), LABELS_STORE_ANSWER(s));
+}
+
+static inline uint32_t labels_store_forced_length(labels_store *s, LABELS_READ(lhs), LABELS_READ(rhs)) {
+    return labels_forced_length(LABELS_STORE(s), lhs, lhs_len, rhs, rhs_len, LABELS_STORE_ANSWER(s));
 }
 
 /* ASKING A QUESTION

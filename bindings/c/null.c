@@ -64,18 +64,22 @@ static uint32_t call(int which) {
         return labels_resolve_equation(STORE, terms, 2, terms, 2, 1, S(FIRST), S(SECOND));
     case 18:
         return labels_empty_parts(STORE, S(FIRST), S(SECOND), full.list, full.list_len, S(THIRD));
-    default:
+    case 19:
         return labels_empty_parts(STORE, terms, 0, terms, 2, S(FIRST), S(SECOND));
+    default:
+        return labels_forced_length(STORE, S(FIRST), S(SECOND), S(THIRD));
     }
 }
 
 static const char *const names[] = {"audit", "make_constant", "make_variable", "make_concatenation", "make_length", "make_equation", "find",
                                     "explain", "normal_form", "deep_normal_form", "step", "nf_equal", "nf_equal_explain", "join",
-                                    "set_mark", "go_back", "resolve_equation", "resolve_equation", "empty_parts", "empty_parts"};
+                                    "set_mark", "go_back", "resolve_equation", "resolve_equation", "empty_parts", "empty_parts",
+                                    "forced_length"};
 
 /* A store of the terms x, y, x ++ y, "ab", x ++ y = "ab", with one mark. */
 static void fresh(int which) {
-    uint32_t y, ab, mark;
+    static uint32_t ab;
+    uint32_t y, mark;
     memset(&memory, 0, sizeof memory);
     labels_store_over(&full, &memory);
     if (labels_store_variable(&full, "x", &x) || labels_store_variable(&full, "y", &y))
@@ -108,10 +112,14 @@ static void fresh(int which) {
         lend(SECOND, full.answer, LABELS_ANSWER_WORDS);
     if (which == 17 || which == 19)
         lend(FIRST, full.list, full.list_len);
+    if (which == 20) { /* x against "ab" */
+        lend(FIRST, terms, 1);
+        lend(SECOND, &ab, 1);
+    }
 }
 
 int main(void) {
-    static const int slices[] = {6, 8, 8, 8, 7, 7, 7, 6, 9, 9, 9, 9, 8, 8, 8, 7, 9, 8, 9, 8};
+    static const int slices[] = {6, 8, 8, 8, 7, 7, 7, 6, 9, 9, 9, 9, 8, 8, 8, 7, 9, 8, 9, 8, 9};
     static labels_memory memory_kept;
     static labels_store store_kept;
     uint32_t word = 0, refusal[2];

@@ -159,6 +159,24 @@ static void emptying(void) {
     HOLD(s.answer[LABELS_PARTS_EMPTY] == empty && s.answer[LABELS_PARTS_LINK] == 0 && labels_store_audit(&s) == LABELS_ACCEPTED);
 }
 
+/* A field that stands twice against a code; a refusal leaves the answer alone, and nothing else is written. */
+static void fitting(void) {
+    uint32_t label[3], code[1], before[LABELS_STATE_WORDS];
+    labels_store_over(&s, &memory);
+    HOLD(labels_store_variable(&s, "lot", &label[0]) == 0 && labels_store_constant(&s, "-", &label[1]) == 0);
+    HOLD(labels_store_constant(&s, "A7-A71", &code[0]) == 0);
+    label[2] = label[0];
+    memcpy(before, s.state, sizeof before);
+    s.answer[6] = 77;
+    HOLD(labels_store_forced_length(&s, LABELS_LEND(code), LABELS_LEND(label)) == 0 && s.answer[LABELS_FIT_CASE] == LABELS_FIT_SPANS);
+    HOLD(s.answer[LABELS_FIT_VARIABLES] == 2 && s.answer[LABELS_FIT_CONSTANT] == 1 && s.answer[LABELS_FIT_AGAINST] == 6);
+    HOLD(s.answer[LABELS_FIT_LENGTH] == 2 && s.answer[LABELS_FIT_REST] == 1 && s.answer[6] == 77);
+    HOLD(labels_store_forced_length(&s, LABELS_LEND(label), NULL, 0) == 0 && s.answer[LABELS_FIT_CASE] == LABELS_FIT_SHORT);
+    HOLD(s.answer[LABELS_FIT_CONSTANT] == 1 && s.answer[LABELS_FIT_AGAINST] == 0 && s.answer[LABELS_FIT_SHORTAGE] == 1 && s.answer[5] == 0);
+    HOLD(labels_store_forced_length(&s, LABELS_LEND(label), LABELS_LEND(label)) == LABELS_REFUSED_FORM && s.answer[LABELS_FIT_SHORTAGE] == 1);
+    HOLD(memcmp(before, s.state, sizeof before) == 0 && labels_store_audit(&s) == LABELS_ACCEPTED);
+}
+
 /* A store keeps its words to itself, and may be small. */
 static void small(void) {
     uint32_t few[8 * 2], cell[3], characters[1], x = 0;
@@ -177,8 +195,9 @@ int main(void) {
     asking();
     splitting();
     emptying();
+    fitting();
     small();
-    for (i = 0; i <= 11; i++)
+    for (i = 0; i <= 12; i++)
         for (k = 0; k < i; k++)
             HOLD(strcmp(labels_refusal_text(i), labels_refusal_text(k)) != 0);
     HOLD(strcmp(labels_case_text(LABELS_UNEXPANDED), "unexpanded") == 0 && strcmp(labels_case_text(6), labels_case_text(7)) == 0);

@@ -20,9 +20,10 @@ pub enum Call {
     NfEqual { lhs: Vec<u32>, rhs: Vec<u32> },
     NfEqualExplain { lhs: Vec<u32>, rhs: Vec<u32> },
     EmptyParts { lhs: Vec<u32>, rhs: Vec<u32> },
+    ForcedLength { lhs: Vec<u32>, rhs: Vec<u32> },
 }
 
-pub const NAMES: [&str; 15] = [
+pub const NAMES: [&str; 16] = [
     "audit",
     "make_constant",
     "make_variable",
@@ -38,6 +39,7 @@ pub const NAMES: [&str; 15] = [
     "nf_equal",
     "nf_equal_explain",
     "empty_parts",
+    "forced_length",
 ];
 
 impl Call {
@@ -58,6 +60,7 @@ impl Call {
             Call::NfEqual { .. } => 12,
             Call::NfEqualExplain { .. } => 13,
             Call::EmptyParts { .. } => 14,
+            Call::ForcedLength { .. } => 15,
         }
     }
 
@@ -81,7 +84,8 @@ impl Call {
             Call::ResolveEquation { lhs, rhs, .. }
             | Call::NfEqual { lhs, rhs }
             | Call::NfEqualExplain { lhs, rhs }
-            | Call::EmptyParts { lhs, rhs } => vec![lhs, rhs],
+            | Call::EmptyParts { lhs, rhs }
+            | Call::ForcedLength { lhs, rhs } => vec![lhs, rhs],
             _ => vec![],
         }
     }
@@ -148,6 +152,7 @@ impl Outcome {
             Call::Audit | Call::Explain { .. } | Call::NfEqualExplain { .. } => (0, 0),
             Call::NormalForm { .. } | Call::DeepNormalForm { .. } => (2, word(1)),
             Call::EmptyParts { .. } => (3, word(0)),
+            Call::ForcedLength { .. } => (6, 0),
             Call::ResolveEquation { .. } | Call::Step { .. } => match self.answer[0] {
                 PROPAGATE => (4, 0),
                 SPLIT => (4, word(1)),

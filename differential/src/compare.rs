@@ -12,8 +12,8 @@ pub fn difference(entry: &Lent, request: &Request, expected: &Outcome, got: &Out
     }
     match expected.code {
         0 => answered(request, expected, got),
-        // 'Refusals 1 to 5 write nothing'
-        1..=5 => {
+        // 'Refusals 1 to 5 write nothing', 'Refusals added from here on write nothing'
+        1..=5 | 10.. => {
             let idle = Outcome::idle(entry, request, expected.code);
             (*got != idle).then(|| "a refused call wrote a word".into())
         }

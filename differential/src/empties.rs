@@ -313,7 +313,7 @@ pub fn small() -> Vec<Lent> {
 }
 
 // each as a class for every place, a class being numbered when it is first met
-fn divisions(n: usize) -> Vec<Vec<usize>> {
+pub(crate) fn divisions(n: usize) -> Vec<Vec<usize>> {
     let mut all = vec![vec![]];
     for _ in 0..n {
         let more = |d: &Vec<usize>| {
@@ -326,7 +326,7 @@ fn divisions(n: usize) -> Vec<Vec<usize>> {
 }
 
 // every list of up to n of these terms
-fn words(terms: u32, n: usize) -> Vec<Vec<u32>> {
+pub(crate) fn words(terms: u32, n: usize) -> Vec<Vec<u32>> {
     let mut all = vec![vec![]];
     let mut last = 0;
     for _ in 0..n {

@@ -653,6 +653,32 @@ fn label_lists(random: &mut Random, s: &Lent, strings: &[u32]) -> (Vec<u32>, Vec
     }
 }
 
+/// Lists for document 02's Note 6: constants against constants and one class, with the same terms, or others of their classes, put before and
+/// after both.
+fn field_lists(random: &mut Random, s: &Lent, strings: &[u32]) -> (Vec<u32>, Vec<u32>) {
+    let of_kind = |k: u32| strings.iter().copied().filter(|&t| s.kind(t) == k).collect::<Vec<_>>();
+    let (variables, constants) = (of_kind(VARIABLE), of_kind(CONSTANT));
+    if variables.is_empty() || constants.is_empty() {
+        return two_lists(random, s, strings);
+    }
+    let members = |t: u32| strings.iter().copied().filter(|&u| s.class_root(u) == s.class_root(t)).collect::<Vec<_>>();
+    let near: Vec<u32> = members(*random.pick(&variables)).into_iter().filter(|&t| s.kind(t) == VARIABLE).collect();
+    let n = random.between(1, 5);
+    let (mut word, mut side) = (list(random, &constants, 4), mixed(random, &[&near, &near, &constants], n));
+    for _ in 0..random.below(4) {
+        let t = *random.pick(strings);
+        let u = *random.pick(&members(t));
+        let (i, j) = if random.one_in(2) { (0, 0) } else { (word.len(), side.len()) };
+        word.insert(i, t);
+        side.insert(j, u);
+    }
+    if random.one_in(2) {
+        (word, side)
+    } else {
+        (side, word)
+    }
+}
+
 fn guard(random: &mut Random) -> i32 {
     match random.below(30) {
         0 => 0,
@@ -732,6 +758,14 @@ pub fn call(random: &mut Random, s: &Lent, kind: usize) -> Call {
                 _ => label_lists(random, s, &strings),
             };
             Call::EmptyParts { lhs, rhs }
+        }
+        15 => {
+            let (lhs, rhs) = match random.below(3) {
+                0 => two_lists(random, s, &strings),
+                1 => shaped_lists(random, s, &strings),
+                _ => field_lists(random, s, &strings),
+            };
+            Call::ForcedLength { lhs, rhs }
         }
         _ => unreachable!(),
     }

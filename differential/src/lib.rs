@@ -10,6 +10,7 @@ pub mod damage;
 pub mod draft;
 pub mod empties;
 pub mod generate;
+pub mod lengths;
 pub mod lent;
 pub mod lists;
 pub mod marks;

@@ -9,7 +9,7 @@ use differential::{
     draft::{lay_out, Draft},
     empties, generate,
     lent::Lent,
-    lists,
+    lengths, lists,
     marks::{self, Act, Marked, Told},
     model,
     oracle::{self, Answer, Mode},
@@ -65,7 +65,7 @@ struct Options {
 
 fn usage() -> ! {
     eprintln!(
-        "differential compare|damaged|claims|lists|trails|empties|faults|vectors|speed|count|pace|pace-count|worst|stack [--seed S] [--count N] [--from ROUND] [--threads T] [--kinds A,B] [--of port|model|rust] [--out FOLDER]"
+        "differential compare|damaged|claims|lists|trails|empties|lengths|faults|vectors|speed|count|pace|pace-count|worst|stack [--seed S] [--count N] [--from ROUND] [--threads T] [--kinds A,B] [--of port|model|rust] [--out FOLDER]"
     );
     exit(2);
 }
@@ -112,7 +112,7 @@ struct Tally {
     calls: [u64; NAMES.len()],
     absent: [u64; NAMES.len()],
     /// by result
-    codes: [u64; 10],
+    codes: [u64; 12],
     /// by case of wordeq and of the step
     cases: [u64; 6],
     none: u64,
@@ -323,14 +323,15 @@ fn compare(o: &Options) -> Tally {
     tally.print_made();
     let c = &tally.codes;
     println!(
-        "{} calls compared, {} that the port lacks; refused before work: {} {} {} {} {} (1 to 5); departures met: {} (A: {} no Conflict, {} occurrence explained; B: {}); limits met: {} ({} {} {} {}, 6 to 9); {} differences",
+        "{} calls compared, {} that the port lacks; refused before work: {} {} {} {} {} (1 to 5); departures met: {} (A: {} no Conflict, {} occurrence explained; B: {}); limits met: {} ({} {} {} {}, 6 to 9); another form: {} (11); {} differences",
         tally.calls.iter().sum::<u64>(),
         tally.absent.iter().sum::<u64>(),
         c[1], c[2], c[3], c[4], c[5],
         tally.passed + tally.occurrence + tally.forced,
         tally.passed, tally.occurrence, tally.forced,
-        c[6..].iter().sum::<u64>(),
+        c[6..10].iter().sum::<u64>(),
         c[6], c[7], c[8], c[9],
+        c[11],
         tally.differences
     );
     tally
@@ -483,6 +484,24 @@ fn empty_parts(o: &Options) -> empties::Tally {
     tally
 }
 
+// the forced length, first on the small stores that are listed without gaps
+fn forced_lengths(o: &Options) -> lengths::Tally {
+    let of = o.of;
+    let call = move |s: &Lent, r: &Request| of.run(s, r);
+    let small = lengths::small();
+    println!("{} small stores to list without gaps", small.len());
+    let tally = rounds(o, lengths::Tally::add, |i, random, tally| {
+        if let Err(what) = lengths::round(i, &small, random, &call, tally) {
+            tally.differences += 1;
+            if tally.differences <= PRINTED {
+                println!("round {i}: {what}");
+            }
+        }
+    });
+    tally.print();
+    tally
+}
+
 // the smallest inputs on which the unchanged Rust gives an answer that fails demand 3
 fn faults(o: &Options) {
     let mut smallest: [Option<(usize, Draft, Call)>; 3] = [None, None, None];
@@ -554,6 +573,10 @@ fn main() {
         }
         "empties" => {
             let t = empty_parts(&o);
+            t.differences + t.absent
+        }
+        "lengths" => {
+            let t = forced_lengths(&o);
             t.differences + t.absent
         }
         "faults" => return faults(&o),

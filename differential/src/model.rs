@@ -75,6 +75,7 @@ impl Model {
                 one(equal as u32)
             }
             Call::EmptyParts { lhs, rhs } => self.empty_parts(lhs, rhs)?,
+            Call::ForcedLength { lhs, rhs } => (self.forced_length(lhs, rhs)?, vec![]),
             Call::NfEqualExplain { lhs, rhs } => {
                 for (&a, &b) in lhs.iter().zip(rhs) {
                     let equal_texts = self.is_constant(a) && self.is_constant(b) && self.s.text(a) == self.s.text(b);
@@ -502,6 +503,35 @@ impl Model {
             }
         }
         Ok((vec![listed.len() as u32, empty, !listed.is_empty() as u32], listed))
+    }
+
+    // document 02's Note 6
+    fn forced_length(&mut self, lhs: &[u32], rhs: &[u32]) -> Work<Vec<u32>> {
+        let mut flat = [vec![], vec![]];
+        for (list, flat) in [lhs, rhs].into_iter().zip(&mut flat) {
+            list.iter().try_for_each(|&t| self.flatten(t, flat))?;
+        }
+        let (mut l, mut r) = (&flat[0][..], &flat[1][..]);
+        while let ([a, more_l @ ..], [b, more_r @ ..]) = (l, r) {
+            if !self.same(*a, *b) {
+                break;
+            }
+            (l, r) = (more_l, more_r);
+        }
+        while let ([more_l @ .., a], [more_r @ .., b]) = (l, r) {
+            if !self.same(*a, *b) {
+                break;
+            }
+            (l, r) = (more_l, more_r);
+        }
+        for (word, side) in [(l, r), (r, l)] {
+            let variables: Vec<u32> = side.iter().copied().filter(|&t| !self.is_constant(t)).collect();
+            if self.all_constant(word) && !variables.is_empty() && variables.iter().all(|&v| self.same(v, variables[0])) {
+                let [k, c, l] = [variables.len(), self.letters(side).len(), self.letters(word).len()].map(|n| n as u32);
+                return Ok(if l < c { vec![1, k, c, l, c - l, 0] } else { vec![0, k, c, l, (l - c) / k, (l - c) % k] });
+            }
+        }
+        Err(11)
     }
 
     // step 5: the variable places of a side that no word for the one class makes equal to the constant side

@@ -118,7 +118,7 @@ fn arguments(s: &Lent, call: &Call) -> bool {
             let e = *equation;
             strings(known) && s.kind(e) == EQUATION && s.is_string(s.term(e).first) && guarded(*guard)
         }
-        Call::NfEqual { lhs, rhs } | Call::EmptyParts { lhs, rhs } => strings(lhs) && strings(rhs),
+        Call::NfEqual { lhs, rhs } | Call::EmptyParts { lhs, rhs } | Call::ForcedLength { lhs, rhs } => strings(lhs) && strings(rhs),
         Call::NfEqualExplain { lhs, rhs } => strings(lhs) && strings(rhs) && lhs.len() == rhs.len(),
     }
 }
@@ -357,6 +357,7 @@ fn work(w: &mut World, s: &Lent, call: &Call, mode: Mode) -> Words {
             (vec![], vec![])
         }
         Call::EmptyParts { lhs, rhs } => repeated(w, &ids(lhs), &ids(rhs)),
+        Call::ForcedLength { lhs, rhs } => fitted(w, &ids(lhs), &ids(rhs)),
     }
 }
 
@@ -428,6 +429,27 @@ fn is_label(w: &World, lhs: &[TermId], rhs: &[TermId]) -> bool {
     let [l, r] = [lhs, rhs].map(|list| wordeq::flattened(&w.terms, list));
     let one_empty = l.is_empty() || r.is_empty();
     one_empty && l.len() + r.len() >= 2 && l.iter().chain(&r).all(|&t| !w.is_constant(t))
+}
+
+/// Document 02's Note 6 on the lists that the Rust's own tests flatten and strip; 11 where what is left has another form.
+fn fitted(w: &mut World, lhs: &[TermId], rhs: &[TermId]) -> Words {
+    flattens(w, lhs, rhs);
+    let seen = look(w, lhs, rhs);
+    let Some((word, side)) = [(&seen.lhs, &seen.rhs), (&seen.rhs, &seen.lhs)].into_iter().find(|(word, side)| one_class(w, word, side)) else {
+        refuse(11)
+    };
+    let letters = |w: &World, l: &[TermId]| l.iter().map(|&t| w.chars(t).len() as u32).sum::<u32>();
+    let (k, c, l) = (side.iter().filter(|&&t| !w.is_constant(t)).count() as u32, letters(w, side), letters(w, word));
+    let span = if l < c { [1, c - l, 0] } else { [0, (l - c) / k, (l - c) % k] };
+    (vec![span[0], k, c, l, span[1], span[2]], vec![])
+}
+
+/// Step 5's conditions: 'One side constant, the other holding one variable class'.
+fn one_class(w: &mut World, word: &[TermId], side: &[TermId]) -> bool {
+    let variables: Vec<TermId> = side.iter().copied().filter(|&t| !w.is_constant(t)).collect();
+    word.iter().all(|&t| w.is_constant(t))
+        && !variables.is_empty()
+        && variables.iter().all(|&v| wordeq::atoms_same(&mut w.terms, &mut w.eq, v, variables[0]))
 }
 
 fn resolve(w: &mut World, lhs: &[TermId], rhs: &[TermId], guard: Lit, mode: Mode) -> StepResult {

@@ -54,6 +54,7 @@ interface! {
     "labels_nf_equal" labels_nf_equal(lhs: *const u32, lhs_len: usize, rhs: *const u32, rhs_len: usize, answer: *mut u32, answer_len: usize);
     "labels_nf_equal_explain" labels_nf_equal_explain(lhs: *const u32, lhs_len: usize, rhs: *const u32, rhs_len: usize);
     "labels_empty_parts" labels_empty_parts(lhs: *const u32, lhs_len: usize, rhs: *const u32, rhs_len: usize, list: *mut u32, list_len: usize, answer: *mut u32, answer_len: usize);
+    "labels_forced_length" labels_forced_length(lhs: *const u32, lhs_len: usize, rhs: *const u32, rhs_len: usize, answer: *mut u32, answer_len: usize);
     "labels_join" labels_join(marks: *mut u32, marks_len: usize, a: u32, b: u32, kind: u32, number: u32, answer: *mut u32, answer_len: usize);
     "labels_set_mark" labels_set_mark(marks: *mut u32, marks_len: usize, answer: *mut u32, answer_len: usize);
     "labels_go_back" labels_go_back(marks: *mut u32, marks_len: usize, mark: u32);
@@ -145,6 +146,7 @@ fn raw(store: [&mut [u32]; 6], list: &mut [u32], answer: &mut [u32], call: &Call
         Call::EmptyParts { lhs, rhs } => {
             with_store!(labels_empty_parts, lhs.as_ptr(), lhs.len(), rhs.as_ptr(), rhs.len(), l, m, a, n)
         }
+        Call::ForcedLength { lhs, rhs } => with_store!(labels_forced_length, lhs.as_ptr(), lhs.len(), rhs.as_ptr(), rhs.len(), a, n),
     }
 }
 

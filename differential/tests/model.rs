@@ -13,7 +13,7 @@ use differential::{
 // Splits held back by reasons that were listed already, and Splits by the terms that they made, over a character and over two heads
 #[derive(Default)]
 struct Met {
-    codes: [u32; 10],
+    codes: [u32; 12],
     cases: [u32; 6],
     departures: [u32; 3],
     once: [u32; 2],
@@ -65,7 +65,7 @@ fn compare(seed: u64, count: usize, limits: bool) -> Met {
 #[test]
 fn random_stores() {
     let met = compare(3, 4_000, false);
-    let all = [&met.codes[5..6], &met.codes[7..], &met.cases, &met.departures, &met.once, &met.made.concat()].concat();
+    let all = [&met.codes[5..6], &met.codes[7..10], &met.cases, &met.departures, &met.once, &met.made.concat()].concat();
     let met = (met.codes, met.cases, met.departures, met.once, met.made);
     assert!(met.0[0] > 0 && all.iter().all(|&n| n > 0), "{met:?}");
 }

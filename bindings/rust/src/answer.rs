@@ -3,7 +3,7 @@
 use crate::Term;
 use std::fmt;
 
-/// Why a call was refused. After the first five, and after `Mark`, the call has changed no word of the store; a question has set the count of
+/// Why a call was refused. After the first five, and after `Mark` and `Form`, the call has changed no word of the store; a question has set the count of
 /// its reasons to those that were handed in.
 ///
 /// ```
@@ -37,6 +37,8 @@ pub enum Refusal {
     Names,
     /// a mark that is not standing, or a 65th
     Mark,
+    /// no side of constants against one variable class
+    Form,
     /// a refusal's number that no call gives: the library is not the one that this crate was written for
     Other(u32),
     /// an answer's number that no call gives, for the same cause
@@ -62,6 +64,7 @@ impl Refusal {
             Refusal::Room => 8,
             Refusal::Names => 9,
             Refusal::Mark => 10,
+            Refusal::Form => 11,
             Refusal::Other(n) => n,
             Refusal::UnknownAnswer(_) => return None,
         })
@@ -81,6 +84,7 @@ impl fmt::Display for Refusal {
             Refusal::Room => "no room for a term, a cell, a character or a key",
             Refusal::Names => "no name left",
             Refusal::Mark => "a mark that is not standing, or a 65th",
+            Refusal::Form => "no side of constants against one variable class",
             Refusal::Other(n) => return write!(f, "a refusal that no call gives: {n}"),
             Refusal::UnknownAnswer(n) => return write!(f, "an answer that no call gives: {n}"),
         })
@@ -103,6 +107,7 @@ pub(crate) fn outcome(code: u32) -> Result<(), Refusal> {
         8 => Refusal::Room,
         9 => Refusal::Names,
         10 => Refusal::Mark,
+        11 => Refusal::Form,
         n => Refusal::Other(n),
     })
 }
@@ -213,6 +218,45 @@ impl EmptyParts {
             return Err(Refusal::UnknownAnswer(link));
         }
         Ok(EmptyParts { variables: first(list, count)?, empty: (empty != 0).then_some(empty), link: link == 1 })
+    }
+}
+
+/// What the length of a side of constants leaves to each of the variables against it.
+#[derive(Clone, Copy, PartialEq, Eq, Hash, Debug)]
+pub enum Span {
+    /// each variable has the same length
+    Length {
+        /// the characters of each variable: m
+        length: u32,
+        /// the characters left over, fewer than there are variables: r
+        rest: u32,
+    },
+    /// how many characters the side is too short for the constants against it
+    Shortage(u32),
+}
+
+/// The forced length of a repeated field: with a rest above 0 or a shortage no text fits.
+#[derive(Clone, Copy, PartialEq, Eq, Hash, Debug)]
+pub struct Fit {
+    /// at how many places the variables stand: k
+    pub variables: u32,
+    /// the constant characters beside them: c
+    pub constant: u32,
+    /// the characters of the side of constants: l
+    pub against: u32,
+    /// m and r, with l = c + k * m + r and r below k, or the shortage c - l
+    pub span: Span,
+}
+
+impl Fit {
+    /// The fit in an answer's words.
+    pub(crate) fn of(answer: &[u32; 8]) -> Result<Fit, Refusal> {
+        let span = match answer[0] {
+            0 => Span::Length { length: answer[4], rest: answer[5] },
+            1 => Span::Shortage(answer[4]),
+            n => return Err(Refusal::UnknownAnswer(n)),
+        };
+        Ok(Fit { variables: answer[1], constant: answer[2], against: answer[3], span })
     }
 }
 
@@ -343,7 +387,7 @@ mod tests {
         }
         assert_eq!(Form::of(&[2, 0, 0, 0, 0, 0, 0, 0], &[], vec![]), Err(Refusal::UnknownAnswer(2)));
         assert_eq!(Form::of(&[1, 1, 0, 0, 0, 0, 0, 0], &[], vec![]), Err(Refusal::UnknownAnswer(1)));
-        assert_eq!(outcome(11), Err(Refusal::Other(11)));
+        assert_eq!(outcome(12), Err(Refusal::Other(12)));
     }
 
     #[test]
@@ -359,6 +403,14 @@ mod tests {
     }
 
     #[test]
+    fn fits_are_those_of_the_words() {
+        let fit = |case| Fit::of(&[case, 2, 1, 6, 2, 1, 9, 9]).map(|f| (f.variables, f.constant, f.against, f.span));
+        assert_eq!(fit(0), Ok((2, 1, 6, Span::Length { length: 2, rest: 1 })));
+        assert_eq!(fit(1), Ok((2, 1, 6, Span::Shortage(2))));
+        assert_eq!(fit(2), Err(Refusal::UnknownAnswer(2)));
+    }
+
+    #[test]
     fn numbers_and_refusals_go_together() {
         assert_eq!(outcome(0), Ok(()));
         for n in 1..=12 {
@@ -366,6 +418,6 @@ mod tests {
         }
         assert_eq!(Refusal::UnknownAnswer(6).number(), None);
         assert_eq!(Refusal::UnknownAnswer(6).to_string(), "an answer that no call gives: 6");
-        assert_eq!(Refusal::Other(11).to_string(), "a refusal that no call gives: 11");
+        assert_eq!(Refusal::Other(12).to_string(), "a refusal that no call gives: 12");
     }
 }

@@ -39,7 +39,7 @@ mod answer;
 mod display;
 mod raw;
 
-pub use answer::{Answer, EmptyParts, Form, Reason, Refusal};
+pub use answer::{Answer, EmptyParts, Fit, Form, Reason, Refusal, Span};
 pub use display::Shown;
 
 use answer::{answered_case, outcome};
@@ -48,7 +48,7 @@ use std::fmt;
 /// The version of this crate, of `labels.h` and of the changelog.
 ///
 /// ```
-/// assert_eq!(labels::VERSION, "0.5.0");
+/// assert_eq!(labels::VERSION, "0.6.0");
 /// ```
 pub const VERSION: &str = env!("CARGO_PKG_VERSION");
 
@@ -502,6 +502,29 @@ impl Store {
         let (mut list, mut answer) = (list(), [0; 8]);
         outcome(raw::empty_parts(self, lhs, rhs, &mut list, &mut answer))?;
         EmptyParts::of(&answer, &list)
+    }
+
+    /// The length that a side of constants forces on the one variable class of the other side. Both lists are flattened, and same heads and
+    /// then same tails are stripped; lists of another form are refused. Nothing is written.
+    ///
+    /// With a rest above 0 or a shortage [`Store::resolve_equation`] answers Conflict on the same lists, or Saturated where it flattened, unless
+    /// the reasons are full.
+    ///
+    /// ```
+    /// use labels::{Fit, Refusal, Span};
+    /// let mut store = labels::Store::new();
+    /// let (lot, hyphen, code) = (store.variable("lot")?, store.constant("-")?, store.constant("A7-A71")?);
+    /// // two places of two characters and the hyphen take five, and one is over
+    /// let fit = store.forced_length(&[code], &[lot, hyphen, lot])?;
+    /// assert_eq!(fit, Fit { variables: 2, constant: 1, against: 6, span: Span::Length { length: 2, rest: 1 } });
+    /// assert_eq!(store.forced_length(&[], &[lot, hyphen])?.span, Span::Shortage(1));
+    /// assert_eq!(store.forced_length(&[code], &[hyphen]), Err(Refusal::Form));
+    /// # Ok::<(), labels::Refusal>(())
+    /// ```
+    pub fn forced_length(&self, lhs: &[Term], rhs: &[Term]) -> Result<Fit, Refusal> {
+        let mut answer = [0; 8];
+        outcome(raw::forced_length(self, lhs, rhs, &mut answer))?;
+        Fit::of(&answer)
     }
 
     /// Whether two lists are atom by atom the same.

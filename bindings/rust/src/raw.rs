@@ -41,6 +41,7 @@ interface! {
     &Store, *const u32, as_ptr:
     labels_audit audit_words();
     labels_find root(t: u32, answer: *mut u32, answer_len: usize);
+    labels_forced_length forced(lhs: *const u32, lhs_len: usize, rhs: *const u32, rhs_len: usize, answer: *mut u32, answer_len: usize);
     labels_nf_equal equal(lhs: *const u32, lhs_len: usize, rhs: *const u32, rhs_len: usize, answer: *mut u32, answer_len: usize);
 }
 
@@ -125,6 +126,10 @@ pub fn resolve_equation(s: &mut Store, lhs: &[u32], rhs: &[u32], guard: i32, lis
 
 pub fn empty_parts(s: &mut Store, lhs: &[u32], rhs: &[u32], list: &mut [u32], answer: &mut [u32; 8]) -> u32 {
     parts(s, lhs.as_ptr(), lhs.len(), rhs.as_ptr(), rhs.len(), list.as_mut_ptr(), list.len(), answer.as_mut_ptr(), answer.len())
+}
+
+pub fn forced_length(s: &Store, lhs: &[u32], rhs: &[u32], answer: &mut [u32; 8]) -> u32 {
+    forced(s, lhs.as_ptr(), lhs.len(), rhs.as_ptr(), rhs.len(), answer.as_mut_ptr(), answer.len())
 }
 
 pub fn nf_equal(s: &Store, lhs: &[u32], rhs: &[u32], answer: &mut [u32; 8]) -> u32 {

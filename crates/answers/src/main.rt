@@ -39,6 +39,7 @@
 //   B p g           the same, and what it added stays
 //   s e g           the step over the equation e and the known list, with the guard g
 //   a p             empty_parts, the list's first p atoms against the rest; what it made stays
+//   l p             forced_length, the list's first p atoms against the rest
 //   q p             nf_equal, the list's first p atoms and the rest
 //   Q p             nf_equal_explain of the same
 //   j a b k v       join a and b under the reason of kind k and number v
@@ -58,6 +59,7 @@
 // After a Split a line of its own, which begins with a space, has the number of terms that it says it made; the step's normal forms may have
 // made others.
 // For empty_parts: the count of variables and the variables, the number of "" and the link flag, then the same.
+// For forced_length: k, c and l, then m and r, or the shortage.
 // For join, set_mark and go_back: the number answered, and how many marks and joins are counted from then on. A term's class words stand
 // as (t class-parent forest-parent label-kind label-value stamp), a recorded join as (child old-root class-root) after the marks' counts.
 use asking::ask;

@@ -1,4 +1,4 @@
-// The commands that ask for resolve_equation, the step, empty_parts, nf_equal and nf_equal_explain.
+// The commands that ask for resolve_equation, the step, empty_parts, forced_length, nf_equal and nf_equal_explain.
 ghost use mathlib.Core.Path.{_≡_};
 ghost use Prim.Native.Nat.{_<_, _≤_};
 ghost use lib.IntN.{pos};
@@ -13,6 +13,7 @@ use crate::stating::say_store;
 use commands::print::put_guard;
 use empties::Empties;
 use equation::Outcome;
+use forced::Forced;
 use records::Added;
 use records::fields::word;
 use wordeq::Equality;
@@ -194,6 +195,42 @@ fn ask_empty_parts(
     say_parts(r, terms, cells, chars, reasons, list, c)
 }
 
+fn say_count(before: &[u8], n: usize) {
+    io::write_all(1, before);
+    io::print_decimal(1, n as u64);
+}
+
+fn say_sides(k: usize, c: usize, l: usize) {
+    say_count(b": ", k);
+    say_count(b" ", c);
+    say_count(b" ", l);
+}
+
+// k, c and l, then m and r, or the shortage.
+fn ask_forced_length(
+    terms: &[u32],
+    cells: &[u32],
+    chars: &[u32],
+    reasons: &[u32],
+    keys: &[u32],
+    lhs: &[u32],
+    rhs: &[u32],
+    c: Counts,
+) {
+    match forced::forced_length(terms, cells, chars, reasons, keys, state(c), lhs, rhs) {
+        Forced::Spans(k, n, l, m, r) => {
+            say_sides(k, n, l);
+            say_count(b", ", m);
+            say_count(b" ", r);
+        }
+        Forced::Shortage(k, n, l, d) => {
+            say_sides(k, n, l);
+            say_count(b", short ", d);
+        }
+        Forced::Refused(j) => say(b": refused ", j),
+    }
+}
+
 fn ask_equal(
     terms: &[u32],
     cells: &[u32],
@@ -252,6 +289,7 @@ fn pair<'a>(
     match l {
         113 => ask_equal(terms, cells, chars, reasons, keys, lhs, rhs, c),
         81 => ask_equal_explain(terms, cells, chars, reasons, keys, lhs, rhs, c),
+        108 => ask_forced_length(terms, cells, chars, reasons, keys, lhs, rhs, c),
         97 => return ask_empty_parts(terms, cells, chars, reasons, keys, lhs, rhs, list, c),
         _ => {
             let d = ask_resolve(terms, cells, chars, reasons, keys, lhs, rhs, g, list, c);

@@ -11,3 +11,4 @@ mod Complements
 mod StepExports
 mod Standings
 mod PartExports
+mod LengthExports

@@ -104,6 +104,15 @@ four-set (p ∷ q ∷ []) x y z u h = absurd (omega arith)
 four-set (p ∷ q ∷ r ∷ []) x y z u h = absurd (omega arith)
 four-set (p ∷ q ∷ r ∷ t ∷ a) x y z u h = refl
 
+six-set : (a : List ℕ) (x y z u v t : ℕ) → 8 ≤ length a → set (set (set (set (set (set a 0 x) 1 y) 2 z) 3 u) 4 v) 5 t ≡ x ∷ y ∷ z ∷ u ∷ v ∷ t ∷ drop 6 a
+six-set [] x y z u v t h = absurd (omega arith)
+six-set (p ∷ []) x y z u v t h = absurd (omega arith)
+six-set (p ∷ q ∷ []) x y z u v t h = absurd (omega arith)
+six-set (p ∷ q ∷ r ∷ []) x y z u v t h = absurd (omega arith)
+six-set (p ∷ q ∷ r ∷ i ∷ []) x y z u v t h = absurd (omega arith)
+six-set (p ∷ q ∷ r ∷ i ∷ j ∷ []) x y z u v t h = absurd (omega arith)
+six-set (p ∷ q ∷ r ∷ i ∷ j ∷ k ∷ a) x y z u v t h = refl
+
 pub beyond-words : (v a : List ℕ) → length v ≤ length a → Beyond (length v) a (v ++ drop (length v) a)
 beyond-words v a h = record {
   length-is = length-append v (drop (length v) a) ∙ (let e = length-drop (length v) a in omega arith);
@@ -123,6 +132,11 @@ three-told {w} {a = a} {x = x} {y = y} {z = z} room p q = record { code = refl; 
 
 pub four-told : {w w′ a a′ : List ℕ} {c : State} {x y z u : ℕ} → roomy w a ≡ true → w′ ≡ written c w → a′ ≡ set (set (set (set a 0 x) 1 y) 2 z) 3 u → ToldWords w w′ a a′ (tells c (x ∷ y ∷ z ∷ u ∷ [])) 0
 four-told {w} {a = a} {x = x} {y = y} {z = z} {u = u} room p q = record { code = refl; state = p; answer = q ∙ four-set a x y z u (roomy-answer w a room) }
+
+-- the state's words stay
+pub six-told : {w a a′ : List ℕ} {x y z u v t : ℕ} → roomy w a ≡ true → a′ ≡ set (set (set (set (set (set a 0 x) 1 y) 2 z) 3 u) 4 v) 5 t
+    → ToldWords w w a a′ (tells (stateOf w) (x ∷ y ∷ z ∷ u ∷ v ∷ t ∷ [])) 0
+six-told {w} {a} {x = x} {y = y} {z = z} {u = u} {v = v} {t = t} room q = record { code = refl; state = written-same w (roomy-state w a room); answer = q ∙ six-set a x y z u v t (roomy-answer w a room) }
 
 module _ {R : Type 0} {f : R → Telling} {r : R} where
   pub told-by : {w w′ a a′ : List ℕ} {T : Telling} {k : ℕ} → f r ≡ T → ToldWords w w′ a a′ T k → ToldBy f w w′ a a′ r k

@@ -4,4 +4,5 @@ pub mod Equations
 pub mod Steps
 pub mod Marks
 pub mod Parts
+pub mod Lengths
 pub mod Working

@@ -2,3 +2,4 @@
 pub mod Leaves
 pub mod Standings
 pub mod Parting
+pub mod Measuring

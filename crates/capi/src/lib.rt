@@ -22,6 +22,7 @@ use telling::tell_form;
 use telling::tell_outcome;
 use wordeq::Equality;
 
+pub mod lengths;
 pub mod marks;
 pub mod parts;
 mod telling;

@@ -10,21 +10,22 @@ use lib.ListN.{length, getD}
 use lib.IntN.{ℤ}
 use lib.Dec.{eqb, leb}
 use borrow.Author.Tests.{eqb-true, eq-eqb, ne-eqb, not-true, leb-true, leb-false, le-leb}
-use Rattle.records.specs.Lists.{if_then_else_, all, any, concatMap, firstOf, firstBelow, sameWord, firsts, oneMore, Every}
+use Rattle.records.specs.Lists.{all, any, concatMap, firstBelow, sameWord, firsts, Every}
 use Rattle.records.specs.Store.{Term, Store, Out, ok, stop, Work, andThen, _>>=_, give, term, count, kind, within, isTerm, isString, isConstant, isVariable, isConcat, text, parts, chainIn, root, sameClass}
 use Rattle.records.specs.Rules.{listLimit, isList, isReasonKind, isNumber}
-use Rattle.records.specs.Make.{withTerms, lookup, orMake, lowest, constantOf, makeConstant}
+use Rattle.records.specs.Make.{withTerms, lookup, lowest, constantOf, makeConstant}
 use Rattle.records.specs.Working.Audited.{Audited}
 use Rattle.records.proofs.Lists.{decide, clash, either, both-left, both-right, both-true, or-none, or-left, or-right, same-test, any-append, within-low, within-high, first-same, first-none, first-some, word-is, word-same, concatMap-same, concatMap-append, all-every, every-all, every-map, every-both}
-use Rattle.records.proofs.Works.{stop-not, via, branch}
-use Rattle.records.proofs.Grown.{Grown, kind-term, string-term, string-here, grown-kind, grown-string, strings-later}
+use Rattle.records.proofs.Works.{via, branch}
+use Rattle.records.proofs.Grown.{kind-term, string-term, string-here, grown-kind, grown-string}
 use Rattle.records.proofs.Append
 use Rattle.records.proofs.Readings.{parts-lower, parts-strings}
 use Rattle.records.proofs.Kept.{Appends, found, one-term, after-names, MadeIn, ConstantMade, constant-kept}
 use Rattle.records.proofs.ListLaws.{list-short, list-strings}
 use Rattle.normalize.specs.Normalize.{atoms, flatten}
-use Rattle.normalize.proofs.Atoms.{atoms-plain, atoms-is, every-of, flatten-fits, flatten-full}
+use Rattle.normalize.proofs.Atoms.{atoms-plain, atoms-is, flatten-fits, flatten-full}
 use Rattle.wordeq.specs.Wordeq.{Answer, done, propagate, same, softened, closed, steps, resolve}
+use Rattle.wordeq.proofs.Flattened.{neither-left, neither-right, plain-flat}
 use Rattle.classes.specs.Joins.{joinIn, traceOf}
 use Rattle.classes.specs.Marks.{Trail}
 use Rattle.classes.specs.Calls.{Outcome, gives, recorded, joinTerms}
@@ -33,8 +34,8 @@ use Rattle.classes.proofs.Dividing.{Joint, were, across, back}
 use Rattle.classes.proofs.JoinKept.{Joinable, join-kept, join-like, join-division, join-divided}
 use Rattle.empties.specs.Empties.{emptyAgainst, isLabel, unmet, Parts, partsOf, emptied, sides, emptyParts}
 use Rattle.empties.specs.Repeats.{Listing, lists, stops, put, landed, answered, repeated, listing, Reasons, Repeats}
-use Rattle.empties.proofs.Unmet.{neither-left, neither-right, unmet-nothing, unmet-first, unmet-few, first-passes, unmet-distinct, Agree, unmet-agree}
-use Rattle.empties.proofs.Form.{firstNot, says, Formed, Form, form-of, formed-variables, formed-length, formed-two, formed-in, formed-sides, formed-stops, formed-says, says-soft, says-closed, resolve-flat, resolve-plain}
+use Rattle.empties.proofs.Unmet.{unmet-nothing, unmet-first, unmet-few, first-passes, unmet-distinct, Agree, unmet-agree}
+use Rattle.empties.proofs.Form.{firstNot, says, Formed, form-of, formed-variables, formed-length, formed-two, formed-in, formed-sides, formed-stops, formed-says, says-soft, says-closed, resolve-flat, resolve-plain}
 
 -- THE SAME ATOMS
 
@@ -52,15 +53,6 @@ module _ (s s′ : Store) (au : Audited s) (au′ : Audited s′) (c : (t : ℕ)
 
   same-flat : (l : List ℕ) → all (isString s) l ≡ true → concatMap (atoms s′) l ≡ concatMap (atoms s) l
   same-flat l h = concatMap-same (λ x. atoms s′ x) (λ x. atoms s x) (every-map (λ t i. below (suc t) t (omega arith) i) (all-every (isString s) l h))
-
--- a list with no concatenation is flat
-plain-flat : (s : Store) (l : List ℕ) → any (isConcat s) l ≡ false → concatMap (atoms s) l ≡ l
-unfolding any concatMap
-plain-flat s [] e = refl
-plain-flat s (a ∷ l) e =
-    decide (isConcat s a)
-    (λ q. clash (or-left (isConcat s a) (any (isConcat s) l) q) e)
-    (λ q. ap (λ (x : List ℕ). x ++ concatMap (atoms s) l) (atoms-plain s a q) ∙ ap (λ (x : List ℕ). a ∷ x) (plain-flat s l (neither-right (isConcat s a) _ e)))
 
 -- "" IS FOUND WHERE IT WAS MADE
 

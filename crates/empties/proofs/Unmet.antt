@@ -1,16 +1,16 @@
 -- The variables of no class met before: the first of them, the same list over another division, and that no two are of one class.
 use mathlib.Core.Path.{_≡_, refl, sym, ap, _∙_}
 use mathlib.Core.Bool.{Bool, true, false, not, _||_}
-use mathlib.Core.List.{List, [], _∷_, _++_}
+use mathlib.Core.List.{List, [], _∷_}
 use mathlib.Core.Option.{Option, none, some}
 use Prim.Native.Nat.{ℕ, zero, suc, _≤_, _<_}
 use native.Mathlib.Omega.{arith}
 use lib.ListN.{length, getD}
-use lib.Dec.{eqb}
-use borrow.Author.Tests.{eqb-true, eq-eqb, ne-eqb}
+use borrow.Author.Tests.{eqb-true, eq-eqb}
 use Rattle.records.specs.Lists.{any, firstOf, oneMore, Every, none-left, and}
 use Rattle.records.specs.Store.{Store, root, sameClass}
-use Rattle.records.proofs.Lists.{decide, clash, any-append, or-none, or-left, or-right, right-falsum, same-test, every-map, every-at}
+use Rattle.records.proofs.Lists.{decide, any-append, or-none, or-left, or-right, same-test, every-map, every-at}
+use Rattle.wordeq.proofs.Flattened.{neither-left, neither-right}
 use Rattle.empties.specs.Empties.{unmet}
 
 -- TESTS
@@ -18,15 +18,6 @@ use Rattle.empties.specs.Empties.{unmet}
 any-more : (p : ℕ → Bool) (l : List ℕ) (x : ℕ) → any p (oneMore l x) ≡ (any p l || p x)
 unfolding any
 any-more p l x = any-append p l (x ∷ []) ∙ ap (λ (b : Bool). any p l || b) (or-none (p x))
-
--- neither of two
-pub neither-left : (a b : Bool) → a || b ≡ false → a ≡ false
-neither-left false b e = refl
-neither-left true b e = clash refl e
-
-pub neither-right : (a b : Bool) → a || b ≡ false → b ≡ false
-neither-right false b e = e
-neither-right true b e = clash refl e
 
 first-hit : (p : ℕ → Bool) (a : ℕ) (l : List ℕ) → p a ≡ true → firstOf p (a ∷ l) ≡ some a
 unfolding firstOf

@@ -1,10 +1,11 @@
--- What holds of all words under the reasons that are there when work has ended.
-use mathlib.Core.Path.{_≡_, sym, subst}
-use mathlib.Core.Bool.{true}
+-- What holds of all words under the reasons that are there when work has ended; work that is refused only where the reasons are full.
+use mathlib.Core.Path.{_≡_, refl, sym, subst, _∙_}
+use mathlib.Core.Bool.{Bool, true, false}
 use mathlib.Core.List.{List, _++_}
 use Prim.Native.Nat.{ℕ}
 use native.Mathlib.Omega.{arith}
-use Rattle.records.specs.Store.{Store, isString, sameClass}
+use Rattle.records.specs.Lists.{if_then_else_}
+use Rattle.records.specs.Store.{Store, Out, ok, stop, Work, andThen, isString, sameClass}
 use Rattle.records.specs.Meaning.{Words, Reading, Holds}
 use Rattle.records.specs.Working.Audited.{Audited}
 use Rattle.records.proofs.Grown.{Grown, grown-none, grown-then}
@@ -50,3 +51,25 @@ cited-then {s₂ = s₂} f p q = record {
 
 pub explain-ends : (a b : ℕ) (s : Store) → Audited s → isString s a ≡ true → isString s b ≡ true → sameClass s a b ≡ true → Ends (λ s′ u. Cited (λ w. w a ≡ w b) s s′) (explain a b s)
 explain-ends a b s d p q c = ends-by 7 (omega arith) (omega arith) (λ s′ u e. cited-gave (explain-gives s d a b p q c s′ u e)) (explain-stops s d a b p q c)
+
+-- REFUSED WITH 7 ALONE
+
+-- work that is refused, if at all, since the reasons are full
+pub record Full {A : Type 0} (o : Out A) : Type 0 where
+  pub seven : (n : ℕ) → o ≡ stop n → n ≡ 7
+
+module _ {A : Type 0} where
+  pub full-ok : {s : Store} {a : A} → Full (ok s a)
+  full-ok = record { seven = λ n e. (let z : _≡_ {A = ℕ} 0 1 = cc in absurd (omega arith)) }
+
+  pub full-if : (b : Bool) (m n : Work A) {s : Store} → (b ≡ true → Full (m s)) → (b ≡ false → Full (n s)) → Full ((if b then m else n) s)
+  full-if true m n f g = f refl
+  full-if false m n f g = g refl
+
+module _ {A B : Type 0} where
+  pub full-then : (f : A → Work B) (o : Out A) → Full o → ((s : Store) (a : A) → o ≡ ok s a → Full (f a s)) → Full (andThen f o)
+  full-then f (ok s a) h k = k s a refl
+  full-then f (stop n) h k = record { seven = λ m e. (let z : n ≡ m = cc in sym z ∙ h .seven n refl) }
+
+pub explain-full : (a b : ℕ) (s : Store) → Audited s → isString s a ≡ true → isString s b ≡ true → sameClass s a b ≡ true → Full (explain a b s)
+explain-full a b s d p q c = record { seven = explain-stops s d a b p q c }

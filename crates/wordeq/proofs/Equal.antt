@@ -15,13 +15,12 @@ use Rattle.records.specs.Working.Audited.{Audited}
 use Rattle.records.proofs.Lists.{both-left, both-right, decide, clash, all-every}
 use Rattle.engine.specs.Explain.{explain}
 use Rattle.records.proofs.Later.{Added}
-use Rattle.engine.proofs.Sound.{explain-stops}
 use Rattle.records.proofs.Outcomes.{ends-give, ends-map, ends-if, ends-then}
 use Rattle.records.proofs.Grown.{Strings, strings-later}
 use Rattle.wordeq.specs.Wordeq.{same, nfEqual, explainPair, nfExplain}
 use Rattle.wordeq.specs.Meaning.{ExplainsEqual}
 use Rattle.wordeq.proofs.Ends.{Ends}
-use Rattle.wordeq.proofs.Cited.{Cited, cited-none, cited-map, cited-then, explain-ends}
+use Rattle.wordeq.proofs.Cited.{Cited, cited-none, cited-map, cited-then, explain-ends, Full, full-ok, full-if, full-then, explain-full}
 use Rattle.wordeq.proofs.Strip.{plainly, same-word, same-class}
 
 -- a pair that needs no reason, or is not of one class
@@ -76,25 +75,18 @@ explain-equal-ends (a ∷ l) (b ∷ r) s d (and p hl) (and q hr) =
     both : (w : Words) → w a ≡ w b → concatMap w l ≡ concatMap w r → w a ++ concatMap w l ≡ w b ++ concatMap w r
     both w e f = cc
 
-pair-stops : (a b : ℕ) (s : Store) → Audited s → isString s a ≡ true → isString s b ≡ true → (n : ℕ) → explainPair a b s ≡ stop n → n ≡ 7
+pair-full : (a b : ℕ) (s : Store) → Audited s → isString s a ≡ true → isString s b ≡ true → Full (explainPair a b s)
 unfolding explainPair
-pair-stops a b s d p q n e = go (skips s a b) refl e
-  where
-    go : (x : Bool) → skips s a b ≡ x → (if x then give tt else explain a b) s ≡ stop n → n ≡ 7
-    go true f i = let z : _≡_ {A = ℕ} 0 1 = cc in absurd (omega arith)
-    go false f i = explain-stops s d a b p q (of-class s a b f) n i
+pair-full a b s d p q = full-if (skips s a b) _ _ (λ f. full-ok) (λ f. explain-full a b s d p q (of-class s a b f))
 
-stops-seven : (l r : List ℕ) (s : Store) → Audited s → Strings s l → Strings s r → (n : ℕ) → nfExplain l r s ≡ stop n → n ≡ 7
+explain-equal-full : (l r : List ℕ) (s : Store) → Audited s → Strings s l → Strings s r → Full (nfExplain l r s)
 unfolding nfExplain
-stops-seven [] r s d hl hr n e = let z : _≡_ {A = ℕ} 0 1 = cc in absurd (omega arith)
-stops-seven (a ∷ l) [] s d hl hr n e = let z : _≡_ {A = ℕ} 0 1 = cc in absurd (omega arith)
-stops-seven (a ∷ l) (b ∷ r) s d (and p hl) (and q hr) n e = go (stops-seven l r) (explainPair a b s) refl e
-  where
-    go : ((s₁ : Store) → Audited s₁ → Strings s₁ l → Strings s₁ r → (n : ℕ) → nfExplain l r s₁ ≡ stop n → n ≡ 7) → (o : Out (Unit {0})) → explainPair a b s ≡ o → andThen (λ u. nfExplain l r) o ≡ stop n → n ≡ 7
-    go ih (ok s₁ u) f i =
-        let m = pair-ends a b s d p q .given s₁ u f in
-        ih s₁ (m .audited) (strings-later (m .grown) hl) (strings-later (m .grown) hr) n i
-    go ih (stop k) f i = let j : k ≡ n = cc in sym j ∙ pair-stops a b s d p q k f
+explain-equal-full [] r s d hl hr = full-ok
+explain-equal-full (a ∷ l) [] s d hl hr = full-ok
+explain-equal-full (a ∷ l) (b ∷ r) s d (and p hl) (and q hr) =
+    full-then _ _ (pair-full a b s d p q) (λ s₁ u e.
+    let m = pair-ends a b s d p q .given s₁ u e in
+    explain-equal-full l r s₁ (m .audited) (strings-later (m .grown) hl) (strings-later (m .grown) hr))
 
 module _ (l r : List ℕ) (s : Store) (audited : Audited s) (left : all (isString s) l ≡ true) (right : all (isString s) r ≡ true) where
   ends : Ends (λ s′ u. Cited (λ w. nfEqual s l r ≡ true → concatMap w l ≡ concatMap w r) s s′) (nfExplain l r s)
@@ -111,4 +103,4 @@ module _ (l r : List ℕ) (s : Store) (audited : Audited s) (left : all (isStrin
 
   -- it stops only with 7
   pub explain-equal-stops : (n : ℕ) → nfExplain l r s ≡ stop n → n ≡ 7
-  explain-equal-stops n e = stops-seven l r s audited (all-every _ l left) (all-every _ r right) n e
+  explain-equal-stops n e = explain-equal-full l r s audited (all-every _ l left) (all-every _ r right) .seven n e

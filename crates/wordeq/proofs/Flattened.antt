@@ -1,22 +1,40 @@
--- A list flattened into a slice: what `flatten` answers for the list.
+-- A list flattened into a slice: what `flatten` answers for the list. A list with no concatenation is flat.
 use mathlib.Core.Path.{_≡_, refl, sym, ap, _∙_}
-use mathlib.Core.Bool.{true}
-use mathlib.Core.List.{List}
+use mathlib.Core.Bool.{Bool, true, false, _||_}
+use mathlib.Core.List.{List, [], _∷_, _++_}
 use Prim.Native.Nat.{ℕ, _≤_, _<_}
 use native.Mathlib.Omega.{arith}
 use lib.ListN.{length, take, length-take}
 use lib.Dec.{leb}
 use borrow.Author.Tests.{le-leb}
 use Rattle.records.specs.declared.State.{State}
-use Rattle.records.specs.Lists.{concatMap}
-use Rattle.records.specs.Store.{Store, ok, stop}
+use Rattle.records.specs.Lists.{any, concatMap}
+use Rattle.records.specs.Store.{Store, ok, stop, isConcat}
 use Rattle.records.specs.View.{Lent, storeOf}
 use Rattle.records.specs.Rules.{listLimit, isList}
 use Rattle.records.specs.Working.Audited.{Ready}
-use Rattle.records.proofs.Lists.{concatMap-same, both-true, both-right, every-all, every-map}
+use Rattle.records.proofs.Lists.{concatMap-same, both-true, both-right, every-all, every-map, or-left, clash, decide}
 use Rattle.normalize.specs.Normalize.{atoms, flatten}
 use Rattle.normalize.specs.Working.Flat.{bare, Appended}
-use Rattle.normalize.proofs.Atoms.{every-of, same-atoms, flatten-fits, flatten-full, flatten-atoms}
+use Rattle.normalize.proofs.Atoms.{every-of, atoms-plain, same-atoms, flatten-fits, flatten-full, flatten-atoms}
+
+-- neither of two
+pub neither-left : (a b : Bool) → a || b ≡ false → a ≡ false
+neither-left false b e = refl
+neither-left true b e = clash refl e
+
+pub neither-right : (a b : Bool) → a || b ≡ false → b ≡ false
+neither-right false b e = e
+neither-right true b e = clash refl e
+
+-- a list with no concatenation is flat
+pub plain-flat : (s : Store) (l : List ℕ) → any (isConcat s) l ≡ false → concatMap (atoms s) l ≡ l
+unfolding any concatMap
+plain-flat s [] e = refl
+plain-flat s (a ∷ l) e =
+    decide (isConcat s a)
+    (λ q. clash (or-left (isConcat s a) (any (isConcat s) l) q) e)
+    (λ q. ap (λ (x : List ℕ). x ++ concatMap (atoms s) l) (atoms-plain s a q) ∙ ap (λ (x : List ℕ). a ∷ x) (plain-flat s l (neither-right (isConcat s a) _ e)))
 
 module _ {m : Lent} {c : State} (ready : Ready m c) (l out out′ : List ℕ) (n : ℕ) (a : Appended out out′ 0 (concatMap (atoms (bare (m .terms) (c .terms) (m .cells) (c .cells))) l) n) where
   abbrev s : Store

@@ -1,11 +1,11 @@
 mod Words
 pub mod Ends
-mod Cited
+pub mod Cited
 pub mod Good
-mod Strip
+pub mod Strip
 mod OnePass
-mod Occurs
-mod Tile
+pub mod Occurs
+pub mod Tile
 mod Constants
 mod Counted
 mod Split
@@ -13,4 +13,5 @@ pub mod Resolve
 pub mod Equal
 pub mod FewAtoms
 pub mod Flattened
+pub mod Residual
 mod Refines

@@ -12,11 +12,12 @@ use Rattle.records.specs.Store.{Store, isConstant, text, sameClass}
 use Rattle.records.specs.Meaning.{Words, Reading}
 use Rattle.records.proofs.Lists.{both-left, both-right}
 use Rattle.records.proofs.Outcomes.{ends-if, ends-then}
+use Rattle.records.specs.Working.Audited.{Audited}
 use Rattle.records.proofs.Grown.{Strings}
 use Rattle.wordeq.specs.Wordeq.{isFull, occurrence, occursAt, occurs}
 use Rattle.wordeq.proofs.Words.{inside-longer, some-long}
 use Rattle.wordeq.proofs.Ends.{Ends}
-use Rattle.wordeq.proofs.Cited.{Cited, explain-ends}
+use Rattle.wordeq.proofs.Cited.{Cited, explain-ends, Full, full-ok, full-if, full-then, explain-full}
 use Rattle.wordeq.proofs.Good.{Good, Step, step-pass, step-conflict}
 
 -- y stands in l between past and rest, is of x's class, and a non-empty constant stands elsewhere
@@ -75,3 +76,15 @@ occurs-step {added} (a ∷ []) r s d (and p hl) hr = ends-if (isConstant s a) _ 
     by (some y) q =
         let f = found s a [] r y q in
         ends-then _ _ (explain-ends y a s d (at-found (f .past) (f .rest) y (subst (Strings s) (f .is) hr)) p (f .class)) (λ s₁ u m. step-conflict (against y f m))
+
+pub occurs-full : (l r : List ℕ) (s : Store) → Audited s → Strings s l → Strings s r → Full (occurs l r s)
+unfolding occurs
+occurs-full [] r s d hl hr = full-ok
+occurs-full (a ∷ b ∷ l) r s d hl hr = full-ok
+occurs-full (a ∷ []) r s d (and p hl) hr = full-if (isConstant s a) _ _ (λ c. full-ok) (λ c. by (occurrence s a [] r) refl)
+  where
+    by : (y : Option ℕ) → occurrence s a [] r ≡ y → Full (occursAt a y s)
+    by none q = full-ok
+    by (some y) q =
+        let f = found s a [] r y q in
+        full-then _ _ (explain-full y a s d (at-found (f .past) (f .rest) y (subst (Strings s) (f .is) hr)) p (f .class)) (λ s₁ u e. full-ok)

@@ -21,7 +21,7 @@ use Rattle.records.proofs.Later.{Added}
 use Rattle.wordeq.proofs.Words
 use Rattle.wordeq.proofs.Words.{Alike, alike-reverse, cancel-front, cancel-back, unturn}
 use Rattle.wordeq.proofs.Ends.{Ends}
-use Rattle.wordeq.proofs.Cited.{Cited, cited-none, cited-then, explain-ends}
+use Rattle.wordeq.proofs.Cited.{Cited, cited-none, cited-then, explain-ends, Full, full-ok, full-if, full-then, explain-full}
 
 -- SAME
 
@@ -96,6 +96,19 @@ matches-end [] s d none-left = ends-give (cited-none s d (λ w rd. Words.Alike.n
 matches-end (p ∷ l) s d (and m k) =
     ends-then _ _ (match-ends (p .0) (p .1) s d (m .one) (m .other) (m .alike))
     (λ s₁ u c. ends-map (λ s′ v q. cited-then (λ w e x. Words.Alike.pair e x) c q) (matches-end l s₁ (c .audited) (every-map (λ q. match-later (c .added)) k)))
+
+match-full : (p : ℕ × ℕ) (s : Store) → Audited s → Match s p → Full (explainMatch (p .0) (p .1) s)
+unfolding explainMatch
+match-full p s d m =
+    full-if (plainly s (p .0) (p .1)) _ _ (λ f. full-ok) (λ f. explain-full (p .0) (p .1) s d (m .one) (m .other) (same-class s (p .0) (p .1) (m .alike) f))
+
+matches-full : (l : List (ℕ × ℕ)) (s : Store) → Audited s → Every (Match s) l → Full (explainMatches l s)
+unfolding explainMatches
+matches-full [] s d none-left = full-ok
+matches-full (p ∷ l) s d (and m k) =
+    full-then _ _ (match-full p s d m) (λ s₁ u e.
+    let c = match-ends (p .0) (p .1) s d (m .one) (m .other) (m .alike) .given s₁ u e in
+    matches-full l s₁ (c .audited) (every-map (λ q. match-later (c .added)) k))
 
 -- matches that need no reason add none
 neither-left : (a b : Bool) → a || b ≡ false → a ≡ false
@@ -242,3 +255,7 @@ strip-still l r s d hl hr e = ap (andThen (λ (u : Unit {0}). give (rest s l r))
 pub strip-ends : (l r : List ℕ) (s : Store) → Audited s → Strings s l → Strings s r → Ends (Stripped l r s) (strip l r s)
 unfolding strip rest
 strip-ends l r s d hl hr = ends-then _ _ (explained s l r hl hr d) (λ s₂ u x. ends-give {P = Stripped l r s} x)
+
+pub strip-full : (l r : List ℕ) (s : Store) → Audited s → Strings s l → Strings s r → Full (strip l r s)
+unfolding strip
+strip-full l r s d hl hr = full-then _ _ (matches-full (matches s l r) s d (all-matched s l r hl hr)) (λ s₁ u e. full-ok)

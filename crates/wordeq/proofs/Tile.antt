@@ -17,7 +17,7 @@ use Rattle.records.proofs.Outcomes.{ends-give, ends-map, ends-if, ends-then}
 use Rattle.wordeq.specs.Wordeq.{same, fixed, lettersOf, letters, filled, lead, firstSpan, fits, explainAll, variables, tileBy, tile}
 use Rattle.wordeq.proofs.Words.{fill-is, fill-all, fill-length, span-is, span-forced}
 use Rattle.wordeq.proofs.Ends.{Ends}
-use Rattle.wordeq.proofs.Cited.{Cited, cited-none, cited-then, explain-ends}
+use Rattle.wordeq.proofs.Cited.{Cited, cited-none, cited-then, explain-ends, Full, full-ok, full-if, full-then, explain-full}
 use Rattle.wordeq.proofs.Good.{Good, Step, step-pass, step-conflict}
 use Rattle.wordeq.proofs.Strip.{same-class}
 
@@ -92,6 +92,14 @@ explainAll-ends (u ∷ l) v s d p (and q h) (and c k) =
     ends-map (λ s′ y n. cited-then (λ w e f. and e f) m n)
     (explainAll-ends l v s₁ (m .audited) (grown-string (m .grown) v p) (strings-later (m .grown) h) (rw (m .added .is) k)))
 
+explainAll-full : (l : List ℕ) (v : ℕ) (s : Store) → Audited s → isString s v ≡ true → Strings s l → Every (λ u. sameClass s u v ≡ true) l → Full (explainAll l v s)
+unfolding explainAll
+explainAll-full [] v s d p h k = full-ok
+explainAll-full (u ∷ l) v s d p (and q h) (and c k) =
+    full-then _ _ (explain-full u v s d q p c) (λ s₁ x e.
+    let m = explain-ends u v s d q p c .given s₁ x e in
+    explainAll-full l v s₁ (m .audited) (grown-string (m .grown) v p) (strings-later (m .grown) h) (rw (m .added .is) k))
+
 -- two that are the same and no constants are of one class
 one-class : (s : Store) (a b : ℕ) → not (isConstant s a) ≡ true → same s a b ≡ true → sameClass s a b ≡ true
 one-class s a b n e = go (eqb a b) refl (isConstant s a) refl n
@@ -107,6 +115,15 @@ classes s v (u ∷ us) (and n k) (and m h) = and (one-class s u v n m) (classes 
 
 every-tail : {P : ℕ → Type 0} {v : ℕ} {vs : List ℕ} → Every P (v ∷ vs) → P v × Every P vs
 every-tail (and q k) = (q, k)
+
+-- the variables of a side of string terms, all the same as the first
+tail-strings : (s : Store) (r : List ℕ) (v : ℕ) (vs : List ℕ) → Strings s r → variables s r ≡ v ∷ vs → (isString s v ≡ true) × Strings s vs
+tail-strings s r v vs h p = every-tail (subst (Strings s) p (kept-every (λ a. not (isConstant s a)) h))
+
+tail-class : (s : Store) (r : List ℕ) (v : ℕ) (vs : List ℕ) → variables s r ≡ v ∷ vs → all (λ u. same s u v) vs ≡ true → Every (λ u. sameClass s u v ≡ true) vs
+tail-class s r v vs p b =
+    let vars = every-tail (subst (Every (λ a. not (isConstant s a) ≡ true)) p (kept-pass (λ a. not (isConstant s a)) r)) in
+    classes s v vs (vars .1) (all-every _ vs b)
 
 -- THE STEP
 
@@ -135,8 +152,20 @@ tile-step {added} l r s d hl hr = ends-if (fixed s l) _ _ (λ f. by f (variables
     by f (v ∷ vs) p =
         ends-if (all (λ u. same s u v) vs && not (fits s (letters s l) r (suc (length vs)))) _ _
         (λ b.
-        let strs = every-tail (subst (Strings s) p (kept-every (λ a. not (isConstant s a)) hr)) in
-        let vars = every-tail (subst (Every (λ a. not (isConstant s a) ≡ true)) p (kept-pass (λ a. not (isConstant s a)) r)) in
-        ends-then _ _ (explainAll-ends vs v s d (strs .0) (strs .1) (classes s v vs (vars .1) (all-every _ vs (both-left _ _ b))))
+        let strs = tail-strings s r v vs hr p in
+        ends-then _ _ (explainAll-ends vs v s d (strs .0) (strs .1) (tail-class s r v vs p (both-left _ _ b)))
         (λ s₁ x m. step-conflict (against v vs p f (not-true _ (both-right (all (λ u. same s u v) vs) _ b)) m)))
         (λ b. step-pass d)
+
+pub tile-full : (l r : List ℕ) (s : Store) → Audited s → Strings s r → Full (tile l r s)
+unfolding tile tileBy
+tile-full l r s d hr = full-if (fixed s l) _ _ (λ f. by (variables s r) refl) (λ f. full-ok)
+  where
+    by : (vs : List ℕ) → variables s r ≡ vs → Full (tileBy s l r vs s)
+    by [] p = full-ok
+    by (v ∷ vs) p =
+        full-if (all (λ u. same s u v) vs && not (fits s (letters s l) r (suc (length vs)))) _ _
+        (λ b.
+        let strs = tail-strings s r v vs hr p in
+        full-then _ _ (explainAll-full vs v s d (strs .0) (strs .1) (tail-class s r v vs p (both-left _ _ b))) (λ s₁ x e. full-ok))
+        (λ b. full-ok)

@@ -17,7 +17,7 @@ use records::rules;
 use records::text::text_is;
 
 // Whether all atoms are constants.
-pub(crate) fn is_fixed(terms: &[u32], c: State, l: &[u32]) -> bool
+pub fn is_fixed(terms: &[u32], c: State, l: &[u32]) -> bool
     ensures { λ r. ⌜ r ≡ fixed (termed (now (terms .entry)) c) (now (l .entry)) ⌝ }
 {
     let mut i: usize = 0;
@@ -68,7 +68,7 @@ fn letter_count(terms: &[u32], c: State, a: u32) -> usize
 }
 
 // The constant characters of a side, counted.
-pub(crate) fn letters_length(terms: &[u32], c: State, l: &[u32]) -> usize
+pub fn letters_length(terms: &[u32], c: State, l: &[u32]) -> usize
     requires { ⌜ Texts (now terms) c × (length (now l) ≤ listLimit) ⌝ }
     ensures { λ r. ⌜ r ≡ length (letters (termed (now (terms .entry)) c) (now (l .entry))) ⌝ }
 {

@@ -22,7 +22,7 @@ use records::Added;
 use records::State;
 use records::rules;
 
-fn first_variable(terms: &[u32], c: State, side: &[u32]) -> usize
+pub fn first_variable(terms: &[u32], c: State, side: &[u32]) -> usize
     ensures { λ r. ⌜ FirstVariable (termed (now (terms .entry)) c) (now (side .entry)) r ⌝ }
 {
     let mut i: usize = 0;
@@ -75,7 +75,7 @@ fn variable_count(terms: &[u32], c: State, a: u32) -> usize
     1
 }
 
-fn variables_length(terms: &[u32], c: State, l: &[u32]) -> usize
+pub fn variables_length(terms: &[u32], c: State, l: &[u32]) -> usize
     ensures { λ r. ⌜ r ≡ length (variables (termed (now (terms .entry)) c) (now (l .entry))) ⌝ }
 {
     let mut total: usize = 0;
@@ -98,7 +98,7 @@ fn atom_agrees(terms: &[u32], chars: &[u32], c: State, a: u32, v: u32) -> bool
 }
 
 // Whether each variable of a list is the same as v.
-fn all_agree(terms: &[u32], chars: &[u32], c: State, l: &[u32], v: u32) -> bool
+pub fn all_agree(terms: &[u32], chars: &[u32], c: State, l: &[u32], v: u32) -> bool
     requires { ⌜ Readable (now terms) (now chars) c ⌝ }
     requires { ⌜ all (isString (readIn (now terms) (now chars) c)) (now l) ≡ true ⌝ }
     requires { ⌜ isString (readIn (now terms) (now chars) c) v ≡ true ⌝ }

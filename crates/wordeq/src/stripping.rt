@@ -150,13 +150,7 @@ fn count_tails(
 }
 
 // What is left of two lists of string terms without their same heads and then their same tails. It writes nothing.
-pub(crate) fn find_rest_unchecked(
-    terms: &[u32],
-    chars: &[u32],
-    c: State,
-    lhs: &[u32],
-    rhs: &[u32],
-) -> Rest
+pub fn find_rest_unchecked(terms: &[u32], chars: &[u32], c: State, lhs: &[u32], rhs: &[u32]) -> Rest
     requires { ⌜ Readable (now terms) (now chars) c ⌝ }
     requires { ⌜ all (isString (readIn (now terms) (now chars) c)) (now lhs) ≡ true ⌝ }
     requires { ⌜ all (isString (readIn (now terms) (now chars) c)) (now rhs) ≡ true ⌝ }

@@ -6,15 +6,15 @@ use Prim.Native.Nat.{ℕ, zero, suc, _+_, _*_, _-_, _/_, _%_, _<_, _≤_}
 use native.Mathlib.Nat.{mul-comm, div-le-self, div-add-mod'}
 use native.Mathlib.Numerals.{add-one}
 use native.Mathlib.Omega.{arith}
-use lib.ListN.{length, getD, take, drop, length-append, length-drop, drop-of-length-le, take-append-drop}
-use lib.Seq.{drop-cons, take-suc, take-all}
+use lib.ListN.{length, getD, take, drop, length-append, length-drop, take-append-drop}
+use lib.Seq.{take-suc}
 use lib.Dec.{eqb}
 use borrow.Author.Tests.{eq-eqb, ne-eqb}
 use Rattle.records.specs.declared.State.{State}
 use Rattle.records.specs.Lists.{if_then_else_, all, keep, concatMap, sameWord}
 use Rattle.records.specs.Store.{Store, kind, isConstant, isString, text}
 use Rattle.records.specs.View.{lent, storeOf, readIn, termed}
-use Rattle.records.proofs.Lists.{both-left, both-right, both-true, left-false, and-next, or-stop, or-next, clash, decide, all-append, all-every, every-at, concatMap-append}
+use Rattle.records.proofs.Lists.{both-left, both-right, both-true, left-false, and-next, or-stop, or-next, clash, all-append, all-every, every-at, concatMap-append}
 use Rattle.records.proofs.Loops.{Summing, summing-turn}
 use Rattle.wordeq.specs.Wordeq.{same, fixed, lettersOf, letters, filled, lead, forced, firstSpan, fits, variables}
 use Rattle.wordeq.specs.Working.Sides.{Spelled, rest, Tiling}
@@ -45,14 +45,6 @@ module _ (s : Store) (r : List ℕ) (i : ℕ) (h : fixed s (take i r) ≡ true) 
   first-none p q = record { within = p; before = h; at = λ z. absurd (omega arith) }
 
 module _ (s : Store) where
-  pub fixed-variables : (l : List ℕ) → fixed s l ≡ true → variables s l ≡ []
-  unfolding fixed all keep
-  fixed-variables [] e = refl
-  fixed-variables (a ∷ l) e =
-      let p = both-left (isConstant s a) (all (isConstant s) l) e in
-      let q = fixed-variables l (both-right (isConstant s a) (all (isConstant s) l) e) in
-      rw p q
-
   lead-of : (r : List ℕ) (i : ℕ) → i ≤ length r → fixed s (take i r) ≡ true → (i < length r → isConstant s (getD r i 0) ≡ false) → lead s r ≡ letters s (take i r)
   unfolding fixed all lead letters lettersOf concatMap
   lead-of [] zero p h f = refl
@@ -70,23 +62,9 @@ module _ (s : Store) where
       go true e g = ap (λ (x : List ℕ). text s a ++ x) g
       go false e g = clash e refl
 
-  variables-of : (r : List ℕ) (i : ℕ) → fixed s (take i r) ≡ true → i < length r → isConstant s (getD r i 0) ≡ false → variables s r ≡ getD r i 0 ∷ variables s (drop (suc i) r)
-  unfolding fixed all keep
-  variables-of [] i h p f = absurd (omega arith)
-  variables-of (a ∷ r) zero h p f = let q : isConstant s a ≡ false = f in rw q
-  variables-of (a ∷ r) (suc i) h p f =
-      let q = both-left (isConstant s a) (all (isConstant s) (take i r)) h in
-      rw q (variables-of r i (both-right (isConstant s a) (all (isConstant s) (take i r)) h) (omega arith) f)
-
   module _ (r : List ℕ) (i : ℕ) (x : FirstVariable s r i) where
     pub lead-is : lead s r ≡ letters s (take i r)
     lead-is = lead-of r i (x .within) (x .before) (x .at)
-
-    pub variables-from : i < length r → variables s r ≡ getD r i 0 ∷ variables s (drop (suc i) r)
-    variables-from b = variables-of r i (x .before) b (x .at b)
-
-    pub variables-none : length r ≤ i → variables s r ≡ []
-    variables-none b = fixed-variables r (ap (fixed s) (sym (take-all i r b)) ∙ x .before)
 
     pub lead-short : length (lead s r) ≤ length (letters s r)
     unfolding letters
@@ -97,15 +75,6 @@ module _ (s : Store) where
         omega arith
 
 -- COUNTED
-
-pub variables-short : (s : Store) (l : List ℕ) → length (variables s l) ≤ length l
-unfolding keep
-variables-short s [] = omega arith
-variables-short s (a ∷ l) = go (isConstant s a) (variables-short s l)
-  where
-    go : (b : Bool) → length (variables s l) ≤ length l → length (if not b then (a ∷ variables s l) else variables s l) ≤ suc (length l)
-    go true e = omega arith
-    go false e = omega arith
 
 -- the variables of the first i atoms
 abbrev pub variableCount : Store → List ℕ → ℕ
@@ -152,12 +121,6 @@ module _ (s : Store) (a k : ℕ) (e : k ≡ kind s a) where
 
 pub pair-at : (s : Store) (l : List ℕ) → all (isString s) l ≡ true → (v : ℕ) → isString s v ≡ true → (i : ℕ) → i < length l → Pair s (getD l i 0) v
 pair-at s l e v f i b = record { one = every-at l i 0 (all-every _ l e) b; other = f }
-
-pub agree-variables : (s : Store) (v : ℕ) (l : List ℕ) → all (agrees s v) l ≡ all (λ u. same s u v) (variables s l)
-unfolding all keep agrees
-agree-variables s v [] = refl
-agree-variables s v (a ∷ l) =
-    decide (isConstant s a) (λ z. rw z (agree-variables s v l)) (λ z. rw z (ap (λ (x : Bool). same s a v && x) (agree-variables s v l)))
 
 -- THE FIT
 

@@ -29,7 +29,7 @@ use Rattle.wordeq.proofs.Refines.Turning.{Turning, turning-none, turnin
 use Rattle.records.specs.declared.Added.{Added as Answered}
 
 -- what is the same is read in the terms and the characters
-same-read : (t e h ks rs : List ℕ) (c : State) (a b : ℕ) → same (storeOf (lent t e h rs ks) c) a b ≡ same (readIn t h c) a b
+pub same-read : (t e h ks rs : List ℕ) (c : State) (a b : ℕ) → same (storeOf (lent t e h rs ks) c) a b ≡ same (readIn t h c) a b
 unfolding same
 same-read t e h ks rs c a b = refl
 
@@ -186,7 +186,7 @@ module _ (s s′ : Store) (f : (a b : ℕ) → same s a b ≡ same s′ a b) whe
       ap (λ (m : List (ℕ × ℕ)). m ++ sameTails s (length m) l r) (heads-by l r)
       ∙ ap (λ (m : List (ℕ × ℕ)). sameHeads s′ l r ++ m) (tails-by (length (sameHeads s′ l r)) l r)
 
-  rest-by : (l r : List ℕ) → rest s l r ≡ rest s′ l r
+  pub rest-by : (l r : List ℕ) → rest s l r ≡ rest s′ l r
   unfolding rest
   rest-by l r =
       ap (λ (m : List (ℕ × ℕ)). (inner (length m) (length (sameTails s (length m) l r)) l, inner (length m) (length (sameTails s (length m) l r)) r)) (heads-by l r)

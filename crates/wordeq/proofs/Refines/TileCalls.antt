@@ -27,7 +27,8 @@ use Rattle.wordeq.specs.Working.Spans.{FirstVariable, agrees, unfit}
 use Rattle.wordeq.proofs.Refines.Stripping.{part-whole}
 use Rattle.wordeq.proofs.Refines.SideReady.{ready-readIn, constant-side-whole, other-side-whole}
 use Rattle.wordeq.proofs.Refines.ExplainingEach.{same-classes}
-use Rattle.wordeq.proofs.Refines.Fitting.{fixed-variables, variables-from, variables-none, variables-short, agree-variables, fits-whole}
+use Rattle.wordeq.proofs.Refines.Fitting.{fits-whole}
+use Rattle.wordeq.proofs.Residual.{fixed-variables, variables-from, variables-none, variables-short, agree-variables}
 use Rattle.records.specs.declared.Added.{Added as Answered}
 
 -- A LIST

@@ -1,0 +1,5 @@
+mod Sums
+mod Unfit
+mod Refuted
+pub mod Given
+mod Refines

@@ -1,0 +1,48 @@
+use Rattle.records.specs.View.{readIn}
+use Rattle.forced.proofs.Refines.Ways.{list-string, after-strings, class-none, class-is}
+use borrow.Author.Needs.{needs}
+use Rattle.forced.proofs.has_one_class.Statement.{statement}
+use Rattle.forced.proofs.has_one_class.Tie as tie
+
+pub has-one-class-spec : {M : Type 1} → statement M
+has-one-class-spec =
+    tie.close
+    (tie.spec
+    -- first-variable-requires
+    (λ c κs. search needs)
+    -- returns
+    (λ c.
+    let at-start = c .before .before .before .before .before in
+    class-none (at-start .args .terms .now) (at-start .args .chars .now) (at-start .args .c) (at-start .args .side .now) _ (c .before .first-variable .ensures) (c .if1 .taken))
+    -- add-all-agree
+    (λ c. search needs)
+    -- mul-all-agree
+    (λ c. search needs)
+    -- sub-all-agree
+    (λ c. search needs)
+    -- part-all-agree-start
+    (λ c. search needs)
+    -- part-all-agree-end
+    (λ c. search needs)
+    -- mul-all-agree-2
+    (λ c. search needs)
+    -- shared-slice-read-all-agree
+    (λ c. search needs)
+    -- all-agree-requires
+    (λ c κs.
+    let at-first-variable = c .before .before .before in
+    let at-start = at-first-variable .before .before .before .before in (
+      at-start .pre .0,
+      (
+        after-strings (readIn (at-start .args .terms .now) (at-start .args .chars .now) (at-start .args .c)) (at-start .args .side .now) (at-start .pre .1) (at-first-variable .first-variable .result),
+        list-string (readIn (at-start .args .terms .now) (at-start .args .chars .now) (at-start .args .c)) (at-start .args .side .now) (at-start .pre .1)
+            (at-first-variable .first-variable .result) (c .before .before .if1 .left),
+      ),
+    ))
+    -- returns-2
+    (λ c.
+    let at-if1 = c .before .before .before in
+    let at-first-variable = at-if1 .before in
+    let at-start = at-first-variable .before .before .before .before in
+    class-is (at-start .args .terms .now) (at-start .args .chars .now) (at-start .args .c) (at-start .args .side .now) _ (at-first-variable .first-variable .ensures)
+    (at-if1 .if1 .left) _ (c .all-agree .ensures)))

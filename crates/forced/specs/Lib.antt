@@ -1,0 +1,4 @@
+pub mod Forced
+pub mod Forces
+pub mod Calls
+pub mod ForcedCases
