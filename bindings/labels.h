@@ -30,9 +30,9 @@ extern "C" {
 #endif
 
 /* The version of this header, of the Rust crate and of CHANGELOG.md. */
-#define LABELS_VERSION "0.6.0"
+#define LABELS_VERSION "0.7.0"
 #define LABELS_VERSION_MAJOR 0
-#define LABELS_VERSION_MINOR 6
+#define LABELS_VERSION_MINOR 7
 #define LABELS_VERSION_PATCH 0
 
 /* The limits of the counts. */
@@ -43,6 +43,10 @@ extern "C" {
 #define LABELS_MAX_KEYS 4096
 #define LABELS_MAX_MARKS 64
 #define LABELS_MAX_JOINS 511
+
+/* The highest character. Those of a constant and of a name are SMT-LIB's, 0 to this, the surrogates 0xD800 to 0xDFFF among them; two surrogates
+ * are two characters. One above is refused: 5 in a making call, 2 in a lent store. */
+#define LABELS_MAX_CHARACTER 0x2FFFF
 
 /* The words of each slice at its limit; a shorter slice has less room, and a longer one no more. Terms and cells have a record 0 that takes
  * room and is never read or written. A term has eight words, a cell three, a character one, a reason and a key two. */

@@ -43,6 +43,21 @@ static void making(void) {
     HOLD(labels_store_audit(&s) == LABELS_ACCEPTED);
 }
 
+/* Characters at the bounds, in constants and in names; one above the highest, handed in and lent. */
+static void alphabet(void) {
+    const uint32_t taken[] = {0xD7FF, 0xD800, 0xDFFF, 0xE000, LABELS_MAX_CHARACTER}, above[] = {LABELS_MAX_CHARACTER + 1};
+    uint32_t a = 0, v = 0, x = 0, i;
+    labels_store_over(&s, &memory);
+    for (i = 0; i < 5; i++)
+        HOLD(labels_store_make_constant(&s, taken + i, 1, &x) == 0 && x == i + 1);
+    HOLD(labels_store_make_constant(&s, LABELS_LEND(taken), &a) == 0 && labels_store_make_variable(&s, LABELS_LEND(taken), &v) == 0);
+    HOLD(a == 6 && v == 7 && labels_store_audit(&s) == LABELS_ACCEPTED);
+    HOLD(labels_store_make_constant(&s, LABELS_LEND(above), &x) == LABELS_REFUSED_ARGUMENT);
+    HOLD(labels_store_make_variable(&s, LABELS_LEND(above), &x) == LABELS_REFUSED_ARGUMENT);
+    s.chars[s.terms[8 * v + 1]] = LABELS_MAX_CHARACTER + 1;
+    HOLD(labels_store_audit(&s) == LABELS_REFUSED_RECORDS && labels_store_find(&s, a, &x) == LABELS_REFUSED_RECORDS);
+}
+
 static void joining(void) {
     uint32_t x = 0, y = 0, mark = 0, joined = 0, root = 0;
     labels_store_over(&s, &memory);
@@ -191,6 +206,7 @@ static void small(void) {
 int main(void) {
     uint32_t i, k;
     making();
+    alphabet();
     joining();
     asking();
     splitting();

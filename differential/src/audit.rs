@@ -1,10 +1,11 @@
-//! The audit, written from document 01 alone: 0, or the first of refusals 1 to 4 that is due.
+//! The audit, written from document 01 and document 02's Note 7 alone: 0, or the first of refusals 1 to 4 that is due.
 
 use crate::lent::*;
 use std::collections::HashSet;
 
+/// 'characters 0 to 196,607, including 0xD800 to 0xDFFF, and none above'
 pub fn is_char(c: u32) -> bool {
-    c <= 0xD7FF || (0xE000..=0x10FFFF).contains(&c)
+    c < 0x30000
 }
 
 /// 'a number below 2^31'

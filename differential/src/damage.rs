@@ -173,8 +173,8 @@ pub fn rules() -> Vec<Rule> {
                 _ => false,
             }
         };
-        2 "character 0xD800" |s, r| { let n = s.state[2] as usize; n > 0 && { s.chars[r.below(n)] = 0xD800; true } };
-        2 "character 0xDFFF" |s, r| { let n = s.state[2] as usize; n > 0 && { s.chars[r.below(n)] = 0xDFFF; true } };
+        2 "character 0x30000" |s, r| { let n = s.state[2] as usize; n > 0 && { s.chars[r.below(n)] = 0x30000; true } };
+        2 "character 0x10FFFF" |s, r| { let n = s.state[2] as usize; n > 0 && { s.chars[r.below(n)] = 0x10FFFF; true } };
         2 "character 0x110000" |s, r| { let n = s.state[2] as usize; n > 0 && { s.chars[r.below(n)] = 0x110000; true } };
         2 "a reason of kind 0" |s, r| pair(s, r, false, (0, 1));
         2 "a reason of kind 3" |s, r| pair(s, r, false, (3, 1));
@@ -275,7 +275,7 @@ pub fn scrambled(s: &Lent, random: &mut Random) -> Lent {
             1 => random.below(n[0] + 2) as u32,
             2 => random.below(7) as u32,
             3 => u32::MAX - random.below(3) as u32,
-            _ => *random.pick(&[0, 1, 0x8000_0000, 0xD800, 0x110000]),
+            _ => *random.pick(&[0, 1, 0x8000_0000, 0xD800, 0xDFFF, 0x2FFFF, 0x30000, 0x110000]),
         };
         match random.below(12) {
             0 => {

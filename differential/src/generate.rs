@@ -1,6 +1,7 @@
 //! Random stores and requests, from a seed.
 
 use crate::{
+    audit::is_char,
     call::{Call, Request},
     draft::*,
     lent::*,
@@ -20,11 +21,12 @@ pub struct Profile {
     pub longest: usize,
 }
 
+/// Characters that both alphabets have, the standard's and Rust's: any `char` below 0x30000.
 const ALPHABETS: [&[char]; 6] = [
     &['a', 'b', 'c'],
     &['a', 'b', 'c'],
     &['é', '漢', 'a'],
-    &['\u{1F600}', '\u{10FFFF}', 'a'],
+    &['\u{1F600}', '\u{2FFFF}', 'a'],
     &['\u{D7FF}', '\u{E000}', '\u{0}'],
     &['!', 's', '0'],
 ];
@@ -712,7 +714,7 @@ pub fn call(random: &mut Random, s: &Lent, kind: usize) -> Call {
     let one = |random: &mut Random| *random.pick(&strings);
     match kind {
         0 => Call::Audit,
-        1 => Call::MakeConstant { text: word(random, &['a', 'b', '漢', '\u{10FFFF}'], 3) },
+        1 => Call::MakeConstant { text: word(random, &['a', 'b', '漢', '\u{2FFFF}'], 3) },
         2 => Call::MakeVariable { name: name(random, 90, &['a', 'b']) },
         3 => Call::MakeConcatenation { parts: list(random, &strings, 4) },
         4 => Call::MakeLength { t: one(random) },
@@ -788,6 +790,12 @@ pub fn request(random: &mut Random, s: &Lent, kind: usize) -> Request {
             }
         }
     }
+    if let Call::MakeConstant { text } | Call::MakeVariable { name: text } = &mut r.call {
+        if random.one_in(25) {
+            let at = random.below(text.len() + 1);
+            text.insert(at, *random.pick(&[0x30000, 0x10FFFF, 0x110000, u32::MAX]));
+        }
+    }
     if random.one_in(100) {
         r.list_room = *random.pick(&[0, LIST - 1, LIST + 1]);
     }
@@ -821,19 +829,20 @@ pub fn long_request(random: &mut Random, s: &Lent, kind: usize) -> Request {
 /// Names that differ late and have one hash under the port's audit (`mixed` in the definitions of `records`), which so compares each two.
 fn one_hash(names: u32, length: usize) -> Lent {
     let mixed = |h: u64, x: u32| (69069 * h + h / 65536 + x as u64) % 4294967291;
+    let both = |c: u32| is_char(c) && char::from_u32(c).is_some();
     let mut text = vec!['a' as u32; length - 2];
     let mut hash = 0;
     for name in 0..names as usize {
         let h = text[2 * name..].iter().fold(1, |h, &x| mixed(h, x));
         let last = |x: u32| {
             let y = (hash + 4294967291 - mixed(mixed(h, x), 0)) % 4294967291;
-            (y < 0xD800).then_some(y as u32)
+            both(y as u32).then_some(y as u32)
         };
         let (x, y) = if name == 0 {
             hash = mixed(mixed(h, 'b' as u32), 'b' as u32);
             ('b' as u32, 'b' as u32)
         } else {
-            (98..0xD800).chain(0xE000..0x110000).find_map(|x| last(x).map(|y| (x, y))).unwrap()
+            (98..0x30000).filter(|&x| both(x)).find_map(|x| last(x).map(|y| (x, y))).unwrap()
         };
         text.extend([x, y]);
     }

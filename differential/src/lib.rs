@@ -21,6 +21,7 @@ pub mod pace;
 #[cfg(feature = "port")]
 pub mod port;
 pub mod random;
+pub mod renamed;
 pub mod script;
 pub mod shrink;
 pub mod speed;

@@ -14,7 +14,7 @@ use differential::{
     model,
     oracle::{self, Answer, Mode},
     random::Random,
-    shrink, speed, trails, vectors,
+    renamed, shrink, speed, trails, vectors,
 };
 use std::{env, path::PathBuf, process::exit, thread};
 
@@ -65,7 +65,7 @@ struct Options {
 
 fn usage() -> ! {
     eprintln!(
-        "differential compare|damaged|claims|lists|trails|empties|lengths|faults|vectors|speed|count|pace|pace-count|worst|stack [--seed S] [--count N] [--from ROUND] [--threads T] [--kinds A,B] [--of port|model|rust] [--out FOLDER]"
+        "differential compare|renamed|damaged|claims|lists|trails|empties|lengths|faults|vectors|speed|count|pace|pace-count|worst|stack [--seed S] [--count N] [--from ROUND] [--threads T] [--kinds A,B] [--of port|model|rust] [--out FOLDER]"
     );
     exit(2);
 }
@@ -187,7 +187,8 @@ impl Tally {
     }
 
     fn print_made(&self) {
-        let each = |n: &[u64; 10]| n.iter().enumerate().filter(|x| *x.1 > 0).map(|(i, n)| format!("{i}: {n}")).collect::<Vec<_>>().join(" ");
+        let each =
+            |n: &[u64; 10]| n.iter().enumerate().filter(|x| *x.1 > 0).map(|(i, n)| format!("{i}: {n}")).collect::<Vec<_>>().join(" ");
         let [character, heads] = self.made.each_ref().map(each);
         println!(
             "Splits by the terms that they made, over a character {character}, over two heads {heads}; {} of steps whose forms made terms too",
@@ -334,6 +335,29 @@ fn compare(o: &Options) -> Tally {
         c[11],
         tally.differences
     );
+    tally
+}
+
+// stores whose characters are renamed into the standard's range
+fn characters(o: &Options) -> renamed::Tally {
+    let of = o.of;
+    let by = lists::Answering { call: &move |s, r| of.run(s, r), act: &move |s, a, n| of.act(s, a, n) };
+    let tally = rounds(o, renamed::Tally::add, |i, random, tally| {
+        let s = lay_out(&draft(i, random));
+        let mut calls: Vec<Result<(), String>> = vec![];
+        for &kind in &o.kinds {
+            let r = request(i, random, &s, kind);
+            calls.push(renamed::one(random, &by, &s, &r, tally));
+        }
+        calls.push(renamed::acts(random, &by, &s, tally));
+        for what in calls.into_iter().filter_map(Result::err) {
+            tally.differences += 1;
+            if tally.differences <= PRINTED {
+                println!("round {i}: {what}");
+            }
+        }
+    });
+    tally.print();
     tally
 }
 
@@ -560,6 +584,10 @@ fn main() {
     let o = options(rest);
     let differences = match command.as_str() {
         "compare" => compare(&o).differences,
+        "renamed" => {
+            let t = characters(&o);
+            t.differences + t.absent
+        }
         "damaged" => damaged(&o).differences,
         "claims" => claims(&o).differences,
         // nothing is compared where a call is not there

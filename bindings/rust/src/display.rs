@@ -1,6 +1,6 @@
 //! A term as text.
 
-use crate::{Store, Term};
+use crate::{Store, Term, MAX_CHARACTER};
 use std::fmt::{self, Write};
 
 /// How many terms are printed before the rest is left out: a term that has another twice may be longer than all memory.
@@ -23,7 +23,8 @@ pub struct Shown<'a> {
 
 impl Store {
     /// The term for printing: a constant in quotes, a variable by its name, `++` between the parts of a concatenation, `len(..)`, `=` between
-    /// the sides of an equation. After 1,024 terms comes `..`; what is not there or breaks a rule is `?`.
+    /// the sides of an equation. Characters stand as Rust escapes them, and a surrogate, which no `&str` has, in the same form. After 1,024
+    /// terms comes `..`; what is not there or breaks a rule is `?`.
     ///
     /// ```
     /// let mut store = labels::Store::new();
@@ -31,6 +32,8 @@ impl Store {
     /// let label = store.concatenation(&[site, batch])?;
     /// let equation = store.equation(label, code)?;
     /// assert_eq!(store.display(equation).to_string(), r#"site ++ batch = "A7""#);
+    /// let pair = store.constant_chars(&[0x3BB, 0xD83D, 0xDE42, 0x0A])?;
+    /// assert_eq!(store.display(pair).to_string(), r#""λ\u{d83d}\u{de42}\n""#);
     /// assert_eq!(store.display(99).to_string(), "?");
     /// # Ok::<(), labels::Refusal>(())
     /// ```
@@ -44,10 +47,10 @@ impl Store {
         (t != 0 && t <= self.state[0]).then(|| [words[0], words[1], words[2]])
     }
 
-    /// Characters that are counted.
-    fn text(&self, place: u32, count: u32) -> Option<String> {
+    /// Characters that are counted, where the standard's alphabet has each.
+    fn text(&self, place: u32, count: u32) -> Option<&[u32]> {
         let end = place.checked_add(count).filter(|&end| end <= self.state[2])?;
-        self.chars.get(place as usize..end as usize)?.iter().map(|&c| char::from_u32(c)).collect()
+        self.chars.get(place as usize..end as usize).filter(|text| text.iter().all(|&c| c <= MAX_CHARACTER))
     }
 
     /// A counted cell's value and the next cell of its chain, which has a higher number or is 0.
@@ -81,11 +84,15 @@ impl Printer<'_, '_, '_> {
         self.left -= 1;
         match self.store.record(t).filter(|_| t < below) {
             Some([1, place, count]) => match self.store.text(place, count) {
-                Some(text) => write!(self.f, "{text:?}"),
+                Some(text) => {
+                    self.f.write_char('"')?;
+                    self.text(text, true)?;
+                    self.f.write_char('"')
+                }
                 None => self.f.write_char('?'),
             },
             Some([2, place, count]) => match self.store.text(place, count) {
-                Some(name) => write!(self.f, "{}", name.escape_debug()),
+                Some(name) => self.text(name, false),
                 None => self.f.write_char('?'),
             },
             Some([3, chain, _]) if part => {
@@ -106,6 +113,22 @@ impl Printer<'_, '_, '_> {
             }
             _ => self.f.write_char('?'),
         }
+    }
+
+    /// Prints characters: surrogates one by one, as `\u{d800}`, and what stands between them as Rust escapes it, in quotes or outside them.
+    fn text(&mut self, text: &[u32], quoted: bool) -> fmt::Result {
+        let is_char = |&c: &u32| char::from_u32(c).is_some();
+        for run in text.chunk_by(|a, b| is_char(a) && is_char(b)) {
+            match run.iter().map(|&c| char::from_u32(c)).collect::<Option<String>>() {
+                Some(run) if quoted => {
+                    let shown = format!("{run:?}");
+                    self.f.write_str(&shown[1..shown.len() - 1])?;
+                }
+                Some(run) => write!(self.f, "{}", run.escape_debug())?,
+                None => write!(self.f, "\\u{{{:x}}}", run[0])?,
+            }
+        }
+        Ok(())
     }
 
     /// Prints the parts of a concatenation.

@@ -22,6 +22,11 @@
 //! # Ok::<(), labels::Refusal>(())
 //! ```
 //!
+//! # Characters
+//!
+//! They are those of SMT-LIB's strings, 0 to 0x2FFFF: Rust's below 0x30000, and 0xD800 to 0xDFFF besides. A text as `&str` can have no
+//! surrogate; as numbers, to [`Store::constant_chars`] and [`Store::variable_chars`], it can have any. A pair of surrogates is two characters.
+//!
 //! # Asking a question
 //!
 //! The component appends the reasons that it names to those that the store counts, each only if it is not among them. So that an answer names
@@ -48,7 +53,7 @@ use std::fmt;
 /// The version of this crate, of `labels.h` and of the changelog.
 ///
 /// ```
-/// assert_eq!(labels::VERSION, "0.6.0");
+/// assert_eq!(labels::VERSION, "0.7.0");
 /// ```
 pub const VERSION: &str = env!("CARGO_PKG_VERSION");
 
@@ -72,6 +77,15 @@ pub const CELLS: usize = 2048;
 /// assert_eq!(labels::Store::new().chars.len(), labels::CHARS);
 /// ```
 pub const CHARS: usize = 16384;
+
+/// The highest character of a constant or a name, as SMT-LIB's strings have it.
+///
+/// ```
+/// let mut store = labels::Store::new();
+/// assert!(store.constant_chars(&[labels::MAX_CHARACTER]).is_ok());
+/// assert_eq!(store.constant_chars(&[labels::MAX_CHARACTER + 1]), Err(labels::Refusal::Argument));
+/// ```
+pub const MAX_CHARACTER: u32 = 0x2FFFF;
 
 /// How many reasons a store counts at most, two words each.
 ///
@@ -215,26 +229,30 @@ impl Store {
         outcome(raw::audit(self))
     }
 
-    /// The constant of a text, made where the store has none.
+    /// The constant of a text, made where the store has none. A character from U+30000 on is refused.
     ///
     /// ```
     /// let mut store = labels::Store::new();
     /// let a = store.constant("A7")?;
     /// assert_eq!(store.constant("A7")?, a);
+    /// assert_eq!(store.constant("\u{30000}"), Err(labels::Refusal::Argument));
     /// # Ok::<(), labels::Refusal>(())
     /// ```
     pub fn constant(&mut self, text: &str) -> Result<Term, Refusal> {
         self.constant_chars(&characters(text))
     }
 
-    /// The constant of characters that stand as words, as in a store's own: 0 to 0xD7FF and 0xE000 to 0x10FFFF. Another is refused, where a
-    /// `&str` could not be made of it.
+    /// The constant of characters that stand as numbers, as in a store's own words: any from 0 to 0x2FFFF, the surrogates among them, which a
+    /// `&str` cannot have. Another is refused.
     ///
     /// ```
     /// let mut store = labels::Store::new();
     /// let a = store.constant_chars(&[0x41, 0x3BB])?;
     /// assert_eq!(store.constant("Aλ")?, a);
-    /// assert_eq!(store.constant_chars(&[0xD800]), Err(labels::Refusal::Argument));
+    /// // two surrogates are two characters, and not the one that they stand for in UTF-16
+    /// let two = store.constant_chars(&[0xD83D, 0xDE42])?;
+    /// assert_ne!(store.constant("\u{1F642}")?, two);
+    /// assert_eq!(store.constant_chars(&[0x30000]), Err(labels::Refusal::Argument));
     /// # Ok::<(), labels::Refusal>(())
     /// ```
     pub fn constant_chars(&mut self, text: &[u32]) -> Result<Term, Refusal> {
@@ -255,13 +273,15 @@ impl Store {
         self.variable_chars(&characters(name))
     }
 
-    /// The variable of a name whose characters stand as words.
+    /// The variable of a name whose characters stand as numbers, the same as a constant's.
     ///
     /// ```
     /// let mut store = labels::Store::new();
     /// let x = store.variable_chars(&[0x78])?;
     /// assert_eq!(store.variable("x")?, x);
-    /// assert_eq!(store.variable_chars(&[0x110000]), Err(labels::Refusal::Argument));
+    /// let odd = store.variable_chars(&[0x78, 0xD800])?;
+    /// assert_eq!(store.display(odd).to_string(), r"x\u{d800}");
+    /// assert_eq!(store.variable_chars(&[0x30000]), Err(labels::Refusal::Argument));
     /// # Ok::<(), labels::Refusal>(())
     /// ```
     pub fn variable_chars(&mut self, name: &[u32]) -> Result<Term, Refusal> {

@@ -175,15 +175,39 @@ fn printing_ends() {
 #[test]
 fn characters_as_words() {
     let mut s = Store::new();
-    let edges = [0, 0xD7FF, 0xE000, 0x10FFFF];
+    let edges = [0, 0xD7FF, 0xE000, 0x2FFFF];
     let t = s.constant_chars(&edges).unwrap();
-    assert_eq!(s.constant("\u{0}\u{D7FF}\u{E000}\u{10FFFF}"), Ok(t));
+    assert_eq!(s.constant("\u{0}\u{D7FF}\u{E000}\u{2FFFF}"), Ok(t));
     let v = s.variable_chars(&edges).unwrap();
-    assert_eq!(s.variable("\u{0}\u{D7FF}\u{E000}\u{10FFFF}"), Ok(v));
-    for c in [0xD800, 0xDFFF, 0x110000, u32::MAX] {
+    assert_eq!(s.variable("\u{0}\u{D7FF}\u{E000}\u{2FFFF}"), Ok(v));
+    for c in [0x30000, 0x10FFFF, 0x110000, u32::MAX] {
         assert_eq!((s.constant_chars(&[c]), s.variable_chars(&[c])), (Err(Refusal::Argument), Err(Refusal::Argument)));
     }
+    assert_eq!((s.constant("\u{30000}"), s.variable("\u{10FFFF}")), (Err(Refusal::Argument), Err(Refusal::Argument)));
     assert_eq!((s.constant_chars(&[]), s.variable_chars(&[])), (Ok(v + 1), Err(Refusal::Argument)));
+}
+
+/// Surrogates in constants and names: each is a character, is compared as one, and is printed as an escape.
+#[test]
+fn surrogates() {
+    let mut s = Store::new();
+    let (high, low, both) =
+        (s.constant_chars(&[0xD83D]).unwrap(), s.constant_chars(&[0xDE42]).unwrap(), s.constant_chars(&[0xD83D, 0xDE42]).unwrap());
+    let one = s.constant("\u{1F642}").unwrap();
+    let x = s.variable_chars(&[0xDFFF]).unwrap();
+    let whole = s.concatenation(&[high, low]).unwrap();
+    let shown = |s: &Store, t| s.display(t).to_string();
+    assert_eq!((shown(&s, whole), shown(&s, x)), (r#""\u{d83d}" ++ "\u{de42}""#.into(), r"\u{dfff}".into()));
+    assert_eq!(s.resolve_equation(&[high, low], &[both], 1), Ok(Answer::Done));
+    assert!(matches!(s.resolve_equation(&[high, low], &[one], 1), Ok(Answer::Conflict { .. })));
+    assert!(matches!(s.resolve_equation(&[x], &[high, low], 1), Ok(Answer::Propagate { word, .. }) if word == both));
+    // escapes beside quotes and backslashes, so that a text of the same letters prints otherwise
+    let odd = s.constant_chars(&[0x22, 0xD800, 0x22, 0x5C]).unwrap();
+    let letters = s.constant(r"\u{d800}").unwrap();
+    assert_eq!((shown(&s, odd), shown(&s, letters)), (r#""\"\u{d800}\"\\""#.into(), r#""\\u{d800}""#.into()));
+    // above the alphabet nothing is printed as a character
+    s.chars[0] = 0x30000;
+    assert_eq!((shown(&s, high), s.audit()), ("?".into(), Err(Refusal::Records)));
 }
 
 /// A store goes to another thread.

@@ -1,5 +1,5 @@
 -- 'Text and names are UTF-8': The Unicode Standard, section 3.9 (RFC 3629, section 3).
-use mathlib.Core.Bool.{Bool, true, false, _&&_}
+use mathlib.Core.Bool.{Bool, true, false, _&&_, _||_}
 use mathlib.Core.List.{List, [], _∷_}
 use mathlib.Core.Option.{Option, none, some}
 use Prim.Native.Nat.{ℕ, zero, suc, _+_, _-_, _*_}
@@ -17,9 +17,13 @@ isNext b = leb 0x80 b && ltb b 0xC0
 abbrev pub sixMore : ℕ → ℕ → ℕ
 sixMore x b = 64 * x + (b - 0x80)
 
--- a character of k bytes with number x: no shorter form has room for it, and it is a character (no surrogate, at most 10FFFF)
+-- a character that a text in UTF-8 can have: one of the store's (none from 30000 on) and no surrogate, D800 to DFFF, which UTF-8 has no form for
+unfoldable pub isScalar : ℕ → Bool
+isScalar x = isChar x && (ltb x 0xD800 || leb 0xE000 x)
+
+-- a character of k bytes with number x: no shorter form has room for it, and a text can have it
 unfoldable pub shaped : ℕ → ℕ → Bool → ℕ → Option (ℕ × ℕ)
-shaped k least nexts x = if nexts && leb least x && isChar x then some (k, x) else none
+shaped k least nexts x = if nexts && leb least x && isScalar x then some (k, x) else none
 
 -- the character that starts with byte a, before bytes b, c and d: how many bytes it has, and its number
 unfoldable pub charBy : ℕ → ℕ → ℕ → ℕ → Option (ℕ × ℕ)

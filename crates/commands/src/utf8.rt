@@ -3,7 +3,7 @@ ghost use mathlib.Core.Bool.{true, _&&_};
 ghost use mathlib.Core.Path.{_≡_};
 ghost use Prim.Native.Nat.{_+_, _-_, _<_, _≤_};
 ghost use lib.ListN.{length, drop, getD};
-ghost use Rattle.commands.specs.Utf8.{isNext, sixMore, shaped, charBy, charOf, decode};
+ghost use Rattle.commands.specs.Utf8.{isNext, sixMore, isScalar, shaped, charBy, charOf, decode};
 ghost use Rattle.commands.specs.Working.Readings.{charIs, Listed};
 ghost use Rattle.commands.specs.Commands.{lineLimit};
 use crate::Char;
@@ -40,14 +40,27 @@ fn six_more(x: u32, b: u8) -> u32
     64 * x + (b - 0x80) as u32
 }
 
-// The character of number x in k bytes, where it needs as many and is one.
+// Whether a text can have x: a character of the store, and no surrogate.
+fn is_scalar(x: u32) -> bool
+    ensures { λ r. ⌜ r ≡ isScalar x ⌝ }
+{
+    if !is_char(x) {
+        return false;
+    }
+    if x < 0xD800 {
+        return true;
+    }
+    0xE000 <= x
+}
+
+// The character of number x in k bytes, where it needs as many and a text can have it.
 fn shape(k: usize, least: u32, x: u32) -> Char
     ensures { λ r. ⌜ charIs r ≡ shaped k least true x ⌝ }
 {
     if x < least {
         return Char::Bad;
     }
-    if !is_char(x) {
+    if !is_scalar(x) {
         return Char::Bad;
     }
     Char::Is(k, x)

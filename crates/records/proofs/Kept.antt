@@ -17,7 +17,7 @@ use Rattle.records.specs.Rules.{isChar, reasonRule, keyRule, named, isEq
 use Rattle.records.specs.Make.{withReasons, withKeys, withChars, withCells, withNames, own, addReason, addKey, addText, addChain, chainFrom, addTerm, lookup, orMake, lowest, constantOf, concatOf, lengthOf, equationOf, makeConstant, makeVariable, makeConcat, makeLength, makeEquation, ordered, strk, decimalBy, nameOf, isSome, isTaken, takeNameBy, nameLimit, takeName}
 use Rattle.records.specs.Meaning.{Words, Reading}
 use Rattle.records.specs.Working.Audited.{Recorded, Audited}
-use Rattle.records.proofs.Lists.{both-left, both-right, both-true, or-left, decide, clash, all-append, all-every, within-low, within-high, word-is, word-same, first-some, first-none}
+use Rattle.records.proofs.Lists.{both-left, both-right, both-true, decide, clash, all-append, all-every, within-low, within-high, word-is, word-same, first-some, first-none}
 use Rattle.records.proofs.Works.{stop-not, via, branch}
 use Rattle.records.proofs.Chains.{extends-refl, extends-append, ascends-made, chain-made, from-length, plain, plain-firsts, plain-length}
 use Rattle.records.proofs.Grown.{kind-term, Grown, OldVariables, grown-none, grown-then}
@@ -524,7 +524,7 @@ key-stops a b s n e = go (ltb (length (s .keys)) (s .room .keys)) e
 
 digit-character : (d : ℕ) → d < 10 → all isChar ((48 + d) ∷ []) ≡ true
 unfolding isChar all
-digit-character d h = both-true _ true (or-left (ltb (48 + d) 0xD800) (leb 0xE000 (48 + d) && leb (48 + d) 0x10FFFF) (lt-ltb (48 + d) 0xD800 (omega arith))) refl
+digit-character d h = both-true _ true (lt-ltb (48 + d) 0x3_0000 (omega arith)) refl
 
 decimal-characters : (n x : ℕ) → all isChar (decimalBy n x) ≡ true
 unfolding decimalBy all

@@ -97,11 +97,12 @@ cases =
     ∷ at (inTerm 1 2 0) 2
     ∷ at (inChars 0 121) 2
     ∷ at (inChars 0 0xD7FF) 0
-    ∷ at (inChars 0 0xD800) 2
-    ∷ at (inChars 0 0xDFFF) 2
+    ∷ at (inChars 0 0xD800) 0
+    ∷ at (inChars 0 0xDFFF) 0
     ∷ at (inChars 0 0xE000) 0
-    ∷ at (inChars 0 0x10FFFF) 0
-    ∷ at (inChars 0 0x110000) 2
+    ∷ at (inChars 0 0x2_FFFF) 0
+    ∷ at (inChars 0 0x3_0000) 2
+    ∷ at (inChars 0 0x10_FFFF) 2
     -- an empty constant, and one of the characters of a name
     ∷ broken (inTerm 5 0 1 ∷ inTerm 5 1 2 ∷ []) 0
     ∷ broken (inTerm 5 0 1 ∷ inTerm 5 1 0 ∷ inTerm 5 2 2 ∷ []) 0

@@ -18,9 +18,9 @@ eachCell s rule = allBelow (λ i. rule (suc i)) (length (s .cells))
 
 -- REFUSAL 2: records
 
--- 'Characters ..: Rust `char` values (0 to 0xD7FF, 0xE000 to 0x10FFFF)': the one character rule
+-- document 02, Note 7: 'characters 0 to 196,607, including 0xD800 to 0xDFFF, and none above': the one character rule, of names too
 unfoldable pub isChar : ℕ → Bool
-isChar c = ltb c 0xD800 || (leb 0xE000 c && leb c 0x10FFFF)
+isChar c = ltb c 0x3_0000
 
 -- a reason's number: 'a number below 2^31, on edges too'
 unfoldable pub isNumber : ℕ → Bool

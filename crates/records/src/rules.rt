@@ -26,13 +26,7 @@ use crate::unique::variable_ok;
 pub fn is_char(c: u32) -> bool
     ensures { λ r. ⌜ r ≡ isChar c ⌝ }
 {
-    if c < 0xD800 {
-        return true;
-    }
-    if c < 0xE000 {
-        return false;
-    }
-    c <= 0x10FFFF
+    c < 0x3_0000
 }
 
 pub fn is_number(v: u32) -> bool

@@ -12,21 +12,9 @@ use Rattle.records.specs.Store.{Store, termIn, within, term, cell, chain
 use Rattle.records.specs.View.{Lent, lent, storeOf, cellAt, pairAt, termsView, termWords, cellWords, sizes, termLimit, cellLimit, charLimit, reasonLimit, keyLimit, termAt}
 use Rattle.records.specs.declared.State.{State}
 use Rattle.records.specs.Working.Audited.{Sized}
-use Rattle.records.specs.Rules.{isChar, isNumber, reasonRule, keyRule, cellRule, textRule, partRule, concatRule, lengthRule, isEquatable, equationRule}
+use Rattle.records.specs.Rules.{isNumber, reasonRule, keyRule, cellRule, textRule, partRule, concatRule, lengthRule, isEquatable, equationRule}
 use Rattle.records.proofs.Lists.{within-zero, within-high, and-stop, and-next, or-stop, failed, passed, right-false, right-true, or-none, three-1, three-2, three-3, three-first, three-last, five-1, five-2, five-3, five-4, five-last, decide, table-length, both-left, both-right, both-true}
 use Rattle.records.proofs.Views.{term-is, term-none, term-past, next-at}
-
-pub char-low : (c : ℕ) → c < 0xD800 → true ≡ isChar c
-unfolding isChar
-char-low c h = rw (lt-ltb c 0xD800 h)
-
-pub char-gap : (c : ℕ) → 0xD800 ≤ c → c < 0xE000 → false ≡ isChar c
-unfolding isChar
-char-gap c h k = rw (le-ltb c 0xD800 h, lt-leb 0xE000 c k)
-
-pub char-high : (c : ℕ) → 0xD800 ≤ c → 0xE000 ≤ c → leb c 0x10FFFF ≡ isChar c
-unfolding isChar
-char-high c h k = rw (le-ltb c 0xD800 h, le-leb 0xE000 c k)
 
 pub kind-none : (l : List ℕ) (n t : ℕ) → t ≡ 0 → 0 ≡ termIn (termsView l n) t .kind
 kind-none l n t e = rw (e, term-none l n)

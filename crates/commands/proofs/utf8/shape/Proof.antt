@@ -7,9 +7,9 @@ pub shape-spec : {M : Type 1} → statement M
 shape-spec = tie.close (tie.spec
     -- returns
     (λ c. shape-low (c .before .args .k) (c .before .args .least) (c .before .args .x) (c .if1 .taken))
-    -- is-char-requires
+    -- is-scalar-requires
     (λ c κs. search needs)
     -- returns-2
-    (λ c. let at-start = c .before .before .before in shape-odd (at-start .args .k) (at-start .args .least) (at-start .args .x) _ (c .before .is-char .ensures) (c .if2 .taken))
+    (λ c. let at-start = c .before .before .before in shape-odd (at-start .args .k) (at-start .args .least) (at-start .args .x) _ (c .before .is-scalar .ensures) (c .if2 .taken))
     -- returns-3
-    (λ c. let at-start = c .before .before .before in shape-is (at-start .args .k) (at-start .args .least) (at-start .args .x) _ (c .before .before .if1 .left) (c .before .is-char .ensures) (c .if2 .left)))
+    (λ c. let at-start = c .before .before .before in shape-is (at-start .args .k) (at-start .args .least) (at-start .args .x) _ (c .before .before .if1 .left) (c .before .is-scalar .ensures) (c .if2 .left)))
