@@ -2,7 +2,7 @@
 
 use std::{env, fs, path::PathBuf};
 
-const CALLS: [&str; 18] = [
+const CALLS: [&str; 19] = [
     "labels_audit",
     "labels_make_constant",
     "labels_make_variable",
@@ -18,6 +18,7 @@ const CALLS: [&str; 18] = [
     "labels_nf_equal",
     "labels_nf_equal_explain",
     "labels_empty_parts",
+    "labels_forced_length",
     "labels_join",
     "labels_set_mark",
     "labels_go_back",

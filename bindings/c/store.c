@@ -139,6 +139,7 @@ static void splitting(void) {
     split(labels_store_resolve_equation(&s, l, 1, r, 2, 1), n + 6, 3, 3);
     /* the step over x ++ "a" ++ "b" = y ++ x: the form of the left side makes "ab" */
     labels_store_over(&s, &memory);
+    s.answer[LABELS_ANSWER_TERMS_MADE + 1] = 77;
     HOLD(labels_store_variable(&s, "x", &x) == 0 && labels_store_variable(&s, "y", &y) == 0);
     HOLD(labels_store_constant(&s, "a", &a) == 0 && labels_store_constant(&s, "b", &b) == 0);
     l[0] = r[1] = x, l[1] = a, l[2] = b, r[0] = y;

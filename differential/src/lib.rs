@@ -9,6 +9,7 @@ pub mod count;
 pub mod damage;
 pub mod draft;
 pub mod empties;
+pub mod fields;
 pub mod generate;
 pub mod lengths;
 pub mod lent;

@@ -7,7 +7,7 @@ use differential::{
     compare::difference,
     damage,
     draft::{lay_out, Draft},
-    empties, generate,
+    empties, fields, generate,
     lent::Lent,
     lengths, lists,
     marks::{self, Act, Marked, Told},
@@ -53,6 +53,7 @@ impl Subject {
     }
 }
 
+#[derive(Clone)]
 struct Options {
     seed: u64,
     count: u64,
@@ -65,7 +66,7 @@ struct Options {
 
 fn usage() -> ! {
     eprintln!(
-        "differential compare|renamed|damaged|claims|lists|trails|empties|lengths|faults|vectors|speed|count|pace|pace-count|worst|stack [--seed S] [--count N] [--from ROUND] [--threads T] [--kinds A,B] [--of port|model|rust] [--out FOLDER]"
+        "differential compare|renamed|damaged|claims|fields|lists|trails|empties|lengths|faults|vectors|speed|count|pace|pace-count|worst|stack [--seed S] [--count N] [--from ROUND] [--threads T] [--kinds A,B] [--of port|model|rust] [--out FOLDER]"
     );
     exit(2);
 }
@@ -456,6 +457,28 @@ fn claims(o: &Options) -> Tally {
     tally
 }
 
+// one repeated field: the first `--count` labels of each store, the shorter first
+fn repeated(o: &Options) -> fields::Tally {
+    let of = o.of;
+    let (shelves, words) = (fields::shelves(), fields::words());
+    let labels: Vec<Vec<Vec<u32>>> = shelves.iter().map(fields::labels).collect();
+    let most = labels.iter().map(Vec::len).max().unwrap_or(0) as u64;
+    println!("{most} labels of up to four entries in a store, {} stores", shelves.len());
+    let tally = rounds(&Options { count: o.count.min(most), ..o.clone() }, fields::Tally::add, |i, _, tally| {
+        for (shelf, labels) in shelves.iter().zip(&labels) {
+            let Some(label) = labels.get(i as usize) else { continue };
+            if let Err(what) = fields::round(shelf, label, &words, &move |s, r| of.run(s, r), tally) {
+                tally.differences += 1;
+                if tally.differences <= PRINTED {
+                    println!("round {i}: {what}");
+                }
+            }
+        }
+    });
+    tally.print();
+    tally
+}
+
 // lists of calls that make terms, join them, set marks and go back
 fn listed(o: &Options) -> lists::Tally {
     let of = o.of;
@@ -591,6 +614,10 @@ fn main() {
         "damaged" => damaged(&o).differences,
         "claims" => claims(&o).differences,
         // nothing is compared where a call is not there
+        "fields" => {
+            let t = repeated(&o);
+            t.differences + t.absent
+        }
         "lists" => {
             let t = listed(&o);
             t.differences + t.absent

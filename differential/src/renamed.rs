@@ -21,7 +21,7 @@ use std::collections::{HashMap, HashSet};
 pub struct Tally {
     pub calls: [u64; NAMES.len()],
     /// by result
-    pub codes: [u64; 10],
+    pub codes: [u64; 12],
     pub acts: u64,
     /// characters renamed to a surrogate, to one above 0xFFFF, to another
     pub images: [u64; 3],
@@ -48,7 +48,7 @@ impl Tally {
         }
         let (i, c) = (&self.images, &self.codes);
         println!(
-            "{} calls on renamed stores compared, and {} of joining, marks and going back; {} that the port lacks; characters renamed to surrogates {}, to others above FFFF {}, below {}; results 0 to 9: {c:?}, {} for a character outside both alphabets; {} differences",
+            "{} calls on renamed stores compared, and {} of joining, marks and going back; {} that the port lacks; characters renamed to surrogates {}, to others above FFFF {}, below {}; results 0 to 11: {c:?}, {} for a character outside both alphabets; {} differences",
             self.calls.iter().sum::<u64>(),
             self.acts,
             self.absent,

@@ -53,7 +53,7 @@ use std::fmt;
 /// The version of this crate, of `labels.h` and of the changelog.
 ///
 /// ```
-/// assert_eq!(labels::VERSION, "0.7.0");
+/// assert_eq!(labels::VERSION, "0.8.0");
 /// ```
 pub const VERSION: &str = env!("CARGO_PKG_VERSION");
 
@@ -464,6 +464,8 @@ impl Store {
     }
 
     /// The word equation between two lists of string terms; the guard, which a Split hands back negated, is neither 0 nor the lowest number.
+    /// Where one list is constants alone and the other constants and one variable that is alone in its class, once or more, the answer is
+    /// Conflict exactly when no text for the variable makes the sides equal.
     ///
     /// ```
     /// use labels::Answer;

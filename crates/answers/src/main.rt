@@ -39,7 +39,7 @@
 //   B p g           the same, and what it added stays
 //   s e g           the step over the equation e and the known list, with the guard g
 //   a p             empty_parts, the list's first p atoms against the rest; what it made stays
-//   l p             forced_length, the list's first p atoms against the rest
+//   h p             forced_length, the list's first p atoms against the rest
 //   q p             nf_equal, the list's first p atoms and the rest
 //   Q p             nf_equal_explain of the same
 //   j a b k v       join a and b under the reason of kind k and number v

@@ -289,7 +289,7 @@ fn pair<'a>(
     match l {
         113 => ask_equal(terms, cells, chars, reasons, keys, lhs, rhs, c),
         81 => ask_equal_explain(terms, cells, chars, reasons, keys, lhs, rhs, c),
-        108 => ask_forced_length(terms, cells, chars, reasons, keys, lhs, rhs, c),
+        104 => ask_forced_length(terms, cells, chars, reasons, keys, lhs, rhs, c),
         97 => return ask_empty_parts(terms, cells, chars, reasons, keys, lhs, rhs, list, c),
         _ => {
             let d = ask_resolve(terms, cells, chars, reasons, keys, lhs, rhs, g, list, c);

@@ -27,10 +27,11 @@ use Rattle.wordeq.specs.declared.StepResult.{StepResult}
 use Rattle.wordeq.specs.declared.StepResult.the-variants as step
 use Rattle.wordeq.specs.Wordeq.{Answer, done, saturated, conflict, propagate, split, resolve, resolveArguments, isGuard}
 use Rattle.wordeq.specs.Meaning.{Sound}
+use Rattle.wordeq.specs.Repeated.{Repeated, Decides}
 use Rattle.wordeq.specs.Calls.{PublicResolve, resolved}
 use Rattle.wordeq.proofs.Resolve.{resolve-kept, resolve-stops}
 use Rattle.wordeq.proofs.FewAtoms.{Few, resolve-few}
-use Rattle.capi.specs.Interface.{stateOf, roomy}
+use Rattle.capi.specs.Interface.{stateOf, roomy, over, told}
 use Rattle.capi.specs.Equations.{flag, answerWords, answerBy, answerRead, ExportedResolve}
 use Rattle.capi.specs.Working.Leaves.{Narrow, NarrowAnswer, Telling, tells, ToldWords, ToldBy, answerTelling}
 use Rattle.capi.proofs.Words.{told-by}
@@ -95,7 +96,7 @@ pub record Stands (r : StepResult) (k′ : List ℕ) : Type 0 where
 module _ {A : Type 0} {fit : Store → Bool} {work : Work A} (can : Tells fit work) (says : Answer → A) (g : ℤ) (fits : SFits w32 g) (guarded : (s : Store) → fit s ≡ true → isGuard g ≡ true)
     (few : (s s′ : Store) (x : Answer) → work s ≡ ok s′ (says x) → Few g x) (m m′ : Lent) (k k′ : List ℕ) (c : State) (same : length k′ ≡ length k) where
   pub split-stands : (d : State) (n : ℕ) (h : ℤ) (j : ℕ) → listCall k fit work m c ≡ ok (storeOf m′ d) (says (split (take n k′) h j)) → StandsIn n h k′
-  split-stands d n h j e = stands-in g h guard fits n k k′ (long .0) (long .1 .0) same (list-room can m k c _ _ e)
+  split-stands d n h j e = stands-in g h guard fits n k k′ (long .0) (long .1) same (list-room can m k c _ _ e)
     where
       long : Few g (split (take n k′) h j)
       long =
@@ -128,7 +129,7 @@ answer-shows (step.Refused n) m′ k′ i = refl
 -- RESOLVE_EQUATION
 
 pub resolve-untold : (l r : List ℕ) (g : ℤ) (m : Lent) (k w a : List ℕ) → roomy w a ≡ false → ExportedResolve l r g m m k k w w a a 1
-resolve-untold l r g m k w a e = record { is = untold-list _ answerWords m k w a _ e; worth = λ z. absurd (omega arith); once = λ z. absurd (omega arith); grows = λ z y. absurd (omega arith) }
+resolve-untold l r g m k w a e = record { is = untold-list _ answerWords m k w a _ e; worth = λ z. absurd (omega arith); once = λ z. absurd (omega arith); grows = λ z y. absurd (omega arith); decides = λ v f i. absurd (i 1 refl (omega arith)) }
 
 -- the terms counted are those of the state
 pub counted : (m : Lent) (w : List ℕ) → count (storeOf m (stateOf w)) ≡ getD w 0 0
@@ -155,12 +156,19 @@ module _ {l r : List ℕ} {g : ℤ} {m m′ : Lent} {k k′ : List ℕ} {c : Sta
 
   pub resolve-exported : {w w′ a a′ : List ℕ} {n : ℕ} → roomy w a ≡ true → c ≡ stateOf w → ToldBy answerTelling w w′ a a′ o n
       → ExportedResolve l r g m m′ k k′ w w′ a a′ n
-  resolve-exported {w} {w′} {a} {a′} {n} room e u = record {
-    is = list-exported (resolve-tells l r g) called answerWords (answerRead k′) (answerTelling o) shows room e (u .is);
-    worth = list-worth (resolve-tells l r g) called answerWords (answerRead k′) (answerTelling o) shows room e (u .is) (λ s′ x q. subst (λ (d : State). Sound (storeOf m d) s′ l r x) e (here .worth s′ x q));
-    once = list-worth (resolve-tells l r g) called answerWords (answerRead k′) (answerTelling o) shows room e (u .is) (λ s′ x q. subst (λ (d : State). EachOnce (storeOf m d .reasons) (s′ .reasons)) e (here .once s′ x q));
-    grows = λ z y. grown z y;
-  }
+  resolve-exported {w} {w′} {a} {a′} {n} room e u =
+      let x = list-exported (resolve-tells l r g) called answerWords (answerRead k′) (answerTelling o) shows room e (u .is) in
+      let q : told n w′ m′ (answerRead k′ a′) ≡ resolved o m′ k′ =
+      x .is .is .public .says ∙ ap (λ (b : Bool). over b (listCall k (resolveArguments l r g) (resolve l r g) m (stateOf w))) room
+      ∙ ap (λ (d : State). listCall k (resolveArguments l r g) (resolve l r g) m d) (sym e) ∙ sym (called .store .says) in
+      record {
+        is = x;
+        worth = list-worth (resolve-tells l r g) called answerWords (answerRead k′) (answerTelling o) shows room e (u .is) (λ s′ y z. subst (λ (d : State). Sound (storeOf m d) s′ l r y) e (here .worth s′ y z));
+        once = list-worth (resolve-tells l r g) called answerWords (answerRead k′) (answerTelling o) shows room e (u .is) (λ s′ y z. subst (λ (d : State). EachOnce (storeOf m d .reasons) (s′ .reasons)) e (here .once s′ y z));
+        grows = λ z y. grown z y;
+        decides = λ v f i. subst (λ (d : State). Decides (storeOf m d) l r (told n w′ m′ (answerRead k′ a′))) e
+            (subst (Decides (storeOf m c) l r) (sym q) (here .decides v (subst (λ (d : State). Repeated (storeOf m d) v l r) (sym e) f) (λ j z. i j (q ∙ z))));
+      }
     where
       Grown : Store → Answer → Type 0
       Grown s′ x = (atoms : List ℕ) (h : ℤ) (i : ℕ) → x ≡ split atoms h i → count s′ ≡ i + count (storeOf m (stateOf w))

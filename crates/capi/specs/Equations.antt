@@ -14,8 +14,9 @@ use Rattle.records.specs.Calls.{call, fullAlone}
 use Rattle.normalize.specs.Calls.{listCall}
 use Rattle.wordeq.specs.Wordeq.{Answer, done, saturated, conflict, propagate, split, resolve, resolveArguments, nfExplain, nfArguments}
 use Rattle.wordeq.specs.Meaning.{Sound, ExplainsEqual}
+use Rattle.wordeq.specs.Repeated.{Repeated, Worked, Decides}
 use Rattle.wordeq.specs.Calls.{equalArguments, equalLists}
-use Rattle.capi.specs.Interface.{stateOf, roomy, over, Exported, Answered, AnsweredList}
+use Rattle.capi.specs.Interface.{stateOf, roomy, over, told, Exported, Answered, AnsweredList}
 
 -- a flag's word
 abbrev pub flag : Bool → ℕ
@@ -45,12 +46,13 @@ answerRead l a = answerBy (getD a 0 0) l a
 
 -- resolve_equation told in words, and what it is worth: demand 3. The reasons at exit are those at entry and then reasons that the
 -- list lacked, each once. After a Split the state's count of terms has grown by word 3 of the answer: the number 'equals the growth of the
--- term count within wordeq'
+-- term count within wordeq'. One repeated field v is decided exactly
 pub record ExportedResolve (l r : List ℕ) (g : ℤ) (m m′ : Lent) (k k′ w w′ a a′ : List ℕ) (n : ℕ) : Type 0 where
   pub is : AnsweredList (over (roomy w a) (listCall k (resolveArguments l r g) (resolve l r g) m (stateOf w))) answerWords m m′ k k′ w w′ a a′ (answerRead k′ a′) n
   pub worth : n ≡ 0 → Sound (storeOf m (stateOf w)) (storeOf m′ (stateOf w′)) l r (answerRead k′ a′)
   pub once : n ≡ 0 → EachOnce (storeOf m (stateOf w) .reasons) (storeOf m′ (stateOf w′) .reasons)
   pub grows : n ≡ 0 → getD a′ 0 0 ≡ 4 → getD w′ 0 0 ≡ getD a′ 3 0 + getD w 0 0
+  pub decides : (v : ℕ) → Repeated (storeOf m (stateOf w)) v l r → Worked (told n w′ m′ (answerRead k′ a′)) → Decides (storeOf m (stateOf w)) l r (told n w′ m′ (answerRead k′ a′))
 
 -- 'nf_equal 0 or 1' into word 0
 abbrev pub flagWords : Bool → List ℕ

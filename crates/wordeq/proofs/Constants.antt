@@ -21,16 +21,13 @@ use Rattle.records.proofs.Kept.{ConstantMade, constant-kept, constant-stops}
 use Rattle.records.proofs.Meant.{constant-word}
 use Rattle.records.proofs.Outcomes.{ends-give, ends-by, ends-if, ends-then}
 use Rattle.wordeq.specs.Wordeq.{conflict, answer, same, fixed, lettersOf, letters, unequal, short, absent, constants, isPlain, alias, emptiesAt, empties, assigns, differ, clashes}
+use Rattle.wordeq.specs.Repeated.{NoWord}
 use Rattle.wordeq.proofs.Words.{fill-within, fill-in, any-in, differ-apart, empty-each}
 use Rattle.wordeq.proofs.Ends.{Ends}
 use Rattle.wordeq.proofs.Cited.{cited-none}
 use Rattle.wordeq.proofs.Good.{Good, passes, Step, step-pass, step-conflict, step-propagate}
 use Rattle.records.proofs.Later.{later-none, later-made}
 use Rattle.wordeq.proofs.Tile.{fixed-word}
-
--- no words make the sides equal
-abbrev Never : Store → List ℕ → List ℕ → Type 0
-Never s l r = (w : Words) → Reading s w → concatMap w l ≡ concatMap w r → ⊥
 
 -- 3
 
@@ -42,7 +39,7 @@ letters-in : (s : Store) (w : Words) (l : List ℕ) (c : ℕ) → Reading s w �
 unfolding letters lettersOf
 letters-in s w l c rd e = fill-in (isConstant s) (text s) w (λ a e. rd .constants a (eqb-true _ _ e)) l c e
 
-short-never : (s : Store) (l r : List ℕ) → short s l r ≡ true → Never s l r
+short-never : (s : Store) (l r : List ℕ) → short s l r ≡ true → NoWord s l r
 unfolding short
 short-never s l r e w rd z =
     let p = fixed-word s w l rd (both-left _ _ e) in
@@ -51,14 +48,14 @@ short-never s l r e w rd z =
     let n : length (letters s l) ≡ length (concatMap w r) = ap length (sym p ∙ z) in
     omega arith
 
-absent-never : (s : Store) (l r : List ℕ) → absent s l r ≡ true → Never s l r
+absent-never : (s : Store) (l r : List ℕ) → absent s l r ≡ true → NoWord s l r
 unfolding absent
 absent-never s l r e w rd z =
     let p = fixed-word s w l rd (both-left _ _ e) in
     let k = any-in _ (letters s r) (both-right (fixed s l) _ e) in
     clash {a = isIn (k .0) (letters s l)} (ap (isIn (k .0)) (sym p ∙ z) ∙ letters-in s w r (k .0) rd (k .2)) (not-true _ (k .1))
 
-unequal-never : (s : Store) (l r : List ℕ) → unequal s l r ≡ true → Never s l r
+unequal-never : (s : Store) (l r : List ℕ) → unequal s l r ≡ true → NoWord s l r
 unfolding unequal
 unequal-never s l r e w rd z =
     let h = both-left (fixed s l && fixed s r) _ e in
@@ -66,20 +63,21 @@ unequal-never s l r e w rd z =
     let q = fixed-word s w r rd (both-right (fixed s l) _ h) in
     clash (word-same (letters s l) (letters s r) (sym p ∙ z ∙ q)) (not-true _ (both-right (fixed s l && fixed s r) _ e))
 
-never-step : {added : Bool} {l r : List ℕ} {s : Store} → Audited s → Never s l r → Ends (Good added l r s) (answer conflict s)
+never-step : {added : Bool} {l r : List ℕ} {s : Store} → Audited s → NoWord s l r → Ends (Good added l r s) (answer conflict s)
 never-step {s = s} d n = step-conflict (cited-none s d n)
+
+pub never-turned : (s : Store) (l r : List ℕ) → NoWord s r l → NoWord s l r
+never-turned s l r n w rd z = n w rd (sym z)
+
+-- each test of step 3 shuts every word out
+pub constants-never : (s : Store) (l r : List ℕ) → unequal s l r || short s l r || short s r l || absent s l r || absent s r l ≡ true → NoWord s l r
+constants-never s l r b =
+    ⊎-elim (λ b₁. ⊎-elim (λ b₂. ⊎-elim (λ b₃. ⊎-elim (unequal-never s l r) (short-never s l r) (either _ _ b₃)) (λ h. never-turned s l r (short-never s r l h)) (either _ _ b₂))
+    (absent-never s l r) (either _ _ b₁)) (λ h. never-turned s l r (absent-never s r l h)) (either _ _ b)
 
 pub constants-step : {added : Bool} (l r : List ℕ) → Step added l r (constants l r)
 unfolding constants
-constants-step l r s d hl hr = ends-if _ _ _ (λ b. never-step d (never b)) (λ b. step-pass d)
-  where
-    turned : Never s r l → Never s l r
-    turned n w rd z = n w rd (sym z)
-
-    never : unequal s l r || short s l r || short s r l || absent s l r || absent s r l ≡ true → Never s l r
-    never b =
-        ⊎-elim (λ b₁. ⊎-elim (λ b₂. ⊎-elim (λ b₃. ⊎-elim (unequal-never s l r) (short-never s l r) (either _ _ b₃)) (λ h. turned (short-never s r l h)) (either _ _ b₂))
-        (absent-never s l r) (either _ _ b₁)) (λ h. turned (absent-never s r l h)) (either _ _ b)
+constants-step l r s d hl hr = ends-if _ _ _ (λ b. never-step d (constants-never s l r b)) (λ b. step-pass d)
 
 -- 4
 
@@ -114,7 +112,7 @@ empties-step {added} [] (a ∷ b ∷ r) s d hl hr =
         (λ w rd h z. first-has _ (a ∷ b ∷ r) v (empty-each w (a ∷ b ∷ r) (sym z)) q .0 ∙ sym (constant-word m rd))
 
 -- constants' characters are characters
-letters-characters : (s : Store) (l : List ℕ) → Audited s → all isChar (letters s l) ≡ true
+pub letters-characters : (s : Store) (l : List ℕ) → Audited s → all isChar (letters s l) ≡ true
 unfolding letters lettersOf all
 letters-characters s l d = all-concatMap isChar (lettersOf s) l (λ a. go a (isConstant s a))
   where
@@ -135,16 +133,18 @@ assigns-step (a ∷ []) r s d hl hr =
 
 -- 6
 
+-- heads that differ shut every word out
+pub clashes-never : (s : Store) (a b : ℕ) (l r : List ℕ) → isConstant s a && isConstant s b && differ (text s a) (text s b) ≡ true → NoWord s (a ∷ l) (b ∷ r)
+unfolding concatMap
+clashes-never s a b l r c w rd z =
+    let h = both-left (isConstant s a && isConstant s b) _ c in
+    differ-apart (text s a) (text s b) (concatMap w l) (concatMap w r) (both-right (isConstant s a && isConstant s b) _ c)
+    (ap (λ (y : List ℕ). y ++ concatMap w l) (sym (rd .constants a (eqb-true _ _ (both-left _ _ h))))
+    ∙ z ∙ ap (λ (y : List ℕ). y ++ concatMap w r) (rd .constants b (eqb-true _ _ (both-right (isConstant s a) _ h))))
+
 pub clashes-step : {added : Bool} (l r : List ℕ) → Step added l r (clashes l r)
-unfolding clashes concatMap
+unfolding clashes
 clashes-step [] r s d hl hr = step-pass d
 clashes-step (a ∷ l) [] s d hl hr = step-pass d
 clashes-step (a ∷ l) (b ∷ r) s d hl hr =
-    ends-if (isConstant s a && isConstant s b && differ (text s a) (text s b)) _ _ (λ c. never-step d (never c)) (λ c. step-pass d)
-  where
-    never : isConstant s a && isConstant s b && differ (text s a) (text s b) ≡ true → Never s (a ∷ l) (b ∷ r)
-    never c w rd z =
-        let h = both-left (isConstant s a && isConstant s b) _ c in
-        differ-apart (text s a) (text s b) (concatMap w l) (concatMap w r) (both-right (isConstant s a && isConstant s b) _ c)
-        (ap (λ (y : List ℕ). y ++ concatMap w l) (sym (rd .constants a (eqb-true _ _ (both-left _ _ h))))
-        ∙ z ∙ ap (λ (y : List ℕ). y ++ concatMap w r) (rd .constants b (eqb-true _ _ (both-right (isConstant s a) _ h))))
+    ends-if (isConstant s a && isConstant s b && differ (text s a) (text s b)) _ _ (λ c. never-step d (clashes-never s a b l r c)) (λ c. step-pass d)

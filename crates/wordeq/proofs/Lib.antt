@@ -6,8 +6,10 @@ pub mod Strip
 mod OnePass
 pub mod Occurs
 pub mod Tile
+mod Field
 mod Constants
 mod Counted
+mod Decided
 mod Split
 pub mod Resolve
 pub mod Equal

@@ -198,7 +198,7 @@ module _ (s : Store) (l r : List ℕ) (hl : Strings s l) (hr : Strings s r) wher
   abbrev tails : List (ℕ × ℕ)
   tails = sameTails s (length heads) l r
 
-  heads-off : Off s l r heads
+  pub heads-off : Off s l r heads
   heads-off = off-heads s l r hl hr
 
   strings-left : Strings s l₁
@@ -207,7 +207,7 @@ module _ (s : Store) (l r : List ℕ) (hl : Strings s l) (hr : Strings s r) wher
   strings-right : Strings s r₁
   strings-right = every-right (seconds heads) r₁ (subst (Strings s) (heads-off .right) hr)
 
-  tails-off : Off s (reverse l₁) (reverse r₁) tails
+  pub tails-off : Off s (reverse l₁) (reverse r₁) tails
   unfolding sameTails
   tails-off = off-heads s (reverse l₁) (reverse r₁) (every-back (length heads) l hl) (every-back (length heads) r hr)
 
@@ -218,13 +218,13 @@ module _ (s : Store) (l r : List ℕ) (hl : Strings s l) (hr : Strings s r) wher
   r₂ = reverse (drop (length tails) (reverse r₁))
 
   -- what the heads leave is what both leave, and the tails turned round
-  turned-left : l₁ ≡ l₂ ++ reverse (firsts tails)
+  pub turned-left : l₁ ≡ l₂ ++ reverse (firsts tails)
   turned-left = unturn l₁ (firsts tails) (drop (length tails) (reverse l₁)) (tails-off .left)
 
-  turned-right : r₁ ≡ r₂ ++ reverse (seconds tails)
+  pub turned-right : r₁ ≡ r₂ ++ reverse (seconds tails)
   turned-right = unturn r₁ (seconds tails) (drop (length tails) (reverse r₁)) (tails-off .right)
 
-  front-back : (w : Words) → Alike w (firsts heads) (seconds heads) → Alike w (firsts tails) (seconds tails) → concatMap w l ≡ concatMap w r → concatMap w l₂ ≡ concatMap w r₂
+  pub front-back : (w : Words) → Alike w (firsts heads) (seconds heads) → Alike w (firsts tails) (seconds tails) → concatMap w l ≡ concatMap w r → concatMap w l₂ ≡ concatMap w r₂
   front-back w k k₂ e =
       let f : concatMap w l₁ ≡ concatMap w r₁ = cancel-front w (firsts heads) (seconds heads) l₁ r₁ k (ap (concatMap w) (sym (heads-off .left)) ∙ e ∙ ap (concatMap w) (heads-off .right)) in
       cancel-back w (reverse (firsts tails)) (reverse (seconds tails)) l₂ r₂ (alike-reverse w k₂)

@@ -28,7 +28,7 @@ unfolding fixed letters lettersOf
 fixed-word s w l rd f = fill-all (isConstant s) (text s) w [] (λ a e. rd .constants a (eqb-true _ _ e)) l f
 
 -- what holds of those kept holds of each that passes the test
-every-kept : {A : Type 0} (p : A → Bool) (P : A → Type 0) (l : List A) → Every P (keep p l) → Every (λ a. p a ≡ true → P a) l
+pub every-kept : {A : Type 0} (p : A → Bool) (P : A → Type 0) (l : List A) → Every P (keep p l) → Every (λ a. p a ≡ true → P a) l
 unfolding keep
 every-kept p P [] k = none-left
 every-kept p P (x ∷ l) k = go (every-kept p P l) (p x) refl k
@@ -37,7 +37,7 @@ every-kept p P (x ∷ l) k = go (every-kept p P l) (p x) refl k
     go ih true e (and q k′) = and (λ z. q) (ih k′)
     go ih false e k′ = and (λ z. clash z e) (ih k′)
 
-kept-every : {A : Type 0} (p : A → Bool) {P : A → Type 0} {l : List A} → Every P l → Every P (keep p l)
+pub kept-every : {A : Type 0} (p : A → Bool) {P : A → Type 0} {l : List A} → Every P l → Every P (keep p l)
 unfolding keep
 kept-every p none-left = none-left
 kept-every p {P} (and {a} {l} q k) = go (p a) (kept-every p k)
@@ -46,7 +46,7 @@ kept-every p {P} (and {a} {l} q k) = go (p a) (kept-every p k)
     go true h = and q h
     go false h = h
 
-kept-pass : {A : Type 0} (p : A → Bool) (l : List A) → Every (λ a. p a ≡ true) (keep p l)
+pub kept-pass : {A : Type 0} (p : A → Bool) (l : List A) → Every (λ a. p a ≡ true) (keep p l)
 unfolding keep
 kept-pass p [] = none-left
 kept-pass p (x ∷ l) = go (kept-pass p l) (p x) refl
@@ -127,7 +127,7 @@ tail-class s r v vs p b =
 
 -- THE STEP
 
-no-fit : (l r : List ℕ) (s : Store) (v : ℕ) (vs : List ℕ) → variables s r ≡ v ∷ vs → fixed s l ≡ true → fits s (letters s l) r (suc (length vs)) ≡ false
+pub no-fit : (l r : List ℕ) (s : Store) (v : ℕ) (vs : List ℕ) → variables s r ≡ v ∷ vs → fixed s l ≡ true → fits s (letters s l) r (suc (length vs)) ≡ false
     → (w : Words) → Reading s w → Every (λ u. w u ≡ w v) vs → concatMap w l ≡ concatMap w r → ⊥
 unfolding filled
 no-fit l r s v vs p f n w rd k e =

@@ -18,6 +18,7 @@ use Rattle.wordeq.specs.declared.StepResult.{StepResult}
 use Rattle.wordeq.specs.declared.StepResult.the-variants as step
 use Rattle.wordeq.specs.Wordeq.{Answer, done, saturated, conflict, propagate, split, resolve, resolveArguments, nfEqual, nfExplain, nfArguments}
 use Rattle.wordeq.specs.Meaning.{Sound, ExplainsEqual}
+use Rattle.wordeq.specs.Repeated.{Repeated, Worked, Decides}
 
 -- NF_EQUAL
 
@@ -55,9 +56,10 @@ resolved (step.Split c n g j) m k = ok (storeOf m c) (split (take n k) g j)
 resolved (step.Refused n) m k = stop n
 
 -- its answer, and what it is worth: demand 3. The reasons at exit are those at entry and then reasons that the list lacked, each once. A
--- Split's number 'equals the growth of the term count within wordeq'
+-- Split's number 'equals the growth of the term count within wordeq'. One repeated field v is decided exactly
 pub record PublicResolve (l r : List ℕ) (g : ℤ) (m m′ : Lent) (k k′ : List ℕ) (c : State) (o : Out Answer) : Type 0 where
   pub is : PublicList (listCall k (resolveArguments l r g) (resolve l r g) m c) m m′ k k′ c o
   pub worth : (s′ : Store) (x : Answer) → o ≡ ok s′ x → Sound (storeOf m c) s′ l r x
   pub once : (s′ : Store) (x : Answer) → o ≡ ok s′ x → EachOnce (storeOf m c .reasons) (s′ .reasons)
   pub grows : (s′ : Store) (atoms : List ℕ) (h : ℤ) (n : ℕ) → o ≡ ok s′ (split atoms h n) → count s′ ≡ n + count (storeOf m c)
+  pub decides : (v : ℕ) → Repeated (storeOf m c) v l r → Worked o → Decides (storeOf m c) l r o

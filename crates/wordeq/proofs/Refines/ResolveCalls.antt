@@ -18,8 +18,8 @@ use Rattle.records.specs.Make.{withReasons}
 use Rattle.records.specs.Rules.{audit, listLimit, isList}
 use Rattle.records.specs.Working.Audited.{Ready}
 use Rattle.records.specs.Calls.{Working}
-use Rattle.records.proofs.Lists.{both-left, both-right, left-false, and-next}
-use Rattle.records.proofs.Public.{passed-ready}
+use Rattle.records.proofs.Lists.{both-left, both-right, left-false, and-next, all-every}
+use Rattle.records.proofs.Public.{audit-low, passed-ready}
 use Rattle.records.proofs.Works.{stop-not}
 use Rattle.normalize.proofs.ListCalls.{listed-short, listed-unready, listed-unfit, listed-works}
 use Rattle.wordeq.specs.declared.StepResult.{StepResult}
@@ -27,9 +27,11 @@ use Rattle.wordeq.specs.declared.StepResult.the-variants as step
 use Rattle.wordeq.specs.Wordeq.{Answer, done, saturated, split, closed, resolve, resolveArguments, isGuard}
 use Rattle.wordeq.specs.Working.Results.{BothLists}
 use Rattle.wordeq.specs.Working.Resolving.{closing, flatSteps, ran}
+use Rattle.wordeq.specs.Repeated.{Decides}
 use Rattle.wordeq.specs.Calls.{equalArguments, PublicResolve, resolved}
 use Rattle.records.proofs.ListLaws.{list-strings}
 use Rattle.wordeq.proofs.Resolve.{resolve-gives, resolve-grows, resolve-sound, resolve-stops}
+use Rattle.wordeq.proofs.Decided.{resolve-decides}
 
 -- CLOSED
 
@@ -92,18 +94,18 @@ module _ (s : Store) (l r : List ℕ) (g : ℤ) (b : Bool) (e : b ≡ equalArgum
 
 module _ (l r : List ℕ) (g : ℤ) (m : Lent) (c : State) (k : List ℕ) where
   pub resolve-short : length k < listLimit → PublicResolve l r g m m k k c (stop 1)
-  resolve-short h = record { is = listed-short (resolveArguments l r g) (resolve l r g) m c k h; worth = λ s′ x e. stop-not e; once = λ s′ x e. stop-not e; grows = λ s′ l′ h n e. stop-not e }
+  resolve-short h = record { is = listed-short (resolveArguments l r g) (resolve l r g) m c k h; worth = λ s′ x e. stop-not e; once = λ s′ x e. stop-not e; grows = λ s′ l′ h n e. stop-not e; decides = λ v f i. absurd (i 1 refl (omega arith)) }
 
   module _ (h : listLimit ≤ length k) (j : ℕ) (v : j ≡ audit m c) where
     pub resolve-unready : (j ≡ 0 → ⊥) → PublicResolve l r g m m k k c (stop j)
-    resolve-unready d = record { is = listed-unready (resolveArguments l r g) (resolve l r g) m c k h j v d; worth = λ s′ x e. stop-not e; once = λ s′ x e. stop-not e; grows = λ s′ l′ h n e. stop-not e }
+    resolve-unready d = record { is = listed-unready (resolveArguments l r g) (resolve l r g) m c k h j v d; worth = λ s′ x e. stop-not e; once = λ s′ x e. stop-not e; grows = λ s′ l′ h n e. stop-not e; decides = λ u f i. absurd (i j refl (let k = audit-low m c in omega arith)) }
 
     module _ (z : j ≡ 0) (y : SFits w32 g) (b : Bool) (i : b ≡ resolveArguments l r (toZ w32 (ofZ w32 g)) (storeOf m c)) where
       e : b ≡ resolveArguments l r g (storeOf m c)
       e = i ∙ ap (λ (x : ℤ). resolveArguments l r x (storeOf m c)) (toZ-ofZ w32 g y)
 
       pub resolve-unfit : not b ≡ true → PublicResolve l r g m m k k c (stop 5)
-      resolve-unfit f = record { is = listed-unfit (resolveArguments l r g) (resolve l r g) m c k h j v z b e f; worth = λ s′ x q. stop-not q; once = λ s′ x q. stop-not q; grows = λ s′ l′ h n q. stop-not q }
+      resolve-unfit f = record { is = listed-unfit (resolveArguments l r g) (resolve l r g) m c k h j v z b e f; worth = λ s′ x q. stop-not q; once = λ s′ x q. stop-not q; grows = λ s′ l′ h n q. stop-not q; decides = λ u x i. absurd (i 5 refl (omega arith)) }
 
       module _ (f : not b ≡ false) where
         fit : resolveArguments l r g (storeOf m c) ≡ true
@@ -127,6 +129,7 @@ module _ (l r : List ℕ) (g : ℤ) (m : Lent) (c : State) (k : List ℕ) where
           worth = λ s′ x q. resolve-sound l r g (storeOf m c) (resolve-ready .audited) left right s′ x (w .says ∙ q);
           once = λ s′ x q. resolve-gives l r g (storeOf m c) (resolve-ready .audited) left right s′ x (w .says ∙ q) .later .reasons;
           grows = λ s′ atoms z n q. resolve-grows l r g (storeOf m c) (resolve-ready .audited) left right s′ atoms z n (w .says ∙ q);
+          decides = λ u x i. subst (Decides (storeOf m c) l r) (w .says) (resolve-decides l r g (storeOf m c) u (resolve-ready .audited) (all-every _ l left) (all-every _ r right) x);
         }
           where
             w : Working (resolve l r g) m m′ c o
