@@ -61,15 +61,15 @@ pub fn find(
     Found::Root(r)
 }
 
-// The place of the pair {a, b} in a table for numbers up to n.
-fn place(n: usize, a: u32, b: u32) -> usize
-    requires { ⌜ n ≤ 512 ⌝ }
-    ensures { λ r. ⌜ r ≡ place n a b ⌝ }
+// The place of the pair {a, b}, of numbers up to 512, in the table: those whose higher number is lower come first.
+fn place(a: u32, b: u32) -> usize
+    requires { ⌜ (a ≤ 512) × (b ≤ 512) ⌝ }
+    ensures { λ r. ⌜ r ≡ place a b ⌝ }
 {
     if a < b {
-        return (a as usize) * (n + 1) + (b as usize);
+        return (b as usize) * ((b as usize) + 1) / 2 + (a as usize);
     }
-    (b as usize) * (n + 1) + (a as usize)
+    (a as usize) * ((a as usize) + 1) / 2 + (b as usize)
 }
 
 // Whether the pair of the place k was seen.
@@ -96,66 +96,62 @@ fn note_seen(table: &mut [u32], k: usize)
 // One reason more, that of the edge from node, unless the list has it.
 fn give(
     reasons: &mut [u32],
-    c: State,
+    count: usize,
     kind: u32,
     value: u32,
     node: u32,
     places: &mut [u32],
 ) -> Walked
-    requires { ⌜ c .reasons ≤ reasonRoom (now reasons) ⌝ }
-    ensures { λ r. ⌜ Gives (now (reasons .entry)) (now (reasons .exit)) (c .reasons) kind value r ⌝ }
+    requires { ⌜ count ≤ reasonRoom (now reasons) ⌝ }
+    ensures { λ r. ⌜ Gives (now (reasons .entry)) (now (reasons .exit)) count kind value r ⌝ }
 {
-    if listing::is_listed(reasons, c.reasons, places, node, kind, value) {
+    if listing::is_listed(reasons, count, places, node, kind, value) {
         return Walked {
             code: 0,
-            count: c.reasons,
+            count: count,
         };
     }
-    let p = put::push_reason_unchecked(reasons, c, kind, value);
-    match p {
-        Added::Counts(d) => Walked {
+    if put::push_reason_unchecked(reasons, count, kind, value) {
+        return Walked {
             code: 0,
-            count: d.reasons,
-        },
-        Added::Refused(k) => Walked {
-            code: k,
-            count: c.reasons,
-        },
+            count: count + 1,
+        };
+    }
+    Walked {
+        code: 7,
+        count: count,
     }
 }
 
-// Walks a up to the nearest shared ancestor, then b: each edge's reasons, in that order. A pair seen before is skipped.
+// Walks a up to the nearest shared ancestor, then b: each edge's reasons, in that order. A pair seen before is skipped. Of the counts
+// a walk is handed those that it reads, because a walk within a walk keeps them on the stack.
 fn explain_rec(
     terms: &[u32],
     cells: &[u32],
-    c: State,
+    n: usize,
+    k: usize,
     a: u32,
     b: u32,
     seen: &mut [u32],
     reasons: &mut [u32],
+    count: usize,
     places: &mut [u32],
 ) -> Walked
-    requires { ⌜ Walkable (now terms) (now cells) (now seen) (now reasons) (c .terms) (c .cells) (c .reasons) (λ s. Together s (a, b)) ⌝ }
-    ensures { λ r. ⌜ Along (Walks (walked (a, b)) (λ s. Together s (a, b))) terms cells seen reasons c r ⌝ }
+    requires { ⌜ Walkable (now terms) (now cells) (now seen) (now reasons) n k count (λ s. Together s (a, b)) ⌝ }
+    ensures { λ r. ⌜ Along (Walks (walked (a, b)) (λ s. Together s (a, b))) terms cells seen reasons n k count r ⌝ }
 {
-    if a == b {
-        return Walked {
-            code: 0,
-            count: c.reasons,
-        };
-    }
-    let at = place(c.terms, a, b);
+    let at = place(a, b);
     if is_seen(seen, at) {
         return Walked {
             code: 0,
-            count: c.reasons,
+            count: count,
         };
     }
     note_seen(seen, at);
-    let top = classes::nearest_unchecked(terms, c.terms, a, b);
+    let top = classes::nearest_unchecked(terms, n, a, b);
     let mut x = a;
     let mut last = false;
-    let mut given = c.reasons;
+    let mut given = count;
     loop {
         if x == top {
             if last {
@@ -167,8 +163,7 @@ fn explain_rec(
             last = true;
             x = b;
         } else {
-            let d = c.with_reasons(given);
-            let r = expand_edge(terms, cells, d, x, seen, reasons, places);
+            let r = expand_edge(terms, cells, n, k, x, seen, reasons, given, places);
             if r.code != 0 {
                 return r;
             }
@@ -182,32 +177,35 @@ fn explain_rec(
 fn expand_edge(
     terms: &[u32],
     cells: &[u32],
-    c: State,
+    n: usize,
+    k: usize,
     node: u32,
     seen: &mut [u32],
     reasons: &mut [u32],
+    count: usize,
     places: &mut [u32],
 ) -> Walked
-    requires { ⌜ Walkable (now terms) (now cells) (now seen) (now reasons) (c .terms) (c .cells) (c .reasons) (λ s. Edge s node) ⌝ }
-    ensures { λ r. ⌜ Along (Walks (edge walked node) (λ s. Edge s node)) terms cells seen reasons c r ⌝ }
+    requires { ⌜ Walkable (now terms) (now cells) (now seen) (now reasons) n k count (λ s. Edge s node) ⌝ }
+    ensures { λ r. ⌜ Along (Walks (edge walked node) (λ s. Edge s node)) terms cells seen reasons n k count r ⌝ }
 {
     let kind = fields::label_kind(terms, node);
     let value = fields::label_value(terms, node);
     match kind {
-        1 => give(reasons, c, 1, value, node, places),
-        2 => give(reasons, c, 2, value, node, places),
+        1 => give(reasons, count, 1, value, node, places),
+        2 => give(reasons, count, 2, value, node, places),
         3 => {
             let mut at = value;
-            let mut given = c.reasons;
+            let mut given = count;
             while at != 0 {
                 let s = fields::value(cells, at);
                 let t = fields::other(cells, at);
-                let d = c.with_reasons(given);
-                let r = explain_rec(terms, cells, d, s, t, seen, reasons, places);
-                if r.code != 0 {
-                    return r;
+                if s != t {
+                    let r = explain_rec(terms, cells, n, k, s, t, seen, reasons, given, places);
+                    if r.code != 0 {
+                        return r;
+                    }
+                    given = r.count;
                 }
-                given = r.count;
                 at = fields::next(cells, at);
             }
             Walked {
@@ -217,11 +215,11 @@ fn expand_edge(
         }
         4 => Walked {
             code: 0,
-            count: c.reasons,
+            count: count,
         },
         _ => Walked {
             code: 3,
-            count: c.reasons,
+            count: count,
         },
     }
 }
@@ -238,9 +236,26 @@ fn explain_few(
     requires { ⌜ (c .terms ≤ 31) × Explainable (now terms) (now cells) (now reasons) (c .terms) (c .cells) a b (c .reasons) ⌝ }
     ensures { λ r. ⌜ PairExplained terms cells reasons c a b r ⌝ }
 {
-    let mut seen: [u32; 32] = [0; 32];
+    if a == b {
+        return Walked {
+            code: 0,
+            count: c.reasons,
+        };
+    }
+    let mut seen: [u32; 16] = [0; 16];
     let mut places: [u32; 32] = [0; 32];
-    explain_rec(terms, cells, c, a, b, &mut seen, reasons, &mut places)
+    explain_rec(
+        terms,
+        cells,
+        c.terms,
+        c.cells,
+        a,
+        b,
+        &mut seen,
+        reasons,
+        c.reasons,
+        &mut places,
+    )
 }
 
 fn explain_some(
@@ -254,9 +269,47 @@ fn explain_some(
     requires { ⌜ (c .terms ≤ 127) × Explainable (now terms) (now cells) (now reasons) (c .terms) (c .cells) a b (c .reasons) ⌝ }
     ensures { λ r. ⌜ PairExplained terms cells reasons c a b r ⌝ }
 {
-    let mut seen: [u32; 512] = [0; 512];
+    let mut seen: [u32; 258] = [0; 258];
     let mut places: [u32; 128] = [0; 128];
-    explain_rec(terms, cells, c, a, b, &mut seen, reasons, &mut places)
+    explain_rec(
+        terms,
+        cells,
+        c.terms,
+        c.cells,
+        a,
+        b,
+        &mut seen,
+        reasons,
+        c.reasons,
+        &mut places,
+    )
+}
+
+fn explain_more(
+    terms: &[u32],
+    cells: &[u32],
+    c: State,
+    a: u32,
+    b: u32,
+    reasons: &mut [u32],
+) -> Walked
+    requires { ⌜ (c .terms ≤ 256) × Explainable (now terms) (now cells) (now reasons) (c .terms) (c .cells) a b (c .reasons) ⌝ }
+    ensures { λ r. ⌜ PairExplained terms cells reasons c a b r ⌝ }
+{
+    let mut seen: [u32; 1036] = [0; 1036];
+    let mut places: [u32; 257] = [0; 257];
+    explain_rec(
+        terms,
+        cells,
+        c.terms,
+        c.cells,
+        a,
+        b,
+        &mut seen,
+        reasons,
+        c.reasons,
+        &mut places,
+    )
 }
 
 fn explain_many(
@@ -270,24 +323,41 @@ fn explain_many(
     requires { ⌜ (c .terms ≤ 512) × Explainable (now terms) (now cells) (now reasons) (c .terms) (c .cells) a b (c .reasons) ⌝ }
     ensures { λ r. ⌜ PairExplained terms cells reasons c a b r ⌝ }
 {
-    let mut seen: [u32; 8225] = [0; 8225];
+    let mut seen: [u32; 4112] = [0; 4112];
     let mut places: [u32; 513] = [0; 513];
-    explain_rec(terms, cells, c, a, b, &mut seen, reasons, &mut places)
+    explain_rec(
+        terms,
+        cells,
+        c.terms,
+        c.cells,
+        a,
+        b,
+        &mut seen,
+        reasons,
+        c.reasons,
+        &mut places,
+    )
 }
 
 // As expand_edge, for an edge that leads to no other pair. Any other is left to expand_edge.
-fn plain_edge(terms: &[u32], c: State, node: u32, reasons: &mut [u32], places: &mut [u32]) -> Plain
+fn plain_edge(
+    terms: &[u32],
+    node: u32,
+    reasons: &mut [u32],
+    count: usize,
+    places: &mut [u32],
+) -> Plain
     requires { ⌜ c .reasons ≤ reasonRoom (now reasons) ⌝ }
     ensures { λ r. ⌜ Plainly (PlainEdge (now (terms .entry)) (now (reasons .entry)) (now (reasons .exit)) node (c .reasons)) (now (reasons .entry)) (now (reasons .exit)) (c .reasons) r ⌝ }
 {
     let kind = fields::label_kind(terms, node);
     let value = fields::label_value(terms, node);
     match kind {
-        1 => Plain::Ended(give(reasons, c, 1, value, node, places)),
-        2 => Plain::Ended(give(reasons, c, 2, value, node, places)),
+        1 => Plain::Ended(give(reasons, count, 1, value, node, places)),
+        2 => Plain::Ended(give(reasons, count, 2, value, node, places)),
         4 => Plain::Ended(Walked {
             code: 0,
-            count: c.reasons,
+            count: count,
         }),
         _ => Plain::Congruence,
     }
@@ -326,7 +396,7 @@ fn explain_plain(
             last = true;
             node = b;
         } else {
-            let p = plain_edge(terms, c.with_reasons(given), node, reasons, places);
+            let p = plain_edge(terms, node, reasons, given, places);
             let Plain::Ended(r) = p else {
                 return Plain::Congruence;
             };
@@ -362,6 +432,9 @@ fn explain_pair(
     }
     if c.terms < 128 {
         return explain_some(terms, cells, c, a, b, reasons);
+    }
+    if c.terms <= 256 {
+        return explain_more(terms, cells, c, a, b, reasons);
     }
     explain_many(terms, cells, c, a, b, reasons)
 }

@@ -1,4 +1,4 @@
--- Walking what stands above a term in the lent words: flags, the nearest shared ancestor, and the stamps of a path.
+-- Walking what stands above a term in the lent words: the nearest shared ancestor, and the stamps of a path.
 use mathlib.Core.Path.{_≡_, refl, sym, ap, _∙_}
 use mathlib.Core.Bool.{Bool, true, false, not, _&&_, _||_, false≢true}
 use mathlib.Core.List.{List, [], _∷_}
@@ -11,13 +11,12 @@ use lib.Seq.{getD-set-same, getD-set-other}
 use lib.Dec.{eqb}
 use borrow.Author.Tests.{eqb-true, eqb-false, eq-eqb, ne-eqb, lt-ltb, le-ltb}
 use Rattle.records.specs.Lists.{all, any, firstOf, isIn, upTo, Every, none-left, and}
-use Rattle.records.specs.Working.Leaves.{flagged, isFlagged}
 use Rattle.records.specs.Store.{Term, within, climb, forestUp, topIn, aboveBy, aboveIn, orNone, nearestIn, pathIn}
-use Rattle.records.specs.View.{termsView, termAt}
+use Rattle.records.specs.View.{termsView, termAt, termWords, termLimit}
 use Rattle.records.specs.Rules.{stampBelow}
-use Rattle.records.specs.Working.Audited.{Closed}
+use Rattle.records.specs.Working.Audited.{Closed, Pathed}
 use Rattle.records.proofs.Lists.{or-right, right-falsum, every-map, every-both, every-mem, all-append, either, or-left, decide, clash, within-low, within-high}
-use Rattle.records.proofs.Climbs.{climb-stays, climb-up, above-step, view-term, view-forest, view-count}
+use Rattle.records.proofs.Climbs.{climb-stays, climb-up, above-step, above-root, above-is, view-term, view-forest, view-count}
 use Rattle.records.proofs.Rises.{is-in}
 
 -- THE LOOP
@@ -66,38 +65,6 @@ module _ {A : Type 0} {l : List ℕ} {n : ℕ} {f : List ℕ → A} {whole : A} 
   unfolding aboveBy
   rising-done h = let e : suc n - i ≡ 0 = omega arith in rw e at (p .left)
 
--- FLAGS
-
-module _ (s : List ℕ) (x : ℕ) (r : List ℕ) where
-  pub seek-here : getD s x 0 ≡ 1 → orNone (firstOf (isFlagged s) (x ∷ r)) ≡ x
-  unfolding firstOf isFlagged
-  seek-here e = rw (eq-eqb (getD s x 0) 1 e, orNone)
-
-  pub seek-past : (getD s x 0 ≡ 1 → ⊥) → orNone (firstOf (isFlagged s) (x ∷ r)) ≡ orNone (firstOf (isFlagged s) r)
-  unfolding firstOf isFlagged
-  seek-past d = rw (ne-eqb (getD s x 0) 1 d, orNone)
-
-pub seek-none : (s : List ℕ) → orNone (firstOf (isFlagged s) []) ≡ 0
-unfolding firstOf
-seek-none s = refl
-
-unflagged : (s : List ℕ) (x : ℕ) → getD s x 0 ≡ 0 → isFlagged s x ≡ false
-unfolding isFlagged
-unflagged s x e = ne-eqb (getD s x 0) 1 (λ z. omega arith)
-
--- a number is flagged where it is one of those flagged
-pub flagged-is : (l s : List ℕ) (x : ℕ) → x < length s → isFlagged (flagged l s) x ≡ isIn x l || isFlagged s x
-unfolding flagged isFlagged isIn any
-flagged-is [] s x h = refl
-flagged-is (y ∷ l) s x h =
-    let q = flagged-is l (set s y 1) x (simp length-set (omega arith)) in
-    q ∙ decide (eqb x y)
-    (λ e.
-    let d : x ≡ y = eqb-true x y e in
-    let m : getD (set s y 1) x 0 ≡ 1 = rw d (getD-set-same s y 1 0 (omega arith)) in
-    rw (e, m) (or-right (any (eqb x) l) true refl))
-    (λ e. rw (e, getD-set-other s y x 1 0 (eqb-false x y e)))
-
 module _ {A : Type 0} (p q : A → Bool) where
   pub first-same : (l : List A) → Every (λ x. p x ≡ q x) l → firstOf p l ≡ firstOf q l
   unfolding firstOf
@@ -112,20 +79,6 @@ above-within ts n (suc k) x h w = and w (go (eqb (forestUp ts x) x) (above-withi
     go : (b : Bool) → Every (λ y. within n y ≡ true) (aboveBy k ts (forestUp ts x)) → Every (λ y. within n y ≡ true) (elim b [ true ↦ [] | false ↦ aboveBy k ts (forestUp ts x) ])
     go true e = none-left
     go false e = e
-
--- the first flagged term of a's is the nearest shared ancestor
-pub nearest-is : (ts : List Term) (n a b : ℕ) (s z : List ℕ) (r : ℕ) → Closed (forestUp ts) n → within n a ≡ true → n < length z → ((i : ℕ) → i < length z → getD z i 0 ≡ 0)
-    → s ≡ flagged (aboveIn ts b) z → r ≡ orNone (firstOf (isFlagged s) (aboveIn ts a)) → r ≡ nearestIn ts a b
-unfolding nearestIn
-nearest-is ts n a b s z r k w h f e d =
-    d ∙ ap orNone (first-same (isFlagged s) (λ x. isIn x (aboveIn ts b)) (aboveIn ts a) (every-map (λ x v. agree x (within-high n x v)) (above-within ts n (suc (length ts)) a k w)))
-  where
-    agree : (x : ℕ) → x ≤ n → isFlagged s x ≡ isIn x (aboveIn ts b)
-    agree x v =
-        let l : x < length z = omega arith in
-        let m = flagged-is (aboveIn ts b) z x l in
-        let u = unflagged z x (f x l) in
-        let o = right-falsum (isIn x (aboveIn ts b)) false refl in cc
 
 -- THE STAMPS OF A PATH
 
@@ -223,3 +176,203 @@ module _ (ts : List Term) (closed : Closed (forestUp ts) (length ts)) (ends : (t
             let l = within-low (length ts) x (h .0 .0) in
             let n : eqb x 0 ≡ false = ne-eqb x 0 (λ z. omega arith) in
             eq-eqb _ _ (sym (h .0 .1) ∙ u) ∙ sym (ap not n)
+
+-- GOING UP TO THE NEAREST SHARED ANCESTOR
+
+-- as many as stand from t up to its root
+abbrev levels : List Term → ℕ → ℕ
+levels ts t = length (aboveIn ts t)
+
+levels-some : (ts : List Term) (t : ℕ) → 1 ≤ levels ts t
+unfolding aboveBy
+levels-some ts t = omega arith
+
+-- a root alone has one
+levels-root : (ts : List Term) (t : ℕ) → (levels ts t ≡ 1 → ⊥) → forestUp ts t ≡ t → ⊥
+levels-root ts t d e = d (ap length (above-root ts t e))
+
+-- the first that passes, where the head does not
+first-later : {A : Type 0} (p : A → Bool) (x : A) (l : List A) → p x ≡ false → firstOf p (x ∷ l) ≡ firstOf p l
+unfolding firstOf
+first-later p x l e = rw (e, firstOf)
+
+first-none : {A : Type 0} (p : A → Bool) → firstOf p [] ≡ none
+unfolding firstOf
+first-none p = refl
+
+in-none : (x : ℕ) → isIn x [] ≡ false
+unfolding isIn any
+in-none x = refl
+
+in-later : (x y : ℕ) (l : List ℕ) → (x ≡ y → ⊥) → isIn x (y ∷ l) ≡ isIn x l
+unfolding isIn any
+in-later x y l d = rw (ne-eqb x y d)
+
+module _ (ts : List Term) (closed : Closed (forestUp ts) (length ts)) (ends : (t : ℕ) → within (length ts) t ≡ true → forestUp ts (topIn ts t) ≡ topIn ts t) where
+  -- what stands above a term has no more above it
+  above-fewer : (k x : ℕ) → within (length ts) x ≡ true → Every (λ y. levels ts y ≤ levels ts x) (aboveBy k ts x)
+  unfolding aboveBy
+  above-fewer zero x w = none-left
+  above-fewer (suc k) x w = and {a = x} (let h : levels ts x ≤ levels ts x = omega arith in h) (go (eqb (forestUp ts x) x) refl (above-fewer k (forestUp ts x) (closed .stays x w)))
+    where
+      go : (b : Bool) → eqb (forestUp ts x) x ≡ b → Every (λ y. levels ts y ≤ levels ts (forestUp ts x)) (aboveBy k ts (forestUp ts x))
+          → Every (λ y. levels ts y ≤ levels ts x) (elim b [ true ↦ [] | false ↦ aboveBy k ts (forestUp ts x) ])
+      go true e i = none-left
+      go false e i = let u = ap length (above-is ts x (ends x w) (eqb-false (forestUp ts x) x e)) in every-map (λ y h. omega (arith, u)) i
+
+  module _ (a b : ℕ) (wa : within (length ts) a ≡ true) (wb : within (length ts) b ≡ true) where
+    -- a term with more above it than b has does not stand above b
+    above-not : levels ts b < levels ts a → isIn a (aboveIn ts b) ≡ false
+    above-not h = decide (isIn a (aboveIn ts b))
+        (λ e. let z = every-mem (above-fewer (suc (length ts)) b wb) (is-in a (aboveIn ts b) e) in absurd (omega arith))
+        (λ e. e)
+
+  module _ (a b : ℕ) (wa : within (length ts) a ≡ true) (wb : within (length ts) b ≡ true) where
+    -- another term than b that has as many above it does not stand above b
+    above-other : (a ≡ b → ⊥) → levels ts b ≤ levels ts a → isIn a (aboveIn ts b) ≡ false
+    above-other d h = decide (eqb (forestUp ts b) b)
+        (λ e. rw (above-root ts b (eqb-true (forestUp ts b) b e)) (in-later a b [] d ∙ in-none a))
+        (λ e.
+        let u = above-is ts b (ends b wb) (eqb-false (forestUp ts b) b e) in
+        let n = ap length u in
+        rw u (in-later a b (aboveIn ts (forestUp ts b)) d ∙ above-not a (forestUp ts b) wa (closed .stays b wb) (omega arith)))
+
+    -- the one with more above it goes up; so does a, where it has as many as b and is another
+    pub nearest-left : (a ≡ b → ⊥) → levels ts b ≤ levels ts a → (forestUp ts a ≡ a → ⊥) → nearestIn ts a b ≡ nearestIn ts (forestUp ts a) b
+    unfolding nearestIn
+    nearest-left d h u =
+        rw (above-is ts a (ends a wa) u) (ap orNone (first-later (λ x. isIn x (aboveIn ts b)) a (aboveIn ts (forestUp ts a)) (above-other d h)))
+
+    pub nearest-right : levels ts a < levels ts b → nearestIn ts a b ≡ nearestIn ts a (forestUp ts b)
+    unfolding nearestIn
+    nearest-right h =
+        let u = above-is ts b (ends b wb) (levels-root ts b (let l = levels-some ts a in omega arith)) in
+        rw u (ap orNone (first-same (λ x. isIn x (b ∷ aboveIn ts (forestUp ts b))) (λ x. isIn x (aboveIn ts (forestUp ts b))) (aboveIn ts a)
+        (every-map (λ x k. in-later x b (aboveIn ts (forestUp ts b)) (λ e. let z = ap (levels ts) e in omega arith)) (above-fewer (suc (length ts)) a wa))))
+
+    -- two roots have none
+    pub nearest-none : (a ≡ b → ⊥) → levels ts a ≡ 1 → levels ts b ≤ 1 → nearestIn ts a b ≡ 0
+    unfolding nearestIn
+    nearest-none d h k = decide (eqb (forestUp ts a) a)
+        (λ e.
+        rw (above-root ts a (eqb-true (forestUp ts a) a e))
+        (ap orNone (first-later (λ x. isIn x (aboveIn ts b)) a [] (above-other d (omega arith)) ∙ first-none (λ x. isIn x (aboveIn ts b)))))
+        (λ e.
+        let u = ap length (above-is ts a (ends a wa) (eqb-false (forestUp ts a) a e)) in
+        let z = levels-some ts (forestUp ts a) in absurd (omega arith))
+
+pub nearest-self : (ts : List Term) (x : ℕ) → nearestIn ts x x ≡ x
+unfolding nearestIn aboveBy firstOf isIn any
+nearest-self ts x = rw (eq-eqb x x refl, firstOf, orNone)
+
+-- HOW MANY STAND ABOVE
+
+levels-few : (ts : List Term) (k t : ℕ) → length (aboveBy k ts t) ≤ k
+unfolding aboveBy
+levels-few ts zero t = omega arith
+levels-few ts (suc k) t = go (eqb (forestUp ts t) t) (levels-few ts k (forestUp ts t))
+  where
+    go : (b : Bool) → length (aboveBy k ts (forestUp ts t)) ≤ k → length (t ∷ elim b [ true ↦ [] | false ↦ aboveBy k ts (forestUp ts t) ]) ≤ suc k
+    go true h = omega arith
+    go false h = omega arith
+
+module _ (l : List ℕ) (n : ℕ) (h : Pathed l n) where
+  closed : Closed (forestUp (termsView l n)) (length (termsView l n))
+  closed = rw (view-count l n) (h .tops)
+
+  inside : (t : ℕ) → within n t ≡ true → within (length (termsView l n)) t ≡ true
+  inside t w = rw (view-count l n) w
+
+  ends : (t : ℕ) → within (length (termsView l n)) t ≡ true → forestUp (termsView l n) (topIn (termsView l n) t) ≡ topIn (termsView l n) t
+  ends t w = h .ends t (rw (view-count l n) at w)
+
+  -- a term's words are lent
+  pub pathed-words : (t : ℕ) → within n t ≡ true → termWords t ≤ length l
+  pathed-words t w = omega (arith, within-high n t w, h .room)
+
+  -- a term that is no root has one more than its parent
+  levels-up : (x y : ℕ) → within n x ≡ true → y ≡ termAt l x .forestParent → (y ≡ x → ⊥) → levels (termsView l n) x ≡ suc (levels (termsView l n) y)
+  levels-up x y w e d =
+      let v = view-forest l n x y w e in
+      rw v (ap length (above-is (termsView l n) x (ends x (inside x w)) (λ z. d (v ∙ z))))
+
+-- i stand from t up to x, x left out, and one
+pub record Counting (l : List ℕ) (n t x i : ℕ) : Type 0 where
+  pub here : within n x ≡ true
+  pub all : i + length (aboveIn (termsView l n) x) ≡ suc (length (aboveIn (termsView l n) t))
+
+pub counting-begin : (l : List ℕ) (n t : ℕ) → within n t ≡ true → Counting l n t t 1
+counting-begin l n t w = record { here = w; all = omega arith }
+
+module _ (l : List ℕ) (n t x i : ℕ) (h : Pathed l n) (p : Counting l n t x i) where
+  pub counting-few : i < 1024
+  counting-few =
+      let a = levels-few (termsView l n) (suc (length (termsView l n))) t in
+      let b = levels-some (termsView l n) x in
+      let c = view-count l n in omega (arith, p .all, h .limited)
+
+  module _ (y : ℕ) (e : y ≡ termAt l x .forestParent) where
+    pub counting-root : y ≡ x → i ≡ length (aboveIn (termsView l n) t)
+    counting-root d = let a = ap length (above-root (termsView l n) x (sym (view-forest l n x y (p .here) e) ∙ d)) in omega (arith, p .all)
+
+    module _ (d : y ≡ x → ⊥) where
+      pub counting-less : length (aboveIn (termsView l n) y) < length (aboveIn (termsView l n) x)
+      counting-less = let a = levels-up l n h x y (p .here) e d in omega arith
+
+      pub counting-turn : Counting l n t y (i + 1)
+      counting-turn =
+          let a = levels-up l n h x y (p .here) e d in
+          record { here = rw (view-forest l n x y (p .here) e) (h .tops .stays x (p .here)); all = omega (arith, p .all) }
+
+-- GOING UP TO THE NEAREST SHARED ANCESTOR, IN THE LENT WORDS
+
+-- x and y are on the way up from a and b, i and j of them from each up to its root; they have the nearest shared ancestor of a and b
+pub record Nearing (l : List ℕ) (n a b x y i j : ℕ) : Type 0 where
+  pub here : within n x ≡ true
+  pub there : within n y ≡ true
+  pub left : i ≡ length (aboveIn (termsView l n) x)
+  pub right : j ≡ length (aboveIn (termsView l n) y)
+  pub same : nearestIn (termsView l n) x y ≡ nearestIn (termsView l n) a b
+
+module _ (l : List ℕ) (n a b : ℕ) where
+  pub nearing-begin : (i j : ℕ) → within n a ≡ true → within n b ≡ true → i ≡ length (aboveIn (termsView l n) a) → j ≡ length (aboveIn (termsView l n) b) → Nearing l n a b a b i j
+  nearing-begin i j wa wb ei ej = record { here = wa; there = wb; left = ei; right = ej; same = refl }
+
+  module _ (x y i j : ℕ) (p : Nearing l n a b x y i j) where
+    pub nearing-met : x ≡ y → x ≡ nearestIn (termsView l n) a b
+    nearing-met e = sym (nearest-self (termsView l n) x) ∙ (rw (← e) at (p .same))
+
+    pub nearing-some : 1 ≤ i
+    nearing-some = omega (arith, levels-some (termsView l n) x, p .left)
+
+    module _ (h : Pathed l n) where
+      pub nearing-none : (x ≡ y → ⊥) → j ≤ i → i ≡ 1 → 0 ≡ nearestIn (termsView l n) a b
+      nearing-none d k e =
+          sym (nearest-none (termsView l n) (closed l n h) (ends l n h) x y (inside l n h x (p .here)) (inside l n h y (p .there)) d (sym (p .left) ∙ e) (omega (arith, p .right))) ∙ p .same
+
+      module _ (z : ℕ) where
+        pub nearing-left : (x ≡ y → ⊥) → j ≤ i → (i ≡ 1 → ⊥) → z ≡ termAt l x .forestParent → Nearing l n a b z y (i - 1) j
+        nearing-left d k u e =
+            let v = view-forest l n x z (p .here) e in
+            let o = levels-root (termsView l n) x (λ q. u (p .left ∙ q)) in
+            let m = levels-up l n h x z (p .here) e (λ q. o (sym v ∙ q)) in
+            record {
+              here = rw v (h .tops .stays x (p .here));
+              there = p .there;
+              left = omega (arith, p .left, m);
+              right = p .right;
+              same = rw v (sym (nearest-left (termsView l n) (closed l n h) (ends l n h) x y (inside l n h x (p .here)) (inside l n h y (p .there)) d (omega (arith, p .left, p .right)) o) ∙ p .same);
+            }
+
+        pub nearing-right : i < j → z ≡ termAt l y .forestParent → Nearing l n a b x z i (j - 1)
+        nearing-right k e =
+            let v = view-forest l n y z (p .there) e in
+            let o = levels-root (termsView l n) y (λ q. omega (arith, levels-some (termsView l n) x, p .left, p .right)) in
+            let m = levels-up l n h y z (p .there) e (λ q. o (sym v ∙ q)) in
+            record {
+              here = p .here;
+              there = rw v (h .tops .stays y (p .there));
+              left = p .left;
+              right = omega (arith, p .right, m);
+              same = rw v (sym (nearest-right (termsView l n) (closed l n h) (ends l n h) x y (inside l n h x (p .here)) (inside l n h y (p .there)) (omega (arith, p .left, p .right))) ∙ p .same);
+            }

@@ -3,9 +3,10 @@ ghost use mathlib.Core.Path.{_≡_};
 ghost use mathlib.Core.Bool.{true, not, _&&_, _||_};
 ghost use Prim.Native.Nat.{_≤_};
 ghost use lib.Dec.{eqb};
-ghost use Rattle.records.specs.Lists.{all, firstOf, upTo, Every};
-ghost use Rattle.records.specs.Working.Leaves.{flagged, isFlagged, upIn};
-ghost use Rattle.records.specs.Store.{within, chainIn, classUp, forestUp, rootIn, topIn, root, top, aboveIn, orNone, nearestIn, climb};
+ghost use lib.ListN.{length};
+ghost use Rattle.records.specs.Lists.{all, upTo, Every};
+ghost use Rattle.records.specs.Working.Leaves.{upIn};
+ghost use Rattle.records.specs.Store.{within, chainIn, classUp, forestUp, rootIn, topIn, root, top, aboveIn, nearestIn, climb};
 ghost use Rattle.records.specs.View.{termLimit, termsView, cellsView, termed, chained};
 ghost use Rattle.records.specs.Rules.{eachTerm, parentsRule, endsRule, edgeLabel, labelRule, classesRule, stampBelow, fallsRule, congruenceRule, edgeRule, congruencesRule};
 ghost use Rattle.records.specs.Working.Leaves.{aloneAt, classTest, pairWords, pairMeets};
@@ -50,53 +51,46 @@ pub fn top_unchecked(terms: &[u32], n: usize, t: u32) -> u32
     climb_unchecked(terms, n, t, true)
 }
 
-// Flags b and what stands above it.
-fn flag_above(terms: &[u32], n: usize, b: u32, seen: &mut [u8; 513])
-    requires { ⌜ (n ≤ termLimit) × (within n b ≡ true) × Closed (forestUp (termsView (now terms) n)) n ⌝ }
-    ensures { λ r. ⌜ now (seen .exit) ≡ flagged (aboveIn (termsView (now (terms .entry)) n) b) (now (seen .entry)) ⌝ }
+// How many stand from t up to its tree's root, both counted.
+fn count_above(terms: &[u32], n: usize, t: u32) -> usize
+    requires { ⌜ Pathed (now terms) n × (within n t ≡ true) ⌝ }
+    ensures { λ r. ⌜ r ≡ length (aboveIn (termsView (now (terms .entry)) n) t) ⌝ }
 {
-    let mut x = b;
-    let mut i: usize = 0;
-    while i <= n {
-        seen[x as usize] = 1;
-        let y = fields::forest_parent(terms, x);
+    let mut x = t;
+    let mut i: usize = 1;
+    loop {
+        let y = fields::forest_parent_unchecked(terms, x);
         if y == x {
-            return;
+            return i;
         }
         x = y;
         i += 1;
     }
 }
 
-// The first of a and what stands above it that is flagged, or 0.
-fn first_flagged(terms: &[u32], n: usize, a: u32, seen: &[u8; 513]) -> u32
-    requires { ⌜ (n ≤ termLimit) × (within n a ≡ true) × Closed (forestUp (termsView (now terms) n)) n ⌝ }
-    ensures { λ r. ⌜ r ≡ orNone (firstOf (isFlagged (now (seen .entry))) (aboveIn (termsView (now (terms .entry)) n) a)) ⌝ }
-{
-    let mut x = a;
-    let mut i: usize = 0;
-    while i <= n {
-        if seen[x as usize] == 1 {
-            return x;
-        }
-        let y = fields::forest_parent(terms, x);
-        if y == x {
-            return 0;
-        }
-        x = y;
-        i += 1;
-    }
-    0
-}
-
-// The nearest shared forest ancestor of a and b, or 0 where they are in two trees.
+// The nearest shared forest ancestor of a and b, or 0 where they are in two trees. A shared ancestor has as many above it from either side,
+// so the one with more above it goes up until the two meet. No table is needed, which a walk within a walk would keep on the stack.
 pub fn nearest_unchecked(terms: &[u32], n: usize, a: u32, b: u32) -> u32
-    requires { ⌜ (n ≤ termLimit) × (within n a ≡ true) × (within n b ≡ true) × Closed (forestUp (termsView (now terms) n)) n ⌝ }
+    requires { ⌜ Pathed (now terms) n × (within n a ≡ true) × (within n b ≡ true) ⌝ }
     ensures { λ r. ⌜ r ≡ nearestIn (termsView (now (terms .entry)) n) a b ⌝ }
 {
-    let mut seen: [u8; 513] = [0; 513];
-    flag_above(terms, n, b, &mut seen);
-    first_flagged(terms, n, a, &seen)
+    let mut x = a;
+    let mut y = b;
+    let mut i = count_above(terms, n, a);
+    let mut j = count_above(terms, n, b);
+    while x != y {
+        if i < j {
+            y = fields::forest_parent_unchecked(terms, y);
+            j -= 1;
+        } else {
+            if i == 1 {
+                return 0;
+            }
+            x = fields::forest_parent_unchecked(terms, x);
+            i -= 1;
+        }
+    }
+    x
 }
 
 // THE AUDIT OF CLASSES
@@ -300,7 +294,7 @@ fn stamps_below(terms: &[u32], n: usize, y: u32, x: u32, m: u32) -> bool
 }
 
 fn falls_ok(terms: &[u32], c: State, m: u32, a: u32, b: u32) -> bool
-    requires { ⌜ Pathed (termed (now terms) c) (c .terms) × (within (c .terms) a ≡ true) × (within (c .terms) b ≡ true) ⌝ }
+    requires { ⌜ Pathed (now terms) (c .terms) × (within (c .terms) a ≡ true) × (within (c .terms) b ≡ true) ⌝ }
     ensures { λ r. ⌜ r ≡ fallsRule (termed (now (terms .entry)) c) m (a, b) ⌝ }
 {
     let x = nearest_unchecked(terms, c.terms, a, b);
@@ -369,7 +363,7 @@ fn pairs_ok(cells: &[u32], n: usize, p: u32, a: u32, b: u32) -> bool
 
 // Every pair of the chain from p has a path whose stamps are below m.
 fn falls_hold(terms: &[u32], cells: &[u32], c: State, m: u32, p: u32) -> bool
-    requires { ⌜ Pathed (termed (now terms) c) (c .terms) × Every (TermPair (c .terms)) (chainIn (cellsView (now cells) (c .cells)) p) ⌝ }
+    requires { ⌜ Pathed (now terms) (c .terms) × Every (TermPair (c .terms)) (chainIn (cellsView (now cells) (c .cells)) p) ⌝ }
     ensures { λ r. ⌜ r ≡ all (fallsRule (termed (now (terms .entry)) c) m) (chainIn (cellsView (now (cells .entry)) (c .cells)) p) ⌝ }
 {
     let mut x = p;
@@ -401,7 +395,7 @@ fn pairs_either_ok(cells: &[u32], n: usize, p: u32, a: u32, b: u32) -> bool
 }
 
 fn congruence_ok(terms: &[u32], cells: &[u32], c: State, t: u32) -> bool
-    requires { ⌜ Congruable (chained (now terms) (now cells) c) (c .terms) × (within (c .terms) t ≡ true) ⌝ }
+    requires { ⌜ Congruable (now terms) (now cells) c × (within (c .terms) t ≡ true) ⌝ }
     ensures { λ r. ⌜ r ≡ congruenceRule (chained (now (terms .entry)) (now (cells .entry)) c) t ⌝ }
 {
     let u = fields::forest_parent(terms, t);
@@ -424,7 +418,7 @@ fn congruence_ok(terms: &[u32], cells: &[u32], c: State, t: u32) -> bool
 }
 
 fn edge_ok(terms: &[u32], cells: &[u32], c: State, t: u32) -> bool
-    requires { ⌜ Congruable (chained (now terms) (now cells) c) (c .terms) × (within (c .terms) t ≡ true) ⌝ }
+    requires { ⌜ Congruable (now terms) (now cells) c × (within (c .terms) t ≡ true) ⌝ }
     ensures { λ r. ⌜ r ≡ edgeRule (chained (now (terms .entry)) (now (cells .entry)) c) t ⌝ }
 {
     let u = fields::forest_parent(terms, t);
@@ -440,7 +434,7 @@ fn edge_ok(terms: &[u32], cells: &[u32], c: State, t: u32) -> bool
 
 // Refusal 4 is not due, where refusals 1 to 3 are not.
 pub fn congruences_ok_unchecked(terms: &[u32], cells: &[u32], c: State) -> bool
-    requires { ⌜ Congruable (chained (now terms) (now cells) c) (c .terms) ⌝ }
+    requires { ⌜ Congruable (now terms) (now cells) c ⌝ }
     ensures { λ r. ⌜ r ≡ congruencesRule (chained (now (terms .entry)) (now (cells .entry)) c) ⌝ }
 {
     let mut i: u32 = 0;

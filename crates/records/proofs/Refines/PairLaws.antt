@@ -14,7 +14,7 @@ use Rattle.records.specs.Store.{Cell, cellIn, term, kind, within, chainB
 use Rattle.records.specs.View.{Lent, storeOf, termLimit, termsView, cellAt, cellsView, termed, chained, termAt}
 use Rattle.records.specs.Rules.{stampBelow, fallsRule, pairsOf, congruenceRule, edgeRule, congruencesRule}
 use Rattle.records.specs.Working.Leaves.{pairWords, pairMeets}
-use Rattle.records.specs.Working.Audited.{Classed, Recorded, Part, Pathed, TermPair, Congruable}
+use Rattle.records.specs.Working.Audited.{Sized, Classed, Recorded, Part, Pathed, TermPair, Congruable}
 use Rattle.records.proofs.Lists.{both-left, both-right, both-true, either, every-map, every-both, every-firsts, firsts-every, seconds-every, word-is, and-stop, and-next, or-stop, or-next, left-false, right-false, failed, passed, decide, table-length}
 use Rattle.records.proofs.Views.{kind-at, first-at, value-at, other-at, next-at}
 use Rattle.records.proofs.Climbs.{view-count, view-term, view-forest, ready-up, within-term, term-within}
@@ -25,7 +25,7 @@ use Rattle.records.proofs.Grown.{string-term}
 
 -- THE PATH OF A PAIR
 
-module _ (l : List ℕ) (c : State) (m a b x : ℕ) (h : Pathed (termed l c) (c .terms)) (wa : within (c .terms) a ≡ true) (wb : within (c .terms) b ≡ true)
+module _ (l : List ℕ) (c : State) (m a b x : ℕ) (h : Pathed l (c .terms)) (wa : within (c .terms) a ≡ true) (wb : within (c .terms) b ≡ true)
     (e : x ≡ nearestIn (termsView l (c .terms)) a b) where
   tree : sameTree (termed l c) a b ≡ not (eqb x 0)
   tree =
@@ -224,10 +224,6 @@ module _ (P : ℕ × ℕ → Type 0) (q : ℕ × ℕ → Bool) (l : List ℕ) (n
 
 -- A CONGRUENCE EDGE
 
--- the store as a test that reads terms and cells sees it
-pub pathed-seen : (l e : List ℕ) (c : State) → Pathed (chained l e c) (c .terms) → Pathed (termed l c) (c .terms)
-pathed-seen l e c h = record { limited = h .limited; tops = h .tops; ends = h .ends }
-
 -- pairs of the values of two chains of terms are pairs of terms
 words-terms : (n : ℕ) (l p q : List (ℕ × ℕ)) → Every (λ x. within n x ≡ true) (firsts p) → Every (λ x. within n x ≡ true) (firsts q) → pairWords l p q ≡ true → Every (TermPair n) l
 unfolding pairWords
@@ -236,7 +232,7 @@ words-terms n l p q hp hq e =
     let b = word-is (seconds l) (firsts q) (both-right (sameWord (firsts l) (firsts p)) _ e) in
     every-map (λ r h. record { one = h .0; other = h .1 }) (every-both (firsts-every l (rw a hp)) (seconds-every l (rw b hq)))
 
-module _ (l e : List ℕ) (c : State) (t u : ℕ) (h : Congruable (chained l e c) (c .terms)) (w : within (c .terms) t ≡ true) (eu : u ≡ termAt l t .forestParent) where
+module _ (l e : List ℕ) (c : State) (t u : ℕ) (h : Congruable l e c) (w : within (c .terms) t ≡ true) (eu : u ≡ termAt l t .forestParent) where
   parent-is : u ≡ term (chained l e c) t .forestParent
   parent-is = view-forest l (c .terms) t u w eu
 
@@ -321,8 +317,8 @@ part-terms : (m : Lent) (c : State) (t : ℕ) (q : List (ℕ × ℕ)) → Every 
 part-terms m c t q = every-firsts (λ p h. term-within m c (p .0) (string-term (storeOf m c) (p .0) (h .string)))
 
 -- what the audit of congruence edges may rely on, from refusals 1 to 3
-pub congruable : (m : Lent) (c : State) → c .terms ≤ termLimit → Recorded (storeOf m c) → Classed (storeOf m c) → Congruable (chained (m .terms) (m .cells) c) (c .terms)
-congruable m c h r a = record {
-  pathed = record { limited = h; tops = ready-up m c a true; ends = λ t w. a .forestEnds t (within-term m c t w) };
+pub congruable : (m : Lent) (c : State) → Sized m c → Recorded (storeOf m c) → Classed (storeOf m c) → Congruable (m .terms) (m .cells) c
+congruable m c z r a = record {
+  pathed = record { limited = z .termLimited; room = z .termRoom; tops = ready-up m c a true; ends = λ t w. a .forestEnds t (within-term m c t w) };
   parted = λ t k. part-terms m c t _ (r .partsGood t k);
 }

@@ -12,16 +12,6 @@ use Rattle.records.specs.View.{termAt, textAt}
 use Rattle.records.specs.Rules.{endsRule, labelRule}
 use Rattle.records.specs.Make.{withNames, addText, addChain, addTerm, lowest, nameOf, nameLimit, takeName}
 
--- TABLES OF FLAGS
-
--- a table with 1 at each number of l
-unfoldable pub flagged : List ℕ → List ℕ → List ℕ
-flagged [] s = s
-flagged (x ∷ l) s = flagged l (set s x 1)
-
-unfoldable pub isFlagged : List ℕ → ℕ → Bool
-isFlagged s x = eqb (getD s x 0) 1
-
 -- CLIMBS
 
 -- the parent in the forest, or in the class

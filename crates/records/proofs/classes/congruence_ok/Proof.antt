@@ -1,4 +1,4 @@
-use Rattle.records.proofs.Refines.PairLaws.{pathed-seen, congruent-child, congruent-parent, congruent-pairs, congruent-terms, congruent-last}
+use Rattle.records.proofs.Refines.PairLaws.{congruent-child, congruent-parent, congruent-pairs, congruent-terms, congruent-last}
 use borrow.Author.Needs.{needs}
 use Rattle.records.proofs.classes.congruence_ok.Statement.{statement}
 use Rattle.records.proofs.classes.congruence_ok.Tie as tie
@@ -65,7 +65,7 @@ falls-hold-requires c κs =
     let at-forest-parent = at-kind .before in
     let at-start = at-forest-parent .before .before .before in
     let s = at-start .args in (
-      pathed-seen (s .terms .now) (s .cells .now) (s .c) (at-start .pre .0 .pathed),
+      at-start .pre .0 .pathed,
       congruent-terms (s .terms .now) (s .cells .now) (s .c) _ _ (at-start .pre .0) (at-start .pre .1) (at-forest-parent .forest-parent .ensures) _ (at-kind .kind .ensures) _ (at-kind2 .kind2 .ensures) _ _ _ _
           (at-label-value .label-value .ensures) (at-first .first .ensures) (at-first2 .first2 .ensures) (c .before .before .pairs-either-ok .ensures) (at-if1 .if1 .left) (at-if2 .if2 .left) (c .before .if3 .left),
     )

@@ -3,7 +3,7 @@ use Rattle.records.proofs.classes.falls_ok.Statement.{statement}
 use Rattle.records.proofs.classes.falls_ok.Tie as tie
 
 nearest-unchecked-requires : tie.Need-nearest-unchecked-requires
-nearest-unchecked-requires c κs = (c .before .pre .0 .limited, c .before .pre .1, c .before .pre .2, c .before .pre .0 .tops)
+nearest-unchecked-requires c κs = c .before .pre
 
 returns : tie.Need-returns
 returns c =
