@@ -61,9 +61,8 @@ pub fn find(
     Found::Root(r)
 }
 
-// The place of the pair {a, b}, of numbers up to 512, in the table: those whose higher number is lower come first.
+// The place of the pair {a, b} in the table: pairs whose higher number is lower come first.
 fn place(a: u32, b: u32) -> usize
-    requires { ⌜ (a ≤ 512) × (b ≤ 512) ⌝ }
     ensures { λ r. ⌜ r ≡ place a b ⌝ }
 {
     if a < b {
@@ -140,6 +139,12 @@ fn explain_rec(
     requires { ⌜ Walkable (now terms) (now cells) (now seen) (now reasons) n k count (λ s. Together s (a, b)) ⌝ }
     ensures { λ r. ⌜ Along (Walks (walked (a, b)) (λ s. Together s (a, b))) terms cells seen reasons n k count r ⌝ }
 {
+    if a == b {
+        return Walked {
+            code: 0,
+            count: count,
+        };
+    }
     let at = place(a, b);
     if is_seen(seen, at) {
         return Walked {
@@ -173,7 +178,8 @@ fn explain_rec(
     }
 }
 
-// The reasons of the edge from node to its forest parent, by the label's kind.
+// The reasons of the edge from node to its forest parent, by the label's kind. Most pairs of a congruence are a term and itself, which
+// take no walk.
 fn expand_edge(
     terms: &[u32],
     cells: &[u32],
@@ -236,13 +242,7 @@ fn explain_few(
     requires { ⌜ (c .terms ≤ 31) × Explainable (now terms) (now cells) (now reasons) (c .terms) (c .cells) a b (c .reasons) ⌝ }
     ensures { λ r. ⌜ PairExplained terms cells reasons c a b r ⌝ }
 {
-    if a == b {
-        return Walked {
-            code: 0,
-            count: c.reasons,
-        };
-    }
-    let mut seen: [u32; 16] = [0; 16];
+    let mut seen: [u32; 17] = [0; 17];
     let mut places: [u32; 32] = [0; 32];
     explain_rec(
         terms,
@@ -296,7 +296,7 @@ fn explain_more(
     requires { ⌜ (c .terms ≤ 256) × Explainable (now terms) (now cells) (now reasons) (c .terms) (c .cells) a b (c .reasons) ⌝ }
     ensures { λ r. ⌜ PairExplained terms cells reasons c a b r ⌝ }
 {
-    let mut seen: [u32; 1036] = [0; 1036];
+    let mut seen: [u32; 1037] = [0; 1037];
     let mut places: [u32; 257] = [0; 257];
     explain_rec(
         terms,
@@ -323,7 +323,7 @@ fn explain_many(
     requires { ⌜ (c .terms ≤ 512) × Explainable (now terms) (now cells) (now reasons) (c .terms) (c .cells) a b (c .reasons) ⌝ }
     ensures { λ r. ⌜ PairExplained terms cells reasons c a b r ⌝ }
 {
-    let mut seen: [u32; 4112] = [0; 4112];
+    let mut seen: [u32; 4121] = [0; 4121];
     let mut places: [u32; 513] = [0; 513];
     explain_rec(
         terms,

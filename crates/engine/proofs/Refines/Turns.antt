@@ -8,12 +8,9 @@ use native.Mathlib.Omega.{arith}
 use lib.ListN.{length}
 use lib.Dec.{ltb}
 use borrow.Author.Tests.{ltb-true}
-use Rattle.records.specs.declared.State.{State}
-use Rattle.records.specs.declared.Added.{Added}
-use Rattle.records.specs.declared.Added.the-variants.{Counts, Refused}
 use Rattle.records.specs.Lists.{firsts, oneMore, Every, and}
 use Rattle.records.specs.Store.{Term, Cell, Store, Out, ok, stop, Work, andThen, store, term, cell, count, isTerm, isEdge, within, kind, parts, chain, chainIn, pathIn, termIn, cellIn}
-use Rattle.records.specs.View.{termAt, cellAt, termsView, cellsView, pairsView, reasonRoom, reasonLimit, oneReason}
+use Rattle.records.specs.View.{termAt, cellAt, termsView, cellsView, pairsView, reasonRoom, reasonLimit}
 use Rattle.records.specs.Make.{withReasons, isListed, addReason}
 use Rattle.records.specs.Working.Audited.{Audited, Label, asserted, interface, congruence, definitional, Next, last, later}
 use Rattle.records.specs.Working.Puts.{Pushed}
@@ -54,6 +51,7 @@ abbrev pub standing-on : {terms cells reasons : List ℕ} {n k : ℕ} (reasons�
 standing-on reasons′ h e = record {
   store = e .store;
   audited = e .audited;
+  words = e .words;
   terms-are = e .terms-are;
   cells-are = e .cells-are;
   room-is = e .room-is ∙ ap (λ (x : ℕ). min reasonLimit (x / 2)) (sym h);
@@ -75,33 +73,17 @@ gives-listed l n kind value b i z = record {
   full = λ y h. clash (sym i ∙ z) y;
 }
 
-module _ (l l′ : List ℕ) (c : State) (kind value : ℕ) (b : Bool) (i : b ≡ isListed (kind, value) (pairsView l (c .reasons))) (z : b ≡ false)
-    (r : Added) (p : Pushed l l′ c kind value r) where
-  lacked : {X : Type 0} → isListed (kind, value) (pairsView l (c .reasons)) ≡ true → X
+module _ (l l′ : List ℕ) (n kind value : ℕ) (b : Bool) (i : b ≡ isListed (kind, value) (pairsView l n)) (z : b ≡ false) (r : Bool) (p : Pushed l l′ n kind value r) where
+  lacked : {X : Type 0} → isListed (kind, value) (pairsView l n) ≡ true → X
   lacked y = clash y (sym i ∙ z)
 
-  pub gives-counts : (d : State) → r ≡ Counts d → Gives l l′ (c .reasons) kind value (record { code = 0; count = d .reasons })
-  gives-counts d e = decide (ltb (c .reasons) (reasonRoom l)) yes no
-    where
-      yes : ltb (c .reasons) (reasonRoom l) ≡ true → Gives l l′ (c .reasons) kind value (record { code = 0; count = d .reasons })
-      yes h =
-          let u = p .grown h .0 in
-          let q : d ≡ oneReason c = cc in
-          let low = ltb-true (c .reasons) (reasonRoom l) h in
-          rw q (record { kept = p .kept; more = omega arith; fits = λ y. omega arith; listed = lacked; given = λ x y. (refl, p .grown y .1); full = λ x y. clash h y })
+  pub gives-one : r ≡ true → Gives l l′ n kind value (record { code = 0; count = n + 1 })
+  gives-one e =
+      let low = ltb-true n (reasonRoom l) (sym (p .fits) ∙ e) in
+      record { kept = p .kept; more = omega arith; fits = λ y. omega arith; listed = lacked; given = λ x y. (refl, p .grown e); full = λ x y. clash (sym (p .fits) ∙ e) y }
 
-      no : ltb (c .reasons) (reasonRoom l) ≡ false → Gives l l′ (c .reasons) kind value (record { code = 0; count = d .reasons })
-      no h = let u = p .full h in let y : _≡_ {A = ℕ} 0 1 = cc in absurd (omega arith)
-
-  pub gives-refused : (k : ℕ) → r ≡ Refused k → Gives l l′ (c .reasons) kind value (record { code = k; count = c .reasons })
-  gives-refused k e = record {
-    kept = p .kept;
-    more = omega arith;
-    fits = λ h. h;
-    listed = lacked;
-    given = λ x h. let u = p .grown h .0 in let y : _≡_ {A = ℕ} 0 1 = cc in absurd (omega arith);
-    full = λ x h. let u = p .full h in cc;
-  }
+  pub gives-refused : r ≡ false → Gives l l′ n kind value (record { code = 7; count = n })
+  gives-refused e = record { kept = p .kept; more = omega arith; fits = λ h. h; listed = lacked; given = λ x y. clash y (sym (p .fits) ∙ e); full = λ x h. refl }
 
 -- AN EDGE BY ITS LABEL
 

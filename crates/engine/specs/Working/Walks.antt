@@ -2,26 +2,27 @@
 use mathlib.Core.Path.{_≡_}
 use mathlib.Core.Bool.{Bool, true, false}
 use mathlib.Core.List.{List, _++_}
-use Prim.Native.Nat.{ℕ, _+_, _*_, _≤_}
+use Prim.Native.Nat.{ℕ, _+_, _*_, _≤_, _<_}
 use lib.ListN.{length}
 use lib.Dec.{ltb}
 use denote.Ref.{now}
 use Rattle.records.specs.declared.State.{State}
 use Rattle.records.specs.Lists.{upTo, oneMore}
 use Rattle.records.specs.Store.{Term, Store, Out, ok, stop, Work, isTerm, isEdge, top, aboveIn}
-use Rattle.records.specs.View.{Slice, termsView, cellsView, pairsView, reasonRoom}
+use Rattle.records.specs.View.{Slice, termWords, termsView, cellsView, pairsView, reasonRoom}
 use Rattle.records.specs.Make.{withReasons, isListed}
 use Rattle.records.specs.Working.Audited.{Audited}
 use Rattle.engine.specs.declared.Walked.{Walked}
 use Rattle.engine.specs.declared.Plain.{Plain}
 use Rattle.engine.specs.declared.Plain.the-variants.{Ended}
 use Rattle.engine.specs.Explain.{Seen, edge, walked, explain}
-use Rattle.engine.specs.Working.Seen.{Tables}
+use Rattle.engine.specs.Working.Seen.{triangle, Tables}
 
--- an audited store with the lent terms and cells and the room of the lent reasons
+-- an audited store with the lent terms, all of whose words are lent, and cells, and the room of the lent reasons
 pub record Standing (terms cells reasons : List ℕ) (n k : ℕ) : Type 0 where
   pub store : Store
   pub audited : Audited store
+  pub words : termWords n ≤ length terms
   pub terms-are : store .terms ≡ termsView terms n
   pub cells-are : store .cells ≡ cellsView cells k
   pub room-is : store .room .reasons ≡ reasonRoom reasons
@@ -40,7 +41,7 @@ pub record Edge (s : Store) (t : ℕ) : Type 0 where
 -- the table is long enough for n terms, of which there are not too many
 pub record Wide (n : ℕ) (table : List ℕ) : Type 0 where
   pub few : n ≤ 512
-  pub long : (n + 1) * (n + 1) ≤ 32 * length table
+  pub long : triangle n + n < 32 * length table
 
 pub record Walkable (terms cells table reasons : List ℕ) (n k count : ℕ) (P : Store → Type 0) : Type 0 where
   pub standing : Standing terms cells reasons n k
@@ -115,9 +116,9 @@ pub record PlainPair (terms reasons : List ℕ) (n a b count : ℕ) : Type 0 whe
 -- THE WORDS OF CONTRACTS. Slices are passed by their names, and the counts as they were at entry
 
 -- a walk from the table and the reasons at entry to those at exit
-abbrev pub Along : (List ℕ → List ℕ → List ℕ → List ℕ → List ℕ → List ℕ → ℕ → ℕ → ℕ → Walked → Type 0) → Slice → Slice → Slice → Slice → State → Walked → Type 0
-Along P terms cells seen reasons c r =
-    P (now (terms .entry)) (now (cells .entry)) (now (seen .entry)) (now (seen .exit)) (now (reasons .entry)) (now (reasons .exit)) (c .terms) (c .cells) (c .reasons) r
+abbrev pub Along : (List ℕ → List ℕ → List ℕ → List ℕ → List ℕ → List ℕ → ℕ → ℕ → ℕ → Walked → Type 0) → Slice → Slice → Slice → Slice → ℕ → ℕ → ℕ → Walked → Type 0
+Along P terms cells seen reasons n k count r =
+    P (now (terms .entry)) (now (cells .entry)) (now (seen .entry)) (now (seen .exit)) (now (reasons .entry)) (now (reasons .exit)) n k count r
 
 -- a pair explained from the reasons at entry to those at exit
 abbrev pub PairExplained : Slice → Slice → Slice → State → ℕ → ℕ → Walked → Type 0
