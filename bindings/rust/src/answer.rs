@@ -310,7 +310,7 @@ impl Fit {
 #[must_use = "an answer says what has to be kept, and why"]
 #[derive(Clone, PartialEq, Eq, Hash, Debug)]
 pub enum Answer {
-    /// nothing is left to do
+    /// nothing is to be done as the classes stand, which does not say that the sides are equal: ask again once a class of their terms has changed
     Done,
     /// nothing can be said yet
     Saturated {
