@@ -473,6 +473,13 @@ impl Store {
     /// let (x, a) = (store.variable("x")?, store.constant("a")?);
     /// let answer = store.resolve_equation(&[x], &[a], 1)?;
     /// assert_eq!(answer, Answer::Propagate { variable: x, word: a, link: false, reasons: vec![] });
+    ///
+    /// // batch ++ "-" ++ lot against a code: with lot and batch of one class the two places differ, and a7 is why
+    /// let (batch, lot) = (store.variable("batch")?, store.variable("lot")?);
+    /// let (hyphen, code) = (store.constant("-")?, store.constant("7-8")?);
+    /// store.join(lot, batch, labels::Reason::Asserted(7))?;
+    /// let answer = store.resolve_equation(&[batch, hyphen, lot], &[code], 1)?;
+    /// assert_eq!(answer, Answer::Conflict { reasons: vec![labels::Reason::Asserted(7)] });
     /// # Ok::<(), labels::Refusal>(())
     /// ```
     pub fn resolve_equation(&mut self, lhs: &[Term], rhs: &[Term], guard: i32) -> Result<Answer, Refusal> {
