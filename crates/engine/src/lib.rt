@@ -205,13 +205,15 @@ fn expand_edge(
             while at != 0 {
                 let s = fields::value(cells, at);
                 let t = fields::other(cells, at);
-                if s != t {
-                    let r = explain_rec(terms, cells, n, k, s, t, seen, reasons, given, places);
-                    if r.code != 0 {
-                        return r;
-                    }
-                    given = r.count;
+                if s == t {
+                    at = fields::next(cells, at);
+                    continue;
                 }
+                let r = explain_rec(terms, cells, n, k, s, t, seen, reasons, given, places);
+                if r.code != 0 {
+                    return r;
+                }
+                given = r.count;
                 at = fields::next(cells, at);
             }
             Walked {
@@ -340,24 +342,18 @@ fn explain_many(
 }
 
 // As expand_edge, for an edge that leads to no other pair. Any other is left to expand_edge.
-fn plain_edge(
-    terms: &[u32],
-    node: u32,
-    reasons: &mut [u32],
-    count: usize,
-    places: &mut [u32],
-) -> Plain
+fn plain_edge(terms: &[u32], c: State, node: u32, reasons: &mut [u32], places: &mut [u32]) -> Plain
     requires { ⌜ c .reasons ≤ reasonRoom (now reasons) ⌝ }
     ensures { λ r. ⌜ Plainly (PlainEdge (now (terms .entry)) (now (reasons .entry)) (now (reasons .exit)) node (c .reasons)) (now (reasons .entry)) (now (reasons .exit)) (c .reasons) r ⌝ }
 {
     let kind = fields::label_kind(terms, node);
     let value = fields::label_value(terms, node);
     match kind {
-        1 => Plain::Ended(give(reasons, count, 1, value, node, places)),
-        2 => Plain::Ended(give(reasons, count, 2, value, node, places)),
+        1 => Plain::Ended(give(reasons, c.reasons, 1, value, node, places)),
+        2 => Plain::Ended(give(reasons, c.reasons, 2, value, node, places)),
         4 => Plain::Ended(Walked {
             code: 0,
-            count: count,
+            count: c.reasons,
         }),
         _ => Plain::Congruence,
     }
@@ -396,7 +392,7 @@ fn explain_plain(
             last = true;
             node = b;
         } else {
-            let p = plain_edge(terms, node, reasons, given, places);
+            let p = plain_edge(terms, c.with_reasons(given), node, reasons, places);
             let Plain::Ended(r) = p else {
                 return Plain::Congruence;
             };

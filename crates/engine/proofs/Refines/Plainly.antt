@@ -54,10 +54,10 @@ plain-room p g = stays-room (g [] [] 0 .stays) (p .can .roomy)
 
 -- a walk over any table that lacks the pair, and has it noted, is an explanation: a table of zeros lacks every pair
 explained-alone : {terms cells reasons reasons′ : List ℕ} {n k a b c : ℕ} {r : Walked}
-    → ((tab tab₁ : List ℕ) → false ≡ seenAt tab (place n a b) → Noted tab tab₁ (place n a b) → Walks (walked (a, b)) (λ s. Together s (a, b)) terms cells tab tab₁ reasons reasons′ n k c r)
+    → ((tab tab₁ : List ℕ) → false ≡ seenAt tab (place a b) → Noted tab tab₁ (place a b) → Walks (walked (a, b)) (λ s. Together s (a, b)) terms cells tab tab₁ reasons reasons′ n k c r)
     → Explained terms cells reasons reasons′ n k a b c r
 explained-alone {n = n} {a = a} {b = b} f =
-    let at = place n a b in
+    let at = place a b in
     let zeros : List ℕ = replicate (at + 1) 0 in
     let none = none-noted (at + 1) at in
     explained-by _ _ _ _ _ _ _ _ _ _ (at + 1) _ (f zeros _ (sym none) (note-set zeros at (rw (length-replicate {A = ℕ} (at + 1) 0) (omega arith)) none))
