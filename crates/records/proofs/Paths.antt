@@ -83,28 +83,17 @@ above-within ts n (suc k) x h w = and w (go (eqb (forestUp ts x) x) (above-withi
 -- THE STAMPS OF A PATH
 
 module _ (q : ℕ → Bool) (y x : ℕ) (r : List ℕ) where
-  pub upto-end : x ≡ y → true ≡ all q (upTo y (x ∷ r))
+  pub upto-end : x ≡ y → all q (upTo y (x ∷ r)) ≡ true
   unfolding upTo all
   upto-end e = rw (eq-eqb x y e, all)
 
-  pub upto-stop : (x ≡ y → ⊥) → q x ≡ false → all q (upTo y (x ∷ r)) ≡ false
+  pub upto-next : (x ≡ y → ⊥) → all q (upTo y (x ∷ r)) ≡ (q x && all q (upTo y r))
   unfolding upTo all
-  upto-stop d h = rw (ne-eqb x y d, all, h)
-
-  pub upto-turn : (x ≡ y → ⊥) → q x ≡ true → all q (upTo y (x ∷ r)) ≡ all q (upTo y r)
-  unfolding upTo all
-  upto-turn d h = rw (ne-eqb x y d, all, h)
+  upto-next d = rw (ne-eqb x y d, all)
 
 pub upto-none : (q : ℕ → Bool) (y : ℕ) → all q (upTo y []) ≡ true
 unfolding upTo all
 upto-none q y = refl
-
-module _ (l : List ℕ) (n z m v : ℕ) (w : within n z ≡ true) (e : v ≡ termAt l z .stamp) where
-  pub stamp-high : m ≤ v → stampBelow (termsView l n) m z ≡ false
-  stamp-high h = rw (view-term l n z w) (le-ltb (termAt l z .stamp) m (omega arith))
-
-  pub stamp-low : v < m → stampBelow (termsView l n) m z ≡ true
-  stamp-low h = rw (view-term l n z w) (lt-ltb (termAt l z .stamp) m (omega arith))
 
 -- a path's stamps are those of its two sides
 pub path-sides : (q : ℕ → Bool) (ts : List Term) (a b : ℕ) → all q (pathIn ts a b) ≡ (all q (upTo (nearestIn ts a b) (aboveIn ts a)) && all q (upTo (nearestIn ts a b) (aboveIn ts b)))

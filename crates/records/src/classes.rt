@@ -4,15 +4,17 @@ ghost use mathlib.Core.Bool.{true, not, _&&_, _||_};
 ghost use Prim.Native.Nat.{_≤_};
 ghost use lib.Dec.{eqb};
 ghost use lib.ListN.{length};
-ghost use Rattle.records.specs.Lists.{all, upTo, Every};
+ghost use Rattle.records.specs.Lists.{all, Every};
 ghost use Rattle.records.specs.Working.Leaves.{upIn};
 ghost use Rattle.records.specs.Store.{within, chainIn, classUp, forestUp, rootIn, topIn, root, top, aboveIn, nearestIn, climb};
 ghost use Rattle.records.specs.View.{termLimit, termsView, cellsView, termed, chained};
-ghost use Rattle.records.specs.Rules.{eachTerm, parentsRule, endsRule, edgeLabel, labelRule, classesRule, stampBelow, fallsRule, congruenceRule, edgeRule, congruencesRule};
+ghost use Rattle.records.specs.Rules.{eachTerm, parentsRule, endsRule, edgeLabel, labelRule, classesRule, fallsRule, congruenceRule, edgeRule, congruencesRule};
 ghost use Rattle.records.specs.Working.Leaves.{aloneAt, classTest, pairWords, pairMeets};
 ghost use Rattle.records.specs.Working.Audited.{Closed, Rooted, Pathed, TermPair, Congruable};
+ghost use Rattle.records.specs.Working.Heights.{Heights, Told};
 use crate::State;
 use crate::fields;
+use crate::heights;
 use crate::roots;
 use crate::rules;
 
@@ -269,44 +271,6 @@ pub fn classes_ok_unchecked(terms: &[u32], c: State) -> bool
 
 // THE AUDIT OF CONGRUENCE EDGES
 
-// The stamps from y up to x, x left out, are below m.
-fn stamps_below(terms: &[u32], n: usize, y: u32, x: u32, m: u32) -> bool
-    requires { ⌜ (n ≤ termLimit) × (within n y ≡ true) × Closed (forestUp (termsView (now terms) n)) n ⌝ }
-    ensures { λ r. ⌜ r ≡ all (stampBelow (termsView (now (terms .entry)) n) m) (upTo x (aboveIn (termsView (now (terms .entry)) n) y)) ⌝ }
-{
-    let mut z = y;
-    let mut i: usize = 0;
-    while i <= n {
-        if z == x {
-            return true;
-        }
-        if m <= fields::stamp(terms, z) {
-            return false;
-        }
-        let u = fields::forest_parent(terms, z);
-        if u == z {
-            return true;
-        }
-        z = u;
-        i += 1;
-    }
-    true
-}
-
-fn falls_ok(terms: &[u32], c: State, m: u32, a: u32, b: u32) -> bool
-    requires { ⌜ Pathed (now terms) (c .terms) × (within (c .terms) a ≡ true) × (within (c .terms) b ≡ true) ⌝ }
-    ensures { λ r. ⌜ r ≡ fallsRule (termed (now (terms .entry)) c) m (a, b) ⌝ }
-{
-    let x = nearest_unchecked(terms, c.terms, a, b);
-    if x == 0 {
-        return false;
-    }
-    if !stamps_below(terms, c.terms, a, x, m) {
-        return false;
-    }
-    stamps_below(terms, c.terms, b, x, m)
-}
-
 fn both_ended(n: usize, y: u32, z: u32) -> bool
     ensures { λ r. ⌜ r ≡ (not (within n y) && not (within n z)) ⌝ }
 {
@@ -362,9 +326,13 @@ fn pairs_ok(cells: &[u32], n: usize, p: u32, a: u32, b: u32) -> bool
 }
 
 // Every pair of the chain from p has a path whose stamps are below m.
-fn falls_hold(terms: &[u32], cells: &[u32], c: State, m: u32, p: u32) -> bool
-    requires { ⌜ Pathed (now terms) (c .terms) × Every (TermPair (c .terms)) (chainIn (cellsView (now cells) (c .cells)) p) ⌝ }
-    ensures { λ r. ⌜ r ≡ all (fallsRule (termed (now (terms .entry)) c) m) (chainIn (cellsView (now (cells .entry)) (c .cells)) p) ⌝ }
+fn falls_hold(terms: &[u32], cells: &[u32], c: State, m: u32, p: u32, heights: &mut [usize]) -> bool
+    requires { ⌜ Pathed (now terms) (c .terms) ⌝ }
+    requires { ⌜ Every (TermPair (c .terms)) (chainIn (cellsView (now cells) (c .cells)) p) ⌝ }
+    requires { ⌜ Heights (termed (now terms) c) (now cells) (now heights) ⌝ }
+    ensures { λ r. do
+      let s = termed (now (terms .entry)) c
+      ⌜ Told s (now (cells .entry)) (now (heights .exit)) r (all (fallsRule s m) (chainIn (cellsView (now (cells .entry)) (c .cells)) p)) ⌝ }
 {
     let mut x = p;
     let mut i: usize = 0;
@@ -372,9 +340,8 @@ fn falls_hold(terms: &[u32], cells: &[u32], c: State, m: u32, p: u32) -> bool
         if !rules::is_within(c.cells, x) {
             return true;
         }
-        let a = fields::value(cells, x);
-        let b = fields::other(cells, x);
-        if !falls_ok(terms, c, m, a, b) {
+        let h = heights::kept_height(terms, cells, c, x, heights);
+        if (m as usize) < h {
             return false;
         }
         x = fields::next(cells, x);
@@ -394,9 +361,11 @@ fn pairs_either_ok(cells: &[u32], n: usize, p: u32, a: u32, b: u32) -> bool
     pairs_ok(cells, n, p, b, a)
 }
 
-fn congruence_ok(terms: &[u32], cells: &[u32], c: State, t: u32) -> bool
-    requires { ⌜ Congruable (now terms) (now cells) c × (within (c .terms) t ≡ true) ⌝ }
-    ensures { λ r. ⌜ r ≡ congruenceRule (chained (now (terms .entry)) (now (cells .entry)) c) t ⌝ }
+fn congruence_ok(terms: &[u32], cells: &[u32], c: State, t: u32, heights: &mut [usize]) -> bool
+    requires { ⌜ Congruable (now terms) (now cells) c ⌝ }
+    requires { ⌜ within (c .terms) t ≡ true ⌝ }
+    requires { ⌜ Heights (termed (now terms) c) (now cells) (now heights) ⌝ }
+    ensures { λ r. ⌜ Told (termed (now (terms .entry)) c) (now (cells .entry)) (now (heights .exit)) r (congruenceRule (chained (now (terms .entry)) (now (cells .entry)) c) t) ⌝ }
 {
     let u = fields::forest_parent(terms, t);
     let j = fields::kind(terms, t);
@@ -414,12 +383,14 @@ fn congruence_ok(terms: &[u32], cells: &[u32], c: State, t: u32) -> bool
         return false;
     }
     let m = fields::stamp(terms, t);
-    falls_hold(terms, cells, c, m, p)
+    falls_hold(terms, cells, c, m, p, heights)
 }
 
-fn edge_ok(terms: &[u32], cells: &[u32], c: State, t: u32) -> bool
-    requires { ⌜ Congruable (now terms) (now cells) c × (within (c .terms) t ≡ true) ⌝ }
-    ensures { λ r. ⌜ r ≡ edgeRule (chained (now (terms .entry)) (now (cells .entry)) c) t ⌝ }
+fn edge_ok(terms: &[u32], cells: &[u32], c: State, t: u32, heights: &mut [usize]) -> bool
+    requires { ⌜ Congruable (now terms) (now cells) c ⌝ }
+    requires { ⌜ within (c .terms) t ≡ true ⌝ }
+    requires { ⌜ Heights (termed (now terms) c) (now cells) (now heights) ⌝ }
+    ensures { λ r. ⌜ Told (termed (now (terms .entry)) c) (now (cells .entry)) (now (heights .exit)) r (edgeRule (chained (now (terms .entry)) (now (cells .entry)) c) t) ⌝ }
 {
     let u = fields::forest_parent(terms, t);
     if u == t {
@@ -429,20 +400,33 @@ fn edge_ok(terms: &[u32], cells: &[u32], c: State, t: u32) -> bool
     if k != 3 {
         return true;
     }
-    congruence_ok(terms, cells, c, t)
+    congruence_ok(terms, cells, c, t, heights)
 }
 
-// Refusal 4 is not due, where refusals 1 to 3 are not.
-pub fn congruences_ok_unchecked(terms: &[u32], cells: &[u32], c: State) -> bool
+fn edges_ok(terms: &[u32], cells: &[u32], c: State, heights: &mut [usize]) -> bool
     requires { ⌜ Congruable (now terms) (now cells) c ⌝ }
+    requires { ⌜ Heights (termed (now terms) c) (now cells) (now heights) ⌝ }
     ensures { λ r. ⌜ r ≡ congruencesRule (chained (now (terms .entry)) (now (cells .entry)) c) ⌝ }
 {
     let mut i: u32 = 0;
     while (i as usize) < c.terms {
-        if !edge_ok(terms, cells, c, i + 1) {
+        if !edge_ok(terms, cells, c, i + 1, heights) {
             return false;
         }
         i += 1;
     }
     true
+}
+
+// Refusal 4 is not due, where refusals 1 to 3 are not. A table of heights has to be cleared, so few cells go without.
+pub fn congruences_ok_unchecked(terms: &[u32], cells: &[u32], c: State) -> bool
+    requires { ⌜ Congruable (now terms) (now cells) c ⌝ }
+    ensures { λ r. ⌜ r ≡ congruencesRule (chained (now (terms .entry)) (now (cells .entry)) c) ⌝ }
+{
+    if c.cells < 512 {
+        let mut none: [usize; 0] = [];
+        return edges_ok(terms, cells, c, &mut none);
+    }
+    let mut heights: [usize; 2049] = [0; 2049];
+    edges_ok(terms, cells, c, &mut heights)
 }

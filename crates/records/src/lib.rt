@@ -7,6 +7,7 @@ ghost use Rattle.records.specs.View.{termLimit, cellLimit, charLimit, re
 pub mod build;
 pub mod classes;
 pub mod fields;
+mod heights;
 pub mod make;
 pub mod names;
 pub mod put;

@@ -23,32 +23,6 @@ use Rattle.records.proofs.Refines.ClassLaws.{four-of}
 use Rattle.records.proofs.Chains.{none-by, one-by}
 use Rattle.records.proofs.Grown.{string-term}
 
--- THE PATH OF A PAIR
-
-module _ (l : List ℕ) (c : State) (m a b x : ℕ) (h : Pathed l (c .terms)) (wa : within (c .terms) a ≡ true) (wb : within (c .terms) b ≡ true)
-    (e : x ≡ nearestIn (termsView l (c .terms)) a b) where
-  tree : sameTree (termed l c) a b ≡ not (eqb x 0)
-  tree =
-      let n = view-count l (c .terms) in
-      nearest-tree (termsView l (c .terms)) (rw n (h .tops)) (λ t w. h .ends t (rw n at w)) a b (rw n wa) (rw n wb) ∙ ap (λ y. not (eqb y 0)) (sym e)
-
-  sides : all (stampBelow (termsView l (c .terms)) m) (pathIn (termsView l (c .terms)) a b)
-      ≡ (all (stampBelow (termsView l (c .terms)) m) (upTo x (aboveIn (termsView l (c .terms)) a)) && all (stampBelow (termsView l (c .terms)) m) (upTo x (aboveIn (termsView l (c .terms)) b)))
-  sides = rw e (path-sides (stampBelow (termsView l (c .terms)) m) (termsView l (c .terms)) a b)
-
-  pub falls-none : x ≡ 0 → false ≡ fallsRule (termed l c) m (a, b)
-  unfolding fallsRule
-  falls-none z = and-stop _ _ (tree ∙ ap not (eq-eqb x 0 z))
-
-  pub falls-stop : (r : Bool) → r ≡ all (stampBelow (termsView l (c .terms)) m) (upTo x (aboveIn (termsView l (c .terms)) a)) → not r ≡ true → false ≡ fallsRule (termed l c) m (a, b)
-  unfolding fallsRule
-  falls-stop r f g = sym (right-false (sameTree (termed l c) a b) _ (sides ∙ left-false _ _ (failed _ r f g)))
-
-  pub falls-last : (p r : Bool) → (x ≡ 0 → ⊥) → p ≡ all (stampBelow (termsView l (c .terms)) m) (upTo x (aboveIn (termsView l (c .terms)) a)) → not p ≡ false
-      → r ≡ all (stampBelow (termsView l (c .terms)) m) (upTo x (aboveIn (termsView l (c .terms)) b)) → r ≡ fallsRule (termed l c) m (a, b)
-  unfolding fallsRule
-  falls-last p r z f g k = and-next _ _ r (tree ∙ ap not (ne-eqb x 0 z)) (and-next _ _ r (passed _ p f g) k ∙ sym sides)
-
 -- THE PAIRS OF TWO CHAINS
 
 -- the chains from x, y and z, at most k cells of each
