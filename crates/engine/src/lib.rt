@@ -92,19 +92,19 @@ fn note_seen(table: &mut [u32], k: usize)
     table[i] = w + (1 << j);
 }
 
-// One reason more, that of the edge from node, unless the list has it.
+// One reason more, that of an edge, unless the list has it.
 fn give(
     reasons: &mut [u32],
     count: usize,
     kind: u32,
     value: u32,
-    node: u32,
+    slot: usize,
     places: &mut [u32],
 ) -> Walked
     requires { ⌜ count ≤ reasonRoom (now reasons) ⌝ }
-    ensures { λ r. ⌜ Gives (now (reasons .entry)) (now (reasons .exit)) count kind value r ⌝ }
+    ensures { λ r. ⌜ Gives (now (reasons .entry)) (now (reasons .exit)) (now (places .entry)) (now (places .exit)) count kind value slot r ⌝ }
 {
-    if listing::is_listed(reasons, count, places, node, kind, value) {
+    if listing::is_listed(reasons, count, places, slot, kind, value) {
         return Walked {
             code: 0,
             count: count,
@@ -122,8 +122,10 @@ fn give(
     }
 }
 
-// Walks a up to the nearest shared ancestor, then b: each edge's reasons, in that order. A pair seen before is skipped. Of the counts
-// a walk is handed those that it reads, because a walk within a walk keeps them on the stack.
+// Walks a up to the nearest shared ancestor, then b: each edge's reasons, in that order. A pair seen before is skipped. `table` has
+// from its start a bit for each pair seen, and from its end a word for each term, where the reason of the term's edge was found last
+// (see is_listed). It is one slice, and of the counts a walk is handed those that it reads, because a walk within a walk keeps what it
+// was handed on the stack.
 fn explain_rec(
     terms: &[u32],
     cells: &[u32],
@@ -131,13 +133,12 @@ fn explain_rec(
     k: usize,
     a: u32,
     b: u32,
-    seen: &mut [u32],
+    table: &mut [u32],
     reasons: &mut [u32],
     count: usize,
-    places: &mut [u32],
 ) -> Walked
-    requires { ⌜ Walkable (now terms) (now cells) (now seen) (now reasons) n k count (λ s. Together s (a, b)) ⌝ }
-    ensures { λ r. ⌜ Along (Walks (walked (a, b)) (λ s. Together s (a, b))) terms cells seen reasons n k count r ⌝ }
+    requires { ⌜ Walkable (now terms) (now cells) (now table) (now reasons) n k count (λ s. Together s (a, b)) ⌝ }
+    ensures { λ r. ⌜ Along (Walks (walked (a, b)) (λ s. Together s (a, b))) terms cells table reasons n k count r ⌝ }
 {
     if a == b {
         return Walked {
@@ -146,13 +147,13 @@ fn explain_rec(
         };
     }
     let at = place(a, b);
-    if is_seen(seen, at) {
+    if is_seen(table, at) {
         return Walked {
             code: 0,
             count: count,
         };
     }
-    note_seen(seen, at);
+    note_seen(table, at);
     let top = classes::nearest_unchecked(terms, n, a, b);
     let mut x = a;
     let mut last = false;
@@ -168,7 +169,7 @@ fn explain_rec(
             last = true;
             x = b;
         } else {
-            let r = expand_edge(terms, cells, n, k, x, seen, reasons, given, places);
+            let r = expand_edge(terms, cells, n, k, x, table, reasons, given);
             if r.code != 0 {
                 return r;
             }
@@ -186,19 +187,19 @@ fn expand_edge(
     n: usize,
     k: usize,
     node: u32,
-    seen: &mut [u32],
+    table: &mut [u32],
     reasons: &mut [u32],
     count: usize,
-    places: &mut [u32],
 ) -> Walked
-    requires { ⌜ Walkable (now terms) (now cells) (now seen) (now reasons) n k count (λ s. Edge s node) ⌝ }
-    ensures { λ r. ⌜ Along (Walks (edge walked node) (λ s. Edge s node)) terms cells seen reasons n k count r ⌝ }
+    requires { ⌜ Walkable (now terms) (now cells) (now table) (now reasons) n k count (λ s. Edge s node) ⌝ }
+    ensures { λ r. ⌜ Along (Walks (edge walked node) (λ s. Edge s node)) terms cells table reasons n k count r ⌝ }
 {
     let kind = fields::label_kind(terms, node);
     let value = fields::label_value(terms, node);
+    let number = node as usize;
     match kind {
-        1 => give(reasons, count, 1, value, node, places),
-        2 => give(reasons, count, 2, value, node, places),
+        1 => give(reasons, count, 1, value, table.len() - 1 - number, table),
+        2 => give(reasons, count, 2, value, table.len() - 1 - number, table),
         3 => {
             let mut at = value;
             let mut given = count;
@@ -209,7 +210,7 @@ fn expand_edge(
                     at = fields::next(cells, at);
                     continue;
                 }
-                let r = explain_rec(terms, cells, n, k, s, t, seen, reasons, given, places);
+                let r = explain_rec(terms, cells, n, k, s, t, table, reasons, given);
                 if r.code != 0 {
                     return r;
                 }
@@ -232,7 +233,7 @@ fn expand_edge(
     }
 }
 
-// The tables are cleared at each call, so a store of few terms has small ones.
+// The table is cleared at each call, so a store of few terms has a small one.
 fn explain_few(
     terms: &[u32],
     cells: &[u32],
@@ -244,8 +245,7 @@ fn explain_few(
     requires { ⌜ (c .terms ≤ 31) × Explainable (now terms) (now cells) (now reasons) (c .terms) (c .cells) a b (c .reasons) ⌝ }
     ensures { λ r. ⌜ PairExplained terms cells reasons c a b r ⌝ }
 {
-    let mut seen: [u32; 17] = [0; 17];
-    let mut places: [u32; 32] = [0; 32];
+    let mut table: [u32; 49] = [0; 49];
     explain_rec(
         terms,
         cells,
@@ -253,10 +253,9 @@ fn explain_few(
         c.cells,
         a,
         b,
-        &mut seen,
+        &mut table,
         reasons,
         c.reasons,
-        &mut places,
     )
 }
 
@@ -271,8 +270,7 @@ fn explain_some(
     requires { ⌜ (c .terms ≤ 127) × Explainable (now terms) (now cells) (now reasons) (c .terms) (c .cells) a b (c .reasons) ⌝ }
     ensures { λ r. ⌜ PairExplained terms cells reasons c a b r ⌝ }
 {
-    let mut seen: [u32; 258] = [0; 258];
-    let mut places: [u32; 128] = [0; 128];
+    let mut table: [u32; 386] = [0; 386];
     explain_rec(
         terms,
         cells,
@@ -280,10 +278,9 @@ fn explain_some(
         c.cells,
         a,
         b,
-        &mut seen,
+        &mut table,
         reasons,
         c.reasons,
-        &mut places,
     )
 }
 
@@ -298,8 +295,7 @@ fn explain_more(
     requires { ⌜ (c .terms ≤ 256) × Explainable (now terms) (now cells) (now reasons) (c .terms) (c .cells) a b (c .reasons) ⌝ }
     ensures { λ r. ⌜ PairExplained terms cells reasons c a b r ⌝ }
 {
-    let mut seen: [u32; 1037] = [0; 1037];
-    let mut places: [u32; 257] = [0; 257];
+    let mut table: [u32; 1294] = [0; 1294];
     explain_rec(
         terms,
         cells,
@@ -307,10 +303,9 @@ fn explain_more(
         c.cells,
         a,
         b,
-        &mut seen,
+        &mut table,
         reasons,
         c.reasons,
-        &mut places,
     )
 }
 
@@ -325,8 +320,7 @@ fn explain_many(
     requires { ⌜ (c .terms ≤ 512) × Explainable (now terms) (now cells) (now reasons) (c .terms) (c .cells) a b (c .reasons) ⌝ }
     ensures { λ r. ⌜ PairExplained terms cells reasons c a b r ⌝ }
 {
-    let mut seen: [u32; 4121] = [0; 4121];
-    let mut places: [u32; 513] = [0; 513];
+    let mut table: [u32; 4634] = [0; 4634];
     explain_rec(
         terms,
         cells,
@@ -334,10 +328,9 @@ fn explain_many(
         c.cells,
         a,
         b,
-        &mut seen,
+        &mut table,
         reasons,
         c.reasons,
-        &mut places,
     )
 }
 
@@ -349,8 +342,8 @@ fn plain_edge(terms: &[u32], c: State, node: u32, reasons: &mut [u32], places: &
     let kind = fields::label_kind(terms, node);
     let value = fields::label_value(terms, node);
     match kind {
-        1 => Plain::Ended(give(reasons, c.reasons, 1, value, node, places)),
-        2 => Plain::Ended(give(reasons, c.reasons, 2, value, node, places)),
+        1 => Plain::Ended(give(reasons, c.reasons, 1, value, node as usize, places)),
+        2 => Plain::Ended(give(reasons, c.reasons, 2, value, node as usize, places)),
         4 => Plain::Ended(Walked {
             code: 0,
             count: c.reasons,
@@ -437,7 +430,7 @@ fn explain_pair(
 
 // The reasons why a and b, string terms of one class, are equal, after those that are there; one that is there is not added. A loop
 // that explains keeps `places` from one pair to the next (see is_listed): 513 words, a term's number being at most 512; for one pair none.
-// A walk through congruences, which can meet an edge again, has a table of its own.
+// A walk through congruences, which can meet an edge again, has places of its own, in its table.
 pub fn explain_unchecked(
     terms: &[u32],
     cells: &[u32],

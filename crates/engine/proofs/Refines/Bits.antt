@@ -130,7 +130,7 @@ pub place-small : (n a b : ℕ) → a ≤ n → b ≤ n → place a b ≤ triang
 place-small n a b h k = let p = triangle-up (max a b) n (omega arith) in omega arith
 
 -- a table for numbers up to m is one for fewer; m is given as it is computed
-pub triangle-within : (n m w : ℕ) → n ≤ m → m * (m + 1) / 2 + m < w → triangle n + n < w
+pub triangle-within : (n m w : ℕ) → n ≤ m → 32 * (m + 1) + m * (m + 1) / 2 + m < w → 32 * (n + 1) + triangle n + n < w
 triangle-within n m w h k = let p = triangle-up n m h in let e = triangle-half m in omega arith
 
 -- equal places are equal pairs, each in one order

@@ -54,7 +54,7 @@ explained-by terms cells tab′ reasons reasons′ n k a b c w r g = record { ke
     go e (came h seen m i) = explained h (ap (andThen (λ v. λ s. ok s tt)) i)
     go e (refused h i) = stopped h (ap (andThen (λ v. λ s. ok s tt)) i)
 
-pub explainable-walk : (terms cells reasons : List ℕ) (n k a b m w : ℕ) {c : ℕ} → n ≤ m → m ≤ 512 → m * (m + 1) / 2 + m < 32 * w → Explainable terms cells reasons n k a b c
+pub explainable-walk : (terms cells reasons : List ℕ) (n k a b m w : ℕ) {c : ℕ} → n ≤ m → m ≤ 512 → 32 * (m + 1) + m * (m + 1) / 2 + m < 32 * w → Explainable terms cells reasons n k a b c
     → Walkable terms cells (replicate w 0) reasons n k c (λ s. Together s (a, b))
 explainable-walk terms cells reasons n k a b m w i j h e =
     record { standing = e .standing; fit = e .together; wide = record { few = omega arith; long = rw (length-replicate {A = ℕ} w 0) (triangle-within n m (32 * w) i h) }; roomy = e .roomy }

@@ -14,7 +14,7 @@ same-length-2 : tie.Need-same-length-2
 same-length-2 c = search needs
 
 returns : tie.Need-returns
-returns c = let at-is-listed = c .before .before .before in gives-listed _ _ _ _ _ (at-is-listed .is-listed .ensures) (c .if1 .taken)
+returns c = let at-is-listed = c .before .before .before in gives-listed _ _ _ _ _ _ _ _ (at-is-listed .is-listed .ensures) (c .if1 .taken)
 
 push-reason-unchecked-requires : tie.Need-push-reason-unchecked-requires
 push-reason-unchecked-requires c κs = search needs
@@ -32,7 +32,7 @@ returns-2 : tie.Need-returns-2
 returns-2 c =
     let at-push = c .before .before .before in
     let at-if1 = at-push .before .before in
-    gives-one _ _ _ _ _ _ (at-if1 .before .before .before .is-listed .ensures) (at-if1 .if1 .left) _ (at-push .push-reason-unchecked .ensures) (c .if2 .taken)
+    gives-one _ _ _ _ _ _ _ _ _ (at-if1 .before .before .before .is-listed .ensures) (at-if1 .if1 .left) _ (at-push .push-reason-unchecked .ensures) (c .if2 .taken)
 
 same-length-5 : tie.Need-same-length-5
 same-length-5 c = search needs
@@ -44,7 +44,7 @@ returns-3 : tie.Need-returns-3
 returns-3 c =
     let at-push = c .before .before .before in
     let at-if1 = at-push .before .before in
-    gives-refused _ _ _ _ _ _ (at-if1 .before .before .before .is-listed .ensures) (at-if1 .if1 .left) _ (at-push .push-reason-unchecked .ensures) (c .if2 .left)
+    gives-refused _ _ _ _ _ _ _ _ _ (at-if1 .before .before .before .is-listed .ensures) (at-if1 .if1 .left) _ (at-push .push-reason-unchecked .ensures) (c .if2 .left)
 
 pub give-spec : {M : Type 1} → statement M
 give-spec =

@@ -17,6 +17,7 @@ use Rattle.engine.specs.declared.Plain.{Plain}
 use Rattle.engine.specs.declared.Plain.the-variants.{Ended}
 use Rattle.engine.specs.Explain.{Seen, edge, walked, explain}
 use Rattle.engine.specs.Working.Seen.{triangle, Tables}
+use Rattle.engine.specs.Working.Listing.{Besides}
 
 -- an audited store with the lent terms, all of whose words are lent, and cells, and the room of the lent reasons
 pub record Standing (terms cells reasons : List ℕ) (n k : ℕ) : Type 0 where
@@ -38,10 +39,11 @@ pub record Edge (s : Store) (t : ℕ) : Type 0 where
   pub here : isTerm s t ≡ true
   pub joins : isEdge s t ≡ true
 
--- the table is long enough for n terms, of which there are not too many
+-- the table is long enough for n terms, of which there are not too many: a bit for each pair from its start, a word for each number up
+-- to n from its end
 pub record Wide (n : ℕ) (table : List ℕ) : Type 0 where
   pub few : n ≤ 512
-  pub long : triangle n + n < 32 * length table
+  pub long : 32 * (n + 1) + triangle n + n < 32 * length table
 
 pub record Walkable (terms cells table reasons : List ℕ) (n k count : ℕ) (P : Store → Type 0) : Type 0 where
   pub standing : Standing terms cells reasons n k
@@ -67,8 +69,8 @@ abbrev pub ahead : List Term → ℕ → ℕ → Bool → ℕ → List ℕ
 ahead ts m b true x = upTo m (aboveIn ts x)
 ahead ts m b false x = upTo m (aboveIn ts x) ++ upTo m (aboveIn ts b)
 
--- one reason more, where the list lacks it and it fits
-pub record Gives (l l′ : List ℕ) (n kind value : ℕ) (r : Walked) : Type 0 where
+-- one reason more, where the list lacks it and it fits; of the places the slot at most is written
+pub record Gives (l l′ places places′ : List ℕ) (n kind value slot : ℕ) (r : Walked) : Type 0 where
   pub kept : pairsView l′ n ≡ pairsView l n
   pub more : n ≤ r .count
   pub fits : n ≤ reasonRoom l → r .count ≤ reasonRoom l
@@ -76,6 +78,7 @@ pub record Gives (l l′ : List ℕ) (n kind value : ℕ) (r : Walked) : Type 0 
   pub given : isListed (kind, value) (pairsView l n) ≡ false → ltb n (reasonRoom l) ≡ true
       → (r .code ≡ 0) × (pairsView l′ (r .count) ≡ oneMore (pairsView l n) (kind, value))
   pub full : isListed (kind, value) (pairsView l n) ≡ false → ltb n (reasonRoom l) ≡ false → r .code ≡ 7
+  pub elsewhere : Besides places places′ slot
 
 -- what an explanation came to
 pub data Comes (s : Store) (reasons : List ℕ) (r : Walked) (o : Out (Unit {0})) : Type 0 where
