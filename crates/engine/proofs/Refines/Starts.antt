@@ -15,7 +15,7 @@ use Rattle.records.specs.Calls.{Working, added}
 use Rattle.records.specs.View.{Lent, lent, storeOf, pairsView, reasonsAt}
 use Rattle.records.specs.Make.{withReasons}
 use Rattle.records.specs.Working.Audited.{Ready}
-use Rattle.records.proofs.Lists.{both-left, both-right, table-length}
+use Rattle.records.proofs.Lists.{both-left, both-right, table-length, all-zero}
 use Rattle.records.proofs.Beside.{audited-within}
 use Rattle.engine.specs.declared.Walked.{Walked}
 use Rattle.engine.specs.Explain.{wasSeen, walked, explain, explainArguments, emptied, givesReason, isReasoned}
@@ -33,12 +33,7 @@ no-bit j = rw (native.Mathlib.Nat.zero-div (2 ^ j)) refl
 -- a table of zeros has no pair
 pub none-noted : (w k : ℕ) → seenAt (replicate w 0) k ≡ false
 unfolding seenAt
-none-noted w k = ap (λ (x : ℕ). bit x (k % 32)) (zero-at w (k / 32)) ∙ no-bit (k % 32)
-  where
-    zero-at : (w i : ℕ) → _≡_ {A = ℕ} (getD (replicate w 0) i 0) 0
-    zero-at zero i = refl
-    zero-at (suc w) zero = refl
-    zero-at (suc w) (suc i) = zero-at w i
+none-noted w k = ap (λ (x : ℕ). bit x (k % 32)) (all-zero w (k / 32)) ∙ no-bit (k % 32)
 
 none-tabled : (n w : ℕ) → Tables n (replicate w 0) []
 unfolding wasSeen any

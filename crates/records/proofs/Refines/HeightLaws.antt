@@ -2,7 +2,7 @@
 use mathlib.Core.Path.{_≡_, refl, sym, ap, _∙_}
 use mathlib.Core.Bool.{Bool, true, false, not, _&&_}
 use mathlib.Core.List.{List, [], _∷_}
-use Prim.Native.Nat.{ℕ, zero, suc, _+_, _-_, _≤_, _<_, max}
+use Prim.Native.Nat.{ℕ, suc, _+_, _-_, _≤_, _<_, max}
 use native.Mathlib.Omega.{arith}
 use native.Mathlib.Decide.{ℕ-discrete}
 use lib.ListN.{length, getD, set, replicate}
@@ -16,7 +16,7 @@ use Rattle.records.specs.View.{termsView, termAt, cellAt, termed}
 use Rattle.records.specs.Rules.{stampBelow, fallsRule}
 use Rattle.records.specs.Working.Audited.{Closed, Pathed}
 use Rattle.records.specs.Working.Heights.{never, Above, Height, Heights, KeptHeight}
-use Rattle.records.proofs.Lists.{decide, and-stop}
+use Rattle.records.proofs.Lists.{decide, and-stop, all-zero}
 use Rattle.records.proofs.Climbs.{view-count, view-term}
 use Rattle.records.proofs.Paths.{Rising, rising-begin, rising-stop, rising-root, rising-turn, rising-done, upto-end, upto-next, upto-none, nearest-tree, path-sides}
 
@@ -147,12 +147,7 @@ module _ (s : Store) (cells table : List ℕ) (x : ℕ) (h : Heights s cells tab
 
 -- nothing is kept at first
 pub heights-none : (s : Store) (cells : List ℕ) (w : ℕ) → Heights s cells (replicate w 0)
-heights-none s cells w = record { entries = λ x d. absurd (d (zero-at w x)) }
-  where
-    zero-at : (w x : ℕ) → _≡_ {A = ℕ} (getD (replicate w 0) x 0) 0
-    zero-at zero x = refl
-    zero-at (suc w) zero = refl
-    zero-at (suc w) (suc x) = zero-at w x
+heights-none s cells w = record { entries = λ x d. absurd (d (all-zero w x)) }
 
 -- what a height says of one stamp
 module _ (s : Store) (p : ℕ × ℕ) (h m : ℕ) (i : Height s p h) (k : m < 4294967296) where
