@@ -19,8 +19,7 @@ use records::rules;
 
 mod listing;
 
-// How far a walk came: 0 and the count of reasons, or the refusal. A walk is given the counts and hands back that of the reasons alone,
-// because a walk within a walk keeps what it was handed on the stack.
+// How far a walk came: 0 and the count of reasons, or the refusal.
 pub struct Walked {
     pub code: u32,
     pub count: usize,
@@ -179,8 +178,7 @@ fn explain_rec(
     }
 }
 
-// The reasons of the edge from node to its forest parent, by the label's kind. Most pairs of a congruence are a term and itself, which
-// take no walk.
+// The reasons of the edge from node to its forest parent, by the label's kind. A pair of a term and itself takes no walk.
 fn expand_edge(
     terms: &[u32],
     cells: &[u32],

@@ -6,17 +6,15 @@ use mathlib.Core.Logic.{_⊎_, ⊎-elim}
 use mathlib.Core.Option.{Option, none, some}
 use Prim.Native.Nat.{ℕ, zero, suc, _+_, _-_, _≤_, _<_}
 use native.Mathlib.Omega.{arith}
-use lib.ListN.{length, getD, set, length-set}
-use lib.Seq.{getD-set-same, getD-set-other}
+use lib.ListN.{length}
 use lib.Dec.{eqb}
-use borrow.Author.Tests.{eqb-true, eqb-false, eq-eqb, ne-eqb, lt-ltb, le-ltb}
+use borrow.Author.Tests.{eqb-true, eqb-false, eq-eqb, ne-eqb}
 use Rattle.records.specs.Lists.{all, any, firstOf, isIn, upTo, Every, none-left, and}
 use Rattle.records.specs.Store.{Term, within, climb, forestUp, topIn, aboveBy, aboveIn, orNone, nearestIn, pathIn}
-use Rattle.records.specs.View.{termsView, termAt, termWords, termLimit}
-use Rattle.records.specs.Rules.{stampBelow}
+use Rattle.records.specs.View.{termsView, termAt, termWords}
 use Rattle.records.specs.Working.Audited.{Closed, Pathed}
-use Rattle.records.proofs.Lists.{or-right, right-falsum, every-map, every-both, every-mem, all-append, either, or-left, decide, clash, within-low, within-high}
-use Rattle.records.proofs.Climbs.{climb-stays, climb-up, above-step, above-root, above-is, view-term, view-forest, view-count}
+use Rattle.records.proofs.Lists.{or-right, every-map, every-both, every-mem, all-append, either, or-left, decide, clash, within-low, within-high}
+use Rattle.records.proofs.Climbs.{climb-stays, climb-up, above-step, above-root, above-is, view-forest, view-count}
 use Rattle.records.proofs.Rises.{is-in}
 
 -- THE LOOP

@@ -48,6 +48,7 @@ fn height_up(terms: &[u32], n: usize, y: u32, x: u32) -> usize
     h
 }
 
+// The lowest stamp that a congruence edge with the pair {a, b} may have; NEVER where they are in two trees, so that none will do.
 fn pair_height(terms: &[u32], c: State, a: u32, b: u32) -> usize
     requires { ⌜ Pathed (now terms) (c .terms) × (within (c .terms) a ≡ true) × (within (c .terms) b ≡ true) ⌝ }
     ensures { λ r. ⌜ Height (termed (now (terms .entry)) c) (a, b) r ⌝ }

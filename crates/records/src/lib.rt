@@ -2,7 +2,7 @@
 ghost use mathlib.Core.Path.{_≡_};
 ghost use Prim.Native.Nat.{_+_, _<_, _≤_};
 ghost use Rattle.records.specs.Rules.{audit};
-ghost use Rattle.records.specs.View.{termLimit, cellLimit, charLimit, reasonLimit, keyLimit, oneTerm, moreCells, moreChars, reasonsAt, oneKey, namesAt, counts, across};
+ghost use Rattle.records.specs.View.{termLimit, cellLimit, charLimit, keyLimit, oneTerm, moreCells, moreChars, reasonsAt, oneKey, namesAt, counts, across};
 
 pub mod build;
 pub mod classes;

@@ -18,7 +18,7 @@ use Rattle.records.proofs.Lists.{or-left, or-right, clash, both-left, both-righ
 use Rattle.records.proofs.Climbs.{above-root, above-is, classed-tops}
 use Rattle.engine.specs.declared.Walked.{Walked}
 use Rattle.engine.specs.Explain.{Seen, wasSeen, each, edge, highest, height, walked}
-use Rattle.engine.specs.Working.Seen.{triangle, place, seenAt, Noted, Tables}
+use Rattle.engine.specs.Working.Seen.{place, seenAt, Noted, Tables}
 use Rattle.engine.specs.Working.Walks.{Standing, Together, Edge, Walkable, Shows, came, Walks, ahead}
 use Rattle.engine.proofs.Refines.Bits.{place-pair, place-small}
 use Rattle.engine.proofs.Fits.{highest-high}

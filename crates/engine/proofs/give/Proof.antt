@@ -1,5 +1,4 @@
 use Rattle.engine.proofs.Refines.Turns.{gives-listed, gives-one, gives-refused}
-use native.Mathlib.Omega.{arith}
 use borrow.Author.Needs.{needs}
 use Rattle.engine.proofs.give.Statement.{statement}
 use Rattle.engine.proofs.give.Tie as tie

@@ -9,16 +9,15 @@ use lib.ListN.{length}
 use lib.Dec.{eqb}
 use borrow.Author.Tests.{eq-eqb, ne-eqb, not-false}
 use Rattle.records.specs.declared.State.{State}
-use Rattle.records.specs.Lists.{all, upTo, sameWord, firsts, seconds, Every, and}
-use Rattle.records.specs.Store.{Cell, cellIn, term, kind, within, chainBy, chainIn, chain, aboveIn, nearestIn, pathIn, sameTree}
-use Rattle.records.specs.View.{Lent, storeOf, termLimit, termsView, cellAt, cellsView, termed, chained, termAt}
-use Rattle.records.specs.Rules.{stampBelow, fallsRule, pairsOf, congruenceRule, edgeRule, congruencesRule}
+use Rattle.records.specs.Lists.{all, sameWord, firsts, seconds, Every, and}
+use Rattle.records.specs.Store.{Cell, cellIn, term, kind, within, chainBy, chainIn, chain}
+use Rattle.records.specs.View.{Lent, storeOf, cellAt, cellsView, termed, chained, termAt}
+use Rattle.records.specs.Rules.{fallsRule, pairsOf, congruenceRule, edgeRule, congruencesRule}
 use Rattle.records.specs.Working.Leaves.{pairWords, pairMeets}
-use Rattle.records.specs.Working.Audited.{Sized, Classed, Recorded, Part, Pathed, TermPair, Congruable}
-use Rattle.records.proofs.Lists.{both-left, both-right, both-true, either, every-map, every-both, every-firsts, firsts-every, seconds-every, word-is, and-stop, and-next, or-stop, or-next, left-false, right-false, failed, passed, decide, table-length}
+use Rattle.records.specs.Working.Audited.{Sized, Classed, Recorded, Part, TermPair, Congruable}
+use Rattle.records.proofs.Lists.{both-left, both-right, both-true, either, every-map, every-both, every-firsts, firsts-every, seconds-every, word-is, and-stop, or-stop, or-next, left-false, right-false, failed, passed, decide, table-length}
 use Rattle.records.proofs.Views.{kind-at, first-at, value-at, other-at, next-at}
-use Rattle.records.proofs.Climbs.{view-count, view-term, view-forest, ready-up, within-term, term-within}
-use Rattle.records.proofs.Paths.{nearest-tree, path-sides}
+use Rattle.records.proofs.Climbs.{view-term, view-forest, ready-up, within-term, term-within}
 use Rattle.records.proofs.Refines.ClassLaws.{four-of}
 use Rattle.records.proofs.Chains.{none-by, one-by}
 use Rattle.records.proofs.Grown.{string-term}

@@ -1,10 +1,10 @@
 -- What the contracts of private functions cite, each tied by a law to the definition that it serves. No public contract cites these.
 use mathlib.Core.Path.{_≡_}
 use mathlib.Core.Bool.{Bool, false, true, _&&_, _||_}
-use mathlib.Core.List.{List, [], _∷_}
+use mathlib.Core.List.{List}
 use mathlib.Core.Option.{Option, none, some}
 use Prim.Native.Nat.{ℕ, suc, _≤_, _<_}
-use lib.ListN.{length, getD, set}
+use lib.ListN.{length}
 use lib.Dec.{eqb}
 use Rattle.records.specs.Lists.{sameWord, firsts, seconds, firstBelow}
 use Rattle.records.specs.Store.{Cell, Store, ok, stop, Work, _>>=_, term, kind, isString, within, cellIn, chainIn, text, root, top, Term, termIn}
