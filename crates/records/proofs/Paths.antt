@@ -12,6 +12,7 @@ use borrow.Author.Tests.{eqb-true, eqb-false, eq-eqb, ne-eqb}
 use Rattle.records.specs.Lists.{all, any, firstOf, isIn, upTo, Every, none-left, and}
 use Rattle.records.specs.Store.{Term, within, climb, forestUp, topIn, aboveBy, aboveIn, orNone, nearestIn, pathIn}
 use Rattle.records.specs.View.{termsView, termAt, termWords}
+use Rattle.records.specs.Working.Leaves.{levels, Lifted}
 use Rattle.records.specs.Working.Audited.{Closed, Pathed}
 use Rattle.records.proofs.Lists.{or-right, every-map, every-both, every-mem, all-append, either, or-left, decide, clash, within-low, within-high}
 use Rattle.records.proofs.Climbs.{climb-stays, climb-up, above-step, above-root, above-is, view-forest, view-count}
@@ -166,10 +167,6 @@ module _ (ts : List Term) (closed : Closed (forestUp ts) (length ts)) (ends : (t
 
 -- GOING UP TO THE NEAREST SHARED ANCESTOR
 
--- as many as stand from t up to its root
-abbrev levels : List Term → ℕ → ℕ
-levels ts t = length (aboveIn ts t)
-
 levels-some : (ts : List Term) (t : ℕ) → 1 ≤ levels ts t
 unfolding aboveBy
 levels-some ts t = omega arith
@@ -252,16 +249,7 @@ pub nearest-self : (ts : List Term) (x : ℕ) → nearestIn ts x x ≡ x
 unfolding nearestIn aboveBy firstOf isIn any
 nearest-self ts x = rw (eq-eqb x x refl, firstOf, orNone)
 
--- HOW MANY STAND ABOVE
-
-levels-few : (ts : List Term) (k t : ℕ) → length (aboveBy k ts t) ≤ k
-unfolding aboveBy
-levels-few ts zero t = omega arith
-levels-few ts (suc k) t = go (eqb (forestUp ts t) t) (levels-few ts k (forestUp ts t))
-  where
-    go : (b : Bool) → length (aboveBy k ts (forestUp ts t)) ≤ k → length (t ∷ elim b [ true ↦ [] | false ↦ aboveBy k ts (forestUp ts t) ]) ≤ suc k
-    go true h = omega arith
-    go false h = omega arith
+-- IN THE LENT WORDS
 
 module _ (l : List ℕ) (n : ℕ) (h : Pathed l n) where
   closed : Closed (forestUp (termsView l n)) (length (termsView l n))
@@ -277,89 +265,151 @@ module _ (l : List ℕ) (n : ℕ) (h : Pathed l n) where
   pub pathed-words : (t : ℕ) → within n t ≡ true → termWords t ≤ length l
   pathed-words t w = omega (arith, within-high n t w, h .room)
 
-  -- a term that is no root has one more than its parent
-  levels-up : (x y : ℕ) → within n x ≡ true → y ≡ termAt l x .forestParent → (y ≡ x → ⊥) → levels (termsView l n) x ≡ suc (levels (termsView l n) y)
-  levels-up x y w e d =
-      let v = view-forest l n x y w e in
-      rw v (ap length (above-is (termsView l n) x (ends x (inside x w)) (λ z. d (v ∙ z))))
+  module _ (x p : ℕ) (w : within n x ≡ true) (e : p ≡ termAt l x .forestParent) where
+    up-is : p ≡ forestUp (termsView l n) x
+    up-is = view-forest l n x p w e
 
--- i stand from t up to x, x left out, and one
-pub record Counting (l : List ℕ) (n t x i : ℕ) : Type 0 where
-  pub here : within n x ≡ true
-  pub all : i + length (aboveIn (termsView l n) x) ≡ suc (length (aboveIn (termsView l n) t))
+    up-here : within n p ≡ true
+    up-here = rw up-is (h .tops .stays x w)
 
-pub counting-begin : (l : List ℕ) (n t : ℕ) → within n t ≡ true → Counting l n t t 1
-counting-begin l n t w = record { here = w; all = omega arith }
+    -- a root is alone
+    levels-one : p ≡ x → levels (termsView l n) x ≡ 1
+    levels-one d = ap length (above-root (termsView l n) x (sym up-is ∙ d))
 
-module _ (l : List ℕ) (n t x i : ℕ) (h : Pathed l n) (p : Counting l n t x i) where
-  pub counting-few : i < 1024
-  counting-few =
-      let a = levels-few (termsView l n) (suc (length (termsView l n))) t in
-      let b = levels-some (termsView l n) x in
-      let c = view-count l n in omega (arith, p .all, h .limited)
+    -- any other term has one more than its parent
+    pub levels-up : (p ≡ x → ⊥) → levels (termsView l n) x ≡ suc (levels (termsView l n) p)
+    levels-up d = rw up-is (ap length (above-is (termsView l n) x (ends x (inside x w)) (λ z. d (up-is ∙ z))))
 
-  module _ (y : ℕ) (e : y ≡ termAt l x .forestParent) where
-    pub counting-root : y ≡ x → i ≡ length (aboveIn (termsView l n) t)
-    counting-root d = let a = ap length (above-root (termsView l n) x (sym (view-forest l n x y (p .here) e) ∙ d)) in omega (arith, p .all)
+    -- a term with another above it is no root
+    not-root : (levels (termsView l n) x ≡ 1 → ⊥) → p ≡ x → ⊥
+    not-root d q = d (levels-one q)
 
-    module _ (d : y ≡ x → ⊥) where
-      pub counting-less : length (aboveIn (termsView l n) y) < length (aboveIn (termsView l n) x)
-      counting-less = let a = levels-up l n h x y (p .here) e d in omega arith
+    module _ (b : ℕ) (wb : within n b ≡ true) where
+      up-left : (x ≡ b → ⊥) → levels (termsView l n) b ≤ levels (termsView l n) x → (p ≡ x → ⊥) → nearestIn (termsView l n) x b ≡ nearestIn (termsView l n) p b
+      up-left d k u = rw up-is (nearest-left (termsView l n) closed ends x b (inside x w) (inside b wb) d k (λ z. u (up-is ∙ z)))
 
-      pub counting-turn : Counting l n t y (i + 1)
-      counting-turn =
-          let a = levels-up l n h x y (p .here) e d in
-          record { here = rw (view-forest l n x y (p .here) e) (h .tops .stays x (p .here)); all = omega (arith, p .all) }
+      up-right : levels (termsView l n) b < levels (termsView l n) x → nearestIn (termsView l n) b x ≡ nearestIn (termsView l n) b p
+      up-right k = rw up-is (nearest-right (termsView l n) closed ends b x (inside b wb) (inside x w) k)
 
--- GOING UP TO THE NEAREST SHARED ANCESTOR, IN THE LENT WORDS
+-- TWO TERMS WITH EQUALLY MANY ABOVE THEM
 
--- x and y are on the way up from a and b, i and j of them from each up to its root; they have the nearest shared ancestor of a and b
-pub record Nearing (l : List ℕ) (n a b x y i j : ℕ) : Type 0 where
+-- x and y are on the way up from a and b
+pub record Meeting (l : List ℕ) (n a b x y : ℕ) : Type 0 where
   pub here : within n x ≡ true
   pub there : within n y ≡ true
-  pub left : i ≡ length (aboveIn (termsView l n) x)
-  pub right : j ≡ length (aboveIn (termsView l n) y)
+  pub even : levels (termsView l n) x ≡ levels (termsView l n) y
   pub same : nearestIn (termsView l n) x y ≡ nearestIn (termsView l n) a b
 
-module _ (l : List ℕ) (n a b : ℕ) where
-  pub nearing-begin : (i j : ℕ) → within n a ≡ true → within n b ≡ true → i ≡ length (aboveIn (termsView l n) a) → j ≡ length (aboveIn (termsView l n) b) → Nearing l n a b a b i j
-  nearing-begin i j wa wb ei ej = record { here = wa; there = wb; left = ei; right = ej; same = refl }
+pub meeting-begin : (l : List ℕ) (n a b : ℕ) → within n a ≡ true → within n b ≡ true → levels (termsView l n) a ≡ levels (termsView l n) b → Meeting l n a b a b
+meeting-begin l n a b wa wb e = record { here = wa; there = wb; even = e; same = refl }
 
-  module _ (x y i j : ℕ) (p : Nearing l n a b x y i j) where
-    pub nearing-met : x ≡ y → x ≡ nearestIn (termsView l n) a b
-    nearing-met e = sym (nearest-self (termsView l n) x) ∙ (rw (← e) at (p .same))
+module _ (l : List ℕ) (n a b x y : ℕ) (h : Pathed l n) (m : Meeting l n a b x y) where
+  pub meeting-met : x ≡ y → x ≡ nearestIn (termsView l n) a b
+  meeting-met e = sym (nearest-self (termsView l n) x) ∙ (rw (← e) at (m .same))
 
-    pub nearing-some : 1 ≤ i
-    nearing-some = omega (arith, levels-some (termsView l n) x, p .left)
+  module _ (d : x ≡ y → ⊥) (p : ℕ) (ep : p ≡ termAt l x .forestParent) where
+    pub meeting-none : p ≡ x → 0 ≡ nearestIn (termsView l n) a b
+    meeting-none z =
+        let one = levels-one l n h x p (m .here) ep z in
+        sym (nearest-none (termsView l n) (closed l n h) (ends l n h) x y (inside l n h x (m .here)) (inside l n h y (m .there)) d one (omega (arith, m .even))) ∙ m .same
 
-    module _ (h : Pathed l n) where
-      pub nearing-none : (x ≡ y → ⊥) → j ≤ i → i ≡ 1 → 0 ≡ nearestIn (termsView l n) a b
-      nearing-none d k e =
-          sym (nearest-none (termsView l n) (closed l n h) (ends l n h) x y (inside l n h x (p .here)) (inside l n h y (p .there)) d (sym (p .left) ∙ e) (omega (arith, p .right))) ∙ p .same
+    module _ (u : p ≡ x → ⊥) where
+      pub meeting-less : levels (termsView l n) p < levels (termsView l n) x
+      meeting-less = omega (arith, levels-up l n h x p (m .here) ep u)
 
-      module _ (z : ℕ) where
-        pub nearing-left : (x ≡ y → ⊥) → j ≤ i → (i ≡ 1 → ⊥) → z ≡ termAt l x .forestParent → Nearing l n a b z y (i - 1) j
-        nearing-left d k u e =
-            let v = view-forest l n x z (p .here) e in
-            let o = levels-root (termsView l n) x (λ q. u (p .left ∙ q)) in
-            let m = levels-up l n h x z (p .here) e (λ q. o (sym v ∙ q)) in
-            record {
-              here = rw v (h .tops .stays x (p .here));
-              there = p .there;
-              left = omega (arith, p .left, m);
-              right = p .right;
-              same = rw v (sym (nearest-left (termsView l n) (closed l n h) (ends l n h) x y (inside l n h x (p .here)) (inside l n h y (p .there)) d (omega (arith, p .left, p .right)) o) ∙ p .same);
-            }
+      pub meeting-turn : (q : ℕ) → q ≡ termAt l y .forestParent → Meeting l n a b p q
+      meeting-turn q eq =
+          let f = levels-up l n h x p (m .here) ep u in
+          let o = not-root l n h y q (m .there) eq (λ z. omega (arith, m .even, levels-some (termsView l n) p)) in
+          let g = levels-up l n h y q (m .there) eq o in
+          let wp = up-here l n h x p (m .here) ep in
+          record {
+            here = wp;
+            there = up-here l n h y q (m .there) eq;
+            even = omega (arith, m .even);
+            same = sym (up-left l n h x p (m .here) ep y (m .there) d (omega (arith, m .even)) u ∙ up-right l n h y q (m .there) eq p wp (omega (arith, m .even))) ∙ m .same;
+          }
 
-        pub nearing-right : i < j → z ≡ termAt l y .forestParent → Nearing l n a b x z i (j - 1)
-        nearing-right k e =
-            let v = view-forest l n y z (p .there) e in
-            let o = levels-root (termsView l n) y (λ q. omega (arith, levels-some (termsView l n) x, p .left, p .right)) in
-            let m = levels-up l n h y z (p .there) e (λ q. o (sym v ∙ q)) in
-            record {
-              here = p .here;
-              there = rw v (h .tops .stays y (p .there));
-              left = p .left;
-              right = omega (arith, p .right, m);
-              same = rw v (sym (nearest-right (termsView l n) (closed l n h) (ends l n h) x y (inside l n h x (p .here)) (inside l n h y (p .there)) (omega (arith, p .left, p .right))) ∙ p .same);
-            }
+-- ONE OF THEM LIFTED
+
+-- z is on the way up from t as w is from y
+pub record Lifting (l : List ℕ) (n t y z w : ℕ) : Type 0 where
+  pub here : within n z ≡ true
+  pub there : within n w ≡ true
+  pub even : levels (termsView l n) z + levels (termsView l n) y ≡ levels (termsView l n) t + levels (termsView l n) w
+  pub left : (b : ℕ) → within n b ≡ true → levels (termsView l n) b ≤ levels (termsView l n) z → nearestIn (termsView l n) z b ≡ nearestIn (termsView l n) t b
+  pub right : (b : ℕ) → within n b ≡ true → levels (termsView l n) b ≤ levels (termsView l n) z → nearestIn (termsView l n) b z ≡ nearestIn (termsView l n) b t
+
+pub lifting-begin : (l : List ℕ) (n t y : ℕ) → within n t ≡ true → within n y ≡ true → Lifting l n t y t y
+lifting-begin l n t y wt wy = record { here = wt; there = wy; even = refl; left = λ b w k. refl; right = λ b w k. refl }
+
+module _ (l : List ℕ) (n t y z w : ℕ) (h : Pathed l n) (m : Lifting l n t y z w) (q : ℕ) (eq : q ≡ termAt l w .forestParent) where
+  pub lifting-done : q ≡ w → Lifted l n t y z
+  lifting-done e =
+      let one = levels-one l n h w q (m .there) eq e in
+      record { here = m .here; many = omega (arith, m .even); left = m .left; right = m .right }
+
+  module _ (u : q ≡ w → ⊥) where
+    pub lifting-less : levels (termsView l n) q < levels (termsView l n) w
+    lifting-less = omega (arith, levels-up l n h w q (m .there) eq u)
+
+    pub lifting-turn : levels (termsView l n) y ≤ levels (termsView l n) t → (v : ℕ) → v ≡ termAt l z .forestParent → Lifting l n t y v q
+    lifting-turn k v ev =
+        let f = levels-up l n h w q (m .there) eq u in
+        let o = not-root l n h z v (m .here) ev (λ e. omega (arith, m .even, levels-some (termsView l n) q)) in
+        let g = levels-up l n h z v (m .here) ev o in
+        record {
+          here = up-here l n h z v (m .here) ev;
+          there = up-here l n h w q (m .there) eq;
+          even = omega (arith, m .even);
+          left = λ b wb j. sym (up-left l n h z v (m .here) ev b wb (λ e. let r = ap (levels (termsView l n)) e in omega arith) (omega arith) o) ∙ m .left b wb (omega arith);
+          right = λ b wb j. sym (up-right l n h z v (m .here) ev b wb (omega arith)) ∙ m .right b wb (omega arith);
+        }
+
+-- BOTH CLIMBED FROM AT ONCE
+
+-- x is as far above a as y above b
+pub record Abreast (l : List ℕ) (n a b x y : ℕ) : Type 0 where
+  pub here : within n x ≡ true
+  pub there : within n y ≡ true
+  pub even : levels (termsView l n) a + levels (termsView l n) y ≡ levels (termsView l n) b + levels (termsView l n) x
+
+pub abreast-begin : (l : List ℕ) (n a b : ℕ) → within n a ≡ true → within n b ≡ true → Abreast l n a b a b
+abreast-begin l n a b wa wb = record { here = wa; there = wb; even = omega arith }
+
+module _ (l : List ℕ) (n a b x y : ℕ) (h : Pathed l n) (wa : within n a ≡ true) (wb : within n b ≡ true) (m : Abreast l n a b x y) (p : ℕ) (ep : p ≡ termAt l x .forestParent) where
+  -- b has no fewer above it than a
+  module _ (e : p ≡ x) where
+    pub abreast-lift : levels (termsView l n) y ≤ levels (termsView l n) b
+    abreast-lift = omega (arith, m .even, levels-one l n h x p (m .here) ep e, levels-some (termsView l n) a)
+
+    module _ (z : ℕ) (i : Lifted l n b y z) where
+      pub abreast-even : levels (termsView l n) a ≡ levels (termsView l n) z
+      abreast-even = omega (arith, m .even, i .many, levels-one l n h x p (m .here) ep e)
+
+      pub abreast-met : (r : ℕ) → r ≡ nearestIn (termsView l n) a z → r ≡ nearestIn (termsView l n) a b
+      abreast-met r j = j ∙ i .right a wa (omega (arith, abreast-even))
+
+  module _ (q : ℕ) (eq : q ≡ termAt l y .forestParent) where
+    -- a has no fewer above it than b
+    module _ (e : q ≡ y) where
+      pub abreast-lift-2 : levels (termsView l n) x ≤ levels (termsView l n) a
+      abreast-lift-2 = omega (arith, m .even, levels-one l n h y q (m .there) eq e, levels-some (termsView l n) b)
+
+      module _ (z : ℕ) (i : Lifted l n a x z) where
+        pub abreast-even-2 : levels (termsView l n) z ≡ levels (termsView l n) b
+        abreast-even-2 = omega (arith, m .even, i .many, levels-one l n h y q (m .there) eq e)
+
+        pub abreast-met-2 : (r : ℕ) → r ≡ nearestIn (termsView l n) z b → r ≡ nearestIn (termsView l n) a b
+        abreast-met-2 r j = j ∙ i .left b wb (omega (arith, abreast-even-2))
+
+    module _ (d : p ≡ x → ⊥) (u : q ≡ y → ⊥) where
+      pub abreast-less : levels (termsView l n) p < levels (termsView l n) x
+      abreast-less = omega (arith, levels-up l n h x p (m .here) ep d)
+
+      pub abreast-turn : Abreast l n a b p q
+      abreast-turn = record {
+        here = up-here l n h x p (m .here) ep;
+        there = up-here l n h y q (m .there) eq;
+        even = omega (arith, m .even, levels-up l n h x p (m .here) ep d, levels-up l n h y q (m .there) eq u);
+      }

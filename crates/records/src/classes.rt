@@ -3,10 +3,9 @@ ghost use mathlib.Core.Path.{_≡_};
 ghost use mathlib.Core.Bool.{true, not, _&&_, _||_};
 ghost use Prim.Native.Nat.{_≤_};
 ghost use lib.Dec.{eqb};
-ghost use lib.ListN.{length};
 ghost use Rattle.records.specs.Lists.{all, Every};
-ghost use Rattle.records.specs.Working.Leaves.{upIn};
-ghost use Rattle.records.specs.Store.{within, chainIn, classUp, forestUp, rootIn, topIn, root, top, aboveIn, nearestIn, climb};
+ghost use Rattle.records.specs.Working.Leaves.{upIn, levels, Lifted};
+ghost use Rattle.records.specs.Store.{within, chainIn, classUp, forestUp, rootIn, topIn, root, top, nearestIn, climb};
 ghost use Rattle.records.specs.View.{termLimit, termsView, cellsView, termed, chained};
 ghost use Rattle.records.specs.Rules.{eachTerm, parentsRule, endsRule, edgeLabel, labelRule, classesRule, fallsRule, congruenceRule, edgeRule, congruencesRule};
 ghost use Rattle.records.specs.Working.Leaves.{aloneAt, classTest, pairWords, pairMeets};
@@ -53,46 +52,64 @@ pub fn top_unchecked(terms: &[u32], n: usize, t: u32) -> u32
     climb_unchecked(terms, n, t, true)
 }
 
-// How many stand from t up to its tree's root, both counted.
-fn count_above(terms: &[u32], n: usize, t: u32) -> usize
-    requires { ⌜ Pathed (now terms) n × (within n t ≡ true) ⌝ }
-    ensures { λ r. ⌜ r ≡ length (aboveIn (termsView (now (terms .entry)) n) t) ⌝ }
+// Goes up from t as many steps as y is below the root of its tree.
+fn lift(terms: &[u32], n: usize, t: u32, y: u32) -> u32
+    requires { ⌜ Pathed (now terms) n × (within n t ≡ true) × (within n y ≡ true) × (levels (termsView (now terms) n) y ≤ levels (termsView (now terms) n) t) ⌝ }
+    ensures { λ r. ⌜ Lifted (now (terms .entry)) n t y r ⌝ }
 {
-    let mut x = t;
-    let mut i: usize = 1;
+    let mut z = t;
+    let mut w = y;
     loop {
-        let y = fields::forest_parent_unchecked(terms, x);
-        if y == x {
-            return i;
+        let q = fields::forest_parent_unchecked(terms, w);
+        if q == w {
+            return z;
         }
-        x = y;
-        i += 1;
+        w = q;
+        z = fields::forest_parent_unchecked(terms, z);
     }
 }
 
-// The nearest shared forest ancestor of a and b, or 0 where they are in two trees. A shared ancestor has as many above it from either side,
-// so the one with more above it goes up until the two meet. No table is needed, which a walk within a walk would keep on the stack.
+// The nearest shared forest ancestor of two terms with equally many above them, or 0.
+fn meet(terms: &[u32], n: usize, a: u32, b: u32) -> u32
+    requires { ⌜ Pathed (now terms) n × (within n a ≡ true) × (within n b ≡ true) × (levels (termsView (now terms) n) a ≡ levels (termsView (now terms) n) b) ⌝ }
+    ensures { λ r. ⌜ r ≡ nearestIn (termsView (now (terms .entry)) n) a b ⌝ }
+{
+    let mut x = a;
+    let mut y = b;
+    while x != y {
+        let p = fields::forest_parent_unchecked(terms, x);
+        if p == x {
+            return 0;
+        }
+        x = p;
+        y = fields::forest_parent_unchecked(terms, y);
+    }
+    x
+}
+
+// The nearest shared forest ancestor of a and b, or 0 where they are in two trees. Both are climbed from at once; what the one has more
+// above it than the other it is lifted by, and then the two go up until they meet. No table is needed, which a walk within a walk would
+// keep on the stack.
 pub fn nearest_unchecked(terms: &[u32], n: usize, a: u32, b: u32) -> u32
     requires { ⌜ Pathed (now terms) n × (within n a ≡ true) × (within n b ≡ true) ⌝ }
     ensures { λ r. ⌜ r ≡ nearestIn (termsView (now (terms .entry)) n) a b ⌝ }
 {
     let mut x = a;
     let mut y = b;
-    let mut i = count_above(terms, n, a);
-    let mut j = count_above(terms, n, b);
-    while x != y {
-        if i < j {
-            y = fields::forest_parent_unchecked(terms, y);
-            j -= 1;
-        } else {
-            if i == 1 {
-                return 0;
-            }
-            x = fields::forest_parent_unchecked(terms, x);
-            i -= 1;
+    loop {
+        let p = fields::forest_parent_unchecked(terms, x);
+        if p == x {
+            let z = lift(terms, n, b, y);
+            return meet(terms, n, a, z);
         }
+        let q = fields::forest_parent_unchecked(terms, y);
+        if q == y {
+            let z = lift(terms, n, a, x);
+            return meet(terms, n, z, b);
+        }
+        x = p;
+        y = q;
     }
-    x
 }
 
 // THE AUDIT OF CLASSES

@@ -1,69 +1,93 @@
-use Rattle.records.proofs.Paths.{Nearing, nearing-begin, nearing-met, nearing-some, nearing-none, nearing-left, nearing-right, pathed-words}
-use Prim.Native.Nat.{_+_}
-use native.Mathlib.Omega.{arith}
-use borrow.Author.Needs.{needs}
+use Rattle.records.proofs.Paths.{Abreast, abreast-begin, abreast-lift, abreast-even, abreast-met, abreast-lift-2, abreast-even-2, abreast-met-2, abreast-less, abreast-turn, pathed-words}
+use Rattle.records.specs.View.{termsView}
+use Rattle.records.specs.Working.Leaves.{levels}
 use Rattle.records.proofs.classes.nearest_unchecked.Statement.{statement}
 use Rattle.records.proofs.classes.nearest_unchecked.Tie as tie
 
 abbrev Inv-loop : tie.InvT-loop
-Inv-loop terms n a b x₀ y₀ i₀ j₀ x y i j = Nearing terms n a b x y i j
+Inv-loop terms n a b x₀ y₀ x y = Abreast terms n a b x y
 
 abbrev μ-loop : tie.MeasureT-loop
-μ-loop terms n a b x₀ y₀ i₀ j₀ x y i j = i + j
-
-count-above-requires : tie.Need-count-above-requires Inv-loop μ-loop
-count-above-requires c κs = let p = c .before .pre in (p .0, p .1)
-
-count-above-requires-2 : tie.Need-count-above-requires-2 Inv-loop μ-loop
-count-above-requires-2 c κs = let p = c .before .before .pre in (p .0, p .2)
+μ-loop terms n a b x₀ y₀ x y = levels (termsView terms n) x
 
 loop-holds : tie.Need-loop-holds Inv-loop μ-loop
-loop-holds c =
-    let p = c .before .before .before .pre in
-    nearing-begin _ _ _ _ _ _ (p .1) (p .2) (c .before .count-above .ensures) (c .count-above2 .ensures)
+loop-holds c = let p = c .before .pre in abreast-begin _ _ _ _ (p .1) (p .2)
 
 forest-parent-unchecked-requires : tie.Need-forest-parent-unchecked-requires Inv-loop μ-loop
-forest-parent-unchecked-requires c κs =
+forest-parent-unchecked-requires c κs = pathed-words _ _ (c .before .before .pre .0) _ (c .loop .inv .here)
+
+lift-requires : tie.Need-lift-requires Inv-loop μ-loop
+lift-requires c κs =
     let at-loop = c .before .before in
-    pathed-words _ _ (at-loop .before .before .before .before .pre .0) _ (at-loop .loop .inv .there)
+    let p = at-loop .before .before .pre in
+    (p .0, p .2, at-loop .loop .inv .there, abreast-lift _ _ _ _ _ _ (p .0) (p .1) (p .2) (at-loop .loop .inv) _ (c .before .forest-parent-unchecked .ensures) (c .if1 .taken))
 
-sub-j : tie.Need-sub-j Inv-loop μ-loop
-sub-j c = search needs
-
-loop-less : tie.Need-loop-less Inv-loop μ-loop
-loop-less c = search needs
-
-loop-again : tie.Need-loop-again Inv-loop μ-loop
-loop-again c =
-    let at-start = c .before .before .before .before .before .before .before in
-    nearing-right _ _ _ _ _ _ _ _ (c .before .before .before .loop .inv) (at-start .pre .0) _ (c .before .if1 .taken) (c .forest-parent-unchecked .ensures)
+meet-requires : tie.Need-meet-requires Inv-loop μ-loop
+meet-requires c κs =
+    let at-loop = c .before .before .before in
+    let p = at-loop .before .before .pre in
+    let z = c .lift .ensures in
+    (p .0, p .1, z .here, abreast-even _ _ _ _ _ _ (p .0) (p .1) (p .2) (at-loop .loop .inv) _ (c .before .before .forest-parent-unchecked .ensures) (c .before .if1 .taken) _ z)
 
 returns : tie.Need-returns Inv-loop μ-loop
 returns c =
-    let at-loop-test = c .before .before in
-    let at-start = at-loop-test .before .before .before .before .before in
-    nearing-none _ _ _ _ _ _ _ _ (at-loop-test .before .loop .inv) (at-start .pre .0) (at-loop-test .loop-test .taken) (c .before .if1 .left) (c .if2 .taken)
+    let at-lift = c .before in
+    let at-loop = at-lift .before .before .before in
+    let p = at-loop .before .before .pre in
+    abreast-met _ _ _ _ _ _ (p .0) (p .1) (p .2) (at-loop .loop .inv) _ (at-lift .before .before .forest-parent-unchecked .ensures) (at-lift .before .if1 .taken) _ (at-lift .lift .ensures) _
+    (c .meet .ensures)
 
 forest-parent-unchecked-requires-2 : tie.Need-forest-parent-unchecked-requires-2 Inv-loop μ-loop
 forest-parent-unchecked-requires-2 c κs =
-    let at-loop = c .before .before .before in
-    pathed-words _ _ (at-loop .before .before .before .before .pre .0) _ (at-loop .loop .inv .here)
+    let at-loop = c .before .before in
+    pathed-words _ _ (at-loop .before .before .pre .0) _ (at-loop .loop .inv .there)
 
-sub-i : tie.Need-sub-i Inv-loop μ-loop
-sub-i c = nearing-some _ _ _ _ _ _ _ _ (c .before .before .before .before .loop .inv)
+lift-requires-2 : tie.Need-lift-requires-2 Inv-loop μ-loop
+lift-requires-2 c κs =
+    let at-loop = c .before .before .before .before in
+    let p = at-loop .before .before .pre in (
+      p .0,
+      p .1,
+      at-loop .loop .inv .here,
+      abreast-lift-2 _ _ _ _ _ _ (p .0) (p .1) (p .2) (at-loop .loop .inv) _ (c .before .before .before .forest-parent-unchecked .ensures) _
+          (c .before .forest-parent-unchecked2 .ensures) (c .if2 .taken),
+    )
 
-loop-less-2 : tie.Need-loop-less-2 Inv-loop μ-loop
-loop-less-2 c = omega (arith, nearing-some _ _ _ _ _ _ _ _ (c .before .before .before .before .loop .inv))
-
-loop-again-2 : tie.Need-loop-again-2 Inv-loop μ-loop
-loop-again-2 c =
-    let at-loop-test = c .before .before .before in
-    let at-start = at-loop-test .before .before .before .before .before in
-    nearing-left _ _ _ _ _ _ _ _ (at-loop-test .before .loop .inv) (at-start .pre .0) _ (at-loop-test .loop-test .taken) (c .before .before .if1 .left)
-    (c .before .if2 .left) (c .forest-parent-unchecked2 .ensures)
+meet-requires-2 : tie.Need-meet-requires-2 Inv-loop μ-loop
+meet-requires-2 c κs =
+    let at-if2 = c .before in
+    let at-loop = at-if2 .before .before .before .before in
+    let p = at-loop .before .before .pre in
+    let z = c .lift2 .ensures in (
+      p .0,
+      z .here,
+      p .2,
+      abreast-even-2 _ _ _ _ _ _ (p .0) (p .1) (p .2) (at-loop .loop .inv) _ (at-if2 .before .before .before .forest-parent-unchecked .ensures) _
+          (at-if2 .before .forest-parent-unchecked2 .ensures) (at-if2 .if2 .taken) _ z,
+    )
 
 returns-2 : tie.Need-returns-2 Inv-loop μ-loop
-returns-2 c = nearing-met _ _ _ _ _ _ _ _ (c .before .loop .inv) (c .loop-test .left)
+returns-2 c =
+    let at-lift2 = c .before in
+    let at-if2 = at-lift2 .before in
+    let at-loop = at-if2 .before .before .before .before in
+    let p = at-loop .before .before .pre in
+    abreast-met-2 _ _ _ _ _ _ (p .0) (p .1) (p .2) (at-loop .loop .inv) _ (at-if2 .before .before .before .forest-parent-unchecked .ensures) _ (at-if2 .before .forest-parent-unchecked2 .ensures)
+    (at-if2 .if2 .taken) _ (at-lift2 .lift2 .ensures) _ (c .meet2 .ensures)
+
+loop-less : tie.Need-loop-less Inv-loop μ-loop
+loop-less c =
+    let at-if1 = c .before .before in
+    let at-loop = at-if1 .before .before in
+    let p = at-loop .before .before .pre in
+    abreast-less _ _ _ _ _ _ (p .0) (p .1) (p .2) (at-loop .loop .inv) _ (at-if1 .before .forest-parent-unchecked .ensures) _ (c .before .forest-parent-unchecked2 .ensures) (at-if1 .if1 .left) (c .if2 .left)
+
+loop-again : tie.Need-loop-again Inv-loop μ-loop
+loop-again c =
+    let at-if1 = c .before .before in
+    let at-loop = at-if1 .before .before in
+    let p = at-loop .before .before .pre in
+    abreast-turn _ _ _ _ _ _ (p .0) (p .1) (p .2) (at-loop .loop .inv) _ (at-if1 .before .forest-parent-unchecked .ensures) _ (c .before .forest-parent-unchecked2 .ensures) (at-if1 .if1 .left) (c .if2 .left)
 
 pub nearest-unchecked-spec : {M : Type 1} → statement M
 nearest-unchecked-spec =
@@ -71,16 +95,14 @@ nearest-unchecked-spec =
     (tie.spec
     Inv-loop
     μ-loop
-    count-above-requires
-    count-above-requires-2
     loop-holds
     forest-parent-unchecked-requires
-    sub-j
-    loop-less
-    loop-again
+    lift-requires
+    meet-requires
     returns
     forest-parent-unchecked-requires-2
-    sub-i
-    loop-less-2
-    loop-again-2
-    returns-2)
+    lift-requires-2
+    meet-requires-2
+    returns-2
+    loop-less
+    loop-again)
