@@ -35,7 +35,7 @@
 //!
 //! # What the caller sees to
 //!
-//! 512 KiB of stack have to be free when a call is made, as on a thread with Rust's default of 2 MiB. A store may be sent to another thread;
+//! 192 KiB of stack have to be free when a call is made, as on a thread with Rust's default of 2 MiB. A store may be sent to another thread;
 //! calls on different stores may run at the same time.
 
 #![deny(missing_docs)]

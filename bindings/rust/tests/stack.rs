@@ -1,10 +1,10 @@
-//! The calls do with 256 KiB of stack on the stores that take most of it, a tower of congruences above all, each explained by the one below it.
+//! The calls do with 192 KiB of stack on the stores that take most of it, a tower of congruences above all, each explained by the one below it.
 
 use labels::{Answer, Fit, Reason, Span, Store, Term, LIST, TERMS};
 use std::thread;
 
 /// What the header asks for. A thread's own words are within it, so a call has less.
-const STACK: usize = 256 * 1024;
+const STACK: usize = 192 * 1024;
 
 /// x is x ++ z by a1, and each further t ++ z is t by a congruence with the one below: one term a level, up to the limit of terms. On the top
 /// two stand the variables u and v, by a6 and a7; the third term given is their equation. `join` makes no congruences, so these are written
