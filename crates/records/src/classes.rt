@@ -440,9 +440,13 @@ pub fn congruences_ok_unchecked(terms: &[u32], cells: &[u32], c: State) -> bool
     requires { ⌜ Congruable (now terms) (now cells) c ⌝ }
     ensures { λ r. ⌜ r ≡ congruencesRule (chained (now (terms .entry)) (now (cells .entry)) c) ⌝ }
 {
-    if c.cells < 512 {
+    if c.cells < 64 {
         let mut none: [usize; 0] = [];
         return edges_ok(terms, cells, c, &mut none);
+    }
+    if c.cells < 512 {
+        let mut some: [usize; 512] = [0; 512];
+        return edges_ok(terms, cells, c, &mut some);
     }
     let mut heights: [usize; 2049] = [0; 2049];
     edges_ok(terms, cells, c, &mut heights)
