@@ -1,4 +1,4 @@
-/* The label resolver's calls for C and C++; link libcapi.a (`rt staticlib capi`).
+/* The label resolver's calls for C99, C++11 and later; link libcapi.a (`rt staticlib capi`).
  *
  * PLAIN CALLS. A slice is a pointer and a length in words. The store comes first: the state's words (counts of terms, cells, characters,
  * reasons and keys, the name counter, counts of marks and of recorded joins), then the five slices. The result is 0 or the refusal's number;
@@ -15,7 +15,7 @@
  * A null pointer with length 0 is an empty slice: tried on x86-64 Linux for every slice of every call (bindings/c/null.c), and each call
  * answers and writes as it does for any other empty slice. A null pointer with another length is the caller's error.
  *
- * Stack: 512 KiB have to be free when a call is made. A tower of 506 congruences, which passes the audit, was measured to take 493,048
+ * Stack: 192 KiB have to be free when a call is made. A tower of 506 congruences, which passes the audit, was measured to take 168,280
  * bytes. The component's own calls make no congruences; without any the worst that was tried, the step on 508 concatenations within each
  * other, took 88,000. No call uses the heap or data of its own, so calls on stores that share no words may run at the same time.
  */
@@ -30,10 +30,10 @@ extern "C" {
 #endif
 
 /* The version of this header, of the Rust crate and of CHANGELOG.md. */
-#define LABELS_VERSION "0.8.0"
+#define LABELS_VERSION "0.8.1"
 #define LABELS_VERSION_MAJOR 0
 #define LABELS_VERSION_MINOR 8
-#define LABELS_VERSION_PATCH 0
+#define LABELS_VERSION_PATCH 1
 
 /* The limits of the counts. */
 #define LABELS_MAX_TERMS 512
@@ -82,7 +82,8 @@ enum labels_count {
 /* The kinds of a reason, the first of its two words; the second is its number, below 2^31. */
 enum labels_reason_kind { LABELS_ASSERTED = 1, LABELS_INTERFACE = 2 };
 
-/* The cases of an answer, which `labels_resolve_equation` and `labels_step` put into word 0; the last is of the step alone. */
+/* The cases of an answer, which `labels_resolve_equation` and `labels_step` put into word 0; the last is of the step alone. Done says that
+ * nothing is to be done as the classes stand, not that the sides are equal: ask again once a class of their terms has changed. */
 enum labels_case {
     LABELS_DONE = 0,
     LABELS_SATURATED = 1,
@@ -92,8 +93,8 @@ enum labels_case {
     LABELS_UNEXPANDED = 5
 };
 
-/* The other words of an answer: of Propagate the variable, its word and the link flag; of Split the count of its atoms, its guard and how
- * many terms it made. */
+/* The other words of an answer: of Propagate the variable, a term that has its text and the link flag; of Split the count of its atoms, its
+ * guard and how many terms it made. */
 enum labels_answer_word {
     LABELS_ANSWER_CASE = 0,
     LABELS_ANSWER_VARIABLE = 1,
@@ -150,11 +151,11 @@ static inline const char *labels_refusal_text(uint32_t refusal) {
     case LABELS_REFUSED_CLASSES:
         return "classes and forest do not agree, or would not after going back to a mark";
     case LABELS_REFUSED_CONGRUENCES:
-        return "a congruence that its arguments do not give";
+        return "a congruence that its parts do not give";
     case LABELS_REFUSED_ARGUMENT:
         return "a wrong argument";
     case LABELS_REFUSED_LIST:
-        return "a flattened list above 1,024 atoms";
+        return "a flattened list above 1,024 entries";
     case LABELS_REFUSED_REASONS:
         return "no room for the next reason";
     case LABELS_REFUSED_ROOM:
@@ -199,7 +200,8 @@ static inline const char *labels_case_text(uint32_t answer_case) {
 uint32_t labels_audit(LABELS_READ(state), LABELS_READ(terms), LABELS_READ(cells), LABELS_READ(chars), LABELS_READ(reasons),
                       LABELS_READ(keys));
 
-/* The making calls and find put the term into word 0 of the answer. */
+/* The making calls and find put the term into word 0 of the answer. Names that begin with !strk are those of the variables that a Split makes;
+ * a caller's variable of such a name is no error. */
 uint32_t labels_make_constant(LABELS_WORDS(state), LABELS_WORDS(terms), LABELS_READ(cells), LABELS_WORDS(chars), LABELS_READ(reasons),
                               LABELS_READ(keys), LABELS_READ(text), LABELS_WORDS(answer));
 uint32_t labels_make_variable(LABELS_WORDS(state), LABELS_WORDS(terms), LABELS_READ(cells), LABELS_WORDS(chars), LABELS_READ(reasons),
@@ -213,29 +215,33 @@ uint32_t labels_make_equation(LABELS_WORDS(state), LABELS_WORDS(terms), LABELS_R
 uint32_t labels_find(LABELS_READ(state), LABELS_READ(terms), LABELS_READ(cells), LABELS_READ(chars), LABELS_READ(reasons), LABELS_READ(keys),
                      uint32_t t, LABELS_WORDS(answer));
 
-/* THE REASONS. Those counted at entry are handed in and stay as they are; the calls from here on append the reasons that they name and that
- * the list lacks, by kind and number, so each that they add stands there once. Those named stand in `reasons` below the state's count. So
- * set the count to 0 before a question unless reasons are handed in with it: else the answer names those of the question before too, and
- * once 4,096 stand there every further one is refused (7). Two normal forms and the word equation between them are one question: what the
- * forms named has to be handed in with the equation, that is, left counted. What a call is worth is said of all reasons below the count. */
+/* THE REASONS. Those counted at entry are handed in and stay as they are; labels_explain, the normal forms, labels_resolve_equation,
+ * labels_step and labels_nf_equal_explain append the reasons that they name and that the list lacks, by kind and number, so each that they
+ * add stands there once. Those named stand in `reasons` below the state's count. So set the count to 0 before a question unless reasons are
+ * handed in with it: else the answer names those of the question before too, and once 4,096 stand there every further one is refused (7). Two
+ * normal forms and the equation between them are one question: what the forms named has to be handed in with the equation, that is, left
+ * counted. What a call is worth is said of all reasons below the count. */
 uint32_t labels_explain(LABELS_WORDS(state), LABELS_READ(terms), LABELS_READ(cells), LABELS_READ(chars), LABELS_WORDS(reasons),
                         LABELS_READ(keys), uint32_t a, uint32_t b);
 
-/* `list` has 1,024 words or more. The normal forms put 1 and the list's count (deep: 0 and 0 for None) into words 0 and 1 of the answer. */
+/* `known` has the string terms by which entries may be replaced. Pass every one: where one is left out the answer says less, and nothing
+ * wrong. `list` has 1,024 words or more. The normal forms put 1 and the list's count (deep: 0 and 0 for None) into words 0 and 1 of the
+ * answer. */
 uint32_t labels_normal_form(LABELS_WORDS(state), LABELS_WORDS(terms), LABELS_READ(cells), LABELS_WORDS(chars), LABELS_WORDS(reasons),
                             LABELS_READ(keys), LABELS_READ(known), uint32_t t, LABELS_WORDS(list), LABELS_WORDS(answer));
 uint32_t labels_deep_normal_form(LABELS_WORDS(state), LABELS_WORDS(terms), LABELS_READ(cells), LABELS_WORDS(chars), LABELS_WORDS(reasons),
                                  LABELS_READ(keys), LABELS_READ(known), uint32_t t, LABELS_WORDS(list), LABELS_WORDS(answer));
 
-/* The case stands in word 0 of the answer: 0 Done, 1 Saturated, 2 Conflict, 3 Propagate, 4 Split. Propagate puts the variable, its word and
- * the link flag into words 1 to 3; Split puts the count of its atoms, which stand first in `list`, and the negated guard as a 32-bit two's
- * complement into words 1 and 2: the clause is, not the equation (the guard's literal, negated) or one of the atoms. Into word 3 Split puts
- * how many terms it made, which is how much the terms' count grew within the word equation: over two heads six, and one for each of the two
- * lengths and their equation that was absent; over a character three, and one for each of "", its equation and the character's constant that
- * was absent. The step's count may have grown by more, since its normal forms make constants of their own. A Conflict and a Propagate rest on
- * the reasons below the state's count, and a Split and a Saturated of the step rest on reasons too, those of the normal forms: keep them with
- * whatever is kept of the answer. Where one list is constants alone and the other constants and one variable that is alone in its class,
- * once or more, the answer is Conflict exactly when no text for the variable makes the sides equal. */
+/* The guard is the caller's number for the equation, neither 0 nor the lowest (5). The case stands in word 0 of the answer: 0 Done, 1
+ * Saturated, 2 Conflict, 3 Propagate, 4 Split. Propagate puts the variable, a term that has its text and the link flag into words 1 to 3;
+ * Split puts the count of its atoms, which stand first in `list`, and the negated guard as a 32-bit two's complement into words 1 and 2: the
+ * clause is, not the equation (the guard's literal, negated) or one of the atoms. Into word 3 Split puts how many terms it made, which is how
+ * much the terms' count grew within this call: over two heads six, and one for each of the two lengths and their equation that was absent;
+ * over a character three, and one for each of "", its equation and the character's constant that was absent. The step's count may have grown
+ * by more, since its normal forms make constants of their own before. A Conflict and a Propagate rest on the reasons below the state's count,
+ * and a Split and a Saturated of the step rest on reasons too, those of the normal forms: keep them with whatever is kept of the answer.
+ * Where one list is constants alone and the other constants and one variable that is alone in its class, once or more, the answer is Conflict
+ * exactly when no text for the variable makes the sides equal. */
 uint32_t labels_resolve_equation(LABELS_WORDS(state), LABELS_WORDS(terms), LABELS_WORDS(cells), LABELS_WORDS(chars), LABELS_WORDS(reasons),
                                  LABELS_WORDS(keys), LABELS_READ(lhs), LABELS_READ(rhs), int32_t guard, LABELS_WORDS(list),
                                  LABELS_WORDS(answer));
@@ -274,9 +280,9 @@ uint32_t labels_nf_equal_explain(LABELS_WORDS(state), LABELS_READ(terms), LABELS
  * that going back to a standing mark would give classes that fail. After a refusal no word of any slice is written. */
 
 /* Joins the classes of two string terms under a reason, kind 1 asserted or 2 interface and its number below 2^31: one forest edge between a
- * and b with that label and stamp 0; every other edge keeps its ends, label and stamp. Word 0 of the answer is 1, or 0 where the terms are in
- * one class already, and then nothing else is written. Writes the class words of counted terms, and where a mark stands a record of `marks`
- * and word 7 of the state. A term absent or no string term, another kind or number: refusal 5. */
+ * and b with that kind, number and stamp 0; every other edge keeps its ends, kind, value and stamp. Word 0 of the answer is 1, or 0 where the
+ * terms are in one class already, and then nothing else is written. Writes the class words of counted terms, and where a mark stands a record
+ * of `marks` and word 7 of the state. A term absent or no string term, another kind or number: refusal 5. */
 uint32_t labels_join(LABELS_WORDS(state), LABELS_WORDS(terms), LABELS_READ(cells), LABELS_READ(chars), LABELS_READ(reasons),
                      LABELS_READ(keys), LABELS_WORDS(marks), uint32_t a, uint32_t b, uint32_t kind, uint32_t number, LABELS_WORDS(answer));
 

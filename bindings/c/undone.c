@@ -1,5 +1,5 @@
 /* The undone merge of the manual: site and "B" are joined for the reason a3, `site ++ batch = "A7"` is asked, the join is undone, and it is
- * asked again. By the plain calls; `label.c` has the store and its calls. */
+ * asked again. By the plain calls; `examples/label.c` has the store and its calls. */
 #include "../labels.h"
 #include <stdio.h>
 #include <stdlib.h>

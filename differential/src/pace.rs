@@ -271,12 +271,15 @@ fn worst() {
     let none = Marked::unmarked(separate.store, free());
     tell("512 terms in one line, 7 joins after each mark", marked(none.clone(), 1, 7));
     tell("512 separate terms", marked(none, 1, 0));
-    let pairs = Marked::unmarked(long_pairs(127, 682), free());
-    tell("256 congruences of 682 pairs with paths of 254 edges, no mark", pairs.clone());
-    // 64 marks with no join: set by hand, since each call audits those before
-    let mut marks = pairs;
-    marks.store.state[6] = STANDING;
-    tell("the same with marks", marks);
+    // the most cells that go without a table of heights, with a smaller one, and at all
+    for pairs in [20, 170, 682] {
+        let mut s = Marked::unmarked(long_pairs(127, pairs), free());
+        let name = format!("256 congruences of {pairs} pairs with paths of 254 edges");
+        tell(&format!("{name}, no mark"), s.clone());
+        // 64 marks with no join: set by hand, since each call audits those before
+        s.store.state[6] = STANDING;
+        tell(&name, s);
+    }
 }
 
 // a line of joins, so that the way up from term 1 has so many edges in the forest and in its class; then 1 is joined with the last term

@@ -3,8 +3,8 @@
 use crate::Term;
 use std::fmt;
 
-/// Why a call was refused. After the first five, and after `Mark` and `Form`, the call has changed no word of the store; a question has set the count of
-/// its reasons to those that were handed in.
+/// Why a call was refused. After the first five, and after `Mark` and `Form`, the call has changed no word of the store; a question has set
+/// the count of its reasons to those that were handed in.
 ///
 /// ```
 /// use labels::{Refusal, Store};
@@ -23,11 +23,11 @@ pub enum Refusal {
     Records,
     /// classes and forest do not agree, or would not after going back to a mark
     Classes,
-    /// a congruence that its arguments do not give
+    /// a congruence that its parts do not give
     Congruences,
     /// a wrong argument
     Argument,
-    /// a flattened list above 1,024 atoms
+    /// a flattened list above 1,024 entries
     List,
     /// no room for a reason
     Reasons,
@@ -77,9 +77,9 @@ impl fmt::Display for Refusal {
             Refusal::Sizes => "a count above its limit, or a slice too short",
             Refusal::Records => "a record that breaks its rule",
             Refusal::Classes => "classes and forest do not agree, or would not after going back to a mark",
-            Refusal::Congruences => "a congruence that its arguments do not give",
+            Refusal::Congruences => "a congruence that its parts do not give",
             Refusal::Argument => "a wrong argument",
-            Refusal::List => "a flattened list above 1,024 atoms",
+            Refusal::List => "a flattened list above 1,024 entries",
             Refusal::Reasons => "no room for the next reason",
             Refusal::Room => "no room for a term, a cell, a character or a key",
             Refusal::Names => "no name left",
@@ -159,7 +159,7 @@ impl fmt::Display for Reason {
     }
 }
 
-/// A normal form: the list has the term's word wherever the reasons hold.
+/// A normal form: the list has the term's text wherever the reasons hold.
 ///
 /// ```
 /// let mut store = labels::Store::new();
@@ -172,7 +172,7 @@ impl fmt::Display for Reason {
 #[must_use = "what the form is used for rests on its reasons"]
 #[derive(Clone, PartialEq, Eq, Hash, Debug)]
 pub struct Form {
-    /// the terms of the list, in order
+    /// the entries of the list, in order
     pub atoms: Vec<Term>,
     /// those handed in, then those of what was replaced
     pub reasons: Vec<Reason>,
@@ -222,6 +222,18 @@ impl EmptyParts {
 }
 
 /// What the length of a side of constants leaves to each of the variables against it.
+///
+/// ```
+/// use labels::Span;
+/// let mut store = labels::Store::new();
+/// let (lot, hyphen, code) = (store.variable("lot")?, store.constant("-")?, store.constant("A7-A7")?);
+/// // five characters: the hyphen, and two for each of two places
+/// assert_eq!(store.forced_length(&[code], &[lot, hyphen, lot])?.span, Span::Length { length: 2, rest: 0 });
+/// // a constant of six characters against five
+/// let longer = store.constant("A7-A7-")?;
+/// assert_eq!(store.forced_length(&[code], &[lot, longer])?.span, Span::Shortage(1));
+/// # Ok::<(), labels::Refusal>(())
+/// ```
 #[derive(Clone, Copy, PartialEq, Eq, Hash, Debug)]
 pub enum Span {
     /// each variable has the same length
@@ -236,6 +248,16 @@ pub enum Span {
 }
 
 /// The forced length of a repeated field: with a rest above 0 or a shortage no text fits.
+///
+/// ```
+/// use labels::{Fit, Span};
+/// let mut store = labels::Store::new();
+/// let (lot, code) = (store.variable("lot")?, store.constant("777")?);
+/// // three characters for two places of one length
+/// let fit = store.forced_length(&[lot, lot], &[code])?;
+/// assert_eq!(fit, Fit { variables: 2, constant: 0, against: 3, span: Span::Length { length: 1, rest: 1 } });
+/// # Ok::<(), labels::Refusal>(())
+/// ```
 #[derive(Clone, Copy, PartialEq, Eq, Hash, Debug)]
 pub struct Fit {
     /// at how many places the variables stand: k
@@ -260,7 +282,7 @@ impl Fit {
     }
 }
 
-/// What a word equation comes to. What is said of the sides is true wherever the reasons hold, so each case but `Done` and `Unexpanded`, which
+/// What an equation comes to. What is said of the sides is true wherever the reasons hold, so each case but `Done` and `Unexpanded`, which
 /// say nothing of them, carries its reasons: keep them with whatever is kept of the answer. Reasons that were handed in come first.
 ///
 /// ```
@@ -288,7 +310,7 @@ impl Fit {
 #[must_use = "an answer says what has to be kept, and why"]
 #[derive(Clone, PartialEq, Eq, Hash, Debug)]
 pub enum Answer {
-    /// nothing is left to do
+    /// nothing is to be done as the classes stand, which does not say that the sides are equal: ask again once a class of their terms has changed
     Done,
     /// nothing can be said yet
     Saturated {
@@ -300,15 +322,15 @@ pub enum Answer {
         /// why they are
         reasons: Vec<Reason>,
     },
-    /// where the sides are equal the variable is equal to the word
+    /// where the sides are equal the variable has the text of a certain term
     Propagate {
         /// the variable
         variable: Term,
-        /// a term with the word that it has
+        /// a term that has the text
         word: Term,
-        /// whether an empty side stood against several variables
+        /// whether an empty side stood against several variables: then ask again once this one is joined with ""
         link: bool,
-        /// why it has that word
+        /// why it has that text
         reasons: Vec<Reason>,
     },
     /// where the sides are equal one of the atoms is true: the clause is the guard's literal, negated, or one of them
@@ -362,6 +384,15 @@ pub(crate) fn answered_case(answer: &[u32; 8], list: &[u32], reasons: Vec<Reason
     })
 }
 
+/// What an answer of 0 or 1 says. Another number is an error, not a no.
+pub(crate) fn flag(word: u32) -> Result<bool, Refusal> {
+    match word {
+        0 => Ok(false),
+        1 => Ok(true),
+        n => Err(Refusal::UnknownAnswer(n)),
+    }
+}
+
 /// The first terms of a list, as many as an answer counts.
 fn first(list: &[u32], count: u32) -> Result<Vec<Term>, Refusal> {
     list.get(..count as usize).map(<[u32]>::to_vec).ok_or(Refusal::UnknownAnswer(count))
@@ -387,6 +418,7 @@ mod tests {
         }
         assert_eq!(Form::of(&[2, 0, 0, 0, 0, 0, 0, 0], &[], vec![]), Err(Refusal::UnknownAnswer(2)));
         assert_eq!(Form::of(&[1, 1, 0, 0, 0, 0, 0, 0], &[], vec![]), Err(Refusal::UnknownAnswer(1)));
+        assert_eq!((flag(0), flag(1), flag(2)), (Ok(false), Ok(true), Err(Refusal::UnknownAnswer(2))));
         assert_eq!(outcome(12), Err(Refusal::Other(12)));
     }
 

@@ -1,6 +1,6 @@
 //! The label resolver's store and calls, with nothing unsafe for their user. Each call audits the store first.
 //!
-//! A term stands for a word: a constant for its own characters, a variable for any word, a concatenation for the words of its parts in
+//! A term stands for a text: a constant for its own characters, a variable for any text, a concatenation for the texts of its parts in
 //! order. Classes of terms are joined for reasons, and a question about an equation is answered with the reasons that the answer rests on.
 //!
 //! ```
@@ -35,7 +35,7 @@
 //!
 //! # What the caller sees to
 //!
-//! 512 KiB of stack have to be free when a call is made, as on a thread with Rust's default of 2 MiB. A store may be sent to another thread;
+//! 192 KiB of stack have to be free when a call is made, as on a thread with Rust's default of 2 MiB. A store may be sent to another thread;
 //! calls on different stores may run at the same time.
 
 #![deny(missing_docs)]
@@ -47,13 +47,13 @@ mod raw;
 pub use answer::{Answer, EmptyParts, Fit, Form, Reason, Refusal, Span};
 pub use display::Shown;
 
-use answer::{answered_case, outcome};
+use answer::{answered_case, flag, outcome};
 use std::fmt;
 
 /// The version of this crate, of `labels.h` and of the changelog.
 ///
 /// ```
-/// assert_eq!(labels::VERSION, "0.8.0");
+/// assert_eq!(labels::VERSION, "0.8.1");
 /// ```
 pub const VERSION: &str = env!("CARGO_PKG_VERSION");
 
@@ -159,7 +159,7 @@ const REASON_COUNT: usize = 3;
 pub struct Store {
     /// counts of terms, cells, characters, reasons and keys, the name counter, counts of marks and of recorded joins
     pub state: [u32; 8],
-    /// eight words a term: kind, first, second, class parent, forest parent, label kind, label value, stamp
+    /// eight words a term: kind, first, second, class parent, forest parent, edge kind, edge value, stamp
     pub terms: Vec<u32>,
     /// three words a cell: value, second value, next
     pub cells: Vec<u32>,
@@ -357,7 +357,7 @@ impl Store {
     /// ```
     pub fn join(&mut self, a: Term, b: Term, reason: Reason) -> Result<bool, Refusal> {
         let (kind, number) = reason.words();
-        Ok(self.answered(|s, w| raw::join(s, a, b, kind, number, w))? == 1)
+        flag(self.answered(|s, w| raw::join(s, a, b, kind, number, w))?)
     }
 
     /// Sets a mark and gives its number: from 1 in the order set, at most 64 standing.
@@ -448,7 +448,7 @@ impl Store {
         self.question().normal_form(known, t)
     }
 
-    /// The same with concatenations expanded, or None where that takes more than 256 atoms or meets one again.
+    /// The same with concatenations expanded, or None where that takes more than 256 entries or meets one again.
     ///
     /// ```
     /// use labels::Reason;
@@ -463,7 +463,7 @@ impl Store {
         self.question().deep_normal_form(known, t)
     }
 
-    /// The word equation between two lists of string terms; the guard, which a Split hands back negated, is neither 0 nor the lowest number.
+    /// The equation between two lists of string terms; the guard, which a Split hands back negated, is neither 0 nor the lowest number.
     /// Where one list is constants alone and the other constants and one variable that is alone in its class, once or more, the answer is
     /// Conflict exactly when no text for the variable makes the sides equal.
     ///
@@ -473,13 +473,20 @@ impl Store {
     /// let (x, a) = (store.variable("x")?, store.constant("a")?);
     /// let answer = store.resolve_equation(&[x], &[a], 1)?;
     /// assert_eq!(answer, Answer::Propagate { variable: x, word: a, link: false, reasons: vec![] });
+    ///
+    /// // batch ++ "-" ++ lot against a code: with lot and batch of one class the two places differ, and a7 is why
+    /// let (batch, lot) = (store.variable("batch")?, store.variable("lot")?);
+    /// let (hyphen, code) = (store.constant("-")?, store.constant("7-8")?);
+    /// store.join(lot, batch, labels::Reason::Asserted(7))?;
+    /// let answer = store.resolve_equation(&[batch, hyphen, lot], &[code], 1)?;
+    /// assert_eq!(answer, Answer::Conflict { reasons: vec![labels::Reason::Asserted(7)] });
     /// # Ok::<(), labels::Refusal>(())
     /// ```
     pub fn resolve_equation(&mut self, lhs: &[Term], rhs: &[Term], guard: i32) -> Result<Answer, Refusal> {
         self.question().resolve_equation(lhs, rhs, guard)
     }
 
-    /// The step over an equation of two string terms: the deep forms of its sides over the known list, then the word equation between them.
+    /// The step over an equation of two string terms: the deep forms of its sides over the known list, then the equation between them.
     /// Pass every string term as known: where one is left out the answer says less, and nothing wrong.
     ///
     /// ```
@@ -549,7 +556,7 @@ impl Store {
         Fit::of(&answer)
     }
 
-    /// Whether two lists are atom by atom the same.
+    /// Whether two lists are entry by entry the same.
     ///
     /// ```
     /// let mut store = labels::Store::new();
@@ -560,7 +567,7 @@ impl Store {
     pub fn nf_equal(&self, lhs: &[Term], rhs: &[Term]) -> Result<bool, Refusal> {
         let mut answer = [0; 8];
         outcome(raw::nf_equal(self, lhs, rhs, &mut answer))?;
-        Ok(answer[0] == 1)
+        flag(answer[0])
     }
 
     /// The reasons why the pairs of one class in two lists of equal length are equal, each once.

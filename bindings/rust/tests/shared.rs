@@ -1,6 +1,6 @@
 //! What the crate shares with `labels.h` and the changelog: the version, the sizes and the texts of refusals.
 
-use labels::{Refusal, CELLS, CHARS, KEYS, LIST, MARKS, REASONS, TERMS, VERSION};
+use labels::{Refusal, CELLS, CHARS, KEYS, LIST, MARKS, MAX_CHARACTER, REASONS, SPLIT_TERMS, TERMS, VERSION};
 use std::fs;
 
 fn file(path: &str) -> String {
@@ -9,7 +9,11 @@ fn file(path: &str) -> String {
 
 #[test]
 fn one_version() {
-    assert!(file("../labels.h").contains(&format!("#define LABELS_VERSION \"{VERSION}\"\n")));
+    let header = file("../labels.h");
+    assert!(header.contains(&format!("#define LABELS_VERSION \"{VERSION}\"\n")));
+    for (name, number) in ["MAJOR", "MINOR", "PATCH"].into_iter().zip(VERSION.split('.')) {
+        assert!(header.contains(&format!("#define LABELS_VERSION_{name} {number}\n")), "{name}");
+    }
     let changelog = file("../../CHANGELOG.md");
     let newest = changelog.lines().find_map(|line| line.strip_prefix("## ")).unwrap();
     assert_eq!(newest, VERSION);
@@ -19,9 +23,10 @@ fn one_version() {
 fn the_same_sizes() {
     let header = file("../labels.h");
     let sizes = [("MAX_TERMS", TERMS), ("MAX_CELLS", CELLS), ("MAX_CHARS", CHARS), ("MAX_REASONS", REASONS), ("MAX_KEYS", KEYS)];
-    for (name, size) in sizes.into_iter().chain([("LIST_WORDS", LIST), ("MARK_WORDS", MARKS)]) {
+    for (name, size) in sizes.into_iter().chain([("LIST_WORDS", LIST), ("MARK_WORDS", MARKS), ("MAX_SPLIT_TERMS", SPLIT_TERMS)]) {
         assert!(header.contains(&format!("#define LABELS_{name} {size}\n")), "{name}");
     }
+    assert!(header.contains(&format!("#define LABELS_MAX_CHARACTER {MAX_CHARACTER:#X}\n")));
 }
 
 #[test]
@@ -38,6 +43,7 @@ fn the_same_texts() {
         ("ROOM", Refusal::Room),
         ("NAMES", Refusal::Names),
         ("MARK", Refusal::Mark),
+        ("FORM", Refusal::Form),
     ];
     for (name, refusal) in refusals {
         assert!(header.contains(&format!("LABELS_REFUSED_{name} = {}", refusal.number().unwrap())), "{name}");

@@ -1,7 +1,10 @@
-//! A call does with 512 KiB of stack on the worst store known: a tower of congruences, each explained by the one below it.
+//! The calls do with 192 KiB of stack on the stores that take most of it, a tower of congruences above all, each explained by the one below it.
 
-use labels::{Answer, Reason, Store, Term, TERMS};
+use labels::{Answer, Fit, Reason, Span, Store, Term, LIST, TERMS};
 use std::thread;
+
+/// What the header asks for. A thread's own words are within it, so a call has less.
+const STACK: usize = 192 * 1024;
 
 /// x is x ++ z by a1, and each further t ++ z is t by a congruence with the one below: one term a level, up to the limit of terms. On the top
 /// two stand the variables u and v, by a6 and a7; the third term given is their equation. `join` makes no congruences, so these are written
@@ -34,7 +37,7 @@ fn under_a_tower() -> (Store, [Term; 3]) {
 }
 
 fn in_a_thread<T: Send + 'static>(mut s: Store, ask: impl FnOnce(&mut Store) -> T + Send + 'static) -> T {
-    thread::Builder::new().stack_size(512 * 1024).spawn(move || ask(&mut s)).unwrap().join().unwrap()
+    thread::Builder::new().stack_size(STACK).spawn(move || ask(&mut s)).unwrap().join().unwrap()
 }
 
 #[test]
@@ -42,10 +45,61 @@ fn questions_through_a_tower() {
     let (s, [u, v, e]) = under_a_tower();
     assert_eq!(in_a_thread(s.clone(), move |s| s.step(&[u], e, 1)), Ok(Answer::Done));
     assert_eq!(in_a_thread(s.clone(), move |s| s.step(&[], e, 1)), Ok(Answer::Done));
+    assert_eq!(in_a_thread(s.clone(), move |s| s.resolve_equation(&[u, u], &[v, v], 1)), Ok(Answer::Done));
     let mut explained = in_a_thread(s.clone(), move |s| s.explain(u, v)).unwrap();
     explained.sort();
     assert_eq!(explained, [1, 6, 7].map(Reason::Asserted));
-    let mut form = in_a_thread(s, move |s| s.deep_normal_form(&[u], v)).unwrap().unwrap();
+    let mut equal = in_a_thread(s.clone(), move |s| s.nf_equal_explain(&[u], &[v])).unwrap();
+    equal.sort();
+    assert_eq!(equal, explained);
+    let mut form = in_a_thread(s.clone(), move |s| s.normal_form(&[u], v)).unwrap();
     form.reasons.sort();
-    assert_eq!((form.atoms, form.reasons), (vec![u], explained));
+    assert_eq!((form.atoms, &form.reasons), (vec![u], &explained));
+    let mut deep = in_a_thread(s, move |s| s.deep_normal_form(&[u], v)).unwrap().unwrap();
+    deep.reasons.sort();
+    assert_eq!((deep.atoms, deep.reasons), (vec![u], explained));
+}
+
+#[test]
+fn concatenations_within_each_other() {
+    let mut s = Store::new();
+    let x = s.variable("x").unwrap();
+    let t = (0..508).fold(x, |t, _| s.concatenation(&[t, x]).unwrap());
+    let empty = s.constant("").unwrap();
+    assert_eq!(in_a_thread(s.clone(), move |s| s.normal_form(&[], t)).unwrap().atoms, vec![x; 509]);
+    assert_eq!(in_a_thread(s.clone(), move |s| s.deep_normal_form(&[], t)), Ok(None));
+    let answer = in_a_thread(s, move |s| s.resolve_equation(&[t], &[t - 1], 1)).unwrap();
+    assert_eq!(answer, Answer::Propagate { variable: x, word: empty, link: false, reasons: vec![] });
+}
+
+#[test]
+fn lists_of_most_entries() {
+    let mut s = Store::new();
+    let x = s.variable("x").unwrap();
+    let code = s.constant(&"A".repeat(16_000)).unwrap();
+    let fit = in_a_thread(s.clone(), move |s| s.forced_length(&[x; LIST], &[code; LIST]));
+    assert_eq!(fit, Ok(Fit { variables: 1024, constant: 0, against: 16_384_000, span: Span::Length { length: 16_000, rest: 0 } }));
+    let answer = in_a_thread(s.clone(), move |s| s.resolve_equation(&[x; LIST], &[code; LIST], 1));
+    assert!(matches!(answer, Ok(Answer::Split { .. })), "{answer:?}");
+    let parts = in_a_thread(s, move |s| s.empty_parts(&[], &[x; LIST])).unwrap();
+    assert_eq!(parts.variables, [x]);
+}
+
+#[test]
+fn joins_of_most_terms() {
+    let mut s = Store::new();
+    let line: Vec<Term> = (0..TERMS).map(|i| s.variable(&format!("x{i}")).unwrap()).collect();
+    let (first, last) = (line[0], line[TERMS - 1]);
+    let joined = in_a_thread(s, move |s| {
+        for (i, pair) in line.windows(2).enumerate() {
+            if i % 8 == 0 {
+                s.set_mark().unwrap();
+            }
+            s.join(pair[0], pair[1], Reason::Asserted(i as u32)).unwrap();
+        }
+        let all = s.explain(line[0], line[TERMS - 1]).unwrap().len();
+        s.go_back(1).unwrap();
+        (all, s.find(first) == s.find(last))
+    });
+    assert_eq!(joined, (TERMS - 1, false));
 }

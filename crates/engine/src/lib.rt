@@ -19,8 +19,7 @@ use records::rules;
 
 mod listing;
 
-// How far a walk came: 0 and the count of reasons, or the refusal. A walk is given the counts and hands back that of the reasons alone,
-// because a walk within a walk keeps what it was handed on the stack.
+// How far a walk came: 0 and the count of reasons, or the refusal.
 pub struct Walked {
     pub code: u32,
     pub count: usize,
@@ -61,15 +60,14 @@ pub fn find(
     Found::Root(r)
 }
 
-// The place of the pair {a, b} in a table for numbers up to n.
-fn place(n: usize, a: u32, b: u32) -> usize
-    requires { ⌜ n ≤ 512 ⌝ }
-    ensures { λ r. ⌜ r ≡ place n a b ⌝ }
+// The place of the pair {a, b} in the table: pairs whose higher number is lower come first.
+fn place(a: u32, b: u32) -> usize
+    ensures { λ r. ⌜ r ≡ place a b ⌝ }
 {
     if a < b {
-        return (a as usize) * (n + 1) + (b as usize);
+        return (b as usize) * ((b as usize) + 1) / 2 + (a as usize);
     }
-    (b as usize) * (n + 1) + (a as usize)
+    (a as usize) * ((a as usize) + 1) / 2 + (b as usize)
 }
 
 // Whether the pair of the place k was seen.
@@ -93,69 +91,72 @@ fn note_seen(table: &mut [u32], k: usize)
     table[i] = w + (1 << j);
 }
 
-// One reason more, that of the edge from node, unless the list has it.
+// One reason more, that of an edge, unless the list has it.
 fn give(
     reasons: &mut [u32],
-    c: State,
+    count: usize,
     kind: u32,
     value: u32,
-    node: u32,
+    slot: usize,
     places: &mut [u32],
 ) -> Walked
-    requires { ⌜ c .reasons ≤ reasonRoom (now reasons) ⌝ }
-    ensures { λ r. ⌜ Gives (now (reasons .entry)) (now (reasons .exit)) (c .reasons) kind value r ⌝ }
+    requires { ⌜ count ≤ reasonRoom (now reasons) ⌝ }
+    ensures { λ r. ⌜ Gives (now (reasons .entry)) (now (reasons .exit)) (now (places .entry)) (now (places .exit)) count kind value slot r ⌝ }
 {
-    if listing::is_listed(reasons, c.reasons, places, node, kind, value) {
+    if listing::is_listed(reasons, count, places, slot, kind, value) {
         return Walked {
             code: 0,
-            count: c.reasons,
+            count: count,
         };
     }
-    let p = put::push_reason_unchecked(reasons, c, kind, value);
-    match p {
-        Added::Counts(d) => Walked {
+    if put::push_reason_unchecked(reasons, count, kind, value) {
+        return Walked {
             code: 0,
-            count: d.reasons,
-        },
-        Added::Refused(k) => Walked {
-            code: k,
-            count: c.reasons,
-        },
+            count: count + 1,
+        };
+    }
+    Walked {
+        code: 7,
+        count: count,
     }
 }
 
-// Walks a up to the nearest shared ancestor, then b: each edge's reasons, in that order. A pair seen before is skipped.
+// Walks a up to the nearest shared ancestor, then b: each edge's reasons, in that order. A pair seen before is skipped. `table` has
+// from its start a bit for each pair seen, and from its end a word for each term, where the reason of the term's edge was found last
+// (see is_listed). It is one slice, and of the counts a walk is handed those that it reads, because a walk within a walk keeps what it
+// was handed on the stack.
 fn explain_rec(
     terms: &[u32],
     cells: &[u32],
-    c: State,
+    n: usize,
+    k: usize,
     a: u32,
     b: u32,
-    seen: &mut [u32],
+    table: &mut [u32],
     reasons: &mut [u32],
-    places: &mut [u32],
+    count: usize,
 ) -> Walked
-    requires { ⌜ Walkable (now terms) (now cells) (now seen) (now reasons) (c .terms) (c .cells) (c .reasons) (λ s. Together s (a, b)) ⌝ }
-    ensures { λ r. ⌜ Along (Walks (walked (a, b)) (λ s. Together s (a, b))) terms cells seen reasons c r ⌝ }
+    requires { ⌜ Walkable (now terms) (now cells) (now table) (now reasons) n k count (λ s. Together s (a, b)) ⌝ }
+    ensures { λ r. ⌜ Along (Walks (walked (a, b)) (λ s. Together s (a, b))) terms cells table reasons n k count r ⌝ }
 {
     if a == b {
         return Walked {
             code: 0,
-            count: c.reasons,
+            count: count,
         };
     }
-    let at = place(c.terms, a, b);
-    if is_seen(seen, at) {
+    let at = place(a, b);
+    if is_seen(table, at) {
         return Walked {
             code: 0,
-            count: c.reasons,
+            count: count,
         };
     }
-    note_seen(seen, at);
-    let top = classes::nearest_unchecked(terms, c.terms, a, b);
+    note_seen(table, at);
+    let top = classes::nearest_unchecked(terms, n, a, b);
     let mut x = a;
     let mut last = false;
-    let mut given = c.reasons;
+    let mut given = count;
     loop {
         if x == top {
             if last {
@@ -167,8 +168,7 @@ fn explain_rec(
             last = true;
             x = b;
         } else {
-            let d = c.with_reasons(given);
-            let r = expand_edge(terms, cells, d, x, seen, reasons, places);
+            let r = expand_edge(terms, cells, n, k, x, table, reasons, given);
             if r.code != 0 {
                 return r;
             }
@@ -178,32 +178,37 @@ fn explain_rec(
     }
 }
 
-// The reasons of the edge from node to its forest parent, by the label's kind.
+// The reasons of the edge from node to its forest parent, by the label's kind. A pair of a term and itself takes no walk.
 fn expand_edge(
     terms: &[u32],
     cells: &[u32],
-    c: State,
+    n: usize,
+    k: usize,
     node: u32,
-    seen: &mut [u32],
+    table: &mut [u32],
     reasons: &mut [u32],
-    places: &mut [u32],
+    count: usize,
 ) -> Walked
-    requires { ⌜ Walkable (now terms) (now cells) (now seen) (now reasons) (c .terms) (c .cells) (c .reasons) (λ s. Edge s node) ⌝ }
-    ensures { λ r. ⌜ Along (Walks (edge walked node) (λ s. Edge s node)) terms cells seen reasons c r ⌝ }
+    requires { ⌜ Walkable (now terms) (now cells) (now table) (now reasons) n k count (λ s. Edge s node) ⌝ }
+    ensures { λ r. ⌜ Along (Walks (edge walked node) (λ s. Edge s node)) terms cells table reasons n k count r ⌝ }
 {
     let kind = fields::label_kind(terms, node);
     let value = fields::label_value(terms, node);
+    let number = node as usize;
     match kind {
-        1 => give(reasons, c, 1, value, node, places),
-        2 => give(reasons, c, 2, value, node, places),
+        1 => give(reasons, count, 1, value, table.len() - 1 - number, table),
+        2 => give(reasons, count, 2, value, table.len() - 1 - number, table),
         3 => {
             let mut at = value;
-            let mut given = c.reasons;
+            let mut given = count;
             while at != 0 {
                 let s = fields::value(cells, at);
                 let t = fields::other(cells, at);
-                let d = c.with_reasons(given);
-                let r = explain_rec(terms, cells, d, s, t, seen, reasons, places);
+                if s == t {
+                    at = fields::next(cells, at);
+                    continue;
+                }
+                let r = explain_rec(terms, cells, n, k, s, t, table, reasons, given);
                 if r.code != 0 {
                     return r;
                 }
@@ -217,16 +222,16 @@ fn expand_edge(
         }
         4 => Walked {
             code: 0,
-            count: c.reasons,
+            count: count,
         },
         _ => Walked {
             code: 3,
-            count: c.reasons,
+            count: count,
         },
     }
 }
 
-// The tables are cleared at each call, so a store of few terms has small ones.
+// The table is cleared at each call, so a store of few terms has a small one.
 fn explain_few(
     terms: &[u32],
     cells: &[u32],
@@ -238,9 +243,18 @@ fn explain_few(
     requires { ⌜ (c .terms ≤ 31) × Explainable (now terms) (now cells) (now reasons) (c .terms) (c .cells) a b (c .reasons) ⌝ }
     ensures { λ r. ⌜ PairExplained terms cells reasons c a b r ⌝ }
 {
-    let mut seen: [u32; 32] = [0; 32];
-    let mut places: [u32; 32] = [0; 32];
-    explain_rec(terms, cells, c, a, b, &mut seen, reasons, &mut places)
+    let mut table: [u32; 49] = [0; 49];
+    explain_rec(
+        terms,
+        cells,
+        c.terms,
+        c.cells,
+        a,
+        b,
+        &mut table,
+        reasons,
+        c.reasons,
+    )
 }
 
 fn explain_some(
@@ -254,9 +268,43 @@ fn explain_some(
     requires { ⌜ (c .terms ≤ 127) × Explainable (now terms) (now cells) (now reasons) (c .terms) (c .cells) a b (c .reasons) ⌝ }
     ensures { λ r. ⌜ PairExplained terms cells reasons c a b r ⌝ }
 {
-    let mut seen: [u32; 512] = [0; 512];
-    let mut places: [u32; 128] = [0; 128];
-    explain_rec(terms, cells, c, a, b, &mut seen, reasons, &mut places)
+    let mut table: [u32; 386] = [0; 386];
+    explain_rec(
+        terms,
+        cells,
+        c.terms,
+        c.cells,
+        a,
+        b,
+        &mut table,
+        reasons,
+        c.reasons,
+    )
+}
+
+fn explain_more(
+    terms: &[u32],
+    cells: &[u32],
+    c: State,
+    a: u32,
+    b: u32,
+    reasons: &mut [u32],
+) -> Walked
+    requires { ⌜ (c .terms ≤ 256) × Explainable (now terms) (now cells) (now reasons) (c .terms) (c .cells) a b (c .reasons) ⌝ }
+    ensures { λ r. ⌜ PairExplained terms cells reasons c a b r ⌝ }
+{
+    let mut table: [u32; 1294] = [0; 1294];
+    explain_rec(
+        terms,
+        cells,
+        c.terms,
+        c.cells,
+        a,
+        b,
+        &mut table,
+        reasons,
+        c.reasons,
+    )
 }
 
 fn explain_many(
@@ -270,9 +318,18 @@ fn explain_many(
     requires { ⌜ (c .terms ≤ 512) × Explainable (now terms) (now cells) (now reasons) (c .terms) (c .cells) a b (c .reasons) ⌝ }
     ensures { λ r. ⌜ PairExplained terms cells reasons c a b r ⌝ }
 {
-    let mut seen: [u32; 8225] = [0; 8225];
-    let mut places: [u32; 513] = [0; 513];
-    explain_rec(terms, cells, c, a, b, &mut seen, reasons, &mut places)
+    let mut table: [u32; 4634] = [0; 4634];
+    explain_rec(
+        terms,
+        cells,
+        c.terms,
+        c.cells,
+        a,
+        b,
+        &mut table,
+        reasons,
+        c.reasons,
+    )
 }
 
 // As expand_edge, for an edge that leads to no other pair. Any other is left to expand_edge.
@@ -283,8 +340,8 @@ fn plain_edge(terms: &[u32], c: State, node: u32, reasons: &mut [u32], places: &
     let kind = fields::label_kind(terms, node);
     let value = fields::label_value(terms, node);
     match kind {
-        1 => Plain::Ended(give(reasons, c, 1, value, node, places)),
-        2 => Plain::Ended(give(reasons, c, 2, value, node, places)),
+        1 => Plain::Ended(give(reasons, c.reasons, 1, value, node as usize, places)),
+        2 => Plain::Ended(give(reasons, c.reasons, 2, value, node as usize, places)),
         4 => Plain::Ended(Walked {
             code: 0,
             count: c.reasons,
@@ -363,12 +420,15 @@ fn explain_pair(
     if c.terms < 128 {
         return explain_some(terms, cells, c, a, b, reasons);
     }
+    if c.terms <= 256 {
+        return explain_more(terms, cells, c, a, b, reasons);
+    }
     explain_many(terms, cells, c, a, b, reasons)
 }
 
 // The reasons why a and b, string terms of one class, are equal, after those that are there; one that is there is not added. A loop
 // that explains keeps `places` from one pair to the next (see is_listed): 513 words, a term's number being at most 512; for one pair none.
-// A walk through congruences, which can meet an edge again, has a table of its own.
+// A walk through congruences, which can meet an edge again, has places of its own, in its table.
 pub fn explain_unchecked(
     terms: &[u32],
     cells: &[u32],

@@ -1,13 +1,8 @@
 // Whether the list of reasons has one already.
-ghost use mathlib.Core.Path.{_≡_};
-ghost use mathlib.Core.Bool.{true};
 ghost use Prim.Native.Nat.{_*_, _≤_};
-ghost use lib.Dec.{ltb};
 ghost use lib.ListN.{length};
-ghost use Rattle.records.specs.Lists.{any};
-ghost use Rattle.records.specs.View.{pairsView, reasonRoom};
-ghost use Rattle.records.specs.Make.{samePair, isListed};
-ghost use Rattle.engine.specs.Working.Listing.{Placed, Stands};
+ghost use Rattle.records.specs.View.{reasonRoom};
+ghost use Rattle.engine.specs.Working.Listing.{Placed, Stands, Looked};
 use records::fields;
 use records::put;
 
@@ -40,21 +35,20 @@ fn is_at(pairs: &[u32], n: usize, place: usize, a: u32, b: u32) -> bool
     put::pair_is_unchecked(pairs, place - 1, a, b)
 }
 
-// Whether the first n reasons have this one. `places` has at `node` where the reason of that term's edge was found last. It is
-// believed only where the reason stands there, so the answer is right whatever `places` has.
+// Whether the first n reasons have this one. `places` has at `slot`, which an edge has to itself, where the edge's reason was found
+// last. It is believed only where the reason stands there, so the answer is right whatever `places` has.
 pub(crate) fn is_listed(
     reasons: &[u32],
     n: usize,
     places: &mut [u32],
-    node: u32,
+    slot: usize,
     kind: u32,
     value: u32,
 ) -> bool
     requires { ⌜ n ≤ reasonRoom (now reasons) ⌝ }
-    ensures { λ r. ⌜ r ≡ isListed (kind, value) (pairsView (now (reasons .entry)) n) ⌝ }
+    ensures { λ r. ⌜ Looked (now (reasons .entry)) (now (places .entry)) (now (places .exit)) n kind value slot r ⌝ }
 {
-    let t = node as usize;
-    let last = fields::word(places, t) as usize;
+    let last = fields::word(places, slot) as usize;
     if is_at(reasons, n, last, kind, value) {
         return true;
     }
@@ -62,8 +56,8 @@ pub(crate) fn is_listed(
     if p == 0 {
         return false;
     }
-    if t < places.len() {
-        places[t] = p as u32;
+    if slot < places.len() {
+        places[slot] = p as u32;
     }
     true
 }

@@ -39,7 +39,7 @@ fn has_one_class(terms: &[u32], chars: &[u32], c: State, side: &[u32]) -> bool
     if side.len() <= i {
         return false;
     }
-    spans::all_agree(terms, chars, c, &side[i + 1..side.len()], side[i])
+    spans::all_agree_unchecked(terms, chars, c, &side[i + 1..side.len()], side[i])
 }
 
 // Whether one side is constants only and the other has one variable class.
@@ -64,8 +64,8 @@ fn side_fit(terms: &[u32], chars: &[u32], c: State, word: &[u32], side: &[u32]) 
       ⌜ fitted o s ≡ ok s (sideFit s (now (word .entry)) (now (side .entry))) ⌝ }
 {
     let k = spans::variables_length(terms, c, side);
-    let n = sides::letters_length(terms, c, side);
-    let l = sides::letters_length(terms, c, word);
+    let n = sides::letters_length_unchecked(terms, c, side);
+    let l = sides::letters_length_unchecked(terms, c, word);
     if l < n {
         return Forced::Shortage(k, n, l, n - l);
     }

@@ -8,7 +8,7 @@ use Prim.Native.Nat.{ℕ, zero, suc, _+_, _≤_, _<_}
 use native.Mathlib.Nat.{le-antisymm, eq-or-lt-of-le, le-of-suc-le-suc, not-suc-le-zero}
 use native.Mathlib.Numerals.{add-one}
 use native.Mathlib.Omega.{arith}
-use lib.ListN.{length, take, drop, getD, length-append, List·getD-append, List·getD-eq-default}
+use lib.ListN.{length, take, drop, getD, replicate, length-append, List·getD-append, List·getD-eq-default}
 use lib.Seq.{getD-at}
 use lib.Dec.{eqb, ltb}
 use borrow.Author.Tests.{not-true, not-false, eqb-true, eq-eqb, ltb-true, leb-true, lt-ltb, le-leb, le-ltb, lt-leb}
@@ -343,6 +343,12 @@ module _ {A : Type 0} where
 
 pub each-turn : (q : ℕ → Bool) (i : ℕ) (b : Bool) → b ≡ q (i + 1) → not b ≡ false → allBelow (λ j. q (suc j)) i ≡ true → allBelow (λ j. q (suc j)) (i + 1) ≡ true
 each-turn q i b e h g = below-turn (λ j. q (suc j)) i b (rw add-one at e) h g
+
+-- a table that was cleared
+pub all-zero : (w i : ℕ) → _≡_ {A = ℕ} (getD (replicate w 0) i 0) 0
+all-zero zero i = refl
+all-zero (suc w) zero = refl
+all-zero (suc w) (suc i) = all-zero w i
 
 -- SOME ELEMENT
 

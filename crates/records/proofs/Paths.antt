@@ -1,4 +1,4 @@
--- Walking what stands above a term in the lent words: flags, the nearest shared ancestor, and the stamps of a path.
+-- Walking what stands above a term in the lent words: the nearest shared ancestor, and the stamps of a path.
 use mathlib.Core.Path.{_≡_, refl, sym, ap, _∙_}
 use mathlib.Core.Bool.{Bool, true, false, not, _&&_, _||_, false≢true}
 use mathlib.Core.List.{List, [], _∷_}
@@ -6,18 +6,16 @@ use mathlib.Core.Logic.{_⊎_, ⊎-elim}
 use mathlib.Core.Option.{Option, none, some}
 use Prim.Native.Nat.{ℕ, zero, suc, _+_, _-_, _≤_, _<_}
 use native.Mathlib.Omega.{arith}
-use lib.ListN.{length, getD, set, length-set}
-use lib.Seq.{getD-set-same, getD-set-other}
+use lib.ListN.{length}
 use lib.Dec.{eqb}
-use borrow.Author.Tests.{eqb-true, eqb-false, eq-eqb, ne-eqb, lt-ltb, le-ltb}
+use borrow.Author.Tests.{eqb-true, eqb-false, eq-eqb, ne-eqb}
 use Rattle.records.specs.Lists.{all, any, firstOf, isIn, upTo, Every, none-left, and}
-use Rattle.records.specs.Working.Leaves.{flagged, isFlagged}
 use Rattle.records.specs.Store.{Term, within, climb, forestUp, topIn, aboveBy, aboveIn, orNone, nearestIn, pathIn}
-use Rattle.records.specs.View.{termsView, termAt}
-use Rattle.records.specs.Rules.{stampBelow}
-use Rattle.records.specs.Working.Audited.{Closed}
-use Rattle.records.proofs.Lists.{or-right, right-falsum, every-map, every-both, every-mem, all-append, either, or-left, decide, clash, within-low, within-high}
-use Rattle.records.proofs.Climbs.{climb-stays, climb-up, above-step, view-term, view-forest, view-count}
+use Rattle.records.specs.View.{termsView, termAt, termWords}
+use Rattle.records.specs.Working.Leaves.{levels, Lifted}
+use Rattle.records.specs.Working.Audited.{Closed, Pathed}
+use Rattle.records.proofs.Lists.{or-right, every-map, every-both, every-mem, all-append, either, or-left, decide, clash, within-low, within-high}
+use Rattle.records.proofs.Climbs.{climb-stays, climb-up, above-step, above-root, above-is, view-forest, view-count}
 use Rattle.records.proofs.Rises.{is-in}
 
 -- THE LOOP
@@ -66,38 +64,6 @@ module _ {A : Type 0} {l : List ℕ} {n : ℕ} {f : List ℕ → A} {whole : A} 
   unfolding aboveBy
   rising-done h = let e : suc n - i ≡ 0 = omega arith in rw e at (p .left)
 
--- FLAGS
-
-module _ (s : List ℕ) (x : ℕ) (r : List ℕ) where
-  pub seek-here : getD s x 0 ≡ 1 → orNone (firstOf (isFlagged s) (x ∷ r)) ≡ x
-  unfolding firstOf isFlagged
-  seek-here e = rw (eq-eqb (getD s x 0) 1 e, orNone)
-
-  pub seek-past : (getD s x 0 ≡ 1 → ⊥) → orNone (firstOf (isFlagged s) (x ∷ r)) ≡ orNone (firstOf (isFlagged s) r)
-  unfolding firstOf isFlagged
-  seek-past d = rw (ne-eqb (getD s x 0) 1 d, orNone)
-
-pub seek-none : (s : List ℕ) → orNone (firstOf (isFlagged s) []) ≡ 0
-unfolding firstOf
-seek-none s = refl
-
-unflagged : (s : List ℕ) (x : ℕ) → getD s x 0 ≡ 0 → isFlagged s x ≡ false
-unfolding isFlagged
-unflagged s x e = ne-eqb (getD s x 0) 1 (λ z. omega arith)
-
--- a number is flagged where it is one of those flagged
-pub flagged-is : (l s : List ℕ) (x : ℕ) → x < length s → isFlagged (flagged l s) x ≡ isIn x l || isFlagged s x
-unfolding flagged isFlagged isIn any
-flagged-is [] s x h = refl
-flagged-is (y ∷ l) s x h =
-    let q = flagged-is l (set s y 1) x (simp length-set (omega arith)) in
-    q ∙ decide (eqb x y)
-    (λ e.
-    let d : x ≡ y = eqb-true x y e in
-    let m : getD (set s y 1) x 0 ≡ 1 = rw d (getD-set-same s y 1 0 (omega arith)) in
-    rw (e, m) (or-right (any (eqb x) l) true refl))
-    (λ e. rw (e, getD-set-other s y x 1 0 (eqb-false x y e)))
-
 module _ {A : Type 0} (p q : A → Bool) where
   pub first-same : (l : List A) → Every (λ x. p x ≡ q x) l → firstOf p l ≡ firstOf q l
   unfolding firstOf
@@ -113,45 +79,20 @@ above-within ts n (suc k) x h w = and w (go (eqb (forestUp ts x) x) (above-withi
     go true e = none-left
     go false e = e
 
--- the first flagged term of a's is the nearest shared ancestor
-pub nearest-is : (ts : List Term) (n a b : ℕ) (s z : List ℕ) (r : ℕ) → Closed (forestUp ts) n → within n a ≡ true → n < length z → ((i : ℕ) → i < length z → getD z i 0 ≡ 0)
-    → s ≡ flagged (aboveIn ts b) z → r ≡ orNone (firstOf (isFlagged s) (aboveIn ts a)) → r ≡ nearestIn ts a b
-unfolding nearestIn
-nearest-is ts n a b s z r k w h f e d =
-    d ∙ ap orNone (first-same (isFlagged s) (λ x. isIn x (aboveIn ts b)) (aboveIn ts a) (every-map (λ x v. agree x (within-high n x v)) (above-within ts n (suc (length ts)) a k w)))
-  where
-    agree : (x : ℕ) → x ≤ n → isFlagged s x ≡ isIn x (aboveIn ts b)
-    agree x v =
-        let l : x < length z = omega arith in
-        let m = flagged-is (aboveIn ts b) z x l in
-        let u = unflagged z x (f x l) in
-        let o = right-falsum (isIn x (aboveIn ts b)) false refl in cc
-
 -- THE STAMPS OF A PATH
 
 module _ (q : ℕ → Bool) (y x : ℕ) (r : List ℕ) where
-  pub upto-end : x ≡ y → true ≡ all q (upTo y (x ∷ r))
+  pub upto-end : x ≡ y → all q (upTo y (x ∷ r)) ≡ true
   unfolding upTo all
   upto-end e = rw (eq-eqb x y e, all)
 
-  pub upto-stop : (x ≡ y → ⊥) → q x ≡ false → all q (upTo y (x ∷ r)) ≡ false
+  pub upto-next : (x ≡ y → ⊥) → all q (upTo y (x ∷ r)) ≡ (q x && all q (upTo y r))
   unfolding upTo all
-  upto-stop d h = rw (ne-eqb x y d, all, h)
-
-  pub upto-turn : (x ≡ y → ⊥) → q x ≡ true → all q (upTo y (x ∷ r)) ≡ all q (upTo y r)
-  unfolding upTo all
-  upto-turn d h = rw (ne-eqb x y d, all, h)
+  upto-next d = rw (ne-eqb x y d, all)
 
 pub upto-none : (q : ℕ → Bool) (y : ℕ) → all q (upTo y []) ≡ true
 unfolding upTo all
 upto-none q y = refl
-
-module _ (l : List ℕ) (n z m v : ℕ) (w : within n z ≡ true) (e : v ≡ termAt l z .stamp) where
-  pub stamp-high : m ≤ v → stampBelow (termsView l n) m z ≡ false
-  stamp-high h = rw (view-term l n z w) (le-ltb (termAt l z .stamp) m (omega arith))
-
-  pub stamp-low : v < m → stampBelow (termsView l n) m z ≡ true
-  stamp-low h = rw (view-term l n z w) (lt-ltb (termAt l z .stamp) m (omega arith))
 
 -- a path's stamps are those of its two sides
 pub path-sides : (q : ℕ → Bool) (ts : List Term) (a b : ℕ) → all q (pathIn ts a b) ≡ (all q (upTo (nearestIn ts a b) (aboveIn ts a)) && all q (upTo (nearestIn ts a b) (aboveIn ts b)))
@@ -223,3 +164,252 @@ module _ (ts : List Term) (closed : Closed (forestUp ts) (length ts)) (ends : (t
             let l = within-low (length ts) x (h .0 .0) in
             let n : eqb x 0 ≡ false = ne-eqb x 0 (λ z. omega arith) in
             eq-eqb _ _ (sym (h .0 .1) ∙ u) ∙ sym (ap not n)
+
+-- GOING UP TO THE NEAREST SHARED ANCESTOR
+
+levels-some : (ts : List Term) (t : ℕ) → 1 ≤ levels ts t
+unfolding aboveBy
+levels-some ts t = omega arith
+
+-- a root alone has one
+levels-root : (ts : List Term) (t : ℕ) → (levels ts t ≡ 1 → ⊥) → forestUp ts t ≡ t → ⊥
+levels-root ts t d e = d (ap length (above-root ts t e))
+
+-- the first that passes, where the head does not
+first-later : {A : Type 0} (p : A → Bool) (x : A) (l : List A) → p x ≡ false → firstOf p (x ∷ l) ≡ firstOf p l
+unfolding firstOf
+first-later p x l e = rw (e, firstOf)
+
+first-none : {A : Type 0} (p : A → Bool) → firstOf p [] ≡ none
+unfolding firstOf
+first-none p = refl
+
+in-none : (x : ℕ) → isIn x [] ≡ false
+unfolding isIn any
+in-none x = refl
+
+in-later : (x y : ℕ) (l : List ℕ) → (x ≡ y → ⊥) → isIn x (y ∷ l) ≡ isIn x l
+unfolding isIn any
+in-later x y l d = rw (ne-eqb x y d)
+
+module _ (ts : List Term) (closed : Closed (forestUp ts) (length ts)) (ends : (t : ℕ) → within (length ts) t ≡ true → forestUp ts (topIn ts t) ≡ topIn ts t) where
+  -- what stands above a term has no more above it
+  above-fewer : (k x : ℕ) → within (length ts) x ≡ true → Every (λ y. levels ts y ≤ levels ts x) (aboveBy k ts x)
+  unfolding aboveBy
+  above-fewer zero x w = none-left
+  above-fewer (suc k) x w = and {a = x} (let h : levels ts x ≤ levels ts x = omega arith in h) (go (eqb (forestUp ts x) x) refl (above-fewer k (forestUp ts x) (closed .stays x w)))
+    where
+      go : (b : Bool) → eqb (forestUp ts x) x ≡ b → Every (λ y. levels ts y ≤ levels ts (forestUp ts x)) (aboveBy k ts (forestUp ts x))
+          → Every (λ y. levels ts y ≤ levels ts x) (elim b [ true ↦ [] | false ↦ aboveBy k ts (forestUp ts x) ])
+      go true e i = none-left
+      go false e i = let u = ap length (above-is ts x (ends x w) (eqb-false (forestUp ts x) x e)) in every-map (λ y h. omega (arith, u)) i
+
+  module _ (a b : ℕ) (wa : within (length ts) a ≡ true) (wb : within (length ts) b ≡ true) where
+    -- a term with more above it than b has does not stand above b
+    above-not : levels ts b < levels ts a → isIn a (aboveIn ts b) ≡ false
+    above-not h = decide (isIn a (aboveIn ts b))
+        (λ e. let z = every-mem (above-fewer (suc (length ts)) b wb) (is-in a (aboveIn ts b) e) in absurd (omega arith))
+        (λ e. e)
+
+  module _ (a b : ℕ) (wa : within (length ts) a ≡ true) (wb : within (length ts) b ≡ true) where
+    -- another term than b that has as many above it does not stand above b
+    above-other : (a ≡ b → ⊥) → levels ts b ≤ levels ts a → isIn a (aboveIn ts b) ≡ false
+    above-other d h = decide (eqb (forestUp ts b) b)
+        (λ e. rw (above-root ts b (eqb-true (forestUp ts b) b e)) (in-later a b [] d ∙ in-none a))
+        (λ e.
+        let u = above-is ts b (ends b wb) (eqb-false (forestUp ts b) b e) in
+        let n = ap length u in
+        rw u (in-later a b (aboveIn ts (forestUp ts b)) d ∙ above-not a (forestUp ts b) wa (closed .stays b wb) (omega arith)))
+
+    -- the one with more above it goes up; so does a, where it has as many as b and is another
+    pub nearest-left : (a ≡ b → ⊥) → levels ts b ≤ levels ts a → (forestUp ts a ≡ a → ⊥) → nearestIn ts a b ≡ nearestIn ts (forestUp ts a) b
+    unfolding nearestIn
+    nearest-left d h u =
+        rw (above-is ts a (ends a wa) u) (ap orNone (first-later (λ x. isIn x (aboveIn ts b)) a (aboveIn ts (forestUp ts a)) (above-other d h)))
+
+    pub nearest-right : levels ts a < levels ts b → nearestIn ts a b ≡ nearestIn ts a (forestUp ts b)
+    unfolding nearestIn
+    nearest-right h =
+        let u = above-is ts b (ends b wb) (levels-root ts b (let l = levels-some ts a in omega arith)) in
+        rw u (ap orNone (first-same (λ x. isIn x (b ∷ aboveIn ts (forestUp ts b))) (λ x. isIn x (aboveIn ts (forestUp ts b))) (aboveIn ts a)
+        (every-map (λ x k. in-later x b (aboveIn ts (forestUp ts b)) (λ e. let z = ap (levels ts) e in omega arith)) (above-fewer (suc (length ts)) a wa))))
+
+    -- two roots have none
+    pub nearest-none : (a ≡ b → ⊥) → levels ts a ≡ 1 → levels ts b ≤ 1 → nearestIn ts a b ≡ 0
+    unfolding nearestIn
+    nearest-none d h k = decide (eqb (forestUp ts a) a)
+        (λ e.
+        rw (above-root ts a (eqb-true (forestUp ts a) a e))
+        (ap orNone (first-later (λ x. isIn x (aboveIn ts b)) a [] (above-other d (omega arith)) ∙ first-none (λ x. isIn x (aboveIn ts b)))))
+        (λ e.
+        let u = ap length (above-is ts a (ends a wa) (eqb-false (forestUp ts a) a e)) in
+        let z = levels-some ts (forestUp ts a) in absurd (omega arith))
+
+pub nearest-self : (ts : List Term) (x : ℕ) → nearestIn ts x x ≡ x
+unfolding nearestIn aboveBy firstOf isIn any
+nearest-self ts x = rw (eq-eqb x x refl, firstOf, orNone)
+
+-- IN THE LENT WORDS
+
+module _ (l : List ℕ) (n : ℕ) (h : Pathed l n) where
+  closed : Closed (forestUp (termsView l n)) (length (termsView l n))
+  closed = rw (view-count l n) (h .tops)
+
+  inside : (t : ℕ) → within n t ≡ true → within (length (termsView l n)) t ≡ true
+  inside t w = rw (view-count l n) w
+
+  ends : (t : ℕ) → within (length (termsView l n)) t ≡ true → forestUp (termsView l n) (topIn (termsView l n) t) ≡ topIn (termsView l n) t
+  ends t w = h .ends t (rw (view-count l n) at w)
+
+  -- a term's words are lent
+  pub pathed-words : (t : ℕ) → within n t ≡ true → termWords t ≤ length l
+  pathed-words t w = omega (arith, within-high n t w, h .room)
+
+  module _ (x p : ℕ) (w : within n x ≡ true) (e : p ≡ termAt l x .forestParent) where
+    up-is : p ≡ forestUp (termsView l n) x
+    up-is = view-forest l n x p w e
+
+    up-here : within n p ≡ true
+    up-here = rw up-is (h .tops .stays x w)
+
+    -- a root is alone
+    levels-one : p ≡ x → levels (termsView l n) x ≡ 1
+    levels-one d = ap length (above-root (termsView l n) x (sym up-is ∙ d))
+
+    -- any other term has one more than its parent
+    pub levels-up : (p ≡ x → ⊥) → levels (termsView l n) x ≡ suc (levels (termsView l n) p)
+    levels-up d = rw up-is (ap length (above-is (termsView l n) x (ends x (inside x w)) (λ z. d (up-is ∙ z))))
+
+    -- a term with another above it is no root
+    not-root : (levels (termsView l n) x ≡ 1 → ⊥) → p ≡ x → ⊥
+    not-root d q = d (levels-one q)
+
+    module _ (b : ℕ) (wb : within n b ≡ true) where
+      up-left : (x ≡ b → ⊥) → levels (termsView l n) b ≤ levels (termsView l n) x → (p ≡ x → ⊥) → nearestIn (termsView l n) x b ≡ nearestIn (termsView l n) p b
+      up-left d k u = rw up-is (nearest-left (termsView l n) closed ends x b (inside x w) (inside b wb) d k (λ z. u (up-is ∙ z)))
+
+      up-right : levels (termsView l n) b < levels (termsView l n) x → nearestIn (termsView l n) b x ≡ nearestIn (termsView l n) b p
+      up-right k = rw up-is (nearest-right (termsView l n) closed ends b x (inside b wb) (inside x w) k)
+
+-- TWO TERMS WITH EQUALLY MANY ABOVE THEM
+
+-- x and y are on the way up from a and b
+pub record Meeting (l : List ℕ) (n a b x y : ℕ) : Type 0 where
+  pub here : within n x ≡ true
+  pub there : within n y ≡ true
+  pub even : levels (termsView l n) x ≡ levels (termsView l n) y
+  pub same : nearestIn (termsView l n) x y ≡ nearestIn (termsView l n) a b
+
+pub meeting-begin : (l : List ℕ) (n a b : ℕ) → within n a ≡ true → within n b ≡ true → levels (termsView l n) a ≡ levels (termsView l n) b → Meeting l n a b a b
+meeting-begin l n a b wa wb e = record { here = wa; there = wb; even = e; same = refl }
+
+module _ (l : List ℕ) (n a b x y : ℕ) (h : Pathed l n) (m : Meeting l n a b x y) where
+  pub meeting-met : x ≡ y → x ≡ nearestIn (termsView l n) a b
+  meeting-met e = sym (nearest-self (termsView l n) x) ∙ (rw (← e) at (m .same))
+
+  module _ (d : x ≡ y → ⊥) (p : ℕ) (ep : p ≡ termAt l x .forestParent) where
+    pub meeting-none : p ≡ x → 0 ≡ nearestIn (termsView l n) a b
+    meeting-none z =
+        let one = levels-one l n h x p (m .here) ep z in
+        sym (nearest-none (termsView l n) (closed l n h) (ends l n h) x y (inside l n h x (m .here)) (inside l n h y (m .there)) d one (omega (arith, m .even))) ∙ m .same
+
+    module _ (u : p ≡ x → ⊥) where
+      pub meeting-less : levels (termsView l n) p < levels (termsView l n) x
+      meeting-less = omega (arith, levels-up l n h x p (m .here) ep u)
+
+      pub meeting-turn : (q : ℕ) → q ≡ termAt l y .forestParent → Meeting l n a b p q
+      meeting-turn q eq =
+          let f = levels-up l n h x p (m .here) ep u in
+          let o = not-root l n h y q (m .there) eq (λ z. omega (arith, m .even, levels-some (termsView l n) p)) in
+          let g = levels-up l n h y q (m .there) eq o in
+          let wp = up-here l n h x p (m .here) ep in
+          record {
+            here = wp;
+            there = up-here l n h y q (m .there) eq;
+            even = omega (arith, m .even);
+            same = sym (up-left l n h x p (m .here) ep y (m .there) d (omega (arith, m .even)) u ∙ up-right l n h y q (m .there) eq p wp (omega (arith, m .even))) ∙ m .same;
+          }
+
+-- ONE OF THEM LIFTED
+
+-- z is on the way up from t as w is from y
+pub record Lifting (l : List ℕ) (n t y z w : ℕ) : Type 0 where
+  pub here : within n z ≡ true
+  pub there : within n w ≡ true
+  pub even : levels (termsView l n) z + levels (termsView l n) y ≡ levels (termsView l n) t + levels (termsView l n) w
+  pub left : (b : ℕ) → within n b ≡ true → levels (termsView l n) b ≤ levels (termsView l n) z → nearestIn (termsView l n) z b ≡ nearestIn (termsView l n) t b
+  pub right : (b : ℕ) → within n b ≡ true → levels (termsView l n) b ≤ levels (termsView l n) z → nearestIn (termsView l n) b z ≡ nearestIn (termsView l n) b t
+
+pub lifting-begin : (l : List ℕ) (n t y : ℕ) → within n t ≡ true → within n y ≡ true → Lifting l n t y t y
+lifting-begin l n t y wt wy = record { here = wt; there = wy; even = refl; left = λ b w k. refl; right = λ b w k. refl }
+
+module _ (l : List ℕ) (n t y z w : ℕ) (h : Pathed l n) (m : Lifting l n t y z w) (q : ℕ) (eq : q ≡ termAt l w .forestParent) where
+  pub lifting-done : q ≡ w → Lifted l n t y z
+  lifting-done e =
+      let one = levels-one l n h w q (m .there) eq e in
+      record { here = m .here; many = omega (arith, m .even); left = m .left; right = m .right }
+
+  module _ (u : q ≡ w → ⊥) where
+    pub lifting-less : levels (termsView l n) q < levels (termsView l n) w
+    lifting-less = omega (arith, levels-up l n h w q (m .there) eq u)
+
+    pub lifting-turn : levels (termsView l n) y ≤ levels (termsView l n) t → (v : ℕ) → v ≡ termAt l z .forestParent → Lifting l n t y v q
+    lifting-turn k v ev =
+        let f = levels-up l n h w q (m .there) eq u in
+        let o = not-root l n h z v (m .here) ev (λ e. omega (arith, m .even, levels-some (termsView l n) q)) in
+        let g = levels-up l n h z v (m .here) ev o in
+        record {
+          here = up-here l n h z v (m .here) ev;
+          there = up-here l n h w q (m .there) eq;
+          even = omega (arith, m .even);
+          left = λ b wb j. sym (up-left l n h z v (m .here) ev b wb (λ e. let r = ap (levels (termsView l n)) e in omega arith) (omega arith) o) ∙ m .left b wb (omega arith);
+          right = λ b wb j. sym (up-right l n h z v (m .here) ev b wb (omega arith)) ∙ m .right b wb (omega arith);
+        }
+
+-- BOTH CLIMBED FROM AT ONCE
+
+-- x is as far above a as y above b
+pub record Abreast (l : List ℕ) (n a b x y : ℕ) : Type 0 where
+  pub here : within n x ≡ true
+  pub there : within n y ≡ true
+  pub even : levels (termsView l n) a + levels (termsView l n) y ≡ levels (termsView l n) b + levels (termsView l n) x
+
+pub abreast-begin : (l : List ℕ) (n a b : ℕ) → within n a ≡ true → within n b ≡ true → Abreast l n a b a b
+abreast-begin l n a b wa wb = record { here = wa; there = wb; even = omega arith }
+
+module _ (l : List ℕ) (n a b x y : ℕ) (h : Pathed l n) (wa : within n a ≡ true) (wb : within n b ≡ true) (m : Abreast l n a b x y) (p : ℕ) (ep : p ≡ termAt l x .forestParent) where
+  -- b has no fewer above it than a
+  module _ (e : p ≡ x) where
+    pub abreast-lift : levels (termsView l n) y ≤ levels (termsView l n) b
+    abreast-lift = omega (arith, m .even, levels-one l n h x p (m .here) ep e, levels-some (termsView l n) a)
+
+    module _ (z : ℕ) (i : Lifted l n b y z) where
+      pub abreast-even : levels (termsView l n) a ≡ levels (termsView l n) z
+      abreast-even = omega (arith, m .even, i .many, levels-one l n h x p (m .here) ep e)
+
+      pub abreast-met : (r : ℕ) → r ≡ nearestIn (termsView l n) a z → r ≡ nearestIn (termsView l n) a b
+      abreast-met r j = j ∙ i .right a wa (omega (arith, abreast-even))
+
+  module _ (q : ℕ) (eq : q ≡ termAt l y .forestParent) where
+    -- a has no fewer above it than b
+    module _ (e : q ≡ y) where
+      pub abreast-lift-2 : levels (termsView l n) x ≤ levels (termsView l n) a
+      abreast-lift-2 = omega (arith, m .even, levels-one l n h y q (m .there) eq e, levels-some (termsView l n) b)
+
+      module _ (z : ℕ) (i : Lifted l n a x z) where
+        pub abreast-even-2 : levels (termsView l n) z ≡ levels (termsView l n) b
+        abreast-even-2 = omega (arith, m .even, i .many, levels-one l n h y q (m .there) eq e)
+
+        pub abreast-met-2 : (r : ℕ) → r ≡ nearestIn (termsView l n) z b → r ≡ nearestIn (termsView l n) a b
+        abreast-met-2 r j = j ∙ i .left b wb (omega (arith, abreast-even-2))
+
+    module _ (d : p ≡ x → ⊥) (u : q ≡ y → ⊥) where
+      pub abreast-less : levels (termsView l n) p < levels (termsView l n) x
+      abreast-less = omega (arith, levels-up l n h x p (m .here) ep d)
+
+      pub abreast-turn : Abreast l n a b p q
+      abreast-turn = record {
+        here = up-here l n h x p (m .here) ep;
+        there = up-here l n h y q (m .there) eq;
+        even = omega (arith, m .even, levels-up l n h x p (m .here) ep d, levels-up l n h y q (m .there) eq u);
+      }

@@ -11,6 +11,7 @@ pub mod JoinedTexts
 pub mod JoinConstants
 pub mod MakeCalls
 pub mod ClassLaws
+pub mod HeightLaws
 pub mod PairLaws
 pub mod Builds
 pub mod BuildCalls

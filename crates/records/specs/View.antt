@@ -193,9 +193,6 @@ moreCells c n = record { terms = c .terms; cells = c .cells + n; chars = c .char
 abbrev pub moreChars : State → ℕ → State
 moreChars c n = record { terms = c .terms; cells = c .cells; chars = c .chars + n; reasons = c .reasons; keys = c .keys; names = c .names }
 
-abbrev pub oneReason : State → State
-oneReason c = record { terms = c .terms; cells = c .cells; chars = c .chars; reasons = c .reasons + 1; keys = c .keys; names = c .names }
-
 abbrev pub reasonsAt : State → ℕ → State
 reasonsAt c n = record { terms = c .terms; cells = c .cells; chars = c .chars; reasons = n; keys = c .keys; names = c .names }
 

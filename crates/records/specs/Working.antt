@@ -5,3 +5,4 @@ pub mod Hashes
 pub mod Puts
 pub mod Standard
 pub mod Audited
+pub mod Heights

@@ -3,15 +3,17 @@ ghost use mathlib.Core.Path.{_≡_};
 ghost use mathlib.Core.Bool.{true, not, _&&_, _||_};
 ghost use Prim.Native.Nat.{_≤_};
 ghost use lib.Dec.{eqb};
-ghost use Rattle.records.specs.Lists.{all, firstOf, upTo, Every};
-ghost use Rattle.records.specs.Working.Leaves.{flagged, isFlagged, upIn};
-ghost use Rattle.records.specs.Store.{within, chainIn, classUp, forestUp, rootIn, topIn, root, top, aboveIn, orNone, nearestIn, climb};
+ghost use Rattle.records.specs.Lists.{all, Every};
+ghost use Rattle.records.specs.Working.Leaves.{upIn, levels, Lifted};
+ghost use Rattle.records.specs.Store.{within, chainIn, classUp, forestUp, rootIn, topIn, root, top, nearestIn, climb};
 ghost use Rattle.records.specs.View.{termLimit, termsView, cellsView, termed, chained};
-ghost use Rattle.records.specs.Rules.{eachTerm, parentsRule, endsRule, edgeLabel, labelRule, classesRule, stampBelow, fallsRule, congruenceRule, edgeRule, congruencesRule};
+ghost use Rattle.records.specs.Rules.{eachTerm, parentsRule, endsRule, edgeLabel, labelRule, classesRule, fallsRule, congruenceRule, edgeRule, congruencesRule};
 ghost use Rattle.records.specs.Working.Leaves.{aloneAt, classTest, pairWords, pairMeets};
 ghost use Rattle.records.specs.Working.Audited.{Closed, Rooted, Pathed, TermPair, Congruable};
+ghost use Rattle.records.specs.Working.Heights.{Heights, Told};
 use crate::State;
 use crate::fields;
+use crate::heights;
 use crate::roots;
 use crate::rules;
 
@@ -50,53 +52,64 @@ pub fn top_unchecked(terms: &[u32], n: usize, t: u32) -> u32
     climb_unchecked(terms, n, t, true)
 }
 
-// Flags b and what stands above it.
-fn flag_above(terms: &[u32], n: usize, b: u32, seen: &mut [u8; 513])
-    requires { ⌜ (n ≤ termLimit) × (within n b ≡ true) × Closed (forestUp (termsView (now terms) n)) n ⌝ }
-    ensures { λ r. ⌜ now (seen .exit) ≡ flagged (aboveIn (termsView (now (terms .entry)) n) b) (now (seen .entry)) ⌝ }
+// Goes up from t as many steps as y is below the root of its tree.
+fn lift(terms: &[u32], n: usize, t: u32, y: u32) -> u32
+    requires { ⌜ Pathed (now terms) n × (within n t ≡ true) × (within n y ≡ true) × (levels (termsView (now terms) n) y ≤ levels (termsView (now terms) n) t) ⌝ }
+    ensures { λ r. ⌜ Lifted (now (terms .entry)) n t y r ⌝ }
 {
-    let mut x = b;
-    let mut i: usize = 0;
-    while i <= n {
-        seen[x as usize] = 1;
-        let y = fields::forest_parent(terms, x);
-        if y == x {
-            return;
+    let mut z = t;
+    let mut w = y;
+    loop {
+        let q = fields::forest_parent_unchecked(terms, w);
+        if q == w {
+            return z;
         }
-        x = y;
-        i += 1;
+        w = q;
+        z = fields::forest_parent_unchecked(terms, z);
     }
 }
 
-// The first of a and what stands above it that is flagged, or 0.
-fn first_flagged(terms: &[u32], n: usize, a: u32, seen: &[u8; 513]) -> u32
-    requires { ⌜ (n ≤ termLimit) × (within n a ≡ true) × Closed (forestUp (termsView (now terms) n)) n ⌝ }
-    ensures { λ r. ⌜ r ≡ orNone (firstOf (isFlagged (now (seen .entry))) (aboveIn (termsView (now (terms .entry)) n) a)) ⌝ }
-{
-    let mut x = a;
-    let mut i: usize = 0;
-    while i <= n {
-        if seen[x as usize] == 1 {
-            return x;
-        }
-        let y = fields::forest_parent(terms, x);
-        if y == x {
-            return 0;
-        }
-        x = y;
-        i += 1;
-    }
-    0
-}
-
-// The nearest shared forest ancestor of a and b, or 0 where they are in two trees.
-pub fn nearest_unchecked(terms: &[u32], n: usize, a: u32, b: u32) -> u32
-    requires { ⌜ (n ≤ termLimit) × (within n a ≡ true) × (within n b ≡ true) × Closed (forestUp (termsView (now terms) n)) n ⌝ }
+// The nearest shared forest ancestor of two terms with equally many above them, or 0.
+fn meet(terms: &[u32], n: usize, a: u32, b: u32) -> u32
+    requires { ⌜ Pathed (now terms) n × (within n a ≡ true) × (within n b ≡ true) × (levels (termsView (now terms) n) a ≡ levels (termsView (now terms) n) b) ⌝ }
     ensures { λ r. ⌜ r ≡ nearestIn (termsView (now (terms .entry)) n) a b ⌝ }
 {
-    let mut seen: [u8; 513] = [0; 513];
-    flag_above(terms, n, b, &mut seen);
-    first_flagged(terms, n, a, &seen)
+    let mut x = a;
+    let mut y = b;
+    while x != y {
+        let p = fields::forest_parent_unchecked(terms, x);
+        if p == x {
+            return 0;
+        }
+        x = p;
+        y = fields::forest_parent_unchecked(terms, y);
+    }
+    x
+}
+
+// The nearest shared forest ancestor of a and b, or 0 where they are in two trees. Both are climbed from at once; what the one has more
+// above it than the other it is lifted by, and then the two go up until they meet. No table is needed, which a walk within a walk would
+// keep on the stack.
+pub fn nearest_unchecked(terms: &[u32], n: usize, a: u32, b: u32) -> u32
+    requires { ⌜ Pathed (now terms) n × (within n a ≡ true) × (within n b ≡ true) ⌝ }
+    ensures { λ r. ⌜ r ≡ nearestIn (termsView (now (terms .entry)) n) a b ⌝ }
+{
+    let mut x = a;
+    let mut y = b;
+    loop {
+        let p = fields::forest_parent_unchecked(terms, x);
+        if p == x {
+            let z = lift(terms, n, b, y);
+            return meet(terms, n, a, z);
+        }
+        let q = fields::forest_parent_unchecked(terms, y);
+        if q == y {
+            let z = lift(terms, n, a, x);
+            return meet(terms, n, z, b);
+        }
+        x = p;
+        y = q;
+    }
 }
 
 // THE AUDIT OF CLASSES
@@ -275,44 +288,6 @@ pub fn classes_ok_unchecked(terms: &[u32], c: State) -> bool
 
 // THE AUDIT OF CONGRUENCE EDGES
 
-// The stamps from y up to x, x left out, are below m.
-fn stamps_below(terms: &[u32], n: usize, y: u32, x: u32, m: u32) -> bool
-    requires { ⌜ (n ≤ termLimit) × (within n y ≡ true) × Closed (forestUp (termsView (now terms) n)) n ⌝ }
-    ensures { λ r. ⌜ r ≡ all (stampBelow (termsView (now (terms .entry)) n) m) (upTo x (aboveIn (termsView (now (terms .entry)) n) y)) ⌝ }
-{
-    let mut z = y;
-    let mut i: usize = 0;
-    while i <= n {
-        if z == x {
-            return true;
-        }
-        if m <= fields::stamp(terms, z) {
-            return false;
-        }
-        let u = fields::forest_parent(terms, z);
-        if u == z {
-            return true;
-        }
-        z = u;
-        i += 1;
-    }
-    true
-}
-
-fn falls_ok(terms: &[u32], c: State, m: u32, a: u32, b: u32) -> bool
-    requires { ⌜ Pathed (termed (now terms) c) (c .terms) × (within (c .terms) a ≡ true) × (within (c .terms) b ≡ true) ⌝ }
-    ensures { λ r. ⌜ r ≡ fallsRule (termed (now (terms .entry)) c) m (a, b) ⌝ }
-{
-    let x = nearest_unchecked(terms, c.terms, a, b);
-    if x == 0 {
-        return false;
-    }
-    if !stamps_below(terms, c.terms, a, x, m) {
-        return false;
-    }
-    stamps_below(terms, c.terms, b, x, m)
-}
-
 fn both_ended(n: usize, y: u32, z: u32) -> bool
     ensures { λ r. ⌜ r ≡ (not (within n y) && not (within n z)) ⌝ }
 {
@@ -368,9 +343,13 @@ fn pairs_ok(cells: &[u32], n: usize, p: u32, a: u32, b: u32) -> bool
 }
 
 // Every pair of the chain from p has a path whose stamps are below m.
-fn falls_hold(terms: &[u32], cells: &[u32], c: State, m: u32, p: u32) -> bool
-    requires { ⌜ Pathed (termed (now terms) c) (c .terms) × Every (TermPair (c .terms)) (chainIn (cellsView (now cells) (c .cells)) p) ⌝ }
-    ensures { λ r. ⌜ r ≡ all (fallsRule (termed (now (terms .entry)) c) m) (chainIn (cellsView (now (cells .entry)) (c .cells)) p) ⌝ }
+fn falls_hold(terms: &[u32], cells: &[u32], c: State, m: u32, p: u32, heights: &mut [usize]) -> bool
+    requires { ⌜ Pathed (now terms) (c .terms) ⌝ }
+    requires { ⌜ Every (TermPair (c .terms)) (chainIn (cellsView (now cells) (c .cells)) p) ⌝ }
+    requires { ⌜ Heights (termed (now terms) c) (now cells) (now heights) ⌝ }
+    ensures { λ r. do
+      let s = termed (now (terms .entry)) c
+      ⌜ Told s (now (cells .entry)) (now (heights .exit)) r (all (fallsRule s m) (chainIn (cellsView (now (cells .entry)) (c .cells)) p)) ⌝ }
 {
     let mut x = p;
     let mut i: usize = 0;
@@ -378,9 +357,8 @@ fn falls_hold(terms: &[u32], cells: &[u32], c: State, m: u32, p: u32) -> bool
         if !rules::is_within(c.cells, x) {
             return true;
         }
-        let a = fields::value(cells, x);
-        let b = fields::other(cells, x);
-        if !falls_ok(terms, c, m, a, b) {
+        let h = heights::kept_height(terms, cells, c, x, heights);
+        if (m as usize) < h {
             return false;
         }
         x = fields::next(cells, x);
@@ -400,9 +378,11 @@ fn pairs_either_ok(cells: &[u32], n: usize, p: u32, a: u32, b: u32) -> bool
     pairs_ok(cells, n, p, b, a)
 }
 
-fn congruence_ok(terms: &[u32], cells: &[u32], c: State, t: u32) -> bool
-    requires { ⌜ Congruable (chained (now terms) (now cells) c) (c .terms) × (within (c .terms) t ≡ true) ⌝ }
-    ensures { λ r. ⌜ r ≡ congruenceRule (chained (now (terms .entry)) (now (cells .entry)) c) t ⌝ }
+fn congruence_ok(terms: &[u32], cells: &[u32], c: State, t: u32, heights: &mut [usize]) -> bool
+    requires { ⌜ Congruable (now terms) (now cells) c ⌝ }
+    requires { ⌜ within (c .terms) t ≡ true ⌝ }
+    requires { ⌜ Heights (termed (now terms) c) (now cells) (now heights) ⌝ }
+    ensures { λ r. ⌜ Told (termed (now (terms .entry)) c) (now (cells .entry)) (now (heights .exit)) r (congruenceRule (chained (now (terms .entry)) (now (cells .entry)) c) t) ⌝ }
 {
     let u = fields::forest_parent(terms, t);
     let j = fields::kind(terms, t);
@@ -420,12 +400,14 @@ fn congruence_ok(terms: &[u32], cells: &[u32], c: State, t: u32) -> bool
         return false;
     }
     let m = fields::stamp(terms, t);
-    falls_hold(terms, cells, c, m, p)
+    falls_hold(terms, cells, c, m, p, heights)
 }
 
-fn edge_ok(terms: &[u32], cells: &[u32], c: State, t: u32) -> bool
-    requires { ⌜ Congruable (chained (now terms) (now cells) c) (c .terms) × (within (c .terms) t ≡ true) ⌝ }
-    ensures { λ r. ⌜ r ≡ edgeRule (chained (now (terms .entry)) (now (cells .entry)) c) t ⌝ }
+fn edge_ok(terms: &[u32], cells: &[u32], c: State, t: u32, heights: &mut [usize]) -> bool
+    requires { ⌜ Congruable (now terms) (now cells) c ⌝ }
+    requires { ⌜ within (c .terms) t ≡ true ⌝ }
+    requires { ⌜ Heights (termed (now terms) c) (now cells) (now heights) ⌝ }
+    ensures { λ r. ⌜ Told (termed (now (terms .entry)) c) (now (cells .entry)) (now (heights .exit)) r (edgeRule (chained (now (terms .entry)) (now (cells .entry)) c) t) ⌝ }
 {
     let u = fields::forest_parent(terms, t);
     if u == t {
@@ -435,20 +417,37 @@ fn edge_ok(terms: &[u32], cells: &[u32], c: State, t: u32) -> bool
     if k != 3 {
         return true;
     }
-    congruence_ok(terms, cells, c, t)
+    congruence_ok(terms, cells, c, t, heights)
 }
 
-// Refusal 4 is not due, where refusals 1 to 3 are not.
-pub fn congruences_ok_unchecked(terms: &[u32], cells: &[u32], c: State) -> bool
-    requires { ⌜ Congruable (chained (now terms) (now cells) c) (c .terms) ⌝ }
+fn edges_ok(terms: &[u32], cells: &[u32], c: State, heights: &mut [usize]) -> bool
+    requires { ⌜ Congruable (now terms) (now cells) c ⌝ }
+    requires { ⌜ Heights (termed (now terms) c) (now cells) (now heights) ⌝ }
     ensures { λ r. ⌜ r ≡ congruencesRule (chained (now (terms .entry)) (now (cells .entry)) c) ⌝ }
 {
     let mut i: u32 = 0;
     while (i as usize) < c.terms {
-        if !edge_ok(terms, cells, c, i + 1) {
+        if !edge_ok(terms, cells, c, i + 1, heights) {
             return false;
         }
         i += 1;
     }
     true
+}
+
+// Refusal 4 is not due, where refusals 1 to 3 are not. A table of heights has to be cleared, so few cells go without.
+pub fn congruences_ok_unchecked(terms: &[u32], cells: &[u32], c: State) -> bool
+    requires { ⌜ Congruable (now terms) (now cells) c ⌝ }
+    ensures { λ r. ⌜ r ≡ congruencesRule (chained (now (terms .entry)) (now (cells .entry)) c) ⌝ }
+{
+    if c.cells < 64 {
+        let mut none: [usize; 0] = [];
+        return edges_ok(terms, cells, c, &mut none);
+    }
+    if c.cells < 512 {
+        let mut some: [usize; 512] = [0; 512];
+        return edges_ok(terms, cells, c, &mut some);
+    }
+    let mut heights: [usize; 2049] = [0; 2049];
+    edges_ok(terms, cells, c, &mut heights)
 }

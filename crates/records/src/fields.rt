@@ -1,7 +1,8 @@
 // Reading the records. Each reader is total: a word past the end of its slice reads as 0.
 ghost use mathlib.Core.Path.{_≡_};
-ghost use lib.ListN.{getD};
-ghost use Rattle.records.specs.View.{termAt, cellAt};
+ghost use Prim.Native.Nat.{_≤_};
+ghost use lib.ListN.{length, getD};
+ghost use Rattle.records.specs.View.{termAt, termWords, cellAt};
 ghost use Rattle.records.specs.Working.Leaves.{parentOf};
 use crate::CELL_WIDTH;
 use crate::TERM_WIDTH;
@@ -50,6 +51,14 @@ pub fn forest_parent(terms: &[u32], t: u32) -> u32
     ensures { λ r. ⌜ r ≡ termAt (now (terms .entry)) t .forestParent ⌝ }
 {
     word(terms, TERM_WIDTH * (t as usize) + 4)
+}
+
+// The same of a record that the slice has: a climb reads one for each step.
+pub fn forest_parent_unchecked(terms: &[u32], t: u32) -> u32
+    requires { ⌜ termWords t ≤ length (now terms) ⌝ }
+    ensures { λ r. ⌜ r ≡ termAt (now (terms .entry)) t .forestParent ⌝ }
+{
+    terms[TERM_WIDTH * (t as usize) + 4]
 }
 
 // The parent in the forest, or in the class.

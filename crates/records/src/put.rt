@@ -114,20 +114,15 @@ fn push_pair(pairs: &mut [u32], n: usize, a: u32, b: u32)
     pairs[2 * n + 1] = b;
 }
 
-// A reason at the count, where one fits, with the counts of one reason more.
-pub fn push_reason_unchecked(
-    reasons: &mut [u32],
-    c: crate::State,
-    kind: u32,
-    value: u32,
-) -> crate::Added
-    ensures { λ r. ⌜ Pushed (now (reasons .entry)) (now (reasons .exit)) c kind value r ⌝ }
+// A reason at the count n, where one fits: whether it did.
+pub fn push_reason_unchecked(reasons: &mut [u32], n: usize, kind: u32, value: u32) -> bool
+    ensures { λ r. ⌜ Pushed (now (reasons .entry)) (now (reasons .exit)) n kind value r ⌝ }
 {
-    if pair_fits(reasons, crate::REASON_LIMIT, c.reasons) {
-        push_pair(reasons, c.reasons, kind, value);
-        return crate::Added::Counts(c.with_reason());
+    if pair_fits(reasons, crate::REASON_LIMIT, n) {
+        push_pair(reasons, n, kind, value);
+        return true;
     }
-    crate::Added::Refused(7)
+    false
 }
 
 fn lower(a: u32, b: u32) -> u32

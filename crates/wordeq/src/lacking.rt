@@ -144,7 +144,7 @@ pub(crate) fn absent(terms: &[u32], chars: &[u32], c: State, l: &[u32], r: &[u32
         return false;
     }
     // A table is costly to clear, so none is made where r has no character to look for.
-    if sides::letters_length(terms, c, r) == 0 {
+    if sides::letters_length_unchecked(terms, c, r) == 0 {
         return false;
     }
     let mut table: [u8; 16384] = [0; 16384];

@@ -68,7 +68,7 @@ fn letter_count(terms: &[u32], c: State, a: u32) -> usize
 }
 
 // The constant characters of a side, counted.
-pub fn letters_length(terms: &[u32], c: State, l: &[u32]) -> usize
+pub fn letters_length_unchecked(terms: &[u32], c: State, l: &[u32]) -> usize
     requires { ⌜ Texts (now terms) c × (length (now l) ≤ listLimit) ⌝ }
     ensures { λ r. ⌜ r ≡ length (letters (termed (now (terms .entry)) c) (now (l .entry))) ⌝ }
 {
@@ -89,7 +89,7 @@ pub(crate) fn short(terms: &[u32], c: State, l: &[u32], r: &[u32]) -> bool
     if !is_fixed(terms, c, l) {
         return false;
     }
-    letters_length(terms, c, l) < letters_length(terms, c, r)
+    letters_length_unchecked(terms, c, l) < letters_length_unchecked(terms, c, r)
 }
 
 // A PLACE IN THE CONSTANT CHARACTERS OF A SIDE

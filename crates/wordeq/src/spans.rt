@@ -52,8 +52,8 @@ fn fits<'a>(
       let s = readIn (now (terms .entry)) (now (chars .entry)) c
       ⌜ b ≡ fits s (letters s (now (word .entry))) (now (side .entry)) k ⌝ }
 {
-    let l = sides::letters_length(terms, c, word);
-    let n = sides::letters_length(terms, c, side);
+    let l = sides::letters_length_unchecked(terms, c, word);
+    let n = sides::letters_length_unchecked(terms, c, side);
     if l < n {
         return false;
     }
@@ -61,7 +61,7 @@ fn fits<'a>(
         return false;
     }
     let m = (l - n) / k;
-    let place = sides::letters_length(terms, c, &side[0..i]);
+    let place = sides::letters_length_unchecked(terms, c, &side[0..i]);
     sides::is_tiled(terms, chars, c, word, side, Cursor { atom: 0, place }, m)
 }
 
@@ -98,7 +98,7 @@ fn atom_agrees(terms: &[u32], chars: &[u32], c: State, a: u32, v: u32) -> bool
 }
 
 // Whether each variable of a list is the same as v.
-pub fn all_agree(terms: &[u32], chars: &[u32], c: State, l: &[u32], v: u32) -> bool
+pub fn all_agree_unchecked(terms: &[u32], chars: &[u32], c: State, l: &[u32], v: u32) -> bool
     requires { ⌜ Readable (now terms) (now chars) c ⌝ }
     requires { ⌜ all (isString (readIn (now terms) (now chars) c)) (now l) ≡ true ⌝ }
     requires { ⌜ isString (readIn (now terms) (now chars) c) v ≡ true ⌝ }
@@ -132,7 +132,7 @@ fn is_unfit<'a>(
       ⌜ b ≡ unfit s (now (word .entry)) (now (side .entry)) (getD (now (side .entry)) i 0) (variables s (drop (suc i) (now (side .entry)))) ⌝ }
 {
     let later = &side[i + 1..side.len()];
-    if !all_agree(terms, chars, c, later, side[i]) {
+    if !all_agree_unchecked(terms, chars, c, later, side[i]) {
         return false;
     }
     let k = variables_length(terms, c, later) + 1;

@@ -97,10 +97,11 @@ module _ (l e : List ℕ) (c : State) (h : Markable l e c) (b : Bool) (q : b ≡
     counted-in : (t : ℕ) → within (c .terms) t ≡ true → within (length (termsView l (c .terms))) t ≡ true
     counted-in t w = ap (λ (n : ℕ). within n t) (view-count l (c .terms)) ∙ w
 
-    pub table-asks : Congruable s (c .terms)
+    pub table-asks : Congruable l e c
     table-asks = record {
       pathed = record {
         limited = h .tabled .few;
+        room = h .tabled .room;
         tops = record { stays = λ t w. ap (λ (n : ℕ). within n (term s t .forestParent)) (sym (view-count l (c .terms))) ∙ classed .forestParents t (counted-in t w) };
         ends = λ t w. classed .forestEnds t (counted-in t w);
       };

@@ -1,6 +1,6 @@
 -- One bit of a word set, and the places of pairs in a table.
 use mathlib.Core.Path.{_≡_, refl, sym, ap, _∙_}
-use mathlib.Core.Bool.{true, false}
+use mathlib.Core.Bool.{Bool, true, false}
 use mathlib.Core.List.{List}
 use Prim.Native.Nat.{ℕ, zero, suc, _+_, _*_, _/_, _%_, _^_, _≤_, _<_, min, max}
 use native.Mathlib.Nat.{mul-le-mul, pow-suc}
@@ -9,9 +9,9 @@ use native.Mathlib.Omega.{arith}
 use lib.ListN.{length, getD, set, length-set}
 use lib.Seq.{getD-set-same, getD-set-other}
 use lib.Pow.{shr-shr, shl-exact}
-use lib.Dec.{eqb}
-use borrow.Author.Tests.{eqb-false, eq-eqb}
-use Rattle.engine.specs.Working.Seen.{place, bit, seenAt, Noted}
+use lib.Dec.{eqb, ltb}
+use borrow.Author.Tests.{eqb-false, eq-eqb, ltb-true, ltb-false}
+use Rattle.engine.specs.Working.Seen.{triangle, place, bit, seenAt, Noted}
 
 -- a digit of the half is the next digit of the whole
 half : (w j : ℕ) → w / 2 ^ suc j ≡ w / 2 / 2 ^ j
@@ -85,43 +85,68 @@ note-set table k h e =
 
 -- THE PLACE OF A PAIR
 
-pub product-fits : (a n : ℕ) → a < 2 ^ 32 → n ≤ 512 → a * (n + 1) ≤ 2 ^ 32 * 513
-product-fits a n h k = mul-le-mul {n₁ = a} {m₁ = n + 1} {n₂ = 2 ^ 32} {m₂ = 513} (omega arith) (omega arith)
+triangle-twice : (n : ℕ) → n * (n + 1) ≡ 2 * triangle n
+unfolding triangle
+triangle-twice zero = native.Mathlib.Nat.zero-mul 1
+triangle-twice (suc n) =
+    let e = triangle-twice n in
+    let a : suc n + 1 ≡ (n + 1) + 1 = omega arith in
+    let b = native.Mathlib.Nat.suc-mul n ((n + 1) + 1) in
+    let d = native.Mathlib.Nat.mul-add n (n + 1) 1 in
+    let f = native.Mathlib.Nat.mul-one n in rw a (omega arith)
 
-pub place-first : (n a b : ℕ) → a < b → a * (n + 1) + b ≡ place n a b
-place-first n a b h =
+-- as it is computed
+triangle-half : (n : ℕ) → n * (n + 1) / 2 ≡ triangle n
+triangle-half n = let e = triangle-twice n in omega arith
+
+pub triangle-fits : (n : ℕ) → n < 2 ^ 32 → n * (n + 1) ≤ 4294967295 * 4294967296
+triangle-fits n h = mul-le-mul {n₁ = n} {m₁ = n + 1} {n₂ = 4294967295} {m₂ = 4294967296} (omega arith) (omega arith)
+
+triangle-up : (m n : ℕ) → m ≤ n → triangle m ≤ triangle n
+unfolding triangle
+triangle-up m zero h = let e : m ≡ 0 = omega arith in rw e (omega arith)
+triangle-up m (suc n) h = go (triangle-up m n) (ℕ-discrete m (suc n))
+  where
+    go : (m ≤ n → triangle m ≤ triangle n) → Dec (m ≡ suc n) → triangle m ≤ triangle n + suc n
+    go ih (yes e) = rw e (omega arith)
+    go ih (no d) = let k = ih (omega arith) in omega arith
+
+triangle-next : (m n : ℕ) → m < n → triangle m + m < triangle n
+unfolding triangle
+triangle-next m n h = let k = triangle-up (suc m) n (omega arith) in omega arith
+
+pub place-first : (a b : ℕ) → a < b → b * (b + 1) / 2 + a ≡ place a b
+place-first a b h =
     let p : min a b ≡ a = omega arith in
-    let q : max a b ≡ b = omega arith in rw (p, q)
+    let q : max a b ≡ b = omega arith in rw (p, q, triangle-half b)
 
-pub place-second : (n a b : ℕ) → b ≤ a → b * (n + 1) + a ≡ place n a b
-place-second n a b h =
+pub place-second : (a b : ℕ) → b ≤ a → a * (a + 1) / 2 + b ≡ place a b
+place-second a b h =
     let p : min a b ≡ b = omega arith in
-    let q : max a b ≡ a = omega arith in rw (p, q)
+    let q : max a b ≡ a = omega arith in rw (p, q, triangle-half a)
 
--- a place is within the square
-pub place-small : (n a b : ℕ) → a ≤ n → b ≤ n → place n a b < (n + 1) * (n + 1)
-place-small n a b h k =
-    let p = mul-le-mul {n₁ = min a b + 1} {m₁ = n + 1} {n₂ = n + 1} {m₂ = n + 1} (omega arith) (omega arith) in
-    let e : (min a b + 1) * (n + 1) ≡ min a b * (n + 1) + (n + 1) = native.Mathlib.Nat.add-mul (min a b) 1 (n + 1) ∙ ap (λ (x : ℕ). min a b * (n + 1) + x) (native.Mathlib.Nat.one-mul (n + 1)) in
-    omega arith
+-- the places of numbers up to n
+pub place-small : (n a b : ℕ) → a ≤ n → b ≤ n → place a b ≤ triangle n + n
+place-small n a b h k = let p = triangle-up (max a b) n (omega arith) in omega arith
 
--- rows of one width: equal places have equal rows and columns
-row-same : (m p q x y : ℕ) → x < m → y < m → p * m + x ≡ q * m + y → (p ≡ q) × (x ≡ y)
-row-same m zero zero x y h k e = let z = native.Mathlib.Nat.zero-mul m in (refl, omega arith)
-row-same m zero (suc q) x y h k e =
-    let z = native.Mathlib.Nat.zero-mul m in
-    let s = native.Mathlib.Nat.suc-mul q m in absurd (omega arith)
-row-same m (suc p) zero x y h k e =
-    let z = native.Mathlib.Nat.zero-mul m in
-    let s = native.Mathlib.Nat.suc-mul p m in absurd (omega arith)
-row-same m (suc p) (suc q) x y h k e =
-    let s = native.Mathlib.Nat.suc-mul p m in
-    let t = native.Mathlib.Nat.suc-mul q m in
-    let r = row-same m p q x y h k (omega arith) in (ap suc (r .0), r .1)
+-- a table for numbers up to m is one for fewer; m is given as it is computed
+pub triangle-within : (n m w : ℕ) → n ≤ m → 32 * (m + 1) + m * (m + 1) / 2 + m < w → 32 * (n + 1) + triangle n + n < w
+triangle-within n m w h k = let p = triangle-up n m h in let e = triangle-half m in omega arith
 
 -- equal places are equal pairs, each in one order
-pub place-pair : (n a b c d : ℕ) → a ≤ n → b ≤ n → c ≤ n → d ≤ n → place n a b ≡ place n c d → (min a b ≡ min c d) × (max a b ≡ max c d)
-place-pair n a b c d ha hb hc hd e = row-same (n + 1) (min a b) (min c d) (max a b) (max c d) (omega arith) (omega arith) e
+pub place-pair : (a b c d : ℕ) → place a b ≡ place c d → (min a b ≡ min c d) × (max a b ≡ max c d)
+place-pair a b c d e = go (ℕ-discrete (max a b) (max c d))
+  where
+    apart : (p q r s : ℕ) → p < r → q ≤ p → triangle p + q ≡ triangle r + s → ⊥
+    apart p q r s h k i = let z = triangle-next p r h in omega arith
+
+    go : Dec (max a b ≡ max c d) → (min a b ≡ min c d) × (max a b ≡ max c d)
+    go (yes i) = let t = ap triangle i in (omega arith, i)
+    go (no n) = absurd (n (low (ltb (max a b) (max c d)) refl))
+      where
+        low : (v : Bool) → ltb (max a b) (max c d) ≡ v → max a b ≡ max c d
+        low true i = absurd (apart (max a b) (min a b) (max c d) (min c d) (ltb-true _ _ i) (omega arith) e)
+        low false i = let h = ltb-false (max a b) (max c d) i in absurd (apart (max c d) (min c d) (max a b) (min a b) (omega arith) (omega arith) (sym e))
 
 -- a shifted 1
 pub one-shifted : (j : ℕ) → j < 32 → (1 * 2 ^ j) % 4294967296 ≡ 2 ^ j

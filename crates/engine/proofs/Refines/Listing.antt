@@ -4,13 +4,15 @@ use mathlib.Core.Bool.{Bool, true, false}
 use mathlib.Core.List.{List}
 use Prim.Native.Nat.{ℕ, _+_, _-_, _≤_, _<_}
 use native.Mathlib.Omega.{arith}
+use lib.ListN.{set}
+use lib.Seq.{getD-set-other}
 use lib.Dec.{ltb}
 use borrow.Author.Tests.{lt-ltb}
 use Rattle.records.specs.Lists.{any}
 use Rattle.records.specs.View.{pairAt, pairsView}
 use Rattle.records.specs.Make.{samePair, isListed}
 use Rattle.records.proofs.Lists.{clash, any-zero, any-turn, any-stays, any-stop, any-done}
-use Rattle.engine.specs.Working.Listing.{Placed, Stands}
+use Rattle.engine.specs.Working.Listing.{Placed, Stands, Looked}
 
 -- the first i lack the pair
 pub record Lacks (l : List ℕ) (i a b : ℕ) : Type 0 where
@@ -40,11 +42,19 @@ module _ (l : List ℕ) (n a b : ℕ) where
   unfolding isListed
   stands-by p x d h e = record { is = λ t. any-stays (samePair (a, b)) (pairAt l) n (p - 1) (omega arith) (sym e ∙ t) }
 
-  pub listed-there : (x : Bool) → Stands l n a b x → x ≡ true → true ≡ isListed (a, b) (pairsView l n)
-  listed-there x s t = sym (s .is t)
+  module _ (places : List ℕ) (slot : ℕ) where
+    pub looked-there : (x : Bool) → Stands l n a b x → x ≡ true → Looked l places places n a b slot true
+    looked-there x s t = record { is = sym (s .is t); elsewhere = λ i d. refl }
 
-  pub listed-none : (p : ℕ) → Placed l n a b p → p ≡ 0 → false ≡ isListed (a, b) (pairsView l n)
-  listed-none p e z = rw z at (e .is)
+    pub looked-none : (p : ℕ) → Placed l n a b p → p ≡ 0 → Looked l places places n a b slot false
+    looked-none p e z = record { is = rw z at (e .is); elsewhere = λ i d. refl }
 
-  pub listed-found : (p : ℕ) → Placed l n a b p → (p ≡ 0 → ⊥) → true ≡ isListed (a, b) (pairsView l n)
-  listed-found p e d = sym (lt-ltb 0 p (omega arith)) ∙ e .is
+    module _ (p : ℕ) (e : Placed l n a b p) (d : p ≡ 0 → ⊥) where
+      found : true ≡ isListed (a, b) (pairsView l n)
+      found = sym (lt-ltb 0 p (omega arith)) ∙ e .is
+
+      pub looked-found : Looked l places places n a b slot true
+      looked-found = record { is = found; elsewhere = λ i d. refl }
+
+      pub looked-written : (v : ℕ) → Looked l places (set places slot v) n a b slot true
+      looked-written v = record { is = found; elsewhere = λ i d. getD-set-other places slot i v 0 d }

@@ -27,10 +27,10 @@ module _ {Done : Walked → Type 0} {reasons reasons′ : List ℕ} {count : ℕ
 
 -- AN EDGE
 
-pub plain-gives : (terms reasons reasons′ : List ℕ) (node j kind value count : ℕ) (r : Walked) → (j ≡ 1) ⊎ (j ≡ 2) → kind ≡ j → Labelled terms node kind value
-    → Gives reasons reasons′ count j value r → Plainly (PlainEdge terms reasons reasons′ node count) reasons reasons′ count (Ended r)
+pub plain-gives : (terms reasons reasons′ : List ℕ) {places places′ : List ℕ} (node j kind value count : ℕ) {slot : ℕ} (r : Walked) → (j ≡ 1) ⊎ (j ≡ 2) → kind ≡ j
+    → Labelled terms node kind value → Gives reasons reasons′ places places′ count j value slot r → Plainly (PlainEdge terms reasons reasons′ node count) reasons reasons′ count (Ended r)
 plain-gives terms reasons reasons′ node j kind value count r two i l g =
-    plainly-ended (g .kept) (λ cells tab n k. edge-gives terms cells tab reasons reasons′ n k node j kind value count r two i l g)
+    plainly-ended (g .kept) (λ cells tab n k. edge-gives terms cells tab tab reasons reasons′ n k node j kind value count r two i l g (λ seen m. m))
 
 pub plain-nothing : (terms reasons : List ℕ) (node kind value count : ℕ) → kind ≡ 4 → Labelled terms node kind value
     → Plainly (PlainEdge terms reasons reasons node count) reasons reasons count (Ended (record { code = 0; count = count }))
@@ -42,8 +42,8 @@ plain-nothing terms reasons node kind value count i l = plainly-ended refl (λ c
 abbrev pub Walking : List ℕ → List ℕ → List ℕ → ℕ → ℕ → ℕ → ℕ → ℕ → Bool → ℕ → ℕ → Type 0
 Walking terms reasons reasons′ n a b m x late c c′ = (cells tab : List ℕ) (k : ℕ) → Rising terms cells tab tab reasons reasons′ n k a b m x late c c′
 
-pub plain-walkable : (terms reasons : List ℕ) (n a b : ℕ) {c : ℕ} → n ≤ 512 → (p : PlainPair terms reasons n a b c) → Walkable terms (p .cells) (replicate 8225 0) reasons n (p .k) c (λ s. Together s (a, b))
-plain-walkable terms reasons n a b h p = explainable-walk terms (p .cells) reasons n (p .k) a b 512 8225 h (omega arith) (omega arith) (p .can)
+pub plain-walkable : (terms reasons : List ℕ) (n a b : ℕ) {c : ℕ} → n ≤ 512 → (p : PlainPair terms reasons n a b c) → Walkable terms (p .cells) (replicate 4634 0) reasons n (p .k) c (λ s. Together s (a, b))
+plain-walkable terms reasons n a b h p = explainable-walk terms (p .cells) reasons n (p .k) a b 512 4634 h (omega arith) (omega arith) (p .can)
 
 pub plain-same : (terms reasons : List ℕ) (n a b c : ℕ) → a ≡ b → Plainly (PlainPath terms reasons reasons n a b c) reasons reasons c (Ended (record { code = 0; count = c }))
 plain-same terms reasons n a b c i = plainly-ended refl (λ cells k. explained-by terms cells _ reasons reasons n k a b c 0 _ (pair-same terms cells (replicate 0 0) reasons n k a b c i))
@@ -54,10 +54,10 @@ plain-room p g = stays-room (g [] [] 0 .stays) (p .can .roomy)
 
 -- a walk over any table that lacks the pair, and has it noted, is an explanation: a table of zeros lacks every pair
 explained-alone : {terms cells reasons reasons′ : List ℕ} {n k a b c : ℕ} {r : Walked}
-    → ((tab tab₁ : List ℕ) → false ≡ seenAt tab (place n a b) → Noted tab tab₁ (place n a b) → Walks (walked (a, b)) (λ s. Together s (a, b)) terms cells tab tab₁ reasons reasons′ n k c r)
+    → ((tab tab₁ : List ℕ) → false ≡ seenAt tab (place a b) → Noted tab tab₁ (place a b) → Walks (walked (a, b)) (λ s. Together s (a, b)) terms cells tab tab₁ reasons reasons′ n k c r)
     → Explained terms cells reasons reasons′ n k a b c r
 explained-alone {n = n} {a = a} {b = b} f =
-    let at = place n a b in
+    let at = place a b in
     let zeros : List ℕ = replicate (at + 1) 0 in
     let none = none-noted (at + 1) at in
     explained-by _ _ _ _ _ _ _ _ _ _ (at + 1) _ (f zeros _ (sym none) (note-set zeros at (rw (length-replicate {A = ℕ} (at + 1) 0) (omega arith)) none))

@@ -13,7 +13,7 @@ use Rattle.records.specs.Lists.{any, upTo, Every}
 use Rattle.records.specs.Store.{Term, Store, store, term, count, isTerm, within, path, pathIn, forestUp, topIn, aboveBy, aboveIn, nearestIn, termIn}
 use Rattle.records.specs.View.{termAt, termsView, pairsView}
 use Rattle.records.specs.Make.{withReasons, ordered, samePair}
-use Rattle.records.specs.Working.Audited.{Closed}
+use Rattle.records.specs.Working.Audited.{Pathed}
 use Rattle.records.proofs.Lists.{or-left, or-right, clash, both-left, both-right, both-true, within-high, table-length, every-both}
 use Rattle.records.proofs.Climbs.{above-root, above-is, classed-tops}
 use Rattle.engine.specs.declared.Walked.{Walked}
@@ -24,7 +24,7 @@ use Rattle.engine.proofs.Refines.Bits.{place-pair, place-small}
 use Rattle.engine.proofs.Fits.{highest-high}
 use Rattle.engine.proofs.Paths.{nearest, path-edges}
 use Rattle.engine.proofs.Walk.{walked-same}
-use Rattle.engine.proofs.Refines.Turns.{standing-within, standing-term, standing-on, Left, left-turn, left-stopped, left-none, Stays, stays-none, stays-then, stays-room, every-head, every-tail, wide-on}
+use Rattle.engine.proofs.Refines.Turns.{standing-count, standing-within, standing-term, standing-on, Left, left-turn, left-stopped, left-none, Stays, stays-none, stays-then, stays-room, every-head, every-tail, wide-on}
 
 -- A PAIR
 
@@ -44,7 +44,7 @@ module _ {terms cells reasons : List ℕ} {n k a b : ℕ} (e : Standing terms ce
   right-low : b ≤ n
   right-low = within-high n b (standing-within e b (q .right))
 
-pub pair-seen : (terms cells tab reasons : List ℕ) (n k a b c at : ℕ) (v : Bool) → at ≡ place n a b → v ≡ seenAt tab at → v ≡ true
+pub pair-seen : (terms cells tab reasons : List ℕ) (n k a b c at : ℕ) (v : Bool) → at ≡ place a b → v ≡ seenAt tab at → v ≡ true
     → Walks (walked (a, b)) (λ s. Together s (a, b)) terms cells tab tab reasons reasons n k c (record { code = 0; count = c })
 pair-seen terms cells tab reasons n k a b c at v i j h = record {
   kept = refl;
@@ -55,23 +55,29 @@ pair-seen terms cells tab reasons n k a b c at v i j h = record {
       came refl seen m (walked-same (e .store) (e .audited) (a, b) q seen (pairsView reasons c) ∙ rw (or-right (eqb a b) (wasSeen (a, b) seen) w));
 }
 
-pub place-inside : (terms cells tab reasons : List ℕ) (n k a b at : ℕ) {c : ℕ} → Walkable terms cells tab reasons n k c (λ s. Together s (a, b)) → at ≡ place n a b → at < 32 * length tab
+pub place-inside : (terms cells tab reasons : List ℕ) (n k a b at : ℕ) {c : ℕ} → Walkable terms cells tab reasons n k c (λ s. Together s (a, b)) → at ≡ place a b → at < 32 * length tab
 place-inside terms cells tab reasons n k a b at w i =
     let z = place-small n a b (left-low (w .standing) (w .fit)) (right-low (w .standing) (w .fit)) in
     let l = w .wide .long in omega arith
 
 pub nearest-fit : (terms cells tab reasons : List ℕ) (n k a b : ℕ) {c : ℕ} → Walkable terms cells tab reasons n k c (λ s. Together s (a, b))
-    → (n ≤ 512) × (within n a ≡ true) × (within n b ≡ true) × Closed (forestUp (termsView terms n)) n
-nearest-fit terms cells tab reasons n k a b w =
-    let e = w .standing in
-    (w .wide .few, standing-within e a (w .fit .left), standing-within e b (w .fit .right), closed)
+    → Pathed terms n × (within n a ≡ true) × (within n b ≡ true)
+nearest-fit terms cells tab reasons n k a b w = (pathed, standing-within e a (w .fit .left), standing-within e b (w .fit .right))
   where
-    closed : Closed (forestUp (termsView terms n)) n
-    closed = rw (w .standing .terms-are, table-length (λ i. termAt terms (suc i)) n) at (classed-tops (w .standing .store) (w .standing .audited .classed))
+    e : Standing terms cells reasons n k
+    e = w .standing
+
+    pathed : Pathed terms n
+    pathed = record {
+      limited = w .wide .few;
+      room = e .words;
+      tops = rw (e .terms-are, table-length (λ i. termAt terms (suc i)) n) at (classed-tops (e .store) (e .audited .classed));
+      ends = λ t h. rw (e .terms-are) at (e .audited .classed .forestEnds t (rw (standing-count e) h));
+    }
 
 -- a pair noted
-same-place : (n x y a b : ℕ) → min x y ≡ min a b → max x y ≡ max a b → place n x y ≡ place n a b
-same-place n x y a b i j = rw (i, j)
+same-place : (x y a b : ℕ) → min x y ≡ min a b → max x y ≡ max a b → place x y ≡ place a b
+same-place x y a b i j = rw (i, j)
 
 same-pair-is : (p q : ℕ × ℕ) → samePair p q ≡ true → (p .0 ≡ q .0) × (p .1 ≡ q .1)
 unfolding samePair
@@ -81,21 +87,21 @@ same-pair : (p q : ℕ × ℕ) → p .0 ≡ q .0 → p .1 ≡ q .1 → samePair 
 unfolding samePair
 same-pair p q i j = both-true _ _ (eq-eqb _ _ i) (eq-eqb _ _ j)
 
-pub tables-more : (n : ℕ) (tab tab′ : List ℕ) (a b : ℕ) (seen : Seen) → a ≤ n → b ≤ n → Noted tab tab′ (place n a b) → Tables n tab seen → Tables n tab′ (ordered a b ∷ seen)
+pub tables-more : (n : ℕ) (tab tab′ : List ℕ) (a b : ℕ) (seen : Seen) → a ≤ n → b ≤ n → Noted tab tab′ (place a b) → Tables n tab seen → Tables n tab′ (ordered a b ∷ seen)
 unfolding wasSeen any
-tables-more n tab tab′ a b seen ha hb d m = record { says = λ x y hx hy. go x y hx hy (ℕ-discrete (place n x y) (place n a b)) }
+tables-more n tab tab′ a b seen ha hb d m = record { says = λ x y hx hy. go x y hx hy (ℕ-discrete (place x y) (place a b)) }
   where
-    go : (x y : ℕ) → x ≤ n → y ≤ n → Dec (place n x y ≡ place n a b) → seenAt tab′ (place n x y) ≡ (samePair (ordered x y) (ordered a b) || any (samePair (ordered x y)) seen)
+    go : (x y : ℕ) → x ≤ n → y ≤ n → Dec (place x y ≡ place a b) → seenAt tab′ (place x y) ≡ (samePair (ordered x y) (ordered a b) || any (samePair (ordered x y)) seen)
     go x y hx hy (yes i) =
-        let z = place-pair n x y a b hx hy ha hb i in
+        let z = place-pair x y a b i in
         ap (seenAt tab′) i ∙ d .here ∙ sym (or-left _ _ (same-pair (ordered x y) (ordered a b) (z .0) (z .1)))
     go x y hx hy (no i) =
-        d .elsewhere (place n x y) i ∙ m .says x y hx hy ∙ sym (apart (samePair (ordered x y) (ordered a b)) refl)
+        d .elsewhere (place x y) i ∙ m .says x y hx hy ∙ sym (apart (samePair (ordered x y) (ordered a b)) refl)
       where
         apart : (v : Bool) → samePair (ordered x y) (ordered a b) ≡ v → (v || any (samePair (ordered x y)) seen) ≡ any (samePair (ordered x y)) seen
         apart true j =
             let z = same-pair-is (ordered x y) (ordered a b) j in
-            absurd (i (same-place n x y a b (z .0) (z .1)))
+            absurd (i (same-place x y a b (z .0) (z .1)))
         apart false j = refl
 
 -- THE PATH OF A PAIR
@@ -209,7 +215,7 @@ module _ (terms cells tab tab₁ reasons reasons₁ : List ℕ) (n k a b m x : �
 
 -- THE WHOLE WALK OF A PAIR
 
-module _ (terms cells tab tab₁ reasons : List ℕ) (n k a b c at : ℕ) (apart : a ≡ b → ⊥) (v : Bool) (i : at ≡ place n a b) (j : v ≡ seenAt tab at) (h : v ≡ false) (d : Noted tab tab₁ at) where
+module _ (terms cells tab tab₁ reasons : List ℕ) (n k a b c at : ℕ) (apart : a ≡ b → ⊥) (v : Bool) (i : at ≡ place a b) (j : v ≡ seenAt tab at) (h : v ≡ false) (d : Noted tab tab₁ at) where
   -- a pair not seen before does what its path's edges do in turn
   pair-shows : (tab′ reasons′ : List ℕ) (r : Walked) (e : Standing terms cells reasons n k) (q : Together (e .store) (a, b)) (seen : Seen) → Tables n tab seen
       → ((seen₁ : Seen) → Tables n tab₁ seen₁ → Shows (e .store) n tab′ reasons′ r (each (edge walked) (path (e .store) a b) seen₁ (withReasons (e .store) (pairsView reasons c))))

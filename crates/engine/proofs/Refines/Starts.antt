@@ -2,9 +2,9 @@
 use mathlib.Core.Path.{_≡_, refl, sym, ap, _∙_}
 use mathlib.Core.Bool.{true, false, _&&_}
 use mathlib.Core.List.{List, []}
-use Prim.Native.Nat.{ℕ, zero, suc, _+_, _*_, _/_, _%_, _^_, _≤_}
+use Prim.Native.Nat.{ℕ, _+_, _*_, _/_, _%_, _^_, _≤_, _<_}
 use native.Mathlib.Omega.{arith}
-use lib.ListN.{length, getD, replicate, length-replicate}
+use lib.ListN.{length, replicate, length-replicate}
 use lib.Dec.{ltb}
 use Rattle.records.specs.Lists.{any, all, table}
 use Rattle.records.specs.Store.{Store, ok, stop, andThen, store, count, isString}
@@ -15,12 +15,13 @@ use Rattle.records.specs.Calls.{Working, added}
 use Rattle.records.specs.View.{Lent, lent, storeOf, pairsView, reasonsAt}
 use Rattle.records.specs.Make.{withReasons}
 use Rattle.records.specs.Working.Audited.{Ready}
-use Rattle.records.proofs.Lists.{both-left, both-right, table-length}
+use Rattle.records.proofs.Lists.{both-left, both-right, table-length, all-zero}
 use Rattle.records.proofs.Beside.{audited-within}
 use Rattle.engine.specs.declared.Walked.{Walked}
 use Rattle.engine.specs.Explain.{wasSeen, walked, explain, explainArguments, emptied, givesReason, isReasoned}
 use Rattle.engine.specs.Working.Seen.{place, bit, seenAt, Tables}
 use Rattle.engine.specs.Working.Walks.{Standing, Together, Walkable, Shows, came, refused, Walks, Comes, explained, stopped, Explained, Explainable}
+use Rattle.engine.proofs.Refines.Bits.{triangle-within}
 use Rattle.engine.proofs.Sound.{class-together}
 
 -- FROM NO PAIR SEEN
@@ -32,16 +33,11 @@ no-bit j = rw (native.Mathlib.Nat.zero-div (2 ^ j)) refl
 -- a table of zeros has no pair
 pub none-noted : (w k : ℕ) → seenAt (replicate w 0) k ≡ false
 unfolding seenAt
-none-noted w k = ap (λ (x : ℕ). bit x (k % 32)) (zero-at w (k / 32)) ∙ no-bit (k % 32)
-  where
-    zero-at : (w i : ℕ) → _≡_ {A = ℕ} (getD (replicate w 0) i 0) 0
-    zero-at zero i = refl
-    zero-at (suc w) zero = refl
-    zero-at (suc w) (suc i) = zero-at w i
+none-noted w k = ap (λ (x : ℕ). bit x (k % 32)) (all-zero w (k / 32)) ∙ no-bit (k % 32)
 
 none-tabled : (n w : ℕ) → Tables n (replicate w 0) []
 unfolding wasSeen any
-none-tabled n w = record { says = λ a b ha hb. none-noted w (place n a b) }
+none-tabled n w = record { says = λ a b ha hb. none-noted w (place a b) }
 
 pub explained-by : (terms cells tab′ reasons reasons′ : List ℕ) (n k a b c w : ℕ) (r : Walked)
     → Walks (walked (a, b)) (λ s. Together s (a, b)) terms cells (replicate w 0) tab′ reasons reasons′ n k c r → Explained terms cells reasons reasons′ n k a b c r
@@ -53,17 +49,16 @@ explained-by terms cells tab′ reasons reasons′ n k a b c w r g = record { ke
     go e (came h seen m i) = explained h (ap (andThen (λ v. λ s. ok s tt)) i)
     go e (refused h i) = stopped h (ap (andThen (λ v. λ s. ok s tt)) i)
 
-pub explainable-walk : (terms cells reasons : List ℕ) (n k a b m w : ℕ) {c : ℕ} → n ≤ m → m ≤ 512 → (m + 1) * (m + 1) ≤ 32 * w → Explainable terms cells reasons n k a b c
+pub explainable-walk : (terms cells reasons : List ℕ) (n k a b m w : ℕ) {c : ℕ} → n ≤ m → m ≤ 512 → 32 * (m + 1) + m * (m + 1) / 2 + m < 32 * w → Explainable terms cells reasons n k a b c
     → Walkable terms cells (replicate w 0) reasons n k c (λ s. Together s (a, b))
 explainable-walk terms cells reasons n k a b m w i j h e =
-    let q = native.Mathlib.Nat.mul-le-mul {n₁ = n + 1} {m₁ = n + 1} {n₂ = m + 1} {m₂ = m + 1} (omega arith) (omega arith) in
-    record { standing = e .standing; fit = e .together; wide = record { few = omega arith; long = rw (length-replicate {A = ℕ} w 0) (omega arith) }; roomy = e .roomy }
+    record { standing = e .standing; fit = e .together; wide = record { few = omega arith; long = rw (length-replicate {A = ℕ} w 0) (triangle-within n m (32 * w) i h) }; roomy = e .roomy }
 
 -- THE LENT STORE
 
 module _ (m : Lent) (c : State) where
   abbrev pub standing-of : Ready m c → Standing (m .terms) (m .cells) (m .reasons) (c .terms) (c .cells)
-  standing-of d = record { store = storeOf m c; audited = d .audited; terms-are = refl; cells-are = refl; room-is = refl }
+  standing-of d = record { store = storeOf m c; audited = d .audited; words = d .sized .termRoom; terms-are = refl; cells-are = refl; room-is = refl }
 
   abbrev pub explainable-of : (a b : ℕ) → Ready m c → explainArguments a b (storeOf m c) ≡ true → Explainable (m .terms) (m .cells) (m .reasons) (c .terms) (c .cells) a b (c .reasons)
   explainable-of a b d h =

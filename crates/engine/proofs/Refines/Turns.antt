@@ -3,17 +3,14 @@ use mathlib.Core.Path.{_≡_, refl, sym, ap, _∙_}
 use mathlib.Core.Bool.{Bool, true, false}
 use mathlib.Core.List.{List, [], _∷_, _++_}
 use mathlib.Core.Logic.{_⊎_, inl, inr, ⊎-elim}
-use Prim.Native.Nat.{ℕ, suc, _+_, _/_, _≤_, _<_, min}
+use Prim.Native.Nat.{ℕ, suc, _+_, _*_, _-_, _/_, _%_, _≤_, _<_, min}
 use native.Mathlib.Omega.{arith}
 use lib.ListN.{length}
 use lib.Dec.{ltb}
 use borrow.Author.Tests.{ltb-true}
-use Rattle.records.specs.declared.State.{State}
-use Rattle.records.specs.declared.Added.{Added}
-use Rattle.records.specs.declared.Added.the-variants.{Counts, Refused}
 use Rattle.records.specs.Lists.{firsts, oneMore, Every, and}
 use Rattle.records.specs.Store.{Term, Cell, Store, Out, ok, stop, Work, andThen, store, term, cell, count, isTerm, isEdge, within, kind, parts, chain, chainIn, pathIn, termIn, cellIn}
-use Rattle.records.specs.View.{termAt, cellAt, termsView, cellsView, pairsView, reasonRoom, reasonLimit, oneReason}
+use Rattle.records.specs.View.{termAt, cellAt, termsView, cellsView, pairsView, reasonRoom, reasonLimit}
 use Rattle.records.specs.Make.{withReasons, isListed, addReason}
 use Rattle.records.specs.Working.Audited.{Audited, Label, asserted, interface, congruence, definitional, Next, last, later}
 use Rattle.records.specs.Working.Puts.{Pushed}
@@ -22,9 +19,11 @@ use Rattle.records.proofs.Views.{term-is, cell-is, table-is}
 use Rattle.records.proofs.Chains.{chain-none, chain-is}
 use Rattle.engine.specs.declared.Walked.{Walked}
 use Rattle.engine.specs.Explain.{Seen, each, edge, highest, walked}
-use Rattle.engine.specs.Working.Seen.{Tables}
+use Rattle.engine.specs.Working.Seen.{triangle, place, bit, seenAt, Tables}
+use Rattle.engine.specs.Working.Listing.{Besides, Looked}
 use Rattle.engine.specs.Working.Walks.{Standing, Together, Edge, Wide, Walkable, Shows, came, refused, Walks, Gives}
 use Rattle.engine.proofs.Fits.{Fit, fit-height, pairs-fit}
+use Rattle.engine.proofs.Refines.Bits.{place-small}
 
 -- THE LENT WORDS
 
@@ -54,6 +53,7 @@ abbrev pub standing-on : {terms cells reasons : List ℕ} {n k : ℕ} (reasons�
 standing-on reasons′ h e = record {
   store = e .store;
   audited = e .audited;
+  words = e .words;
   terms-are = e .terms-are;
   cells-are = e .cells-are;
   room-is = e .room-is ∙ ap (λ (x : ℕ). min reasonLimit (x / 2)) (sym h);
@@ -65,42 +65,44 @@ fewer l l′ m n h e = Rattle.records.proofs.Lists.table-same _ _ m (λ i b. ta
 
 -- ONE REASON
 
-pub gives-listed : (l : List ℕ) (n kind value : ℕ) (b : Bool) → b ≡ isListed (kind, value) (pairsView l n) → b ≡ true → Gives l l n kind value (record { code = 0; count = n })
-gives-listed l n kind value b i z = record {
+pub gives-listed : (l places places′ : List ℕ) (n kind value slot : ℕ) (b : Bool) → Looked l places places′ n kind value slot b → b ≡ true
+    → Gives l l places places′ n kind value slot (record { code = 0; count = n })
+gives-listed l places places′ n kind value slot b i z = record {
   kept = refl;
   more = omega arith;
   fits = λ h. h;
   listed = λ y. (refl, refl);
-  given = λ y h. clash (sym i ∙ z) y;
-  full = λ y h. clash (sym i ∙ z) y;
+  given = λ y h. clash (sym (i .is) ∙ z) y;
+  full = λ y h. clash (sym (i .is) ∙ z) y;
+  elsewhere = i .elsewhere;
 }
 
-module _ (l l′ : List ℕ) (c : State) (kind value : ℕ) (b : Bool) (i : b ≡ isListed (kind, value) (pairsView l (c .reasons))) (z : b ≡ false)
-    (r : Added) (p : Pushed l l′ c kind value r) where
-  lacked : {X : Type 0} → isListed (kind, value) (pairsView l (c .reasons)) ≡ true → X
-  lacked y = clash y (sym i ∙ z)
+module _ (l l′ places places′ : List ℕ) (n kind value slot : ℕ) (b : Bool) (i : Looked l places places′ n kind value slot b) (z : b ≡ false) (r : Bool) (p : Pushed l l′ n kind value r) where
+  lacked : {X : Type 0} → isListed (kind, value) (pairsView l n) ≡ true → X
+  lacked y = clash y (sym (i .is) ∙ z)
 
-  pub gives-counts : (d : State) → r ≡ Counts d → Gives l l′ (c .reasons) kind value (record { code = 0; count = d .reasons })
-  gives-counts d e = decide (ltb (c .reasons) (reasonRoom l)) yes no
-    where
-      yes : ltb (c .reasons) (reasonRoom l) ≡ true → Gives l l′ (c .reasons) kind value (record { code = 0; count = d .reasons })
-      yes h =
-          let u = p .grown h .0 in
-          let q : d ≡ oneReason c = cc in
-          let low = ltb-true (c .reasons) (reasonRoom l) h in
-          rw q (record { kept = p .kept; more = omega arith; fits = λ y. omega arith; listed = lacked; given = λ x y. (refl, p .grown y .1); full = λ x y. clash h y })
+  pub gives-one : r ≡ true → Gives l l′ places places′ n kind value slot (record { code = 0; count = n + 1 })
+  gives-one e =
+      let low = ltb-true n (reasonRoom l) (sym (p .fits) ∙ e) in
+      record {
+        kept = p .kept;
+        more = omega arith;
+        fits = λ y. omega arith;
+        listed = lacked;
+        given = λ x y. (refl, p .grown e);
+        full = λ x y. clash (sym (p .fits) ∙ e) y;
+        elsewhere = i .elsewhere;
+      }
 
-      no : ltb (c .reasons) (reasonRoom l) ≡ false → Gives l l′ (c .reasons) kind value (record { code = 0; count = d .reasons })
-      no h = let u = p .full h in let y : _≡_ {A = ℕ} 0 1 = cc in absurd (omega arith)
-
-  pub gives-refused : (k : ℕ) → r ≡ Refused k → Gives l l′ (c .reasons) kind value (record { code = k; count = c .reasons })
-  gives-refused k e = record {
+  pub gives-refused : r ≡ false → Gives l l′ places places′ n kind value slot (record { code = 7; count = n })
+  gives-refused e = record {
     kept = p .kept;
     more = omega arith;
     fits = λ h. h;
     listed = lacked;
-    given = λ x h. let u = p .grown h .0 in let y : _≡_ {A = ℕ} 0 1 = cc in absurd (omega arith);
-    full = λ x h. let u = p .full h in cc;
+    given = λ x y. clash y (sym (p .fits) ∙ e);
+    full = λ x h. refl;
+    elsewhere = i .elsewhere;
   }
 
 -- AN EDGE BY ITS LABEL
@@ -137,12 +139,15 @@ module _ (s : Store) (j v : ℕ) (rs : List (ℕ × ℕ)) where
   unfolding addReason
   added-full y h = rw (y, h)
 
-pub edge-gives : (terms cells tab reasons reasons′ : List ℕ) (n k node j kind value count : ℕ) (r : Walked) → (j ≡ 1) ⊎ (j ≡ 2) → kind ≡ j → Labelled terms node kind value
-    → Gives reasons reasons′ count j value r → Walks (edge walked node) (λ s. Edge s node) terms cells tab tab reasons reasons′ n k count r
-edge-gives terms cells tab reasons reasons′ n k node j kind value count r two i l g = record { kept = g .kept; more = g .more; fits = g .fits; shows = λ e q seen m. go e q seen m }
+-- the reason is given, and the table at exit has the pairs of that at entry
+pub edge-gives : (terms cells tab tab′ reasons reasons′ : List ℕ) {places places′ : List ℕ} (n k node j kind value count : ℕ) {slot : ℕ} (r : Walked) → (j ≡ 1) ⊎ (j ≡ 2) → kind ≡ j
+    → Labelled terms node kind value → Gives reasons reasons′ places places′ count j value slot r → ((seen : Seen) → Tables n tab seen → Tables n tab′ seen)
+    → Walks (edge walked node) (λ s. Edge s node) terms cells tab tab′ reasons reasons′ n k count r
+edge-gives terms cells tab tab′ reasons reasons′ n k node j kind value count r two i l g over =
+    record { kept = g .kept; more = g .more; fits = g .fits; shows = λ e q seen m. go e q seen (over seen m) }
   where
-    go : (e : Standing terms cells reasons n k) → Edge (e .store) node → (seen : Seen) → Tables n tab seen
-        → Shows (e .store) n tab reasons′ r (edge walked node seen (withReasons (e .store) (pairsView reasons count)))
+    go : (e : Standing terms cells reasons n k) → Edge (e .store) node → (seen : Seen) → Tables n tab′ seen
+        → Shows (e .store) n tab′ reasons′ r (edge walked node seen (withReasons (e .store) (pairsView reasons count)))
     go e q seen m =
         let s = e .store in
         let rs = pairsView reasons count in
@@ -154,6 +159,25 @@ edge-gives terms cells tab reasons reasons′ n k node j kind value count r two 
         (λ h. came (g .given y h .0) seen m (z ∙ ap (andThen (λ u. λ s₁. ok s₁ seen)) (added-fits s j value rs y (rw (len, e .room-is) h)) ∙ ap (λ (x : List (ℕ × ℕ)). ok (withReasons s x) seen) (sym (g .given y h .1))))
         (λ h. refused (λ c. let w : _≡_ {A = ℕ} 0 7 = sym c ∙ g .full y h in omega arith)
         (z ∙ ap (andThen (λ u. λ s₁. ok s₁ seen)) (added-full s j value rs y (rw (len, e .room-is) h)) ∙ ap stop (sym (g .full y h)))))
+
+-- a table of which a word past those of the pairs is another has the same pairs
+tables-over : (n slot : ℕ) (tab tab′ : List ℕ) → triangle n + n < 32 * slot → Besides tab tab′ slot → (seen : Seen) → Tables n tab seen → Tables n tab′ seen
+unfolding seenAt
+tables-over n slot tab tab′ h d seen m = record {
+  says = λ a b ha hb.
+      let p = place-small n a b ha hb in
+      ap (λ (x : ℕ). bit x (place a b % 32)) (d (place a b / 32) (λ i. omega arith)) ∙ m .says a b ha hb;
+}
+
+-- the words of the terms are the last of the table
+module _ (terms cells tab reasons : List ℕ) (n k node count : ℕ) (w : Walkable terms cells tab reasons n k count (λ s. Edge s node)) where
+  pub slot-past : 32 * node + 32 + triangle n + n < 32 * length tab
+  slot-past = let a = within-high n node (standing-within (w .standing) node (w .fit .here)) in let l = w .wide .long in omega arith
+
+  pub edge-hints : (tab′ reasons′ : List ℕ) (j kind value : ℕ) (r : Walked) → (j ≡ 1) ⊎ (j ≡ 2) → kind ≡ j → Labelled terms node kind value
+      → Gives reasons reasons′ tab tab′ count j value (length tab - 1 - node) r → Walks (edge walked node) (λ s. Edge s node) terms cells tab tab′ reasons reasons′ n k count r
+  edge-hints tab′ reasons′ j kind value r two i l g =
+      edge-gives terms cells tab tab′ reasons reasons′ n k node j kind value count r two i l g (tables-over n _ tab tab′ (let p = slot-past in omega arith) (g .elsewhere))
 
 pub edge-nothing : (terms cells tab reasons : List ℕ) (n k node kind value count : ℕ) → kind ≡ 4 → Labelled terms node kind value
     → Walks (edge walked node) (λ s. Edge s node) terms cells tab tab reasons reasons n k count (record { code = 0; count = count })

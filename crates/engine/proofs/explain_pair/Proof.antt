@@ -42,17 +42,31 @@ explain-pair-spec =
     let at-explain-plain = c .before .before .before .before .before .before .before .before .before .before .before .before in
     explained-anew _ _ _ _ _ _ _ _ _ (at-explain-plain .explain-plain .kept .1 .1 .1 .1 .0) (at-explain-plain .explain-plain .ensures .kept) _ _
     (c .before .before .explain-some .ensures))
-    -- explain-many-requires
+    -- explain-more-requires
     (λ c κs.
-    let at-explain-plain = c .before .before .before .before .before .before .before .before .before in
+    let at-explain-plain = c .before .before .before .before .before .before .before .before .before .before .before in
     let at-start = at-explain-plain .before .before .before .before .before .before .before .before .before in
-    (at-start .pre .0, explainable-on _ _ _ _ _ _ _ _ _ (at-explain-plain .explain-plain .kept .1 .1 .1 .1 .0) (at-start .pre .1)))
+    (omega arith, explainable-on _ _ _ _ _ _ _ _ _ (at-explain-plain .explain-plain .kept .1 .1 .1 .1 .0) (at-start .pre .1)))
     -- same-length-6
     (λ c. search needs)
     -- same-length-7
     (λ c. search needs)
     -- returns-4
     (λ c.
-    let at-explain-plain = c .before .before .before .before .before .before .before .before .before .before .before .before in
+    let at-explain-plain = c .before .before .before .before .before .before .before .before .before .before .before .before .before .before in
+    explained-anew _ _ _ _ _ _ _ _ _ (at-explain-plain .explain-plain .kept .1 .1 .1 .1 .0) (at-explain-plain .explain-plain .ensures .kept) _ _
+    (c .before .before .explain-more .ensures))
+    -- explain-many-requires
+    (λ c κs.
+    let at-explain-plain = c .before .before .before .before .before .before .before .before .before .before .before in
+    let at-start = at-explain-plain .before .before .before .before .before .before .before .before .before in
+    (at-start .pre .0, explainable-on _ _ _ _ _ _ _ _ _ (at-explain-plain .explain-plain .kept .1 .1 .1 .1 .0) (at-start .pre .1)))
+    -- same-length-8
+    (λ c. search needs)
+    -- same-length-9
+    (λ c. search needs)
+    -- returns-5
+    (λ c.
+    let at-explain-plain = c .before .before .before .before .before .before .before .before .before .before .before .before .before .before in
     explained-anew _ _ _ _ _ _ _ _ _ (at-explain-plain .explain-plain .kept .1 .1 .1 .1 .0) (at-explain-plain .explain-plain .ensures .kept) _ _
     (c .before .before .explain-many .ensures)))

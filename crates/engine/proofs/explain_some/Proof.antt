@@ -10,13 +10,11 @@ explain-some-spec =
     (tie.spec
     -- slice-aggregate-explain-rec
     (λ c. search needs)
-    -- slice-aggregate-explain-rec-2
-    (λ c. search needs)
     -- explain-rec-requires
     (λ c κs.
-    let at-start = c .before .before .before .before .before .before in
-    explainable-walk _ _ _ _ _ _ _ 127 512 (at-start .pre .0) (omega arith) (omega arith) (at-start .pre .1))
+    let at-start = c .before .before .before .before .before in
+    explainable-walk _ _ _ _ _ _ _ 127 386 (at-start .pre .0) (omega arith) (omega arith) (at-start .pre .1))
     -- same-length
     (λ c. search needs)
     -- returns
-    (λ c. let at-explain-rec = c .before .before .before .before in explained-by _ _ _ _ _ _ _ _ _ _ 512 _ (at-explain-rec .explain-rec .ensures)))
+    (λ c. let at-explain-rec = c .before .before .before in explained-by _ _ _ _ _ _ _ _ _ _ 386 _ (at-explain-rec .explain-rec .ensures)))

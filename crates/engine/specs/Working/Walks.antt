@@ -2,26 +2,28 @@
 use mathlib.Core.Path.{_≡_}
 use mathlib.Core.Bool.{Bool, true, false}
 use mathlib.Core.List.{List, _++_}
-use Prim.Native.Nat.{ℕ, _+_, _*_, _≤_}
+use Prim.Native.Nat.{ℕ, _+_, _*_, _≤_, _<_}
 use lib.ListN.{length}
 use lib.Dec.{ltb}
 use denote.Ref.{now}
 use Rattle.records.specs.declared.State.{State}
 use Rattle.records.specs.Lists.{upTo, oneMore}
 use Rattle.records.specs.Store.{Term, Store, Out, ok, stop, Work, isTerm, isEdge, top, aboveIn}
-use Rattle.records.specs.View.{Slice, termsView, cellsView, pairsView, reasonRoom}
+use Rattle.records.specs.View.{Slice, termWords, termsView, cellsView, pairsView, reasonRoom}
 use Rattle.records.specs.Make.{withReasons, isListed}
 use Rattle.records.specs.Working.Audited.{Audited}
 use Rattle.engine.specs.declared.Walked.{Walked}
 use Rattle.engine.specs.declared.Plain.{Plain}
 use Rattle.engine.specs.declared.Plain.the-variants.{Ended}
 use Rattle.engine.specs.Explain.{Seen, edge, walked, explain}
-use Rattle.engine.specs.Working.Seen.{Tables}
+use Rattle.engine.specs.Working.Seen.{triangle, Tables}
+use Rattle.engine.specs.Working.Listing.{Besides}
 
--- an audited store with the lent terms and cells and the room of the lent reasons
+-- an audited store with the lent terms, all of whose words are lent, and cells, and the room of the lent reasons
 pub record Standing (terms cells reasons : List ℕ) (n k : ℕ) : Type 0 where
   pub store : Store
   pub audited : Audited store
+  pub words : termWords n ≤ length terms
   pub terms-are : store .terms ≡ termsView terms n
   pub cells-are : store .cells ≡ cellsView cells k
   pub room-is : store .room .reasons ≡ reasonRoom reasons
@@ -37,10 +39,11 @@ pub record Edge (s : Store) (t : ℕ) : Type 0 where
   pub here : isTerm s t ≡ true
   pub joins : isEdge s t ≡ true
 
--- the table is long enough for n terms, of which there are not too many
+-- the table is long enough for n terms, of which there are not too many: a bit for each pair from its start, a word for each number up
+-- to n from its end
 pub record Wide (n : ℕ) (table : List ℕ) : Type 0 where
   pub few : n ≤ 512
-  pub long : (n + 1) * (n + 1) ≤ 32 * length table
+  pub long : 32 * (n + 1) + triangle n + n < 32 * length table
 
 pub record Walkable (terms cells table reasons : List ℕ) (n k count : ℕ) (P : Store → Type 0) : Type 0 where
   pub standing : Standing terms cells reasons n k
@@ -66,8 +69,8 @@ abbrev pub ahead : List Term → ℕ → ℕ → Bool → ℕ → List ℕ
 ahead ts m b true x = upTo m (aboveIn ts x)
 ahead ts m b false x = upTo m (aboveIn ts x) ++ upTo m (aboveIn ts b)
 
--- one reason more, where the list lacks it and it fits
-pub record Gives (l l′ : List ℕ) (n kind value : ℕ) (r : Walked) : Type 0 where
+-- one reason more, where the list lacks it and it fits; of the places the slot at most is written
+pub record Gives (l l′ places places′ : List ℕ) (n kind value slot : ℕ) (r : Walked) : Type 0 where
   pub kept : pairsView l′ n ≡ pairsView l n
   pub more : n ≤ r .count
   pub fits : n ≤ reasonRoom l → r .count ≤ reasonRoom l
@@ -75,6 +78,7 @@ pub record Gives (l l′ : List ℕ) (n kind value : ℕ) (r : Walked) : Type 0 
   pub given : isListed (kind, value) (pairsView l n) ≡ false → ltb n (reasonRoom l) ≡ true
       → (r .code ≡ 0) × (pairsView l′ (r .count) ≡ oneMore (pairsView l n) (kind, value))
   pub full : isListed (kind, value) (pairsView l n) ≡ false → ltb n (reasonRoom l) ≡ false → r .code ≡ 7
+  pub elsewhere : Besides places places′ slot
 
 -- what an explanation came to
 pub data Comes (s : Store) (reasons : List ℕ) (r : Walked) (o : Out (Unit {0})) : Type 0 where
@@ -115,9 +119,9 @@ pub record PlainPair (terms reasons : List ℕ) (n a b count : ℕ) : Type 0 whe
 -- THE WORDS OF CONTRACTS. Slices are passed by their names, and the counts as they were at entry
 
 -- a walk from the table and the reasons at entry to those at exit
-abbrev pub Along : (List ℕ → List ℕ → List ℕ → List ℕ → List ℕ → List ℕ → ℕ → ℕ → ℕ → Walked → Type 0) → Slice → Slice → Slice → Slice → State → Walked → Type 0
-Along P terms cells seen reasons c r =
-    P (now (terms .entry)) (now (cells .entry)) (now (seen .entry)) (now (seen .exit)) (now (reasons .entry)) (now (reasons .exit)) (c .terms) (c .cells) (c .reasons) r
+abbrev pub Along : (List ℕ → List ℕ → List ℕ → List ℕ → List ℕ → List ℕ → ℕ → ℕ → ℕ → Walked → Type 0) → Slice → Slice → Slice → Slice → ℕ → ℕ → ℕ → Walked → Type 0
+Along P terms cells seen reasons n k count r =
+    P (now (terms .entry)) (now (cells .entry)) (now (seen .entry)) (now (seen .exit)) (now (reasons .entry)) (now (reasons .exit)) n k count r
 
 -- a pair explained from the reasons at entry to those at exit
 abbrev pub PairExplained : Slice → Slice → Slice → State → ℕ → ℕ → Walked → Type 0

@@ -14,21 +14,21 @@ has-one-class-spec =
     (λ c.
     let at-start = c .before .before .before .before .before in
     class-none (at-start .args .terms .now) (at-start .args .chars .now) (at-start .args .c) (at-start .args .side .now) _ (c .before .first-variable .ensures) (c .if1 .taken))
-    -- add-all-agree
+    -- add-all-agree-unchecked
     (λ c. search needs)
-    -- mul-all-agree
+    -- mul-all-agree-unchecked
     (λ c. search needs)
-    -- sub-all-agree
+    -- sub-all-agree-unchecked
     (λ c. search needs)
-    -- part-all-agree-start
+    -- part-all-agree-unchecked-start
     (λ c. search needs)
-    -- part-all-agree-end
+    -- part-all-agree-unchecked-end
     (λ c. search needs)
-    -- mul-all-agree-2
+    -- mul-all-agree-unchecked-2
     (λ c. search needs)
-    -- shared-slice-read-all-agree
+    -- shared-slice-read-all-agree-unchecked
     (λ c. search needs)
-    -- all-agree-requires
+    -- all-agree-unchecked-requires
     (λ c κs.
     let at-first-variable = c .before .before .before in
     let at-start = at-first-variable .before .before .before .before in (
@@ -45,4 +45,4 @@ has-one-class-spec =
     let at-first-variable = at-if1 .before in
     let at-start = at-first-variable .before .before .before .before in
     class-is (at-start .args .terms .now) (at-start .args .chars .now) (at-start .args .c) (at-start .args .side .now) _ (at-first-variable .first-variable .ensures)
-    (at-if1 .if1 .left) _ (c .all-agree .ensures)))
+    (at-if1 .if1 .left) _ (c .all-agree-unchecked .ensures)))

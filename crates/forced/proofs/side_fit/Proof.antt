@@ -13,13 +13,13 @@ side-fit-spec =
     (tie.spec
     -- variables-length-requires
     (λ c κs. search needs)
-    -- letters-length-requires
+    -- letters-length-unchecked-requires
     (λ c κs.
     let at-start = c .before .before .before .before .before in (
       texts-read (at-start .args .terms .now) (at-start .args .chars .now) (at-start .args .c) (at-start .pre .0),
       list-short (readIn (at-start .args .terms .now) (at-start .args .chars .now) (at-start .args .c)) (at-start .args .side .now) (at-start .pre .1 .0 .right),
     ))
-    -- letters-length-requires-2
+    -- letters-length-unchecked-requires-2
     (λ c κs.
     let at-start = c .before .before .before .before .before .before in (
       texts-read (at-start .args .terms .now) (at-start .args .chars .now) (at-start .args .c) (at-start .pre .0),
@@ -32,24 +32,24 @@ side-fit-spec =
     let at-variables-length = c .before .before .before in
     let at-start = at-variables-length .before .before .before .before .before in
     fit-short (at-start .args .terms .now) (at-start .args .chars .now) (at-start .args .c) (at-start .pre .0) (at-start .args .word .now) (at-start .args .side .now) _ _ _
-    (at-variables-length .variables-length .ensures) (c .before .before .letters-length .ensures) (c .before .letters-length2 .ensures) (c .if1 .taken))
+    (at-variables-length .variables-length .ensures) (c .before .before .letters-length-unchecked .ensures) (c .before .letters-length-unchecked2 .ensures) (c .if1 .taken))
     -- div-t12
     (λ c.
     let at-variables-length = c .before .before .before in
     let at-start = at-variables-length .before .before .before .before .before in
     (let k = some-counted (at-start .args .terms .now) (at-start .args .chars .now) (at-start .args .c) (at-start .pre .0) (at-start .args .word .now) (at-start .args .side .now) _
-    _ _ (at-variables-length .variables-length .ensures) (c .before .before .letters-length .ensures) (c .before .letters-length2 .ensures) (at-start .pre .1 .1) in
+    _ _ (at-variables-length .variables-length .ensures) (c .before .before .letters-length-unchecked .ensures) (c .before .letters-length-unchecked2 .ensures) (at-start .pre .1 .1) in
     omega arith))
     -- rem-t14
     (λ c.
     let at-variables-length = c .before .before .before in
     let at-start = at-variables-length .before .before .before .before .before in
     (let k = some-counted (at-start .args .terms .now) (at-start .args .chars .now) (at-start .args .c) (at-start .pre .0) (at-start .args .word .now) (at-start .args .side .now) _
-    _ _ (at-variables-length .variables-length .ensures) (c .before .before .letters-length .ensures) (c .before .letters-length2 .ensures) (at-start .pre .1 .1) in
+    _ _ (at-variables-length .variables-length .ensures) (c .before .before .letters-length-unchecked .ensures) (c .before .letters-length-unchecked2 .ensures) (at-start .pre .1 .1) in
     omega arith))
     -- returns-2
     (λ c.
     let at-variables-length = c .before .before .before in
     let at-start = at-variables-length .before .before .before .before .before in
     fit-spans (at-start .args .terms .now) (at-start .args .chars .now) (at-start .args .c) (at-start .pre .0) (at-start .args .word .now) (at-start .args .side .now) _ _ _
-    (at-variables-length .variables-length .ensures) (c .before .before .letters-length .ensures) (c .before .letters-length2 .ensures) (c .if1 .left)))
+    (at-variables-length .variables-length .ensures) (c .before .before .letters-length-unchecked .ensures) (c .before .letters-length-unchecked2 .ensures) (c .if1 .left)))

@@ -30,9 +30,9 @@ module _ (m : Lent) (c : State) (a : Bool) (i : a ≡ sizes m c) where
       unfolding audit auditStore
       audit-unclassed n = sym (rw (sym i ∙ not-false a h, sym j ∙ not-false b k, sym (classes-seen m c) ∙ sym l ∙ not-true d n))
 
-      pub audit-congruable : not d ≡ false → Congruable (storeOf (lent (m .terms) (m .cells) [] [] []) c) (c .terms)
+      pub audit-congruable : not d ≡ false → Congruable (m .terms) (m .cells) c
       audit-congruable n =
-          congruable m c (audit-sized h .termLimited) (recorded-of (storeOf m c) (sym j ∙ not-false b k)) (classed-of (storeOf m c) (sym (classes-seen m c) ∙ sym l ∙ not-false d n))
+          congruable m c (audit-sized h) (recorded-of (storeOf m c) (sym j ∙ not-false b k)) (classed-of (storeOf m c) (sym (classes-seen m c) ∙ sym l ∙ not-false d n))
 
       module _ (n : not d ≡ false) (e : Bool) (o : e ≡ congruencesRule (storeOf (lent (m .terms) (m .cells) [] [] []) c)) where
         pub audit-incongruent : not e ≡ true → 4 ≡ audit m c

@@ -9,45 +9,18 @@ use lib.ListN.{length}
 use lib.Dec.{eqb}
 use borrow.Author.Tests.{eq-eqb, ne-eqb, not-false}
 use Rattle.records.specs.declared.State.{State}
-use Rattle.records.specs.Lists.{all, upTo, sameWord, firsts, seconds, Every, and}
-use Rattle.records.specs.Store.{Cell, cellIn, term, kind, within, chainBy, chainIn, chain, aboveIn, nearestIn, pathIn, sameTree}
-use Rattle.records.specs.View.{Lent, storeOf, termLimit, termsView, cellAt, cellsView, termed, chained, termAt}
-use Rattle.records.specs.Rules.{stampBelow, fallsRule, pairsOf, congruenceRule, edgeRule, congruencesRule}
+use Rattle.records.specs.Lists.{all, sameWord, firsts, seconds, Every, and}
+use Rattle.records.specs.Store.{Cell, cellIn, term, kind, within, chainBy, chainIn, chain}
+use Rattle.records.specs.View.{Lent, storeOf, cellAt, cellsView, termed, chained, termAt}
+use Rattle.records.specs.Rules.{fallsRule, pairsOf, congruenceRule, edgeRule, congruencesRule}
 use Rattle.records.specs.Working.Leaves.{pairWords, pairMeets}
-use Rattle.records.specs.Working.Audited.{Classed, Recorded, Part, Pathed, TermPair, Congruable}
-use Rattle.records.proofs.Lists.{both-left, both-right, both-true, either, every-map, every-both, every-firsts, firsts-every, seconds-every, word-is, and-stop, and-next, or-stop, or-next, left-false, right-false, failed, passed, decide, table-length}
+use Rattle.records.specs.Working.Audited.{Sized, Classed, Recorded, Part, TermPair, Congruable}
+use Rattle.records.proofs.Lists.{both-left, both-right, both-true, either, every-map, every-both, every-firsts, firsts-every, seconds-every, word-is, and-stop, or-stop, or-next, left-false, right-false, failed, passed, decide, table-length}
 use Rattle.records.proofs.Views.{kind-at, first-at, value-at, other-at, next-at}
-use Rattle.records.proofs.Climbs.{view-count, view-term, view-forest, ready-up, within-term, term-within}
-use Rattle.records.proofs.Paths.{nearest-tree, path-sides}
+use Rattle.records.proofs.Climbs.{view-term, view-forest, ready-up, within-term, term-within}
 use Rattle.records.proofs.Refines.ClassLaws.{four-of}
 use Rattle.records.proofs.Chains.{none-by, one-by}
 use Rattle.records.proofs.Grown.{string-term}
-
--- THE PATH OF A PAIR
-
-module _ (l : List ℕ) (c : State) (m a b x : ℕ) (h : Pathed (termed l c) (c .terms)) (wa : within (c .terms) a ≡ true) (wb : within (c .terms) b ≡ true)
-    (e : x ≡ nearestIn (termsView l (c .terms)) a b) where
-  tree : sameTree (termed l c) a b ≡ not (eqb x 0)
-  tree =
-      let n = view-count l (c .terms) in
-      nearest-tree (termsView l (c .terms)) (rw n (h .tops)) (λ t w. h .ends t (rw n at w)) a b (rw n wa) (rw n wb) ∙ ap (λ y. not (eqb y 0)) (sym e)
-
-  sides : all (stampBelow (termsView l (c .terms)) m) (pathIn (termsView l (c .terms)) a b)
-      ≡ (all (stampBelow (termsView l (c .terms)) m) (upTo x (aboveIn (termsView l (c .terms)) a)) && all (stampBelow (termsView l (c .terms)) m) (upTo x (aboveIn (termsView l (c .terms)) b)))
-  sides = rw e (path-sides (stampBelow (termsView l (c .terms)) m) (termsView l (c .terms)) a b)
-
-  pub falls-none : x ≡ 0 → false ≡ fallsRule (termed l c) m (a, b)
-  unfolding fallsRule
-  falls-none z = and-stop _ _ (tree ∙ ap not (eq-eqb x 0 z))
-
-  pub falls-stop : (r : Bool) → r ≡ all (stampBelow (termsView l (c .terms)) m) (upTo x (aboveIn (termsView l (c .terms)) a)) → not r ≡ true → false ≡ fallsRule (termed l c) m (a, b)
-  unfolding fallsRule
-  falls-stop r f g = sym (right-false (sameTree (termed l c) a b) _ (sides ∙ left-false _ _ (failed _ r f g)))
-
-  pub falls-last : (p r : Bool) → (x ≡ 0 → ⊥) → p ≡ all (stampBelow (termsView l (c .terms)) m) (upTo x (aboveIn (termsView l (c .terms)) a)) → not p ≡ false
-      → r ≡ all (stampBelow (termsView l (c .terms)) m) (upTo x (aboveIn (termsView l (c .terms)) b)) → r ≡ fallsRule (termed l c) m (a, b)
-  unfolding fallsRule
-  falls-last p r z f g k = and-next _ _ r (tree ∙ ap not (ne-eqb x 0 z)) (and-next _ _ r (passed _ p f g) k ∙ sym sides)
 
 -- THE PAIRS OF TWO CHAINS
 
@@ -224,10 +197,6 @@ module _ (P : ℕ × ℕ → Type 0) (q : ℕ × ℕ → Bool) (l : List ℕ) (n
 
 -- A CONGRUENCE EDGE
 
--- the store as a test that reads terms and cells sees it
-pub pathed-seen : (l e : List ℕ) (c : State) → Pathed (chained l e c) (c .terms) → Pathed (termed l c) (c .terms)
-pathed-seen l e c h = record { limited = h .limited; tops = h .tops; ends = h .ends }
-
 -- pairs of the values of two chains of terms are pairs of terms
 words-terms : (n : ℕ) (l p q : List (ℕ × ℕ)) → Every (λ x. within n x ≡ true) (firsts p) → Every (λ x. within n x ≡ true) (firsts q) → pairWords l p q ≡ true → Every (TermPair n) l
 unfolding pairWords
@@ -236,7 +205,7 @@ words-terms n l p q hp hq e =
     let b = word-is (seconds l) (firsts q) (both-right (sameWord (firsts l) (firsts p)) _ e) in
     every-map (λ r h. record { one = h .0; other = h .1 }) (every-both (firsts-every l (rw a hp)) (seconds-every l (rw b hq)))
 
-module _ (l e : List ℕ) (c : State) (t u : ℕ) (h : Congruable (chained l e c) (c .terms)) (w : within (c .terms) t ≡ true) (eu : u ≡ termAt l t .forestParent) where
+module _ (l e : List ℕ) (c : State) (t u : ℕ) (h : Congruable l e c) (w : within (c .terms) t ≡ true) (eu : u ≡ termAt l t .forestParent) where
   parent-is : u ≡ term (chained l e c) t .forestParent
   parent-is = view-forest l (c .terms) t u w eu
 
@@ -321,8 +290,8 @@ part-terms : (m : Lent) (c : State) (t : ℕ) (q : List (ℕ × ℕ)) → Every 
 part-terms m c t q = every-firsts (λ p h. term-within m c (p .0) (string-term (storeOf m c) (p .0) (h .string)))
 
 -- what the audit of congruence edges may rely on, from refusals 1 to 3
-pub congruable : (m : Lent) (c : State) → c .terms ≤ termLimit → Recorded (storeOf m c) → Classed (storeOf m c) → Congruable (chained (m .terms) (m .cells) c) (c .terms)
-congruable m c h r a = record {
-  pathed = record { limited = h; tops = ready-up m c a true; ends = λ t w. a .forestEnds t (within-term m c t w) };
+pub congruable : (m : Lent) (c : State) → Sized m c → Recorded (storeOf m c) → Classed (storeOf m c) → Congruable (m .terms) (m .cells) c
+congruable m c z r a = record {
+  pathed = record { limited = z .termLimited; room = z .termRoom; tops = ready-up m c a true; ends = λ t w. a .forestEnds t (within-term m c t w) };
   parted = λ t k. part-terms m c t _ (r .partsGood t k);
 }

@@ -9,10 +9,8 @@ use native.Mathlib.Omega.{arith}
 use lib.ListN.{length, getD, set, take, drop, drop-of-length-le, length-set, List·getD-append}
 use lib.Dec.{ltb}
 use lib.Seq.{sets, sets-eq, getD-append-add, length-take-le, drop-cons, length-sets, getD-set-same, getD-set-other, ext-getD}
-use Rattle.records.specs.View.{reasonRoom, termAt, cellAt, pairAt, termsView, cellsView, pairsView, zeroTerm, zeroCell, termWords, cellWords, oneReason}
+use Rattle.records.specs.View.{reasonRoom, termAt, cellAt, pairAt, termsView, cellsView, pairsView, zeroTerm, zeroCell, termWords, cellWords}
 use Rattle.records.specs.Store.{Term, noTerm, within}
-use Rattle.records.specs.declared.State.{State}
-use Rattle.records.specs.declared.Added.the-variants.{Counts, Refused}
 use Rattle.records.specs.Make.{own, chainFrom, withClass, withEdge}
 use Rattle.records.specs.Working.Puts.{TermPut, TermSet, CellPut, ChainPut, PairPut, Pushed}
 use Rattle.records.proofs.Lists.{table-same, table-suc, table-length, table-at, within-low, within-high, clash}
@@ -233,12 +231,12 @@ module _ (l : List ℕ) (n a b : ℕ) where
       last-is : pairAt l′ n ≡ (a, b)
       last-is = rw same (let a0 = sets-at l (2 * n) vs fits 0 (omega arith) in let a1 = sets-at l (2 * n) vs fits 1 (omega arith) in cc)
 
-module _ (l l′ : List ℕ) (c : State) (k v : ℕ) (r : Bool) (e : r ≡ ltb (c .reasons) (reasonRoom l)) where
-  pub pushed : r ≡ true → PairPut l l′ (c .reasons) k v → (d : State) → d ≡ oneReason c → Pushed l l′ c k v (Counts d)
-  pushed h p d q = record { grown = λ y. (ap Counts q, rw add-one (p .grown)); full = λ y. clash h (e ∙ y); kept = p .kept }
+module _ (l l′ : List ℕ) (n k v : ℕ) (r : Bool) (e : r ≡ ltb n (reasonRoom l)) where
+  pub pushed : r ≡ true → PairPut l l′ n k v → Pushed l l′ n k v true
+  pushed h p = record { fits = sym h ∙ e; grown = λ y. rw add-one (p .grown); kept = p .kept }
 
-  pub not-pushed : r ≡ false → Pushed l l c k v (Refused 7)
-  not-pushed h = record { grown = λ y. clash (e ∙ y) h; full = λ y. refl; kept = refl }
+  pub not-pushed : r ≡ false → Pushed l l n k v false
+  not-pushed h = record { fits = sym h ∙ e; grown = λ y. clash y refl; kept = refl }
 
 -- ONE CELL, AND A CHAIN OF THEM
 

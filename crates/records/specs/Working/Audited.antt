@@ -7,8 +7,8 @@ use Prim.Native.Nat.{ℕ, _+_, _*_, _≤_, _<_}
 use lib.ListN.{length}
 use Rattle.records.specs.declared.State.{State}
 use Rattle.records.specs.Lists.{all, firsts, seconds, Every}
-use Rattle.records.specs.Store.{Store, Cell, term, cellIn, count, kind, isTerm, isString, within, text, chain, parts, root, top, sameClass, sameTree, path, isEdge}
-use Rattle.records.specs.View.{Lent, storeOf, termWords, cellWords, termLimit, cellLimit, charLimit, reasonLimit, keyLimit}
+use Rattle.records.specs.Store.{Store, Cell, forestUp, topIn, term, cellIn, count, kind, isTerm, isString, within, text, chain, parts, root, top, sameClass, sameTree, path, isEdge}
+use Rattle.records.specs.View.{Lent, storeOf, chained, termsView, termWords, cellWords, termLimit, cellLimit, charLimit, reasonLimit, keyLimit}
 use Rattle.records.specs.Rules.{isChar, isNumber, reasonRule, keyRule, isEquatable}
 
 -- a cell of the concatenation t
@@ -88,11 +88,12 @@ pub record Rooted (s : Store) (n t r q : ℕ) : Type 0 where
   pub root-is : r ≡ root s t
   pub top-is : q ≡ top s t
 
--- n terms whose forest parents are terms and lead to a root
-pub record Pathed (s : Store) (n : ℕ) : Type 0 where
+-- words of n terms, whose forest parents are terms and lead to a root
+pub record Pathed (l : List ℕ) (n : ℕ) : Type 0 where
   pub limited : n ≤ termLimit
-  pub tops : Closed (λ x. term s x .forestParent) n
-  pub ends : (t : ℕ) → within n t ≡ true → term s (top s t) .forestParent ≡ top s t
+  pub room : termWords n ≤ length l
+  pub tops : Closed (forestUp (termsView l n)) n
+  pub ends : (t : ℕ) → within n t ≡ true → forestUp (termsView l n) (topIn (termsView l n) t) ≡ topIn (termsView l n) t
 
 -- what refusal 3 asks
 pub record Classed (s : Store) : Type 0 where
@@ -111,9 +112,9 @@ pub record TermPair (n : ℕ) (p : ℕ × ℕ) : Type 0 where
   pub other : within n (p .1) ≡ true
 
 -- what the audit of congruence edges may rely on: paths lead to a root, and the parts of concatenations are terms
-pub record Congruable (s : Store) (n : ℕ) : Type 0 where
-  pub pathed : Pathed s n
-  pub parted : (t : ℕ) → kind s t ≡ 3 → Every (λ x. within n x ≡ true) (parts s t)
+pub record Congruable (l e : List ℕ) (c : State) : Type 0 where
+  pub pathed : Pathed l (c .terms)
+  pub parted : (t : ℕ) → kind (chained l e c) t ≡ 3 → Every (λ x. within (c .terms) x ≡ true) (parts (chained l e c) t)
 
 -- what refusal 4 asks
 abbrev pub Congruences : Store → Type 0

@@ -1,26 +1,16 @@
 -- What the contracts of private functions cite, each tied by a law to the definition that it serves. No public contract cites these.
 use mathlib.Core.Path.{_≡_}
 use mathlib.Core.Bool.{Bool, false, true, _&&_, _||_}
-use mathlib.Core.List.{List, [], _∷_}
+use mathlib.Core.List.{List}
 use mathlib.Core.Option.{Option, none, some}
-use Prim.Native.Nat.{ℕ, suc, _≤_, _<_}
-use lib.ListN.{length, getD, set}
+use Prim.Native.Nat.{ℕ, suc, _+_, _≤_, _<_}
+use lib.ListN.{length}
 use lib.Dec.{eqb}
 use Rattle.records.specs.Lists.{sameWord, firsts, seconds, firstBelow}
-use Rattle.records.specs.Store.{Cell, Store, ok, stop, Work, _>>=_, term, kind, isString, within, cellIn, chainIn, text, root, top, Term, termIn}
-use Rattle.records.specs.View.{termAt, textAt}
+use Rattle.records.specs.Store.{Cell, Store, ok, stop, Work, _>>=_, term, kind, isString, within, cellIn, chainIn, text, root, top, Term, termIn, aboveIn, nearestIn}
+use Rattle.records.specs.View.{termAt, textAt, termsView}
 use Rattle.records.specs.Rules.{endsRule, labelRule}
 use Rattle.records.specs.Make.{withNames, addText, addChain, addTerm, lowest, nameOf, nameLimit, takeName}
-
--- TABLES OF FLAGS
-
--- a table with 1 at each number of l
-unfoldable pub flagged : List ℕ → List ℕ → List ℕ
-flagged [] s = s
-flagged (x ∷ l) s = flagged l (set s x 1)
-
-unfoldable pub isFlagged : List ℕ → ℕ → Bool
-isFlagged s x = eqb (getD s x 0) 1
 
 -- CLIMBS
 
@@ -31,6 +21,18 @@ parentOf false x = x .classParent
 
 abbrev pub upIn : Bool → List Term → ℕ → ℕ
 upIn forest ts t = parentOf forest (termIn ts t)
+
+-- how many stand from t up to the root of its tree, both counted
+abbrev pub levels : List Term → ℕ → ℕ
+levels ts t = length (aboveIn ts t)
+
+-- r stands above t, and t has as many more above it as y has above it; a term with no more above it than r has the same nearest shared
+-- ancestor with both
+pub record Lifted (l : List ℕ) (n t y r : ℕ) : Type 0 where
+  pub here : within n r ≡ true
+  pub many : levels (termsView l n) r + levels (termsView l n) y ≡ suc (levels (termsView l n) t)
+  pub left : (b : ℕ) → within n b ≡ true → levels (termsView l n) b ≤ levels (termsView l n) r → nearestIn (termsView l n) r b ≡ nearestIn (termsView l n) t b
+  pub right : (b : ℕ) → within n b ≡ true → levels (termsView l n) b ≤ levels (termsView l n) r → nearestIn (termsView l n) b r ≡ nearestIn (termsView l n) b t
 
 -- CLASSES AND CONGRUENCE EDGES
 

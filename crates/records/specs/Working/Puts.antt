@@ -1,16 +1,13 @@
 -- What writing a record, above the count or within it, does to the records that are seen.
 use mathlib.Core.Path.{_≡_}
-use mathlib.Core.Bool.{true, false}
+use mathlib.Core.Bool.{Bool, true}
 use mathlib.Core.List.{List, [], _∷_, _++_}
 use Prim.Native.Nat.{ℕ, suc, _+_, _-_, _≤_}
 use lib.ListN.{length, take, set}
 use lib.Dec.{ltb}
-use Rattle.records.specs.View.{termsView, cellsView, charsView, pairsView, reasonRoom, termAt, zeroTerm, zeroCell, oneReason}
+use Rattle.records.specs.View.{termsView, cellsView, charsView, pairsView, reasonRoom, termAt, zeroTerm, zeroCell}
 use Rattle.records.specs.Store.{Term, within}
 use Rattle.records.specs.Lists.{Every, oneMore}
-use Rattle.records.specs.declared.State.{State}
-use Rattle.records.specs.declared.Added.{Added}
-use Rattle.records.specs.declared.Added.the-variants.{Counts, Refused}
 use Rattle.records.specs.Make.{own, chainFrom}
 
 -- record n + 1 of terms is now one that is its own class
@@ -48,11 +45,11 @@ pub record PairPut (l l′ : List ℕ) (n a b : ℕ) : Type 0 where
   pub grown : pairsView l′ (suc n) ≡ oneMore (pairsView l n) (a, b)
   pub kept : pairsView l′ n ≡ pairsView l n
 
--- a reason is put where it fits, with the counts of one reason more; else the refusal is 7. Nothing that is counted changes
-pub record Pushed (l l′ : List ℕ) (c : State) (kind value : ℕ) (r : Added) : Type 0 where
-  pub grown : ltb (c .reasons) (reasonRoom l) ≡ true → (r ≡ Counts (oneReason c)) × (pairsView l′ (c .reasons + 1) ≡ oneMore (pairsView l (c .reasons)) (kind, value))
-  pub full : ltb (c .reasons) (reasonRoom l) ≡ false → r ≡ Refused 7
-  pub kept : pairsView l′ (c .reasons) ≡ pairsView l (c .reasons)
+-- a reason is put at the count n where it fits, and r tells whether it did. Nothing that is counted changes
+pub record Pushed (l l′ : List ℕ) (n kind value : ℕ) (r : Bool) : Type 0 where
+  pub fits : r ≡ ltb n (reasonRoom l)
+  pub grown : r ≡ true → pairsView l′ (n + 1) ≡ oneMore (pairsView l n) (kind, value)
+  pub kept : pairsView l′ n ≡ pairsView l n
 
 -- each text of a list of terms is within the first n characters
 abbrev pub TextsWithin : List ℕ → ℕ → List ℕ → Type 0

@@ -1,4 +1,4 @@
-use Rattle.engine.proofs.Refines.Listing.{listed-there, listed-none, listed-found}
+use Rattle.engine.proofs.Refines.Listing.{looked-there, looked-none, looked-found, looked-written}
 use native.Mathlib.Omega.{arith}
 use borrow.Author.Needs.{needs}
 use Rattle.engine.proofs.listing.is_listed.Statement.{statement}
@@ -17,13 +17,13 @@ is-listed-spec =
     -- same-length
     (λ c. search needs)
     -- returns
-    (λ c. listed-there _ _ _ _ _ (c .before .is-at .ensures) (c .if1 .taken))
+    (λ c. looked-there _ _ _ _ _ _ _ (c .before .is-at .ensures) (c .if1 .taken))
     -- place-of-requires
     (λ c κs. let at-start = c .before .before .before .before .before .before in omega (arith, at-start .pre))
     -- same-length-2
     (λ c. search needs)
     -- returns-2
-    (λ c. listed-none _ _ _ _ _ (c .before .place-of .ensures) (c .if2 .taken))
+    (λ c. looked-none _ _ _ _ _ _ _ (c .before .place-of .ensures) (c .if2 .taken))
     -- cast-places
     (λ c. omega (arith, c .before .before .place-of .ensures .low))
     -- mul-places
@@ -33,8 +33,8 @@ is-listed-spec =
     -- same-length-3
     (λ c. search needs)
     -- returns-3
-    (λ c. listed-found _ _ _ _ _ (c .before .before .place-of .ensures) (c .before .if2 .left))
+    (λ c. looked-written _ _ _ _ _ _ _ (c .before .before .place-of .ensures) (c .before .if2 .left) _)
     -- same-length-4
     (λ c. search needs)
     -- returns-4
-    (λ c. listed-found _ _ _ _ _ (c .before .before .place-of .ensures) (c .before .if2 .left)))
+    (λ c. looked-found _ _ _ _ _ _ _ (c .before .before .place-of .ensures) (c .before .if2 .left)))

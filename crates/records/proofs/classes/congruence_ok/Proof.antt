@@ -1,4 +1,4 @@
-use Rattle.records.proofs.Refines.PairLaws.{pathed-seen, congruent-child, congruent-parent, congruent-pairs, congruent-terms, congruent-last}
+use Rattle.records.proofs.Refines.PairLaws.{congruent-child, congruent-parent, congruent-pairs, congruent-terms, congruent-last}
 use borrow.Author.Needs.{needs}
 use Rattle.records.proofs.classes.congruence_ok.Statement.{statement}
 use Rattle.records.proofs.classes.congruence_ok.Tie as tie
@@ -11,9 +11,12 @@ kind-requires c κs = search needs
 
 returns : tie.Need-returns
 returns c =
-    let at-start = c .before .before .before .before .before in
+    let at-start = c .before .before .before .before .before .before in
     let s = at-start .args in
-    congruent-child (s .terms .now) (s .cells .now) (s .c) _ _ (at-start .pre .0) (at-start .pre .1) (c .before .before .forest-parent .ensures) _ (c .before .kind .ensures) (c .if1 .taken)
+    record {
+      is = congruent-child (s .terms .now) (s .cells .now) (s .c) _ _ (at-start .pre .0) (at-start .pre .1 .0) (c .before .before .forest-parent .ensures) _ (c .before .kind .ensures) (c .if1 .taken);
+      kept = at-start .pre .1 .1;
+    }
 
 kind-requires-2 : tie.Need-kind-requires-2
 kind-requires-2 c κs = search needs
@@ -22,9 +25,13 @@ returns-2 : tie.Need-returns-2
 returns-2 c =
     let at-kind = c .before .before .before in
     let at-forest-parent = at-kind .before in
-    let at-start = at-forest-parent .before .before .before in
+    let at-start = at-forest-parent .before .before .before .before in
     let s = at-start .args in
-    congruent-parent (s .terms .now) (s .cells .now) (s .c) _ _ (at-start .pre .0) (at-start .pre .1) (at-forest-parent .forest-parent .ensures) _ (at-kind .kind .ensures) _ (c .before .kind2 .ensures) (c .if2 .taken)
+    record {
+      is = congruent-parent (s .terms .now) (s .cells .now) (s .c) _ _ (at-start .pre .0) (at-start .pre .1 .0) (at-forest-parent .forest-parent .ensures) _ (at-kind .kind .ensures) _
+          (c .before .kind2 .ensures) (c .if2 .taken);
+      kept = at-start .pre .1 .1;
+    }
 
 label-value-requires : tie.Need-label-value-requires
 label-value-requires c κs = search needs
@@ -45,17 +52,20 @@ returns-3 c =
     let at-kind2 = at-label-value .before .before in
     let at-kind = at-kind2 .before .before in
     let at-forest-parent = at-kind .before in
-    let at-start = at-forest-parent .before .before .before in
+    let at-start = at-forest-parent .before .before .before .before in
     let s = at-start .args in
-    congruent-pairs (s .terms .now) (s .cells .now) (s .c) _ _ (at-start .pre .0) (at-start .pre .1) (at-forest-parent .forest-parent .ensures) _ (at-kind .kind .ensures) _ (at-kind2 .kind2 .ensures) _ _ _ _
-    (at-label-value .label-value .ensures) (at-first .first .ensures) (c .before .before .first2 .ensures) (c .before .pairs-either-ok .ensures) (c .if3 .taken)
+    record {
+      is = congruent-pairs (s .terms .now) (s .cells .now) (s .c) _ _ (at-start .pre .0) (at-start .pre .1 .0) (at-forest-parent .forest-parent .ensures) _ (at-kind .kind .ensures) _
+          (at-kind2 .kind2 .ensures) _ _ _ _ (at-label-value .label-value .ensures) (at-first .first .ensures) (c .before .before .first2 .ensures) (c .before .pairs-either-ok .ensures) (c .if3 .taken);
+      kept = at-start .pre .1 .1;
+    }
 
 stamp-requires : tie.Need-stamp-requires
 stamp-requires c κs = search needs
 
 falls-hold-requires : tie.Need-falls-hold-requires
 falls-hold-requires c κs =
-    let at-first2 = c .before .before .before in
+    let at-first2 = c .before .before .before .before in
     let at-first = at-first2 .before in
     let at-label-value = at-first .before in
     let at-if2 = at-label-value .before in
@@ -63,16 +73,24 @@ falls-hold-requires c κs =
     let at-if1 = at-kind2 .before in
     let at-kind = at-if1 .before in
     let at-forest-parent = at-kind .before in
-    let at-start = at-forest-parent .before .before .before in
+    let at-start = at-forest-parent .before .before .before .before in
     let s = at-start .args in (
-      pathed-seen (s .terms .now) (s .cells .now) (s .c) (at-start .pre .0 .pathed),
-      congruent-terms (s .terms .now) (s .cells .now) (s .c) _ _ (at-start .pre .0) (at-start .pre .1) (at-forest-parent .forest-parent .ensures) _ (at-kind .kind .ensures) _ (at-kind2 .kind2 .ensures) _ _ _ _
-          (at-label-value .label-value .ensures) (at-first .first .ensures) (at-first2 .first2 .ensures) (c .before .before .pairs-either-ok .ensures) (at-if1 .if1 .left) (at-if2 .if2 .left) (c .before .if3 .left),
+      at-start .pre .0 .pathed,
+      (
+        congruent-terms (s .terms .now) (s .cells .now) (s .c) _ _ (at-start .pre .0) (at-start .pre .1 .0) (at-forest-parent .forest-parent .ensures) _ (at-kind .kind .ensures) _
+            (at-kind2 .kind2 .ensures) _ _ _ _ (at-label-value .label-value .ensures) (at-first .first .ensures) (at-first2 .first2 .ensures) (c .before .before .before .pairs-either-ok .ensures)
+            (at-if1 .if1 .left) (at-if2 .if2 .left) (c .before .before .if3 .left),
+        at-start .pre .1 .1,
+      ),
     )
+
+same-length : tie.Need-same-length
+same-length c = search needs
 
 returns-4 : tie.Need-returns-4
 returns-4 c =
-    let at-pairs-either-ok = c .before .before .before in
+    let at-falls-hold = c .before .before in
+    let at-pairs-either-ok = at-falls-hold .before .before .before .before in
     let at-first2 = at-pairs-either-ok .before in
     let at-first = at-first2 .before in
     let at-label-value = at-first .before in
@@ -81,10 +99,14 @@ returns-4 c =
     let at-if1 = at-kind2 .before in
     let at-kind = at-if1 .before in
     let at-forest-parent = at-kind .before in
-    let at-start = at-forest-parent .before .before .before in
+    let at-start = at-forest-parent .before .before .before .before in
     let s = at-start .args in
-    congruent-last (s .terms .now) (s .cells .now) (s .c) _ _ (at-start .pre .0) (at-start .pre .1) (at-forest-parent .forest-parent .ensures) _ (at-kind .kind .ensures) _ (at-kind2 .kind2 .ensures) _ _ _ _
-    (at-label-value .label-value .ensures) (at-first .first .ensures) (at-first2 .first2 .ensures) (at-pairs-either-ok .pairs-either-ok .ensures) (at-if1 .if1 .left) (at-if2 .if2 .left) (c .before .before .if3 .left) _ _ (c .before .stamp .ensures) (c .falls-hold .ensures)
+    record {
+      is = congruent-last (s .terms .now) (s .cells .now) (s .c) _ _ (at-start .pre .0) (at-start .pre .1 .0) (at-forest-parent .forest-parent .ensures) _ (at-kind .kind .ensures) _
+          (at-kind2 .kind2 .ensures) _ _ _ _ (at-label-value .label-value .ensures) (at-first .first .ensures) (at-first2 .first2 .ensures) (at-pairs-either-ok .pairs-either-ok .ensures)
+          (at-if1 .if1 .left) (at-if2 .if2 .left) (at-falls-hold .before .before .before .if3 .left) _ _ (at-falls-hold .before .before .stamp .ensures) (at-falls-hold .falls-hold .ensures .is);
+      kept = at-falls-hold .falls-hold .ensures .kept;
+    }
 
 pub congruence-ok-spec : {M : Type 1} → statement M
 congruence-ok-spec =
@@ -102,4 +124,5 @@ congruence-ok-spec =
     returns-3
     stamp-requires
     falls-hold-requires
+    same-length
     returns-4)

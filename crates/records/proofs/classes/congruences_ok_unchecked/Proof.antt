@@ -1,74 +1,45 @@
-use Rattle.records.proofs.Lists.{below-zero, within-is, each-stop, each-turn, each-done}
-use Rattle.records.specs.Rules.{edgeRule, congruencesRule}
-use Rattle.records.specs.View.{termAt, chained}
-use Rattle.records.specs.Lists.{allBelow}
-use Prim.Native.Nat.{suc, _-_, _≤_}
-use mathlib.Core.Path.{_≡_}
-use mathlib.Core.Bool.{true}
-use native.Mathlib.Omega.{arith}
+use Rattle.records.proofs.Refines.HeightLaws.{heights-none}
 use borrow.Author.Needs.{needs}
 use Rattle.records.proofs.classes.congruences_ok_unchecked.Statement.{statement}
 use Rattle.records.proofs.classes.congruences_ok_unchecked.Tie as tie
 
-abbrev Inv-loop : tie.InvT-loop
-Inv-loop terms cells c i₀ i = (i ≤ c .terms) × (allBelow (λ j. edgeRule (chained terms cells c) (suc j)) i ≡ true)
+slice-aggregate-edges-ok : tie.Need-slice-aggregate-edges-ok
+slice-aggregate-edges-ok c = search needs
 
-abbrev μ-loop : tie.MeasureT-loop
-μ-loop terms cells c i₀ i = c .terms - i
+edges-ok-requires : tie.Need-edges-ok-requires
+edges-ok-requires c κs = (c .before .before .before .before .before .pre, heights-none _ _ 0)
 
-loop-holds : tie.Need-loop-holds Inv-loop μ-loop
-loop-holds c = (omega arith, below-zero _)
+returns : tie.Need-returns
+returns c = search needs
 
-cast-if1 : tie.Need-cast-if1 Inv-loop μ-loop
-cast-if1 c = search needs
+slice-aggregate-edges-ok-2 : tie.Need-slice-aggregate-edges-ok-2
+slice-aggregate-edges-ok-2 c = search needs
 
-add-edge-ok : tie.Need-add-edge-ok Inv-loop μ-loop
-add-edge-ok c = let at-start = c .before .before .before .before .before in omega (arith, at-start .pre .pathed .limited)
+edges-ok-requires-2 : tie.Need-edges-ok-requires-2
+edges-ok-requires-2 c κs = (c .before .before .before .before .before .before .before .pre, heights-none _ _ 512)
 
-edge-ok-requires : tie.Need-edge-ok-requires Inv-loop μ-loop
-edge-ok-requires c κs = let at-start = c .before .before .before .before .before in (at-start .pre, within-is _ _ (omega arith) (omega arith))
+returns-2 : tie.Need-returns-2
+returns-2 c = search needs
 
-returns : tie.Need-returns Inv-loop μ-loop
-unfolding congruencesRule
-returns c =
-    let at-loop = c .before .before .before .before in
-    let at-start = at-loop .before .before .before in
-    let s = at-start .args in
-    each-stop (edgeRule (chained (s .terms .now) (s .cells .now) (s .c))) (λ j. termAt (s .terms .now) (suc j)) (s .c .terms) (at-loop .loop .i) _ (c .before .edge-ok .ensures) (c .if2 .taken) (c .before .before .if1 .taken)
+slice-aggregate-edges-ok-3 : tie.Need-slice-aggregate-edges-ok-3
+slice-aggregate-edges-ok-3 c = search needs
 
-add-i : tie.Need-add-i Inv-loop μ-loop
-add-i c = let at-start = c .before .before .before .before .before .before .before in omega (arith, at-start .pre .pathed .limited)
+edges-ok-requires-3 : tie.Need-edges-ok-requires-3
+edges-ok-requires-3 c κs = (c .before .before .before .before .before .before .before .pre, heights-none _ _ 2049)
 
-loop-less : tie.Need-loop-less Inv-loop μ-loop
-loop-less c = search needs
-
-loop-again : tie.Need-loop-again Inv-loop μ-loop
-loop-again c =
-    let at-loop = c .before .before .before .before in
-    let at-start = at-loop .before .before .before in
-    let s = at-start .args in
-    (omega arith, each-turn (edgeRule (chained (s .terms .now) (s .cells .now) (s .c))) (at-loop .loop .i) _ (c .before .edge-ok .ensures) (c .if2 .left) (at-loop .loop .inv .1))
-
-returns-2 : tie.Need-returns-2 Inv-loop μ-loop
-unfolding congruencesRule
-returns-2 c =
-    let at-loop = c .before .before in
-    let at-start = at-loop .before .before .before in
-    let s = at-start .args in
-    each-done (edgeRule (chained (s .terms .now) (s .cells .now) (s .c))) (λ j. termAt (s .terms .now) (suc j)) (s .c .terms) (at-loop .loop .i) (at-loop .loop .inv .0) (c .if1 .left) (at-loop .loop .inv .1)
+returns-3 : tie.Need-returns-3
+returns-3 c = search needs
 
 pub congruences-ok-unchecked-spec : {M : Type 1} → statement M
 congruences-ok-unchecked-spec =
     tie.close
     (tie.spec
-    Inv-loop
-    μ-loop
-    loop-holds
-    cast-if1
-    add-edge-ok
-    edge-ok-requires
+    slice-aggregate-edges-ok
+    edges-ok-requires
     returns
-    add-i
-    loop-less
-    loop-again
-    returns-2)
+    slice-aggregate-edges-ok-2
+    edges-ok-requires-2
+    returns-2
+    slice-aggregate-edges-ok-3
+    edges-ok-requires-3
+    returns-3)

@@ -1,22 +1,108 @@
-use Rattle.records.proofs.Paths.{nearest-is}
+use Rattle.records.proofs.Paths.{Abreast, abreast-begin, abreast-lift, abreast-even, abreast-met, abreast-lift-2, abreast-even-2, abreast-met-2, abreast-less, abreast-turn, pathed-words}
 use Rattle.records.specs.View.{termsView}
-use lib.ListN.{replicate, getD-replicate}
-use native.Mathlib.Omega.{arith}
-use borrow.Author.Needs.{needs}
+use Rattle.records.specs.Working.Leaves.{levels}
 use Rattle.records.proofs.classes.nearest_unchecked.Statement.{statement}
 use Rattle.records.proofs.classes.nearest_unchecked.Tie as tie
 
-flag-above-requires : tie.Need-flag-above-requires
-flag-above-requires c κs = search needs
+abbrev Inv-loop : tie.InvT-loop
+Inv-loop terms n a b x₀ y₀ x y = Abreast terms n a b x y
 
-first-flagged-requires : tie.Need-first-flagged-requires
-first-flagged-requires c κs = search needs
+abbrev μ-loop : tie.MeasureT-loop
+μ-loop terms n a b x₀ y₀ x y = levels (termsView terms n) x
 
-returns : tie.Need-returns
+loop-holds : tie.Need-loop-holds Inv-loop μ-loop
+loop-holds c = let p = c .before .pre in abreast-begin _ _ _ _ (p .1) (p .2)
+
+forest-parent-unchecked-requires : tie.Need-forest-parent-unchecked-requires Inv-loop μ-loop
+forest-parent-unchecked-requires c κs = pathed-words _ _ (c .before .before .pre .0) _ (c .loop .inv .here)
+
+lift-requires : tie.Need-lift-requires Inv-loop μ-loop
+lift-requires c κs =
+    let at-loop = c .before .before in
+    let p = at-loop .before .before .pre in
+    (p .0, p .2, at-loop .loop .inv .there, abreast-lift _ _ _ _ _ _ (p .0) (p .1) (p .2) (at-loop .loop .inv) _ (c .before .forest-parent-unchecked .ensures) (c .if1 .taken))
+
+meet-requires : tie.Need-meet-requires Inv-loop μ-loop
+meet-requires c κs =
+    let at-loop = c .before .before .before in
+    let p = at-loop .before .before .pre in
+    let z = c .lift .ensures in
+    (p .0, p .1, z .here, abreast-even _ _ _ _ _ _ (p .0) (p .1) (p .2) (at-loop .loop .inv) _ (c .before .before .forest-parent-unchecked .ensures) (c .before .if1 .taken) _ z)
+
+returns : tie.Need-returns Inv-loop μ-loop
 returns c =
-    let s = c .before .before .before .before .before in
-    nearest-is (termsView (s .args .terms .now) (s .args .n)) (s .args .n) _ _ _ (replicate 513 0) _ (s .pre .3) (s .pre .1) (omega (arith, s .pre .0))
-    (λ i h. getD-replicate 513 i 0 0 h) (c .before .before .flag-above .ensures) (c .first-flagged .ensures)
+    let at-lift = c .before in
+    let at-loop = at-lift .before .before .before in
+    let p = at-loop .before .before .pre in
+    abreast-met _ _ _ _ _ _ (p .0) (p .1) (p .2) (at-loop .loop .inv) _ (at-lift .before .before .forest-parent-unchecked .ensures) (at-lift .before .if1 .taken) _ (at-lift .lift .ensures) _
+    (c .meet .ensures)
+
+forest-parent-unchecked-requires-2 : tie.Need-forest-parent-unchecked-requires-2 Inv-loop μ-loop
+forest-parent-unchecked-requires-2 c κs =
+    let at-loop = c .before .before in
+    pathed-words _ _ (at-loop .before .before .pre .0) _ (at-loop .loop .inv .there)
+
+lift-requires-2 : tie.Need-lift-requires-2 Inv-loop μ-loop
+lift-requires-2 c κs =
+    let at-loop = c .before .before .before .before in
+    let p = at-loop .before .before .pre in (
+      p .0,
+      p .1,
+      at-loop .loop .inv .here,
+      abreast-lift-2 _ _ _ _ _ _ (p .0) (p .1) (p .2) (at-loop .loop .inv) _ (c .before .before .before .forest-parent-unchecked .ensures) _
+          (c .before .forest-parent-unchecked2 .ensures) (c .if2 .taken),
+    )
+
+meet-requires-2 : tie.Need-meet-requires-2 Inv-loop μ-loop
+meet-requires-2 c κs =
+    let at-if2 = c .before in
+    let at-loop = at-if2 .before .before .before .before in
+    let p = at-loop .before .before .pre in
+    let z = c .lift2 .ensures in (
+      p .0,
+      z .here,
+      p .2,
+      abreast-even-2 _ _ _ _ _ _ (p .0) (p .1) (p .2) (at-loop .loop .inv) _ (at-if2 .before .before .before .forest-parent-unchecked .ensures) _
+          (at-if2 .before .forest-parent-unchecked2 .ensures) (at-if2 .if2 .taken) _ z,
+    )
+
+returns-2 : tie.Need-returns-2 Inv-loop μ-loop
+returns-2 c =
+    let at-lift2 = c .before in
+    let at-if2 = at-lift2 .before in
+    let at-loop = at-if2 .before .before .before .before in
+    let p = at-loop .before .before .pre in
+    abreast-met-2 _ _ _ _ _ _ (p .0) (p .1) (p .2) (at-loop .loop .inv) _ (at-if2 .before .before .before .forest-parent-unchecked .ensures) _ (at-if2 .before .forest-parent-unchecked2 .ensures)
+    (at-if2 .if2 .taken) _ (at-lift2 .lift2 .ensures) _ (c .meet2 .ensures)
+
+loop-less : tie.Need-loop-less Inv-loop μ-loop
+loop-less c =
+    let at-if1 = c .before .before in
+    let at-loop = at-if1 .before .before in
+    let p = at-loop .before .before .pre in
+    abreast-less _ _ _ _ _ _ (p .0) (p .1) (p .2) (at-loop .loop .inv) _ (at-if1 .before .forest-parent-unchecked .ensures) _ (c .before .forest-parent-unchecked2 .ensures) (at-if1 .if1 .left) (c .if2 .left)
+
+loop-again : tie.Need-loop-again Inv-loop μ-loop
+loop-again c =
+    let at-if1 = c .before .before in
+    let at-loop = at-if1 .before .before in
+    let p = at-loop .before .before .pre in
+    abreast-turn _ _ _ _ _ _ (p .0) (p .1) (p .2) (at-loop .loop .inv) _ (at-if1 .before .forest-parent-unchecked .ensures) _ (c .before .forest-parent-unchecked2 .ensures) (at-if1 .if1 .left) (c .if2 .left)
 
 pub nearest-unchecked-spec : {M : Type 1} → statement M
-nearest-unchecked-spec = tie.close (tie.spec flag-above-requires first-flagged-requires returns)
+nearest-unchecked-spec =
+    tie.close
+    (tie.spec
+    Inv-loop
+    μ-loop
+    loop-holds
+    forest-parent-unchecked-requires
+    lift-requires
+    meet-requires
+    returns
+    forest-parent-unchecked-requires-2
+    lift-requires-2
+    meet-requires-2
+    returns-2
+    loop-less
+    loop-again)

@@ -1,5 +1,5 @@
 use Rattle.records.proofs.Refines.Puts.{pushed, not-pushed}
-use Rattle.records.proofs.Refines.Rooms.{pair-room, pair-limit}
+use Rattle.records.proofs.Refines.Rooms.{pair-room}
 use borrow.Author.Needs.{needs}
 use Rattle.records.proofs.put.push_reason_unchecked.Statement.{statement}
 use Rattle.records.proofs.put.push_reason_unchecked.Tie as tie
@@ -12,8 +12,6 @@ push-reason-unchecked-spec =
     (λ c κs. search needs)
     -- push-pair-requires
     (λ c κs. search (needs, pair-room))
-    -- with-reason-requires
-    (λ c κs. search (needs, pair-limit))
     -- same-length
     (λ c. search needs)
     -- returns

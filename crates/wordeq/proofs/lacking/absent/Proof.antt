@@ -15,14 +15,14 @@ returns c =
     absent-not (at-start .args .terms .now) (at-start .args .chars .now) (at-start .args .c) (at-start .args .l .now) (at-start .args .r .now) _ (c .before .is-fixed .ensures)
     (c .if1 .taken)
 
-letters-length-requires : tie.Need-letters-length-requires
-letters-length-requires c κs = let at-start = c .before .before .before .before .before .before in (at-start .pre .0 .texts, at-start .pre .1)
+letters-length-unchecked-requires : tie.Need-letters-length-unchecked-requires
+letters-length-unchecked-requires c κs = let at-start = c .before .before .before .before .before .before in (at-start .pre .0 .texts, at-start .pre .1)
 
 returns-2 : tie.Need-returns-2
 returns-2 c =
     let at-start = c .before .before .before .before .before .before .before .before in
     absent-bare (at-start .args .terms .now) (at-start .args .chars .now) (at-start .args .c) (at-start .args .l .now) (at-start .args .r .now) (at-start .pre .0 .texts) _
-    (c .before .letters-length .ensures) (c .if2 .taken)
+    (c .before .letters-length-unchecked .ensures) (c .if2 .taken)
 
 use-side-requires : tie.Need-use-side-requires
 use-side-requires c κs =
@@ -48,7 +48,7 @@ absent-spec =
     (tie.spec
     is-fixed-requires
     returns
-    letters-length-requires
+    letters-length-unchecked-requires
     returns-2
     use-side-requires
     lacks-side-requires

@@ -12,11 +12,11 @@ short-spec =
     (λ c κs. search needs)
     -- returns
     (λ c. short-not _ _ _ _ (c .before .is-fixed .ensures) (c .if1 .taken))
-    -- letters-length-requires
+    -- letters-length-unchecked-requires
     (λ c κs. search needs)
-    -- letters-length-requires-2
+    -- letters-length-unchecked-requires-2
     (λ c κs. search needs)
     -- returns-2
     (λ c.
     let at-is-fixed = c .before .before .before in
-    short-is _ _ _ _ (at-is-fixed .is-fixed .ensures) (c .before .before .if1 .left) _ _ (c .before .letters-length .ensures) (c .letters-length2 .ensures) _ refl))
+    short-is _ _ _ _ (at-is-fixed .is-fixed .ensures) (c .before .before .if1 .left) _ _ (c .before .letters-length-unchecked .ensures) (c .letters-length-unchecked2 .ensures) _ refl))

@@ -20,11 +20,11 @@ is-unfit-spec =
     (λ c. search needs)
     -- part-later-end
     (λ c. search needs)
-    -- mul-all-agree
+    -- mul-all-agree-unchecked
     (λ c. search needs)
-    -- shared-slice-read-all-agree
+    -- shared-slice-read-all-agree-unchecked
     (λ c. search needs)
-    -- all-agree-requires
+    -- all-agree-unchecked-requires
     (λ c κs.
     let at-start = c .before .before .before .before .before .before in (
       at-start .pre .0,
@@ -39,7 +39,7 @@ is-unfit-spec =
     (λ c.
     let at-start = c .before .before .before .before .before .before .before .before in
     unfit-apart (at-start .args .terms .now) (at-start .args .chars .now) (at-start .args .c) (at-start .args .word .now) (at-start .args .side .now) (at-start .args .i) _
-    (c .before .all-agree .ensures) (c .if1 .taken))
+    (c .before .all-agree-unchecked .ensures) (c .if1 .taken))
     -- variables-length-requires
     (λ c κs. search needs)
     -- add-k
@@ -59,7 +59,7 @@ is-unfit-spec =
     ))
     -- returns-2
     (λ c.
-    let at-all-agree = c .before .before .before in
-    let at-start = at-all-agree .before .before .before .before .before .before .before in
+    let at-all-agree-unchecked = c .before .before .before in
+    let at-start = at-all-agree-unchecked .before .before .before .before .before .before .before in
     unfit-is (at-start .args .terms .now) (at-start .args .chars .now) (at-start .args .c) (at-start .args .word .now) (at-start .args .side .now) (at-start .args .i) _
-    (at-all-agree .all-agree .ensures) (c .before .before .if1 .left) _ (c .before .variables-length .ensures) _ (c .fits2 .ensures)))
+    (at-all-agree-unchecked .all-agree-unchecked .ensures) (c .before .before .if1 .left) _ (c .before .variables-length .ensures) _ (c .fits2 .ensures)))

@@ -1,7 +1,7 @@
 /* A label against a code: `site ++ batch ++ serial = "A7-0042"`. The site is "A7" for the reason a1 and the batch "-0042" for i5, so nothing
  * is left for the serial. Under a mark the serial is taken to be "43" for a3: a conflict, and it names a3. Gone back, the first answer is
  * given again. */
-#include "../labels.h"
+#include "../bindings/labels.h"
 #include <stdio.h>
 #include <stdlib.h>
 

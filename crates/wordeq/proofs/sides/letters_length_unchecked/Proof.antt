@@ -5,8 +5,8 @@ use Rattle.records.proofs.Loops.{Summing, summing-none, summing-all}
 use Rattle.records.specs.View.{charLimit, termed}
 use native.Mathlib.Omega.{arith}
 use borrow.Author.Needs.{needs}
-use Rattle.wordeq.proofs.sides.letters_length.Statement.{statement}
-use Rattle.wordeq.proofs.sides.letters_length.Tie as tie
+use Rattle.wordeq.proofs.sides.letters_length_unchecked.Statement.{statement}
+use Rattle.wordeq.proofs.sides.letters_length_unchecked.Tie as tie
 
 abbrev Inv-loop : tie.InvT-loop
 Inv-loop terms c l total₀ i₀ total i = Summing (letterCount (termed terms c)) charLimit l total i
@@ -14,8 +14,8 @@ Inv-loop terms c l total₀ i₀ total i = Summing (letterCount (termed terms c)
 abbrev μ-loop : tie.MeasureT-loop
 μ-loop terms c l total₀ i₀ total i = length l - i
 
-pub letters-length-spec : {M : Type 1} → statement M
-letters-length-spec =
+pub letters-length-unchecked-spec : {M : Type 1} → statement M
+letters-length-unchecked-spec =
     tie.close
     (tie.spec
     Inv-loop

@@ -9,8 +9,8 @@ use Rattle.records.specs.Lists.{all}
 use Rattle.wordeq.specs.Working.Spans.{agrees}
 use native.Mathlib.Omega.{arith}
 use borrow.Author.Needs.{needs}
-use Rattle.wordeq.proofs.spans.all_agree.Statement.{statement}
-use Rattle.wordeq.proofs.spans.all_agree.Tie as tie
+use Rattle.wordeq.proofs.spans.all_agree_unchecked.Statement.{statement}
+use Rattle.wordeq.proofs.spans.all_agree_unchecked.Tie as tie
 
 abbrev Inv-loop : tie.InvT-loop
 Inv-loop terms chars c l v i₀ i = (i ≤ length l) × (all (agrees (readIn terms chars c) v) (drop i l) ≡ all (agrees (readIn terms chars c) v) l)
@@ -18,8 +18,8 @@ Inv-loop terms chars c l v i₀ i = (i ≤ length l) × (all (agrees (readIn ter
 abbrev μ-loop : tie.MeasureT-loop
 μ-loop terms chars c l v i₀ i = length l - i
 
-pub all-agree-spec : {M : Type 1} → statement M
-all-agree-spec =
+pub all-agree-unchecked-spec : {M : Type 1} → statement M
+all-agree-unchecked-spec =
     tie.close
     (tie.spec
     Inv-loop
