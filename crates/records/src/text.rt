@@ -18,6 +18,7 @@ pub fn text_is(chars: &[u32], p: u32, w: &[u32]) -> bool
     text_from(chars, p as usize, w)
 }
 
+// Two characters a turn: a loop of one takes one cycle or two by where it is linked.
 fn text_from(chars: &[u32], at: usize, w: &[u32]) -> bool
     requires { ⌜ at + length (now w) ≤ 0x7FFF_FFFF_FFFF_FFFF ⌝ }
     ensures { λ r. ⌜ r ≡ sameWord (span (now (chars .entry)) at (length (now (w .entry)))) (now (w .entry)) ⌝ }
@@ -26,13 +27,19 @@ fn text_from(chars: &[u32], at: usize, w: &[u32]) -> bool
         return text_past(chars, at, w);
     }
     let mut i: usize = 0;
-    while i < w.len() {
+    while i + 1 < w.len() {
         if chars[at + i] != w[i] {
             return false;
         }
-        i += 1;
+        if chars[at + i + 1] != w[i + 1] {
+            return false;
+        }
+        i += 2;
     }
-    true
+    if w.len() <= i {
+        return true;
+    }
+    chars[at + i] == w[i]
 }
 
 // The same where w reaches past the end of the slice.

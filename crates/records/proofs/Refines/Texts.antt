@@ -10,11 +10,11 @@ use native.Mathlib.Omega.{arith}
 use lib.ListN.{length, getD, set, length-set, length-append}
 use lib.Seq.{ext-getD, getD-set-same, getD-set-other}
 use lib.Dec.{eqb}
-use borrow.Author.Tests.{eqb-true, eq-eqb, ne-eqb}
+use borrow.Author.Tests.{eqb-true, eqb-false, eq-eqb, ne-eqb}
 use Rattle.records.specs.Lists.{sameWord, allBelow}
 use Rattle.records.specs.View.{span, charsView}
 use Rattle.records.specs.Working.Puts.{CharsPut}
-use Rattle.records.proofs.Lists.{table-at, table-same, table-add, table-length, same-test, word-is, word-same, below-zero, below-suc, below-at, below-all, below-false}
+use Rattle.records.proofs.Lists.{decide, table-at, table-same, table-add, table-length, same-test, word-is, word-same, below-zero, below-suc, below-at, below-all, below-false}
 
 -- the test of one place
 abbrev pub agreeAt : List ℕ → List ℕ → ℕ → Bool
@@ -57,6 +57,22 @@ module _ (l w : List ℕ) (p : ℕ) where
   disagree i a h d =
       sym (word-below (span l p (length w)) w span-length
       ∙ below-false (agreeAt (span l p (length w)) w) (length w) i h (ne-eqb _ _ (λ e. d (sym (span-at i h) ∙ e))))
+
+  -- two characters, and the last one
+  module _ (i : ℕ) (a : Agreed i) where
+    pub disagree-next : i + 1 < length w → getD l (p + i) 0 ≡ getD w i 0 → (getD l (p + i + 1) 0 ≡ getD w (i + 1) 0 → ⊥) → false ≡ sameWord (span l p (length w)) w
+    disagree-next h e d = disagree (i + 1) (agreed-one i a (omega arith) e) h (λ f. let q : p + i + 1 ≡ p + (i + 1) = omega arith in d (rw q f))
+
+    pub agreed-two : i + 1 < length w → getD l (p + i) 0 ≡ getD w i 0 → getD l (p + i + 1) 0 ≡ getD w (i + 1) 0 → Agreed (i + 2)
+    agreed-two h e f =
+        let q : p + i + 1 ≡ p + (i + 1) = omega arith in
+        let r : i + 2 ≡ (i + 1) + 1 = omega arith in
+        rw r (agreed-one (i + 1) (agreed-one i a (omega arith) e) h (rw q at f))
+
+    pub agreed-last : length w ≤ i + 1 → i < length w → eqb (getD l (p + i) 0) (getD w i 0) ≡ sameWord (span l p (length w)) w
+    agreed-last h k = decide (eqb (getD l (p + i) 0) (getD w i 0))
+        (λ e. e ∙ agreed-all (i + 1) (agreed-one i a k (eqb-true _ _ e)) h)
+        (λ e. e ∙ disagree i a k (eqb-false _ _ e))
 
 -- COPYING
 
