@@ -30,7 +30,7 @@ lettered ts w = record {
   reasons = [];
   keys = [];
   names = 0;
-  room = record { terms = 7; cells = 2; chars = 5; reasons = 0; keys = 0; zeroTerm = noTerm; zeroCell = noCell };
+  room = record { terms = 7; cells = 2; chars = 5; reasons = 0; keys = 0; termsLong = 64; cellsLong = 9; zeroTerm = noTerm; zeroCell = noCell };
 }
 
 abbrev pub abcd : List ℕ

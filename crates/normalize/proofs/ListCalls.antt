@@ -10,7 +10,8 @@ use Rattle.records.specs.declared.State.{State}
 use Rattle.records.specs.Store.{Store, Out, stop, Work}
 use Rattle.records.specs.View.{Lent, storeOf}
 use Rattle.records.specs.Rules.{audit, listLimit}
-use Rattle.records.specs.Calls.{Public, call, Working}
+use Rattle.records.specs.Calls.{Public, call}
+use Rattle.records.specs.Working.Doing.{Working}
 use Rattle.records.proofs.Public.{call-unready, call-unfit, call-works}
 use Rattle.normalize.specs.Calls.{listCall, PublicList}
 

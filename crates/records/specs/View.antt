@@ -142,6 +142,8 @@ roomOf m = record {
   chars = charRoom (m .chars);
   reasons = reasonRoom (m .reasons);
   keys = keyRoom (m .keys);
+  termsLong = length (m .terms);
+  cellsLong = length (m .cells);
   zeroTerm = zeroTerm (m .terms);
   zeroCell = zeroCell (m .cells);
 }

@@ -10,7 +10,8 @@ ghost use Rattle.records.specs.View.{storeOf, lends, across, Between, readIn, t
 ghost use Rattle.records.specs.Rules.{listLimit};
 ghost use Rattle.records.specs.Make.{makeConstant};
 ghost use Rattle.records.specs.Working.Audited.{Ready};
-ghost use Rattle.records.specs.Calls.{made, Does};
+ghost use Rattle.records.specs.Calls.{made};
+ghost use Rattle.records.specs.Working.Doing.{Does};
 ghost use Rattle.wordeq.specs.Wordeq.{same, fixed, letters, alias, empties, assigns, _orElse_};
 ghost use Rattle.wordeq.specs.Working.Results.{BothLists, Tries};
 ghost use Rattle.wordeq.specs.Working.Sides.{Spelled};

@@ -17,7 +17,8 @@ use Rattle.records.specs.View.{Lent, storeOf, readIn, termed}
 use Rattle.records.specs.Rules.{audit, listLimit, isList}
 use Rattle.records.specs.Make.{makeConstant}
 use Rattle.records.specs.Working.Audited.{Ready}
-use Rattle.records.specs.Calls.{Working, made, writesNothing}
+use Rattle.records.specs.Calls.{made, writesNothing}
+use Rattle.records.specs.Working.Doing.{Working}
 use Rattle.records.proofs.Lists.{table-length, both-left, both-right, both-true, every-all, every-map, all-every}
 use Rattle.records.proofs.Public.{passed-ready, audit-low}
 use Rattle.records.proofs.Passed.{ready-after}

@@ -11,7 +11,8 @@ use Rattle.records.specs.View.{Lent, storeOf, termsView}
 use Rattle.records.specs.Lists.{Every}
 use Rattle.records.specs.Rules.{audit}
 use Rattle.records.specs.Working.Audited.{Audited, Ready, Closed}
-use Rattle.records.specs.Calls.{Working, Public, call}
+use Rattle.records.specs.Calls.{Public, call}
+use Rattle.records.specs.Working.Doing.{Working}
 use lib.Seq.{drop-append-seam}
 use Rattle.records.proofs.Lists.{both-left, both-right, left-false, right-false}
 use Rattle.records.proofs.Later.{added-once}

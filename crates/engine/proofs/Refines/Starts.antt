@@ -11,7 +11,8 @@ use Rattle.records.specs.Store.{Store, ok, stop, andThen, store, count, isStrin
 use Rattle.records.specs.declared.State.{State}
 use Rattle.records.specs.declared.Added.{Added}
 use Rattle.records.specs.declared.Added.the-variants.{Counts, Refused}
-use Rattle.records.specs.Calls.{Working, added}
+use Rattle.records.specs.Calls.{added}
+use Rattle.records.specs.Working.Doing.{Working}
 use Rattle.records.specs.View.{Lent, lent, storeOf, pairsView, reasonsAt}
 use Rattle.records.specs.Make.{withReasons}
 use Rattle.records.specs.Working.Audited.{Ready}

@@ -17,7 +17,7 @@ use Rattle.records.specs.Store.{Term, Store, Out, ok, stop, Work, andThen, _>>=
 use Rattle.records.specs.View.{Lent, lent, storeOf, termAt, pairAt, pairsView, reasonsAt}
 use Rattle.records.specs.Rules.{audit, listLimit, isList}
 use Rattle.records.specs.Working.Audited.{Ready}
-use Rattle.records.specs.Calls.{Working}
+use Rattle.records.specs.Working.Doing.{Working}
 use Rattle.records.proofs.Lists.{both-left, both-right, both-true, left-false, right-false, and-next, all-every, every-all, table-same, table-length, table-at}
 use Rattle.records.proofs.Works.{stop-not}
 use Rattle.records.proofs.Views.{table-is}

@@ -14,7 +14,8 @@ use Rattle.records.specs.Lists.{all}
 use Rattle.records.specs.Store.{Store, Out, ok, stop, andThen, _>>=_, isString}
 use Rattle.records.specs.View.{charLimit, Lent, lent, storeOf, readIn, termed}
 use Rattle.records.specs.Rules.{audit, listLimit, isList}
-use Rattle.records.specs.Calls.{Working, Public, call}
+use Rattle.records.specs.Calls.{Public, call}
+use Rattle.records.specs.Working.Doing.{Working}
 use Rattle.records.specs.Working.Audited.{Ready}
 use Rattle.records.proofs.Lists.{table-length, both-left, both-right, both-true, and-stop, and-next, failed, passed, every-at, all-take, all-drop}
 use Rattle.records.proofs.ListLaws.{list-short, list-strings, list-every}

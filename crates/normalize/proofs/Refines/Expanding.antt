@@ -18,7 +18,7 @@ use Rattle.records.specs.Lists.{if_then_else_, all, any, isIn, none-left, and}
 use Rattle.records.specs.Store.{Term, Store, Out, ok, stop, Work, andThen, give, count, termIn, isString}
 use Rattle.records.specs.View.{Lent, storeOf, termLimit}
 use Rattle.records.specs.Working.Audited.{Ready}
-use Rattle.records.specs.Calls.{Working}
+use Rattle.records.specs.Working.Doing.{Working}
 use Rattle.records.proofs.Lists.{decide, left-false, all-every, every-all, every-at, table-at, within-high}
 use Rattle.records.proofs.Works.{via}
 use Rattle.records.proofs.Grown.{string-term, Strings, strings-later}

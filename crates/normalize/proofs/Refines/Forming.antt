@@ -12,7 +12,7 @@ use Rattle.records.specs.Lists.{all, concatMap, Every, none-left, and}
 use Rattle.records.specs.Store.{Store, ok, stop, andThen, _>>=_, give, kind, count, within, rootIn, isString}
 use Rattle.records.specs.View.{Lent, storeOf, termsView, termLimit}
 use Rattle.records.specs.Working.Audited.{Ready}
-use Rattle.records.specs.Calls.{Working}
+use Rattle.records.specs.Working.Doing.{Working}
 use Rattle.records.proofs.Lists.{both-left, both-right, both-true, all-append, all-every, every-all, every-map, within-low, within-high}
 use Rattle.records.proofs.Grown.{string-term}
 use Rattle.records.proofs.Climbs.{root-term, view-count, term-within, ready-roots}

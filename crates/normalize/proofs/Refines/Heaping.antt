@@ -9,7 +9,7 @@ use Rattle.records.specs.Lists.{table, none-left}
 use Rattle.records.specs.Store.{ok, stop, Work, andThen}
 use Rattle.records.specs.View.{Lent, storeOf}
 use Rattle.records.specs.Working.Audited.{Ready}
-use Rattle.records.specs.Calls.{Working}
+use Rattle.records.specs.Working.Doing.{Working}
 use Rattle.records.proofs.Grown.{Strings}
 use Rattle.normalize.specs.declared.Form.{Form}
 use Rattle.normalize.specs.declared.Form.the-variants as form

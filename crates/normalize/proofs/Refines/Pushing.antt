@@ -16,7 +16,8 @@ use Rattle.records.specs.Store.{Store, Term as TermOf, Out, ok, stop, Work, and
 use Rattle.records.specs.View.{Lent, storeOf, termsView, termAt}
 use Rattle.records.specs.Make.{makeConstant}
 use Rattle.records.specs.Working.Audited.{Ready}
-use Rattle.records.specs.Calls.{Working, made}
+use Rattle.records.specs.Calls.{made}
+use Rattle.records.specs.Working.Doing.{Working}
 use Rattle.records.proofs.Lists.{both-left, both-right, both-true, left-false, clash, decide, table-length, table-suc}
 use Rattle.records.proofs.Views.{second-at, text-span}
 use Rattle.records.proofs.Grown.{kind-term}

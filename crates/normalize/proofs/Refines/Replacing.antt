@@ -16,7 +16,8 @@ use Rattle.records.specs.Lists.{if_then_else_}
 use Rattle.records.specs.Store.{Store, Out, ok, stop, Work, andThen, _>>=_, give, within, classUp, isString}
 use Rattle.records.specs.View.{Lent, storeOf, termsView, termLimit}
 use Rattle.records.specs.Working.Audited.{Ready, Closed}
-use Rattle.records.specs.Calls.{Working, added}
+use Rattle.records.specs.Calls.{added}
+use Rattle.records.specs.Working.Doing.{Working}
 use Rattle.records.proofs.Lists.{both-left, both-right, both-true, every-at}
 use Rattle.records.proofs.Grown.{string-term, Strings, strings-later}
 use Rattle.records.proofs.Climbs.{view-count, term-within, ready-roots}

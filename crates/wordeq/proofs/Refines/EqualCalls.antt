@@ -13,7 +13,8 @@ use Rattle.records.specs.Store.{Store, Out, ok, stop, isString}
 use Rattle.records.specs.View.{Lent, storeOf, readIn}
 use Rattle.records.specs.Rules.{audit, isList}
 use Rattle.records.specs.Working.Audited.{Ready}
-use Rattle.records.specs.Calls.{Working, Public, call}
+use Rattle.records.specs.Calls.{Public, call}
+use Rattle.records.specs.Working.Doing.{Working}
 use Rattle.records.proofs.Lists.{both-left, both-right, left-false, and-next}
 use Rattle.records.proofs.Passed.{ready-of}
 use Rattle.records.proofs.Public.{call-unready, call-unfit, call-works, audit-low}

@@ -12,7 +12,8 @@ use Rattle.records.specs.Lists.{if_then_else_, all, keep, Every, none-left, and
 use Rattle.records.specs.Store.{Store, Term, Out, ok, Work, andThen, termIn, isConstant, isString, root, sameClass}
 use Rattle.records.specs.View.{Lent, lent, storeOf, termsView, readIn}
 use Rattle.records.specs.Working.Audited.{Audited, Ready}
-use Rattle.records.specs.Calls.{Working, added}
+use Rattle.records.specs.Calls.{added}
+use Rattle.records.specs.Working.Doing.{Working}
 use Rattle.records.proofs.Lists.{both-left, both-right, both-true, clash, decide, every-at}
 use Rattle.engine.specs.Explain.{explain, explainArguments}
 use Rattle.records.proofs.Outcomes.{ends-give, ends-map, ends-if}

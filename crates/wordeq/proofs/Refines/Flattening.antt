@@ -14,7 +14,7 @@ use Rattle.records.specs.Lists.{any, concatMap}
 use Rattle.records.specs.Store.{Store, Out, ok, stop, andThen, _>>=_, give, isConcat}
 use Rattle.records.specs.View.{Lent, storeOf}
 use Rattle.records.specs.Rules.{listLimit}
-use Rattle.records.specs.Calls.{Working}
+use Rattle.records.specs.Working.Doing.{Working}
 use Rattle.records.proofs.Lists.{any-append}
 use Rattle.normalize.specs.Normalize.{atoms, flatten}
 use Rattle.normalize.specs.Working.Flat.{Appended}

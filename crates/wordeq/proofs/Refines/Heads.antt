@@ -24,7 +24,8 @@ use Rattle.records.specs.View.{Lent, storeOf, pairsView, readIn, termed, termAt
 use Rattle.records.specs.Rules.{isChar, isList, listLimit}
 use Rattle.records.specs.Make.{withKeys, ordered, samePair, addKey, isKey}
 use Rattle.records.specs.Working.Audited.{Audited, Ready}
-use Rattle.records.specs.Calls.{Working, added}
+use Rattle.records.specs.Calls.{added}
+use Rattle.records.specs.Working.Doing.{Working}
 use Rattle.records.proofs.Lists.{both-left, both-right, left-false, and-stop, and-next, clash, decide, table-at, table-length}
 use Rattle.records.proofs.Readings.{text-characters}
 use Rattle.records.proofs.Kept.{KeyAdded, key-kept}

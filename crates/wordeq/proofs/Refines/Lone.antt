@@ -15,7 +15,8 @@ use Rattle.records.specs.Lists.{if_then_else_, all}
 use Rattle.records.specs.Store.{Store, ok, andThen, termIn, within, classUp, isConstant, isString}
 use Rattle.records.specs.View.{Lent, lent, storeOf, termsView, termed}
 use Rattle.records.specs.Working.Audited.{Audited, Ready, Closed}
-use Rattle.records.specs.Calls.{Working, added}
+use Rattle.records.specs.Calls.{added}
+use Rattle.records.specs.Working.Doing.{Working}
 use Rattle.records.specs.Rules.{listLimit}
 use Rattle.records.proofs.Lists.{both-left, both-right, both-true, all-every, every-all, every-at, every-map}
 use Rattle.records.proofs.Works.{via}

@@ -16,7 +16,8 @@ use Rattle.records.specs.Store.{Store, andThen, within, kind, isVariable, isStr
 use Rattle.records.specs.View.{Lent, storeOf, readIn, termed}
 use Rattle.records.specs.Make.{makeConstant}
 use Rattle.records.specs.Working.Audited.{Ready}
-use Rattle.records.specs.Calls.{Working, made}
+use Rattle.records.specs.Calls.{made}
+use Rattle.records.specs.Working.Doing.{Working}
 use Rattle.records.proofs.Lists.{both-left, both-right, failed, passed, every-map, all-every}
 use Rattle.records.proofs.Grown.{grown-string}
 use Rattle.records.proofs.Kept.{MadeIn, made-string}

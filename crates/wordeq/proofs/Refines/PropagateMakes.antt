@@ -11,7 +11,8 @@ use Rattle.records.specs.Lists.{if_then_else_, all, concatMap}
 use Rattle.records.specs.Store.{Store, Out, ok, stop, andThen, isConstant, isVariable, text}
 use Rattle.records.specs.View.{Lent, storeOf}
 use Rattle.records.specs.Make.{makeConstant}
-use Rattle.records.specs.Calls.{Working, made}
+use Rattle.records.specs.Calls.{made}
+use Rattle.records.specs.Working.Doing.{Working}
 use Rattle.records.proofs.Lists.{all-every, every-map, concatMap-same}
 use Rattle.wordeq.specs.Wordeq.{propagate, answer, fixed, lettersOf, letters, assigns}
 use Rattle.records.proofs.Sequence.{made-is, made-stops}

@@ -17,7 +17,7 @@ use Rattle.records.specs.View.{Lent, storeOf, pairsView}
 use Rattle.records.specs.Make.{withReasons}
 use Rattle.records.specs.Rules.{audit, listLimit, isList}
 use Rattle.records.specs.Working.Audited.{Ready}
-use Rattle.records.specs.Calls.{Working}
+use Rattle.records.specs.Working.Doing.{Working}
 use Rattle.records.proofs.Lists.{both-left, both-right, left-false, and-next, all-every}
 use Rattle.records.proofs.Public.{audit-low, passed-ready}
 use Rattle.records.proofs.Works.{stop-not}

@@ -17,7 +17,8 @@ use Rattle.records.specs.View.{Lent, storeOf}
 use Rattle.records.specs.Rules.{isChar, isEquatable, named}
 use Rattle.records.specs.Make.{lookup, makeConstant, makeVariable, makeConcat, makeLength, makeEquation, takeName}
 use Rattle.records.specs.Working.Audited.{Audited, Ready}
-use Rattle.records.specs.Calls.{Working, made, Taken}
+use Rattle.records.specs.Calls.{made}
+use Rattle.records.specs.Working.Doing.{Working, Taken}
 use Rattle.records.proofs.Lists.{both-true, every-all}
 use Rattle.records.proofs.Works.{via, branch}
 use Rattle.records.proofs.Grown.{Grown, grown-string, grown-kind, grown-then}

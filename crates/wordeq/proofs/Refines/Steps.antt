@@ -14,7 +14,7 @@ use Rattle.records.specs.Lists.{if_then_else_, all, any}
 use Rattle.records.specs.Store.{Store, Out, ok, andThen, isString}
 use Rattle.records.specs.View.{Lent, storeOf, readIn}
 use Rattle.records.specs.Rules.{listLimit}
-use Rattle.records.specs.Calls.{Working}
+use Rattle.records.specs.Working.Doing.{Working}
 use Rattle.records.proofs.Lists.{both-right, both-true, every-all}
 use Rattle.records.proofs.Passed.{ready-after}
 use Rattle.records.proofs.Later.{Added}

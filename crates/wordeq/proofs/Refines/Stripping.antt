@@ -14,7 +14,8 @@ use Rattle.records.specs.Lists.{all, any}
 use Rattle.records.specs.Store.{Store, Out, ok, stop, Work, andThen, isConstant, isString}
 use Rattle.records.specs.View.{Lent, lent, storeOf, readIn}
 use Rattle.records.specs.Working.Audited.{Ready}
-use Rattle.records.specs.Calls.{Working, added}
+use Rattle.records.specs.Calls.{added}
+use Rattle.records.specs.Working.Doing.{Working}
 use Rattle.records.proofs.Lists.{both-true, all-every, every-at, any-append, or-left, clash}
 use Rattle.records.proofs.Passed.{ready-after}
 use Rattle.records.proofs.Grown.{Strings}

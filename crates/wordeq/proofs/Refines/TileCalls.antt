@@ -13,7 +13,8 @@ use Rattle.records.specs.Lists.{if_then_else_, all, keep, Every}
 use Rattle.records.specs.Store.{Store, Out, ok, stop, andThen, _>>_, isString}
 use Rattle.records.specs.View.{Lent, lent, storeOf, termsView, readIn, termed}
 use Rattle.records.specs.Rules.{isList}
-use Rattle.records.specs.Calls.{Working, added}
+use Rattle.records.specs.Calls.{added}
+use Rattle.records.specs.Working.Doing.{Working}
 use Rattle.records.proofs.Lists.{both-left, and-stop, and-next, failed, passed, decide, all-drop, all-every, every-at, every-map}
 use Rattle.records.proofs.ListLaws.{list-strings, list-every}
 use Rattle.wordeq.specs.declared.StepResult.{StepResult}

@@ -17,7 +17,7 @@ use Rattle.records.specs.Store.{Store, Out, ok, andThen, _>>=_, isConstant, isV
 use Rattle.records.specs.View.{Lent, storeOf}
 use Rattle.records.specs.Make.{makeConstant}
 use Rattle.records.specs.Working.Audited.{Ready}
-use Rattle.records.specs.Calls.{Working}
+use Rattle.records.specs.Working.Doing.{Working}
 use Rattle.records.proofs.Works.{via, branch}
 use Rattle.records.proofs.Passed.{ready-after}
 use Rattle.engine.specs.Explain.{explain}

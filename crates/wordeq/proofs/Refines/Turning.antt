@@ -9,7 +9,8 @@ use Rattle.records.specs.Store.{ok, Work, andThen}
 use Rattle.records.specs.View.{Lent, lent, storeOf}
 use Rattle.records.specs.Meaning.{Words}
 use Rattle.records.specs.Working.Audited.{Ready}
-use Rattle.records.specs.Calls.{Working, added}
+use Rattle.records.specs.Calls.{added}
+use Rattle.records.specs.Working.Doing.{Working}
 use Rattle.wordeq.proofs.Cited.{Cited}
 use Rattle.wordeq.proofs.Refines.Going.{Going, going-none, going-then, kept-down}
 
