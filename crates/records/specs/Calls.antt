@@ -76,4 +76,3 @@ made (Refused k) m = stop k
 abbrev pub added : Added → Lent → Out (Unit {0})
 added (adding.Counts c) m = ok (storeOf m c) tt
 added (adding.Refused k) m = stop k
-

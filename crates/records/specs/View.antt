@@ -198,6 +198,9 @@ moreChars c n = record { terms = c .terms; cells = c .cells; chars = c .chars + 
 abbrev pub reasonsAt : State → ℕ → State
 reasonsAt c n = record { terms = c .terms; cells = c .cells; chars = c .chars; reasons = n; keys = c .keys; names = c .names }
 
+abbrev pub oneReason : State → State
+oneReason c = record { terms = c .terms; cells = c .cells; chars = c .chars; reasons = c .reasons + 1; keys = c .keys; names = c .names }
+
 abbrev pub oneKey : State → State
 oneKey c = record { terms = c .terms; cells = c .cells; chars = c .chars; reasons = c .reasons; keys = c .keys + 1; names = c .names }
 
