@@ -17,11 +17,6 @@ mod MergeKept
 pub mod Undone
 pub mod Marking
 pub mod Tracking
-pub mod Generating
 pub mod AlikeMade
 pub mod MarksLater
-mod Later
-mod Events
-mod Invariant
-mod Histories
 mod Refines

@@ -200,12 +200,12 @@ module _ (s : Store) (x : Trail) (h : marksRule s x ≡ true) (i : ℕ) (w : wit
   pub n-passes : passes s (tableAt n x (s .terms)) ≡ true
   n-passes = every-at (x .marks) (i - 1) 0 (all-every _ _ (passes-of s x h)) place
 
-  counts-before : countsRule (take (i - 1) (x .marks)) n ≡ true
+  pub counts-before : countsRule (take (i - 1) (x .marks)) n ≡ true
   counts-before = counts-take (length (x .joins)) (i - 1) (x .marks) place (counts-of s x h)
 
   module _ (us : List Term) (e : tableAt n x (s .terms) ≡ some us) where
     -- what is left leads to the tables of earlier marks as the whole did
-    table-before : (m : ℕ) → m ≤ n → tableAt m (before i x) us ≡ tableAt m x (s .terms)
+    pub table-before : (m : ℕ) → m ≤ n → tableAt m (before i x) us ≡ tableAt m x (s .terms)
     table-before m l =
         sym (undo-append (drop m (take n (x .joins))) (drop n (x .joins)) (s .terms) us e)
         ∙ ap (λ (k : List Trace). undoAll k (s .terms)) (sym (drop-append-le m (take n (x .joins)) (drop n (x .joins)) (let q = n-joins in omega arith)) ∙ ap (drop m) (take-append-drop n (x .joins)))
