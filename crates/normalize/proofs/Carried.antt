@@ -28,8 +28,8 @@ module _ {m₀ m : Lent} {c₀ c : State} (x : Carried m₀ c₀ m c) where
   carried-then m′ c′ e l = record { later = later-then (x .later) l; kept = carried-kept m′ e; ready = ready-later (x .ready) e (l .audited) }
 
   -- the call goes on from there
-  pub carried-on : {A B : Type 0} {w : Work A} (f : A → Work B) (a : A) → w (storeOf m₀ c₀) ≡ ok (storeOf m c) a → {m′ : Lent} {o : Out B} → Working (f a) m m′ c o → Working (w >>= f) m₀ m′ c₀ o
-  carried-on f a e {m′} v = record { says = ap (andThen f) e ∙ v .says; kept = carried-kept m′ (v .kept); ready = v .ready }
+  pub carried-on : {A B : Type 0} {w : Work A} (f : A → Work B) {a : A} → Working w m₀ m c₀ (ok (storeOf m c) a) → {m′ : Lent} {o : Out B} → Working (f a) m m′ c o → Working (w >>= f) m₀ m′ c₀ o
+  carried-on f w {m′} v = record { says = ap (andThen f) (w .says) ∙ v .says; kept = carried-kept m′ (v .kept); ready = v .ready }
 
 -- slices that are ready for the counts d are left where these are answered
 pub leaves : {A : Type 0} {m : Lent} {d : State} {a : A} → Ready m d → Leaves m (ok (storeOf m d) a)

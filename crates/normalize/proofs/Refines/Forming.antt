@@ -13,7 +13,7 @@ use Rattle.records.specs.Store.{Store, ok, stop, andThen, _>>=_, give, kind, co
 use Rattle.records.specs.View.{Lent, storeOf, termsView, termLimit}
 use Rattle.records.specs.Working.Audited.{Ready}
 use Rattle.records.specs.Working.Doing.{Working}
-use Rattle.records.proofs.Lists.{both-left, both-right, both-true, all-append, all-every, every-all, every-map, within-low, within-high}
+use Rattle.records.proofs.Lists.{both-right, both-true, all-append, all-every, every-all, every-map, within-low, within-high}
 use Rattle.records.proofs.Grown.{string-term}
 use Rattle.records.proofs.Climbs.{root-term, view-count, term-within, ready-roots}
 use Rattle.records.proofs.Doing.{working-stopped, working-is}
@@ -22,11 +22,11 @@ use Rattle.normalize.specs.declared.Form.{Form}
 use Rattle.normalize.specs.declared.Form.the-variants as form
 use Rattle.normalize.specs.Normalize.{atoms, pushForms, normalForm, formArguments}
 use Rattle.records.specs.Rules.{listLimit, isList}
-use Rattle.normalize.specs.Working.Flat.{bare, Nested, Appended}
+use Rattle.normalize.specs.Working.Flat.{bare, Appended}
 use Rattle.normalize.specs.Working.Nodes.{NodeOf, withNodes, Rooting}
 use Rattle.normalize.specs.Working.Pushes.{pushed, Candidates}
 use Rattle.normalize.specs.Calls.{firstWords, formed}
-use Rattle.normalize.proofs.Atoms.{same-atoms, atoms-plain, recorded-nested, atoms-strings, flatten-fits, flatten-full}
+use Rattle.normalize.proofs.Atoms.{same-atoms, atoms-plain, atoms-strings, flatten-fits, flatten-full}
 use Rattle.normalize.proofs.Carried.{working-left}
 use Rattle.normalize.proofs.FormReady.{known-list}
 use Rattle.normalize.proofs.Represents.{nodes-more, nodes-none}

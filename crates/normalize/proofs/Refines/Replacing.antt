@@ -66,7 +66,7 @@ module _ {m m′ : Lent} {c : State} (ready : Ready m c) (a r : ℕ) (x : Added)
 
   pub push-for-done : (d : State) (out : List ℕ) {m″ : Lent} {o : Out (List ℕ)} → x ≡ Counts d → Working (push r out) m′ m″ d o → Working (pushFor a r out) m m″ c o
   unfolding pushFor
-  push-for-done d out e v = carried-on (cited-carried d e) (λ u. push r out) tt (cited (Counts d) e .says) v
+  push-for-done d out e v = carried-on (cited-carried d e) (λ u. push r out) (cited (Counts d) e) v
 
   pub push-for-stopped : (k : ℕ) (out : List ℕ) → x ≡ Refused k → Working (pushFor a r out) m m′ c (stop k)
   unfolding pushFor

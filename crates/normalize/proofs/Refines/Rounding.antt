@@ -272,4 +272,4 @@ module _ {m m′ : Lent} {c : State} (ready : Ready m c) (known nodes : List ℕ
 
     pub deep-done : n ≤ deepLimit → {m″ : Lent} {o : Out (Option (List ℕ))} → Working (rounds 64 known t [] (firstWords list n)) m′ m″ d o → Working (deepForm known t) m m″ c o
     unfolding deepForm rest
-    deep-done h v = carried-on deep-carried rest (firstWords list n) (made .says) (working-is (rw (le-ltb deepLimit (length (firstWords list n)) (let z = words-length list n in omega arith))) v)
+    deep-done h v = carried-on deep-carried rest made (working-is (rw (le-ltb deepLimit (length (firstWords list n)) (let z = words-length list n in omega arith))) v)

@@ -1,7 +1,7 @@
 use lib.ListN.{length}
 use Prim.Native.Nat.{_-_, _≤_}
 use mathlib.Core.List.{_++_}
-use mathlib.Core.Path.{_≡_, refl, sym}
+use mathlib.Core.Path.{_≡_, refl}
 use Rattle.records.specs.View.{lent}
 use Rattle.records.proofs.Lists.{all-every, every-right}
 use Rattle.normalize.proofs.Refines.Heaping.{Heaping, heaping-none}
