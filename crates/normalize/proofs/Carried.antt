@@ -10,7 +10,7 @@ use Rattle.records.specs.Working.Doing.{Working}
 use Rattle.records.proofs.Passed.{ready-as, ready-later}
 use Rattle.records.proofs.Counts.{agree-below}
 use Rattle.records.proofs.Later.{Later, later-none, later-then, later-higher}
-use Rattle.normalize.specs.Working.Deeps.{Leaves}
+use Rattle.normalize.specs.Working.Deeps.{ReadyFor}
 
 pub record Carried (m₀ : Lent) (c₀ : State) (m : Lent) (c : State) : Type 0 where
   pub later : Later (storeOf m₀ c₀) (storeOf m c)
@@ -31,9 +31,9 @@ module _ {m₀ m : Lent} {c₀ c : State} (x : Carried m₀ c₀ m c) where
   pub carried-on : {A B : Type 0} {w : Work A} (f : A → Work B) {a : A} → Working w m₀ m c₀ (ok (storeOf m c) a) → {m′ : Lent} {o : Out B} → Working (f a) m m′ c o → Working (w >>= f) m₀ m′ c₀ o
   carried-on f w {m′} v = record { says = ap (andThen f) (w .says) ∙ v .says; kept = carried-kept m′ (v .kept); ready = v .ready }
 
--- slices that are ready for the counts d are left where these are answered
-pub leaves : {A : Type 0} {m : Lent} {d : State} {a : A} → Ready m d → Leaves m (ok (storeOf m d) a)
-leaves {m = m} {d = d} r = λ d′ a q. (let p : storeOf m d ≡ storeOf m d′ = cc in ready-as r (sym p))
+-- an answer with the counts d, for which the slices are ready
+pub ready-for : {A : Type 0} {m : Lent} {d : State} {a : A} → Ready m d → ReadyFor m (ok (storeOf m d) a)
+ready-for {m = m} {d = d} r = λ d′ a q. (let p : storeOf m d ≡ storeOf m d′ = cc in ready-as r (sym p))
 
 pub working-left : {A : Type 0} {work : Work A} {m m′ : Lent} {c d : State} {a : A} → Ready m′ d → work (storeOf m c) ≡ ok (storeOf m′ d) a → KeepsStore m m′ c → Working work m m′ c (ok (storeOf m′ d) a)
-working-left r e k = record { says = e; kept = k; ready = leaves r }
+working-left r e k = record { says = e; kept = k; ready = ready-for r }

@@ -38,7 +38,7 @@ use Rattle.normalize.specs.Working.Deeps.{opensIn, Met, RoundOf, expandA
 use Rattle.normalize.proofs.Rewritten.{Rewritten}
 use Rattle.normalize.proofs.Formed.{form-ends}
 use Rattle.normalize.proofs.Deep.{expand-ends}
-use Rattle.normalize.proofs.Carried.{Carried, carried-none, carried-kept, carried-then, leaves, working-left}
+use Rattle.normalize.proofs.Carried.{Carried, carried-none, carried-kept, carried-then, ready-for, working-left}
 use Rattle.normalize.proofs.Candidates.{candidates-later}
 use Rattle.normalize.proofs.Refines.Words.{words-length, words-none, words-put}
 
@@ -167,7 +167,7 @@ module _ {m : Lent} {c : State} (ready : Ready m c) (known : List ℕ) (t a : �
   pub one-plain : not b ≡ true → k < length next → Expands known t (a ∷ []) next k table m m c (set next k a) table (deep.List (k + 1) c)
   one-plain h l = record {
     kept = refl;
-    ready = leaves ready;
+    ready = ready-for ready;
     is = λ met q. record {
       met = met;
       is = expand-plain known t a st (record { list = firstWords next k; met = met }) (sym e ∙ not-true b h)
@@ -186,7 +186,7 @@ module _ {m : Lent} {c : State} (ready : Ready m c) (known : List ℕ) (t a : �
     pub one-again : getD table a 0 ≡ 1 → Expands known t (a ∷ []) next k table m m c next table (deep.None c)
     one-again d = record {
       kept = refl;
-      ready = leaves ready;
+      ready = ready-for ready;
       is = λ met q. record {
         met = [];
         is = expand-again known t a st (record { list = firstWords next k; met = met }) opened (met-is met q ∙ eq-eqb (getD table a 0) 1 d);
@@ -359,7 +359,7 @@ pub walking-done : (list : List ℕ) (n : ℕ) {known : List ℕ} {t : ℕ} {nex
 unfolding expand
 walking-done list n {i = i} g h = record {
   kept = g .carried .kept;
-  ready = leaves (g .carried .ready);
+  ready = ready-for (g .carried .ready);
   is = λ met z. record {
     met = g .rest met z .now;
     is = sym (rw (drop-of-length-le (firstWords list n) {i = i} (let y = words-length list n in omega arith)) at (g .rest met z .is));

@@ -31,7 +31,7 @@ use Rattle.normalize.specs.declared.Turn.the-variants as turn
 use Rattle.normalize.specs.Normalize.{deepLimit, normalForm, push, pushAll, expand, settle, afterExpand, rounds, deepForm}
 use Rattle.normalize.specs.Working.Pushes.{pushed, Candidates}
 use Rattle.normalize.specs.Calls.{firstWords, formed, deepened}
-use Rattle.normalize.specs.Working.Deeps.{opensIn, Met, MetTable, expanded, Leaves, Expands, settled, turned, settling, Settles, roundThen, TurnedTo, Turns}
+use Rattle.normalize.specs.Working.Deeps.{opensIn, Met, MetTable, expanded, ReadyFor, Expands, settled, turned, settling, Settles, roundThen, TurnedTo, Turns}
 use Rattle.records.proofs.Works.{stop-not}
 use Rattle.records.proofs.Doing.{working-is, working-at}
 use Rattle.records.proofs.Sequence.{working-stop}
@@ -39,7 +39,7 @@ use Rattle.records.proofs.Grown.{strings-later}
 use Rattle.normalize.proofs.Ends.{Ends}
 use Rattle.normalize.proofs.Formed.{Pushed, push-ends, Formed, form-ends}
 use Rattle.normalize.proofs.Deep.{Answers, rounds-end}
-use Rattle.normalize.proofs.Carried.{Carried, carried-none, carried-kept, carried-then, carried-on, leaves, working-left}
+use Rattle.normalize.proofs.Carried.{Carried, carried-none, carried-kept, carried-then, carried-on, ready-for, working-left}
 use Rattle.normalize.proofs.Candidates.{candidates-later}
 use Rattle.normalize.proofs.Refines.Words.{words-length, words-none}
 use Rattle.normalize.proofs.Refines.Heaping.{Heaping, heaping-end, heaping-turn, heaping-stopped}
@@ -101,7 +101,7 @@ module _ {m m′ : Lent} {c : State} (before list out : List ℕ) (x : Form) (w 
 
     pub settle-long : deepLimit < n → (l : List ℕ) → Settles before list m m′ c l (turn.Ends (deep.None d))
     unfolding settle
-    settle-long h l = record { kept = w .kept; ready = leaves joined-ready; is = λ more. joined-says n d e more ∙ rw (lt-ltb deepLimit (length (firstWords out n)) (let z = words-length out n in omega arith)) }
+    settle-long h l = record { kept = w .kept; ready = ready-for joined-ready; is = λ more. joined-says n d e more ∙ rw (lt-ltb deepLimit (length (firstWords out n)) (let z = words-length out n in omega arith)) }
 
     module _ (h : n ≤ deepLimit) (b : Bool) (f : b ≡ sameWord (firstWords out n) before) where
       short : ltb deepLimit (length (firstWords out n)) ≡ false
@@ -111,7 +111,7 @@ module _ {m m′ : Lent} {c : State} (before list out : List ℕ) (x : Form) (w 
       unfolding settle
       settle-same i l k j = record {
         kept = w .kept;
-        ready = leaves joined-ready;
+        ready = ready-for joined-ready;
         is = λ more. joined-says n d e more ∙ rw (short, sym f ∙ i) (ap (λ (v : List ℕ). ok (storeOf m′ d) (some v)) (word-is (firstWords out n) before (sym f ∙ i) ∙ j));
       }
 
@@ -119,7 +119,7 @@ module _ {m m′ : Lent} {c : State} (before list out : List ℕ) (x : Form) (w 
       unfolding settle
       settle-other i l l′ j = record {
         kept = w .kept;
-        ready = leaves joined-ready;
+        ready = ready-for joined-ready;
         is = λ more. joined-says n d e more ∙ rw (short, sym f ∙ i) (ap (λ (v : List ℕ). more v (storeOf m′ d)) (sym (ap (firstWords l′) (sym (zero-add n)) ∙ j ∙ ap (λ (v : List ℕ). v ++ firstWords out n) (words-none l))));
       }
 
@@ -133,7 +133,7 @@ module _ {m : Lent} {c : State} (known : List ℕ) (t : ℕ) (list : List ℕ) (
   unfolding roundThen
   round-stands ready h = record {
     kept = refl;
-    ready = leaves ready;
+    ready = ready-for ready;
     is = λ met q. record { met = met; is = λ more. rw (sym e ∙ not-true b h); tells = λ k f z. q };
   }
 
@@ -145,7 +145,7 @@ module _ {m : Lent} {c : State} (known : List ℕ) (t : ℕ) (list : List ℕ) (
         rw (sym e ∙ not-false b h) (ap (λ (l : List ℕ). andThen (afterExpand (firstWords list n) more) (expand known t (firstWords list n) (record { list = l; met = met }) (storeOf m c))) (sym (words-none next))
         ∙ ap (andThen (afterExpand (firstWords list n) more)) (w .is met q .is ∙ ap (λ (u : DeepForm). expanded u (w .is met q .met) m′ next′) i))
 
-    left : (y : DeepForm) → x ≡ y → Leaves m′ (deepened y m′ next′)
+    left : (y : DeepForm) → x ≡ y → ReadyFor m′ (deepened y m′ next′)
     left y i d a q = w .ready d a (ap (λ (u : DeepForm). deepened u m′ next′) i ∙ q)
 
     round-none : (d : State) → x ≡ deep.None d → (l : List ℕ) → Turns known t (firstWords list n) table m m′ c l table′ (turn.Ends (deep.None d))

@@ -59,14 +59,14 @@ pub record ExpandedTo (o : Out (Option Round)) (m : Lent) (next table : List ℕ
   pub is : o ≡ expanded x met m next
   pub tells : (n : ℕ) (c : State) → x ≡ deep.List n c → Met table met
 
--- what an answer leaves for the next working function: the slices are ready for its counts
-abbrev pub Leaves : {A : Type 0} → Lent → Out A → Type 0
-Leaves {A} m r = (d : State) (a : A) → r ≡ ok (storeOf m d) a → Ready m d
+-- the slices are ready for the counts of the answer: what the next working function requires
+abbrev pub ReadyFor : {A : Type 0} → Lent → Out A → Type 0
+ReadyFor {A} m r = (d : State) (a : A) → r ≡ ok (storeOf m d) a → Ready m d
 
 -- the atoms l expanded after the first k words of a slice
 pub record Expands (known : List ℕ) (t : ℕ) (l next : List ℕ) (k : ℕ) (table : List ℕ) (m m′ : Lent) (c : State) (next′ table′ : List ℕ) (x : DeepForm) : Type 0 where
   pub kept : KeepsStore m m′ c
-  pub ready : Leaves m′ (deepened x m′ next′)
+  pub ready : ReadyFor m′ (deepened x m′ next′)
   pub is : (met : List ℕ) → Met table met → ExpandedTo (expand known t l (record { list = firstWords next k; met = met }) (storeOf m c)) m′ next′ table′ x
 
 -- what a round ends with: another round over its list, or the answer
@@ -84,7 +84,7 @@ settling before list more = pushAll list [] >>= (λ out. settle before more (rev
 
 pub record Settles (before list : List ℕ) (m m′ : Lent) (c : State) (l : List ℕ) (x : Turn) : Type 0 where
   pub kept : KeepsStore m m′ c
-  pub ready : Leaves m′ (turned x m′ l)
+  pub ready : ReadyFor m′ (turned x m′ l)
   pub is : (more : List ℕ → Work (Option (List ℕ))) → settling before list more (storeOf m c) ≡ settled x more m′ l
 
 -- one round, and what follows it
@@ -100,5 +100,5 @@ pub record TurnedTo (o : (List ℕ → List ℕ → Work (Option (List ℕ))) �
 
 pub record Turns (known : List ℕ) (t : ℕ) (l table : List ℕ) (m m′ : Lent) (c : State) (l′ table′ : List ℕ) (x : Turn) : Type 0 where
   pub kept : KeepsStore m m′ c
-  pub ready : Leaves m′ (turned x m′ l′)
+  pub ready : ReadyFor m′ (turned x m′ l′)
   pub is : (met : List ℕ) → Met table met → TurnedTo (λ more. roundThen known t met l more (storeOf m c)) m′ l′ table′ x
