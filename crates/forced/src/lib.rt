@@ -35,7 +35,7 @@ fn has_one_class(terms: &[u32], chars: &[u32], c: State, side: &[u32]) -> bool
       let s = readIn (now (terms .entry)) (now (chars .entry)) c
       ⌜ b ≡ oneClass s (variables s (now (side .entry))) ⌝ }
 {
-    let i = spans::first_variable(terms, c, side);
+    let i = spans::first_variable_unchecked(terms, c, side);
     if side.len() <= i {
         return false;
     }
