@@ -157,7 +157,7 @@ pub fn forced_unchecked(
     )
 }
 
-// The length that a repeated field must have, or why it cannot fit. It writes nothing.
+// The length that a repeated field must have, and what is left over or lacking. It writes nothing.
 pub fn forced_length(
     terms: &[u32],
     cells: &[u32],
