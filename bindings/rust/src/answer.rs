@@ -247,7 +247,9 @@ pub enum Span {
     Shortage(u32),
 }
 
-/// The forced length of a repeated field: with a rest above 0 or a shortage no text fits.
+/// The forced length of a repeated field. With a rest above 0 or a shortage [`Store::resolve_equation`](crate::Store::resolve_equation) answers
+/// Conflict on the same lists, or Saturated where it flattened, unless the reasons are full: no texts fit under the reasons that the Conflict
+/// names, and without them some may.
 ///
 /// ```
 /// use labels::{Fit, Span};
