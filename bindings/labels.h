@@ -253,8 +253,8 @@ uint32_t labels_step(LABELS_WORDS(state), LABELS_WORDS(terms), LABELS_WORDS(cell
 /* Every part of a label that must still become "": where one flattened list is empty and the other is two or more variables, "" is made if the
  * store has none, and the variables that are not of its class yet stand first in `list`, in the order of their places, the first of each class.
  * Words 0 to 2 of the answer: how many they are, the number of "", and the link flag, 1 where something is listed. For other lists nothing is
- * made, and all three are 0. No reasons are added: that these variables become "" follows from the equation between the lists, and rests on
- * what the lists rest on. */
+ * made, and all three are 0. No reasons are added: if the two sides have equal texts, each listed variable has the text of "", whatever was
+ * merged. So what is joined for it rests on the equation between the lists and on what the lists rest on. */
 uint32_t labels_empty_parts(LABELS_WORDS(state), LABELS_WORDS(terms), LABELS_READ(cells), LABELS_WORDS(chars), LABELS_READ(reasons),
                             LABELS_READ(keys), LABELS_READ(lhs), LABELS_READ(rhs), LABELS_WORDS(list), LABELS_WORDS(answer));
 

@@ -189,8 +189,8 @@ impl Form {
     }
 }
 
-/// The parts of a label that must still become "": that they do follows from the equation between the two lists, and rests on what the lists
-/// rest on.
+/// The parts of a label that must still become "": if the two sides have equal texts, each of these variables has the text of "", whatever was
+/// merged. That rests on the equation between the lists and on what the lists rest on.
 ///
 /// ```
 /// let mut store = labels::Store::new();
