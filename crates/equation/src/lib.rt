@@ -121,7 +121,7 @@ fn right_form(
 }
 
 // The step over the equation e.
-pub(crate) fn step_unchecked(
+pub fn step_unchecked(
     terms: &mut [u32],
     cells: &mut [u32],
     chars: &mut [u32],

@@ -4,3 +4,5 @@ mod Generating
 mod Worlds
 mod Olds
 mod Beginning
+mod Every
+mod Follow

@@ -20,7 +20,7 @@ use Rattle.records.specs.Calls.{made, writesNothing}
 use Rattle.records.specs.Working.Doing.{Working}
 use Rattle.records.proofs.Lists.{table-length, both-left, both-right, both-true, every-all, every-map, all-every}
 use Rattle.records.proofs.Public.{passed-ready, audit-low}
-use Rattle.records.proofs.Passed.{ready-after}
+use Rattle.records.proofs.Doing.{working-same, working-stopped, working-is}
 use Rattle.records.proofs.Grown.{grown-string}
 use Rattle.records.proofs.Kept.{MadeIn, made-string, constant-kept}
 use Rattle.records.proofs.ListLaws.{list-short, list-strings}
@@ -28,6 +28,7 @@ use Rattle.records.proofs.Works.{stop-not}
 use Rattle.records.proofs.Sequence.{made-is, made-stops}
 use Rattle.normalize.specs.Normalize.{flatten}
 use Rattle.normalize.specs.Calls.{firstWords}
+use Rattle.normalize.proofs.Carried.{working-left}
 use Rattle.normalize.proofs.ListCalls.{listed-short, listed-unready, listed-unfit, listed-works}
 use Rattle.wordeq.specs.Calls.{equalArguments}
 use Rattle.wordeq.specs.Working.Results.{BothLists}
@@ -56,9 +57,12 @@ onward l e s = ok s (partsOf e (unmet s (e ∷ []) l))
 module _ {m m₁ : Lent} {c : State} {x : Made} (l : List ℕ) (w : Working (makeConstant []) m m₁ c (made x m₁)) where
   pub empties-stop : {k : ℕ} → x ≡ Refused k → Working (emptied l) m m₁ c (stop k)
   unfolding emptied
-  empties-stop e = record { says = ap (andThen (onward l)) (made-stops e w .says); kept = w .kept }
+  empties-stop e = working-stopped (ap (andThen (onward l)) (made-stops e w .says)) (w .kept)
 
   module _ {t : ℕ} {d : State} (e : x ≡ Term t d) where
+    empties-ready : Ready m₁ d
+    empties-ready = w .ready d t (ap (λ (y : Made). made y m₁) e)
+
     -- the classes are those of the terms, whatever else is lent
     there : unmet (storeOf m₁ d) (t ∷ []) l ≡ unmet (readIn (m₁ .terms) (m₁ .chars) d) (t ∷ []) l
     there = unmet-agree {P = λ u. Unit {0}} (storeOf m₁ d) (readIn (m₁ .terms) (m₁ .chars) d) (t ∷ []) (t ∷ []) l (every-of l (λ u. tt)) (record { same = λ u i. refl; others = λ u v i j f g. refl })
@@ -66,19 +70,19 @@ module _ {m m₁ : Lent} {c : State} {x : Made} (l : List ℕ) (w : Working (mak
     pub empties-done : {list : List ℕ} {n : ℕ} → Starts list n (unmet (readIn (m₁ .terms) (m₁ .chars) d) (t ∷ []) l)
         → Working (emptied l) m m₁ c (ok (storeOf m₁ d) (record { empty = t; listed = firstWords list n; link = linked n }))
     unfolding emptied
-    empties-done {list} {n} s = record {
-      says = ap (andThen (onward l)) (made-is e w .says) ∙ ap (λ (u : List ℕ). ok (storeOf m₁ d) (partsOf t u)) (there ∙ sym (s .words) ∙ sym (words-taken list n (s .fits)))
-          ∙ ap (λ (k : ℕ). ok (storeOf m₁ d) (record { empty = t; listed = firstWords list n; link = linked k })) (table-length (λ i. getD list i 0) n);
-      kept = w .kept;
-    }
+    empties-done {list} {n} s = working-left empties-ready
+        (ap (andThen (onward l)) (made-is e w .says) ∙ ap (λ (u : List ℕ). ok (storeOf m₁ d) (partsOf t u)) (there ∙ sym (s .words) ∙ sym (words-taken list n (s .fits)))
+          ∙ ap (λ (k : ℕ). ok (storeOf m₁ d) (record { empty = t; listed = firstWords list n; link = linked k })) (table-length (λ i. getD list i 0) n))
+        (w .kept)
+
+    pub empties-able : Readable (m₁ .terms) (m₁ .chars) d
+    empties-able = record { cells = m₁ .cells; reasons = m₁ .reasons; keys = m₁ .keys; ready = empties-ready }
 
     module _ (ready : Ready m c) where
       empty-in : MadeIn (storeOf m c) (storeOf m₁ d) t 1
       unfolding all
       empty-in = constant-kept [] (storeOf m c) (storeOf m₁ d) t (ready .audited) refl (made-is e w .says) .made
 
-      pub empties-able : length (m₁ .terms) ≡ length (m .terms) → length (m₁ .cells) ≡ length (m .cells) → Readable (m₁ .terms) (m₁ .chars) d
-      empties-able p q = record { cells = m₁ .cells; reasons = m₁ .reasons; keys = m₁ .keys; ready = ready-after ready p q (empty-in .audited) }
 
       pub empties-strings : isList (storeOf m c) l ≡ true → all (isString (readIn (m₁ .terms) (m₁ .chars) d)) (t ∷ l) ≡ true
       unfolding all within
@@ -89,16 +93,16 @@ module _ {m m₁ : Lent} {c : State} {x : Made} (l : List ℕ) (w : Working (mak
 module _ (m : Lent) (c : State) (l r : List ℕ) (b : Bool) (i : b ≡ emptyAgainst (termed (m .terms) c) l r) where
   pub sides-left : b ≡ true → {m′ : Lent} {o : Out Parts} → Working (emptied r) m m′ c o → Working (sides l r) m m′ c o
   unfolding sides
-  sides-left h w = record { says = rw (sym i ∙ h) (w .says); kept = w .kept }
+  sides-left h w = working-is (rw (sym i ∙ h)) w
 
   module _ (h : b ≡ false) (x : Bool) (j : x ≡ emptyAgainst (termed (m .terms) c) r l) where
     pub sides-right : x ≡ true → {m′ : Lent} {o : Out Parts} → Working (emptied l) m m′ c o → Working (sides l r) m m′ c o
     unfolding sides
-    sides-right q w = record { says = rw (sym i ∙ h, sym j ∙ q) (w .says); kept = w .kept }
+    sides-right q w = working-is (rw (sym i ∙ h, sym j ∙ q)) w
 
-    pub sides-none : x ≡ false → (k : List ℕ) → Working (sides l r) m m c (ok (storeOf m c) (record { empty = 0; listed = firstWords k 0; link = false }))
+    pub sides-none : Ready m c → x ≡ false → (k : List ℕ) → Working (sides l r) m m c (ok (storeOf m c) (record { empty = 0; listed = firstWords k 0; link = false }))
     unfolding sides table
-    sides-none q k = record { says = rw (sym i ∙ h, sym j ∙ q); kept = refl }
+    sides-none ready q k = working-same ready (rw (sym i ∙ h, sym j ∙ q))
 
 -- FLATTENED
 
@@ -108,16 +112,16 @@ module _ (m : Lent) (c : State) (l r : List ℕ) where
 
   pub left-passes : flatten l (storeOf m c) ≡ stop 6 → Working (emptyParts l r) m m c (stop 6)
   unfolding emptyParts
-  left-passes e = record { says = ap (andThen then) e; kept = refl }
+  left-passes e = working-stopped (ap (andThen then) e) refl
 
   module _ (l₁ : List ℕ) (e : flatten l (storeOf m c) ≡ ok (storeOf m c) l₁) where
     pub right-passes : flatten r (storeOf m c) ≡ stop 6 → Working (emptyParts l r) m m c (stop 6)
     unfolding emptyParts
-    right-passes f = record { says = ap (andThen then) e ∙ ap (andThen (λ r₁. sides l₁ r₁)) f; kept = refl }
+    right-passes f = working-stopped (ap (andThen then) e ∙ ap (andThen (λ r₁. sides l₁ r₁)) f) refl
 
     pub flat-done : (r₁ : List ℕ) → flatten r (storeOf m c) ≡ ok (storeOf m c) r₁ → {m′ : Lent} {o : Out Parts} → Working (sides l₁ r₁) m m′ c o → Working (emptyParts l r) m m′ c o
     unfolding emptyParts
-    flat-done r₁ f w = record { says = ap (andThen then) e ∙ ap (andThen (λ r₂. sides l₁ r₂)) f ∙ w .says; kept = w .kept }
+    flat-done r₁ f w = working-is (ap (andThen then) e ∙ ap (andThen (λ r₂. sides l₁ r₂)) f) w
 
 -- THE CALL
 

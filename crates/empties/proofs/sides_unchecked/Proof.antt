@@ -62,4 +62,4 @@ sides-unchecked-spec =
     let at-start = at-is-emptied .before .before .before .before .before .before .before .before .before .before in
     sides-none (lent (at-start .args .terms .now) (at-start .args .cells .now) (at-start .args .chars .now) (at-start .args .reasons .now) (at-start .args .keys .now))
     (at-start .args .c) (at-start .args .lhs .now) (at-start .args .rhs .now) _ (at-is-emptied .is-emptied-unchecked .ensures) (at-if1 .if1 .left) _ (c .before .is-emptied-unchecked2 .ensures)
-    (c .if2 .left) (at-start .args .list .now)))
+    (at-start .pre .0) (c .if2 .left) (at-start .args .list .now)))
