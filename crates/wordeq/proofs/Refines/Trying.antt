@@ -19,7 +19,6 @@ use Rattle.records.specs.Make.{makeConstant}
 use Rattle.records.specs.Working.Audited.{Ready}
 use Rattle.records.specs.Working.Doing.{Working}
 use Rattle.records.proofs.Works.{via, branch}
-use Rattle.records.proofs.Passed.{ready-after}
 use Rattle.engine.specs.Explain.{explain}
 use Rattle.wordeq.specs.declared.StepResult.{StepResult}
 use Rattle.wordeq.specs.declared.StepResult.the-variants as step
@@ -88,10 +87,6 @@ module _ {l r : List ℕ} {a : Tried} (g : Goes l r a) {m m₁ : Lent} {c d : St
   passed-later ready lists =
       later-of (g .step-of (storeOf m c) (ready .audited) (list-every (storeOf m c) l (lists .left)) (list-every (storeOf m c) r (lists .right)) .given (storeOf m₁ d) none passed)
 
-  -- for the next step
-  pub passed-ready : Ready m c → BothLists (storeOf m c) l r → length (m₁ .terms) ≡ length (m .terms) → length (m₁ .cells) ≡ length (m .cells) → Ready m₁ d
-  passed-ready ready lists p q = ready-after ready p q (passed-later ready lists .audited)
-
   pub passed-lists : Ready m c → BothLists (storeOf m c) l r → BothLists (storeOf m₁ d) l r
   passed-lists ready lists =
       let k = passed-later ready lists in
@@ -102,6 +97,7 @@ module _ {l r : List ℕ} {a : Tried} (g : Goes l r a) {m m₁ : Lent} {c d : St
   else-works {b} {m₂} v = record {
     says = ap (andThen (settled b)) passed ∙ v .says;
     kept = agree-below m m₁ m₂ c d (g .rises .higher (storeOf m c) (storeOf m₁ d) passed) (v .kept) ∙ w .is [] .kept;
+    ready = v .ready;
   }
 
   pub else-tries : {b : Tried} {m₂ : Lent} {o : StepResult} → Tries b m₁ m₂ d o → Tries (a orElse b) m m₂ c o
@@ -118,9 +114,11 @@ lined x y = record { ready = x; lists = y }
 pub done-is : {a : Tried} {m m₁ : Lent} {c d : State} {o : StepResult} → o ≡ step.Done d → Tries a m m₁ c o → Tries a m m₁ c (step.Done d)
 done-is {a} {m} {m₁} {c} e w = subst (Tries a m m₁ c) e w
 
-pub passed-on : {l r : List ℕ} {a : Tried} → Goes l r a → {m m₁ : Lent} {c d : State} {o : StepResult} → Tries a m m₁ c o → o ≡ step.Done d
-    → length (m₁ .terms) ≡ length (m .terms) → length (m₁ .cells) ≡ length (m .cells) → Lined l r m c → Lined l r m₁ d
-passed-on g w e p q x = record { ready = passed-ready g (done-is e w) (x .ready) (x .lists) p q; lists = passed-lists g (done-is e w) (x .ready) (x .lists) }
+pub done-ready : {a : Tried} {m m₁ : Lent} {c d : State} {o : StepResult} → o ≡ step.Done d → Tries a m m₁ c o → Ready m₁ d
+done-ready {d = d} e w = done-is e w .is [] .ready d none refl
+
+pub passed-on : {l r : List ℕ} {a : Tried} → Goes l r a → {m m₁ : Lent} {c d : State} {o : StepResult} → Tries a m m₁ c o → o ≡ step.Done d → Lined l r m c → Lined l r m₁ d
+passed-on g w e x = record { ready = done-ready e w; lists = passed-lists g (done-is e w) (x .ready) (x .lists) }
 
 -- a step that answers is the last
 abbrev pub Last : StepResult → Type 0
@@ -156,7 +154,7 @@ settles b m (step.Split d n g j) k z = refl
 settles b m (step.Refused n) k z = refl
 
 pub else-last : {a : Tried} (b : Tried) {m m₁ : Lent} {c : State} {o : StepResult} → Last o → Tries a m m₁ c o → Tries (a orElse b) m m₁ c o
-else-last b {m₁ = m₁} {o = o} z w = record { is = λ k. record { says = ap (andThen (settled b)) (w .is k .says) ∙ settles b m₁ o k z; kept = w .is k .kept } }
+else-last b {m₁ = m₁} {o = o} z w = record { is = λ k. record { says = ap (andThen (settled b)) (w .is k .says) ∙ settles b m₁ o k z; kept = w .is k .kept; ready = w .is k .ready } }
 
 -- THE STEPS
 
@@ -169,6 +167,9 @@ occurs-rises (x ∷ []) r = record { higher = λ s s′ e. branch (isConstant s 
     go : (s s′ : Store) (o : Option ℕ) → occursAt x o s ≡ ok s′ none → Higher s s′
     go s s′ none e = stays e
     go s s′ (some y) e = via (λ u. answer conflict) (explain y x s) e (λ s₁ u i j. answered-not j)
+
+pub lone-goes : (l r : List ℕ) → Goes l r (occurs l r)
+lone-goes l r = record { step-of = occurs-step l r; rises = occurs-rises l r }
 
 pub constants-rises : (l r : List ℕ) → Rises (constants l r)
 unfolding constants
@@ -240,7 +241,7 @@ module _ (l r : List ℕ) where
   tiles = tile l r orElse tile r l
 
   pub occurs-goes : Goes l r occursBoth
-  occurs-goes = goes-else (record { step-of = occurs-step l r; rises = occurs-rises l r }) (goes-flip (record { step-of = occurs-step r l; rises = occurs-rises r l }))
+  occurs-goes = goes-else (lone-goes l r) (goes-flip (lone-goes r l))
 
   pub conflicts-goes : Goes l r conflicts
   conflicts-goes = goes-else occurs-goes (record { step-of = constants-step l r; rises = constants-rises l r })
