@@ -53,13 +53,13 @@ module _ {m m′ : Lent} {c : State} where
   pub made-ready : {w : Work ℕ} {r : Made} {t : ℕ} {d : State} → r ≡ making.Term t d → Working w m m′ c (made r m′) → Ready m′ d
   made-ready {t = t} {d = d} e w = made-at e w .ready d t refl
 
--- a string term stays one
-pub string-stays : {A : Type 0} {w : Work A} {m m₁ : Lent} {c d : State} {a : A} → Grows w → Working w m m₁ c (ok (storeOf m₁ d) a) → (v : ℕ) → isString (storeOf m c) v ≡ true → isString (storeOf m₁ d) v ≡ true
-string-stays {m = m} {m₁ = m₁} {c = c} {d = d} {a = a} g w v e =
-    let z = string-within m c v e in
-    let low = within-low (c .terms) v z in
-    let high = within-high (c .terms) v z in
-    let b = higher-below m m₁ c d (g .higher (storeOf m c) (storeOf m₁ d) a (w .says)) .terms in
-    ap (λ (x : Term). within 3 (x .kind))
-    (term-is (m₁ .terms) (d .terms) v low (omega arith) ∙ sym (term-is (m₁ .terms) (c .terms) v low high) ∙ ap (λ (s : Store). termIn (s .terms) v) (w .kept))
-    ∙ e
+  -- a string term stays one
+  pub string-stays : {w : Work ℕ} {r : Made} {t : ℕ} {d : State} → Grows w → r ≡ making.Term t d → Working w m m′ c (made r m′) → (v : ℕ) → isString (storeOf m c) v ≡ true → isString (storeOf m′ d) v ≡ true
+  string-stays {t = t} {d = d} g e w v h =
+      let z = string-within m c v h in
+      let low = within-low (c .terms) v z in
+      let high = within-high (c .terms) v z in
+      let b = higher-below m m′ c d (g .higher (storeOf m c) (storeOf m′ d) t (made-at e w .says)) .terms in
+      ap (λ (x : Term). within 3 (x .kind))
+      (term-is (m′ .terms) (d .terms) v low (omega arith) ∙ sym (term-is (m′ .terms) (c .terms) v low high) ∙ ap (λ (s : Store). termIn (s .terms) v) (w .kept))
+      ∙ h

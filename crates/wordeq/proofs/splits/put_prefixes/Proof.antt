@@ -1,4 +1,3 @@
-use Rattle.records.proofs.Sequence.{made-is}
 use Rattle.wordeq.proofs.Refines.Leaving.{made-ready, string-stays}
 use Rattle.wordeq.proofs.Refines.SplitAtoms.{grows-prefix, prefixes-done, prefixes-stop, prefixes-stop-2}
 use lib.ListN.{length-set}
@@ -19,10 +18,12 @@ put-prefixes-spec =
     (λ c κs.
     let at-first = c .before .before .before .before in
     let at-prefix-unchecked = at-first .before .before .before .before .before .before .before .before in
-    let at-start = at-prefix-unchecked .before .before .before .before .before .before .before .before .before .before in
-    let w = made-is (at-first .first .given .1) (at-prefix-unchecked .prefix-unchecked .ensures) in (
+    let at-start = at-prefix-unchecked .before .before .before .before .before .before .before .before .before .before in (
       made-ready (at-first .first .given .1) (at-prefix-unchecked .prefix-unchecked .ensures),
-      (string-stays (grows-prefix _ _) w _ (at-start .pre .1 .1 .0), string-stays (grows-prefix _ _) w _ (at-start .pre .1 .0)),
+      (
+        string-stays (grows-prefix _ _) (at-first .first .given .1) (at-prefix-unchecked .prefix-unchecked .ensures) _ (at-start .pre .1 .1 .0),
+        string-stays (grows-prefix _ _) (at-first .first .given .1) (at-prefix-unchecked .prefix-unchecked .ensures) _ (at-start .pre .1 .0),
+      ),
     ))
     -- enum-known-second
     (λ c. search needs)

@@ -1,4 +1,3 @@
-use Rattle.records.proofs.Sequence.{made-is}
 use Rattle.wordeq.proofs.Refines.Leaving.{made-ready, string-stays}
 use Rattle.wordeq.proofs.Refines.SplitAtoms.{grows-lengths, heads-done, heads-stop}
 use borrow.Author.Needs.{needs}
@@ -17,10 +16,12 @@ split-heads-unchecked-spec =
     (λ c κs.
     let at-lengths = c .before .before .before .before .before in
     let at-lengths-unchecked = at-lengths .before .before .before .before in
-    let at-start = at-lengths-unchecked .before .before .before .before .before .before .before .before .before .before in
-    let w = made-is (at-lengths .lengths .given .1) (at-lengths-unchecked .lengths-unchecked .ensures) in (
+    let at-start = at-lengths-unchecked .before .before .before .before .before .before .before .before .before .before in (
       made-ready (at-lengths .lengths .given .1) (at-lengths-unchecked .lengths-unchecked .ensures),
-      (string-stays (grows-lengths _ _) w _ (at-start .pre .1 .0), (string-stays (grows-lengths _ _) w _ (at-start .pre .1 .1 .0), at-start .pre .1 .1 .1)),
+      (
+        string-stays (grows-lengths _ _) (at-lengths .lengths .given .1) (at-lengths-unchecked .lengths-unchecked .ensures) _ (at-start .pre .1 .0),
+        (string-stays (grows-lengths _ _) (at-lengths .lengths .given .1) (at-lengths-unchecked .lengths-unchecked .ensures) _ (at-start .pre .1 .1 .0), at-start .pre .1 .1 .1),
+      ),
     ))
     -- enum-known-lengths-2
     (λ c. search needs)
