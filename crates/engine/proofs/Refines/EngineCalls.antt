@@ -17,6 +17,7 @@ use lib.Seq.{drop-append-seam}
 use Rattle.records.proofs.Lists.{both-left, both-right, left-false, right-false}
 use Rattle.records.proofs.Later.{added-once}
 use Rattle.records.proofs.Passed.{ready-of}
+use Rattle.records.proofs.Doing.{working-same}
 use Rattle.records.proofs.Public.{call-unready, call-unfit, call-works, audit-low}
 use Rattle.records.proofs.Grown.{string-term}
 use Rattle.records.proofs.Climbs.{term-within, ready-roots}
@@ -44,7 +45,7 @@ module _ (m : Lent) (c : State) (t k : ℕ) (v : k ≡ audit m c) where
     unfolding find
     find-gives h r q =
         call-works (findArguments t) (find t) m c k v z b e (not-false b h) (λ j n. let y : _≡_ {A = ℕ} 0 1 = cc in absurd (omega arith))
-        (record { says = ap (ok (storeOf m c)) (sym q); kept = refl })
+        (working-same (ready-of m c (sym v ∙ z)) (ap (ok (storeOf m c)) (sym q)))
 
 -- EXPLAIN
 
