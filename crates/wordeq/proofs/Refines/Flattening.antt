@@ -117,7 +117,7 @@ module _ (m : Lent) (c : State) (l r : List ℕ) (g : ℤ) where
     flat-done z r₁ f {m′} k o w x i =
         working-at (softened-is m′ k o ∙ ap (λ (z : StepResult). resolved z m′ k) (sym i))
         (working-is (ap (andThen onward) e ∙ ap (andThen (λ r₂. steps g l₁ r₂ >>= (λ y. give (softened y)))) f)
-        (working-answer (λ y. give (softened y)) (λ y s s′ x j. one-store j) (working-is (ap (λ (y : ℤ). steps y l₁ r₁ (storeOf m c)) (sym (toZ-ofZ w32 g z))) w)))
+        (working-answer (λ y. give (softened y)) (λ y s s′ x j. one-store j) {w = steps g l₁ r₁} (working-is (ap (λ (y : ℤ). steps y l₁ r₁ (storeOf m c)) (sym (toZ-ofZ w32 g z))) w)))
 
   module _ (b : Bool) (e : b ≡ any (isConcat (storeOf m c)) (l ++ r)) where
     pub ran-flat : b ≡ true → SFits w32 g → {m′ : Lent} {o : Out Answer} → Working (flatSteps l r (toZ w32 (ofZ w32 g))) m m′ c o → Working (ran l r g) m m′ c o

@@ -100,7 +100,11 @@ module _ (s : Store) (c : State) (l : List ℕ) (w i : ℕ) (h : firstOf (λ v. 
 pub emptied-parts : (s : Store) (l r : List ℕ) → emptied s l r ≡ true → (length l ≡ 0) × (2 ≤ length r) × (all (isVariable s) r ≡ true)
 emptied-parts s l r h = (eqb-true _ _ (both-left _ _ (both-left _ _ h)), leb-true _ _ (both-right (eqb (length l) 0) _ (both-left _ _ h)), both-right (eqb (length l) 0 && leb 2 (length r)) _ h)
 
-empties-is : (s : Store) (r : List ℕ) → 2 ≤ length r → all (isVariable s) r ≡ true → empties [] r s ≡ andThen (λ e s₁. emptiesAt e (firstOf (λ v. not (same s₁ v e)) r) s₁) (makeConstant [] s)
+-- what follows the word ""
+abbrev following : List ℕ → ℕ → Tried
+following r e s = emptiesAt e (firstOf (λ v. not (same s v e)) r) s
+
+empties-is : (s : Store) (r : List ℕ) → 2 ≤ length r → all (isVariable s) r ≡ true → empties [] r s ≡ andThen (following r) (makeConstant [] s)
 unfolding empties
 empties-is s [] n h = absurd (omega arith)
 empties-is s (a ∷ []) n h = absurd (omega arith)
@@ -110,16 +114,12 @@ variable-string : (s : Store) (v : ℕ) → isVariable s v ≡ true → isString
 unfolding within
 variable-string s v h = rw (eqb-true (kind s v) 2 h)
 
-empties-shape : (m : Lent) (c : State) (l : List ℕ) → emptied (termed (m .terms) c) [] l ≡ true → empties [] l (storeOf m c) ≡ andThen (λ e s₁. emptiesAt e (firstOf (λ v. not (same s₁ v e)) l) s₁) (makeConstant [] (storeOf m c))
+empties-shape : (m : Lent) (c : State) (l : List ℕ) → emptied (termed (m .terms) c) [] l ≡ true → empties [] l (storeOf m c) ≡ andThen (following l) (makeConstant [] (storeOf m c))
 empties-shape m c l h = let p = emptied-parts (storeOf m c) [] l h in empties-is (storeOf m c) l (p .1) (p .2)
 
 module _ {m m₁ : Lent} {c : State} {x : Made} (l : List ℕ) (h : emptied (termed (m .terms) c) [] l ≡ true) (w : Working (makeConstant []) m m₁ c (made x m₁)) where
-  -- what follows the word
-  abbrev following : ℕ → Tried
-  following e s₁ = emptiesAt e (firstOf (λ v. not (same s₁ v e)) l) s₁
-
-  empties-made : {y : Made} → x ≡ y → Working (empties [] l) m m₁ c (andThen following (made y m₁))
-  empties-made e = working-is (empties-shape m c l h) (working-answer following (λ t s s′ a i. idle t (firstOf (λ v. not (same s v t)) l) i) (made-at e w))
+  empties-made : {y : Made} → x ≡ y → Working (empties [] l) m m₁ c (andThen (following l) (made y m₁))
+  empties-made e = working-is (empties-shape m c l h) (working-answer (following l) (λ t s s′ a i. idle t (firstOf (λ v. not (same s v t)) l) i) (made-at e w))
     where
       idle : (t : ℕ) (o : Option ℕ) {s s′ : Store} {a : Option Answer} → emptiesAt t o s ≡ ok s′ a → s ≡ s′
       idle t none i = one-store i
