@@ -29,7 +29,7 @@ use Rattle.wordeq.specs.Working.Splits.{prefixAtom, emptyAtom, character
 use Rattle.wordeq.specs.Working.Heads.{atomsBy, atomsOf}
 use Rattle.wordeq.proofs.Counted.{equatable-strings, equatable-lengths, characterThen, headsThen}
 use Rattle.records.proofs.Sequence.{Grows, grows-then, grows-constant, grows-variable, grows-concat, grows-length, grows-equation, grows-give, grows-name, working-then, working-stop, made-is, made-then, made-stop}
-use Rattle.wordeq.proofs.Refines.Leaving.{working-done, made-ready, string-stays}
+use Rattle.wordeq.proofs.Refines.Leaving.{working-done, made-ready, made-stays}
 
 -- A FRESH VARIABLE
 
@@ -99,13 +99,13 @@ module _ {m m₁ : Lent} {c d : State} {z : ℕ} {r₁ : Made} (h : ℕ) (ready 
   pub prefix-parts : concatArguments (h ∷ z ∷ []) (storeOf m₁ d) ≡ true
   unfolding freshVariable within
   prefix-parts =
-      two-parts (storeOf m₁ d) h z (string-stays grows-fresh e₁ w₁ h sh) (made-string (fresh-kept (storeOf m c) (storeOf m₁ d) z (ready .audited) (made-is e₁ w₁ .says) .made) refl)
+      two-parts (storeOf m₁ d) h z (made-stays grows-fresh e₁ w₁ h sh) (made-string (fresh-kept (storeOf m c) (storeOf m₁ d) z (ready .audited) (made-is e₁ w₁ .says) .made) refl)
 
   pub prefix-sides : (v : ℕ) → isString (storeOf m c) v ≡ true → {m₂ : Lent} {r₂ : Made} {t : ℕ} {d₂ : State} → Working (makeConcat (h ∷ z ∷ [])) m₁ m₂ d (made r₂ m₂) → r₂ ≡ Term t d₂
       → equationArguments v t (storeOf m₂ d₂) ≡ true
   unfolding within
   prefix-sides v sv {m₂} {r₂} {t} {d₂} w₂ e₂ =
-      equatable-strings (storeOf m₂ d₂) v t (string-stays (grows-concat (h ∷ z ∷ [])) e₂ w₂ v (string-stays grows-fresh e₁ w₁ v sv))
+      equatable-strings (storeOf m₂ d₂) v t (made-stays (grows-concat (h ∷ z ∷ [])) e₂ w₂ v (made-stays grows-fresh e₁ w₁ v sv))
       (made-string (concat-fit (storeOf m₁ d) (storeOf m₂ d₂) t (made-ready e₁ w₁ .audited) (h ∷ z ∷ []) prefix-parts (made-is e₂ w₂ .says)) refl)
 
 -- v = ""
@@ -123,7 +123,7 @@ pub empty-sides : {m m₁ : Lent} {c d : State} {r₁ : Made} {t : ℕ} (v : ℕ
     → equationArguments v t (storeOf m₁ d) ≡ true
 unfolding within
 empty-sides {m} {m₁} {c} {d} {t = t} v ready sv w₁ e =
-    equatable-strings (storeOf m₁ d) v t (string-stays (grows-constant []) e w₁ v sv)
+    equatable-strings (storeOf m₁ d) v t (made-stays (grows-constant []) e w₁ v sv)
     (made-string (constant-fit (storeOf m c) (storeOf m₁ d) t (ready .audited) [] no-characters (made-is e w₁ .says)) refl)
 
 -- v = ch ++ z

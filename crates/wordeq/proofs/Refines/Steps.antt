@@ -35,7 +35,7 @@ use Rattle.wordeq.proofs.Strip.{strip-ends}
 use Rattle.wordeq.proofs.Strip as strip
 use Rattle.wordeq.proofs.Refines.Heads.{heads-apart}
 use Rattle.records.proofs.Counts.{Higher, agree-below}
-use Rattle.wordeq.proofs.Refines.Trying.{Lined, Last, occursBoth, conflicts, propagates, tiles, grouped, occurs-goes, conflicts-goes, propagates-goes, after-groups, tiles-goes, done-is, done-ready, else-works, else-tries, else-last}
+use Rattle.wordeq.proofs.Refines.Trying.{Lined, Last, occursBoth, conflicts, propagates, tiles, grouped, both-rises, conflicts-rises, propagates-rises, tiles-rises, after-groups, passed-ready, else-works, else-tries, else-last}
 use Rattle.records.proofs.ListLaws.{list-short, list-every}
 use Rattle.wordeq.specs.Working.Lacking.{conflicts as lacks}
 
@@ -47,10 +47,10 @@ lined-readIn {l} {r} {m} {c} x = constants-need m c l r (x .ready) (x .lists)
 
 module _ (l r : List ℕ) {m m₁ : Lent} {c d : State} {o : StepResult} (w : Tries (occursBoth l r) m m₁ c o) (e : o ≡ step.Done d) (b : Bool) (h : b ≡ lacks (readIn (m₁ .terms) (m₁ .chars) d) l r) where
   pub conflicts-found : b ≡ true → Tries (conflicts l r) m m₁ c (step.Conflict d)
-  conflicts-found z = else-tries (occurs-goes l r) (done-is e w) (constants-conflict m₁ d l r (done-ready e w) b h z)
+  conflicts-found z = else-tries (both-rises l r) w e (constants-conflict m₁ d l r (passed-ready (both-rises l r) w e) b h z)
 
   pub conflicts-none : b ≡ false → Tries (conflicts l r) m m₁ c (step.Done d)
-  conflicts-none z = else-tries (occurs-goes l r) (done-is e w) (constants-pass m₁ d l r (done-ready e w) b h z)
+  conflicts-none z = else-tries (both-rises l r) w e (constants-pass m₁ d l r (passed-ready (both-rises l r) w e) b h z)
 
 -- STEPS 2 TO 7
 
@@ -64,18 +64,18 @@ module _ (l r : List ℕ) (g : ℤ) (needed : Bool) where
 
     module _ {d : State} (e₁ : o₁ ≡ step.Done d) {m₂ : Lent} {o₂ : StepResult} (w₂ : Tries (propagates l r) m₁ m₂ d o₂) where
       pub after-known : Last o₂ → (k : List ℕ) → Working (after g needed l r) m₀ m₂ c (tried o₂ m₂ k)
-      after-known z k = regrouped (else-tries (conflicts-goes l r) (done-is e₁ w₁) (else-last (tiles l r orElse (clashes l r orElse splits g needed l r)) z w₂) .is k)
+      after-known z k = regrouped (else-tries (conflicts-rises l r) w₁ e₁ (else-last (tiles l r orElse (clashes l r orElse splits g needed l r)) z w₂) .is k)
 
       module _ {e : State} (e₂ : o₂ ≡ step.Done e) {m₃ : Lent} {o₃ : StepResult} (w₃ : Tries (tiles l r) m₂ m₃ e o₃) where
         pub after-tiled : Last o₃ → (k : List ℕ) → Working (after g needed l r) m₀ m₃ c (tried o₃ m₃ k)
         after-tiled z k =
-            regrouped (else-tries (conflicts-goes l r) (done-is e₁ w₁) (else-tries (propagates-goes l r) (done-is e₂ w₂)
+            regrouped (else-tries (conflicts-rises l r) w₁ e₁ (else-tries (propagates-rises l r) w₂ e₂
             (else-last (clashes l r orElse splits g needed l r) z w₃)) .is k)
 
         -- the guard is handed on as its bits are read
         pub after-split : {h : ℤ} → h ≡ g → {f : State} {m₄ : Lent} {o : Out (Option Answer)} → o₃ ≡ step.Done f → Working (clashes l r orElse splits h needed l r) m₃ m₄ f o → Working (after g needed l r) m₀ m₄ c o
         after-split q {f} {m₄} {o} e₃ v =
-            regrouped (else-works (conflicts-goes l r) (done-is e₁ w₁) (else-works (propagates-goes l r) (done-is e₂ w₂) (else-works (tiles-goes l r) (done-is e₃ w₃)
+            regrouped (else-works (conflicts-rises l r) w₁ e₁ (else-works (propagates-rises l r) w₂ e₂ (else-works (tiles-rises l r) w₃ e₃
             (subst (λ (z : ℤ). Working (clashes l r orElse splits z needed l r) m₃ m₄ f o) q v))))
 
 -- STEP 1 FIRST

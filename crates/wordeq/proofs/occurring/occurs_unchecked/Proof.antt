@@ -1,5 +1,5 @@
 use Rattle.wordeq.specs.Wordeq.{occurs}
-use Rattle.wordeq.proofs.Refines.Trying.{lined, passed-on, goes-flip, lone-goes, last-of, else-last, else-tries, done-is}
+use Rattle.wordeq.proofs.Refines.Trying.{passed-on, occurs-rises, last-of, else-last, else-tries}
 use borrow.Author.Needs.{needs}
 use Rattle.wordeq.proofs.occurring.occurs_unchecked.Statement.{statement}
 use Rattle.wordeq.proofs.occurring.occurs_unchecked.Tie as tie
@@ -24,9 +24,9 @@ occurs-in-requires-2 c κs =
     let at-o = c .before .before in
     let at-occurs-in = at-o .before .before .before .before in
     let at-start = at-occurs-in .before .before .before .before .before .before .before .before .before in
-    let x = passed-on (goes-flip (lone-goes (at-start .args .lhs .now) (at-start .args .rhs .now))) (at-occurs-in .occurs-in .ensures) (at-o .o .given .1)
-    (lined (at-start .pre .0) (record { left = at-start .pre .1 .right; right = at-start .pre .1 .left })) in
-    (x .ready, x .lists)
+    let x = passed-on (occurs-rises (at-start .args .lhs .now) (at-start .args .rhs .now)) (at-occurs-in .occurs-in .ensures) (at-o .o .given .1)
+    (at-start .pre .1) in
+    (x .ready, record { left = x .lists .right; right = x .lists .left })
 
 same-length-2 : tie.Need-same-length-2
 same-length-2 c = search needs
@@ -36,7 +36,7 @@ returns-2 c =
     let at-o = c .before .before .before .before .before in
     let at-occurs-in = at-o .before .before .before .before in
     let at-start = at-occurs-in .before .before .before .before .before .before .before .before .before in
-    else-tries (lone-goes (at-start .args .lhs .now) (at-start .args .rhs .now)) (done-is (at-o .o .given .1) (at-occurs-in .occurs-in .ensures)) (c .before .before .occurs-in2 .ensures)
+    else-tries (occurs-rises (at-start .args .lhs .now) (at-start .args .rhs .now)) (at-occurs-in .occurs-in .ensures) (at-o .o .given .1) (c .before .before .occurs-in2 .ensures)
 
 pub occurs-unchecked-spec : {M : Type 1} → statement M
 occurs-unchecked-spec =

@@ -1,5 +1,5 @@
 use Rattle.records.proofs.Sequence.{grows-constant}
-use Rattle.wordeq.proofs.Refines.Leaving.{made-ready, string-stays}
+use Rattle.wordeq.proofs.Refines.Leaving.{made-ready, made-stays}
 use Rattle.wordeq.proofs.Refines.SplitAtoms.{one-character, character-string, character-done, character-stop}
 use borrow.Author.Needs.{needs}
 use Rattle.wordeq.proofs.splits.character_unchecked.Statement.{statement}
@@ -22,7 +22,7 @@ character-unchecked-spec =
     let at-start = at-make-constant-unchecked .before .before .before .before .before .before .before .before .before .before in (
       made-ready (at-head .head .given .1) (at-make-constant-unchecked .make-constant-unchecked .ensures),
       (
-        string-stays (grows-constant _) (at-head .head .given .1) (at-make-constant-unchecked .make-constant-unchecked .ensures) _ (at-start .pre .1 .0),
+        made-stays (grows-constant _) (at-head .head .given .1) (at-make-constant-unchecked .make-constant-unchecked .ensures) _ (at-start .pre .1 .0),
         character-string _ (at-start .pre .0) (at-start .pre .1 .1) (at-make-constant-unchecked .make-constant-unchecked .ensures) (at-head .head .given .1),
       ),
     ))

@@ -1,5 +1,5 @@
 use Rattle.records.proofs.Sequence.{grows-length}
-use Rattle.wordeq.proofs.Refines.Leaving.{made-ready, string-stays}
+use Rattle.wordeq.proofs.Refines.Leaving.{made-ready, made-stays}
 use Rattle.wordeq.proofs.Refines.SplitAtoms.{lengths-sides, lengths-done, lengths-stop, lengths-stop-2}
 use borrow.Author.Needs.{needs}
 use Rattle.wordeq.proofs.splits.lengths_unchecked.Statement.{statement}
@@ -18,7 +18,7 @@ lengths-unchecked-spec =
     let at-make-length-unchecked = c .before .before .before .before .before .before in
     let at-start = at-make-length-unchecked .before .before .before .before .before .before .before in (
       made-ready (c .before .before .left .given .1) (at-make-length-unchecked .make-length-unchecked .ensures),
-      string-stays (grows-length _) (c .before .before .left .given .1) (at-make-length-unchecked .make-length-unchecked .ensures) _ (at-start .pre .1 .1),
+      made-stays (grows-length _) (c .before .before .left .given .1) (at-make-length-unchecked .make-length-unchecked .ensures) _ (at-start .pre .1 .1),
     ))
     -- enum-known-right
     (λ c. search needs)

@@ -1,4 +1,4 @@
-use Rattle.wordeq.proofs.Refines.Leaving.{made-ready, string-stays}
+use Rattle.wordeq.proofs.Refines.Leaving.{made-ready, made-stays}
 use Rattle.wordeq.proofs.Refines.SplitAtoms.{grows-prefix, prefixes-done, prefixes-stop, prefixes-stop-2}
 use lib.ListN.{length-set}
 use native.Mathlib.Omega.{arith}
@@ -21,8 +21,8 @@ put-prefixes-spec =
     let at-start = at-prefix-unchecked .before .before .before .before .before .before .before .before .before .before in (
       made-ready (at-first .first .given .1) (at-prefix-unchecked .prefix-unchecked .ensures),
       (
-        string-stays (grows-prefix _ _) (at-first .first .given .1) (at-prefix-unchecked .prefix-unchecked .ensures) _ (at-start .pre .1 .1 .0),
-        string-stays (grows-prefix _ _) (at-first .first .given .1) (at-prefix-unchecked .prefix-unchecked .ensures) _ (at-start .pre .1 .0),
+        made-stays (grows-prefix _ _) (at-first .first .given .1) (at-prefix-unchecked .prefix-unchecked .ensures) _ (at-start .pre .1 .1 .0),
+        made-stays (grows-prefix _ _) (at-first .first .given .1) (at-prefix-unchecked .prefix-unchecked .ensures) _ (at-start .pre .1 .0),
       ),
     ))
     -- enum-known-second

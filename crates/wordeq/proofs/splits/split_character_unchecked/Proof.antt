@@ -1,4 +1,4 @@
-use Rattle.wordeq.proofs.Refines.Leaving.{made-ready, string-stays}
+use Rattle.wordeq.proofs.Refines.Leaving.{made-ready, made-stays}
 use Rattle.wordeq.proofs.Refines.SplitAtoms.{grows-empty, characters-done, characters-stop, characters-stop-2}
 use lib.ListN.{length-set}
 use native.Mathlib.Omega.{arith}
@@ -20,7 +20,7 @@ split-character-unchecked-spec =
     let at-empty-unchecked = at-first .before .before .before .before .before .before in
     let at-start = at-empty-unchecked .before .before .before .before .before .before .before .before .before .before in (
       made-ready (at-first .first .given .1) (at-empty-unchecked .empty-unchecked .ensures),
-      (string-stays (grows-empty _) (at-first .first .given .1) (at-empty-unchecked .empty-unchecked .ensures) _ (at-start .pre .1 .0), at-start .pre .1 .1 .0),
+      (made-stays (grows-empty _) (at-first .first .given .1) (at-empty-unchecked .empty-unchecked .ensures) _ (at-start .pre .1 .0), at-start .pre .1 .1 .0),
     ))
     -- enum-known-second
     (λ c. search needs)

@@ -1,4 +1,4 @@
-use Rattle.wordeq.proofs.Refines.Leaving.{made-ready, string-stays}
+use Rattle.wordeq.proofs.Refines.Leaving.{made-ready, made-stays}
 use Rattle.wordeq.proofs.Refines.SplitAtoms.{grows-lengths, heads-done, heads-stop}
 use borrow.Author.Needs.{needs}
 use Rattle.wordeq.proofs.splits.split_heads_unchecked.Statement.{statement}
@@ -19,8 +19,8 @@ split-heads-unchecked-spec =
     let at-start = at-lengths-unchecked .before .before .before .before .before .before .before .before .before .before in (
       made-ready (at-lengths .lengths .given .1) (at-lengths-unchecked .lengths-unchecked .ensures),
       (
-        string-stays (grows-lengths _ _) (at-lengths .lengths .given .1) (at-lengths-unchecked .lengths-unchecked .ensures) _ (at-start .pre .1 .0),
-        (string-stays (grows-lengths _ _) (at-lengths .lengths .given .1) (at-lengths-unchecked .lengths-unchecked .ensures) _ (at-start .pre .1 .1 .0), at-start .pre .1 .1 .1),
+        made-stays (grows-lengths _ _) (at-lengths .lengths .given .1) (at-lengths-unchecked .lengths-unchecked .ensures) _ (at-start .pre .1 .0),
+        (made-stays (grows-lengths _ _) (at-lengths .lengths .given .1) (at-lengths-unchecked .lengths-unchecked .ensures) _ (at-start .pre .1 .1 .0), at-start .pre .1 .1 .1),
       ),
     ))
     -- enum-known-lengths-2
