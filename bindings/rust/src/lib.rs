@@ -537,7 +537,7 @@ impl Store {
     /// then same tails are stripped; lists of another form are refused. Nothing is written.
     ///
     /// With a rest above 0 or a shortage [`Store::resolve_equation`] answers Conflict on the same lists, or Saturated where it flattened, unless
-    /// the reasons are full.
+    /// the reasons are full: no texts fit under the reasons that the Conflict names, and without them some may.
     ///
     /// ```
     /// use labels::{Fit, Refusal, Span};

@@ -75,7 +75,7 @@ fn are_variables(terms: &[u32], c: State, l: &[u32]) -> bool
 }
 
 // An empty side against two or more variables.
-pub fn is_emptied(terms: &[u32], c: State, l: &[u32], r: &[u32]) -> bool
+pub fn is_emptied_unchecked(terms: &[u32], c: State, l: &[u32], r: &[u32]) -> bool
     ensures { λ b. ⌜ b ≡ emptied (termed (now (terms .entry)) c) (now (l .entry)) (now (r .entry)) ⌝ }
 {
     if l.len() != 0 {
@@ -183,10 +183,10 @@ pub(crate) fn propagate_unchecked(
     if is_alias(terms, chars, c, lhs, rhs) {
         return StepResult::Propagate(c, lhs[0], rhs[0], false);
     }
-    if is_emptied(terms, c, lhs, rhs) {
+    if is_emptied_unchecked(terms, c, lhs, rhs) {
         return empties_unchecked(terms, cells, chars, reasons, keys, c, rhs);
     }
-    if is_emptied(terms, c, rhs, lhs) {
+    if is_emptied_unchecked(terms, c, rhs, lhs) {
         return empties_unchecked(terms, cells, chars, reasons, keys, c, lhs);
     }
     if is_assigned(terms, c, lhs, rhs) {

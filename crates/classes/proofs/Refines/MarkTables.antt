@@ -4,19 +4,17 @@ use mathlib.Core.Bool.{Bool, true, false, not, _&&_}
 use mathlib.Core.List.{List, [], _∷_, _++_}
 use mathlib.Core.Logic.{_⊎_, inl, inr}
 use mathlib.Core.Option.{Option, none, some}
-use Prim.Native.Nat.{ℕ, zero, suc, _+_, _-_, _*_, _<_, _≤_}
+use Prim.Native.Nat.{ℕ, suc, _+_, _-_, _*_, _<_, _≤_}
 use native.Mathlib.Omega.{arith}
 use native.Mathlib.Nat.{eq-or-lt-of-le}
 use lib.ListN.{length, getD, set, drop, length-set}
 use lib.Seq.{getD-set-same, getD-set-other, drop-append-le, drop-append-seam, drop-length}
-use lib.Dec.{ltb, leb}
 use borrow.Author.Tests.{not-true, not-false}
 use Rattle.records.specs.declared.State.{State}
 use Rattle.records.specs.Lists.{all, table, firsts, Every}
-use Rattle.records.specs.Store.{Term, Cell, Store, termIn, term, kind, chain, parts, within, classUp}
+use Rattle.records.specs.Store.{Term, Store, termIn, term, kind, chain, within, classUp}
 use Rattle.records.specs.View.{Lent, storeOf, termAt, termsView, termWords, termLimit, chained, termed}
-use Rattle.records.specs.Make.{withTerms, withCells}
-use Rattle.records.specs.Rules.{classesRule, congruencesRule, parentsRule, endsRule, alikeRule, aloneRule, labelRule, congruenceRule, pairsOf, fallsRule}
+use Rattle.records.specs.Rules.{classesRule, congruencesRule}
 use Rattle.records.specs.Working.Audited.{Closed, Classed, Congruable}
 use Rattle.records.proofs.Lists.{and-stop, and-next, right-false, right-true, failed, passed, all-append, table-same, table-length, table-suc, table-add}
 use Rattle.records.proofs.Climbs.{view-count}
@@ -24,8 +22,9 @@ use Rattle.records.proofs.Passed.{classed-of}
 use Rattle.classes.specs.declared.Standing.{Standing}
 use Rattle.classes.specs.Joins.{Trace}
 use Rattle.classes.specs.Marks.{Trail, joinLimit, traceAt, trailOf, undoAll, tableAt, countsRule, passes, marksRule}
-use Rattle.classes.specs.Working.Carries.{Forest, Becomes, Tabled, Undoes, Markable, Copied}
+use Rattle.classes.specs.Working.Carries.{Forest, Undoes, Markable, Copied}
 use Rattle.classes.proofs.Alike.{Like}
+use Rattle.classes.proofs.Marking.{classes-alone, passes-alone}
 use Rattle.classes.proofs.Undone.{undo-append, undone-stays}
 use Rattle.classes.proofs.Refines.Trails.{Came, undoes-some, undoes-none}
 use Rattle.classes.proofs.Refines.Counting.{counts-step}
@@ -62,21 +61,6 @@ module _ {l k : List ℕ} {n i : ℕ} (c : Copying l k n i) where
           let a5 = c .words (8 * suc t + 5) (omega arith) in
           let a6 = c .words (8 * suc t + 6) (omega arith) in
           let a7 = c .words (8 * suc t + 7) (omega arith) in cc
-
--- WHAT THE RULES READ
-
--- refusals 3 and 4 read the terms and the cells alone
-pub classes-alone : (ts : List Term) (s s′ : Store) → classesRule (withTerms s′ ts) ≡ classesRule (withTerms s ts)
-unfolding classesRule parentsRule endsRule alikeRule labelRule aloneRule
-classes-alone ts s s′ = refl
-
-pub congruences-alone : (ts : List Term) (s s′ : Store) → s′ .cells ≡ s .cells → congruencesRule (withTerms s′ ts) ≡ congruencesRule (withTerms s ts)
-unfolding congruencesRule congruenceRule pairsOf fallsRule
-congruences-alone ts s s′ e = ap (λ (cs : List Cell). congruencesRule (withTerms (withCells s cs) ts)) e
-
-pub passes-alone : (o : Option (List Term)) (s s′ : Store) → s′ .cells ≡ s .cells → passes s′ o ≡ passes s o
-passes-alone none s s′ e = refl
-passes-alone (some ts) s s′ e = let p = classes-alone ts s s′ in let q = congruences-alone ts s s′ e in cc
 
 -- ONE TABLE
 

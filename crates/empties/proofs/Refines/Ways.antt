@@ -6,7 +6,6 @@ use Prim.Native.Nat.{ℕ, zero, suc, _≤_, _<_}
 use native.Mathlib.Omega.{arith}
 use lib.ListN.{length, take, getD}
 use lib.Seq.{take-suc}
-use lib.Dec.{ltb}
 use borrow.Author.Tests.{not-false}
 use Rattle.records.specs.declared.State.{State}
 use Rattle.records.specs.declared.Made.{Made}
@@ -25,6 +24,7 @@ use Rattle.records.proofs.Passed.{ready-after}
 use Rattle.records.proofs.Grown.{grown-string}
 use Rattle.records.proofs.Kept.{MadeIn, made-string, constant-kept}
 use Rattle.records.proofs.ListLaws.{list-short, list-strings}
+use Rattle.records.proofs.Works.{stop-not}
 use Rattle.records.proofs.Sequence.{made-is, made-stops}
 use Rattle.normalize.specs.Normalize.{flatten}
 use Rattle.normalize.specs.Calls.{firstWords}
@@ -32,12 +32,13 @@ use Rattle.normalize.proofs.ListCalls.{listed-short, listed-unready, listed-unf
 use Rattle.wordeq.specs.Calls.{equalArguments}
 use Rattle.wordeq.specs.Working.Results.{BothLists}
 use Rattle.wordeq.specs.Working.Stripping.{Readable}
-use Rattle.empties.specs.Empties.{emptyAgainst, unmet, Parts, partsOf, emptied, sides, emptyParts}
+use Rattle.empties.specs.Empties.{emptyAgainst, unmet, Parts, linked, partsOf, emptied, sides, emptyParts}
 use Rattle.empties.specs.Repeats.{Repeats}
 use Rattle.empties.specs.Calls.{PublicEmpties}
 use Rattle.empties.specs.Working.Listing.{Starts}
 use Rattle.normalize.proofs.Atoms.{every-of}
 use Rattle.empties.proofs.Unmet.{Agree, unmet-agree}
+use Rattle.empties.proofs.Listed.{listed-worth}
 use Rattle.empties.proofs.Repeating.{repeats}
 use Rattle.empties.proofs.Given.{parts-stops}
 
@@ -63,11 +64,11 @@ module _ {m m₁ : Lent} {c : State} {x : Made} (l : List ℕ) (w : Working (mak
     there = unmet-agree {P = λ u. Unit {0}} (storeOf m₁ d) (readIn (m₁ .terms) (m₁ .chars) d) (t ∷ []) (t ∷ []) l (every-of l (λ u. tt)) (record { same = λ u i. refl; others = λ u v i j f g. refl })
 
     pub empties-done : {list : List ℕ} {n : ℕ} → Starts list n (unmet (readIn (m₁ .terms) (m₁ .chars) d) (t ∷ []) l)
-        → Working (emptied l) m m₁ c (ok (storeOf m₁ d) (record { empty = t; listed = firstWords list n; link = ltb 0 n }))
+        → Working (emptied l) m m₁ c (ok (storeOf m₁ d) (record { empty = t; listed = firstWords list n; link = linked n }))
     unfolding emptied
     empties-done {list} {n} s = record {
       says = ap (andThen (onward l)) (made-is e w .says) ∙ ap (λ (u : List ℕ). ok (storeOf m₁ d) (partsOf t u)) (there ∙ sym (s .words) ∙ sym (words-taken list n (s .fits)))
-          ∙ ap (λ (k : ℕ). ok (storeOf m₁ d) (record { empty = t; listed = firstWords list n; link = ltb 0 k })) (table-length (λ i. getD list i 0) n);
+          ∙ ap (λ (k : ℕ). ok (storeOf m₁ d) (record { empty = t; listed = firstWords list n; link = linked k })) (table-length (λ i. getD list i 0) n);
       kept = w .kept;
     }
 
@@ -126,15 +127,15 @@ module _ (l r : List ℕ) (m : Lent) (c : State) (k : List ℕ) where
   idle h f = absurd (f _ refl h)
 
   pub parts-short : length k < listLimit → PublicEmpties l r m m k k c (stop 1)
-  parts-short h = record { is = listed-short (equalArguments l r) (emptyParts l r) m c k h; worth = λ f. idle (omega arith) f }
+  parts-short h = record { is = listed-short (equalArguments l r) (emptyParts l r) m c k h; repeats = λ f. idle (omega arith) f; worth = λ s′ x e. stop-not e }
 
   module _ (h : listLimit ≤ length k) (j : ℕ) (v : j ≡ audit m c) where
     pub parts-unready : (j ≡ 0 → ⊥) → PublicEmpties l r m m k k c (stop j)
-    parts-unready d = record { is = listed-unready (equalArguments l r) (emptyParts l r) m c k h j v d; worth = λ f. idle (let a = audit-low m c in omega arith) f }
+    parts-unready d = record { is = listed-unready (equalArguments l r) (emptyParts l r) m c k h j v d; repeats = λ f. idle (let a = audit-low m c in omega arith) f; worth = λ s′ x e. stop-not e }
 
     module _ (z : j ≡ 0) (b : Bool) (i : b ≡ equalArguments l r (storeOf m c)) where
       pub parts-unfit : not b ≡ true → PublicEmpties l r m m k k c (stop 5)
-      parts-unfit f = record { is = listed-unfit (equalArguments l r) (emptyParts l r) m c k h j v z b i f; worth = λ g. idle (omega arith) g }
+      parts-unfit f = record { is = listed-unfit (equalArguments l r) (emptyParts l r) m c k h j v z b i f; repeats = λ g. idle (omega arith) g; worth = λ s′ x e. stop-not e }
 
       module _ (f : not b ≡ false) where
         fit : equalArguments l r (storeOf m c) ≡ true
@@ -149,5 +150,6 @@ module _ (l r : List ℕ) (m : Lent) (c : State) (k : List ℕ) where
         pub parts-called : {m′ : Lent} {k′ : List ℕ} {o : Out Parts} → Working (emptyParts l r) m m′ c o → PublicEmpties l r m m′ k k′ c o
         parts-called w = record {
           is = listed-works (equalArguments l r) (emptyParts l r) m c k h j v z b i f (parts-stops l r (storeOf m c)) w;
-          worth = λ q. subst (Repeats (storeOf m c) l r) (w .says) (repeats l r (storeOf m c) (parts-ready .audited) (parts-lists .left) (parts-lists .right));
+          repeats = λ q. subst (Repeats (storeOf m c) l r) (w .says) (repeats l r (storeOf m c) (parts-ready .audited) (parts-lists .left) (parts-lists .right));
+          worth = λ s′ x e. listed-worth l r (storeOf m c) s′ x (parts-ready .audited) (w .says ∙ e);
         }

@@ -1,0 +1,6 @@
+mod Events
+mod Appended
+mod Generating
+mod Worlds
+mod Olds
+mod Beginning

@@ -1,0 +1,4 @@
+// One theorem over every list of calls.
+pub struct Every {
+    pub lists: u32,
+}
