@@ -22,17 +22,12 @@ use Rattle.records.proofs.Views.{term-is}
 use Rattle.records.proofs.Counts.{Higher, higher-below}
 use Rattle.records.proofs.Climbs.{string-within}
 use Rattle.records.proofs.Works.{via}
-use Rattle.records.proofs.Passed.{ready-as}
 use Rattle.records.proofs.Doing.{working-at}
 use Rattle.records.proofs.Sequence.{Grows}
 use Rattle.records.proofs.ListLaws.{list-every}
 
 pub one-store : {A : Type 0} {s s′ : Store} {a b : A} → ok s a ≡ ok s′ b → s ≡ s′
 one-store e = cc
-
--- slices that are ready for the counts answered
-pub working-done : {A : Type 0} {w : Work A} {m m′ : Lent} {c d : State} {a : A} → Ready m′ d → w (storeOf m c) ≡ ok (storeOf m′ d) a → KeepsStore m m′ c → Working w m m′ c (ok (storeOf m′ d) a)
-working-done r e k = record { says = e; kept = k; ready = λ d′ x q. ready-as r (sym (one-store q)) }
 
 -- work and then an answer, which leaves the store as it is
 module _ {A B : Type 0} (f : A → Work B) (idle : (a : A) (s s′ : Store) (b : B) → f a s ≡ ok s′ b → s ≡ s′) where

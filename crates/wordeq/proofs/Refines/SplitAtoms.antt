@@ -29,7 +29,8 @@ use Rattle.wordeq.specs.Working.Splits.{prefixAtom, emptyAtom, character
 use Rattle.wordeq.specs.Working.Heads.{atomsBy, atomsOf}
 use Rattle.wordeq.proofs.Counted.{equatable-strings, equatable-lengths, characterThen, headsThen}
 use Rattle.records.proofs.Sequence.{Grows, grows-then, grows-constant, grows-variable, grows-concat, grows-length, grows-equation, grows-give, grows-name, working-then, working-stop, made-is, made-then, made-stop}
-use Rattle.wordeq.proofs.Refines.Leaving.{working-done, made-ready, made-stays}
+use Rattle.normalize.proofs.Carried.{working-left}
+use Rattle.wordeq.proofs.Refines.Leaving.{made-ready, made-stays}
 
 -- A FRESH VARIABLE
 
@@ -42,7 +43,7 @@ module _ {m : Lent} {c : State} (r : Named) (x : Taken m c r) where
   answered b = if b then ok (storeOf m (r .state)) (take (r .len) (r .name)) else stop (r .code)
 
   taken-zero : r .code ≡ 0 → Working takeName m m c (ok (storeOf m (r .state)) (take (r .len) (r .name)))
-  taken-zero e = working-done (x .ready) (x .says ∙ ap answered (eq-eqb (r .code) 0 e)) refl
+  taken-zero e = working-left (x .ready) (x .says ∙ ap answered (eq-eqb (r .code) 0 e)) refl
 
   pub named-stop : (r .code ≡ 0 → ⊥) → Working freshVariable m m c (stop (r .code))
   unfolding freshVariable

@@ -29,7 +29,8 @@ use Rattle.wordeq.specs.Calls.{resolved}
 use Rattle.wordeq.specs.Working.Sides.{Spelled}
 use Rattle.wordeq.specs.Working.Heads.{HeadsApart}
 use Rattle.wordeq.specs.Working.Stripping.{part, stripped, Inside, Needed, Strips}
-use Rattle.wordeq.proofs.Refines.Leaving.{one-store, working-done, working-answer}
+use Rattle.normalize.proofs.Carried.{working-left}
+use Rattle.wordeq.proofs.Refines.Leaving.{one-store, working-answer}
 use Rattle.wordeq.proofs.Refines.LackingTries.{constants-need, constants-conflict, constants-pass}
 use Rattle.wordeq.proofs.Strip.{strip-ends}
 use Rattle.wordeq.proofs.Strip as strip
@@ -144,7 +145,7 @@ module _ (g : ℤ) (l r : List ℕ) {m m₁ : Lent} {c : State} {y : Stripped} (
     counted z = subst (λ (o : Stripped). Needed m c l r o) j (w .needs) .is z
 
     pub steps-bare : (b : Bool) → b ≡ isBare (part l i p) (part r i q) → b ≡ true → (k : List ℕ) → Working (steps g l r) m m₁ c (resolved (step.Done d) m₁ k)
-    steps-bare b e z k = working-done parts-ready (opened ∙ ap (λ (x : Bool). rest x asked) (sym e ∙ z)) (w .is .kept)
+    steps-bare b e z k = working-left parts-ready (opened ∙ ap (λ (x : Bool). rest x asked) (sym e ∙ z)) (w .is .kept)
 
     module _ (x : Lined l r m c) where
       off : strip.Stripped l r (storeOf m c) (storeOf m₁ d) (part l i p, part r i q)

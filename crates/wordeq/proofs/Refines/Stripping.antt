@@ -25,7 +25,8 @@ use Rattle.wordeq.specs.declared.Stripped.the-variants.{Parts, Refused}
 use Rattle.wordeq.specs.Wordeq.{same, sameHeads, sameTails, matches, inner, rest, explainMatch, explainMatches, needsReason, isBare, strip}
 use Rattle.wordeq.specs.Working.Stripping.{Pair, part, Finds, Strips, Needs, Asked}
 use Rattle.wordeq.proofs.Strip.{plainly, same-class, match-ends, matches-append, matches-end, off-heads, every-back, Match}
-use Rattle.wordeq.proofs.Refines.Leaving.{working-done, added-at, added-ready}
+use Rattle.normalize.proofs.Carried.{working-left}
+use Rattle.wordeq.proofs.Refines.Leaving.{added-at, added-ready}
 use Rattle.wordeq.proofs.Refines.Going.{Going, going-pair, going-same, kept-down}
 use Rattle.wordeq.proofs.Refines.Turning.{Turning, turning-none, turning-end, turning-refused, turning-on}
 use Rattle.records.specs.declared.Added.{Added as Answered}
@@ -480,7 +481,7 @@ module _ (t e h ks l r : List ℕ) {c : State} {rs rs₁ : List ℕ} (x : Rest) 
   pub strip-parts : (d : State) → y ≡ adding.Counts d → (b : Bool) → Asked (lent t e h rs ks) c l r (x .from) (x .lhs) (x .rhs) b → Strips (lent t e h rs ks) (lent t e h rs₁ ks) c l r (Parts d (x .from) (x .lhs) (x .rhs) b)
   unfolding strip
   strip-parts d j b a = record {
-    is = working-done (added-ready j w)
+    is = working-left (added-ready j w)
         (rw (explained (ok (storeOf (lent t e h rs₁ ks) d) tt) (ap (λ (o : Answered). added o (lent t e h rs₁ ks)) j)) (ap (ok (storeOf (lent t e h rs₁ ks) d)) (rest-by entry (readIn t h c) (same-read t e h ks rs c) l r ∙ f .is)))
         (w .kept);
     inside = f .inside;

@@ -13,7 +13,8 @@ use Rattle.records.specs.Calls.{added}
 use Rattle.records.specs.Working.Doing.{Working}
 use Rattle.records.proofs.Doing.{working-stopped}
 use Rattle.wordeq.proofs.Cited.{Cited}
-use Rattle.wordeq.proofs.Refines.Leaving.{working-done, added-at, added-ready}
+use Rattle.normalize.proofs.Carried.{working-left}
+use Rattle.wordeq.proofs.Refines.Leaving.{added-at, added-ready}
 use Rattle.wordeq.proofs.Refines.Going.{Going, going-none, going-then, kept-down}
 
 -- the work that is left after i turns
@@ -30,7 +31,7 @@ module _ (t e h ks : List ℕ) (left : ℕ → Work (Unit {0})) where
 
   module _ {c d : State} {rs rs₁ : List ℕ} {i : ℕ} (g : Turning c rs d rs₁ i) where
     pub turning-end : left i (storeOf (at rs₁) d) ≡ ok (storeOf (at rs₁) d) tt → Working (left 0) (at rs) (at rs₁) c (added (adding.Counts d) (at rs₁))
-    turning-end z = working-done (g .going .ready) (sym (g .rest) ∙ z) (g .going .kept)
+    turning-end z = working-left (g .going .ready) (sym (g .rest) ∙ z) (g .going .kept)
 
     -- the work of turn i
     module _ (one : Work (Unit {0})) (next : left i (storeOf (at rs₁) d) ≡ andThen (λ u. left (i + 1)) (one (storeOf (at rs₁) d)))
