@@ -1,4 +1,4 @@
--- Work that leaves the slices and counts that other work left, and answers something else.
+-- What work leaves to the next: slices that are ready for the counts it answers, and string terms that stay.
 use mathlib.Core.Path.{_≡_, refl, sym, ap, _∙_}
 use mathlib.Core.Bool.{true}
 use mathlib.Core.List.{List}

@@ -61,7 +61,10 @@ pub resolve-closed : (m : Lent) (c : State) (l r : List ℕ) (g : ℤ) → Ready
 resolve-closed m c l r g ready lists f {m′} k o w x i =
     works ready (resolve-kept l r g (storeOf m c) (ready .audited) (list-strings (storeOf m c) l (lists .left)) (list-strings (storeOf m c) r (lists .right)))
     (record {
-      says = resolve-is l r g (storeOf m c) ∙ ap (andThen (closed (pairsView (m .reasons) (c .reasons)))) (ap (λ (y : ℤ). ran l r y (storeOf m c)) (sym (toZ-ofZ w32 g f)) ∙ w .says) ∙ closed-is m m′ c k (w .kept) o ∙ ap (λ (z : StepResult). resolved z m′ k) (sym i);
+      says =
+          resolve-is l r g (storeOf m c)
+          ∙ ap (andThen (closed (pairsView (m .reasons) (c .reasons)))) (ap (λ (y : ℤ). ran l r y (storeOf m c)) (sym (toZ-ofZ w32 g f)) ∙ w .says)
+          ∙ closed-is m m′ c k (w .kept) o ∙ ap (λ (z : StepResult). resolved z m′ k) (sym i);
       kept = w .kept;
     })
 

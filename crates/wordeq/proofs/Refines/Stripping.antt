@@ -11,13 +11,13 @@ use borrow.Author.Tests.{not-true, not-false, eq-eqb, ne-eqb}
 use Rattle.records.specs.declared.State.{State}
 use Rattle.records.specs.declared.Added.the-variants as adding
 use Rattle.records.specs.Lists.{all, any}
-use Rattle.records.specs.Store.{Store, Out, ok, stop, Work, andThen, isConstant, isString}
+use Rattle.records.specs.Store.{Store, Out, ok, Work, andThen, give, isConstant, isString}
 use Rattle.records.specs.View.{Lent, lent, storeOf, readIn}
 use Rattle.records.specs.Working.Audited.{Ready}
 use Rattle.records.specs.Calls.{added}
 use Rattle.records.specs.Working.Doing.{Working}
 use Rattle.records.proofs.Lists.{both-true, all-every, every-at, any-append, or-left, clash}
-use Rattle.records.proofs.Doing.{working-same, working-stopped, working-is}
+use Rattle.records.proofs.Doing.{working-same, working-stopped, working-at, working-is}
 use Rattle.records.proofs.Grown.{Strings}
 use Rattle.engine.specs.Explain.{explain, explainArguments, isReasoned}
 use Rattle.wordeq.specs.declared.Rest.{Rest}
@@ -25,8 +25,7 @@ use Rattle.wordeq.specs.declared.Stripped.the-variants.{Parts, Refused}
 use Rattle.wordeq.specs.Wordeq.{same, sameHeads, sameTails, matches, inner, rest, explainMatch, explainMatches, needsReason, isBare, strip}
 use Rattle.wordeq.specs.Working.Stripping.{Pair, part, Finds, Strips, Needs, Asked}
 use Rattle.wordeq.proofs.Strip.{plainly, same-class, match-ends, matches-append, matches-end, off-heads, every-back, Match}
-use Rattle.normalize.proofs.Carried.{working-left}
-use Rattle.wordeq.proofs.Refines.Leaving.{added-at, added-ready}
+use Rattle.wordeq.proofs.Refines.Leaving.{one-store, working-answer, added-at, added-ready}
 use Rattle.wordeq.proofs.Refines.Going.{Going, going-pair, going-same, kept-down}
 use Rattle.wordeq.proofs.Refines.Turning.{Turning, turning-none, turning-end, turning-refused, turning-on}
 use Rattle.records.specs.declared.Added.{Added as Answered}
@@ -471,19 +470,19 @@ module _ (t e h ks l r : List ℕ) {c : State} {rs rs₁ : List ℕ} (x : Rest) 
   abbrev entry : Store
   entry = storeOf (lent t e h rs ks) c
 
-  explained : (o : Out (Unit {0})) → added y (lent t e h rs₁ ks) ≡ o → explainMatches (matches entry l r) entry ≡ o
-  explained o j = ap (λ (m : List (ℕ × ℕ)). explainMatches m entry) (matches-by entry (readIn t h c) (same-read t e h ks rs c) l r) ∙ w .says ∙ j
+  explained : {z : Answered} → y ≡ z → Working (explainMatches (matches entry l r)) (lent t e h rs ks) (lent t e h rs₁ ks) c (added z (lent t e h rs₁ ks))
+  explained j = working-is (ap (λ (m : List (ℕ × ℕ)). explainMatches m entry) (matches-by entry (readIn t h c) (same-read t e h ks rs c) l r)) (added-at j w)
+
+  stripping : {z : Answered} → y ≡ z → Working (strip l r) (lent t e h rs ks) (lent t e h rs₁ ks) c (andThen (λ u. give (rest entry l r)) (added z (lent t e h rs₁ ks)))
+  unfolding strip
+  stripping j = working-is refl (working-answer (λ u. give (rest entry l r)) (λ u s s′ x i. one-store i) (explained j))
 
   pub strip-refused : (k : ℕ) → y ≡ adding.Refused k → Strips (lent t e h rs ks) (lent t e h rs₁ ks) c l r (Refused k)
-  unfolding strip
-  strip-refused k j = record { is = working-stopped (rw (explained (stop k) (ap (λ (o : Answered). added o (lent t e h rs₁ ks)) j))) (w .kept); inside = tt; needs = tt }
+  strip-refused k j = record { is = stripping j; inside = tt; needs = tt }
 
   pub strip-parts : (d : State) → y ≡ adding.Counts d → (b : Bool) → Asked (lent t e h rs ks) c l r (x .from) (x .lhs) (x .rhs) b → Strips (lent t e h rs ks) (lent t e h rs₁ ks) c l r (Parts d (x .from) (x .lhs) (x .rhs) b)
-  unfolding strip
   strip-parts d j b a = record {
-    is = working-left (added-ready j w)
-        (rw (explained (ok (storeOf (lent t e h rs₁ ks) d) tt) (ap (λ (o : Answered). added o (lent t e h rs₁ ks)) j)) (ap (ok (storeOf (lent t e h rs₁ ks) d)) (rest-by entry (readIn t h c) (same-read t e h ks rs c) l r ∙ f .is)))
-        (w .kept);
+    is = working-at (ap (ok (storeOf (lent t e h rs₁ ks) d)) (rest-by entry (readIn t h c) (same-read t e h ks rs c) l r ∙ f .is)) (stripping j);
     inside = f .inside;
     needs = a;
   }
