@@ -38,7 +38,8 @@ propagate-unchecked-spec =
     let at-is-alias = c .before .before .before in
     let at-start = at-is-alias .before .before .before .before .before .before .before .before .before .before in
     choice-alias (lent (at-start .args .terms .now) (at-start .args .cells .now) (at-start .args .chars .now) (at-start .args .reasons .now) (at-start .args .keys .now))
-    (at-start .args .c) (at-start .args .lhs .now) (at-start .args .rhs .now) _ (at-is-alias .is-alias .ensures) (c .before .before .if1 .taken))
+    (at-start .args .c) (at-start .args .lhs .now) (at-start .args .rhs .now) _ (at-is-alias .is-alias .ensures) (at-start .pre .0)
+    (c .before .before .if1 .taken))
     -- is-emptied-unchecked-requires
     (λ c κs. search needs)
     -- empties-unchecked-requires
@@ -201,4 +202,4 @@ propagate-unchecked-spec =
     choice-none (lent (at-start .args .terms .now) (at-start .args .cells .now) (at-start .args .chars .now) (at-start .args .reasons .now) (at-start .args .keys .now))
     (at-start .args .c) (at-start .args .lhs .now) (at-start .args .rhs .now) _ (at-is-alias .is-alias .ensures) (at-if1 .if1 .left) _ (at-is-emptied-unchecked .is-emptied-unchecked .ensures)
     (at-if2 .if2 .left) _ (at-is-emptied-unchecked2 .is-emptied-unchecked2 .ensures) (at-if3 .if3 .left) _ (at-is-assigned .is-assigned .ensures) (at-if4 .if4 .left) _
-    (c .before .is-assigned2 .ensures) (c .if5 .left)))
+    (c .before .is-assigned2 .ensures) (at-start .pre .0) (c .if5 .left)))

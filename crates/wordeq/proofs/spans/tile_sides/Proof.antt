@@ -15,7 +15,7 @@ tile-sides-spec =
     (λ c.
     let at-start = c .before .before .before .before .before .before .before .before .before in
     tile-none (at-start .args .terms .now) (at-start .args .cells .now) (at-start .args .chars .now) (at-start .args .reasons .now) (at-start .args .keys .now)
-    (at-start .args .c) (at-start .args .word .now) (at-start .args .side .now) _ (c .before .first-variable-unchecked .ensures) (c .if1 .taken))
+    (at-start .args .c) (at-start .args .word .now) (at-start .args .side .now) _ (c .before .first-variable-unchecked .ensures) (at-start .pre .0) (c .if1 .taken))
     -- is-unfit-requires
     (λ c κs.
     let at-start = c .before .before .before .before .before .before .before .before .before in (
@@ -36,7 +36,7 @@ tile-sides-spec =
     let at-start = at-first-variable-unchecked .before .before .before .before .before .before .before .before in
     tile-fits (at-start .args .terms .now) (at-start .args .cells .now) (at-start .args .chars .now) (at-start .args .reasons .now) (at-start .args .keys .now)
     (at-start .args .c) (at-start .args .word .now) (at-start .args .side .now) _ (at-first-variable-unchecked .first-variable-unchecked .ensures) (c .before .before .if1 .left) _
-    (c .before .is-unfit .ensures) (c .if2 .taken))
+    (c .before .is-unfit .ensures) (at-start .pre .0) (c .if2 .taken))
     -- add-later
     (λ c. search needs)
     -- mul-later
