@@ -20,6 +20,7 @@ pub mod Tracking
 pub mod Generating
 pub mod AlikeMade
 pub mod MarksLater
+pub mod ReadyMarks
 mod Later
 mod Events
 mod Invariant
