@@ -262,7 +262,20 @@ pub fn join(
     if !can_join(terms, c, a, b, kind, number) {
         return Answer::Refused(5);
     }
-    let r = join_unchecked(terms, cells, chars, reasons, keys, c, marks, d, a, b, kind, number);
+    let r = join_unchecked(
+        terms,
+        cells,
+        chars,
+        reasons,
+        keys,
+        c,
+        marks,
+        d,
+        a,
+        b,
+        kind,
+        number,
+    );
     let e = r.standing;
     Answer::Given(r.answer, e)
 }

@@ -7,52 +7,39 @@ use borrow.Author.Needs.{needs}
 use Rattle.classes.proofs.set_mark.Statement.{statement}
 use Rattle.classes.proofs.set_mark.Tie as tie
 
--- src/lib.rt:283:9
-audit-requires : tie.Need-audit-requires
-audit-requires c κs = search needs
-
--- src/lib.rt:285:9
-same-length : tie.Need-same-length
-same-length c = search needs
-
--- src/lib.rt:285:9
-returns : tie.Need-returns
-returns c = call-audit setMark (lent (c .before .before .before .before .before .before .before .before .before .args .terms .now) (c .before .before .before .before .before .before .before .before .before .args .cells .now) (c .before .before .before .before .before .before .before .before .before .args .chars .now) (c .before .before .before .before .before .before .before .before .before .args .reasons .now) (c .before .before .before .before .before .before .before .before .before .args .keys .now)) (c .before .before .before .before .before .before .before .before .before .args .marks .now) (c .before .before .before .before .before .before .before .before .before .args .c) (c .before .before .before .before .before .before .before .before .before .args .d) _ (c .before .audit .ensures) (c .if1 .taken)
-
--- src/lib.rt:288:9
-same-length-2 : tie.Need-same-length-2
-same-length-2 c = search needs
-
--- src/lib.rt:288:9
-returns-2 : tie.Need-returns-2
-returns-2 c = mark-full (lent (c .before .before .before .before .before .before .before .before .before .before .before .args .terms .now) (c .before .before .before .before .before .before .before .before .before .before .before .args .cells .now) (c .before .before .before .before .before .before .before .before .before .before .before .args .chars .now) (c .before .before .before .before .before .before .before .before .before .before .before .args .reasons .now) (c .before .before .before .before .before .before .before .before .before .before .before .args .keys .now)) (c .before .before .before .before .before .before .before .before .before .before .before .args .marks .now) (c .before .before .before .before .before .before .before .before .before .before .before .args .c) (c .before .before .before .before .before .before .before .before .before .before .before .args .d) (sym (c .before .before .before .audit .ensures) ∙ c .before .before .if1 .left) (c .if2 .taken)
-
--- src/lib.rt:290:9
-set-mark-unchecked-requires : tie.Need-set-mark-unchecked-requires
-set-mark-unchecked-requires c κs = (marks-ready (sym (c .before .before .before .before .audit .ensures) ∙ c .before .before .before .if1 .left), c .before .if2 .left)
-
--- src/lib.rt:291:19
-cast-t16 : tie.Need-cast-t16
-cast-t16 c = search needs
-
--- src/lib.rt:271:1
-same-length-3 : tie.Need-same-length-3
-same-length-3 c = search needs
-
--- src/lib.rt:271:1
-returns-3 : tie.Need-returns-3
-returns-3 c = call-given setMark (sym (c .before .before .before .before .before .before .before .before .audit .ensures) ∙ c .before .before .before .before .before .before .before .if1 .left) (c .before .before .before .set-mark-unchecked .ensures)
-
 pub set-mark-spec : {M : Type 1} → statement M
 set-mark-spec =
     tie.close
     (tie.spec
-    audit-requires
-    same-length
-    returns
-    same-length-2
-    returns-2
-    set-mark-unchecked-requires
-    cast-t16
-    same-length-3
-    returns-3)
+    -- audit-requires
+    (λ c κs. search needs)
+    -- same-length
+    (λ c. search needs)
+    -- returns
+    (λ c.
+    let at-start = c .before .before .before .before .before .before .before .before .before in
+    call-audit setMark (lent (at-start .args .terms .now) (at-start .args .cells .now) (at-start .args .chars .now) (at-start .args .reasons .now) (at-start .args .keys .now))
+    (at-start .args .marks .now) (at-start .args .c) (at-start .args .d) _ (c .before .audit .ensures) (c .if1 .taken))
+    -- same-length-2
+    (λ c. search needs)
+    -- returns-2
+    (λ c.
+    let at-audit = c .before .before .before in
+    let at-start = at-audit .before .before .before .before .before .before .before .before in
+    mark-full (lent (at-start .args .terms .now) (at-start .args .cells .now) (at-start .args .chars .now) (at-start .args .reasons .now) (at-start .args .keys .now))
+    (at-start .args .marks .now) (at-start .args .c) (at-start .args .d) (sym (at-audit .audit .ensures) ∙ c .before .before .if1 .left) (c .if2 .taken))
+    -- set-mark-unchecked-requires
+    (λ c κs.
+    let at-if1 = c .before .before .before in
+    let at-audit = at-if1 .before in
+    (marks-ready (sym (at-audit .audit .ensures) ∙ at-if1 .if1 .left), c .before .if2 .left))
+    -- cast-t16
+    (λ c. search needs)
+    -- same-length-3
+    (λ c. search needs)
+    -- returns-3
+    (λ c.
+    let at-set-mark-unchecked = c .before .before .before in
+    let at-if1 = at-set-mark-unchecked .before .before .before .before in
+    let at-audit = at-if1 .before in
+    call-given setMark (sym (at-audit .audit .ensures) ∙ at-if1 .if1 .left) (at-set-mark-unchecked .set-mark-unchecked .ensures)))

@@ -3,17 +3,11 @@ use borrow.Author.Needs.{needs}
 use Rattle.classes.proofs.set_mark_unchecked.Statement.{statement}
 use Rattle.classes.proofs.set_mark_unchecked.Tie as tie
 
--- src/lib.rt:214:5
-record-mark-unchecked-requires : tie.Need-record-mark-unchecked-requires
-record-mark-unchecked-requires c κs = search needs
-
--- src/lib.rt:200:1
-same-length : tie.Need-same-length
-same-length c = search needs
-
--- src/lib.rt:200:1
-returns : tie.Need-returns
-returns c = mark-done (c .before .before .before .before .before .before .before .before .before .before .pre .0) (c .before .before .before .before .before .before .before .before .before .before .pre .1) (c .before .before .record-mark-unchecked .ensures)
-
 pub set-mark-unchecked-spec : {M : Type 1} → statement M
-set-mark-unchecked-spec = tie.close (tie.spec record-mark-unchecked-requires same-length returns)
+set-mark-unchecked-spec = tie.close (tie.spec
+    -- record-mark-unchecked-requires
+    (λ c κs. search needs)
+    -- same-length
+    (λ c. search needs)
+    -- returns
+    (λ c. let at-start = c .before .before .before .before .before .before .before .before .before .before in mark-done (at-start .pre .0) (at-start .pre .1) (c .before .before .record-mark-unchecked .ensures)))
