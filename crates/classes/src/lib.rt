@@ -214,7 +214,7 @@ pub fn set_mark_unchecked(
     record_mark_unchecked(marks, d)
 }
 
-// Goes back to a mark that stands. Marks that pass lead to a table, so whether there is one need not be asked again.
+// Goes back to a mark that stands. Marks that pass lead to a table, so the answer whether there is one is not looked at.
 pub fn go_back_unchecked(
     terms: &mut [u32],
     cells: &[u32],

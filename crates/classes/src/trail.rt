@@ -76,7 +76,7 @@ pub(crate) fn record_join_unchecked(
 }
 
 // Records a mark.
-pub fn record_mark_unchecked(marks: &mut [u32], d: Standing) -> Standing
+pub(crate) fn record_mark_unchecked(marks: &mut [u32], d: Standing) -> Standing
     requires { ⌜ TrailSized (now marks) d ⌝ ∗ ⌜ d .marks < markLimit ⌝ }
     ensures { λ r. do
       let x = trailOf (now (marks .entry)) d
