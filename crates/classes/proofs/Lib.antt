@@ -19,4 +19,5 @@ pub mod Marking
 pub mod Tracking
 pub mod AlikeMade
 pub mod MarksLater
+pub mod ReadyMarks
 mod Refines
