@@ -18,7 +18,7 @@ use Rattle.empties.specs.Empties.{Parts, emptyParts}
 use Rattle.empties.specs.Meaning.{Becomes}
 use Rattle.empties.specs.Repeats.{Repeats}
 use Rattle.empties.specs.Calls.{listed, PublicEmpties}
-use Rattle.empties.proofs.Given.{parts-kept, parts-few, parts-stops}
+use Rattle.empties.proofs.Given.{parts-later, parts-few, parts-stops}
 use Rattle.capi.specs.Interface.{stateOf, roomy, over, told}
 use Rattle.capi.specs.Equations.{flag}
 use Rattle.capi.specs.Parts.{partsWords, partsRead, ExportedParts}
@@ -30,7 +30,7 @@ use Rattle.capi.proofs.AnswerExports.{flag-back}
 
 parts-tells : (l r : List ℕ) → Tells (equalArguments l r) (emptyParts l r)
 parts-tells l r = record {
-  keeps = λ s s′ x a f e. parts-kept l r s s′ x a e;
+  keeps = λ s s′ x a f e. parts-later l r s s′ x a e .audited;
   stops = λ s n a f e z. let q = parts-stops l r s n e in absurd (omega arith);
 }
 

@@ -25,7 +25,7 @@ use Rattle.records.proofs.Works.{stop-not, via}
 use Rattle.records.proofs.Beside.{audited-beside}
 use Rattle.records.proofs.Passed.{ready-later}
 use Rattle.records.proofs.Doing.{working-stopped, working-is, works}
-use Rattle.records.proofs.ListLaws.{list-every}
+use Rattle.records.proofs.ListLaws.{list-strings}
 use Rattle.records.proofs.Views.{table-is}
 use Rattle.records.proofs.Climbs.{view-term, term-within}
 use Rattle.records.proofs.Grown.{kind-term, grown-string, strings-later}
