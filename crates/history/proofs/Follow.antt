@@ -23,13 +23,15 @@ use Rattle.normalize.specs.Calls.{listCall}
 use Rattle.classes.specs.declared.Standing.{Standing}
 use Rattle.classes.specs.declared.Answer.{Answer}
 use Rattle.classes.specs.declared.Answer.the-variants.{Given, Refused}
-use Rattle.classes.specs.Marks.{Trail, trailOf, trailSizes, marksRule, auditMarks}
+use Rattle.classes.specs.Marks.{Trail, trailOf, marksRule, auditMarks}
 use Rattle.classes.specs.Calls.{Outcome, gives, refuses, tracked, Tracks, joinTerms, setMark, goBack}
 use Rattle.history.specs.History.{Event, World, moved, start}
 use Rattle.history.specs.Calls.{Call, constant, variable, concat, length-of, equation, find-root, explain-pair, form, deep-form, equal, equal-explain, resolve-lists, one-step, empty-parts, forced-length, join, set-mark, go-back, ask, worked, listing, asked, after, run, begin}
 use Rattle.history.specs.Actual.{Memory, Told, given, refused, Called, CalledList, CalledMarks, Asked, standingAfter, Does, Ran, nothing, next, passes, worldOf, Follows, EveryRun}
 use Rattle.history.proofs.Worlds.{Holds}
-use Rattle.history.proofs.Beginning.{Anything, start-any, trail-sized, store-passes, passes-again}
+use Rattle.classes.specs.Working.Carries.{TrailSized}
+use Rattle.classes.proofs.ReadyMarks.{marks-ready, marks-pass}
+use Rattle.history.proofs.Beginning.{Anything, start-any}
 use Rattle.history.proofs.Every.{Goes, goes, asks-nothing}
 
 -- store and trail of a world are those of some words
@@ -41,7 +43,11 @@ pub record Reads (y : Memory) (w : World) : Type 0 where
 record Came (y : Memory) (w : World) : Type 0 where
   reads : Reads y w
   audits : audit (y .slices) (y .counts) ≡ 0
-  sizes : trailSizes (y .marks) (y .standing) ≡ true
+  sizes : TrailSized (y .marks) (y .standing)
+
+-- the same words and counts of marks
+sized-as : {l l′ : List ℕ} {d d′ : Standing} → l′ ≡ l → d′ ≡ d → TrailSized l d → TrailSized l′ d′
+sized-as {l} {l′} {d} e f t = subst (TrailSized l′) (sym f) (subst (λ (k : List ℕ). TrailSized k d) (sym e) t)
 
 -- A CALL OVER THE STORE
 
@@ -53,10 +59,10 @@ module _ {A : Type 0} (x y : Memory) (w : World) (r : Reads x w) (ok-here : pass
   m′ = y .slices
 
   z : audit m (x .counts) ≡ 0
-  z = store-passes m (x .marks) (x .counts) (x .standing) ok-here
+  z = audit-of m (x .counts) (marks-ready ok-here .ready)
 
-  sized : trailSizes (y .marks) (y .standing) ≡ true
-  sized = ap (λ (l : List ℕ). trailSizes l (y .standing)) marks ∙ ap (trailSizes (x .marks)) standing ∙ trail-sized m (x .marks) (x .counts) (x .standing) ok-here
+  sized : TrailSized (y .marks) (y .standing)
+  sized = sized-as marks standing (marks-ready ok-here .trail)
 
   trails : trailOf (y .marks) (y .standing) ≡ w .trail
   trails = ap (λ (l : List ℕ). trailOf l (y .standing)) marks ∙ ap (trailOf (x .marks)) standing ∙ r .trail
@@ -102,8 +108,8 @@ module _ (x y : Memory) (w : World) (r : Reads x w) (ok-here : passes x) (work :
       let a = p .audited n e refl in
       subst (λ (v : Outcome). Came y (moved w f v)) (sym i) (record {
         reads = record { store = ap (storeOf (y .slices)) counts; trail = ap (trailOf (y .marks)) q };
-        audits = subst (λ (c : State). audit (y .slices) c ≡ 0) (sym counts) (store-passes (y .slices) (y .marks) (x .counts) e a);
-        sizes = ap (trailSizes (y .marks)) q ∙ trail-sized (y .slices) (y .marks) (x .counts) e a;
+        audits = subst (λ (c : State). audit (y .slices) c ≡ 0) (sym counts) (audit-of (y .slices) (x .counts) (marks-ready a .ready));
+        sizes = sized-as refl q (marks-ready a .trail);
       })
   marked (Refused k) p q =
       let i : work (w .store) (w .trail) ≡ refuses k = sym tracked-is ∙ sym (p .says) in
@@ -113,8 +119,8 @@ module _ (x y : Memory) (w : World) (r : Reads x w) (ok-here : passes x) (work :
           store = ap (storeOf (y .slices)) counts ∙ ap (λ (m : Lent). storeOf m (x .counts)) (a .0) ∙ r .store;
           trail = ap (trailOf (y .marks)) q ∙ ap (λ (l : List ℕ). trailOf l (x .standing)) (a .1) ∙ r .trail;
         };
-        audits = ap (audit (y .slices)) counts ∙ ap (λ (m : Lent). audit m (x .counts)) (a .0) ∙ store-passes (x .slices) (x .marks) (x .counts) (x .standing) ok-here;
-        sizes = ap (trailSizes (y .marks)) q ∙ ap (λ (l : List ℕ). trailSizes l (x .standing)) (a .1) ∙ trail-sized (x .slices) (x .marks) (x .counts) (x .standing) ok-here;
+        audits = ap (audit (y .slices)) counts ∙ ap (λ (m : Lent). audit m (x .counts)) (a .0) ∙ audit-of (x .slices) (x .counts) (marks-ready ok-here .ready);
+        sizes = sized-as (a .1) q (marks-ready ok-here .trail);
       })
 
 -- THE CALLER'S REASONS
@@ -126,12 +132,12 @@ asks rs x y w r ok-here h a =
     rw e (record {
       reads = record { store = b; trail = ap (λ (l : List ℕ). trailOf l (y .standing)) (a .marks) ∙ ap (trailOf (x .marks)) (a .standing) ∙ r .trail };
       audits = audit-of (y .slices) (y .counts) (asked-ready e);
-      sizes = ap (λ (l : List ℕ). trailSizes l (y .standing)) (a .marks) ∙ ap (trailSizes (x .marks)) (a .standing) ∙ trail-sized (x .slices) (x .marks) (x .counts) (x .standing) ok-here;
+      sizes = sized-as (a .marks) (a .standing) (marks-ready ok-here .trail);
     })
   where
     asked-ready : (all reasonRule rs && leb (length rs) (w .store .room .reasons)) ≡ true → Ready (y .slices) (y .counts)
     asked-ready e =
-        ready-after (ready-of (x .slices) (x .counts) (store-passes (x .slices) (x .marks) (x .counts) (x .standing) ok-here))
+        ready-after (marks-ready ok-here .ready)
         (ap (λ (s : Store). s .room .termsLong) (a .is)) (ap (λ (s : Store). s .room .cellsLong) (a .is))
         (subst Audited (sym (a .is ∙ ap (λ (s : Store). withReasons s rs) (r .store)))
         (audited-beside (w .store) rs (w .store .keys) (w .store .names) (h .audited) (both-left (all reasonRule rs) _ e) (h .audited .recorded .keys)
@@ -164,8 +170,11 @@ does (ask rs) x y w r z h d = asks rs x y w r z h d
 -- where the rule of marks holds of what is read, all passes again
 passes-after : (y : Memory) (w : World) → Came y w → Holds Anything w → passes y
 passes-after y w c h =
-    passes-again (y .slices) (y .marks) (y .counts) (y .standing) (c .audits) (c .sizes)
-    (ap (λ (s : Store). marksRule s (trailOf (y .marks) (y .standing))) (c .reads .store) ∙ ap (marksRule (w .store)) (c .reads .trail) ∙ h .marked)
+    marks-pass (record {
+      ready = ready-of (y .slices) (y .counts) (c .audits);
+      trail = c .sizes;
+      marked = ap (λ (s : Store). marksRule s (trailOf (y .marks) (y .standing))) (c .reads .store) ∙ ap (marksRule (w .store)) (c .reads .trail) ∙ h .marked;
+    })
 
 follows : (calls : List Call) (x y : Memory) (w : World) → Reads x w → passes x → Holds Anything w → Ran calls x y → Reads y (run calls w) × passes y
 unfolding run
