@@ -3,7 +3,8 @@
  * PLAIN CALLS. A slice is a pointer and a length in words. The store comes first: the state's words (counts of terms, cells, characters,
  * reasons and keys, the name counter, counts of marks and of recorded joins), then the five slices. The result is 0 or the refusal's number;
  * the state is written on success alone. `answer` has eight words. A state under six or an answer under eight words is refusal 1. Joining,
- * marks and going back ask for a state of eight words; the other calls look at six and leave the rest alone.
+ * marks and going back ask for a state of eight words; the other calls look at six and leave the rest alone. Each call audits the store first,
+ * and after result 0 store and marks pass: calls can be made one after the other, and labels_audit need not be called between them.
  *
  * A STORE. `labels_store` keeps all of that together, and each plain call has a `labels_store_..` beside it that takes the store and its own
  * arguments alone. They are written in C below and only pass words on; what is proved is the plain call behind each.
@@ -30,10 +31,10 @@ extern "C" {
 #endif
 
 /* The version of this header, of the Rust crate and of CHANGELOG.md. */
-#define LABELS_VERSION "0.8.1"
+#define LABELS_VERSION "0.9.0"
 #define LABELS_VERSION_MAJOR 0
-#define LABELS_VERSION_MINOR 8
-#define LABELS_VERSION_PATCH 1
+#define LABELS_VERSION_MINOR 9
+#define LABELS_VERSION_PATCH 0
 
 /* The limits of the counts. */
 #define LABELS_MAX_TERMS 512
@@ -296,8 +297,9 @@ uint32_t labels_set_mark(LABELS_WORDS(state), LABELS_READ(terms), LABELS_READ(ce
                          LABELS_READ(keys), LABELS_WORDS(marks), LABELS_WORDS(answer));
 
 /* Goes back to a mark, which uses up that mark and later ones: the joins since it are undone, so that each term counted at the mark has the
- * words that it had then, and terms appended since stay, each alone in its class. Writes the class words of counted terms and words 6 and 7
- * of the state; the other counts, reasons, keys and the name counter stay. A mark that is not standing, 0 too: refusal 10. */
+ * words that it had then, and terms appended since stay, each alone in its class, whatever calls were made between. Writes the class words of
+ * counted terms and words 6 and 7 of the state; the other counts, reasons, keys and the name counter stay. A mark that is not standing, 0 too:
+ * refusal 10. */
 uint32_t labels_go_back(LABELS_WORDS(state), LABELS_WORDS(terms), LABELS_READ(cells), LABELS_READ(chars), LABELS_READ(reasons),
                         LABELS_READ(keys), LABELS_READ(marks), uint32_t mark);
 
