@@ -2,13 +2,14 @@
 use mathlib.Core.Path.{_≡_, refl, sym, subst, _∙_}
 use mathlib.Core.Bool.{Bool, true, false, _&&_}
 use mathlib.Core.List.{List, [], _∷_}
+use mathlib.Core.Option.{some}
 use Prim.Native.Nat.{ℕ, _≤_}
 use native.Mathlib.Omega.{arith}
 use lib.ListN.{length}
 use lib.Dec.{eqb, leb}
 use borrow.Author.Tests.{leb-true}
 use Rattle.records.specs.declared.State.{State}
-use Rattle.records.specs.Lists.{if_then_else_, all}
+use Rattle.records.specs.Lists.{if_then_else_, all, oneMore}
 use Rattle.records.specs.Store.{Store, Out, ok, stop, Work, isString, root, within}
 use Rattle.records.specs.View.{Lent}
 use Rattle.records.specs.Rules.{reasonRule, listLimit, isList}
@@ -103,7 +104,7 @@ module _ {D : Store → List (ℕ × ℕ) → Type 0} (keep : Dividing D) (w : W
   unfolding after
   goes-mark = record { holds = holds-mark keep w h; keeping = go (marking s (w .trail)) }
     where
-      go : {o : Outcome} → Marking s (w .trail) o → Keeping (s .terms) (moved w (λ n. _) o .store .terms)
+      go : {o : Outcome} → Marking s (w .trail) o → Keeping (s .terms) (moved w (λ n. oneMore (w .history) (marked (some (s .terms)))) o .store .terms)
       go full = keeping-none (s .terms)
       go (marks l) = keeping-none (s .terms)
 

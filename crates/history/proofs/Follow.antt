@@ -51,7 +51,7 @@ sized-as {l} {l′} {d} e f t = subst (TrailSized l′) (sym f) (subst (λ (k : 
 
 -- A CALL OVER THE STORE
 
-module _ {A : Type 0} (x y : Memory) (w : World) (r : Reads x w) (ok-here : passes x) (marks : y .marks ≡ x .marks) (standing : y .standing ≡ x .standing) where
+module _ (x y : Memory) (w : World) (r : Reads x w) (ok-here : passes x) (marks : y .marks ≡ x .marks) (standing : y .standing ≡ x .standing) where
   abbrev m : Lent
   m = x .slices
 
@@ -67,7 +67,7 @@ module _ {A : Type 0} (x y : Memory) (w : World) (r : Reads x w) (ok-here : pass
   trails : trailOf (y .marks) (y .standing) ≡ w .trail
   trails = ap (λ (l : List ℕ). trailOf l (y .standing)) marks ∙ ap (trailOf (x .marks)) standing ∙ r .trail
 
-  module _ (o : Out A) (out : Out A) (p : Public out m m′ (x .counts) o) (is : o ≡ out) where
+  module _ {A : Type 0} (o : Out A) (out : Out A) (p : Public out m m′ (x .counts) o) (is : o ≡ out) where
     came : Told o m′ (x .counts) (y .counts) → Came y (worked w out)
     came (given a e) =
         let q : out ≡ ok (storeOf m′ (y .counts)) a = sym is ∙ e in
@@ -81,19 +81,19 @@ module _ {A : Type 0} (x y : Memory) (w : World) (r : Reads x w) (ok-here : pass
         })
 
   -- a call answers by its definition over the store, where the audit passes
-  call-is : (fit : Store → Bool) (work : Work A) → call fit work m (x .counts) ≡ checked (fit (w .store)) work (w .store)
+  call-is : {A : Type 0} (fit : Store → Bool) (work : Work A) → call fit work m (x .counts) ≡ checked (fit (w .store)) work (w .store)
   unfolding call
   call-is fit work = rw z (ap (λ (s : Store). checked (fit s) work s) (r .store))
 
-  list-is : (k : List ℕ) (fit : Store → Bool) (work : Work A) → listCall k fit work m (x .counts) ≡ listing k fit work (w .store)
+  list-is : {A : Type 0} (k : List ℕ) (fit : Store → Bool) (work : Work A) → listCall k fit work m (x .counts) ≡ listing k fit work (w .store)
   unfolding listCall
   list-is k fit work = decide (leb listLimit (length k)) (λ e. rw e (call-is fit work)) (λ e. rw e)
 
-  pub called : (fit : Store → Bool) (work : Work A) {o : Out A} → Public (call fit work m (x .counts)) m m′ (x .counts) o → Told o m′ (x .counts) (y .counts) → Came y (worked w (checked (fit (w .store)) work (w .store)))
-  called fit work {o} p h = subst (λ (v : Out A). Came y (worked w v)) (call-is fit work) (came o _ p (p .says) h)
+  called : {A : Type 0} (fit : Store → Bool) (work : Work A) {o : Out A} → Public (call fit work m (x .counts)) m m′ (x .counts) o → Told o m′ (x .counts) (y .counts) → Came y (worked w (checked (fit (w .store)) work (w .store)))
+  called {A} fit work {o} p h = subst (λ (v : Out A). Came y (worked w v)) (call-is fit work) (came o _ p (p .says) h)
 
-  pub listed : (k : List ℕ) (fit : Store → Bool) (work : Work A) {o : Out A} → Public (listCall k fit work m (x .counts)) m m′ (x .counts) o → Told o m′ (x .counts) (y .counts) → Came y (worked w (listing k fit work (w .store)))
-  listed k fit work {o} p h = subst (λ (v : Out A). Came y (worked w v)) (list-is k fit work) (came o _ p (p .says) h)
+  listed : {A : Type 0} (k : List ℕ) (fit : Store → Bool) (work : Work A) {o : Out A} → Public (listCall k fit work m (x .counts)) m m′ (x .counts) o → Told o m′ (x .counts) (y .counts) → Came y (worked w (listing k fit work (w .store)))
+  listed {A} k fit work {o} p h = subst (λ (v : Out A). Came y (worked w v)) (list-is k fit work) (came o _ p (p .says) h)
 
 -- A CALL OVER THE MARKS
 
@@ -102,7 +102,7 @@ module _ (x y : Memory) (w : World) (r : Reads x w) (ok-here : passes x) (work :
   unfolding tracked
   tracked-is = rw ok-here (ap (λ (s : Store). work s (trailOf (x .marks) (x .standing))) (r .store) ∙ ap (work (w .store)) (r .trail))
 
-  pub marked : (o : Answer) → Tracks work (x .slices) (y .slices) (x .marks) (y .marks) (x .counts) (x .standing) o → y .standing ≡ standingAfter (x .standing) o → Came y (moved w f (work (w .store) (w .trail)))
+  marked : (o : Answer) → Tracks work (x .slices) (y .slices) (x .marks) (y .marks) (x .counts) (x .standing) o → y .standing ≡ standingAfter (x .standing) o → Came y (moved w f (work (w .store) (w .trail)))
   marked (Given n e) p q =
       let i : work (w .store) (w .trail) ≡ gives (storeOf (y .slices) (x .counts)) (trailOf (y .marks) e) n = sym tracked-is ∙ sym (p .says) in
       let a = p .audited n e refl in

@@ -9,7 +9,7 @@ use lib.Dec.{eqb, T}
 use Rattle.records.specs.Lists.{if_then_else_, all, any, firstOf, table, sameWord, isIn, firsts, seconds, upTo, allBelow, firstBelow, oneMore}
 use Rattle.records.specs.Store.{Term, noTerm, noCell, Store, termIn, cellIn, within, count, textIn, chainBy, climb, aboveBy, nearestIn, pathIn, sameClass}
 use Rattle.records.specs.Rules.{isChar, isNumber, reasonRule, keyRule, cellRule, textRule, named, nameRule, partRule, concatRule, lengthRule, isEquatable, equationRule, termRule, recordsRule, parentsRule, endsRule, alikeRule, aloneRule, edgeLabel, labelRule, classesRule, pairsOf, fallsRule, congruenceRule, congruencesRule}
-use Rattle.records.specs.Make.{own, addText, addChain, chainFrom, addTerm, lookup, lowest, constantOf, concatOf, lengthOf, equationOf, makeConstant, makeVariable, makeConcat, makeLength, makeEquation}
+use Rattle.records.specs.Make.{own, addReason, isListed, samePair, addText, addChain, chainFrom, addTerm, lookup, lowest, constantOf, concatOf, lengthOf, equationOf, makeConstant, makeVariable, makeConcat, makeLength, makeEquation}
 use Rattle.classes.specs.Joins.{putEdge, putClass, turn, turns, joinIn, Trace, isTrace, undoIn}
 use Rattle.classes.specs.Marks.{Trail, undoAll, rises, countsRule, marksRule, auditTrail}
 use Rattle.classes.specs.Calls.{Outcome, gives, refuses, joinTerms, setMark, goBack}
@@ -112,7 +112,7 @@ passingAll [] w = passing w
 passingAll (f ∷ l) w = passing w && passingAll l (after f w)
 
 pub resumed-kept : T (passingAll (variable (121 ∷ []) ∷ set-mark ∷ join 6 1 1 4 ∷ explain-pair 6 2 ∷ go-back 3 ∷ ask [] ∷ go-back 2 ∷ go-back 1 ∷ []) resumed)
-unfolding resumed passing passingAll begun restored both sameTable sameTerm after run standingMarks cutAt markedAt eachAlone joinTerms setMark goBack undoAll rises countsRule marksRule auditTrail putEdge putClass turn turns joinIn isTrace undoIn addText addChain chainFrom addTerm lookup lowest named constantOf concatOf lengthOf equationOf makeConstant makeVariable makeConcat makeLength makeEquation recordsRule classesRule congruencesRule termRule cellRule textRule nameRule concatRule partRule lengthRule equationRule isEquatable isChar isNumber reasonRule keyRule parentsRule endsRule alikeRule aloneRule edgeLabel labelRule congruenceRule pairsOf fallsRule all any firstOf table sameWord isIn firsts seconds upTo allBelow firstBelow termIn cellIn within textIn chainBy climb aboveBy nearestIn pathIn wasSeen each edge highest walk walked explain
+unfolding resumed passing passingAll begun restored both sameTable sameTerm after run standingMarks cutAt markedAt eachAlone joinTerms setMark goBack undoAll rises countsRule marksRule auditTrail putEdge putClass turn turns joinIn isTrace undoIn addText addChain chainFrom addTerm lookup lowest named constantOf concatOf lengthOf equationOf makeConstant makeVariable makeConcat makeLength makeEquation recordsRule classesRule congruencesRule termRule cellRule textRule nameRule concatRule partRule lengthRule equationRule isEquatable isChar isNumber reasonRule keyRule parentsRule endsRule alikeRule aloneRule edgeLabel labelRule congruenceRule pairsOf fallsRule all any firstOf table sameWord isIn firsts seconds upTo allBelow firstBelow termIn cellIn within textIn chainBy climb aboveBy nearestIn pathIn wasSeen each edge highest walk walked explain addReason isListed samePair
 resumed-kept = tt
 
 -- what is left of the trail, each trace as three numbers
