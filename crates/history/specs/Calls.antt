@@ -86,7 +86,7 @@ after set-mark w = moved w (λ n. oneMore (w .history) (marked (some (w .store .
 after (go-back i) w = moved w (λ n. cutAt i (w .history)) (goBack i (w .store) (w .trail))
 after (ask rs) w = worked w (asked rs (w .store))
 
--- 'every list of these and making calls ..., nobody else writing'
+-- 'every list of these and making calls .. nobody else writing'
 unfoldable pub run : List Call → World → World
 run [] w = w
 run (f ∷ l) w = run l (after f w)

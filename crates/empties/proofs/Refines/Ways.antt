@@ -72,7 +72,7 @@ module _ {m m₁ : Lent} {c : State} {x : Made} (l : List ℕ) (w : Working (mak
     unfolding emptied
     empties-done {list} {n} s = working-left empties-ready
         (ap (andThen (onward l)) (made-is e w .says) ∙ ap (λ (u : List ℕ). ok (storeOf m₁ d) (partsOf t u)) (there ∙ sym (s .words) ∙ sym (words-taken list n (s .fits)))
-          ∙ ap (λ (k : ℕ). ok (storeOf m₁ d) (record { empty = t; listed = firstWords list n; link = linked k })) (table-length (λ i. getD list i 0) n))
+        ∙ ap (λ (k : ℕ). ok (storeOf m₁ d) (record { empty = t; listed = firstWords list n; link = linked k })) (table-length (λ i. getD list i 0) n))
         (w .kept)
 
     pub empties-able : Readable (m₁ .terms) (m₁ .chars) d
@@ -82,7 +82,6 @@ module _ {m m₁ : Lent} {c : State} {x : Made} (l : List ℕ) (w : Working (mak
       empty-in : MadeIn (storeOf m c) (storeOf m₁ d) t 1
       unfolding all
       empty-in = constant-kept [] (storeOf m c) (storeOf m₁ d) t (ready .audited) refl (made-is e w .says) .made
-
 
       pub empties-strings : isList (storeOf m c) l ≡ true → all (isString (readIn (m₁ .terms) (m₁ .chars) d)) (t ∷ l) ≡ true
       unfolding all within
