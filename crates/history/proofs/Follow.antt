@@ -27,7 +27,7 @@ use Rattle.classes.specs.Marks.{Trail, trailOf, marksRule, auditMarks}
 use Rattle.classes.specs.Calls.{Outcome, gives, refuses, tracked, Tracks, joinTerms, setMark, goBack}
 use Rattle.history.specs.History.{Event, World, moved, start}
 use Rattle.history.specs.Calls.{Call, constant, variable, concat, length-of, equation, find-root, explain-pair, form, deep-form, equal, equal-explain, resolve-lists, one-step, empty-parts, forced-length, join, set-mark, go-back, ask, worked, listing, asked, after, run, begin}
-use Rattle.history.specs.Actual.{Memory, Told, given, refused, Called, CalledList, CalledMarks, Asked, standingAfter, Does, Ran, nothing, next, passes, worldOf, Follows, EveryRun}
+use Rattle.history.specs.Actual.{Memory, Told, given, refused, Called, CalledList, CalledMarks, Asked, standingAfter, OneCall, Ran, nothing, next, passes, worldOf, Follows, EveryRun}
 use Rattle.history.proofs.Worlds.{Holds}
 use Rattle.classes.specs.Working.Carries.{TrailSized}
 use Rattle.classes.proofs.ReadyMarks.{marks-ready, marks-pass}
@@ -145,8 +145,8 @@ asks rs x y w r ok-here h a =
 
 -- ONE CALL, AND ALL
 
-does : (f : Call) (x y : Memory) (w : World) → Reads x w → passes x → Holds Anything w → Does f x y → Came y (after f w)
-unfolding Does after
+does : (f : Call) (x y : Memory) (w : World) → Reads x w → passes x → Holds Anything w → OneCall f x y → Came y (after f w)
+unfolding OneCall after
 does (constant u) x y w r z h d = called x y w r z (d .marks) (d .standing) _ _ (d .promise) (d .counts)
 does (variable u) x y w r z h d = called x y w r z (d .marks) (d .standing) _ _ (d .promise) (d .counts)
 does (concat l) x y w r z h d = called x y w r z (d .marks) (d .standing) _ _ (d .promise) (d .counts)

@@ -71,31 +71,31 @@ pub record Asked (rs : List (ℕ × ℕ)) (x y : Memory) : Type 0 where
   pub standing : y .standing ≡ x .standing
 
 -- one call, from words to words
-unfoldable pub Does : Call → Memory → Memory → Type 0
-Does (constant u) x y = Called (λ m m′ c r. Public (call (constantArguments u) (makeConstant u) m c) m m′ c r) x y
-Does (variable u) x y = Called (λ m m′ c r. Public (call (variableArguments u) (makeVariable u) m c) m m′ c r) x y
-Does (concat l) x y = Called (λ m m′ c r. Public (call (concatArguments l) (makeConcat l) m c) m m′ c r) x y
-Does (length-of t) x y = Called (λ m m′ c r. Public (call (lengthArguments t) (makeLength t) m c) m m′ c r) x y
-Does (equation a b) x y = Called (λ m m′ c r. Public (call (equationArguments a b) (makeEquation a b) m c) m m′ c r) x y
-Does (find-root t) x y = Called (λ m m′ c r. Public (call (findArguments t) (find t) m c) m m′ c r) x y
-Does (explain-pair a b) x y = Called (PublicExplain a b) x y
-Does (form known t k) x y = CalledList (PublicForm known t) k x y
-Does (deep-form known t k) x y = CalledList (PublicDeepForm known t) k x y
-Does (equal l r) x y = Called (λ m m′ c o. Public (call (equalArguments l r) (equalLists l r) m c) m m′ c o) x y
-Does (equal-explain l r) x y = Called (PublicEqualExplain l r) x y
-Does (resolve-lists l r g k) x y = CalledList (PublicResolve l r g) k x y
-Does (one-step known e g k) x y = CalledList (PublicStep known e g) k x y
-Does (empty-parts l r k) x y = CalledList (PublicEmpties l r) k x y
-Does (forced-length l r) x y = Called (PublicForced l r) x y
-Does (join a b k v) x y = CalledMarks (PublicJoin a b k v) x y
-Does set-mark x y = CalledMarks (Tracks setMark) x y
-Does (go-back i) x y = CalledMarks (Tracks (goBack i)) x y
-Does (ask rs) x y = Asked rs x y
+unfoldable pub OneCall : Call → Memory → Memory → Type 0
+OneCall (constant u) x y = Called (λ m m′ c r. Public (call (constantArguments u) (makeConstant u) m c) m m′ c r) x y
+OneCall (variable u) x y = Called (λ m m′ c r. Public (call (variableArguments u) (makeVariable u) m c) m m′ c r) x y
+OneCall (concat l) x y = Called (λ m m′ c r. Public (call (concatArguments l) (makeConcat l) m c) m m′ c r) x y
+OneCall (length-of t) x y = Called (λ m m′ c r. Public (call (lengthArguments t) (makeLength t) m c) m m′ c r) x y
+OneCall (equation a b) x y = Called (λ m m′ c r. Public (call (equationArguments a b) (makeEquation a b) m c) m m′ c r) x y
+OneCall (find-root t) x y = Called (λ m m′ c r. Public (call (findArguments t) (find t) m c) m m′ c r) x y
+OneCall (explain-pair a b) x y = Called (PublicExplain a b) x y
+OneCall (form known t k) x y = CalledList (PublicForm known t) k x y
+OneCall (deep-form known t k) x y = CalledList (PublicDeepForm known t) k x y
+OneCall (equal l r) x y = Called (λ m m′ c o. Public (call (equalArguments l r) (equalLists l r) m c) m m′ c o) x y
+OneCall (equal-explain l r) x y = Called (PublicEqualExplain l r) x y
+OneCall (resolve-lists l r g k) x y = CalledList (PublicResolve l r g) k x y
+OneCall (one-step known e g k) x y = CalledList (PublicStep known e g) k x y
+OneCall (empty-parts l r k) x y = CalledList (PublicEmpties l r) k x y
+OneCall (forced-length l r) x y = Called (PublicForced l r) x y
+OneCall (join a b k v) x y = CalledMarks (PublicJoin a b k v) x y
+OneCall set-mark x y = CalledMarks (Tracks setMark) x y
+OneCall (go-back i) x y = CalledMarks (Tracks (goBack i)) x y
+OneCall (ask rs) x y = Asked rs x y
 
 -- one after the other
 pub data Ran : List Call → Memory → Memory → Type 0 where
   nothing : {x : Memory} → Ran [] x x
-  next : {f : Call} {l : List Call} {x y z : Memory} → Does f x y → Ran l y z → Ran (f ∷ l) x z
+  next : {f : Call} {l : List Call} {x y z : Memory} → OneCall f x y → Ran l y z → Ran (f ∷ l) x z
 
 abbrev pub passes : Memory → Type 0
 passes x = auditMarks (x .slices) (x .marks) (x .counts) (x .standing) ≡ 0
