@@ -4,7 +4,7 @@
  * reasons and keys, the name counter, counts of marks and of recorded joins), then the five slices. The result is 0 or the refusal's number;
  * the state is written on success alone. `answer` has eight words. A state under six or an answer under eight words is refusal 1. Joining,
  * marks and going back ask for a state of eight words; the other calls look at six and leave the rest alone. Each call audits the store first,
- * and after result 0 store and marks pass: calls can be made one after the other, and labels_audit need not be called between them.
+ * and after result 0 the store passes, and marks that passed pass still: calls can be made one after the other, with no labels_audit between.
  *
  * A STORE. `labels_store` keeps all of that together, and each plain call has a `labels_store_..` beside it that takes the store and its own
  * arguments alone. They are written in C below and only pass words on; what is proved is the plain call behind each.
