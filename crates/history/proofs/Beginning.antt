@@ -7,15 +7,16 @@ use native.Mathlib.Omega.{arith}
 use lib.ListN.{length, getD}
 use Rattle.records.specs.declared.State.{State}
 use Rattle.records.specs.Lists.{table, none-left}
-use Rattle.records.specs.Store.{Term, Store, within}
+use Rattle.records.specs.Store.{Store, within}
+use Rattle.records.specs.Make.{withTerms}
 use Rattle.records.specs.View.{Lent, storeOf}
 use Rattle.records.proofs.Lists.{within-low, within-high, table-length}
 use Rattle.classes.specs.declared.Standing.{Standing}
 use Rattle.classes.specs.Marks.{Trail, markLimit, joinLimit, traceAt, trailOf, tableAt, auditMarks}
 use Rattle.classes.specs.Working.Doing.{ReadyMarks}
-use Rattle.classes.proofs.Marking.{rule-back}
+use Rattle.classes.proofs.Marking.{Back, rule-back}
 use Rattle.classes.proofs.ReadyMarks.{marks-ready, marks-tracked}
-use Rattle.history.specs.History.{Event, marked, World, standingMarks, start, markedAt, standing, Separate, Generated, itself}
+use Rattle.history.specs.History.{standingMarks, start, cutAt, markedAt, standing, Separate, Generated, itself}
 use Rattle.history.proofs.Appended.{nothing}
 use Rattle.history.proofs.Events.{marksIn}
 use Rattle.history.proofs.Generating.{Divides}
@@ -60,8 +61,11 @@ module _ (m : Lent) (l : List ℕ) (c : State) (d : Standing) (z : auditMarks m 
       let f = table-length (traceAt l) (d .joins) in
       (omega arith, omega arith)
 
-  pub start-any : Holds Anything (start s x)
-  start-any =
+  -- whatever is asked of the division, where it holds of the store and of the table of each mark
+  start-holds : {D : Store → List (ℕ × ℕ) → Type 0}
+      → ((i : ℕ) → within (length (x .marks)) i ≡ true → (g : Back s x i) → D (withTerms s (g .table)) (standing (cutAt i (standingMarks s x (x .marks))))) → D s (standing (standingMarks s x (x .marks)))
+      → Holds D (start s x)
+  start-holds f k =
       let t = marks-tracked passed in
       record {
         audited = t .audited;
@@ -71,9 +75,12 @@ module _ (m : Lent) (l : List ℕ) (c : State) (d : Standing) (z : auditMarks m 
         joinsFit = few .1;
         counts = marks-standing s x (x .marks);
         each = λ i q. let g = rule-back s x (t .marked) i q (t .audited) in
-            record { at = g .table; was = marked-standing s x (x .marks) i (within-low _ i q) (within-high _ i q) ∙ g .is; table = g .table; is = g .is; appended = nothing; divided = tt };
-        divided = tt;
+            record { at = g .table; was = marked-standing s x (x .marks) i (within-low _ i q) (within-high _ i q) ∙ g .is; table = g .table; is = g .is; appended = nothing; divided = f i q g };
+        divided = k;
       }
+
+  pub start-any : Holds Anything (start s x)
+  start-any = start-holds (λ i q g. tt) tt
 
   no-marks : d .marks ≡ 0 → x .marks ≡ []
   unfolding table
@@ -82,16 +89,8 @@ module _ (m : Lent) (l : List ℕ) (c : State) (d : Standing) (z : auditMarks m 
   pub start-separate : d .marks ≡ 0 → Separate s → Holds Divides (start s x)
   unfolding standing standingMarks
   start-separate e k =
-      let t = marks-tracked passed in
       let n = no-marks e in
-      record {
-        audited = t .audited;
-        marked = t .marked;
-        limit = omega arith;
-        marksFit = few .0;
-        joinsFit = few .1;
-        counts = marks-standing s x (x .marks);
-        each = λ i q. let a = within-low _ i q in let b = within-high _ i q in let f = ap length n in absurd (omega arith);
-        divided = subst (λ (ms : List ℕ). Divides s (standing (standingMarks s x ms))) (sym n)
-            (record { terms = none-left; together = none-left; made = λ t u wt wu r. subst (λ (y : ℕ). Generated [] t y) (k .alone t u wt wu r) itself });
-      }
+      start-holds
+      (λ i q g. let a = within-low _ i q in let b = within-high _ i q in let f = ap length n in absurd (omega arith))
+      (subst (λ (ms : List ℕ). Divides s (standing (standingMarks s x ms))) (sym n)
+      (record { terms = none-left; together = none-left; made = λ t u wt wu r. subst (λ (y : ℕ). Generated [] t y) (k .alone t u wt wu r) itself }))

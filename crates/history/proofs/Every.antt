@@ -1,23 +1,20 @@
 -- Each call keeps what holds of a world, and so does every list of them.
 use mathlib.Core.Path.{_≡_, refl, sym, subst, _∙_}
-use mathlib.Core.Bool.{Bool, true, false, _&&_}
+use mathlib.Core.Bool.{Bool, true, _&&_}
 use mathlib.Core.List.{List, [], _∷_}
 use mathlib.Core.Option.{some}
-use Prim.Native.Nat.{ℕ, _≤_}
-use native.Mathlib.Omega.{arith}
+use Prim.Native.Nat.{ℕ}
 use lib.ListN.{length}
-use lib.Dec.{eqb, leb}
+use lib.Dec.{leb}
 use borrow.Author.Tests.{leb-true}
-use Rattle.records.specs.declared.State.{State}
 use Rattle.records.specs.Lists.{if_then_else_, all, oneMore}
-use Rattle.records.specs.Store.{Store, Out, ok, stop, Work, isString, root, within}
-use Rattle.records.specs.View.{Lent}
+use Rattle.records.specs.Store.{Store, Out, ok, stop, Work, root, within}
 use Rattle.records.specs.Rules.{reasonRule, listLimit, isList}
 use Rattle.records.specs.Make.{withTerms, withReasons, constantArguments, makeConstant, variableArguments, makeVariable, concatArguments, makeConcat, lengthArguments, makeLength, equationArguments, makeEquation}
 use Rattle.records.specs.Calls.{checked}
 use Rattle.records.specs.Working.Audited.{Audited}
 use Rattle.records.proofs.Lists.{both-left, both-right, decide}
-use Rattle.records.proofs.ListLaws.{list-strings, list-every}
+use Rattle.records.proofs.ListLaws.{list-strings}
 use Rattle.records.proofs.Works.{stop-not, branch}
 use Rattle.records.proofs.Beside.{audited-beside}
 use Rattle.records.proofs.Later.{Extended, as-was, others, Later, later-none, later-made, later-added}
@@ -37,13 +34,11 @@ use Rattle.empties.specs.Empties.{emptyParts}
 use Rattle.empties.proofs.Given.{parts-later}
 use Rattle.forced.specs.Forced.{forcedLength}
 use Rattle.forced.proofs.Given.{forced-gives}
-use Rattle.classes.specs.declared.Standing.{Standing}
-use Rattle.classes.specs.Marks.{Trail, auditMarks}
-use Rattle.classes.specs.Calls.{Outcome, gives, refuses, joinTerms, setMark, goBack, before}
+use Rattle.classes.specs.Calls.{Outcome, gives, joinTerms, goBack, before}
 use Rattle.classes.proofs.JoinKept.{join-like}
 use Rattle.classes.proofs.Tracking.{of-tracked, back-goes, Joining, wrong, together, joins, Marking, full, marks, marking}
 use Rattle.classes.proofs.Tracking as tracking
-use Rattle.history.specs.History.{World, joining, moved, cutAt, marked, Kept, Divided, Separate, standing}
+use Rattle.history.specs.History.{World, joining, moved, cutAt, marked, Kept, Divided}
 use Rattle.history.specs.Calls.{Call, constant, variable, concat, length-of, equation, find-root, explain-pair, form, deep-form, equal, equal-explain, resolve-lists, one-step, empty-parts, forced-length, join, set-mark, go-back, ask, worked, listing, asked, after, run, begin, EveryList}
 use Rattle.history.proofs.Appended.{later-is}
 use Rattle.history.proofs.Generating.{generated-same, Divides, divides-join, divides-later}

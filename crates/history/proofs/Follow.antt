@@ -1,9 +1,8 @@
 -- Actual calls follow their definitions: each by its public contract, one after the other.
 use mathlib.Core.Path.{_≡_, refl, sym, ap, subst, _∙_}
-use mathlib.Core.Bool.{Bool, true, false, _&&_}
+use mathlib.Core.Bool.{Bool, true, _&&_}
 use mathlib.Core.List.{List, [], _∷_}
-use Prim.Native.Nat.{ℕ, zero, suc}
-use native.Mathlib.Omega.{arith}
+use Prim.Native.Nat.{ℕ}
 use lib.ListN.{length}
 use lib.Dec.{leb}
 use borrow.Author.Tests.{leb-true}
@@ -15,7 +14,6 @@ use Rattle.records.specs.Rules.{audit, reasonRule, listLimit}
 use Rattle.records.specs.Make.{withReasons}
 use Rattle.records.specs.Calls.{Public, call, checked}
 use Rattle.records.proofs.Lists.{decide, both-left, both-right}
-use Rattle.records.proofs.Works.{stop-not}
 use Rattle.records.specs.Working.Audited.{Audited, Ready}
 use Rattle.records.proofs.Passed.{ready-of, ready-after, audit-of, audit-kept}
 use Rattle.records.proofs.Beside.{audited-beside}
@@ -23,16 +21,16 @@ use Rattle.normalize.specs.Calls.{listCall}
 use Rattle.classes.specs.declared.Standing.{Standing}
 use Rattle.classes.specs.declared.Answer.{Answer}
 use Rattle.classes.specs.declared.Answer.the-variants.{Given, Refused}
-use Rattle.classes.specs.Marks.{Trail, trailOf, marksRule, auditMarks}
+use Rattle.classes.specs.Marks.{Trail, trailOf, marksRule}
 use Rattle.classes.specs.Calls.{Outcome, gives, refuses, tracked, Tracks, joinTerms, setMark, goBack}
-use Rattle.history.specs.History.{Event, World, moved, start}
-use Rattle.history.specs.Calls.{Call, constant, variable, concat, length-of, equation, find-root, explain-pair, form, deep-form, equal, equal-explain, resolve-lists, one-step, empty-parts, forced-length, join, set-mark, go-back, ask, worked, listing, asked, after, run, begin}
-use Rattle.history.specs.Actual.{Memory, Told, given, refused, Called, CalledList, CalledMarks, Asked, standingAfter, OneCall, Ran, nothing, next, passes, worldOf, Follows, EveryRun}
+use Rattle.history.specs.History.{Event, World, moved}
+use Rattle.history.specs.Calls.{Call, constant, variable, concat, length-of, equation, find-root, explain-pair, form, deep-form, equal, equal-explain, resolve-lists, one-step, empty-parts, forced-length, join, set-mark, go-back, ask, worked, listing, asked, after, run}
+use Rattle.history.specs.Actual.{Memory, Told, given, refused, Asked, standingAfter, OneCall, Ran, nothing, next, passes, worldOf, EveryRun}
 use Rattle.history.proofs.Worlds.{Holds}
 use Rattle.classes.specs.Working.Carries.{TrailSized}
 use Rattle.classes.proofs.ReadyMarks.{marks-ready, marks-pass}
 use Rattle.history.proofs.Beginning.{Anything, start-any}
-use Rattle.history.proofs.Every.{Goes, goes, asks-nothing}
+use Rattle.history.proofs.Every.{goes, asks-nothing}
 
 -- store and trail of a world are those of some words
 pub record Reads (y : Memory) (w : World) : Type 0 where

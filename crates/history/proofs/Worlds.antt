@@ -1,13 +1,13 @@
 -- What holds after each call of a list, whatever of the division into classes is asked, so long as joining and growing keep it.
-use mathlib.Core.Path.{_≡_, refl, sym, ap, subst, _∙_}
-use mathlib.Core.Bool.{Bool, true, false}
+use mathlib.Core.Path.{_≡_, sym, ap, subst, _∙_}
+use mathlib.Core.Bool.{true}
 use mathlib.Core.List.{List, [], _∷_, _++_}
-use mathlib.Core.Option.{Option, none, some}
-use Prim.Native.Nat.{ℕ, zero, suc, _-_, _≤_, _<_}
+use mathlib.Core.Option.{some}
+use Prim.Native.Nat.{ℕ, suc, _-_, _≤_, _<_}
 use native.Mathlib.Decide.{decLe}
 use native.Mathlib.Omega.{arith}
 use lib.ListN.{length, getD, take, drop, length-append, length-take, List·getD-append}
-use lib.Seq.{take-append-le, drop-length, drop-append-le, getD-append-seam, getD-take}
+use lib.Seq.{drop-length, drop-append-le, getD-append-seam, getD-take}
 use lib.Dec.{ltb}
 use borrow.Author.Tests.{ltb-true, ltb-false}
 use Rattle.records.specs.Lists.{if_then_else_, oneMore}
@@ -20,7 +20,7 @@ use Rattle.records.proofs.Grown.{string-term}
 use Rattle.records.proofs.Later.{Extended}
 use Rattle.classes.specs.Joins.{Trace, joinIn, traceOf, undoIn}
 use Rattle.classes.specs.Marks.{Trail, markLimit, joinLimit, undoAll, tableAt, marksRule}
-use Rattle.classes.specs.Calls.{Outcome, gives, refuses, recorded, joinTerms, setMark, joinsAt, before, goBack}
+use Rattle.classes.specs.Calls.{Outcome, recorded, joinTerms, setMark, joinsAt, before, goBack}
 use Rattle.classes.specs.Working.Carries.{Forest}
 use Rattle.classes.proofs.Alike.{Like, like-none}
 use Rattle.classes.proofs.Undoing.{classed-forest, undo-join}
