@@ -3,7 +3,8 @@
  * PLAIN CALLS. A slice is a pointer and a length in words. The store comes first: the state's words (counts of terms, cells, characters,
  * reasons and keys, the name counter, counts of marks and of recorded joins), then the five slices. The result is 0 or the refusal's number;
  * the state is written on success alone. `answer` has eight words. A state under six or an answer under eight words is refusal 1. Joining,
- * marks and going back ask for a state of eight words; the other calls look at six and leave the rest alone.
+ * marks and going back ask for a state of eight words; the other calls look at six and leave the rest alone. Each call audits the store first,
+ * and after result 0 the store passes, and marks that passed pass still: calls can be made one after the other, with no labels_audit between.
  *
  * A STORE. `labels_store` keeps all of that together, and each plain call has a `labels_store_..` beside it that takes the store and its own
  * arguments alone. They are written in C below and only pass words on; what is proved is the plain call behind each.
@@ -30,10 +31,10 @@ extern "C" {
 #endif
 
 /* The version of this header, of the Rust crate and of CHANGELOG.md. */
-#define LABELS_VERSION "0.8.1"
+#define LABELS_VERSION "0.9.0"
 #define LABELS_VERSION_MAJOR 0
-#define LABELS_VERSION_MINOR 8
-#define LABELS_VERSION_PATCH 1
+#define LABELS_VERSION_MINOR 9
+#define LABELS_VERSION_PATCH 0
 
 /* The limits of the counts. */
 #define LABELS_MAX_TERMS 512
@@ -253,15 +254,17 @@ uint32_t labels_step(LABELS_WORDS(state), LABELS_WORDS(terms), LABELS_WORDS(cell
 /* Every part of a label that must still become "": where one flattened list is empty and the other is two or more variables, "" is made if the
  * store has none, and the variables that are not of its class yet stand first in `list`, in the order of their places, the first of each class.
  * Words 0 to 2 of the answer: how many they are, the number of "", and the link flag, 1 where something is listed. For other lists nothing is
- * made, and all three are 0. No reasons are added: that these variables become "" follows from the equation between the lists, and rests on
- * what the lists rest on. */
+ * made, and all three are 0. No reasons are added: if the two sides have equal texts, each listed variable has the text of "", whatever was
+ * merged. So what is joined for it rests on the equation between the lists and on what the lists rest on. */
 uint32_t labels_empty_parts(LABELS_WORDS(state), LABELS_WORDS(terms), LABELS_READ(cells), LABELS_WORDS(chars), LABELS_READ(reasons),
                             LABELS_READ(keys), LABELS_READ(lhs), LABELS_READ(rhs), LABELS_WORDS(list), LABELS_WORDS(answer));
 
 /* The length that a side of constants forces on the one variable class of the other side. Both lists are flattened, and same heads and then
  * same tails are stripped. With k variables and c constant characters against l characters, l = c + k * m + r and r below k: words 0 to 5 of
  * the answer are 0, k, c, l, m and r. Where l is below c they are 1, k, c, l, the shortage c - l, and 0. With a remainder above 0 or a shortage
- * no text fits. Lists that have another form are refused with 11. Nothing but the answer is written. */
+ * `labels_resolve_equation` on the same lists answers Conflict, or Saturated where it flattened a concatenation, unless the reasons are full
+ * (7): no texts fit under the reasons that its Conflict names, and without them some may. Lists that have another form are refused with 11.
+ * Nothing but the answer is written. */
 uint32_t labels_forced_length(LABELS_READ(state), LABELS_READ(terms), LABELS_READ(cells), LABELS_READ(chars), LABELS_READ(reasons),
                               LABELS_READ(keys), LABELS_READ(lhs), LABELS_READ(rhs), LABELS_WORDS(answer));
 
@@ -277,7 +280,9 @@ uint32_t labels_nf_equal_explain(LABELS_WORDS(state), LABELS_READ(terms), LABELS
  * Both are 0 at the start. `marks` has 1,597 words or more, which the caller keeps between the calls and does not write: words 0 to 63 are
  * the marks', then three words for each join recorded. What they hold above the two counts is free. A state or an answer under eight words,
  * a shorter `marks`, a count above 64 or 511 is refusal 1. Store and marks are audited first: refusals 2 to 4 are the store's, and 3 is also
- * that going back to a standing mark would give classes that fail. After a refusal no word of any slice is written. */
+ * that going back to a standing mark would give classes that fail, and that counts and words are such as no call leaves: joins counted while
+ * no mark stands (words 6 and 7 are 0 and 1), a word other than 0 for the first mark, marks' words that fall or pass the count of joins. After
+ * a refusal no word of any slice is written. */
 
 /* Joins the classes of two string terms under a reason, kind 1 asserted or 2 interface and its number below 2^31: one forest edge between a
  * and b with that kind, number and stamp 0; every other edge keeps its ends, kind, value and stamp. Word 0 of the answer is 1, or 0 where the
@@ -292,8 +297,9 @@ uint32_t labels_set_mark(LABELS_WORDS(state), LABELS_READ(terms), LABELS_READ(ce
                          LABELS_READ(keys), LABELS_WORDS(marks), LABELS_WORDS(answer));
 
 /* Goes back to a mark, which uses up that mark and later ones: the joins since it are undone, so that each term counted at the mark has the
- * words that it had then, and terms appended since stay, each alone in its class. Writes the class words of counted terms and words 6 and 7
- * of the state; the other counts, reasons, keys and the name counter stay. A mark that is not standing, 0 too: refusal 10. */
+ * words that it had then, and terms appended since stay, each alone in its class, whatever calls were made between. Writes the class words of
+ * counted terms and words 6 and 7 of the state; the other counts, reasons, keys and the name counter stay. A mark that is not standing, 0 too:
+ * refusal 10. */
 uint32_t labels_go_back(LABELS_WORDS(state), LABELS_WORDS(terms), LABELS_READ(cells), LABELS_READ(chars), LABELS_READ(reasons),
                         LABELS_READ(keys), LABELS_READ(marks), uint32_t mark);
 

@@ -92,7 +92,7 @@ pub fn one(call: Calling, s: &Lent, r: &Request, tally: &mut Tally) -> Result<()
     for o in [oracle::run(s, &resolve, Mode::Departing).outcome, own] {
         let due = o.code == 7 || o.code == 0 && o.answer[0] == if flattened { SATURATED } else { CONFLICT };
         if !due {
-            return Err(format!("no text fits, yet\n{resolve:?}\n{s}\ngives {o}"));
+            return Err(format!("a remainder or a shortage, yet\n{resolve:?}\n{s}\ngives {o}"));
         }
         tally.refuted[if o.code == 7 { 2 } else { flattened as usize }] += 1;
     }

@@ -189,8 +189,8 @@ impl Form {
     }
 }
 
-/// The parts of a label that must still become "": that they do follows from the equation between the two lists, and rests on what the lists
-/// rest on.
+/// The parts of a label that must still become "": if the two sides have equal texts, each of these variables has the text of "", whatever was
+/// merged. That rests on the equation between the lists and on what the lists rest on.
 ///
 /// ```
 /// let mut store = labels::Store::new();
@@ -247,7 +247,9 @@ pub enum Span {
     Shortage(u32),
 }
 
-/// The forced length of a repeated field: with a rest above 0 or a shortage no text fits.
+/// The forced length of a repeated field. With a rest above 0 or a shortage [`Store::resolve_equation`](crate::Store::resolve_equation) answers
+/// Conflict on the same lists, or Saturated where it flattened, unless the reasons are full: no texts fit under the reasons that the Conflict
+/// names, and without them some may.
 ///
 /// ```
 /// use labels::{Fit, Span};

@@ -1,4 +1,4 @@
-//! The label resolver's store and calls, with nothing unsafe for their user. Each call audits the store first.
+//! The label resolver's store and calls, with nothing unsafe for their user. Each call audits the store first, and what it leaves passes again.
 //!
 //! A term stands for a text: a constant for its own characters, a variable for any text, a concatenation for the texts of its parts in
 //! order. Classes of terms are joined for reasons, and a question about an equation is answered with the reasons that the answer rests on.
@@ -53,7 +53,7 @@ use std::fmt;
 /// The version of this crate, of `labels.h` and of the changelog.
 ///
 /// ```
-/// assert_eq!(labels::VERSION, "0.8.1");
+/// assert_eq!(labels::VERSION, "0.9.0");
 /// ```
 pub const VERSION: &str = env!("CARGO_PKG_VERSION");
 
@@ -371,8 +371,8 @@ impl Store {
         self.answered(raw::set_mark)
     }
 
-    /// Goes back to a mark, which uses up that mark and later ones. The joins since it are undone: each term counted then has the words that
-    /// it had, and terms made since stay, each alone in its class. Reasons and keys stay too.
+    /// Goes back to a mark, which uses up that mark and later ones. The joins since it are undone, whatever calls were made between: each term
+    /// counted then has the words that it had, and terms made since stay, each alone in its class. Reasons and keys stay too.
     ///
     /// ```
     /// let mut store = labels::Store::new();
@@ -537,7 +537,7 @@ impl Store {
     /// then same tails are stripped; lists of another form are refused. Nothing is written.
     ///
     /// With a rest above 0 or a shortage [`Store::resolve_equation`] answers Conflict on the same lists, or Saturated where it flattened, unless
-    /// the reasons are full.
+    /// the reasons are full: no texts fit under the reasons that the Conflict names, and without them some may.
     ///
     /// ```
     /// use labels::{Fit, Refusal, Span};

@@ -15,21 +15,22 @@ use Rattle.wordeq.specs.Calls.{equalArguments}
 use Rattle.empties.specs.declared.Empties.{Empties}
 use Rattle.empties.specs.declared.Empties.the-variants as empties
 use Rattle.empties.specs.Empties.{Parts, emptyParts}
+use Rattle.empties.specs.Meaning.{Becomes}
 use Rattle.empties.specs.Repeats.{Repeats}
 use Rattle.empties.specs.Calls.{listed, PublicEmpties}
-use Rattle.empties.proofs.Given.{parts-kept, parts-few, parts-stops}
+use Rattle.empties.proofs.Given.{parts-later, parts-few, parts-stops}
 use Rattle.capi.specs.Interface.{stateOf, roomy, over, told}
 use Rattle.capi.specs.Equations.{flag}
 use Rattle.capi.specs.Parts.{partsWords, partsRead, ExportedParts}
 use Rattle.capi.specs.Working.Leaves.{NarrowList, ToldBy}
 use Rattle.capi.specs.Working.Parting.{partsTelling, NarrowParts}
 use Rattle.capi.proofs.Exports.{Tells, Shows}
-use Rattle.capi.proofs.Listings.{list-gives, list-narrow, list-exported, untold-list}
+use Rattle.capi.proofs.Listings.{list-gives, list-narrow, list-exported, list-worth, untold-list}
 use Rattle.capi.proofs.AnswerExports.{flag-back}
 
 parts-tells : (l r : List ℕ) → Tells (equalArguments l r) (emptyParts l r)
 parts-tells l r = record {
-  keeps = λ s s′ x a f e. parts-kept l r s s′ x a e;
+  keeps = λ s s′ x a f e. parts-later l r s s′ x a e .audited;
   stops = λ s n a f e z. let q = parts-stops l r s n e in absurd (omega arith);
 }
 
@@ -44,7 +45,7 @@ parts-shows (empties.Parts c e n f) m′ k′ = record {
 parts-shows (empties.Refused k) m′ k′ = refl
 
 pub parts-untold : (l r : List ℕ) (m : Lent) (k w a : List ℕ) → roomy w a ≡ false → ExportedParts l r m m k k w w a a 1
-parts-untold l r m k w a e = record { is = untold-list _ partsWords m k w a _ e; worth = λ f. absurd (f 1 refl (omega arith)) }
+parts-untold l r m k w a e = record { is = untold-list _ partsWords m k w a _ e; repeats = λ f. absurd (f 1 refl (omega arith)); worth = λ z. absurd (omega arith) }
 
 module _ {l r : List ℕ} {m m′ : Lent} {k k′ : List ℕ} {c : State} {o : Empties} (called : PublicEmpties l r m m′ k k′ c (listed o m′ k′)) where
   pub parts-tellable : NarrowParts o
@@ -64,6 +65,8 @@ module _ {l r : List ℕ} {m m′ : Lent} {k k′ : List ℕ} {c : State} {o : E
       ∙ ap (λ (d : State). listCall k (equalArguments l r) (emptyParts l r) m d) (sym e) ∙ sym (called .is .store .says) in
       record {
         is = x;
-        worth = λ f. subst (λ (d : State). Repeats (storeOf m d) l r (told n w′ m′ (partsRead k′ a′))) e
-            (subst (Repeats (storeOf m c) l r) (sym q) (called .worth (λ j i. f j (q ∙ i))));
+        repeats = λ f. subst (λ (d : State). Repeats (storeOf m d) l r (told n w′ m′ (partsRead k′ a′))) e
+            (subst (Repeats (storeOf m c) l r) (sym q) (called .repeats (λ j i. f j (q ∙ i))));
+        worth = list-worth (parts-tells l r) (called .is) partsWords (partsRead k′) (partsTelling o) (parts-shows o m′ k′) room e (u .is)
+            (λ s′ y z. subst (λ (d : State). Becomes (storeOf m d) s′ l r y) e (called .worth s′ y z));
       }

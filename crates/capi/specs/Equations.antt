@@ -23,9 +23,8 @@ abbrev pub flag : Bool → ℕ
 flag true = 1
 flag false = 0
 
--- 'the case (0 Done, 1 Saturated, 2 Conflict, 3 Propagate, 4 Split ..) into word 0, for Propagate variable, word and link flag into 1 to
--- 3, for Split the atom count and the negated guard as a 32-bit two's complement into 1 and 2'; and into 3 how many terms the Split made:
--- 'The result carries the number'
+-- the case in word 0: 0 Done, 1 Saturated, 2 Conflict, 3 Propagate, 4 Split; of Propagate the variable, the word and the link flag in words 1
+-- to 3; of Split the atom count, the negated guard as 32-bit two's complement and how many terms it made: 'The result carries the number'
 abbrev pub answerWords : Answer → List ℕ
 answerWords done = 0 ∷ []
 answerWords saturated = 1 ∷ []
@@ -54,7 +53,7 @@ pub record ExportedResolve (l r : List ℕ) (g : ℤ) (m m′ : Lent) (k k′ w 
   pub grows : n ≡ 0 → getD a′ 0 0 ≡ 4 → getD w′ 0 0 ≡ getD a′ 3 0 + getD w 0 0
   pub decides : (v : ℕ) → Repeated (storeOf m (stateOf w)) v l r → Worked (told n w′ m′ (answerRead k′ a′)) → Decides (storeOf m (stateOf w)) l r (told n w′ m′ (answerRead k′ a′))
 
--- 'nf_equal 0 or 1' into word 0
+-- nf_equal: 0 or 1 in word 0
 abbrev pub flagWords : Bool → List ℕ
 flagWords b = flag b ∷ []
 

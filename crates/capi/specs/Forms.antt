@@ -11,10 +11,11 @@ use Rattle.normalize.specs.Meaning.{Forms, DeepForms}
 use Rattle.normalize.specs.Calls.{firstWords, listCall}
 use Rattle.capi.specs.Interface.{stateOf, roomy, over, AnsweredList}
 
--- 'normal forms put 1 and the list's count (deep: 0 and 0 for None) into words 0 and 1'
+-- of a normal form: 1 in word 0 and the list's count in word 1
 abbrev pub formWords : List ℕ → List ℕ
 formWords x = 1 ∷ length x ∷ []
 
+-- of a deep form the same, and 0 and 0 for None
 abbrev pub deepWords : Option (List ℕ) → List ℕ
 deepWords none = 0 ∷ 0 ∷ []
 deepWords (some x) = 1 ∷ length x ∷ []

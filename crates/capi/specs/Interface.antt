@@ -32,12 +32,12 @@ pub record Beyond (n : ℕ) (w v : List ℕ) : Type 0 where
 unfoldable pub roomy : List ℕ → List ℕ → Bool
 roomy w a = leb 6 (length w) && leb 8 (length a)
 
--- the audit's result; 'a state under six .. words is refusal 1'
+-- the audit's result, and 1 for a state under six words
 unfoldable pub audited : List ℕ → Lent → ℕ
 audited w m = if leb 6 (length w) then audit m (stateOf w) else 1
 
 module _ {A : Type 0} where
-  -- 'a state under six or an answer under eight words is refusal 1'
+  -- 1 for a state or an answer that is too short
   abbrev pub over : Bool → Out A → Out A
   over fit o = if fit then o else stop 1
 

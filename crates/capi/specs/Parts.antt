@@ -10,6 +10,7 @@ use Rattle.records.specs.Calls.{writesNothing}
 use Rattle.normalize.specs.Calls.{firstWords, listCall}
 use Rattle.wordeq.specs.Calls.{equalArguments}
 use Rattle.empties.specs.Empties.{Parts, emptyParts}
+use Rattle.empties.specs.Meaning.{Becomes}
 use Rattle.empties.specs.Repeats.{Repeats}
 use Rattle.capi.specs.Interface.{stateOf, roomy, over, told, AnsweredList}
 use Rattle.capi.specs.Equations.{flag}
@@ -22,7 +23,9 @@ partsWords x = length (x .listed) ∷ x .empty ∷ flag (x .link) ∷ []
 abbrev pub partsRead : List ℕ → List ℕ → Parts
 partsRead l a = record { empty = getD a 1 0; listed = firstWords l (getD a 0 0); link = eqb (getD a 2 0) 1 }
 
--- empty_parts told in words, and what it is worth: where 1 to 5 do not refuse, it is what repeated calls give
+-- empty_parts told in words; where 1 to 5 do not refuse, it is what repeated calls give; and what it is worth: if the sides have equal words,
+-- each listed variable has the word of ""
 pub record ExportedParts (l r : List ℕ) (m m′ : Lent) (k k′ w w′ a a′ : List ℕ) (n : ℕ) : Type 0 where
   pub is : AnsweredList (over (roomy w a) (listCall k (equalArguments l r) (emptyParts l r) m (stateOf w))) partsWords m m′ k k′ w w′ a a′ (partsRead k′ a′) n
-  pub worth : ((j : ℕ) → told n w′ m′ (partsRead k′ a′) ≡ stop j → writesNothing j → ⊥) → Repeats (storeOf m (stateOf w)) l r (told n w′ m′ (partsRead k′ a′))
+  pub repeats : ((j : ℕ) → told n w′ m′ (partsRead k′ a′) ≡ stop j → writesNothing j → ⊥) → Repeats (storeOf m (stateOf w)) l r (told n w′ m′ (partsRead k′ a′))
+  pub worth : n ≡ 0 → Becomes (storeOf m (stateOf w)) (storeOf m′ (stateOf w′)) l r (partsRead k′ a′)

@@ -13,7 +13,7 @@ use Rattle.equation.specs.Equation.{Stepped, unexpanded, answered, step, stepAr
 use Rattle.capi.specs.Interface.{stateOf, roomy, over, AnsweredList}
 use Rattle.capi.specs.Equations.{answerWords, answerBy}
 
--- '5 Unexpanded' into word 0; the others as wordeq's
+-- 5 for Unexpanded in word 0; the others as wordeq's
 abbrev pub stepWords : Stepped → List ℕ
 stepWords unexpanded = 5 ∷ []
 stepWords (answered x) = answerWords x

@@ -27,7 +27,7 @@ empty = record {
   reasons = [];
   keys = [];
   names = 0;
-  room = record { terms = 512; cells = 2048; chars = 16384; reasons = 4096; keys = 4096; zeroTerm = noTerm; zeroCell = noCell };
+  room = record { terms = 512; cells = 2048; chars = 16384; reasons = 4096; keys = 4096; termsLong = 4104; cellsLong = 6147; zeroTerm = noTerm; zeroCell = noCell };
 }
 
 unfoldable pub codes : String → List ℕ

@@ -2,25 +2,22 @@ mod MovedClimbs
 mod Tables
 pub mod Alike
 mod Turning
-mod Undoing
-mod Appending
+pub mod Undoing
+pub mod Appending
 mod Between
 mod Flips
 mod Rounds
-mod Cutting
-mod Enough
+pub mod Cutting
+pub mod Enough
 pub mod Dividing
 mod Under
 mod Attaching
 pub mod JoinKept
 mod MergeKept
-mod Undone
-mod Marking
-mod Tracking
-mod Generating
-mod AlikeMade
-mod Later
-mod Events
-mod Invariant
-mod Histories
+pub mod Undone
+pub mod Marking
+pub mod Tracking
+pub mod AlikeMade
+pub mod MarksLater
+pub mod ReadyMarks
 mod Refines

@@ -10,9 +10,9 @@ use lib.Seq.{length-take-le, drop-length, drop-append-le}
 use lib.Dec.{eqb, ltb, leb}
 use borrow.Author.Tests.{ltb-true, ltb-false, leb-true, le-leb}
 use Rattle.records.specs.Lists.{all, oneMore, Every, none-left, and}
-use Rattle.records.specs.Store.{Term, Store, within}
-use Rattle.records.specs.Rules.{classesRule, congruencesRule}
-use Rattle.records.specs.Make.{withTerms}
+use Rattle.records.specs.Store.{Term, Cell, Store, within}
+use Rattle.records.specs.Rules.{classesRule, congruencesRule, parentsRule, endsRule, alikeRule, aloneRule, labelRule, congruenceRule, pairsOf, fallsRule}
+use Rattle.records.specs.Make.{withTerms, withCells}
 use Rattle.records.specs.Working.Audited.{Audited}
 use Rattle.records.proofs.Lists.{both-left, both-right, both-true, decide, all-append, all-take, all-every, every-all, every-map, every-both, every-at, within-low, within-high}
 use Rattle.records.proofs.Grown.{string-term}
@@ -75,6 +75,21 @@ counts-take b k [] h e = absurd (omega arith)
 counts-take b zero (n ∷ l) h e = both-left (eqb n 0) _ e
 counts-take b (suc k) (n ∷ l) h e = both-true _ _ (both-left (eqb n 0) _ e) (rises-take n b k l (omega arith) (both-right (eqb n 0) _ e))
 
+-- WHAT THE RULES READ
+
+-- refusals 3 and 4 read the terms and the cells alone
+pub classes-alone : (ts : List Term) (s s′ : Store) → classesRule (withTerms s′ ts) ≡ classesRule (withTerms s ts)
+unfolding classesRule parentsRule endsRule alikeRule labelRule aloneRule
+classes-alone ts s s′ = refl
+
+congruences-alone : (ts : List Term) (s s′ : Store) → s′ .cells ≡ s .cells → congruencesRule (withTerms s′ ts) ≡ congruencesRule (withTerms s ts)
+unfolding congruencesRule congruenceRule pairsOf fallsRule
+congruences-alone ts s s′ e = ap (λ (cs : List Cell). congruencesRule (withTerms (withCells s cs) ts)) e
+
+pub passes-alone : (o : Option (List Term)) (s s′ : Store) → s′ .cells ≡ s .cells → passes s′ o ≡ passes s o
+passes-alone none s s′ e = refl
+passes-alone (some ts) s s′ e = let p = classes-alone ts s s′ in let q = congruences-alone ts s s′ e in cc
+
 -- THE RULE OF MARKS
 
 -- the rule reads of the store all but its table
@@ -85,7 +100,7 @@ passes-at s us o o′ e h = subst (λ (p : Option (List Term)). passes (withTerm
     go none h = h
     go (some ts) h = h
 
-passes-whole : (s : Store) → Audited s → passes s (some (s .terms)) ≡ true
+pub passes-whole : (s : Store) → Audited s → passes s (some (s .terms)) ≡ true
 passes-whole s a = both-true _ _ (classes-of s (a .classed)) (congruent-of s (a .congruences))
 
 module _ (s : Store) (x : Trail) (h : marksRule s x ≡ true) where
@@ -135,13 +150,38 @@ rule-mark s x au h =
 
 -- GOING BACK
 
--- where going back to mark i leads: the same terms, a table that refusals 2 to 4 let pass, and the marks before i
+-- where undoing joins leads that the rule holds a mark to: the same terms, and a table that the audit lets pass
+pub record Earlier (s : Store) (l : List Trace) : Type 0 where
+  pub table : List Term
+  pub is : undoAll l (s .terms) ≡ some table
+  pub like : Like (s .terms) table
+  pub audited : Audited (withTerms s table)
+
+pub earlier : (s : Store) (l : List Trace) → Audited s → passes s (undoAll l (s .terms)) ≡ true → Earlier s l
+earlier s l au h = go (undoAll l (s .terms)) refl h
+  where
+    go : (o : Option (List Term)) → undoAll l (s .terms) ≡ o → passes s o ≡ true → Earlier s l
+    go none e p = absurd (false≢true p)
+    go (some us) e p =
+        let k = undone-stays l (s .terms) us (classed-forest s (au .classed)) e .like in
+        record {
+          table = us;
+          is = e;
+          like = k;
+          audited = record {
+            roomy = roomy-like s us k (au .roomy);
+            recorded = recorded-like s us k (au .recorded);
+            classed = classed-of _ (both-left _ _ p);
+            congruences = congruences-of _ (both-right (classesRule (withTerms s us)) _ p);
+          };
+        }
+
+-- where going back to mark i leads, and that the marks before i are left
 pub record Back (s : Store) (x : Trail) (i : ℕ) : Type 0 where
   pub table : List Term
   pub is : tableAt (joinsAt i x) x (s .terms) ≡ some table
   pub like : Like (s .terms) table
-  pub classes : classesRule (withTerms s table) ≡ true
-  pub congruences : congruencesRule (withTerms s table) ≡ true
+  pub audited : Audited (withTerms s table)
   pub marks : marksRule (withTerms s table) (before i x) ≡ true
 
 module _ (s : Store) (x : Trail) (h : marksRule s x ≡ true) (i : ℕ) (w : within (length (x .marks)) i ≡ true) where
@@ -157,15 +197,15 @@ module _ (s : Store) (x : Trail) (h : marksRule s x ≡ true) (i : ℕ) (w : wit
   n-joins : length (take n (x .joins)) ≡ n
   n-joins = length-take-le n (x .joins) n-low
 
-  n-passes : passes s (tableAt n x (s .terms)) ≡ true
+  pub n-passes : passes s (tableAt n x (s .terms)) ≡ true
   n-passes = every-at (x .marks) (i - 1) 0 (all-every _ _ (passes-of s x h)) place
 
-  counts-before : countsRule (take (i - 1) (x .marks)) n ≡ true
+  pub counts-before : countsRule (take (i - 1) (x .marks)) n ≡ true
   counts-before = counts-take (length (x .joins)) (i - 1) (x .marks) place (counts-of s x h)
 
   module _ (us : List Term) (e : tableAt n x (s .terms) ≡ some us) where
     -- what is left leads to the tables of earlier marks as the whole did
-    table-before : (m : ℕ) → m ≤ n → tableAt m (before i x) us ≡ tableAt m x (s .terms)
+    pub table-before : (m : ℕ) → m ≤ n → tableAt m (before i x) us ≡ tableAt m x (s .terms)
     table-before m l =
         sym (undo-append (drop m (take n (x .joins))) (drop n (x .joins)) (s .terms) us e)
         ∙ ap (λ (k : List Trace). undoAll k (s .terms)) (sym (drop-append-le m (take n (x .joins)) (drop n (x .joins)) (let q = n-joins in omega arith)) ∙ ap (drop m) (take-append-drop n (x .joins)))
@@ -177,23 +217,6 @@ module _ (s : Store) (x : Trail) (h : marksRule s x ≡ true) (i : ℕ) (w : wit
         (every-all (every-map (λ m q. passes-at s us _ _ (table-before m (q .0)) (q .1)) (every-both (counts-low n (take (i - 1) (x .marks)) counts-before) (all-every _ _ (all-take _ (i - 1) (x .marks) (passes-of s x h))))))
 
   pub rule-back : Audited s → Back s x i
-  rule-back au = go (tableAt n x (s .terms)) refl n-passes
-    where
-      go : (o : Option (List Term)) → tableAt n x (s .terms) ≡ o → passes s o ≡ true → Back s x i
-      go none e p = absurd (false≢true p)
-      go (some us) e p = record {
-        table = us;
-        is = e;
-        like = undone-stays (drop n (x .joins)) (s .terms) us (classed-forest s (au .classed)) e .like;
-        classes = both-left _ _ p;
-        congruences = both-right (classesRule (withTerms s us)) _ p;
-        marks = marks-before us e;
-      }
-
-pub back-audited : (s : Store) (x : Trail) (i : ℕ) → Audited s → (g : Back s x i) → Audited (withTerms s (g .table))
-back-audited s x i au g = record {
-  roomy = roomy-like s (g .table) (g .like) (au .roomy);
-  recorded = recorded-like s (g .table) (g .like) (au .recorded);
-  classed = classed-of _ (g .classes);
-  congruences = congruences-of _ (g .congruences);
-}
+  rule-back au =
+      let g = earlier s (drop n (x .joins)) au n-passes in
+      record { table = g .table; is = g .is; like = g .like; audited = g .audited; marks = marks-before (g .table) (g .is) }

@@ -19,7 +19,7 @@ use Rattle.classes.specs.Joins.{traceOf, joinIn}
 use Rattle.classes.specs.Marks.{Trail, markLimit, tableAt, marksRule, auditTrail}
 use Rattle.classes.specs.Calls.{Outcome, gives, refuses, joinArguments, recorded, joinTerms, setMark, joinsAt, before, goBack}
 use Rattle.classes.proofs.JoinKept.{Joinable, join-kept}
-use Rattle.classes.proofs.Marking.{rule-join, rule-mark, Back, rule-back, back-audited}
+use Rattle.classes.proofs.Marking.{rule-join, rule-mark, Back, rule-back}
 
 pub record Tracked (s : Store) (x : Trail) : Type 0 where
   pub audited : Audited s
@@ -122,4 +122,4 @@ module _ (s : Store) (x : Trail) (h : Tracked s x) where
     where
       go : {o : Outcome} → Going i s x o → Keeps o
       go absent = not-kept
-      go (goes w g) = kept (record { audited = back-audited s x i (h .audited) g; marked = g .marks })
+      go (goes w g) = kept (record { audited = g .audited; marked = g .marks })

@@ -91,8 +91,8 @@ pub record Leaves (m m′ : Lent) (l l′ : List ℕ) (c : State) (e : Standing)
   pub long : length l′ ≡ length l
 
 -- a call's promise names the words lent for marks beside the store's, at entry and at exit
-abbrev pub Marked : (Lent → Lent → List ℕ → List ℕ → State → Standing → Answer → Type 0) → Both Lent Lent → Slice → State → Standing → Answer → Type 0
-Marked P x l c d r = P (x .entry) (x .exit) (now (l .entry)) (now (l .exit)) c d r
+abbrev pub Marked : {B : Type 1} → (Lent → Lent → List ℕ → List ℕ → B) → Both Lent Lent → Slice → B
+Marked P x l = P (x .entry) (x .exit) (now (l .entry)) (now (l .exit))
 
 -- its answer, that a refusal writes nothing, what it leaves alone, and that store and marks pass the audit again
 pub record Tracks (work : Store → Trail → Outcome) (m m′ : Lent) (l l′ : List ℕ) (c : State) (d : Standing) (r : Answer) : Type 0 where

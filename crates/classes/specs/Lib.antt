@@ -2,8 +2,5 @@ pub mod Merge
 pub mod Joins
 pub mod Marks
 pub mod Calls
-pub mod History
 pub mod JoinCases
-pub mod HistoryCases
-pub mod MarkCases
 pub mod Working

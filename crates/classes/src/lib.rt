@@ -2,15 +2,16 @@
 // under a term of another as `labelstep` does for its command `M child parent n`.
 ghost use mathlib.Core.Path.{_≡_};
 ghost use mathlib.Core.Bool.{true};
-ghost use Prim.Native.Nat.{_≤_};
+ghost use Prim.Native.Nat.{_≤_, _<_};
 ghost use lib.ListN.{length};
 ghost use Rattle.records.specs.Store.{within};
 ghost use Rattle.records.specs.View.{storeOf, termAt, termsView, termWords, termed, lends, across, Between};
 ghost use Rattle.records.specs.Rules.{isReasonKind};
 ghost use Rattle.records.specs.Working.Puts.{TermSet};
 ghost use Rattle.records.specs.Working.Audited.{Ready};
+ghost use Rattle.classes.specs.Marks.{markLimit};
 ghost use Rattle.classes.specs.Calls.{joinArguments, setMark, goBack, Marked, Tracks, PublicJoin};
-ghost use Rattle.classes.specs.Working.Carries.{CanJoin, Joined, CanGo, Went};
+ghost use Rattle.classes.specs.Working.Doing.{ReadyMarks, WorkingMarks, WorkingJoin};
 ghost use Rattle.classes.specs.Merge.{isRootIn, canMerge, under, PublicMerge};
 use crate::links::link_unchecked;
 use crate::trail::MARK_LIMIT;
@@ -151,49 +152,91 @@ fn can_join(terms: &[u32], c: State, a: u32, b: u32, kind: u32, number: u32) -> 
     is_number(number)
 }
 
-// Joins two terms: 1 where it did, 0 where they are in one class already.
+// What joining answers over store and marks that pass: 1 where it joined, 0 where the terms are in one class already; and the counts after it.
+pub struct Joining {
+    pub answer: u32,
+    pub standing: Standing,
+}
+
+// THE WORKING FORMS: over store and marks that pass, with arguments that fit. They leave store and marks that pass, and none of them refuses.
+
+// Joins two terms.
 pub fn join_unchecked(
     terms: &mut [u32],
-    n: usize,
+    cells: &[u32],
+    chars: &[u32],
+    reasons: &[u32],
+    keys: &[u32],
+    c: State,
     marks: &mut [u32],
     d: Standing,
     a: u32,
     b: u32,
     kind: u32,
     number: u32,
-) -> Answer
-    requires { ⌜ CanJoin (now terms) n (now marks) d a b ⌝ }
-    ensures { λ r. ⌜ Joined (now (terms .entry)) (now (terms .exit)) n (now (marks .entry)) (now (marks .exit)) d a b kind number r ⌝ }
+) -> Joining
+    requires { ⌜ ReadyMarks (lends terms cells chars reasons keys) (now marks) c d ⌝ }
+    requires { ⌜ joinArguments a b kind number (storeOf (lends terms cells chars reasons keys) c) ≡ true ⌝ }
+    ensures { λ r. ⌜ Marked (WorkingJoin a b kind number) (across terms cells chars reasons keys) marks c d (r .answer) (r .standing) ⌝ }
 {
-    let under = root_unchecked(terms, n, a);
-    let over = root_unchecked(terms, n, b);
+    let under = root_unchecked(terms, c.terms, a);
+    let over = root_unchecked(terms, c.terms, b);
     if under == over {
-        return Answer::Given(0, d);
+        return Joining {
+            answer: 0,
+            standing: d,
+        };
     }
-    let old = top_unchecked(terms, n, a);
+    let old = top_unchecked(terms, c.terms, a);
     let e = record_join_unchecked(marks, d, a, old, under);
-    link_unchecked(terms, n, a, b, under, over, kind, number);
-    Answer::Given(1, e)
+    link_unchecked(terms, c.terms, a, b, under, over, kind, number);
+    Joining {
+        answer: 1,
+        standing: e,
+    }
 }
 
-// Goes back to a mark that stands. The audit of marks shuts out that there is no table to go back to.
+// Sets a mark, which is the last that stands: its number is the count of marks.
+pub fn set_mark_unchecked(
+    terms: &[u32],
+    cells: &[u32],
+    chars: &[u32],
+    reasons: &[u32],
+    keys: &[u32],
+    c: State,
+    marks: &mut [u32],
+    d: Standing,
+) -> Standing
+    requires { ⌜ ReadyMarks (lends terms cells chars reasons keys) (now marks) c d ⌝ }
+    requires { ⌜ d .marks < markLimit ⌝ }
+    ensures { λ r. ⌜ Marked (WorkingMarks setMark) (across terms cells chars reasons keys) marks c d (r .marks) r ⌝ }
+{
+    record_mark_unchecked(marks, d)
+}
+
+// Goes back to a mark that stands. Marks that pass lead to a table, so the answer whether there is one is not looked at.
 pub fn go_back_unchecked(
     terms: &mut [u32],
-    n: usize,
+    cells: &[u32],
+    chars: &[u32],
+    reasons: &[u32],
+    keys: &[u32],
+    c: State,
     marks: &[u32],
     d: Standing,
     mark: u32,
-) -> Answer
-    requires { ⌜ CanGo (now terms) n (now marks) d mark ⌝ }
-    ensures { λ r. ⌜ Went (now (terms .entry)) (now (terms .exit)) n (now (marks .entry)) d mark r ⌝ }
+) -> Standing
+    requires { ⌜ ReadyMarks (lends terms cells chars reasons keys) (now marks) c d ⌝ }
+    requires { ⌜ within (d .marks) mark ≡ true ⌝ }
+    ensures { λ r. ⌜ Marked (WorkingMarks (goBack mark)) (across terms cells chars reasons keys) marks c d mark r ⌝ }
 {
     let left = wide(mark) - 1;
     let joins = wide(word(marks, left));
-    if !undo_to_unchecked(terms, n, marks, d.joins, joins) {
-        return Answer::Refused(3);
-    }
-    Answer::Given(mark, Standing { marks: left, joins })
+    undo_to_unchecked(terms, c.terms, marks, d.joins, joins);
+    Standing { marks: left, joins }
 }
+
+// THE CALLS
 
 // Joins two string terms under a reason: kind 1 asserted or 2 interface, and its number.
 pub fn join(
@@ -219,7 +262,22 @@ pub fn join(
     if !can_join(terms, c, a, b, kind, number) {
         return Answer::Refused(5);
     }
-    join_unchecked(terms, c.terms, marks, d, a, b, kind, number)
+    let r = join_unchecked(
+        terms,
+        cells,
+        chars,
+        reasons,
+        keys,
+        c,
+        marks,
+        d,
+        a,
+        b,
+        kind,
+        number,
+    );
+    let e = r.standing;
+    Answer::Given(r.answer, e)
 }
 
 // Sets a mark and answers its number.
@@ -242,7 +300,7 @@ pub fn set_mark(
     if d.marks >= MARK_LIMIT {
         return Answer::Refused(10);
     }
-    let e = record_mark_unchecked(marks, d);
+    let e = set_mark_unchecked(terms, cells, chars, reasons, keys, c, marks, d);
     Answer::Given(e.marks as u32, e)
 }
 
@@ -267,5 +325,6 @@ pub fn go_back(
     if !is_within(d.marks, mark) {
         return Answer::Refused(10);
     }
-    go_back_unchecked(terms, c.terms, marks, d, mark)
+    let e = go_back_unchecked(terms, cells, chars, reasons, keys, c, marks, d, mark);
+    Answer::Given(mark, e)
 }

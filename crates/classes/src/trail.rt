@@ -76,7 +76,7 @@ pub(crate) fn record_join_unchecked(
 }
 
 // Records a mark.
-pub fn record_mark_unchecked(marks: &mut [u32], d: Standing) -> Standing
+pub(crate) fn record_mark_unchecked(marks: &mut [u32], d: Standing) -> Standing
     requires { ⌜ TrailSized (now marks) d ⌝ ∗ ⌜ d .marks < markLimit ⌝ }
     ensures { λ r. do
       let x = trailOf (now (marks .entry)) d
@@ -103,7 +103,8 @@ fn undo_join_unchecked(terms: &mut [u32], n: usize, marks: &[u32], j: usize) -> 
     undo_unchecked(terms, n, child, old, under)
 }
 
-// Undoes the joins after the first of them, the last first; false where a record is no trace of a join.
+// Undoes the joins after the first of them, the last first; false where a record is no trace of a join. Then the terms are a table that no
+// caller uses: the audit works on a copy, and going back is over marks that pass, where false does not come.
 pub(crate) fn undo_to_unchecked(
     terms: &mut [u32],
     n: usize,
@@ -153,7 +154,7 @@ fn counts_ok(marks: &[u32], d: Standing) -> bool
 // The words of n terms, record 0 too.
 fn copy_terms_unchecked(terms: &[u32], n: usize, table: &mut [u32; 4104])
     requires { ⌜ n ≤ termLimit ⌝ ∗ ⌜ termWords n ≤ length (now terms) ⌝ ∗ ⌜ length (now table) ≡ termWords termLimit ⌝ }
-    ensures { λ _. ⌜ Copied (now (terms .entry)) (now (table .exit)) n ⌝ }
+    ensures { λ _. ⌜ Copied (now (terms .entry)) (now (table .entry)) (now (table .exit)) n ⌝ }
 {
     let words = TERM_WIDTH * (n + 1);
     let mut i: usize = 0;

@@ -11,8 +11,8 @@ use Rattle.commands.specs.declared.Parsed.the-variants as parsed
 use Rattle.commands.specs.Texts.{space, fields, numbers, numberBelow, wordLimit, guardOf}
 use Rattle.commands.specs.Utf8.{decode}
 
--- '`C text`, `V name`, `P t u ..`, `E t u` make terms; `M child parent n` joins two classes under asserted reason n; `K ..` sets
--- the known list; `R e g` runs the step'
+-- '`C text`, `V name`, `P t u ..`, `E t u` make terms', '`M child parent n` joins two classes under asserted reason n', '`K ..` sets
+-- the known list', '`R e g` runs the step'
 pub data Command : Type 0 where
   constant : List ℕ → Command
   variable : List ℕ → Command

@@ -346,10 +346,6 @@ module _ {s : Store} where
   formed-length (left a b q h) = refl
   formed-length (right a b q h) = ap length (sym (append-nil (a ∷ b ∷ q)))
 
-  pub formed-two : {l r p : List ℕ} → Formed s l r p → 2 ≤ length p
-  formed-two (left a b q h) = omega arith
-  formed-two (right a b q h) = omega arith
-
   pub formed-in : {s₁ : Store} {l r p : List ℕ} → Formed s l r p → all (isVariable s₁) p ≡ true → Formed s₁ l r p
   formed-in (left a b q h) h₁ = left a b q h₁
   formed-in (right a b q h) h₁ = right a b q h₁

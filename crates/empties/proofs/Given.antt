@@ -12,14 +12,15 @@ use Rattle.records.specs.Make.{makeConstant}
 use Rattle.records.specs.Working.Audited.{Audited}
 use Rattle.records.proofs.Works.{via, branch}
 use Rattle.records.proofs.Kept.{constant-kept, constant-stops}
+use Rattle.records.proofs.Later.{Later, later-none, later-made}
 use Rattle.normalize.specs.Normalize.{flatten}
 use Rattle.normalize.proofs.Atoms.{flatten-flat, flatten-stops}
 use Rattle.empties.specs.Empties.{emptyAgainst, unmet, Parts, partsOf, emptied, sides, emptyParts}
 use Rattle.empties.proofs.Unmet.{unmet-few}
 
--- an audited store, and no more than 1,024 variables listed
+-- a later store, and no more than 1,024 variables listed
 record Gives (s s′ : Store) (x : Parts) : Type 0 where
-  kept : Audited s → Audited s′
+  later : Audited s → Later s s′
   few : length (x .listed) ≤ listLimit
 
 emptied-gives : (p : List ℕ) (s s′ : Store) (x : Parts) → length p ≤ listLimit → emptied p s ≡ ok s′ x → Gives s s′ x
@@ -30,7 +31,7 @@ emptied-gives p s s′ x h e =
     let j : partsOf y (unmet s₁ (y ∷ []) p) ≡ x = cc in
     let k = unmet-few s₁ (y ∷ []) p in
     let n = ap (λ (z : Parts). length (z .listed)) j in
-    record { kept = λ a. subst Audited i (constant-kept [] s s₁ y a refl c .made .audited); few = omega arith })
+    record { later = λ a. subst (Later s) i (later-made (constant-kept [] s s₁ y a refl c .made)); few = omega arith })
 
 sides-gives : (l r : List ℕ) (s s′ : Store) (x : Parts) → length l ≤ listLimit → length r ≤ listLimit → sides l r s ≡ ok s′ x → Gives s s′ x
 unfolding sides
@@ -41,7 +42,7 @@ sides-gives l r s s′ x n m e =
     let i : s ≡ s′ = cc in
     let j : partsOf 0 [] ≡ x = cc in
     let k = ap (λ (z : Parts). length (z .listed)) j in
-    record { kept = λ a. subst Audited i a; few = omega arith }) d) e
+    record { later = λ a. subst (Later s) i (later-none a); few = omega arith }) d) e
 
 parts-give : (l r : List ℕ) (s s′ : Store) (x : Parts) → emptyParts l r s ≡ ok s′ x → Gives s s′ x
 unfolding emptyParts
@@ -51,10 +52,11 @@ parts-give l r s s′ x e =
     let f = flatten-flat l s s₁ l₁ c in
     let g = flatten-flat r s₁ s₂ r₁ c₂ in
     let h = sides-gives l₁ r₁ s₂ s′ x (f .long) (g .long) d₂ in
-    record { kept = λ a. h .kept (subst Audited (sym (g .same-store ∙ f .same-store)) a); few = h .few }))
+    let p = g .same-store ∙ f .same-store in
+    record { later = λ a. subst (λ (y : Store). Later y s′) p (h .later (subst Audited (sym p) a)); few = h .few }))
 
-pub parts-kept : (l r : List ℕ) (s s′ : Store) (x : Parts) → Audited s → emptyParts l r s ≡ ok s′ x → Audited s′
-parts-kept l r s s′ x a e = parts-give l r s s′ x e .kept a
+pub parts-later : (l r : List ℕ) (s s′ : Store) (x : Parts) → Audited s → emptyParts l r s ≡ ok s′ x → Later s s′
+parts-later l r s s′ x a e = parts-give l r s s′ x e .later a
 
 pub parts-few : (l r : List ℕ) (s s′ : Store) (x : Parts) → emptyParts l r s ≡ ok s′ x → length (x .listed) ≤ listLimit
 parts-few l r s s′ x e = parts-give l r s s′ x e .few

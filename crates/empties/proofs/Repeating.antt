@@ -6,21 +6,20 @@ use mathlib.Core.Logic.{⊎-elim}
 use mathlib.Core.Option.{Option, none, some}
 use Prim.Native.Nat.{ℕ, zero, suc, _≤_, _<_}
 use native.Mathlib.Omega.{arith}
-use lib.ListN.{length, getD}
+use lib.ListN.{length}
 use lib.IntN.{ℤ}
 use lib.Dec.{eqb, leb}
-use borrow.Author.Tests.{eqb-true, eq-eqb, ne-eqb, not-true, leb-true, leb-false, le-leb}
+use borrow.Author.Tests.{eqb-true, eq-eqb, ne-eqb, not-true, leb-true, leb-false, le-leb, lt-ltb}
 use Rattle.records.specs.Lists.{all, any, concatMap, firstBelow, sameWord, firsts, Every}
 use Rattle.records.specs.Store.{Term, Store, Out, ok, stop, Work, andThen, _>>=_, give, term, count, kind, within, isTerm, isString, isConstant, isVariable, isConcat, text, parts, chainIn, root, sameClass}
 use Rattle.records.specs.Rules.{listLimit, isList, isReasonKind, isNumber}
 use Rattle.records.specs.Make.{withTerms, lookup, lowest, constantOf, makeConstant}
 use Rattle.records.specs.Working.Audited.{Audited}
 use Rattle.records.proofs.Lists.{decide, clash, either, both-left, both-right, both-true, or-none, or-left, or-right, same-test, any-append, within-low, within-high, first-same, first-none, first-some, word-is, word-same, concatMap-same, concatMap-append, all-every, every-all, every-map, every-both}
-use Rattle.records.proofs.Works.{via, branch}
 use Rattle.records.proofs.Grown.{kind-term, string-term, string-here, grown-kind, grown-string}
 use Rattle.records.proofs.Append
 use Rattle.records.proofs.Readings.{parts-lower, parts-strings}
-use Rattle.records.proofs.Kept.{Appends, found, one-term, after-names, MadeIn, ConstantMade, constant-kept}
+use Rattle.records.proofs.Kept.{Appends, found, one-term, after-names, MadeIn, ConstantMade}
 use Rattle.records.proofs.ListLaws.{list-short, list-strings}
 use Rattle.normalize.specs.Normalize.{atoms, flatten}
 use Rattle.normalize.proofs.Atoms.{atoms-plain, atoms-is, flatten-fits, flatten-full}
@@ -32,10 +31,11 @@ use Rattle.classes.specs.Calls.{Outcome, gives, recorded, joinTerms}
 use Rattle.classes.proofs.Alike.{Like, kind-like, first-like, string-like, text-like}
 use Rattle.classes.proofs.Dividing.{Joint, were, across, back}
 use Rattle.classes.proofs.JoinKept.{Joinable, join-kept, join-like, join-division, join-divided}
-use Rattle.empties.specs.Empties.{emptyAgainst, isLabel, unmet, Parts, partsOf, emptied, sides, emptyParts}
-use Rattle.empties.specs.Repeats.{Listing, lists, stops, put, landed, answered, repeated, listing, Reasons, Repeats}
-use Rattle.empties.proofs.Unmet.{unmet-nothing, unmet-first, unmet-few, first-passes, unmet-distinct, Agree, unmet-agree}
-use Rattle.empties.proofs.Form.{firstNot, says, Formed, form-of, formed-variables, formed-length, formed-two, formed-in, formed-sides, formed-stops, formed-says, says-soft, says-closed, resolve-flat, resolve-plain}
+use Rattle.empties.specs.Empties.{isLabel, unmet, Parts, linked, partsOf, emptied, sides, emptyParts}
+use Rattle.empties.specs.Repeats.{Entry, Listing, lists, stops, goesOn, put, landed, answered, repeated, entries, listing, Reasons, Repeats}
+use Rattle.empties.proofs.Unmet.{unmet-nothing, unmet-first, unmet-few, first-passes, Agree, unmet-agree}
+use Rattle.empties.proofs.Listed.{made-in, made-empty, listed-apart}
+use Rattle.empties.proofs.Form.{firstNot, says, Formed, form-of, formed-variables, formed-length, formed-in, formed-sides, formed-stops, formed-says, says-soft, says-closed, resolve-flat, resolve-plain}
 
 -- THE SAME ATOMS
 
@@ -75,21 +75,19 @@ module _ (s s₁ : Store) (e : ℕ) (au : Audited s) (c : makeConstant [] s ≡ 
   abbrev is : Store → ℕ → Bool
   is = constantOf []
 
-  made-in : ConstantMade [] s s₁ e
-  unfolding all
-  made-in = constant-kept [] s s₁ e au refl c
+  abbrev made-here : ConstantMade [] s s₁ e
+  made-here = made-in s s₁ e au c
 
   here : is s₁ e ≡ true
-  unfolding constantOf
-  here = both-true _ _ (eq-eqb (kind s₁ e) 1 (made-in .made .kind-is)) (word-same (text s₁ e) [] (made-in .text-is))
+  here = made-empty s s₁ e au c
 
   -- what is a constant "" below is one in s too
   older : (t : ℕ) → isTerm s t ≡ true → is s₁ t ≡ true → is s t ≡ true
   unfolding constantOf
   older t w h =
-      let o = made-in .made .grown .old t (within-high (count s) t w) in
+      let o = made-here .made .grown .old t (within-high (count s) t w) in
       let k : kind s t ≡ 1 = sym (ap (λ (x : Term). x .kind) o) ∙ eqb-true (kind s₁ t) 1 (both-left (isConstant s₁ t) _ h) in
-      both-true _ _ (eq-eqb (kind s t) 1 k) (word-same (text s t) [] (sym (made-in .made .grown .constants t k) ∙ word-is _ _ (both-right (isConstant s₁ t) _ h)))
+      both-true _ _ (eq-eqb (kind s t) 1 k) (word-same (text s t) [] (sym (made-here .made .grown .constants t k) ∙ word-is _ _ (both-right (isConstant s₁ t) _ h)))
 
   again : Empty s₁ e
   unfolding lookup within
@@ -104,18 +102,18 @@ module _ (s s₁ : Store) (e : ℕ) (au : Audited s) (c : makeConstant [] s ≡ 
       go none q = at (firstBelow (λ i. is s₁ (suc i)) (count s₁)) refl
         where
           few : count s₁ ≤ suc (count s)
-          few = appends-few (made-in .made .appends)
+          few = appends-few (made-here .made .appends)
 
           new : (j : ℕ) → is s₁ (suc j) ≡ true → count s ≤ j
           new j h = decide (leb (count s) j) (λ y. leb-true _ _ y) (λ y. let m = leb-false (count s) j y in clash (older (suc j) (both-true _ _ (le-leb 1 (suc j) (omega arith)) (le-leb (suc j) (count s) m)) h) (first-none (λ i. is s (suc i)) (count s) q j (omega arith)))
 
           at : (o : Option ℕ) → firstBelow (λ i. is s₁ (suc i)) (count s₁) ≡ o → Empty s₁ e
-          at none r = there e here (kind-term s₁ e 0 (made-in .made .kind-is))
+          at none r = there e here (kind-term s₁ e 0 (made-here .made .kind-is))
             where
               there : (x : ℕ) → is s₁ x ≡ true → isTerm s₁ x ≡ true → Empty s₁ e
               there zero h w = let y = within-low (count s₁) zero w in absurd (omega arith)
               there (suc j) h w = clash h (first-none (λ i. is s₁ (suc i)) (count s₁) r j (within-high (count s₁) (suc j) w))
-          at (some i) r = there e here (kind-term s₁ e 0 (made-in .made .kind-is)) refl
+          at (some i) r = there e here (kind-term s₁ e 0 (made-here .made .kind-is)) refl
             where
               there : (x : ℕ) → is s₁ x ≡ true → isTerm s₁ x ≡ true → x ≡ e → Empty s₁ e
               there zero h w z = let y = within-low (count s₁) zero w in absurd (omega arith)
@@ -359,31 +357,36 @@ module _ (l r A B p : List ℕ) (g : ℤ) where
 
       -- CALL AFTER CALL
 
-      none-of : (w : List ℕ) → length w ≤ 0 → w ≡ []
-      none-of [] h = refl
-      none-of (a ∷ w) h = absurd (omega arith)
+      -- one call more than what is left lists it, and ends in Done
+      abbrev rest : Store → ℕ → Listing
+      rest s e = lists (entries e true (unmet s (e ∷ []) p)) done
 
-      -- as many calls as are left list what is left
       abbrev Lists : ℕ → Type 0
-      Lists calls = (s : Store) (e : ℕ) → Going s e → (x : Trail) → length (unmet s (e ∷ []) p) ≤ calls → repeated calls why l r g s x ≡ lists (unmet s (e ∷ []) p)
+      Lists calls = (s : Store) (e : ℕ) → Going s e → (x : Trail) → length (unmet s (e ∷ []) p) < calls → repeated calls why l r g s x ≡ rest s e
 
-      turn : (calls : ℕ) → Lists calls → (s : Store) (e : ℕ) → Going s e → (x : Trail) → length (unmet s (e ∷ []) p) ≤ suc calls
-          → (o : Option ℕ) → firstNot s e p ≡ o → repeated (suc calls) why l r g s x ≡ lists (unmet s (e ∷ []) p)
-      turn calls later s e k x h none f = next calls s x (ok s done) (resolve-here s e k ∙ ap (λ (o : Option ℕ). ok s (says e o)) f) ∙ ap lists (sym (unmet-nothing s (λ u. not (same s u e)) (e ∷ []) p (tests s e k) f))
+      turn : (calls : ℕ) → Lists calls → (s : Store) (e : ℕ) → Going s e → (x : Trail) → length (unmet s (e ∷ []) p) < suc calls
+          → (o : Option ℕ) → firstNot s e p ≡ o → repeated (suc calls) why l r g s x ≡ rest s e
+      turn calls later s e k x h none f = next calls s x (ok s done) (resolve-here s e k ∙ ap (λ (o : Option ℕ). ok s (says e o)) f)
+          ∙ ap (λ (w : List ℕ). lists (entries e true w) done) (sym (unmet-nothing s (λ u. not (same s u e)) (e ∷ []) p (tests s e k) f))
       turn calls later s e k x h (some v) f =
           let q = lists-on calls s e k v f in
           let n = ap length q in
           next calls s x (ok s (propagate v e true)) (resolve-here s e k ∙ ap (λ (o : Option ℕ). ok s (says e o)) f)
-          ∙ ap (λ (o : Outcome). put v (landed (repeated calls why l r g) o)) (joins calls s e k v f x)
-          ∙ ap (put v) (later (s′ calls s e k v f) e (going calls s e k v f) (recorded (traceOf (s .terms) v) x) (omega arith))
-          ∙ ap lists (sym q)
+          ∙ ap (λ (o : Outcome). put (record { variable = v; word = e; link = true }) (landed (repeated calls why l r g) o)) (joins calls s e k v f x)
+          ∙ ap (put (record { variable = v; word = e; link = true })) (later (s′ calls s e k v f) e (going calls s e k v f) (recorded (traceOf (s .terms) v) x) (omega arith))
+          ∙ ap (λ (w : List ℕ). lists (entries e true w) done) (sym q)
 
       loop : (calls : ℕ) → Lists calls
       unfolding repeated
-      loop zero s e k x h = ap lists (sym (none-of (unmet s (e ∷ []) p) h))
+      loop zero s e k x h = absurd (omega arith)
       loop (suc calls) s e k x h = turn calls (loop calls) s e k x h (firstNot s e p) refl
 
 -- FROM ANY AUDITED STORE
+
+-- 'The link flag holds for all entries': where there is one it is set
+flag-held : (e : ℕ) (l : List ℕ) → entries e (linked (length l)) l ≡ entries e true l
+flag-held e [] = refl
+flag-held e (v ∷ l) = ap (λ (b : Bool). entries e b (v ∷ l)) (lt-ltb 0 (length (v ∷ l)) (omega arith))
 
 module _ (l r : List ℕ) (s : Store) (au : Audited s) (hl : isList s l ≡ true) (hr : isList s r ≡ true) where
   abbrev A : List ℕ
@@ -431,7 +434,7 @@ module _ (l r : List ℕ) (s : Store) (au : Audited s) (hl : isList s l ≡ true
 
   module _ (why : ℕ → ℕ × ℕ) (good : Reasons why) (g : ℤ) (x : Trail) (p : List ℕ) (formed : Formed s A B p) where
     -- the two lists fit
-    fitting : (calls : ℕ) → length p ≤ suc calls → length A ≤ listLimit → length B ≤ listLimit → repeated (suc calls) why l r g s x ≡ listing (emptyParts l r s)
+    fitting : (calls : ℕ) → length p < suc calls → length A ≤ listLimit → length B ≤ listLimit → repeated (suc calls) why l r g s x ≡ listing (emptyParts l r s)
     fitting calls h n m = go (makeConstant [] s) refl
       where
         is-parts : emptyParts l r s ≡ emptied p s
@@ -448,11 +451,12 @@ module _ (l r : List ℕ) (s : Store) (au : Audited s) (hl : isList s l ≡ true
             next l r A B p g n m why good calls s x o (resolve-says l r A B p g s refl refl formed n m c (parts-variable p formed g s₁ e c) (made p formed g s₁ e c .reasons))
             ∙ sym (next l r A B p g n m why good calls s₁ x o (resolve-here l r A B p g n m s₁ e k))
             ∙ loop l r A B p g n m why good (suc calls) s₁ e k x (omega arith)
+            ∙ ap (λ (w : List Entry). lists w done) (sym (flag-held e (unmet s₁ (e ∷ []) p)))
             ∙ ap listing (sym (is-parts ∙ emptied-is p formed g s₁ e c))
 
-    all-calls : (calls : ℕ) → length p ≤ calls → repeated calls why l r g s x ≡ listing (emptyParts l r s)
+    all-calls : (calls : ℕ) → length p < calls → repeated calls why l r g s x ≡ listing (emptyParts l r s)
     unfolding repeated
-    all-calls zero h = let t = formed-two formed in absurd (omega arith)
+    all-calls zero h = absurd (omega arith)
     all-calls (suc calls) h =
         decide (leb (length A) listLimit)
         (λ i. let n = leb-true _ _ i in
@@ -464,7 +468,7 @@ module _ (l r : List ℕ) (s : Store) (au : Audited s) (hl : isList s l ≡ true
         full : resolve l r g s ≡ stop 6 → emptyParts l r s ≡ stop 6 → repeated (suc calls) why l r g s x ≡ listing (emptyParts l r s)
         full e f = ap (answered (repeated calls why l r g) (why calls .0) (why calls .1) x) e ∙ ap listing (sym f)
 
-  pub repeats-list : isLabel s l r ≡ true → (calls : ℕ) → length (concatMap (atoms s) (l ++ r)) ≤ calls → (why : ℕ → ℕ × ℕ) → Reasons why → (g : ℤ) (x : Trail) → repeated calls why l r g s x ≡ listing (emptyParts l r s)
+  pub repeats-list : isLabel s l r ≡ true → (calls : ℕ) → length (concatMap (atoms s) (l ++ r)) < calls → (why : ℕ → ℕ × ℕ) → Reasons why → (g : ℤ) (x : Trail) → repeated calls why l r g s x ≡ listing (emptyParts l r s)
   unfolding isLabel
   repeats-list h calls n why good g x =
       let f = form-of s A B h in
@@ -474,9 +478,10 @@ module _ (l r : List ℕ) (s : Store) (au : Audited s) (hl : isList s l ≡ true
 
 -- NOTHING LISTED: the first of the calls gave no Propagate
 
-put-some : (v : ℕ) (z : Listing) → put v z ≡ lists [] → ⊥
-put-some v (lists w) e = let i : _≡_ {A = List ℕ} (v ∷ w) [] = cc in let n = ap length i in absurd (omega arith)
+put-some : (v : Entry) (z : Listing) → put v z ≡ lists [] done → ⊥
+put-some v (lists w a) e = let i : _≡_ {A = List Entry} (v ∷ w) [] = cc in let n = ap length i in absurd (omega arith)
 put-some v (stops k) e = let z : _≡_ {A = ℕ} 0 1 = cc in absurd (omega arith)
+put-some v goesOn e = let z : _≡_ {A = ℕ} 0 1 = cc in absurd (omega arith)
 
 -- no marks
 abbrev unmarked : Trail
@@ -488,51 +493,19 @@ module _ (l r : List ℕ) (s : Store) (au : Audited s) (hl : isList s l ≡ true
   unfolding repeated isNumber
   repeats-none h s′ x e i g s″ v w f q =
       let n = suc (length (concatMap (atoms s) (l ++ r))) in
-      put-some v (landed (repeated (length (concatMap (atoms s) (l ++ r))) (λ j. (1, 0)) l r g) (joinTerms v w 1 0 s″ unmarked))
+      put-some (record { variable = v; word = w; link = f }) (landed (repeated (length (concatMap (atoms s) (l ++ r))) (λ j. (1, 0)) l r g) (joinTerms v w 1 0 s″ unmarked))
       (ap (answered (repeated (length (concatMap (atoms s) (l ++ r))) (λ j. (1, 0)) l r g) 1 0 unmarked) (sym q)
-      ∙ repeats-list l r s au hl hr h n (omega arith) (λ j. (1, 0)) reasons g unmarked ∙ ap listing e ∙ ap lists i)
+      ∙ repeats-list l r s au hl hr h n (omega arith) (λ j. (1, 0)) reasons g unmarked ∙ ap listing e
+      ∙ ap (λ (u : List ℕ). lists (entries (x .empty) (x .link) u) done) i)
     where
       reasons : Reasons (λ j. (1, 0))
       reasons j = refl
 
--- NO TWO OF ONE CLASS
-
--- what is listed is unmet in the store at exit
-record Listed (s : Store) (x : Parts) : Type 0 where
-  met : List ℕ
-  from : List ℕ
-  is-unmet : x .listed ≡ unmet s met from
-
-emptied-listed : (p : List ℕ) (s s′ : Store) (x : Parts) → emptied p s ≡ ok s′ x → Listed s′ x
-unfolding emptied
-emptied-listed p s s′ x e =
-    via (λ y s₂. ok s₂ (partsOf y (unmet s₂ (y ∷ []) p))) (makeConstant [] s) e (λ s₁ y c d.
-    let i : s₁ ≡ s′ = cc in
-    let j : partsOf y (unmet s₁ (y ∷ []) p) ≡ x = cc in
-    record { met = y ∷ []; from = p; is-unmet = ap (λ (z : Parts). z .listed) (sym j) ∙ ap (λ (z : Store). unmet z (y ∷ []) p) i })
-
-sides-listed : (l r : List ℕ) (s s′ : Store) (x : Parts) → sides l r s ≡ ok s′ x → Listed s′ x
-unfolding sides unmet
-sides-listed l r s s′ x e =
-    branch (emptyAgainst s l r) _ _ {s = s} (λ b d. emptied-listed r s s′ x d)
-    (λ b d. branch (emptyAgainst s r l) _ _ {s = s} (λ b₁ d₁. emptied-listed l s s′ x d₁)
-    (λ b₁ d₁. let j : partsOf 0 [] ≡ x = cc in record { met = []; from = []; is-unmet = ap (λ (z : Parts). z .listed) (sym j) }) d) e
-
-pub repeats-apart : (l r : List ℕ) (s s′ : Store) (x : Parts) → emptyParts l r s ≡ ok s′ x → (i j : ℕ) → i < j → j < length (x .listed)
-    → sameClass s′ (getD (x .listed) i 0) (getD (x .listed) j 0) ≡ false
-unfolding emptyParts
-repeats-apart l r s s′ x e i j h n =
-    let k = at in
-    rw (k .is-unmet) (unmet-distinct s′ (k .met) (k .from) i j h (subst (λ (w : List ℕ). j < length w) (k .is-unmet) n))
-  where
-    at : Listed s′ x
-    at = via (λ l₁. flatten r >>= (λ r₁. sides l₁ r₁)) (flatten l s) e (λ s₁ l₁ c d. via (λ r₁. sides l₁ r₁) (flatten r s₁) d (λ s₂ r₁ c₂ d₂. sides-listed l₁ r₁ s₂ s′ x d₂))
-
--- WHAT THE CALL IS WORTH
+-- ALL THREE
 
 pub repeats : (l r : List ℕ) (s : Store) → Audited s → isList s l ≡ true → isList s r ≡ true → Repeats s l r (emptyParts l r s)
 repeats l r s au hl hr = record {
   list = repeats-list l r s au hl hr;
   none = repeats-none l r s au hl hr;
-  apart = repeats-apart l r s;
+  apart = listed-apart l r s;
 }

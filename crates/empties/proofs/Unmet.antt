@@ -63,6 +63,14 @@ module _ (s : Store) where
       (λ e. let q = ap length (unmet-met met v l e) in let h = unmet-few met l in omega arith)
       (λ e. let q = ap length (unmet-new met v l e) in let h = unmet-few (oneMore met v) l in omega arith)
 
+  -- what holds of each holds of those listed
+  pub unmet-every : {P : ℕ → Type 0} (met l : List ℕ) → Every P l → Every P (unmet s met l)
+  unmet-every met [] k = rw (unmet-none met) k
+  unmet-every met (v ∷ l) (and h k) =
+      decide (any (sameClass s v) met)
+      (λ e. rw (unmet-met met v l e) (unmet-every met l k))
+      (λ e. rw (unmet-new met v l e) (and h (unmet-every (oneMore met v) l k)))
+
   -- THE FIRST
 
   -- q says of each that it is unmet

@@ -29,9 +29,13 @@ pub record Parts : Type 0 where
   pub listed : List ℕ
   pub link : Bool
 
--- 'The link flag holds for all entries': it is set where there are some
+-- the link flag of n entries: it is set where there are some
+abbrev pub linked : ℕ → Bool
+linked n = ltb 0 n
+
+-- 'The link flag holds for all entries'
 abbrev pub partsOf : ℕ → List ℕ → Parts
-partsOf e l = record { empty = e; listed = l; link = ltb 0 (length l) }
+partsOf e l = record { empty = e; listed = l; link = linked (length l) }
 
 -- 'makes "" as step 4 does and returns all of them that must still become ""': those that are not of its class
 unfoldable pub emptied : List ℕ → Work Parts

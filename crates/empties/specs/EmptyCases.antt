@@ -1,4 +1,5 @@
 -- The definitions run on small stores: what the one call lists, and what repeated calls list there.
+use mathlib.Core.Path.{_≡_, refl}
 use mathlib.Core.Bool.{Bool, true, false, _&&_}
 use mathlib.Core.List.{List, [], _∷_}
 use Prim.Native.Nat.{ℕ, suc, _-_}
@@ -10,11 +11,11 @@ use Rattle.records.specs.Store.{Term, noTerm, Cell, noCell, Store, Out, ok, sto
 use Rattle.records.specs.Rules.{isNumber}
 use Rattle.records.specs.Make.{own, addText, addTerm, lookup, lowest, constantOf, makeConstant}
 use Rattle.normalize.specs.Normalize.{atomsBy, flatten}
-use Rattle.wordeq.specs.Wordeq.{same, fixed, lettersOf, letters, sameHeads, sameTails, rest, explainMatch, explainMatches, strip, isFull, occurrence, occurs, unequal, short, absent, constants, isPlain, alias, empties, assigns, filled, lead, firstSpan, fits, tileBy, tile, differ, clashes, splits, after, steps, resolve}
+use Rattle.wordeq.specs.Wordeq.{Answer, done, saturated, conflict, propagate, split, same, fixed, lettersOf, letters, sameHeads, sameTails, rest, explainMatch, explainMatches, strip, isFull, occurrence, occurs, unequal, short, absent, constants, isPlain, alias, empties, assigns, filled, lead, firstSpan, fits, tileBy, tile, differ, clashes, splits, after, steps, resolve}
 use Rattle.classes.specs.Joins.{putEdge, putClass, turn, turns, joinIn}
 use Rattle.classes.specs.Calls.{joinTerms}
 use Rattle.empties.specs.Empties.{isLabel, unmet, Parts, emptied, sides, emptyParts}
-use Rattle.empties.specs.Repeats.{Listing, lists, stops, repeated, listing}
+use Rattle.empties.specs.Repeats.{Entry, Listing, lists, stops, goesOn, repeated, listing}
 
 -- variables of one character each, 1 to 8
 abbrev pub letter : ℕ → Term
@@ -40,7 +41,7 @@ storing n ts cs = record {
   reasons = [];
   keys = [];
   names = 0;
-  room = record { terms = n; cells = 64; chars = 64; reasons = 8; keys = 8; zeroTerm = noTerm; zeroCell = noCell };
+  room = record { terms = n; cells = 64; chars = 64; reasons = 8; keys = 8; termsLong = 264; cellsLong = 195; zeroTerm = noTerm; zeroCell = noCell };
 }
 
 -- eight variables, each alone; with "" after them; with 2 in the class of 1, and 3 in that of ""; with a second "", whose class has 1
@@ -74,16 +75,34 @@ abbrev pub stopped : Out Parts → ℕ → Bool
 stopped (ok s x) k = false
 stopped (stop j) k = eqb j k
 
-abbrev pub sameListing : Listing → Listing → Bool
-sameListing (lists l) (lists m) = sameWord l m
-sameListing (lists l) (stops k) = false
-sameListing (stops j) (lists m) = false
-sameListing (stops j) (stops k) = eqb j k
+-- an entry as words
+abbrev pub spelt : Entry → List ℕ
+spelt e = e .variable ∷ e .word ∷ (if e .link then 1 else 0) ∷ []
 
--- repeated calls, each merge under an asserted reason of its own, say the same
+abbrev pub isDone : Answer → Bool
+isDone done = true
+isDone saturated = false
+isDone conflict = false
+isDone (propagate v w f) = false
+isDone (split l g n) = false
+
+-- the same entries, and Done after both; or the same refusal
+abbrev pub sameListing : Listing → Listing → Bool
+sameListing (lists l a) (lists m b) = sameWord (concatMap spelt l) (concatMap spelt m) && isDone a && isDone b
+sameListing (lists l a) (stops k) = false
+sameListing (lists l a) goesOn = false
+sameListing (stops j) (lists m b) = false
+sameListing (stops j) (stops k) = eqb j k
+sameListing (stops j) goesOn = false
+sameListing goesOn z = false
+
+-- nine ordinary calls, each merge under an asserted reason of its own
+abbrev pub nine : Store → List ℕ → List ℕ → Listing
+nine s l r = repeated 9 (λ i. (1, i)) l r (pos 1) s (record { marks = []; joins = [] })
+
+-- repeated calls say the same
 unfoldable pub again : Store → List ℕ → List ℕ → Bool
-again s l r =
-    if isLabel s l r then sameListing (repeated 8 (λ i. (1, i)) l r (pos 1) s (record { marks = []; joins = [] })) (listing (emptyParts l r s)) else true
+again s l r = if isLabel s l r then sameListing (nine s l r) (listing (emptyParts l r s)) else true
 
 unfoldable pub holds : Case → Bool
 holds (gives s l r e p n) = sameParts (emptyParts l r s) e p n && again s l r
@@ -112,3 +131,8 @@ cases =
 pub cases-hold : T (all holds cases)
 unfolding cases holds again isLabel unmet emptied sides emptyParts repeated joinTerms putEdge putClass turn turns joinIn all any firstOf keep concatMap sameWord isIn firsts upTo firstBelow termIn cellIn within textIn chainBy climb aboveBy nearestIn pathIn isNumber addText addTerm lookup lowest constantOf makeConstant atomsBy flatten same fixed lettersOf letters sameHeads sameTails rest explainMatch explainMatches strip isFull occurrence occurs unequal short absent constants isPlain alias empties assigns filled lead firstSpan fits tileBy tile differ clashes splits after steps resolve
 cases-hold = tt
+
+-- a label with 4 at two places and 2: the first call gives 4, the second 2, each to "" with the link flag, and a third gives Done
+pub three-calls : nine (storing 9 apart []) [] (4 ∷ 2 ∷ 4 ∷ []) ≡ lists (record { variable = 4; word = 9; link = true } ∷ record { variable = 2; word = 9; link = true } ∷ []) done
+unfolding repeated joinTerms putEdge putClass turn turns joinIn all any firstOf keep concatMap sameWord isIn firsts upTo firstBelow termIn cellIn within textIn chainBy climb aboveBy nearestIn pathIn isNumber addText addTerm lookup lowest constantOf makeConstant atomsBy flatten same fixed lettersOf letters sameHeads sameTails rest explainMatch explainMatches strip isFull occurrence occurs unequal short absent constants isPlain alias empties assigns filled lead firstSpan fits tileBy tile differ clashes splits after steps resolve
+three-calls = refl

@@ -1,4 +1,5 @@
 pub mod Empties
+pub mod Meaning
 pub mod Repeats
 pub mod Calls
 pub mod EmptyCases

@@ -8,7 +8,8 @@ ghost use Rattle.records.specs.Lists.{all, any};
 ghost use Rattle.records.specs.Store.{isString, sameClass};
 ghost use Rattle.records.specs.View.{storeOf, lends, across, readIn, termed};
 ghost use Rattle.records.specs.Rules.{listLimit, isList};
-ghost use Rattle.records.specs.Calls.{Does, Writes, _into_};
+ghost use Rattle.records.specs.Calls.{Writes, _into_};
+ghost use Rattle.records.specs.Working.Doing.{Does};
 ghost use Rattle.records.specs.Working.Audited.{Ready};
 ghost use Rattle.wordeq.specs.Working.Results.{BothLists};
 ghost use Rattle.wordeq.specs.Working.Stripping.{Readable};
@@ -138,10 +139,10 @@ fn sides_unchecked(
     requires { ⌜ listLimit ≤ length (now list) ⌝ }
     ensures { λ o. ⌜ Does (sides (now (lhs .entry)) (now (rhs .entry))) (across terms cells chars reasons keys) c (listed o into list) ⌝ }
 {
-    if propagate::is_emptied(terms, c, lhs, rhs) {
+    if propagate::is_emptied_unchecked(terms, c, lhs, rhs) {
         return empties_unchecked(terms, cells, chars, reasons, keys, c, rhs, list);
     }
-    if propagate::is_emptied(terms, c, rhs, lhs) {
+    if propagate::is_emptied_unchecked(terms, c, rhs, lhs) {
         return empties_unchecked(terms, cells, chars, reasons, keys, c, lhs, list);
     }
     Empties::Parts(c, 0, 0, false)

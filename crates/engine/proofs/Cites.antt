@@ -32,6 +32,8 @@ roomed s n = record {
     reasons = n;
     keys = s .room .keys;
     zeroTerm = s .room .zeroTerm;
+    termsLong = s .room .termsLong;
+    cellsLong = s .room .cellsLong;
     zeroCell = s .room .zeroCell;
   };
 }

@@ -1,7 +1,7 @@
 -- explain over an audited store: it gives reasons of the store's edges in turn, each that the list lacks is added, it stops only where
 -- the next that it lacks finds the room full, and what is listed then explains.
 use mathlib.Core.Path.{_≡_, refl, sym, ap, subst, _∙_}
-use mathlib.Core.Bool.{true, false}
+use mathlib.Core.Bool.{true, false, _&&_}
 use mathlib.Core.List.{List, [], _∷_, _++_, List·Memᴰ, List·Memᴰ·not-nil, Memᴰ·append-left}
 use mathlib.Core.Logic.{⊎-elim}
 use Prim.Native.Nat.{ℕ, _≤_}
@@ -14,10 +14,10 @@ use Rattle.records.specs.Rules.{reasonRule}
 use Rattle.records.specs.Make.{withReasons, EachOnce}
 use Rattle.records.specs.Meaning.{Words, Reading, Holds}
 use Rattle.records.specs.Working.Audited.{Audited}
-use Rattle.records.proofs.Lists.{every-map, every-all, all-append, both-true, clash}
+use Rattle.records.proofs.Lists.{every-map, every-all, all-append, both-left, both-right, both-true, clash}
 use Rattle.records.proofs.Grown.{Grown, string-term, holds-fewer}
 use Rattle.records.proofs.Beside.{audited-beside, grown-beside}
-use Rattle.engine.specs.Explain.{Seen, walked, height, explain, givesReason, isReasoned}
+use Rattle.engine.specs.Explain.{Seen, walked, height, explain, explainArguments, givesReason, isReasoned}
 use Rattle.engine.specs.Meaning.{Explains, Labels}
 use Rattle.engine.proofs.Paths.{Together}
 use Rattle.engine.proofs.Fits.{height-fit}
@@ -109,6 +109,12 @@ module _ (s : Store) (d : Audited s) (a b : ℕ) (p : isString s a ≡ true) (q 
       go : (l : List (ℕ × ℕ)) → givesReason (cites l (withReasons (roomed s 1) [])) ≡ false → cites l (withReasons s rs) ≡ ok (withReasons s rs) tt
       go [] f = refl
       go (r ∷ l) f = clash (cites-given (roomed s 1) r l) f
+
+-- the same, where the arguments pass
+pub explain-gave : (s : Store) → Audited s → (a b : ℕ) → explainArguments a b s ≡ true → (s′ : Store) (u : Unit {0}) → explain a b s ≡ ok s′ u → Gave s s′ a b
+explain-gave s d a b h s′ u e =
+    let i = both-left (isString s a && isString s b) _ h in
+    explain-gives s d a b (both-left _ _ i) (both-right (isString s a) _ i) (both-right (isString s a && isString s b) _ h) s′ u e
 
 -- what holds under a list that grew holds under what it was
 pub holds-earlier : {s : Store} {w : Words} {l l′ : List (ℕ × ℕ)} → EachOnce l l′ → Holds s l′ w → Holds s l w

@@ -90,6 +90,8 @@ emptied s = record {
     reasons = 1;
     keys = s .room .keys;
     zeroTerm = s .room .zeroTerm;
+    termsLong = s .room .termsLong;
+    cellsLong = s .room .cellsLong;
     zeroCell = s .room .zeroCell;
   };
 }

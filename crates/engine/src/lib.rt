@@ -5,7 +5,8 @@ ghost use Prim.Native.Nat.{_+_, _*_, _≤_, _<_};
 ghost use lib.ListN.{length};
 ghost use Rattle.records.specs.View.{storeOf, lends, across, reasonRoom};
 ghost use Rattle.records.specs.Working.Audited.{Ready};
-ghost use Rattle.records.specs.Calls.{added, Does, Answers, Promises};
+ghost use Rattle.records.specs.Calls.{added, Answers, Promises};
+ghost use Rattle.records.specs.Working.Doing.{Does};
 ghost use Rattle.engine.specs.Explain.{find, findArguments, walked, edge, explain, explainArguments, isReasoned};
 ghost use Rattle.engine.specs.Working.Seen.{place, seenAt, Noted};
 ghost use Rattle.engine.specs.Working.Walks.{Walkable, Together, Edge, Walks, Gives, Explainable, Plainly, PlainEdge, PlainPair, PlainPath, Along, PairExplained};
@@ -332,6 +333,37 @@ fn explain_many(
     )
 }
 
+// As give, over the counts by value: a path without congruences has them at hand.
+fn give_plain(
+    c: State,
+    reasons: &mut [u32],
+    kind: u32,
+    value: u32,
+    slot: usize,
+    places: &mut [u32],
+) -> Walked
+    requires { ⌜ c .reasons ≤ reasonRoom (now reasons) ⌝ }
+    ensures { λ r. ⌜ Gives (now (reasons .entry)) (now (reasons .exit)) (now (places .entry)) (now (places .exit)) (c .reasons) kind value slot r ⌝ }
+{
+    if listing::is_listed(reasons, c.reasons, places, slot, kind, value) {
+        return Walked {
+            code: 0,
+            count: c.reasons,
+        };
+    }
+    if put::push_reason_unchecked(reasons, c.reasons, kind, value) {
+        let d = c.with_reason();
+        return Walked {
+            code: 0,
+            count: d.reasons,
+        };
+    }
+    Walked {
+        code: 7,
+        count: c.reasons,
+    }
+}
+
 // As expand_edge, for an edge that leads to no other pair. Any other is left to expand_edge.
 fn plain_edge(terms: &[u32], c: State, node: u32, reasons: &mut [u32], places: &mut [u32]) -> Plain
     requires { ⌜ c .reasons ≤ reasonRoom (now reasons) ⌝ }
@@ -340,8 +372,8 @@ fn plain_edge(terms: &[u32], c: State, node: u32, reasons: &mut [u32], places: &
     let kind = fields::label_kind(terms, node);
     let value = fields::label_value(terms, node);
     match kind {
-        1 => Plain::Ended(give(reasons, c.reasons, 1, value, node as usize, places)),
-        2 => Plain::Ended(give(reasons, c.reasons, 2, value, node as usize, places)),
+        1 => Plain::Ended(give_plain(c, reasons, 1, value, node as usize, places)),
+        2 => Plain::Ended(give_plain(c, reasons, 2, value, node as usize, places)),
         4 => Plain::Ended(Walked {
             code: 0,
             count: c.reasons,

@@ -36,7 +36,8 @@ fn is_at(pairs: &[u32], n: usize, place: usize, a: u32, b: u32) -> bool
 }
 
 // Whether the first n reasons have this one. `places` has at `slot`, which an edge has to itself, where the edge's reason was found
-// last. It is believed only where the reason stands there, so the answer is right whatever `places` has.
+// last. It is believed only where the reason stands there, so the answer is right whatever `places` has, and no promise is made of the word
+// at the slot: a program that never wrote it would only search longer.
 pub(crate) fn is_listed(
     reasons: &[u32],
     n: usize,

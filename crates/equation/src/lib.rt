@@ -7,7 +7,8 @@ ghost use lib.ListN.{length};
 ghost use Rattle.records.specs.View.{storeOf, lends, across, termed};
 ghost use Rattle.records.specs.Rules.{listLimit, isList};
 ghost use Rattle.records.specs.Working.Audited.{Ready};
-ghost use Rattle.records.specs.Calls.{Does, Writes, _into_};
+ghost use Rattle.records.specs.Calls.{Writes, _into_};
+ghost use Rattle.records.specs.Working.Doing.{Does};
 ghost use Rattle.normalize.specs.Normalize.{formArguments};
 ghost use Rattle.normalize.specs.Working.Pushes.{Candidates};
 ghost use Rattle.wordeq.specs.Wordeq.{isGuard};
@@ -120,7 +121,7 @@ fn right_form(
 }
 
 // The step over the equation e.
-pub(crate) fn step_unchecked(
+pub fn step_unchecked(
     terms: &mut [u32],
     cells: &mut [u32],
     chars: &mut [u32],

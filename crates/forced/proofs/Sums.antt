@@ -31,7 +31,7 @@ span-few k c l p q = go (ltb l c)
     go true = omega arith
     go false = (let a = div-le-self (l - c) k in omega arith, let a = mod-le (l - c) k in omega arith)
 
--- WHERE IT CANNOT FIT
+-- WHERE SOMETHING IS LEFT OVER OR LACKING
 
 -- a shortage, or a remainder above 0
 pub data Cause (k c l : ℕ) : Type 0 where

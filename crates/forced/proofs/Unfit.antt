@@ -1,4 +1,4 @@
--- Steps 2 to 5 on a side of constants and a side of one variable class that cannot fit: the answer is Conflict, unless the
+-- Steps 2 to 5 on a side of constants and a side of one variable class, with a remainder or a shortage: the answer is Conflict, unless the
 -- reasons are full.
 use mathlib.Core.Path.{_≡_, refl, sym, ap, subst, _∙_}
 use mathlib.Core.Bool.{Bool, true, false, not, _&&_, _||_}
@@ -284,7 +284,7 @@ module _ (g : ℤ) (added : Bool) (s : Store) (au : Audited s) (word side : List
 
 -- WHICHEVER IS CONSTANT
 
--- lists of the form that cannot fit
+-- lists of the form, with a remainder or a shortage
 pub data Refuted (s : Store) (l r : List ℕ) : Type 0 where
   left : isForced s l r ≡ true → Cause (length (variables s r)) (length (letters s r)) (length (letters s l)) → Refuted s l r
   right : isForced s r l ≡ true → Cause (length (variables s l)) (length (letters s l)) (length (letters s r)) → Refuted s l r

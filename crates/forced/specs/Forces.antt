@@ -38,8 +38,8 @@ pub data Only (y : Answer) : Out Answer → Type 0 where
   answers : (s : Store) → Only y (ok s y)
   full : Only y (stop 7)
 
--- s is the store at entry, x the answer. Where the field cannot fit, wordeq on the same two lists, whatever the guard, answers Conflict, or
--- Saturated where it flattened a concatenation, unless a reason finds no room
+-- s is the store at entry, x the answer. With a remainder or a shortage wordeq on the same two lists, whatever the guard, answers Conflict, or
+-- Saturated where it flattened a concatenation, unless a reason finds no room. What that Conflict is worth, under the reasons that it names, is `Sound`
 pub record Forces (s : Store) (l r : List ℕ) (x : Fit) : Type 0 where
   pub sums : Sums (x .k) (x .c) (x .l) (x .span)
   pub answer : Unfit (x .span) → (g : ℤ) → Only (if any (isConcat s) (l ++ r) then saturated else conflict) (resolve l r g s)

@@ -4,7 +4,8 @@ ghost use mathlib.Core.Bool.{true};
 ghost use Rattle.records.specs.Store.{ok};
 ghost use Rattle.records.specs.View.{storeOf, lends, across, readIn};
 ghost use Rattle.records.specs.Rules.{isList};
-ghost use Rattle.records.specs.Calls.{Does, Promises};
+ghost use Rattle.records.specs.Calls.{Promises};
+ghost use Rattle.records.specs.Working.Doing.{Does};
 ghost use Rattle.records.specs.Working.Audited.{Ready};
 ghost use Rattle.wordeq.specs.Wordeq.{variables};
 ghost use Rattle.wordeq.specs.Working.Results.{BothLists};
@@ -35,7 +36,7 @@ fn has_one_class(terms: &[u32], chars: &[u32], c: State, side: &[u32]) -> bool
       let s = readIn (now (terms .entry)) (now (chars .entry)) c
       ⌜ b ≡ oneClass s (variables s (now (side .entry))) ⌝ }
 {
-    let i = spans::first_variable(terms, c, side);
+    let i = spans::first_variable_unchecked(terms, c, side);
     if side.len() <= i {
         return false;
     }
@@ -157,7 +158,7 @@ pub fn forced_unchecked(
     )
 }
 
-// The length that a repeated field must have, or why it cannot fit. It writes nothing.
+// The length that a repeated field must have, and what is left over or lacking. It writes nothing.
 pub fn forced_length(
     terms: &[u32],
     cells: &[u32],

@@ -4,7 +4,7 @@ use Rattle.records.specs.declared.State.{State}
 use Rattle.records.specs.declared.Named.{Named}
 use Rattle.records.specs.View.{Lent}
 use Rattle.records.specs.Working.Audited.{Ready}
-use Rattle.records.specs.Calls.{Taken}
+use Rattle.records.specs.Working.Doing.{Taken}
 
 pub ready-as : {m : Lent} {c d : State} → d ≡ c → Ready m c → Ready m d
 ready-as e r = rw e r

@@ -2,7 +2,7 @@
 ghost use mathlib.Core.Path.{_≡_};
 ghost use Rattle.records.specs.View.{namesAt, lends, across};
 ghost use Rattle.records.specs.Working.Audited.{Ready};
-ghost use Rattle.records.specs.Calls.{Taken};
+ghost use Rattle.records.specs.Working.Doing.{Taken};
 use records::Named;
 use records::State;
 use records::names;

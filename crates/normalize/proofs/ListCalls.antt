@@ -10,19 +10,21 @@ use Rattle.records.specs.declared.State.{State}
 use Rattle.records.specs.Store.{Store, Out, stop, Work}
 use Rattle.records.specs.View.{Lent, storeOf}
 use Rattle.records.specs.Rules.{audit, listLimit}
-use Rattle.records.specs.Calls.{Public, call, Working}
+use Rattle.records.specs.Calls.{Public, call}
+use Rattle.records.specs.Working.Doing.{Working}
 use Rattle.records.proofs.Public.{call-unready, call-unfit, call-works}
+use Rattle.records.proofs.Works.{stop-not}
 use Rattle.normalize.specs.Calls.{listCall, PublicList}
 
 module _ {A : Type 0} (fit : Store → Bool) (work : Work A) (m : Lent) (c : State) (l : List ℕ) where
   pub listed-short : length l < listLimit → PublicList (listCall l fit work m c) m m l l c (stop 1)
   unfolding listCall
-  listed-short h = record { store = record { says = rw (lt-leb listLimit (length l) h); idle = λ k e i. refl; kept = refl }; idle = λ k e i. refl }
+  listed-short h = record { store = record { says = rw (lt-leb listLimit (length l) h); idle = λ k e i. refl; kept = refl; passes = λ d a e. stop-not e }; idle = λ k e i. refl }
 
   module _ (h : listLimit ≤ length l) (k : ℕ) (v : k ≡ audit m c) where
     listed : {m′ : Lent} {r : Out A} → Public (call fit work m c) m m′ c r → Public (listCall l fit work m c) m m′ c r
     unfolding listCall
-    listed p = record { says = rw (le-leb listLimit (length l) h) (p .says); idle = p .idle; kept = p .kept }
+    listed p = record { says = rw (le-leb listLimit (length l) h) (p .says); idle = p .idle; kept = p .kept; passes = p .passes }
 
     pub listed-unready : (k ≡ 0 → ⊥) → PublicList (listCall l fit work m c) m m l l c (stop k)
     listed-unready d = record { store = listed (call-unready fit work m c k v d); idle = λ j e i. refl }

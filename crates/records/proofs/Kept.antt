@@ -477,7 +477,7 @@ pub record KeyAdded (a b : ℕ) (s s′ : Store) : Type 0 where
   pub reasons : s′ .reasons ≡ s .reasons
 
 -- two different string terms, the lower first
-key-rule : (a b : ℕ) (s : Store) → isString s a ≡ true → isString s b ≡ true → (a ≡ b → ⊥) → keyRule s (ordered a b) ≡ true
+pub key-rule : (a b : ℕ) (s : Store) → isString s a ≡ true → isString s b ≡ true → (a ≡ b → ⊥) → keyRule s (ordered a b) ≡ true
 unfolding keyRule
 key-rule a b s p q d = decide (leb a b) (λ h. low (leb-true a b h)) (λ h. high (leb-false a b h))
   where
@@ -493,21 +493,26 @@ key-rule a b s p q d = decide (leb a b) (λ h. low (leb-true a b h)) (λ h. high
     high : b < a → (ltb (min a b) (max a b) && isString s (min a b) && isString s (max a b)) ≡ true
     high h = let e : min a b ≡ b = min-eq-right (omega arith) in let f : max a b ≡ a = max-eq-left (omega arith) in rw (e, f) (rule b a h q p)
 
-key-room : (a b : ℕ) (s s′ : Store) → addKey a b s ≡ ok s′ tt → (length (s .keys) < s .room .keys) × (s′ ≡ withKeys s (s .keys ++ (ordered a b ∷ [])))
+key-room : (a b : ℕ) (s s′ : Store) {u : Unit {0}} → addKey a b s ≡ ok s′ u → (length (s .keys) < s .room .keys) × (s′ ≡ withKeys s (s .keys ++ (ordered a b ∷ [])))
 unfolding addKey
 key-room a b s s′ e = branch (ltb (length (s .keys)) (s .room .keys)) _ _ {s = s} (λ c d. (ltb-true _ _ c, cc)) (λ c d. stop-not d) e
 
-pub key-kept : (a b : ℕ) (s s′ : Store) → Audited s → isString s a ≡ true → isString s b ≡ true → (a ≡ b → ⊥) → addKey a b s ≡ ok s′ tt → KeyAdded a b s s′
+pub key-audited : (a b : ℕ) (s s′ : Store) → Audited s → keyRule s (ordered a b) ≡ true → {u : Unit {0}} → addKey a b s ≡ ok s′ u → Audited s′
 unfolding all
+key-audited a b s s′ audited good e =
+    let p = key-room a b s s′ e in
+    let h = p .0 in
+    let n = length-append (s .keys) (ordered a b ∷ []) in
+    let f = all-append (keyRule s) (s .keys) (ordered a b ∷ []) ∙ both-true _ _ (audited .recorded .keys) (both-true _ _ good refl) in
+    subst Audited (sym (p .1)) (audited-beside s (s .reasons) (s .keys ++ (ordered a b ∷ [])) (s .names) audited (audited .recorded .reasons) f (audited .roomy .reasons) (omega arith))
+
+pub key-kept : (a b : ℕ) (s s′ : Store) → Audited s → isString s a ≡ true → isString s b ≡ true → (a ≡ b → ⊥) → addKey a b s ≡ ok s′ tt → KeyAdded a b s s′
 key-kept a b s s′ audited i j d e =
     let p = key-room a b s s′ e in
     let l = s .keys ++ (ordered a b ∷ []) in
-    let h = p .0 in
-    let n = length-append (s .keys) (ordered a b ∷ []) in
-    let f = all-append (keyRule s) (s .keys) (ordered a b ∷ []) ∙ both-true _ _ (audited .recorded .keys) (both-true _ _ (key-rule a b s i j d) refl) in
     record {
       is = p .1;
-      audited = subst Audited (sym (p .1)) (audited-beside s (s .reasons) l (s .names) audited (audited .recorded .reasons) f (audited .roomy .reasons) (omega arith));
+      audited = key-audited a b s s′ audited (key-rule a b s i j d) e;
       grown = subst (Grown s) (sym (p .1)) (grown-beside s (s .reasons) l (s .names));
       reasons = ap (λ (x : Store). x .reasons) (p .1);
     }

@@ -7,15 +7,17 @@ use native.Mathlib.Omega.{arith}
 use lib.ListN.{length, drop, length-append}
 use lib.Seq.{drop-append-seam}
 use Rattle.records.specs.declared.State.{State}
-use Rattle.records.specs.Store.{Store, kind}
+use Rattle.records.specs.Store.{Cell, Store, kind}
 use Rattle.records.specs.View.{Lent, storeOf}
 use Rattle.records.specs.Lists.{oneMore}
-use Rattle.records.specs.Make.{withReasons, isListed, eachNew, EachOnce}
+use Rattle.records.specs.Make.{withReasons, withNames, ordered, isListed, eachNew, EachOnce}
 use Rattle.records.specs.Working.Audited.{Audited}
 use Rattle.records.proofs.Lists.{both-left, both-right, both-true}
 use Rattle.records.proofs.Grown.{Grown, OldVariables, grown-none, grown-then}
-use Rattle.records.proofs.Beside.{audited-beside, grown-beside}
-use Rattle.records.proofs.Kept.{MadeIn, KeyAdded}
+use Rattle.records.proofs.Append.{grow, More as MoreRecords, New}
+use Rattle.records.proofs.Beside.{beside, audited-beside, grown-beside}
+use Rattle.records.proofs.Kept
+use Rattle.records.proofs.Kept.{Appends, found, after-names, MadeIn, KeyAdded}
 use Rattle.records.proofs.Counts.{Below, Higher, higher-below}
 
 -- a list with more at its end
@@ -59,8 +61,34 @@ once-then {l} {m} {n} p q = record {
 pub once-more : {l l′ : List (ℕ × ℕ)} → EachOnce l l′ → More l l′
 once-more e = record { more = e .more; is = e .is }
 
+-- how a store came from an earlier one: terms were appended, one after the other, each its own class and its own tree, and nothing else
+-- happened to the terms; reasons, keys and the name counter changed beside them
+pub data Extended : Store → Store → Type 0 where
+  as-was : {s : Store} → Extended s s
+  one-term : {s s′ : Store} {ds : List Cell} {hs : List ℕ} {k a b : ℕ} → MoreRecords s ds hs → New s ds hs k a b → Extended (grow s ds hs k a b) s′ → Extended s s′
+  counter : {s s′ : Store} (m : ℕ) → Extended (withNames s m) s′ → Extended s s′
+  others : {s s′ : Store} (rs ks : List (ℕ × ℕ)) → Audited (beside s rs ks (s .names)) → Extended (beside s rs ks (s .names)) s′ → Extended s s′
+
+pub extended-then : {s s₁ s₂ : Store} → Extended s s₁ → Extended s₁ s₂ → Extended s s₂
+extended-then as-was q = q
+extended-then (one-term m n p) q = one-term m n (extended-then p q)
+extended-then (counter m p) q = counter m (extended-then p q)
+extended-then (others rs ks a p) q = others rs ks a (extended-then p q)
+
+-- a term made
+pub extended-made : {s s′ : Store} → Appends s s′ → Extended s s′
+extended-made found = as-was
+extended-made (Kept.Appends.one-term m n) = one-term m n as-was
+extended-made (after-names m p) = counter m (extended-made p)
+
+-- other reasons and keys
+pub extended-others : {s s′ : Store} (rs ks : List (ℕ × ℕ)) → Audited s′ → s′ ≡ beside s rs ks (s .names) → Extended s s′
+extended-others {s} rs ks a e = subst (Extended s) (sym e) (others rs ks (subst Audited e a) as-was)
+
+-- appended terms are alone and old ones stay (`extended`), words extend to it (`grown`), and no count is lower
 pub record Later (s s′ : Store) : Type 0 where
   pub audited : Audited s′
+  pub extended : Extended s s′
   pub grown : Grown s s′
   pub cells : length (s .cells) ≤ length (s′ .cells)
   pub chars : length (s .chars) ≤ length (s′ .chars)
@@ -69,11 +97,12 @@ pub record Later (s s′ : Store) : Type 0 where
   pub room : s′ .room ≡ s .room
 
 pub later-none : {s : Store} → Audited s → Later s s
-later-none {s} d = record { audited = d; grown = grown-none s; cells = omega arith; chars = omega arith; reasons = once-none refl; keys = more-none refl; room = refl }
+later-none {s} d = record { audited = d; extended = as-was; grown = grown-none s; cells = omega arith; chars = omega arith; reasons = once-none refl; keys = more-none refl; room = refl }
 
 unfoldable pub later-then : {s s₁ s₂ : Store} → Later s s₁ → Later s₁ s₂ → Later s s₂
 later-then p q = record {
   audited = q .audited;
+  extended = extended-then (p .extended) (q .extended);
   grown = grown-then (p .grown) (q .grown);
   cells = (let a = p .cells in let b = q .cells in omega arith);
   chars = (let a = p .chars in let b = q .chars in omega arith);
@@ -84,11 +113,12 @@ later-then p q = record {
 
 -- after a term was made, after a key was added
 unfoldable pub later-made : {s s′ : Store} {t k : ℕ} → MadeIn s s′ t k → Later s s′
-later-made m = record { audited = m .audited; grown = m .grown; cells = m .cells; chars = m .chars; reasons = once-none (m .reasons); keys = more-none (m .keys); room = m .room }
+later-made m = record { audited = m .audited; extended = extended-made (m .appends); grown = m .grown; cells = m .cells; chars = m .chars; reasons = once-none (m .reasons); keys = more-none (m .keys); room = m .room }
 
 pub later-key : {a b : ℕ} {s s′ : Store} → KeyAdded a b s s′ → Later s s′
-later-key k = record {
+later-key {a} {b} {s} k = record {
   audited = k .audited;
+  extended = extended-others (s .reasons) (s .keys ++ (ordered a b ∷ [])) (k .audited) (k .is);
   grown = k .grown;
   cells = (let e = ap (λ (x : Store). length (x .cells)) (k .is) in omega arith);
   chars = (let e = ap (λ (x : Store). length (x .chars)) (k .is) in omega arith);
@@ -121,6 +151,7 @@ added-once a = record { more = a .more; is = ap (λ (x : Store). x .reasons) (a 
 unfoldable pub later-added : {s s′ : Store} → Added s s′ → Audited s′ → Later s s′
 later-added {s} a d = record {
   audited = d;
+  extended = extended-others (s .reasons ++ a .more) (s .keys) d (a .is);
   grown = subst (Grown s) (sym (a .is)) (grown-beside s (s .reasons ++ a .more) (s .keys) (s .names));
   cells = (let e = ap (λ (x : Store). length (x .cells)) (a .is) in omega arith);
   chars = (let e = ap (λ (x : Store). length (x .chars)) (a .is) in omega arith);
@@ -137,8 +168,10 @@ pub later-cut : {s s₁ : Store} → Audited s → Later s s₁ → Later s (wit
 later-cut {s} {s₁} d k =
     let e = ap (λ (x : _). x .reasons) (k .room) in
     let h = d .roomy .reasons in
+    let au = audited-beside s₁ (s .reasons) (s₁ .keys) (s₁ .names) (k .audited) (d .recorded .reasons) (k .audited .recorded .keys) (omega arith) (k .audited .roomy .keys) in
     record {
-      audited = audited-beside s₁ (s .reasons) (s₁ .keys) (s₁ .names) (k .audited) (d .recorded .reasons) (k .audited .recorded .keys) (omega arith) (k .audited .roomy .keys);
+      audited = au;
+      extended = extended-then (k .extended) (others (s .reasons) (s₁ .keys) au as-was);
       grown = grown-then (k .grown) (grown-beside s₁ (s .reasons) (s₁ .keys) (s₁ .names));
       cells = k .cells;
       chars = k .chars;

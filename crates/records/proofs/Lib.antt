@@ -23,5 +23,6 @@ pub mod Sequence
 pub mod Later
 pub mod Loops
 pub mod ListLaws
+pub mod Doing
 mod Standard
 mod Refines

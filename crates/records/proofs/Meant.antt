@@ -3,14 +3,12 @@ use mathlib.Core.Path.{_≡_, sym, ap, _∙_}
 use mathlib.Core.Bool.{true}
 use mathlib.Core.List.{List}
 use Prim.Native.Nat.{ℕ}
-use native.Mathlib.Omega.{arith}
 use lib.ListN.{length}
 use Rattle.records.specs.Lists.{concatMap}
-use Rattle.records.specs.Store.{Term, Store, term, kind, isString}
+use Rattle.records.specs.Store.{Term, Store, term, kind, within, isString}
 use Rattle.records.specs.Meaning
 use Rattle.records.specs.Meaning.{Words, Reading, True}
 use Rattle.records.specs.Working.Audited.{Recorded}
-use Rattle.records.proofs.Lists.{within-high}
 use Rattle.records.proofs.Grown.{present, Grown, grown-kind, grown-string}
 use Rattle.records.proofs.Append.{equatable-here}
 use Rattle.records.proofs.Kept.{ConstantMade, ConcatMade, EquationMade}
@@ -25,21 +23,17 @@ concat-word {w = w} m r = r .concats _ (m .made .kind-is) ∙ ap (concatMap w) (
 
 -- EQUATIONS
 
--- a string term is no length
-string-not : (s : Store) (t : ℕ) → isString s t ≡ true → kind s t ≡ 4 → ⊥
-string-not s t e q = let h = within-high 3 (kind s t) e in omega arith
-
 -- between string terms
-pub equation-true : (a b : ℕ) {s s′ : Store} {t : ℕ} {w : Words} → EquationMade a b s s′ t → isString s a ≡ true → w a ≡ w b → True s′ w t
-equation-true a b {s} {s′} {t} {w} m e q =
+pub equation-true : (a b : ℕ) {s s′ : Store} {t : ℕ} {w : Words} → EquationMade a b s s′ t → isString s a ≡ true → isString s b ≡ true → w a ≡ w b → True s′ w t
+equation-true a b {s} {s′} {t} {w} m e f q =
     Meaning.True.equal (m .made .kind-is)
-    (λ k. string-not s′ a (grown-string (m .made .grown) a e) (sym (ap (kind s′) (m .first-is)) ∙ k))
+    (ap (isString s′) (m .first-is) ∙ grown-string (m .made .grown) a e) (ap (isString s′) (m .second-is) ∙ grown-string (m .made .grown) b f)
     (ap w (m .first-is) ∙ q ∙ sym (ap w (m .second-is)))
 
 -- between the lengths a of x and b of y
 pub lengths-true : (a b x y : ℕ) {s s′ : Store} {t : ℕ} {w : Words} → EquationMade a b s s′ t → kind s a ≡ 4 → kind s b ≡ 4 → term s a .first ≡ x → term s b .first ≡ y → length (w x) ≡ length (w y) → True s′ w t
 lengths-true a b x y {s} {s′} {t} {w} m e f p q h =
-    Meaning.True.long (m .made .kind-is) (ap (kind s′) (m .first-is) ∙ grown-kind (m .made .grown) a 3 e)
+    Meaning.True.long (m .made .kind-is) (ap (kind s′) (m .first-is) ∙ grown-kind (m .made .grown) a 3 e) (ap (kind s′) (m .second-is) ∙ grown-kind (m .made .grown) b 3 f)
     (ap (λ (i : ℕ). length (w i)) (side a x (term s′ t .first) e p (m .first-is)) ∙ h ∙ sym (ap (λ (i : ℕ). length (w i)) (side b y (term s′ t .second) f q (m .second-is))))
   where
     side : (a x i : ℕ) → kind s a ≡ 4 → term s a .first ≡ x → i ≡ a → term s′ i .first ≡ x
@@ -58,9 +52,9 @@ module _ {s s′ : Store} (g : Grown s s′) (r : Recorded s) (e : ℕ) where
     second-is = ap (λ (x : Term). term s′ (x .second)) self ∙ g .old (term s e .second) (equatable-here s _ _ (r .equationSides e k) .1)
 
   pub grown-true : {w : Words} → True s w e → True s′ w e
-  grown-true {w} (Meaning.True.equal k d q) =
-      Meaning.True.equal (grown-kind g e 4 k) (λ i. d (ap (λ (x : Term). x .kind) (sym (first-is k)) ∙ i))
+  grown-true {w} (Meaning.True.equal k d f q) =
+      Meaning.True.equal (grown-kind g e 4 k) (ap (λ (x : Term). within 3 (x .kind)) (first-is k) ∙ d) (ap (λ (x : Term). within 3 (x .kind)) (second-is k) ∙ f)
       (ap (λ (x : Term). w (x .first)) (self k) ∙ q ∙ ap (λ (x : Term). w (x .second)) (sym (self k)))
-  grown-true {w} (Meaning.True.long k i q) =
-      Meaning.True.long (grown-kind g e 4 k) (ap (λ (x : Term). x .kind) (first-is k) ∙ i)
+  grown-true {w} (Meaning.True.long k i j q) =
+      Meaning.True.long (grown-kind g e 4 k) (ap (λ (x : Term). x .kind) (first-is k) ∙ i) (ap (λ (x : Term). x .kind) (second-is k) ∙ j)
       (ap (λ (x : Term). length (w (x .first))) (first-is k) ∙ q ∙ ap (λ (x : Term). length (w (x .first))) (sym (second-is k)))

@@ -1,5 +1,5 @@
 -- Names: a counter in decimal, and the first that no variable has.
-use mathlib.Core.Path.{_≡_, refl, sym, ap, _∙_}
+use mathlib.Core.Path.{_≡_, refl, sym, ap, subst, _∙_}
 use mathlib.Core.Bool.{Bool, true, false, not}
 use mathlib.Core.List.{List, [], _∷_, _++_, append-assoc, append-nil}
 use mathlib.Core.Option.{Option, none, some}
@@ -20,10 +20,11 @@ use Rattle.records.specs.Rules.{named}
 use Rattle.records.specs.Make.{strk, decimalBy, nameOf, isTaken, withNames, nameLimit, takeNameBy, takeName, lookup, isSome}
 use Rattle.records.specs.Working.Leaves.{numberOf, textOf, hasText}
 use Rattle.records.specs.Working.Audited.{Ready}
-use Rattle.records.specs.Calls.{Taken}
+use Rattle.records.specs.Working.Doing.{Taken}
 use Rattle.records.specs.Working.Leaves.{Free}
 use Rattle.records.specs.Working.Puts.{Written}
 use Rattle.records.proofs.Lists.{clash, first-same}
+use Rattle.records.proofs.Doing.{ready-names}
 use Rattle.records.proofs.Refines.Making.{texts-within, found-text}
 
 -- DECIMALS
@@ -155,13 +156,13 @@ module _ (s : Store) (x : ℕ) (h : Passed s x) where
       spent = λ q. absurd (omega arith);
     }
 
-module _ (t e h r ks : List ℕ) (c : State) (x : ℕ) (f : Free (storeOf (lent t e h r ks) c) x) where
+module _ (t e h r ks : List ℕ) (c : State) (ready : Ready (lent t e h r ks) c) (x : ℕ) (f : Free (storeOf (lent t e h r ks) c) x) where
   pub name-taken : (l l′ : List ℕ) (n : ℕ) (d : State) → x < nameLimit → length l ≡ 15 → length l′ ≡ length l → Written l l′ 0 (nameOf x) n → d ≡ namesAt c (x + 1)
       → Taken (lent t e h r ks) c (record { code = 0; state = d; name = l′; len = n })
   name-taken l l′ n d p k s w q =
       let g : take n l′ ≡ nameOf x = w .words in
       let b = name-here l l′ x n k s w in
-      record { says = f .free p ∙ rw (q, add-one x, g); fits = omega arith; stays = λ z. clash refl z }
+      record { says = f .free p ∙ rw (q, add-one x, g); fits = omega arith; ready = subst (Ready (lent t e h r ks)) (sym q) (ready-names (x + 1) ready); stays = λ z. clash refl z }
 
   pub name-spent : (l : List ℕ) → nameLimit ≤ x → Taken (lent t e h r ks) c (record { code = 9; state = c; name = l; len = 0 })
-  name-spent l p = record { says = f .spent p; fits = omega arith; stays = λ z. refl }
+  name-spent l p = record { says = f .spent p; fits = omega arith; ready = ready; stays = λ z. refl }

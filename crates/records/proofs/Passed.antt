@@ -1,5 +1,5 @@
 -- The audit answers 0 exactly where the facts of specs/Audited.antt hold.
-use mathlib.Core.Path.{_≡_, refl, sym, ap}
+use mathlib.Core.Path.{_≡_, refl, sym, ap, subst}
 use mathlib.Core.Bool.{Bool, true, false, not, _&&_, _||_, false≢true}
 use mathlib.Core.List.{List}
 use mathlib.Core.Logic.{inl, inr, ⊎-elim}
@@ -353,9 +353,20 @@ ready-of m c e = decide (sizes m c) (λ z. record { sized = sized-of m c z; audi
 pub ready-after : {m m′ : Lent} {c c′ : State} → Ready m c → length (m′ .terms) ≡ length (m .terms) → length (m′ .cells) ≡ length (m .cells) → Audited (storeOf m′ c′) → Ready m′ c′
 ready-after {m} {m′} {c} {c′} r e f a = record { sized = sized-after m m′ c c′ (r .sized) e f (a .roomy); audited = a }
 
+-- and those that keep what was counted keep their lengths
+pub ready-later : {m m′ : Lent} {c c′ : State} → Ready m c → storeOf m′ c ≡ storeOf m c → Audited (storeOf m′ c′) → Ready m′ c′
+ready-later r e a = ready-after r (ap (λ (s : Store). s .room .termsLong) e) (ap (λ (s : Store). s .room .cellsLong) e) a
+
+pub ready-as : {m m′ : Lent} {c c′ : State} → Ready m c → storeOf m′ c′ ≡ storeOf m c → Ready m′ c′
+ready-as r e = ready-after r (ap (λ (s : Store). s .room .termsLong) e) (ap (λ (s : Store). s .room .cellsLong) e) (subst Audited (sym e) (r .audited))
+
 pub audit-of : (m : Lent) (c : State) → Ready m c → audit m c ≡ 0
 unfolding audit
 audit-of m c r = rw (sizes-of m c (r .sized)) (passes (storeOf m c) (r .audited))
+
+-- a refusal leaves what the audit says: what was counted, and lengths
+pub audit-kept : (m m′ : Lent) (c : State) → storeOf m′ c ≡ storeOf m c → audit m c ≡ 0 → audit m′ c ≡ 0
+audit-kept m m′ c e z = audit-of m′ c (ready-as (ready-of m c z) e)
 
 -- the answer is the first place whose facts do not hold, and no other
 pub verdict : (m : Lent) (c : State) → Verdict m c (audit m c)

@@ -9,13 +9,15 @@ use Rattle.records.specs.Store.{Store, Out, stop, Work}
 use Rattle.records.specs.View.{Lent, storeOf, sizes}
 use Rattle.records.specs.Rules.{recordsRule, classesRule, congruencesRule, auditStore, audit}
 use Rattle.records.specs.Working.Audited.{Ready}
-use Rattle.records.specs.Calls.{call, checked, unless, Public, Working}
-use Rattle.records.proofs.Passed.{ready-of}
+use Rattle.records.specs.Calls.{call, checked, unless, Public}
+use Rattle.records.specs.Working.Doing.{Working}
+use Rattle.records.proofs.Works.{stop-not}
+use Rattle.records.proofs.Passed.{ready-of, audit-of}
 
 module _ {A : Type 0} (fit : Store → Bool) (work : Work A) (m : Lent) (c : State) (k : ℕ) (verdict : k ≡ audit m c) where
   pub call-unready : (k ≡ 0 → ⊥) → Public (call fit work m c) m m c (stop k)
   unfolding call
-  call-unready d = record { says = go k verdict d; idle = λ j e l. refl; kept = refl }
+  call-unready d = record { says = go k verdict d; idle = λ j e l. refl; kept = refl; passes = λ d a q. stop-not q }
     where
       go : (j : ℕ) → j ≡ audit m c → (j ≡ 0 → ⊥) → stop j ≡ unless (audit m c) (checked (fit (storeOf m c)) work (storeOf m c))
       go zero e d = absurd (d refl)
@@ -24,7 +26,7 @@ module _ {A : Type 0} (fit : Store → Bool) (work : Work A) (m : Lent) (c : Sta
   module _ (ready : k ≡ 0) where
     pub call-unfit : (b : Bool) → b ≡ fit (storeOf m c) → b ≡ false → Public (call fit work m c) m m c (stop 5)
     unfolding call
-    call-unfit b e f = let a : audit m c ≡ 0 = sym verdict ∙ ready in let g : fit (storeOf m c) ≡ false = sym e ∙ f in record { says = rw (a, g); idle = λ j e l. refl; kept = refl }
+    call-unfit b e f = let a : audit m c ≡ 0 = sym verdict ∙ ready in let g : fit (storeOf m c) ≡ false = sym e ∙ f in record { says = rw (a, g); idle = λ j e l. refl; kept = refl; passes = λ d x q. stop-not q }
 
     -- the stops of the work itself are 6 to 9
     pub call-works : (b : Bool) → b ≡ fit (storeOf m c) → b ≡ true → ((j : ℕ) → work (storeOf m c) ≡ stop j → 6 ≤ j)
@@ -33,7 +35,7 @@ module _ {A : Type 0} (fit : Store → Bool) (work : Work A) (m : Lent) (c : Sta
     call-works b e f stops w =
         let a : audit m c ≡ 0 = sym verdict ∙ ready in
         let g : fit (storeOf m c) ≡ true = sym e ∙ f in
-        record { says = rw (a, g) (sym (w .says)); idle = λ j h l. let q = stops j (w .says ∙ h) in absurd (omega arith); kept = w .kept }
+        record { says = rw (a, g) (sym (w .says)); idle = λ j h l. let q = stops j (w .says ∙ h) in absurd (omega arith); kept = w .kept; passes = λ d x q. audit-of _ d (w .ready d x q) }
 
 -- the audit's refusals are 1 to 4
 pub audit-low : (m : Lent) (c : State) → audit m c ≤ 4

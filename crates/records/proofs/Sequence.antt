@@ -15,9 +15,11 @@ use Rattle.records.specs.Store.{Store, Out, ok, stop, Work, andThen, _>>
 use Rattle.records.specs.View.{Lent, storeOf}
 use Rattle.records.specs.Rules.{named}
 use Rattle.records.specs.Make.{withKeys, withChars, withCells, withTerms, own, ordered, addKey, addText, addChain, chainFrom, addTerm, lookup, orMake, lowest, constantOf, concatOf, lengthOf, equationOf, makeConstant, makeVariable, makeConcat, makeLength, makeEquation, takeName}
-use Rattle.records.specs.Calls.{Working, made}
+use Rattle.records.specs.Calls.{made}
+use Rattle.records.specs.Working.Doing.{Working}
 use Rattle.records.proofs.Works.{stop-not, via}
 use Rattle.records.proofs.Kept.{name-taken}
+use Rattle.records.proofs.Doing.{working-stopped, working-at}
 use Rattle.records.proofs.Counts.{Higher, higher-none, higher-then, agree-below}
 
 -- WORK THAT TAKES NOTHING AWAY
@@ -120,18 +122,19 @@ module _ {A B : Type 0} {w : Work A} (f : A → Work B) {m m₁ : Lent} {c : Sta
   working-then c₁ a g p {m₂} q = record {
     says = ap (andThen f) (p .says) ∙ q .says;
     kept = agree-below m m₁ m₂ c c₁ (g .higher (storeOf m c) (storeOf m₁ c₁) a (p .says)) (q .kept) ∙ p .kept;
+    ready = q .ready;
   }
 
   pub working-stop : {k : ℕ} → Working w m m₁ c (stop k) → Working (w >>= f) m m₁ c (stop k)
-  working-stop p = record { says = ap (andThen f) (p .says); kept = p .kept }
+  working-stop p = working-stopped (ap (andThen f) (p .says)) (p .kept)
 
 -- after a make
 module _ {w : Work ℕ} {m m₁ : Lent} {c : State} {r : Made} where
   pub made-is : {t : ℕ} {d : State} → r ≡ Term t d → Working w m m₁ c (made r m₁) → Working w m m₁ c (ok (storeOf m₁ d) t)
-  made-is e p = record { says = p .says ∙ ap (λ (x : Made). made x m₁) e; kept = p .kept }
+  made-is e p = working-at (ap (λ (x : Made). made x m₁) e) p
 
   pub made-stops : {k : ℕ} → r ≡ Refused k → Working w m m₁ c (made r m₁) → Working w m m₁ c (stop k)
-  made-stops e p = record { says = p .says ∙ ap (λ (x : Made). made x m₁) e; kept = p .kept }
+  made-stops e p = working-at (ap (λ (x : Made). made x m₁) e) p
 
 module _ {w : Work ℕ} {B : Type 0} (f : ℕ → Work B) {m m₁ : Lent} {c : State} {r : Made} where
   pub made-then : {t : ℕ} {d : State} → Grows w → r ≡ Term t d → Working w m m₁ c (made r m₁) → {m₂ : Lent} {o : Out B} → Working (f t) m₁ m₂ d o → Working (w >>= f) m m₂ c o

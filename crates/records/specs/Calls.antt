@@ -1,10 +1,8 @@
--- What every call promises: one shape for the public calls, one for the working functions.
+-- What every public call promises, in one shape.
 use mathlib.Core.Path.{_≡_}
-use mathlib.Core.Bool.{Bool, false}
+use mathlib.Core.Bool.{Bool}
 use mathlib.Core.List.{List}
 use Prim.Native.Nat.{ℕ, zero, suc, _≤_, _<_}
-use lib.ListN.{take}
-use lib.Dec.{eqb}
 use denote.Ref.{now}
 use denote.Triple.Both.{Both}
 use Rattle.records.specs.declared.State.{State}
@@ -12,13 +10,11 @@ use Rattle.records.specs.declared.Made.{Made}
 use Rattle.records.specs.declared.Made.the-variants.{Term, Refused}
 use Rattle.records.specs.declared.Added.{Added}
 use Rattle.records.specs.declared.Added.the-variants as adding
-use Rattle.records.specs.declared.Named.{Named}
 use Rattle.records.specs.Lists.{if_then_else_}
 use Rattle.records.specs.Store.{Store, Out, ok, stop, Work}
 use Rattle.records.specs.View.{Lent, storeOf}
 use Rattle.records.specs.View.{Slice}
 use Rattle.records.specs.Rules.{audit}
-use Rattle.records.specs.Make.{takeName}
 
 -- what was counted is as it was: 'records below those counts keep their contents'
 abbrev pub KeepsStore : Lent → Lent → State → Type 0
@@ -44,22 +40,15 @@ module _ {A : Type 0} where
   unfoldable pub call : (Store → Bool) → Work A → Lent → State → Out A
   call fit work m c = unless (audit m c) (checked (fit (storeOf m c)) work (storeOf m c))
 
-  -- what a public call promises: its answer, when it writes nothing, and what it keeps
+  -- what a public call promises: its answer, when it writes nothing, what it keeps, and that what it leaves passes the audit: the words
+  -- at exit with the counts d that it answers
   pub record Public (o : Out A) (m m′ : Lent) (c : State) (r : Out A) : Type 0 where
     pub says : r ≡ o
     pub idle : (k : ℕ) → r ≡ stop k → writesNothing k → m′ ≡ m
     pub kept : KeepsStore m m′ c
-
-  -- a working function does what its definition says, and keeps what was counted
-  pub record Working (work : Work A) (m m′ : Lent) (c : State) (r : Out A) : Type 0 where
-    pub says : work (storeOf m c) ≡ r
-    pub kept : KeepsStore m m′ c
+    pub passes : (d : State) (a : A) → r ≡ ok (storeOf m′ d) a → audit m′ d ≡ 0
 
   -- THE WORDS OF CONTRACTS. Slices are passed by their names (View.antt, `across`), and an answer is read in the words at exit
-
-  -- a working function: `Does work (across ..) c (made r)`
-  abbrev pub Does : Work A → Both Lent Lent → State → (Lent → Out A) → Type 0
-  Does work x c f = Working work (x .entry) (x .exit) c (f (x .exit))
 
   -- a public call, with the test of its arguments
   abbrev pub Answers : (Store → Bool) → Work A → Both Lent Lent → State → (Lent → Out A) → Type 0
@@ -87,13 +76,3 @@ made (Refused k) m = stop k
 abbrev pub added : Added → Lent → Out (Unit {0})
 added (adding.Counts c) m = ok (storeOf m c) tt
 added (adding.Refused k) m = stop k
-
--- the answer of taking a name
-abbrev pub taken : Named → Lent → Out (List ℕ)
-taken r m = if eqb (r .code) 0 then ok (storeOf m (r .state)) (take (r .len) (r .name)) else stop (r .code)
-
--- and after refusal 9 the counts and the name counter are those of entry
-pub record Taken (m : Lent) (c : State) (r : Named) : Type 0 where
-  pub says : takeName (storeOf m c) ≡ taken r m
-  pub fits : r .len ≤ 15
-  pub stays : eqb (r .code) 0 ≡ false → r .state ≡ c

@@ -5,7 +5,7 @@ use mathlib.Core.List.{List, List·Memᴰ}
 use Prim.Native.Nat.{ℕ}
 use lib.ListN.{length}
 use Rattle.records.specs.Lists.{all, concatMap}
-use Rattle.records.specs.Store.{Term, Store, term, kind, text, parts, isEdge}
+use Rattle.records.specs.Store.{Term, Store, term, kind, isString, text, parts, isEdge}
 use Rattle.records.specs.Rules.{isChar, isReasonKind}
 
 -- a word for each term; 'a concatenation's or a list's is its parts' words in order': `concatMap w l`
@@ -36,7 +36,8 @@ pub record Holds (s : Store) (rs : List (ℕ × ℕ)) (w : Words) : Type 0 where
   pub merges : (t : ℕ) → isEdge s t ≡ true → term s t .labelKind ≡ 4 → EqualEnds s w t
   pub reasons : (t : ℕ) → isEdge s t ≡ true → IsUnder rs (term s t) → EqualEnds s w t
 
--- 'A listed atom, an equation in Split's list, is true when its two words are equal or, between lengths, equally long'
+-- 'A listed atom, an equation in Split's list, is true when its two words are equal or, between lengths, equally long'; an equation is of
+-- 'two string terms or two lengths'
 pub data True (s : Store) (w : Words) (e : ℕ) : Type 0 where
-  equal : kind s e ≡ 5 → (kind s (term s e .first) ≡ 4 → ⊥) → w (term s e .first) ≡ w (term s e .second) → True s w e
-  long : kind s e ≡ 5 → kind s (term s e .first) ≡ 4 → length (w (term s (term s e .first) .first)) ≡ length (w (term s (term s e .second) .first)) → True s w e
+  equal : kind s e ≡ 5 → isString s (term s e .first) ≡ true → isString s (term s e .second) ≡ true → w (term s e .first) ≡ w (term s e .second) → True s w e
+  long : kind s e ≡ 5 → kind s (term s e .first) ≡ 4 → kind s (term s e .second) ≡ 4 → length (w (term s (term s e .first) .first)) ≡ length (w (term s (term s e .second) .first)) → True s w e

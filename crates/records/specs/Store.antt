@@ -24,14 +24,17 @@ pub record Cell : Type 0 where
   pub other : ℕ
   pub next : ℕ
 
--- what a slice has beside its counted records: how many records it and its limit hold, record 0 of terms and of cells left out; and
--- record 0 of the two, which 'is never read': no definition names it, and a store that keeps its room keeps it
+-- what a slice has beside its counted records: how many records it and its limit hold, record 0 of terms and of cells left out; and, of
+-- terms and cells, the words of the slice and record 0, which 'is never read': no definition names these, and a store that keeps its room
+-- keeps them
 pub record Room : Type 0 where
   pub terms : ℕ
   pub cells : ℕ
   pub chars : ℕ
   pub reasons : ℕ
   pub keys : ℕ
+  pub termsLong : ℕ
+  pub cellsLong : ℕ
   pub zeroTerm : Term
   pub zeroCell : Cell
 

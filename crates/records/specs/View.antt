@@ -142,6 +142,8 @@ roomOf m = record {
   chars = charRoom (m .chars);
   reasons = reasonRoom (m .reasons);
   keys = keyRoom (m .keys);
+  termsLong = length (m .terms);
+  cellsLong = length (m .cells);
   zeroTerm = zeroTerm (m .terms);
   zeroCell = zeroCell (m .cells);
 }
@@ -195,6 +197,9 @@ moreChars c n = record { terms = c .terms; cells = c .cells; chars = c .chars + 
 
 abbrev pub reasonsAt : State → ℕ → State
 reasonsAt c n = record { terms = c .terms; cells = c .cells; chars = c .chars; reasons = n; keys = c .keys; names = c .names }
+
+abbrev pub oneReason : State → State
+oneReason c = record { terms = c .terms; cells = c .cells; chars = c .chars; reasons = c .reasons + 1; keys = c .keys; names = c .names }
 
 abbrev pub oneKey : State → State
 oneKey c = record { terms = c .terms; cells = c .cells; chars = c .chars; reasons = c .reasons; keys = c .keys + 1; names = c .names }

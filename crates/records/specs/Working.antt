@@ -5,4 +5,5 @@ pub mod Hashes
 pub mod Puts
 pub mod Standard
 pub mod Audited
+pub mod Doing
 pub mod Heights

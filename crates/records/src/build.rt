@@ -1,15 +1,17 @@
 // Making concatenations, lengths and equations: the lowest-numbered equal record, else one appended.
+ghost use mathlib.Core.Bool.{true};
 ghost use mathlib.Core.Path.{_≡_};
 ghost use mathlib.Core.Logic.{_⊎_};
 ghost use Prim.Native.Nat.{suc, _-_, _≤_, min};
 ghost use lib.ListN.{length, getD};
 ghost use Rattle.records.specs.Lists.{sameWord, firsts, firstBelow};
 ghost use Rattle.records.specs.Store.{chainIn};
-ghost use Rattle.records.specs.View.{termLimit, cellsView, lends, across};
+ghost use Rattle.records.specs.View.{termLimit, cellsView, storeOf, lends, across};
 ghost use Rattle.records.specs.Make.{makeConcat, makeLength, makeEquation, concatArguments, lengthArguments, equationArguments};
 ghost use Rattle.records.specs.Working.Leaves.{numberOf, Passed, appendParts, hasParts, hasSides, makeSides};
 ghost use Rattle.records.specs.Working.Audited.{Ready, Sized, Ascends};
-ghost use Rattle.records.specs.Calls.{made, Does, Answers};
+ghost use Rattle.records.specs.Calls.{made, Answers};
+ghost use Rattle.records.specs.Working.Doing.{Does, Builds};
 use crate::Made;
 use crate::State;
 use crate::fields::first;
@@ -110,7 +112,7 @@ fn append_parts(
     l: &[u32],
 ) -> Made
     requires { ⌜ Sized (lends terms cells chars reasons keys) c ⌝ }
-    ensures { λ r. ⌜ Does (appendParts (now (l .entry))) (across terms cells chars reasons keys) c (made r) ⌝ }
+    ensures { λ r. ⌜ Builds (appendParts (now (l .entry))) (across terms cells chars reasons keys) c (made r) ⌝ }
 {
     let n = c.terms;
     let k = c.cells;
@@ -135,6 +137,7 @@ pub fn make_concatenation_unchecked(
     l: &[u32],
 ) -> Made
     requires { ⌜ Ready (lends terms cells chars reasons keys) c ⌝ }
+    requires { ⌜ concatArguments (now l) (storeOf (lends terms cells chars reasons keys) c) ≡ true ⌝ }
     ensures { λ r. ⌜ Does (makeConcat (now (l .entry))) (across terms cells chars reasons keys) c (made r) ⌝ }
 {
     let from = up_to_last(c.terms, l);
@@ -186,7 +189,7 @@ fn make_sides(
     b: u32,
 ) -> Made
     requires { ⌜ Ready (lends terms cells chars reasons keys) c ⌝ ∗ ⌜ (k ≡ 4) ⊎ (k ≡ 5) ⌝ }
-    ensures { λ r. ⌜ Does (makeSides k a b) (across terms cells chars reasons keys) c (made r) ⌝ }
+    ensures { λ r. ⌜ Builds (makeSides k a b) (across terms cells chars reasons keys) c (made r) ⌝ }
 {
     let from = up_to_part(c.terms, higher(a, b));
     let t = find_sides(terms, c.terms, from, k, a, b);
@@ -211,6 +214,7 @@ pub fn make_length_unchecked(
     t: u32,
 ) -> Made
     requires { ⌜ Ready (lends terms cells chars reasons keys) c ⌝ }
+    requires { ⌜ lengthArguments t (storeOf (lends terms cells chars reasons keys) c) ≡ true ⌝ }
     ensures { λ r. ⌜ Does (makeLength t) (across terms cells chars reasons keys) c (made r) ⌝ }
 {
     make_sides(terms, cells, chars, reasons, keys, c, 4, t, 0)
@@ -227,6 +231,7 @@ pub fn make_equation_unchecked(
     b: u32,
 ) -> Made
     requires { ⌜ Ready (lends terms cells chars reasons keys) c ⌝ }
+    requires { ⌜ equationArguments a b (storeOf (lends terms cells chars reasons keys) c) ≡ true ⌝ }
     ensures { λ r. ⌜ Does (makeEquation a b) (across terms cells chars reasons keys) c (made r) ⌝ }
 {
     make_sides(terms, cells, chars, reasons, keys, c, 5, a, b)

@@ -2,7 +2,7 @@
 ghost use mathlib.Core.Path.{_≡_};
 ghost use Prim.Native.Nat.{_+_, _<_, _≤_};
 ghost use Rattle.records.specs.Rules.{audit};
-ghost use Rattle.records.specs.View.{termLimit, cellLimit, charLimit, keyLimit, oneTerm, moreCells, moreChars, reasonsAt, oneKey, namesAt, counts, across};
+ghost use Rattle.records.specs.View.{termLimit, cellLimit, charLimit, reasonLimit, keyLimit, oneTerm, moreCells, moreChars, reasonsAt, oneReason, oneKey, namesAt, counts, across};
 
 pub mod build;
 pub mod classes;
@@ -164,6 +164,20 @@ impl State {
             cells: self.cells,
             chars: self.chars,
             reasons: n,
+            keys: self.keys,
+            names: self.names,
+        }
+    }
+
+    pub fn with_reason(self) -> State
+        requires { ⌜ self .reasons < reasonLimit ⌝ }
+        ensures { λ r. ⌜ r ≡ oneReason self ⌝ }
+    {
+        State {
+            terms: self.terms,
+            cells: self.cells,
+            chars: self.chars,
+            reasons: self.reasons + 1,
             keys: self.keys,
             names: self.names,
         }

@@ -13,7 +13,8 @@ ghost use Rattle.records.specs.Make.{lookup, makeConstant, makeVariable,
 ghost use Rattle.records.specs.Working.Leaves.{numberOf, hasText, appendText, makeText};
 ghost use Rattle.records.specs.Working.Puts.{TextsWithin};
 ghost use Rattle.records.specs.Working.Audited.{Ready, Sized};
-ghost use Rattle.records.specs.Calls.{made, Does, Answers};
+ghost use Rattle.records.specs.Calls.{made, Answers};
+ghost use Rattle.records.specs.Working.Doing.{Does, Builds};
 use crate::Made;
 use crate::State;
 use crate::fields::first;
@@ -80,7 +81,7 @@ fn append_text(
     w: &[u32],
 ) -> Made
     requires { ⌜ Sized (lends terms cells chars reasons keys) c ⌝ }
-    ensures { λ r. ⌜ Does (appendText k (now (w .entry))) (across terms cells chars reasons keys) c (made r) ⌝ }
+    ensures { λ r. ⌜ Builds (appendText k (now (w .entry))) (across terms cells chars reasons keys) c (made r) ⌝ }
 {
     if !text_fits(chars, c.chars, w.len()) {
         return Made::Refused(8);
@@ -107,7 +108,7 @@ fn make_text(
     w: &[u32],
 ) -> Made
     requires { ⌜ Ready (lends terms cells chars reasons keys) c ⌝ ∗ ⌜ within 2 k ≡ true ⌝ }
-    ensures { λ r. ⌜ Does (makeText k (now (w .entry))) (across terms cells chars reasons keys) c (made r) ⌝ }
+    ensures { λ r. ⌜ Builds (makeText k (now (w .entry))) (across terms cells chars reasons keys) c (made r) ⌝ }
 {
     let t = find_text_unchecked(terms, chars, c.terms, k, w);
     if t != 0 {
@@ -126,6 +127,7 @@ pub fn make_constant_unchecked(
     w: &[u32],
 ) -> Made
     requires { ⌜ Ready (lends terms cells chars reasons keys) c ⌝ }
+    requires { ⌜ constantArguments (now w) (storeOf (lends terms cells chars reasons keys) c) ≡ true ⌝ }
     ensures { λ r. ⌜ Does (makeConstant (now (w .entry))) (across terms cells chars reasons keys) c (made r) ⌝ }
 {
     make_text(terms, cells, chars, reasons, keys, c, 1, w)
@@ -141,6 +143,7 @@ pub(crate) fn make_variable_unchecked(
     w: &[u32],
 ) -> Made
     requires { ⌜ Ready (lends terms cells chars reasons keys) c ⌝ }
+    requires { ⌜ variableArguments (now w) (storeOf (lends terms cells chars reasons keys) c) ≡ true ⌝ }
     ensures { λ r. ⌜ Does (makeVariable (now (w .entry))) (across terms cells chars reasons keys) c (made r) ⌝ }
 {
     make_text(terms, cells, chars, reasons, keys, c, 2, w)
@@ -157,6 +160,7 @@ pub fn make_new_variable_unchecked(
     w: &[u32],
 ) -> Made
     requires { ⌜ Ready (lends terms cells chars reasons keys) c ⌝ }
+    requires { ⌜ variableArguments (now w) (storeOf (lends terms cells chars reasons keys) c) ≡ true ⌝ }
     requires { ⌜ lookup (named (now w)) (storeOf (lends terms cells chars reasons keys) c) ≡ none ⌝ }
     ensures { λ r. ⌜ Does (makeVariable (now (w .entry))) (across terms cells chars reasons keys) c (made r) ⌝ }
 {

@@ -6,7 +6,7 @@ ghost use Rattle.records.specs.View.{storeOf, lends, across};
 ghost use Rattle.records.specs.Make.{decimalBy, nameOf, isTaken};
 ghost use Rattle.records.specs.Working.Puts.{Written};
 ghost use Rattle.records.specs.Working.Audited.{Ready};
-ghost use Rattle.records.specs.Calls.{Taken};
+ghost use Rattle.records.specs.Working.Doing.{Taken};
 ghost use Rattle.records.specs.Working.Leaves.{Free};
 use crate::Named;
 use crate::State;

@@ -1,13 +1,17 @@
 // Writing records above the counts: terms, cells, reasons and keys; and what joins classes, in a term's record.
+ghost use mathlib.Core.Bool.{true};
 ghost use mathlib.Core.Path.{_≡_};
 ghost use Prim.Native.Nat.{_+_, _*_, _/_, _<_, _≤_, min, max};
 ghost use lib.Dec.{ltb, leb};
 ghost use lib.ListN.{length};
 ghost use Rattle.records.specs.Lists.{any};
-ghost use Rattle.records.specs.View.{termLimit, cellLimit, termAt, termWords, cellWords, termRoom, cellRoom, pairAt, pairsView, across};
+ghost use Rattle.records.specs.View.{termLimit, cellLimit, termAt, termWords, cellWords, termRoom, cellRoom, pairAt, pairsView, storeOf, lends, across};
+ghost use Rattle.records.specs.Rules.{keyRule};
 ghost use Rattle.records.specs.Make.{withClass, withEdge, addKey, ordered, samePair};
 ghost use Rattle.records.specs.Working.Puts.{TermPut, TermSet, CellPut, ChainPut, PairPut, Pushed};
-ghost use Rattle.records.specs.Calls.{added, Does};
+ghost use Rattle.records.specs.Calls.{added};
+ghost use Rattle.records.specs.Working.Audited.{Ready};
+ghost use Rattle.records.specs.Working.Doing.{Does};
 use crate::CELL_WIDTH;
 use crate::TERM_WIDTH;
 
@@ -153,6 +157,8 @@ pub fn add_key_unchecked(
     a: u32,
     b: u32,
 ) -> crate::Added
+    requires { ⌜ Ready (lends terms cells chars reasons keys) c ⌝ }
+    requires { ⌜ keyRule (storeOf (lends terms cells chars reasons keys) c) (ordered a b) ≡ true ⌝ }
     ensures { λ r. ⌜ Does (addKey a b) (across terms cells chars reasons keys) c (added r) ⌝ }
 {
     if pair_fits(keys, crate::KEY_LIMIT, c.keys) {

@@ -1,4 +1,4 @@
-mod Words
+pub mod Words
 pub mod Ends
 pub mod Cited
 pub mod Good

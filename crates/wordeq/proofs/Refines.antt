@@ -1,5 +1,6 @@
 -- That the code meets its definitions: each way through a function, and the invariants of its loops. No other crate cites these.
 pub mod Alike
+pub mod Leaving
 pub mod Going
 pub mod Turning
 pub mod Stripping

@@ -151,8 +151,8 @@ pub record Resolved (l r : List ℕ) (s s′ : Store) (x : Answer) : Type 0 wher
 
 module _ (s₁ : Store) (rs : List (ℕ × ℕ)) where
   true-cut : {w : Words} {a : ℕ} → True s₁ w a → True (withReasons s₁ rs) w a
-  true-cut (Meaning.True.equal k p q) = Meaning.True.equal k p q
-  true-cut (Meaning.True.long k p q) = Meaning.True.long k p q
+  true-cut (Meaning.True.equal k p q e) = Meaning.True.equal k p q e
+  true-cut (Meaning.True.long k p q e) = Meaning.True.long k p q e
 
   chosen-cut : {s : Store} {w : Words} {atoms : List ℕ} → Chosen s s₁ w atoms → Chosen s (withReasons s₁ rs) w atoms
   chosen-cut c = record {

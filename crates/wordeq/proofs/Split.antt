@@ -204,8 +204,8 @@ module _ {needed : Bool} (none-added : needed ≡ false) (g : ℤ) where
       (λ n. three-ways a b l r p q₁ q₂ z₁ z₂ (negℤ g) n s s₉ (string-here s a sa) (string-here s b sb)
       (choose-two s s₃ s₄ s₆ s₇ s₉ z₁ z₂ (k₃ .grown) m₄ (grown-then (m₅ .made .grown) (m₆ .made .grown)) m₇ g₇₉)
       (λ w rd h. grown-true g₃₉ (k₃ .audited .recorded) p (lengths-true la lb a b m₃ la-kind (m₂ .made .kind-is) la-first (m₂ .first-is) h))
-      (λ w rd h. grown-true g₆₉ (k₆ .audited .recorded) q₁ (equation-true a t₁ m₆ (grown-string (k₅ .grown) a sa) (h ∙ sym (pair-word w m₅ g₅₉ rd))))
-      (λ w rd h. equation-true b t₂ m₉ (grown-string (k₈ .grown) b sb) (h ∙ sym (pair-word w m₈ (m₉ .made .grown) rd)))))
+      (λ w rd h. grown-true g₆₉ (k₆ .audited .recorded) q₁ (equation-true a t₁ m₆ (grown-string (k₅ .grown) a sa) (made-string (m₅ .made) refl) (h ∙ sym (pair-word w m₅ g₅₉ rd))))
+      (λ w rd h. equation-true b t₂ m₉ (grown-string (k₈ .grown) b sb) (made-string (m₈ .made) refl) (h ∙ sym (pair-word w m₈ (m₉ .made .grown) rd)))))
 
   pub character-split : (v b c : ℕ) (cs l r : List ℕ) (s : Store) → Audited s → isString s v ≡ true → kind s b ≡ 1 → text s b ≡ c ∷ cs → Ends (Good needed (v ∷ l) (b ∷ r) s) (splitCharacter g v c s)
   unfolding all within
@@ -232,8 +232,8 @@ module _ {needed : Bool} (none-added : needed ≡ false) (g : ℤ) where
       split-ends (p ∷ q ∷ []) k₆ still
       (λ j. two-ways v b c cs l r p q z (negℤ g) j s s₆ (string-here s v sv) kb tb
       (choose-one s s₃ s₄ s₆ z (k₃ .grown) m₄ g₄₆)
-      (λ w rd e. grown-true g₂₆ (k₂ .audited .recorded) p (equation-true v n m₂ (grown-string (k₁ .grown) v sv) (e ∙ sym (constant-word m₁ (g₁₆ .down w rd)))))
-      (λ w rd e. equation-true v t m₆ (grown-string (k₅ .grown) v sv)
+      (λ w rd e. grown-true g₂₆ (k₂ .audited .recorded) p (equation-true v n m₂ (grown-string (k₁ .grown) v sv) (made-string (m₁ .made) refl) (e ∙ sym (constant-word m₁ (g₁₆ .down w rd)))))
+      (λ w rd e. equation-true v t m₆ (grown-string (k₅ .grown) v sv) (made-string (m₅ .made) refl)
       (e ∙ ap (λ (y : List ℕ). y ++ w z) (sym (constant-word m₃ (g₃₆ .down w rd))) ∙ sym (pair-word w m₅ (m₆ .made .grown) rd)))))
 
   -- where one head has a first character

@@ -30,7 +30,7 @@ storing n ts keys = record {
   reasons = [];
   keys = keys;
   names = 0;
-  room = record { terms = n; cells = 0; chars = 7; reasons = 0; keys = 1; zeroTerm = noTerm; zeroCell = noCell };
+  room = record { terms = n; cells = 0; chars = 7; reasons = 0; keys = 1; termsLong = 64; cellsLong = 3; zeroTerm = noTerm; zeroCell = noCell };
 }
 
 -- a store, a side of constants and a label, and a word for the field, or that there is none

@@ -234,9 +234,10 @@ clashes (a ∷ l) (b ∷ r) = do
   s ← store
   if isConstant s a && isConstant s b && differ (text s a) (text s b) then answer conflict else pass
 
--- 7. 'Where neither list is empty, variable head against a non-empty constant head, or else any variable head: if a stripped class match has
--- a non-empty explanation of its own, Saturated, no key. If the unordered head pair is a key, Saturated. Else add the key and Split: (v = "", v = ch ++ z), or (equal lengths,
--- a = b ++ z1, b = a ++ z2), guard negated; terms are made in the order written, parts first'
+-- 7. 'Where neither list is empty, variable head against a non-empty constant head, or else any variable head: if .., Saturated, no key. If
+-- the unordered head pair is a key, Saturated. Else add the key and Split: (v = "", v = ch ++ z), or (equal lengths, a = b ++ z1,
+-- b = a ++ z2), guard negated; terms are made in the order written, parts first'. Document 02, Note 4, of the test before a Split: 'It is met
+-- when a stripped class match has a non-empty explanation of its own'
 
 unfoldable pub freshVariable : Work ℕ
 freshVariable = takeName >>= makeVariable

@@ -2,7 +2,8 @@
 ghost use Rattle.records.specs.Lists.{Every};
 ghost use Rattle.records.specs.View.{termsView, lends, across, readIn};
 ghost use Rattle.records.specs.Working.Audited.{Ready};
-ghost use Rattle.records.specs.Calls.{added, Does};
+ghost use Rattle.records.specs.Calls.{added};
+ghost use Rattle.records.specs.Working.Doing.{Does};
 ghost use Rattle.wordeq.specs.Wordeq.{explainAll, variables};
 ghost use Rattle.wordeq.specs.Working.Stripping.{Pair};
 ghost use Rattle.wordeq.specs.Working.Explaining.{OneClass, explainAtom};

@@ -10,7 +10,8 @@ ghost use Rattle.records.specs.View.{storeOf, lends, across, Between, readIn, t
 ghost use Rattle.records.specs.Rules.{listLimit};
 ghost use Rattle.records.specs.Make.{makeConstant};
 ghost use Rattle.records.specs.Working.Audited.{Ready};
-ghost use Rattle.records.specs.Calls.{made, Does};
+ghost use Rattle.records.specs.Calls.{made};
+ghost use Rattle.records.specs.Working.Doing.{Does};
 ghost use Rattle.wordeq.specs.Wordeq.{same, fixed, letters, alias, empties, assigns, _orElse_};
 ghost use Rattle.wordeq.specs.Working.Results.{BothLists, Tries};
 ghost use Rattle.wordeq.specs.Working.Sides.{Spelled};
@@ -74,7 +75,7 @@ fn are_variables(terms: &[u32], c: State, l: &[u32]) -> bool
 }
 
 // An empty side against two or more variables.
-pub fn is_emptied(terms: &[u32], c: State, l: &[u32], r: &[u32]) -> bool
+pub fn is_emptied_unchecked(terms: &[u32], c: State, l: &[u32], r: &[u32]) -> bool
     ensures { λ b. ⌜ b ≡ emptied (termed (now (terms .entry)) c) (now (l .entry)) (now (r .entry)) ⌝ }
 {
     if l.len() != 0 {
@@ -182,10 +183,10 @@ pub(crate) fn propagate_unchecked(
     if is_alias(terms, chars, c, lhs, rhs) {
         return StepResult::Propagate(c, lhs[0], rhs[0], false);
     }
-    if is_emptied(terms, c, lhs, rhs) {
+    if is_emptied_unchecked(terms, c, lhs, rhs) {
         return empties_unchecked(terms, cells, chars, reasons, keys, c, rhs);
     }
-    if is_emptied(terms, c, rhs, lhs) {
+    if is_emptied_unchecked(terms, c, rhs, lhs) {
         return empties_unchecked(terms, cells, chars, reasons, keys, c, lhs);
     }
     if is_assigned(terms, c, lhs, rhs) {

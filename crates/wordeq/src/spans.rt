@@ -22,7 +22,7 @@ use records::Added;
 use records::State;
 use records::rules;
 
-pub fn first_variable(terms: &[u32], c: State, side: &[u32]) -> usize
+pub fn first_variable_unchecked(terms: &[u32], c: State, side: &[u32]) -> usize
     ensures { λ r. ⌜ FirstVariable (termed (now (terms .entry)) c) (now (side .entry)) r ⌝ }
 {
     let mut i: usize = 0;
@@ -157,7 +157,7 @@ fn tile_sides<'a>(
       let s = storeOf m c
       ⌜ Tries (tileBy s (now (word .entry)) (now (side .entry)) (variables s (now (side .entry)))) m (across terms cells chars reasons keys .exit) c o ⌝ }
 {
-    let i = first_variable(terms, c, side);
+    let i = first_variable_unchecked(terms, c, side);
     if side.len() <= i {
         return StepResult::Done(c);
     }

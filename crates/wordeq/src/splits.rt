@@ -7,9 +7,10 @@ ghost use lib.ListN.{length, take};
 ghost use Rattle.records.specs.Store.{isString};
 ghost use Rattle.records.specs.View.{storeOf, lends, across};
 ghost use Rattle.records.specs.Rules.{isChar, named};
-ghost use Rattle.records.specs.Make.{lookup, makeVariable};
+ghost use Rattle.records.specs.Make.{lookup, makeVariable, variableArguments};
 ghost use Rattle.records.specs.Working.Audited.{Ready};
-ghost use Rattle.records.specs.Calls.{made, Does, _into_};
+ghost use Rattle.records.specs.Calls.{made, _into_};
+ghost use Rattle.records.specs.Working.Doing.{Does};
 ghost use Rattle.wordeq.specs.Wordeq.{freshVariable};
 ghost use Rattle.wordeq.specs.Working.Splits.{listed, prefixAtom, emptyAtom, characterAtom, lengthsAtom, characterAtoms, prefixAtoms, headAtoms};
 use held::taking;
@@ -32,6 +33,7 @@ fn make_named(
 ) -> Made
     requires { ⌜ Ready (lends terms cells chars reasons keys) c ⌝ }
     requires { ⌜ len ≤ 15 ⌝ }
+    requires { ⌜ variableArguments (take len (now name)) (storeOf (lends terms cells chars reasons keys) c) ≡ true ⌝ }
     requires { ⌜ lookup (named (take len (now name))) (storeOf (lends terms cells chars reasons keys) c) ≡ none ⌝ }
     ensures { λ r. ⌜ Does (makeVariable (take len (now (name .entry)))) (across terms cells chars reasons keys) c (made r) ⌝ }
 {
@@ -80,6 +82,7 @@ pub(crate) fn prefix_unchecked(
     h: u32,
 ) -> Made
     requires { ⌜ Ready (lends terms cells chars reasons keys) c ⌝ }
+    requires { ⌜ isString (storeOf (lends terms cells chars reasons keys) c) v ≡ true ⌝ }
     requires { ⌜ isString (storeOf (lends terms cells chars reasons keys) c) h ≡ true ⌝ }
     ensures { λ r. ⌜ Does (prefixAtom v h) (across terms cells chars reasons keys) c (made r) ⌝ }
 {
@@ -125,6 +128,7 @@ pub(crate) fn empty_unchecked(
     v: u32,
 ) -> Made
     requires { ⌜ Ready (lends terms cells chars reasons keys) c ⌝ }
+    requires { ⌜ isString (storeOf (lends terms cells chars reasons keys) c) v ≡ true ⌝ }
     ensures { λ r. ⌜ Does (emptyAtom v) (across terms cells chars reasons keys) c (made r) ⌝ }
 {
     let word: [u32; 0] = [];
@@ -155,7 +159,9 @@ pub(crate) fn character_unchecked(
     v: u32,
     ch: u32,
 ) -> Made
-    requires { ⌜ Ready (lends terms cells chars reasons keys) c ⌝ ∗ ⌜ isChar ch ≡ true ⌝ }
+    requires { ⌜ Ready (lends terms cells chars reasons keys) c ⌝ }
+    requires { ⌜ isString (storeOf (lends terms cells chars reasons keys) c) v ≡ true ⌝ }
+    requires { ⌜ isChar ch ≡ true ⌝ }
     ensures { λ r. ⌜ Does (characterAtom v ch) (across terms cells chars reasons keys) c (made r) ⌝ }
 {
     let word: [u32; 1] = [ch];

@@ -1,5 +1,5 @@
 -- Each answer of the audit of store and marks.
-use mathlib.Core.Path.{_≡_, refl, sym, ap, subst, _∙_}
+use mathlib.Core.Path.{_≡_, refl, sym, ap, _∙_}
 use mathlib.Core.Bool.{Bool, true, false, not, _&&_, false≢true}
 use mathlib.Core.List.{List}
 use Prim.Native.Nat.{ℕ}
@@ -7,20 +7,20 @@ use native.Mathlib.Omega.{arith}
 use borrow.Author.Tests.{not-true, not-false}
 use Rattle.records.specs.declared.State.{State}
 use Rattle.records.specs.Lists.{if_then_else_}
-use Rattle.records.specs.Store.{Store, within}
+use Rattle.records.specs.Store.{within}
 use Rattle.records.specs.View.{Lent, storeOf, sizes, chained}
 use Rattle.records.specs.Rules.{recordsRule, classesRule, congruencesRule, auditStore, audit}
-use Rattle.records.specs.Working.Audited.{Sized, Recorded, Classed, Ready, Verdict, ready, short, unrecorded, unclassed, incongruent}
+use Rattle.records.specs.Working.Audited.{Sized, Recorded, Classed, Verdict, ready, short, unrecorded, unclassed, incongruent}
 use Rattle.records.proofs.Lists.{every-map, right-false}
 use Rattle.records.proofs.Climbs.{ready-roots, term-within}
 use Rattle.records.proofs.Grown.{string-term}
-use Rattle.records.proofs.Passed.{verdict, ready-of, audit-of}
+use Rattle.records.proofs.Passed.{verdict}
 use Rattle.records.proofs.Readings.{parts-strings}
 use Rattle.classes.specs.declared.Standing.{Standing}
-use Rattle.classes.specs.Marks.{Trail, trailOf, trailSizes, tableAt, passes, marksRule, auditTrail, auditMarks}
+use Rattle.classes.specs.Marks.{trailOf, trailSizes, marksRule, auditTrail, auditMarks}
 use Rattle.classes.specs.Working.Carries.{Tabled, Markable, TrailSized}
 use Rattle.classes.proofs.Undoing.{classed-forest}
-use Rattle.classes.proofs.Refines.Trails.{sized-trail, trail-sized}
+use Rattle.classes.proofs.Refines.Trails.{sized-trail}
 use Rattle.classes.proofs.Refines.MarkTables.{rule-alone}
 
 -- THE ORDER OF REFUSALS
@@ -75,28 +75,6 @@ all-pass true true true true true false h = absurd (omega arith)
 -- terms whose classes pass are a table
 pub tabled-of : (m : Lent) (c : State) → Sized m c → Classed (storeOf m c) → Tabled (m .terms) (c .terms)
 tabled-of m c s a = record { few = s .termLimited; room = s .termRoom; classes = ready-roots m c a; forest = classed-forest (storeOf m c) a }
-
--- store and marks that pass
-pub record Passes (m : Lent) (l : List ℕ) (c : State) (d : Standing) : Type 0 where
-  pub zero-is : auditMarks m l c d ≡ 0
-  pub ready : Ready m c
-  pub trail : TrailSized l d
-  pub marked : marksRule (storeOf m c) (trailOf l d) ≡ true
-
-pub passes-of : (m : Lent) (l : List ℕ) (c : State) (d : Standing) → auditMarks m l c d ≡ 0 → Passes m l c d
-unfolding auditMarks auditTrail audit auditStore
-passes-of m l c d e =
-    let q = all-pass (sizes m c) (trailSizes l d) (recordsRule (storeOf m c)) (classesRule (storeOf m c)) (marksRule (storeOf m c) (trailOf l d)) (congruencesRule (storeOf m c)) e in
-    record { zero-is = e; ready = ready-of m c (q .0); trail = sized-trail l d (q .1); marked = q .2 }
-
--- sizes that hold, and store and trail that pass
-pub of-passes : (m : Lent) (l : List ℕ) (c : State) (d : Standing) → Ready m c → TrailSized l d → auditTrail (storeOf m c) (trailOf l d) ≡ 0 → auditMarks m l c d ≡ 0
-unfolding auditMarks audit
-of-passes m l c d r t e = rw (fit (sizes m c) (audit-of m c r), trail-sized l d t) e
-  where
-    fit : (z : Bool) → (if z then auditStore (storeOf m c) else 1) ≡ 0 → z ≡ true
-    fit true h = refl
-    fit false h = absurd (omega arith)
 
 -- THE ANSWERS
 

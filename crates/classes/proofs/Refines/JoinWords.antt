@@ -161,8 +161,8 @@ module _ (l : List ℕ) (n child old under : ℕ) where
     unfolding undoIn
     none-is h = rw (sym e ∙ not-true b h)
 
-    pub undo-not : not b ≡ true → Undoes l l n (undoIn ts x) false
-    undo-not h = subst (λ (o : Option (List Term)). Undoes l l n o false) (sym (none-is h)) no-table
+    pub undo-not : not b ≡ true → Tabled l n → Undoes l l n (undoIn ts x) false
+    undo-not h d = subst (λ (o : Option (List Term)). Undoes l l n o false) (sym (none-is h)) (no-table (record { long = refl; away = λ t w. refl; is = refl }) d)
 
     module _ (h : not b ≡ false) (d : Tabled l n) where
       traced : Traced ts x

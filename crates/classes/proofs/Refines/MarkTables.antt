@@ -4,19 +4,17 @@ use mathlib.Core.Bool.{Bool, true, false, not, _&&_}
 use mathlib.Core.List.{List, [], _∷_, _++_}
 use mathlib.Core.Logic.{_⊎_, inl, inr}
 use mathlib.Core.Option.{Option, none, some}
-use Prim.Native.Nat.{ℕ, zero, suc, _+_, _-_, _*_, _<_, _≤_}
+use Prim.Native.Nat.{ℕ, suc, _+_, _-_, _*_, _<_, _≤_}
 use native.Mathlib.Omega.{arith}
 use native.Mathlib.Nat.{eq-or-lt-of-le}
 use lib.ListN.{length, getD, set, drop, length-set}
 use lib.Seq.{getD-set-same, getD-set-other, drop-append-le, drop-append-seam, drop-length}
-use lib.Dec.{ltb, leb}
 use borrow.Author.Tests.{not-true, not-false}
 use Rattle.records.specs.declared.State.{State}
 use Rattle.records.specs.Lists.{all, table, firsts, Every}
-use Rattle.records.specs.Store.{Term, Cell, Store, termIn, term, kind, chain, parts, within, classUp}
+use Rattle.records.specs.Store.{Term, Store, termIn, term, kind, chain, within, classUp}
 use Rattle.records.specs.View.{Lent, storeOf, termAt, termsView, termWords, termLimit, chained, termed}
-use Rattle.records.specs.Make.{withTerms, withCells}
-use Rattle.records.specs.Rules.{classesRule, congruencesRule, parentsRule, endsRule, alikeRule, aloneRule, labelRule, congruenceRule, pairsOf, fallsRule}
+use Rattle.records.specs.Rules.{classesRule, congruencesRule}
 use Rattle.records.specs.Working.Audited.{Closed, Classed, Congruable}
 use Rattle.records.proofs.Lists.{and-stop, and-next, right-false, right-true, failed, passed, all-append, table-same, table-length, table-suc, table-add}
 use Rattle.records.proofs.Climbs.{view-count}
@@ -24,59 +22,55 @@ use Rattle.records.proofs.Passed.{classed-of}
 use Rattle.classes.specs.declared.Standing.{Standing}
 use Rattle.classes.specs.Joins.{Trace}
 use Rattle.classes.specs.Marks.{Trail, joinLimit, traceAt, trailOf, undoAll, tableAt, countsRule, passes, marksRule}
-use Rattle.classes.specs.Working.Carries.{Forest, Becomes, Tabled, Undoes, Markable, Copied}
+use Rattle.classes.specs.Working.Carries.{Forest, Undoes, Markable, Copied}
 use Rattle.classes.proofs.Alike.{Like}
+use Rattle.classes.proofs.Marking.{classes-alone, passes-alone}
 use Rattle.classes.proofs.Undone.{undo-append, undone-stays}
 use Rattle.classes.proofs.Refines.Trails.{Came, undoes-some, undoes-none}
 use Rattle.classes.proofs.Refines.Counting.{counts-step}
 
 -- THE COPY
 
--- the first i words are copied
-pub record Copying (l k : List ℕ) (n i : ℕ) : Type 0 where
+-- the first i words are copied, the others are as they were
+pub record Copying (l k₀ k : List ℕ) (n i : ℕ) : Type 0 where
   pub low : i ≤ termWords n
   pub long : length k ≡ termWords termLimit
   pub words : (j : ℕ) → j < i → getD k j 0 ≡ getD l j 0
+  pub rest : (j : ℕ) → i ≤ j → getD k j 0 ≡ getD k₀ j 0
 
-pub copying-begin : (l k : List ℕ) (n : ℕ) → length k ≡ termWords termLimit → Copying l k n 0
-copying-begin l k n e = record { low = omega arith; long = e; words = λ j h. absurd (omega arith) }
+pub copying-begin : (l k : List ℕ) (n : ℕ) → length k ≡ termWords termLimit → Copying l k k n 0
+copying-begin l k n e = record { low = omega arith; long = e; words = λ j h. absurd (omega arith); rest = λ j h. refl }
 
-module _ {l k : List ℕ} {n i : ℕ} (c : Copying l k n i) where
-  pub copying-turn : (x : ℕ) → n ≤ termLimit → i < termWords n → x ≡ getD l i 0 → Copying l (set k i x) n (i + 1)
-  copying-turn x m h e = record { low = omega arith; long = length-set k i x ∙ c .long; words = λ j p. go j p (eq-or-lt-of-le (let q : j ≤ i = omega arith in q)) }
+module _ {l k₀ k : List ℕ} {n i : ℕ} (c : Copying l k₀ k n i) where
+  pub copying-turn : (x : ℕ) → n ≤ termLimit → i < termWords n → x ≡ getD l i 0 → Copying l k₀ (set k i x) n (i + 1)
+  copying-turn x m h e = record {
+    low = omega arith;
+    long = length-set k i x ∙ c .long;
+    words = λ j p. go j p (eq-or-lt-of-le (let q : j ≤ i = omega arith in q));
+    rest = λ j p. getD-set-other k i j x 0 (λ z. omega arith) ∙ c .rest j (omega arith);
+  }
     where
       go : (j : ℕ) → j < i + 1 → (j ≡ i) ⊎ (j < i) → getD (set k i x) j 0 ≡ getD l j 0
       go j p (inl q) = ap (λ (z : ℕ). getD (set k i x) z 0) q ∙ getD-set-same k i x 0 (let w = c .long in omega arith) ∙ e ∙ ap (λ (z : ℕ). getD l z 0) (sym q)
       go j p (inr q) = getD-set-other k i j x 0 (λ z. omega arith) ∙ c .words j q
 
-  pub copied : termWords n ≤ i → Copied l k n
-  copied h = record { is = table-same (λ t. termAt k (suc t)) (λ t. termAt l (suc t)) n (λ t p. record-same t p); long = c .long }
-    where
-      record-same : (t : ℕ) → t < n → termAt k (suc t) ≡ termAt l (suc t)
-      record-same t p =
-          let a0 = c .words (8 * suc t + 0) (omega arith) in
-          let a1 = c .words (8 * suc t + 1) (omega arith) in
-          let a2 = c .words (8 * suc t + 2) (omega arith) in
-          let a3 = c .words (8 * suc t + 3) (omega arith) in
-          let a4 = c .words (8 * suc t + 4) (omega arith) in
-          let a5 = c .words (8 * suc t + 5) (omega arith) in
-          let a6 = c .words (8 * suc t + 6) (omega arith) in
-          let a7 = c .words (8 * suc t + 7) (omega arith) in cc
+  pub copied : termWords n ≤ i → Copied l k₀ k n
+  copied h = record { words = λ j p. c .words j (omega arith); rest = λ j p. c .rest j (let w = c .low in omega arith); long = c .long }
 
--- WHAT THE RULES READ
-
--- refusals 3 and 4 read the terms and the cells alone
-pub classes-alone : (ts : List Term) (s s′ : Store) → classesRule (withTerms s′ ts) ≡ classesRule (withTerms s ts)
-unfolding classesRule parentsRule endsRule alikeRule labelRule aloneRule
-classes-alone ts s s′ = refl
-
-pub congruences-alone : (ts : List Term) (s s′ : Store) → s′ .cells ≡ s .cells → congruencesRule (withTerms s′ ts) ≡ congruencesRule (withTerms s ts)
-unfolding congruencesRule congruenceRule pairsOf fallsRule
-congruences-alone ts s s′ e = ap (λ (cs : List Cell). congruencesRule (withTerms (withCells s cs) ts)) e
-
-pub passes-alone : (o : Option (List Term)) (s s′ : Store) → s′ .cells ≡ s .cells → passes s′ o ≡ passes s o
-passes-alone none s s′ e = refl
-passes-alone (some ts) s s′ e = let p = classes-alone ts s s′ in let q = congruences-alone ts s s′ e in cc
+-- the terms are those of the words copied
+copied-terms : {l k₀ k : List ℕ} {n : ℕ} → Copied l k₀ k n → termsView k n ≡ termsView l n
+copied-terms {l} {k₀} {k} {n} c = table-same (λ t. termAt k (suc t)) (λ t. termAt l (suc t)) n record-same
+  where
+    record-same : (t : ℕ) → t < n → termAt k (suc t) ≡ termAt l (suc t)
+    record-same t p =
+        let a0 = c .words (8 * suc t + 0) (omega arith) in
+        let a1 = c .words (8 * suc t + 1) (omega arith) in
+        let a2 = c .words (8 * suc t + 2) (omega arith) in
+        let a3 = c .words (8 * suc t + 3) (omega arith) in
+        let a4 = c .words (8 * suc t + 4) (omega arith) in
+        let a5 = c .words (8 * suc t + 5) (omega arith) in
+        let a6 = c .words (8 * suc t + 6) (omega arith) in
+        let a7 = c .words (8 * suc t + 7) (omega arith) in cc
 
 -- ONE TABLE
 
@@ -258,9 +252,9 @@ module _ (l e : List ℕ) (c : State) (marks : List ℕ) (d : Standing) where
       unfolding all table
       marks-none k = tables-are true (sym (ap (λ (m : ℕ). all (each whole) (table (λ i. getD marks i 0) m)) k))
 
-      module _ {k : List ℕ} (w : Copied l k (c .terms)) where
+      module _ {k₀ k : List ℕ} (w : Copied l k₀ k (c .terms)) where
         v : termsView k (c .terms) ≡ termsView l (c .terms)
-        v = w .is
+        v = copied-terms w
 
         pub copy-markable : Markable l e c → Markable k e c
         copy-markable h = record {

@@ -112,7 +112,7 @@ child-within m c child parent n g = term-within m c child (string-term (storeOf 
 
 module _ (m : Lent) (c : State) (child parent n stamp k : ℕ) (v : k ≡ audit m c) where
   pub merge-unready : (k ≡ 0 → ⊥) → PublicMerge m m c child parent n stamp k
-  merge-unready z = record { says = go k z ∙ call-unready (canMerge child parent n) (mergeClasses child parent n stamp) m c k v z .says; idle = λ e. refl; kept = λ e. absurd (z e) }
+  merge-unready z = record { says = go k z ∙ call-unready (canMerge child parent n) (mergeClasses child parent n stamp) m c k v z .says; idle = λ e. refl; others = λ t d. refl; kept = λ e. absurd (z e) }
     where
       go : (j : ℕ) → (j ≡ 0 → ⊥) → merged j m c ≡ stop j
       go zero q = absurd (q refl)
@@ -120,7 +120,7 @@ module _ (m : Lent) (c : State) (child parent n stamp k : ℕ) (v : k ≡ audit 
 
   module _ (z : k ≡ 0) (b : Bool) (e : b ≡ canMerge child parent n (storeOf m c)) where
     pub merge-unfit : not b ≡ true → PublicMerge m m c child parent n stamp 5
-    merge-unfit h = record { says = call-unfit (canMerge child parent n) (mergeClasses child parent n stamp) m c k v z b e (not-true b h) .says; idle = λ q. refl; kept = λ q. absurd (omega arith) }
+    merge-unfit h = record { says = call-unfit (canMerge child parent n) (mergeClasses child parent n stamp) m c k v z b e (not-true b h) .says; idle = λ q. refl; others = λ t d. refl; kept = λ q. absurd (omega arith) }
 
     -- the child's record is within the slice
     pub merge-room : not b ≡ false → termWords child ≤ length (m .terms)
@@ -152,6 +152,7 @@ module _ (t e h r ks t′ : List ℕ) (c : State) (child parent n stamp k : ℕ)
       record {
         says = stored p q y₀ ∙ sym (rw (a, g));
         idle = λ o. absurd (o refl);
+        others = j .away;
         kept = λ o. audit-of (lent t′ e h r ks) c (ready-after d q refl (subst Audited (sym k) (merge-kept (storeOf m c) child parent n stamp (d .audited) g)));
       }
     where

@@ -181,10 +181,15 @@ pub record Came (l l′ : List ℕ) (n : ℕ) (o : Option (List Term)) : Type 0 
   pub tabled : Tabled l′ n
 
 pub undoes-none : {l l′ : List ℕ} {n : ℕ} {o : Option (List Term)} → Undoes l l′ n o false → o ≡ none
-undoes-none no-table = refl
+undoes-none (no-table b t) = refl
 
 pub undoes-some : {l l′ : List ℕ} {n : ℕ} {o : Option (List Term)} → Undoes l l′ n o true → Came l l′ n o
 undoes-some (undone {ts = ts} b t) = record { table-is = ts; is = refl; becomes = b; tabled = t }
+
+-- whatever the answer, the terms are a table
+undoes-tabled : {l l′ : List ℕ} {n : ℕ} {o : Option (List Term)} {r : Bool} → Undoes l l′ n o r → Becomes l l′ n (termsView l′ n) × Tabled l′ n
+undoes-tabled {l} {l′} {n} (undone b t) = (subst (Becomes l l′ n) (sym (b .is)) b, t)
+undoes-tabled {l} {l′} {n} (no-table b t) = (subst (Becomes l l′ n) (sym (b .is)) b, t)
 
 pub undoes-is : {l l′ : List ℕ} {n : ℕ} {o p : Option (List Term)} {r : Bool} → o ≡ p → Undoes l l′ n p r → Undoes l l′ n o r
 undoes-is {l} {l′} {n} {r = r} e u = subst (λ (x : Option (List Term)). Undoes l l′ n x r) (sym e) u
@@ -226,7 +231,8 @@ module _ {l₀ l : List ℕ} {n : ℕ} {marks : List ℕ} {joins first j : ℕ} 
     unfolding undoAll
     backward-stop {l′} r u z =
         let v = undoes-none (subst (Undoes l l′ n (undoIn (termsView l n) (traceAt marks i))) (not-true r z) u) in
-        undoes-is (b .left ∙ ap (λ (k : List Trace). undoAll k (termsView l n)) last-first ∙ undo-stops (drop first (table (traceAt marks) i)) (traceAt marks i ∷ []) (termsView l n) v) no-table
+        undoes-is (b .left ∙ ap (λ (k : List Trace). undoAll k (termsView l n)) last-first ∙ undo-stops (drop first (table (traceAt marks) i)) (traceAt marks i ∷ []) (termsView l n) v)
+        (no-table (becomes-then (b .until) (undoes-tabled u .0)) (undoes-tabled u .1))
 
     pub backward-turn : {l′ : List ℕ} (r : Bool) → Undoes l l′ n (undoIn (termsView l n) (traceAt marks i)) r → not r ≡ false → Backward l₀ l′ n marks joins first i
     unfolding undoAll

@@ -1,5 +1,5 @@
 use Rattle.records.specs.View.{termed}
-use Rattle.classes.proofs.Refines.Calling.{cannot-one, cannot-other, cannot-kind, can-number}
+use Rattle.classes.proofs.Refines.PublicCalls.{cannot-one, cannot-other, cannot-kind, can-number}
 use borrow.Author.Needs.{needs}
 use Rattle.classes.proofs.can_join.Statement.{statement}
 use Rattle.classes.proofs.can_join.Tie as tie

@@ -1,7 +1,9 @@
 use mathlib.Core.Path.{sym, _∙_}
 use Rattle.records.specs.View.{lent}
+use Rattle.records.proofs.Lists.{passed}
 use Rattle.classes.specs.Calls.{goBack}
-use Rattle.classes.proofs.Refines.PublicCalls.{call-audit, back-absent, back-asks, back-gives}
+use Rattle.classes.proofs.ReadyMarks.{marks-ready}
+use Rattle.classes.proofs.Refines.PublicCalls.{call-audit, back-absent, call-given}
 use borrow.Author.Needs.{needs}
 use Rattle.classes.proofs.go_back.Statement.{statement}
 use Rattle.classes.proofs.go_back.Tie as tie
@@ -28,26 +30,19 @@ go-back-spec =
     (λ c.
     let at-audit = c .before .before .before in
     let at-start = at-audit .before .before .before .before .before .before .before .before in
-    back-absent (at-start .args .terms .now) (at-start .args .cells .now) (at-start .args .chars .now) (at-start .args .reasons .now) (at-start .args .keys .now)
-    (at-start .args .marks .now) (at-start .args .c) (at-start .args .d) (at-start .args .mark) (sym (at-audit .audit .ensures) ∙ c .before .before .if1 .left) _
+    back-absent (lent (at-start .args .terms .now) (at-start .args .cells .now) (at-start .args .chars .now) (at-start .args .reasons .now) (at-start .args .keys .now))
+    (at-start .args .marks .now) (at-start .args .c) (at-start .args .d) (sym (at-audit .audit .ensures) ∙ c .before .before .if1 .left) (at-start .args .mark) _
     (c .before .is-within .ensures) (c .if2 .taken))
     -- go-back-unchecked-requires
     (λ c κs.
     let at-if1 = c .before .before .before in
     let at-audit = at-if1 .before in
-    let at-start = at-audit .before .before .before .before .before .before .before .before in
-    back-asks (at-start .args .terms .now) (at-start .args .cells .now) (at-start .args .chars .now) (at-start .args .reasons .now) (at-start .args .keys .now)
-    (at-start .args .marks .now) (at-start .args .c) (at-start .args .d) (at-start .args .mark) (sym (at-audit .audit .ensures) ∙ at-if1 .if1 .left) _
-    (c .before .before .is-within .ensures) (c .before .if2 .left))
+    (marks-ready (sym (at-audit .audit .ensures) ∙ at-if1 .if1 .left), passed _ _ (c .before .before .is-within .ensures) (c .before .if2 .left)))
     -- same-length-3
     (λ c. search needs)
     -- returns-3
     (λ c.
-    let at-if2 = c .before .before .before .before in
-    let at-is-within = at-if2 .before in
-    let at-if1 = at-is-within .before in
+    let at-if1 = c .before .before .before .before .before .before in
     let at-audit = at-if1 .before in
     let at-start = at-audit .before .before .before .before .before .before .before .before in
-    back-gives (at-start .args .terms .now) (at-start .args .cells .now) (at-start .args .chars .now) (at-start .args .reasons .now) (at-start .args .keys .now)
-    (at-start .args .marks .now) (at-start .args .c) (at-start .args .d) (at-start .args .mark) (sym (at-audit .audit .ensures) ∙ at-if1 .if1 .left) _
-    (at-is-within .is-within .ensures) (at-if2 .if2 .left) (c .before .before .go-back-unchecked .ensures)))
+    call-given (goBack (at-start .args .mark)) (sym (at-audit .audit .ensures) ∙ at-if1 .if1 .left) (c .before .before .go-back-unchecked .ensures)))

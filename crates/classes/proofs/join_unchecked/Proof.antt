@@ -1,4 +1,4 @@
-use Rattle.classes.proofs.Refines.Calling.{join-one, top-asked, record-asked, link-asked, join-two}
+use Rattle.classes.proofs.Refines.Calling.{one-asked, other-asked, join-same, top-asked, record-asked, link-asked, join-two}
 use borrow.Author.Needs.{needs}
 use Rattle.classes.proofs.join_unchecked.Statement.{statement}
 use Rattle.classes.proofs.join_unchecked.Tie as tie
@@ -8,35 +8,43 @@ join-unchecked-spec =
     tie.close
     (tie.spec
     -- root-unchecked-requires
-    (λ c κs. search needs)
+    (λ c κs.
+    let at-start = c .before .before .before .before .before .before .before in
+    one-asked (at-start .pre .0) (at-start .args .a) (at-start .args .b) (at-start .args .kind) (at-start .args .number) (at-start .pre .1))
     -- root-unchecked-requires-2
-    (λ c κs. search needs)
+    (λ c κs.
+    let at-start = c .before .before .before .before .before .before .before .before .before in
+    other-asked (at-start .pre .0) (at-start .args .a) (at-start .args .b) (at-start .args .kind) (at-start .args .number) (at-start .pre .1))
     -- same-length
     (λ c. search needs)
     -- returns
     (λ c.
     let at-root-unchecked = c .before .before .before in
-    let at-start = at-root-unchecked .before .before .before .before in
-    join-one _ _ _ _ _ _ (at-start .pre) _ _ (at-root-unchecked .root-unchecked .ensures) (c .before .root-unchecked2 .ensures) _ _ (c .if1 .taken))
+    let at-start = at-root-unchecked .before .before .before .before .before .before .before .before in
+    join-same (at-start .pre .0) (at-start .args .a) (at-start .args .b) (at-start .args .kind) (at-start .args .number) (at-start .pre .1)
+    (at-root-unchecked .root-unchecked .ensures) (c .before .root-unchecked2 .ensures) (c .if1 .taken))
     -- top-unchecked-requires
     (λ c κs.
     let at-root-unchecked = c .before .before .before .before in
-    let at-start = at-root-unchecked .before .before .before .before in
-    top-asked _ _ _ _ _ _ (at-start .pre) _ _ (at-root-unchecked .root-unchecked .ensures) (c .before .before .root-unchecked2 .ensures) (c .before .if1 .left))
+    let at-start = at-root-unchecked .before .before .before .before .before .before .before .before in
+    top-asked (at-start .pre .0) (at-start .args .a) (at-start .args .b) (at-start .args .kind) (at-start .args .number) (at-start .pre .1)
+    (at-root-unchecked .root-unchecked .ensures) (c .before .before .root-unchecked2 .ensures) (c .before .if1 .left))
     -- record-join-unchecked-requires
     (λ c κs.
     let at-if1 = c .before .before .before in
     let at-root-unchecked2 = at-if1 .before in
     let at-root-unchecked = at-root-unchecked2 .before .before in
-    let at-start = at-root-unchecked .before .before .before .before in
-    record-asked _ _ _ _ _ _ (at-start .pre) _ _ (at-root-unchecked .root-unchecked .ensures) (at-root-unchecked2 .root-unchecked2 .ensures) (at-if1 .if1 .left))
+    let at-start = at-root-unchecked .before .before .before .before .before .before .before .before in
+    record-asked (at-start .pre .0) (at-start .args .a) (at-start .args .b) (at-start .args .kind) (at-start .args .number) (at-start .pre .1)
+    (at-root-unchecked .root-unchecked .ensures) (at-root-unchecked2 .root-unchecked2 .ensures) (at-if1 .if1 .left))
     -- link-unchecked-requires
     (λ c κs.
     let at-if1 = c .before .before .before .before .before .before .before in
     let at-root-unchecked2 = at-if1 .before in
     let at-root-unchecked = at-root-unchecked2 .before .before in
-    let at-start = at-root-unchecked .before .before .before .before in
-    link-asked _ _ _ _ _ _ (at-start .pre) _ _ (at-root-unchecked .root-unchecked .ensures) (at-root-unchecked2 .root-unchecked2 .ensures) (at-if1 .if1 .left))
+    let at-start = at-root-unchecked .before .before .before .before .before .before .before .before in
+    link-asked (at-start .pre .0) (at-start .args .a) (at-start .args .b) (at-start .args .kind) (at-start .args .number) (at-start .pre .1)
+    (at-root-unchecked .root-unchecked .ensures) (at-root-unchecked2 .root-unchecked2 .ensures) (at-if1 .if1 .left))
     -- same-length-2
     (λ c. search needs)
     -- same-length-3
@@ -48,6 +56,7 @@ join-unchecked-spec =
     let at-if1 = at-top-unchecked .before .before in
     let at-root-unchecked2 = at-if1 .before in
     let at-root-unchecked = at-root-unchecked2 .before .before in
-    let at-start = at-root-unchecked .before .before .before .before in
-    join-two _ _ _ _ _ _ (at-start .pre) _ _ (at-root-unchecked .root-unchecked .ensures) (at-root-unchecked2 .root-unchecked2 .ensures) (at-if1 .if1 .left) _ _ _
-    (at-top-unchecked .top-unchecked .ensures) (at-record-join-unchecked .record-join-unchecked .ensures) (c .before .before .link-unchecked .ensures)))
+    let at-start = at-root-unchecked .before .before .before .before .before .before .before .before in
+    join-two (at-start .pre .0) (at-start .args .a) (at-start .args .b) (at-start .args .kind) (at-start .args .number) (at-start .pre .1)
+    (at-root-unchecked .root-unchecked .ensures) (at-root-unchecked2 .root-unchecked2 .ensures) (at-if1 .if1 .left) (at-top-unchecked .top-unchecked .ensures)
+    (at-record-join-unchecked .record-join-unchecked .ensures) (c .before .before .link-unchecked .ensures)))

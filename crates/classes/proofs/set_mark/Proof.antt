@@ -1,8 +1,8 @@
 use mathlib.Core.Path.{sym, _∙_}
-use native.Mathlib.Omega.{arith}
 use Rattle.records.specs.View.{lent}
 use Rattle.classes.specs.Calls.{setMark}
-use Rattle.classes.proofs.Refines.PublicCalls.{call-audit, mark-full, mark-asks, mark-low, mark-gives}
+use Rattle.classes.proofs.ReadyMarks.{marks-ready}
+use Rattle.classes.proofs.Refines.PublicCalls.{call-audit, mark-full, call-given}
 use borrow.Author.Needs.{needs}
 use Rattle.classes.proofs.set_mark.Statement.{statement}
 use Rattle.classes.proofs.set_mark.Tie as tie
@@ -26,35 +26,20 @@ set-mark-spec =
     (λ c.
     let at-audit = c .before .before .before in
     let at-start = at-audit .before .before .before .before .before .before .before .before in
-    mark-full (at-start .args .terms .now) (at-start .args .cells .now) (at-start .args .chars .now) (at-start .args .reasons .now) (at-start .args .keys .now)
+    mark-full (lent (at-start .args .terms .now) (at-start .args .cells .now) (at-start .args .chars .now) (at-start .args .reasons .now) (at-start .args .keys .now))
     (at-start .args .marks .now) (at-start .args .c) (at-start .args .d) (sym (at-audit .audit .ensures) ∙ c .before .before .if1 .left) (c .if2 .taken))
-    -- record-mark-unchecked-requires
+    -- set-mark-unchecked-requires
     (λ c κs.
     let at-if1 = c .before .before .before in
     let at-audit = at-if1 .before in
-    let at-start = at-audit .before .before .before .before .before .before .before .before in
-    mark-asks (at-start .args .terms .now) (at-start .args .cells .now) (at-start .args .chars .now) (at-start .args .reasons .now) (at-start .args .keys .now)
-    (at-start .args .marks .now) (at-start .args .c) (at-start .args .d) (sym (at-audit .audit .ensures) ∙ at-if1 .if1 .left) (c .before .if2 .left))
+    (marks-ready (sym (at-audit .audit .ensures) ∙ at-if1 .if1 .left), c .before .if2 .left))
     -- cast-t16
-    (λ c.
-    let at-record-mark-unchecked = c .before .before .before in
-    let at-if2 = at-record-mark-unchecked .before .before in
-    let at-if1 = at-if2 .before .before in
-    let at-audit = at-if1 .before in
-    let at-start = at-audit .before .before .before .before .before .before .before .before in
-    let q = mark-low (at-start .args .terms .now) (at-start .args .cells .now) (at-start .args .chars .now) (at-start .args .reasons .now) (at-start .args .keys .now)
-    (at-start .args .marks .now) (at-start .args .c) (at-start .args .d) (sym (at-audit .audit .ensures) ∙ at-if1 .if1 .left) (at-if2 .if2 .left)
-    (at-record-mark-unchecked .record-mark-unchecked .ensures) in
-    omega arith)
+    (λ c. search needs)
     -- same-length-3
     (λ c. search needs)
     -- returns-3
     (λ c.
-    let at-record-mark-unchecked = c .before .before .before in
-    let at-if2 = at-record-mark-unchecked .before .before in
-    let at-if1 = at-if2 .before .before in
+    let at-set-mark-unchecked = c .before .before .before in
+    let at-if1 = at-set-mark-unchecked .before .before .before .before in
     let at-audit = at-if1 .before in
-    let at-start = at-audit .before .before .before .before .before .before .before .before in
-    mark-gives (at-start .args .terms .now) (at-start .args .cells .now) (at-start .args .chars .now) (at-start .args .reasons .now) (at-start .args .keys .now)
-    (at-start .args .marks .now) (at-start .args .c) (at-start .args .d) (sym (at-audit .audit .ensures) ∙ at-if1 .if1 .left) (at-if2 .if2 .left)
-    (at-record-mark-unchecked .record-mark-unchecked .ensures)))
+    call-given setMark (sym (at-audit .audit .ensures) ∙ at-if1 .if1 .left) (at-set-mark-unchecked .set-mark-unchecked .ensures)))

@@ -12,11 +12,9 @@ use Rattle.records.specs.Store.{Term, kind, parts, termIn, within, classUp, for
 use Rattle.records.specs.View.{termAt, termsView, termWords, termLimit, chained}
 use Rattle.records.specs.Working.Audited.{Closed}
 use Rattle.classes.specs.declared.Standing.{Standing}
-use Rattle.classes.specs.declared.Answer.{Answer}
-use Rattle.classes.specs.declared.Answer.the-variants.{Given, Refused}
-use Rattle.classes.specs.Joins.{Edge, noEdge, edgeOf, putEdge, turned, Trace, joinIn, traceOf}
-use Rattle.classes.specs.Marks.{Trail, trailOf, tracePlace, joinLimit, markLimit, tableAt}
-use Rattle.classes.specs.Calls.{isCounted, recorded, joinsAt, before}
+use Rattle.classes.specs.Joins.{Edge, noEdge, edgeOf, putEdge, turned, Trace}
+use Rattle.classes.specs.Marks.{Trail, trailOf, tracePlace, joinLimit, markLimit}
+use Rattle.classes.specs.Calls.{isCounted}
 
 -- forest parents are terms and lead to a root, and roots are unlabelled
 pub record Forest (ts : List Term) : Type 0 where
@@ -64,19 +62,20 @@ pub record Cuttable (l : List ℕ) (n : ℕ) (x : Trace) : Type 0 where
   pub oldRoot : within n (x .oldRoot) ≡ true
   pub under : within n (x .under) ≡ true
 
--- whether there is a table, and that the terms are it
+-- whether there is a table, and that the terms are it; where there is none, they are a table still. Every other record stays
 pub data Undoes (l l′ : List ℕ) (n : ℕ) : Option (List Term) → Bool → Type 0 where
   undone : {ts : List Term} → Becomes l l′ n ts → Tabled l′ n → Undoes l l′ n (some ts) true
-  no-table : Undoes l l′ n none false
+  no-table : {ts : List Term} → Becomes l l′ n ts → Tabled l′ n → Undoes l l′ n none false
 
 -- terms that the audit of a mark may start from: their parts are terms
 pub record Markable (l e : List ℕ) (c : State) : Type 0 where
   pub tabled : Tabled l (c .terms)
   pub parted : (t : ℕ) → kind (chained l e c) t ≡ 3 → Every (λ x. within (c .terms) x ≡ true) (parts (chained l e c) t)
 
--- the n terms in a table that holds any number of them
-pub record Copied (l k : List ℕ) (n : ℕ) : Type 0 where
-  pub is : termsView k n ≡ termsView l n
+-- the words of n terms, record 0 too, in k, which holds any number of them; its other words stay as they are in k₀
+pub record Copied (l k₀ k : List ℕ) (n : ℕ) : Type 0 where
+  pub words : (i : ℕ) → i < termWords n → getD k i 0 ≡ getD l i 0
+  pub rest : (i : ℕ) → termWords n ≤ i → getD k i 0 ≡ getD k₀ i 0
   pub long : length k ≡ termWords termLimit
 
 -- counts within their limits, of words that are all there
@@ -90,29 +89,3 @@ pub record Trailed (l l′ : List ℕ) (x : Trail) (e : Standing) : Type 0 where
   pub is : trailOf l′ e ≡ x
   pub rest : (i : ℕ) → isCounted e i ≡ false → getD l′ i 0 ≡ getD l i 0
   pub long : length l′ ≡ length l
-
--- what joining two terms may rely on: 511 records are enough
-pub record CanJoin (l : List ℕ) (n : ℕ) (k : List ℕ) (d : Standing) (a b : ℕ) : Type 0 where
-  pub tabled : Tabled l n
-  pub trail : TrailSized k d
-  pub one : within n a ≡ true
-  pub other : within n b ≡ true
-  pub fits : (rootIn (termsView l n) a ≡ rootIn (termsView l n) b → ⊥) → d .joins < joinLimit
-
--- two terms in one class already, or joined
-pub data Joined (l l′ : List ℕ) (n : ℕ) (k k′ : List ℕ) (d : Standing) (a b kind v : ℕ) : Answer → Type 0 where
-  in-one : rootIn (termsView l n) a ≡ rootIn (termsView l n) b → l′ ≡ l → k′ ≡ k → Joined l l′ n k k′ d a b kind v (Given 0 d)
-  of-two : {e : Standing} → (rootIn (termsView l n) a ≡ rootIn (termsView l n) b → ⊥) → Becomes l l′ n (joinIn (termsView l n) a b kind v)
-      → Trailed k k′ (recorded (traceOf (termsView l n) a) (trailOf k d)) e → Joined l l′ n k k′ d a b kind v (Given 1 e)
-
--- what going back may rely on
-pub record CanGo (l : List ℕ) (n : ℕ) (k : List ℕ) (d : Standing) (i : ℕ) : Type 0 where
-  pub tabled : Tabled l n
-  pub trail : TrailSized k d
-  pub stands : within (d .marks) i ≡ true
-  pub low : joinsAt i (trailOf k d) ≤ d .joins
-
--- the table of the mark, or none
-pub data Went (l l′ : List ℕ) (n : ℕ) (k : List ℕ) (d : Standing) (i : ℕ) : Answer → Type 0 where
-  to-mark : {ts : List Term} {e : Standing} → tableAt (joinsAt i (trailOf k d)) (trailOf k d) (termsView l n) ≡ some ts → Becomes l l′ n ts → trailOf k e ≡ before i (trailOf k d) → Went l l′ n k d i (Given i e)
-  nowhere : tableAt (joinsAt i (trailOf k d)) (trailOf k d) (termsView l n) ≡ none → Went l l′ n k d i (Refused 3)

@@ -1,4 +1,5 @@
 use Rattle.empties.proofs.Refines.Ways.{empties-able, empties-strings, empties-done, empties-stop}
+use Rattle.records.specs.Lists.{all}
 use Rattle.records.specs.View.{lent, storeOf}
 use Rattle.records.proofs.ListLaws.{list-short}
 use mathlib.Core.Path.{refl}
@@ -7,14 +8,17 @@ use borrow.Author.Needs.{needs}
 use Rattle.empties.proofs.empties_unchecked.Statement.{statement}
 use Rattle.empties.proofs.empties_unchecked.Tie as tie
 
+make-constant-unchecked-requires : tie.Need-make-constant-unchecked-requires
+unfolding all
+make-constant-unchecked-requires c κs = (search needs, refl)
+
 pub empties-unchecked-spec : {M : Type 1} → statement M
 empties-unchecked-spec =
     tie.close
     (tie.spec
     -- slice-aggregate-make-constant-unchecked
     (λ c. search needs)
-    -- make-constant-unchecked-requires
-    (λ c κs. search needs)
+    make-constant-unchecked-requires
     -- enum-known-empty
     (λ c. search needs)
     -- list-unmet-requires
@@ -22,8 +26,7 @@ empties-unchecked-spec =
     let at-empty = c .before .before .before .before in
     let at-make-constant-unchecked = at-empty .before .before .before .before .before .before in
     let at-start = at-make-constant-unchecked .before .before .before .before .before .before .before .before .before .before .before in (
-      empties-able (at-start .args .side .now) (at-make-constant-unchecked .make-constant-unchecked .ensures) (at-empty .empty .given .1) (at-start .pre .0)
-          (at-make-constant-unchecked .make-constant-unchecked .kept .0) refl,
+      empties-able (at-start .args .side .now) (at-make-constant-unchecked .make-constant-unchecked .ensures) (at-empty .empty .given .1),
       (
         empties-strings (at-start .args .side .now) (at-make-constant-unchecked .make-constant-unchecked .ensures) (at-empty .empty .given .1) (at-start .pre .0)
             (at-start .pre .1 .0),

@@ -9,7 +9,7 @@ pub sides-unchecked-spec : {M : Type 1} → statement M
 sides-unchecked-spec =
     tie.close
     (tie.spec
-    -- is-emptied-requires
+    -- is-emptied-unchecked-requires
     (λ c κs. search needs)
     -- empties-unchecked-requires
     (λ c κs.
@@ -28,9 +28,9 @@ sides-unchecked-spec =
     let at-is-emptied = at-if1 .before in
     let at-start = at-is-emptied .before .before .before .before .before .before .before .before .before .before in
     sides-left (lent (at-start .args .terms .now) (at-start .args .cells .now) (at-start .args .chars .now) (at-start .args .reasons .now) (at-start .args .keys .now))
-    (at-start .args .c) (at-start .args .lhs .now) (at-start .args .rhs .now) _ (at-is-emptied .is-emptied .ensures) (at-if1 .if1 .taken)
+    (at-start .args .c) (at-start .args .lhs .now) (at-start .args .rhs .now) _ (at-is-emptied .is-emptied-unchecked .ensures) (at-if1 .if1 .taken)
     (at-empties-unchecked .empties-unchecked .ensures))
-    -- is-emptied-requires-2
+    -- is-emptied-unchecked-requires-2
     (λ c κs. search needs)
     -- empties-unchecked-requires-2
     (λ c κs.
@@ -51,8 +51,8 @@ sides-unchecked-spec =
     let at-is-emptied = at-if1 .before in
     let at-start = at-is-emptied .before .before .before .before .before .before .before .before .before .before in
     sides-right (lent (at-start .args .terms .now) (at-start .args .cells .now) (at-start .args .chars .now) (at-start .args .reasons .now) (at-start .args .keys .now))
-    (at-start .args .c) (at-start .args .lhs .now) (at-start .args .rhs .now) _ (at-is-emptied .is-emptied .ensures) (at-if1 .if1 .left) _
-    (at-is-emptied2 .is-emptied2 .ensures) (at-if2 .if2 .taken) (at-empties-unchecked2 .empties-unchecked2 .ensures))
+    (at-start .args .c) (at-start .args .lhs .now) (at-start .args .rhs .now) _ (at-is-emptied .is-emptied-unchecked .ensures) (at-if1 .if1 .left) _
+    (at-is-emptied2 .is-emptied-unchecked2 .ensures) (at-if2 .if2 .taken) (at-empties-unchecked2 .empties-unchecked2 .ensures))
     -- same-length-7
     (λ c. search needs)
     -- returns-3
@@ -61,5 +61,5 @@ sides-unchecked-spec =
     let at-is-emptied = at-if1 .before in
     let at-start = at-is-emptied .before .before .before .before .before .before .before .before .before .before in
     sides-none (lent (at-start .args .terms .now) (at-start .args .cells .now) (at-start .args .chars .now) (at-start .args .reasons .now) (at-start .args .keys .now))
-    (at-start .args .c) (at-start .args .lhs .now) (at-start .args .rhs .now) _ (at-is-emptied .is-emptied .ensures) (at-if1 .if1 .left) _ (c .before .is-emptied2 .ensures)
-    (c .if2 .left) (at-start .args .list .now)))
+    (at-start .args .c) (at-start .args .lhs .now) (at-start .args .rhs .now) _ (at-is-emptied .is-emptied-unchecked .ensures) (at-if1 .if1 .left) _ (c .before .is-emptied-unchecked2 .ensures)
+    (at-start .pre .0) (c .if2 .left) (at-start .args .list .now)))

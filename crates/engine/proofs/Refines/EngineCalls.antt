@@ -11,11 +11,13 @@ use Rattle.records.specs.View.{Lent, storeOf, termsView}
 use Rattle.records.specs.Lists.{Every}
 use Rattle.records.specs.Rules.{audit}
 use Rattle.records.specs.Working.Audited.{Audited, Ready, Closed}
-use Rattle.records.specs.Calls.{Working, Public, call}
+use Rattle.records.specs.Calls.{Public, call}
+use Rattle.records.specs.Working.Doing.{Working}
 use lib.Seq.{drop-append-seam}
 use Rattle.records.proofs.Lists.{both-left, both-right, left-false, right-false}
 use Rattle.records.proofs.Later.{added-once}
 use Rattle.records.proofs.Passed.{ready-of}
+use Rattle.records.proofs.Doing.{working-same}
 use Rattle.records.proofs.Public.{call-unready, call-unfit, call-works, audit-low}
 use Rattle.records.proofs.Grown.{string-term}
 use Rattle.records.proofs.Climbs.{term-within, ready-roots}
@@ -43,7 +45,7 @@ module _ (m : Lent) (c : State) (t k : ℕ) (v : k ≡ audit m c) where
     unfolding find
     find-gives h r q =
         call-works (findArguments t) (find t) m c k v z b e (not-false b h) (λ j n. let y : _≡_ {A = ℕ} 0 1 = cc in absurd (omega arith))
-        (record { says = ap (ok (storeOf m c)) (sym q); kept = refl })
+        (working-same (ready-of m c (sym v ∙ z)) (ap (ok (storeOf m c)) (sym q)))
 
 -- EXPLAIN
 

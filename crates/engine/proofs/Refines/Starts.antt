@@ -11,18 +11,21 @@ use Rattle.records.specs.Store.{Store, ok, stop, andThen, store, count, isStrin
 use Rattle.records.specs.declared.State.{State}
 use Rattle.records.specs.declared.Added.{Added}
 use Rattle.records.specs.declared.Added.the-variants.{Counts, Refused}
-use Rattle.records.specs.Calls.{Working, added}
+use Rattle.records.specs.Calls.{added}
+use Rattle.records.specs.Working.Doing.{Working}
 use Rattle.records.specs.View.{Lent, lent, storeOf, pairsView, reasonsAt}
 use Rattle.records.specs.Make.{withReasons}
 use Rattle.records.specs.Working.Audited.{Ready}
 use Rattle.records.proofs.Lists.{both-left, both-right, table-length, all-zero}
 use Rattle.records.proofs.Beside.{audited-within}
+use Rattle.records.proofs.Passed.{ready-later}
+use Rattle.records.proofs.Doing.{working-stopped}
 use Rattle.engine.specs.declared.Walked.{Walked}
 use Rattle.engine.specs.Explain.{wasSeen, walked, explain, explainArguments, emptied, givesReason, isReasoned}
 use Rattle.engine.specs.Working.Seen.{place, bit, seenAt, Tables}
 use Rattle.engine.specs.Working.Walks.{Standing, Together, Walkable, Shows, came, refused, Walks, Comes, explained, stopped, Explained, Explainable}
 use Rattle.engine.proofs.Refines.Bits.{triangle-within}
-use Rattle.engine.proofs.Sound.{class-together}
+use Rattle.engine.proofs.Sound.{class-together, explain-gave}
 
 -- FROM NO PAIR SEEN
 
@@ -79,7 +82,9 @@ module _ (m : Lent) (c : State) where
 
     pub explain-came : r .code ≡ 0 → (e : State) → e ≡ reasonsAt c (r .count) → Working (explain a b) m (lent (m .terms) (m .cells) (m .chars) reasons′ (m .keys)) c
         (added (Counts e) (lent (m .terms) (m .cells) (m .chars) reasons′ (m .keys)))
-    explain-came z e q = rw q (record { says = go (x .comes (standing-of d) (explainable-of a b d h .together)); kept = still })
+    explain-came z e q =
+        let says = go (x .comes (standing-of d) (explainable-of a b d h .together)) in
+        rw q (record { says = says; kept = still; ready = λ f u i. ready-later d still (explain-gave (storeOf m c) (d .audited) a b h _ u (says ∙ i) .audited) })
       where
         go : Comes (storeOf m c) reasons′ r (explain a b (storeOf m c)) → explain a b (storeOf m c) ≡ ok (storeOf (lent (m .terms) (m .cells) (m .chars) reasons′ (m .keys)) (reasonsAt c (r .count))) tt
         go (explained i e) = e ∙ ap (λ (s : Store). ok s tt) (sym (store-after (r .count)))
@@ -87,7 +92,7 @@ module _ (m : Lent) (c : State) where
 
     pub explain-refused : (r .code ≡ 0 → ⊥) → Working (explain a b) m (lent (m .terms) (m .cells) (m .chars) reasons′ (m .keys)) c
         (added (Refused (r .code)) (lent (m .terms) (m .cells) (m .chars) reasons′ (m .keys)))
-    explain-refused z = record { says = go (x .comes (standing-of d) (explainable-of a b d h .together)); kept = still }
+    explain-refused z = working-stopped (go (x .comes (standing-of d) (explainable-of a b d h .together))) still
       where
         go : Comes (storeOf m c) reasons′ r (explain a b (storeOf m c)) → explain a b (storeOf m c) ≡ stop (r .code)
         go (explained i e) = absurd (z i)

@@ -77,6 +77,10 @@ gives-listed l places places′ n kind value slot b i z = record {
   elsewhere = i .elsewhere;
 }
 
+-- one that fitted found the count below the limit
+pub pushed-low : {l l′ : List ℕ} {n kind value : ℕ} {r : Bool} → Pushed l l′ n kind value r → r ≡ true → n < reasonLimit
+pushed-low {l} {n = n} p e = let h = ltb-true n (reasonRoom l) (sym (p .fits) ∙ e) in omega arith
+
 module _ (l l′ places places′ : List ℕ) (n kind value slot : ℕ) (b : Bool) (i : Looked l places places′ n kind value slot b) (z : b ≡ false) (r : Bool) (p : Pushed l l′ n kind value r) where
   lacked : {X : Type 0} → isListed (kind, value) (pairsView l n) ≡ true → X
   lacked y = clash y (sym (i .is) ∙ z)

@@ -13,9 +13,9 @@ plain-edge-spec =
     (λ c κs. search needs)
     -- label-value-requires
     (λ c κs. search needs)
-    -- give-requires
+    -- give-plain-requires
     (λ c κs. search needs)
-    -- give-requires-2
+    -- give-plain-requires-2
     (λ c κs. search needs)
     -- same-length
     (λ c. search needs)
@@ -28,7 +28,7 @@ plain-edge-spec =
     let at-label-value = at-match .before in
     let at-label-kind = at-label-value .before in
     plain-gives _ _ _ _ 1 _ _ _ _ (inl refl) (at-match .match .keys1) (record { kind-is = at-label-kind .label-kind .ensures; value-is = at-label-value .label-value .ensures })
-    (at-give .give .ensures))
+    (at-give .give-plain .ensures))
     -- same-length-3
     (λ c. search needs)
     -- same-length-4
@@ -40,7 +40,7 @@ plain-edge-spec =
     let at-label-value = at-match .before in
     let at-label-kind = at-label-value .before in
     plain-gives _ _ _ _ 2 _ _ _ _ (inr refl) (at-match .match .keys2) (record { kind-is = at-label-kind .label-kind .ensures; value-is = at-label-value .label-value .ensures })
-    (at-give2 .give2 .ensures))
+    (at-give2 .give-plain2 .ensures))
     -- returns-3
     (λ c. plain-nothing _ _ _ _ _ _ (c .match .keys3) (record { kind-is = c .before .before .label-kind .ensures; value-is = c .before .label-value .ensures }))
     -- returns-4

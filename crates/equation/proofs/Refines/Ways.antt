@@ -13,13 +13,19 @@ use denote.Enum.Declared.{tagOf}
 use types.Run.{OneOf, miss}
 use borrow.Author.Tests.{eq-eqb, ne-eqb, eqb-true, le-leb, not-true, not-false}
 use Rattle.records.specs.declared.State.{State}
-use Rattle.records.specs.Store.{Term, Store, Out, ok, stop, Work, andThen, _>>=_, term, kind, isString, isEquation}
+use Rattle.records.specs.Lists.{all}
+use Rattle.records.specs.Store.{Term, Room, Store, Out, ok, stop, Work, andThen, _>>=_, term, kind, isString, isEquation}
 use Rattle.records.specs.View.{Lent, lent, storeOf, termAt, pairAt, pairsView, reasonsAt}
-use Rattle.records.specs.Rules.{audit, listLimit, isList}
-use Rattle.records.specs.Working.Audited.{Ready}
-use Rattle.records.specs.Calls.{Working}
-use Rattle.records.proofs.Lists.{both-left, both-right, both-true, left-false, right-false, and-next, all-every, every-all, table-same, table-length, table-at}
-use Rattle.records.proofs.Works.{stop-not}
+use Rattle.records.specs.Rules.{audit, reasonRule, listLimit, isList}
+use Rattle.records.specs.Make.{withReasons}
+use Rattle.records.specs.Working.Audited.{Audited, Ready}
+use Rattle.records.specs.Working.Doing.{Working}
+use Rattle.records.proofs.Lists.{both-left, both-right, both-true, left-false, right-false, and-next, all-every, every-all, table-same, table-length, table-at, all-table, below-at, below-all}
+use Rattle.records.proofs.Works.{stop-not, via}
+use Rattle.records.proofs.Beside.{audited-beside}
+use Rattle.records.proofs.Passed.{ready-later}
+use Rattle.records.proofs.Doing.{working-stopped, working-is, works}
+use Rattle.records.proofs.ListLaws.{list-strings}
 use Rattle.records.proofs.Views.{table-is}
 use Rattle.records.proofs.Climbs.{view-term, term-within}
 use Rattle.records.proofs.Grown.{kind-term, grown-string, strings-later}
@@ -32,12 +38,14 @@ use Rattle.normalize.specs.Working.Pushes.{Candidates}
 use Rattle.records.proofs.Later.{Later, later-below}
 use Rattle.normalize.proofs.Candidates.{candidates-later}
 use Rattle.normalize.proofs.Deep.{deep-gives, deep-kept}
-use Rattle.normalize.proofs.Carried.{Carried, carried-none, carried-then, carried-ready, carried-kept}
+use Rattle.normalize.proofs.Carried.{Carried, carried-none, carried-then, carried-kept, working-left}
 use Rattle.normalize.proofs.ListCalls.{listed-short, listed-unready, listed-unfit, listed-works}
 use Rattle.wordeq.proofs.StepResult.{the-type}
 use Rattle.wordeq.specs.declared.StepResult.{StepResult}
 use Rattle.wordeq.specs.declared.StepResult.the-variants.{Done, Saturated, Conflict, Propagate, Split, Refused}
-use Rattle.wordeq.specs.Wordeq.{split, isGuard, resolve}
+use Rattle.wordeq.specs.Wordeq.{Answer, done, saturated, conflict, propagate, split, isGuard, resolve}
+use Rattle.wordeq.specs.Working.Results.{BothLists}
+use Rattle.wordeq.proofs.Resolve.{resolve-gives}
 use Rattle.wordeq.specs.Calls.{resolved}
 use Rattle.equation.specs.declared.Outcome.the-variants.{Answered}
 use Rattle.equation.specs.Equation.{Stepped, unexpanded, answered, returned, orUnexpanded, step, stepArguments}
@@ -53,6 +61,24 @@ reasons-kept m m′ c e n h =
     table-same (pairAt (m′ .reasons)) (pairAt (m .reasons)) n
     (λ i l. table-is (pairAt (m′ .reasons)) (pairAt (m .reasons)) (c .reasons) i (ap (λ (s : Store). s .reasons) e) (omega arith))
 
+module _ (m : Lent) (c : State) (ready : Ready m c) (n : ℕ) (h : n ≤ c .reasons) where
+  incoming-good : all reasonRule (pairsView (m .reasons) n) ≡ true
+  incoming-good =
+      all-table reasonRule (pairAt (m .reasons)) n
+      ∙ below-all _ n (λ k l. below-at _ (c .reasons) (sym (all-table reasonRule (pairAt (m .reasons)) (c .reasons)) ∙ ready .audited .recorded .reasons) k (omega arith))
+
+  incoming-few : length (pairsView (m .reasons) n) ≤ storeOf m c .room .reasons
+  incoming-few =
+      let a = ready .audited .roomy .reasons in
+      let e = table-length (pairAt (m .reasons)) (c .reasons) in
+      let f = table-length (pairAt (m .reasons)) n in omega arith
+
+  -- a later store with these in the place of its reasons
+  cut-audited : {s₁ : Store} → Later (storeOf m c) s₁ → Audited (withReasons s₁ (pairsView (m .reasons) n))
+  cut-audited {s₁} k =
+      audited-beside s₁ (pairsView (m .reasons) n) (s₁ .keys) (s₁ .names) (k .audited) incoming-good (k .audited .recorded .keys)
+      (subst (λ (r : Room). length (pairsView (m .reasons) n) ≤ r .reasons) (sym (k .room)) incoming-few) (k .audited .roomy .keys)
+
 -- WORDEQ'S ANSWER
 
 returned-is : (o : StepResult) (m : Lent) (k : List ℕ) (n : ℕ) → andThen (returned (pairsView (m .reasons) n)) (resolved o m k) ≡ stepped (Answered (carried n o)) m k
@@ -63,17 +89,34 @@ returned-is (Propagate c v w f) m k n = refl
 returned-is (Split c j g i) m k n = refl
 returned-is (Refused j) m k n = refl
 
-pub forms-resolved : {m m′ : Lent} {c : State} (l r k : List ℕ) (g z : ℤ) (n : ℕ) (o x : StepResult) → n ≤ c .reasons → z ≡ g → Working (resolve l r z) m m′ c (resolved o m′ k) → x ≡ carried n o
+-- what it leaves is audited
+forms-audited : (m : Lent) (c : State) → Ready m c → (l r : List ℕ) (g : ℤ) → BothLists (storeOf m c) l r → (n : ℕ) → n ≤ c .reasons → (s′ : Store) (x : Stepped)
+    → resolveForms l r g (pairsView (m .reasons) n) (storeOf m c) ≡ ok s′ x → Audited s′
+unfolding resolveForms
+forms-audited m c ready l r g lists n h s′ x e =
+    via (returned (pairsView (m .reasons) n)) (resolve l r g (storeOf m c)) e (λ s₁ y i j.
+    let a = list-strings (storeOf m c) l (lists .left) in
+    let b = list-strings (storeOf m c) r (lists .right) in
+    go s₁ y (resolve-gives l r g (storeOf m c) (ready .audited) a b s₁ y i .later) j)
+  where
+    go : (s₁ : Store) (y : Answer) → Later (storeOf m c) s₁ → returned (pairsView (m .reasons) n) y s₁ ≡ ok s′ x → Audited s′
+    go s₁ done k j = let q : withReasons s₁ (pairsView (m .reasons) n) ≡ s′ = cc in subst Audited q (cut-audited m c ready n h k)
+    go s₁ saturated k j = let q : s₁ ≡ s′ = cc in subst Audited q (k .audited)
+    go s₁ conflict k j = let q : s₁ ≡ s′ = cc in subst Audited q (k .audited)
+    go s₁ (propagate v w f) k j = let q : s₁ ≡ s′ = cc in subst Audited q (k .audited)
+    go s₁ (split atoms z i) k j = let q : s₁ ≡ s′ = cc in subst Audited q (k .audited)
+
+pub forms-resolved : {m m′ : Lent} {c : State} (l r k : List ℕ) (g z : ℤ) (n : ℕ) (o x : StepResult) → Ready m c → BothLists (storeOf m c) l r → n ≤ c .reasons → z ≡ g → Working (resolve l r z) m m′ c (resolved o m′ k) → x ≡ carried n o
     → Working (resolveForms l r g (pairsView (m .reasons) n)) m m′ c (stepped (Answered x) m′ k)
 unfolding resolveForms
-forms-resolved {m} {m′} {c} l r k g z n o x h i w e = record {
+forms-resolved {m} {m′} {c} l r k g z n o x ready lists h i w e = works ready (forms-audited m c ready l r g lists n h) (record {
   says =
       ap (andThen (returned (pairsView (m .reasons) n))) (ap (λ (y : ℤ). resolve l r y (storeOf m c)) (sym i) ∙ w .says)
       ∙ ap (λ (rs : List (ℕ × ℕ)). andThen (returned rs) (resolved o m′ k)) (sym (reasons-kept m m′ c (w .kept) n h))
       ∙ returned-is o m′ k n
       ∙ ap (λ (y : StepResult). stepped (Answered y) m′ k) (sym e);
   kept = w .kept;
-}
+})
 
 pub carried-done : (o : StepResult) (n : ℕ) {x : StepResult} (c : State) → o ≡ Done c → x ≡ carried n (Done c) → x ≡ carried n o
 carried-done o n c e q = q ∙ ap (carried n) (sym e)
@@ -97,25 +140,24 @@ module _ {m m₁ : Lent} {c : State} (list known : List ℕ) (t : ℕ) (x : Deep
   form-is e = w .says ∙ ap (λ (y : DeepForm). deepened y m₁ list) e
 
   form-stop : {k : ℕ} (rs : List (ℕ × ℕ)) (f : List ℕ → Work Stepped) → x ≡ deep.Refused k → Working (formThen known t rs f) m m₁ c (stop k)
-  form-stop rs f e = record { says = ap (andThen (orUnexpanded rs f)) (form-is e); kept = w .kept }
+  form-stop rs f e = working-stopped (ap (andThen (orUnexpanded rs f)) (form-is e)) (w .kept)
 
   form-none : {d : State} (n : ℕ) (f : List ℕ → Work Stepped) → n ≤ c .reasons → x ≡ deep.None d → Working (formThen known t (pairsView (m .reasons) n) f) m m₁ c (ok (storeOf m₁ (reasonsAt d n)) unexpanded)
-  form-none {d} n f h e = record {
-    says =
-        ap (andThen (orUnexpanded (pairsView (m .reasons) n) f)) (form-is e)
-        ∙ ap (λ (rs : List (ℕ × ℕ)). orUnexpanded rs f none (storeOf m₁ d)) (sym (reasons-kept m m₁ c (w .kept) n h));
-    kept = w .kept;
-  }
+  form-none {d} n f h e =
+      let r = reasons-kept m m₁ c (w .kept) n h in
+      let k = deep-kept known t (storeOf m c) (ready .audited) fit (storeOf m₁ d) none (form-is e) in
+      working-left (ready-later ready (w .kept) (subst (λ (rs : List (ℕ × ℕ)). Audited (withReasons (storeOf m₁ d) rs)) (sym r) (cut-audited m c ready n h k)))
+      (ap (andThen (orUnexpanded (pairsView (m .reasons) n) f)) (form-is e) ∙ ap (λ (rs : List (ℕ × ℕ)). orUnexpanded rs f none (storeOf m₁ d)) (sym r)) (w .kept)
 
-  module _ {j : ℕ} {d : State} (e : x ≡ deep.List j d) (p : length (m₁ .terms) ≡ length (m .terms)) (q : length (m₁ .cells) ≡ length (m .cells)) where
+  module _ {j : ℕ} {d : State} (e : x ≡ deep.List j d) where
     form-later : Later (storeOf m c) (storeOf m₁ d)
     form-later = deep-kept known t (storeOf m c) (ready .audited) fit (storeOf m₁ d) (some (firstWords list j)) (form-is e)
 
     form-carried : Carried m c m₁ d
-    form-carried = carried-then (carried-none ready) m₁ d (w .kept) form-later p q
+    form-carried = carried-then (carried-none ready) m₁ d (w .kept) form-later
 
     pub form-ready : Ready m₁ d
-    form-ready = carried-ready form-carried ready
+    form-ready = w .ready d (some (firstWords list j)) (ap (λ (y : DeepForm). deepened y m₁ list) e)
 
     -- the table of the known list stands for the next form too
     pub form-candidates : {cs table : List ℕ} → Candidates (storeOf m c) cs table → Candidates (storeOf m₁ d) cs table
@@ -143,7 +185,7 @@ module _ {m m₁ : Lent} {c : State} (list known : List ℕ) (t : ℕ) (x : Deep
     form-string u i = grown-string (form-later .grown) u i
 
     form-some : {m₂ : Lent} {o : Out Stepped} (rs : List (ℕ × ℕ)) (f : List ℕ → Work Stepped) → Working (f (firstWords list j)) m₁ m₂ d o → Working (formThen known t rs f) m m₂ c o
-    form-some {m₂} rs f v = record { says = ap (andThen (orUnexpanded rs f)) (form-is e) ∙ v .says; kept = carried-kept form-carried m₂ (v .kept) }
+    form-some {m₂} rs f v = record { says = ap (andThen (orUnexpanded rs f)) (form-is e) ∙ v .says; kept = carried-kept form-carried m₂ (v .kept); ready = v .ready }
 
 -- the first words of a slice are a part of it
 pub first-part : (l : List ℕ) (n : ℕ) → n ≤ length l → take n l ≡ firstWords l n
@@ -163,11 +205,11 @@ module _ {m m₁ : Lent} {c : State} (list known : List ℕ) (t n : ℕ) (x : De
   unfolding rightForm
   right-none e z = rw z (form-none list known t x ready fit w n (λ r. resolveForms l r g (pairsView (m .reasons) n)) h e)
 
-  pub right-some : {j : ℕ} {d : State} {m₂ : Lent} {r : List ℕ} {o : Out Stepped} → x ≡ deep.List j d → length (m₁ .terms) ≡ length (m .terms) → length (m₁ .cells) ≡ length (m .cells) → r ≡ firstWords list j → (z : ℤ) → z ≡ g
+  pub right-some : {j : ℕ} {d : State} {m₂ : Lent} {r : List ℕ} {o : Out Stepped} → x ≡ deep.List j d → r ≡ firstWords list j → (z : ℤ) → z ≡ g
       → Working (resolveForms l r z (pairsView (m₁ .reasons) n)) m₁ m₂ d o → Working (rightForm known t g l (pairsView (m .reasons) n)) m m₂ c o
   unfolding rightForm
-  right-some {j} {d} {m₂} {r} {o} e p q i z u v =
-      form-some list known t x ready fit w e p q (pairsView (m .reasons) n) (λ r. resolveForms l r g (pairsView (m .reasons) n))
+  right-some {j} {d} {m₂} {r} {o} e i z u v =
+      form-some list known t x ready fit w e (pairsView (m .reasons) n) (λ r. resolveForms l r g (pairsView (m .reasons) n))
       (subst (λ (rs : List (ℕ × ℕ)). Working (resolveForms l (firstWords list j) g rs) m₁ m₂ d o) (reasons-kept m m₁ c (w .kept) n h)
       (subst (λ (y : List ℕ). Working (resolveForms l y g (pairsView (m₁ .reasons) n)) m₁ m₂ d o) i (subst (λ (y : ℤ). Working (resolveForms l r y (pairsView (m₁ .reasons) n)) m₁ m₂ d o) u v)))
 
@@ -211,7 +253,7 @@ module _ (known : List ℕ) (e : ℕ) (g : ℤ) (m : Lent) (c : State) (ready : 
 
   module _ {m₁ : Lent} (list : List ℕ) (x : DeepForm) (a b : ℕ) (i : a ≡ termAt (m .terms) e .first) (j : b ≡ termAt (m .terms) e .second) (w : Working (deepForm known a) m m₁ c (deepened x m₁ list)) where
     from : {m₂ : Lent} {o : Out Stepped} → Working (formThen known a (pairsView (m .reasons) (c .reasons)) (λ l. rightForm known b g l (pairsView (m .reasons) (c .reasons)))) m m₂ c o → Working (step known e g) m m₂ c o
-    from v = record { says = step-from a b i j ∙ v .says; kept = v .kept }
+    from v = working-is (step-from a b i j) v
 
     pub left-stop : {k : ℕ} → x ≡ deep.Refused k → Working (step known e g) m m₁ c (stop k)
     left-stop q = from (form-stop list known a x ready (left-fits a i) w _ _ q)
@@ -219,15 +261,15 @@ module _ (known : List ℕ) (e : ℕ) (g : ℤ) (m : Lent) (c : State) (ready : 
     pub left-none : {d d′ : State} → x ≡ deep.None d → d′ ≡ reasonsAt d (c .reasons) → Working (step known e g) m m₁ c (ok (storeOf m₁ d′) unexpanded)
     left-none q z = from (rw z (form-none list known a x ready (left-fits a i) w (c .reasons) _ (omega arith) q))
 
-    module _ {n : ℕ} {d : State} (q : x ≡ deep.List n d) (p₁ : length (m₁ .terms) ≡ length (m .terms)) (p₂ : length (m₁ .cells) ≡ length (m .cells)) where
+    module _ {n : ℕ} {d : State} (q : x ≡ deep.List n d) where
       pub right-fits : formArguments known b (storeOf m₁ d) ≡ true
       right-fits =
-          both-true (isList (storeOf m₁ d) known) _ (form-keeps list known a x ready (left-fits a i) w q p₁ p₂ known (both-left (isList s known) _ lists))
-          (form-string list known a x ready (left-fits a i) w q p₁ p₂ b (right-string b j))
+          both-true (isList (storeOf m₁ d) known) _ (form-keeps list known a x ready (left-fits a i) w q known (both-left (isList s known) _ lists))
+          (form-string list known a x ready (left-fits a i) w q b (right-string b j))
 
       pub left-some : {m₂ : Lent} {l : List ℕ} {o : Out Stepped} → l ≡ firstWords list n → (y : ℤ) → y ≡ g → Working (rightForm known b y l (pairsView (m₁ .reasons) (c .reasons))) m₁ m₂ d o → Working (step known e g) m m₂ c o
       left-some {m₂} {l} {o} z y u v =
-          from (form-some list known a x ready (left-fits a i) w q p₁ p₂ (pairsView (m .reasons) (c .reasons)) (λ l. rightForm known b g l (pairsView (m .reasons) (c .reasons)))
+          from (form-some list known a x ready (left-fits a i) w q (pairsView (m .reasons) (c .reasons)) (λ l. rightForm known b g l (pairsView (m .reasons) (c .reasons)))
           (subst (λ (rs : List (ℕ × ℕ)). Working (rightForm known b g (firstWords list n) rs) m₁ m₂ d o) (reasons-kept m m₁ c (w .kept) (c .reasons) (omega arith))
           (subst (λ (h : List ℕ). Working (rightForm known b g h (pairsView (m₁ .reasons) (c .reasons))) m₁ m₂ d o) z (subst (λ (h : ℤ). Working (rightForm known b h l (pairsView (m₁ .reasons) (c .reasons))) m₁ m₂ d o) u v))))
 

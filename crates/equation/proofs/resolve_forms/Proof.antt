@@ -35,5 +35,5 @@ resolve-forms-spec =
     let at-resolve-unchecked = c .before .before .before .before .before .before .before .before .before .before .before .before .before in
     let at-start = at-resolve-unchecked .before .before .before .before .before .before .before .before .before .before .before .before .before .before .before in
     forms-resolved (at-start .args .lhs .now) (at-start .args .rhs .now) (at-resolve-unchecked .resolve-unchecked .last .1 .1 .1 .1 .1 .1 .1 .1 .1 .0) (at-start .args .guard)
-    (toZ w32 (ofZ w32 (at-start .args .guard))) (at-start .args .incoming) (at-resolve-unchecked .resolve-unchecked .result) _ (at-start .pre .1 .1 .1 .1)
+    (toZ w32 (ofZ w32 (at-start .args .guard))) (at-start .args .incoming) (at-resolve-unchecked .resolve-unchecked .result) _ (at-start .pre .0) (at-start .pre .1 .0) (at-start .pre .1 .1 .1 .1)
     (toZ-ofZ w32 (at-start .args .guard) (at-start .fits .guard)) (at-resolve-unchecked .resolve-unchecked .ensures) (c .carried .ensures)))

@@ -28,7 +28,7 @@ right-form-spec =
     let at-deep-form = at-n .before .before .before .before .before .before .before .before .before in
     let at-start = at-deep-form .before .before .before .before .before .before .before .before .before .before .before .before .before .before .before in
     (let h = form-short (at-deep-form .deep-form-by-unchecked .last .1 .1 .1 .1 .1 .1 .1 .1 .1 .0) (at-start .args .known .now) (at-start .args .t) _ (at-start .pre .0 .0) (at-start .pre .1 .0)
-    (at-deep-form .deep-form-by-unchecked .ensures) (at-n .n .given .1) (at-deep-form .deep-form-by-unchecked .kept .0) refl in
+    (at-deep-form .deep-form-by-unchecked .ensures) (at-n .n .given .1) in
     let k = at-deep-form .deep-form-by-unchecked .kept .1 .1 .1 .1 .1 .1 .1 .1 .1 .0 in omega arith))
     -- slice-aggregate-resolve-forms
     (λ c.
@@ -36,7 +36,7 @@ right-form-spec =
     let at-deep-form = at-n .before .before .before .before .before .before .before .before .before in
     let at-start = at-deep-form .before .before .before .before .before .before .before .before .before .before .before .before .before .before .before in
     (let h = form-short (at-deep-form .deep-form-by-unchecked .last .1 .1 .1 .1 .1 .1 .1 .1 .1 .0) (at-start .args .known .now) (at-start .args .t) _ (at-start .pre .0 .0) (at-start .pre .1 .0)
-    (at-deep-form .deep-form-by-unchecked .ensures) (at-n .n .given .1) (at-deep-form .deep-form-by-unchecked .kept .0) refl in
+    (at-deep-form .deep-form-by-unchecked .ensures) (at-n .n .given .1) in
     let k = at-deep-form .deep-form-by-unchecked .kept .1 .1 .1 .1 .1 .1 .1 .1 .1 .0 in sym (length-take-le _ (at-deep-form .deep-form-by-unchecked .last .1 .1 .1 .1 .1 .1 .1 .1 .1 .0) (omega arith))))
     -- resolve-forms-requires
     (λ c κs.
@@ -44,18 +44,15 @@ right-form-spec =
     let at-deep-form = at-n .before .before .before .before .before .before .before .before .before in
     let at-start = at-deep-form .before .before .before .before .before .before .before .before .before .before .before .before .before .before .before in
     let the-deep-form = at-deep-form .deep-form-by-unchecked .last .1 .1 .1 .1 .1 .1 .1 .1 .1 .0 in
-    let the-deep-form-ensures = at-deep-form .deep-form-by-unchecked .ensures in
-    let the-deep-form-kept = at-deep-form .deep-form-by-unchecked .kept .0 in (
-      form-ready the-deep-form (at-start .args .known .now) (at-start .args .t) _ (at-start .pre .0 .0) (at-start .pre .1 .0) the-deep-form-ensures (at-n .n .given .1)
-          the-deep-form-kept refl,
+    let the-deep-form-ensures = at-deep-form .deep-form-by-unchecked .ensures in (
+      form-ready the-deep-form (at-start .args .known .now) (at-start .args .t) _ (at-start .pre .0 .0) (at-start .pre .1 .0) the-deep-form-ensures (at-n .n .given .1),
       (
-        record { left = form-keeps the-deep-form (at-start .args .known .now) (at-start .args .t) _ (at-start .pre .0 .0) (at-start .pre .1 .0) the-deep-form-ensures (at-n .n .given .1) the-deep-form-kept refl (at-start .args .lhs .now) (at-start .pre .1 .1 .0); right = form-list the-deep-form (at-start .args .known .now) (at-start .args .t) _ (at-start .pre .0 .0) (at-start .pre .1 .0) the-deep-form-ensures (at-n .n .given .1) the-deep-form-kept refl (first-part the-deep-form _ (let h = form-short the-deep-form (at-start .args .known .now) (at-start .args .t) _ (at-start .pre .0 .0) (at-start .pre .1 .0) the-deep-form-ensures (at-n .n .given .1) the-deep-form-kept refl in let k = at-deep-form .deep-form-by-unchecked .kept .1 .1 .1 .1 .1 .1 .1 .1 .1 .0 in omega arith)) },
+        record { left = form-keeps the-deep-form (at-start .args .known .now) (at-start .args .t) _ (at-start .pre .0 .0) (at-start .pre .1 .0) the-deep-form-ensures (at-n .n .given .1) (at-start .args .lhs .now) (at-start .pre .1 .1 .0); right = form-list the-deep-form (at-start .args .known .now) (at-start .args .t) _ (at-start .pre .0 .0) (at-start .pre .1 .0) the-deep-form-ensures (at-n .n .given .1) (first-part the-deep-form _ (let h = form-short the-deep-form (at-start .args .known .now) (at-start .args .t) _ (at-start .pre .0 .0) (at-start .pre .1 .0) the-deep-form-ensures (at-n .n .given .1) in let k = at-deep-form .deep-form-by-unchecked .kept .1 .1 .1 .1 .1 .1 .1 .1 .1 .0 in omega arith)) },
         (
           ap isGuard (toZ-ofZ w32 (at-start .args .guard) (at-start .fits .guard)) ∙ at-start .pre .1 .1 .1 .0,
           (
             at-start .pre .1 .1 .1 .1 .0,
-            form-incoming the-deep-form (at-start .args .known .now) (at-start .args .t) _ (at-start .pre .0 .0) (at-start .pre .1 .0) the-deep-form-ensures (at-n .n .given .1)
-                the-deep-form-kept refl (at-start .pre .1 .1 .1 .1 .1),
+            form-incoming the-deep-form (at-start .args .known .now) (at-start .args .t) _ (at-start .pre .0 .0) (at-start .pre .1 .0) the-deep-form-ensures (at-n .n .given .1) (at-start .pre .1 .1 .1 .1 .1),
           ),
         ),
       ),
@@ -86,10 +83,10 @@ right-form-spec =
     let at-start = at-deep-form .before .before .before .before .before .before .before .before .before .before .before .before .before .before .before in
     right-some (at-deep-form .deep-form-by-unchecked .last .1 .1 .1 .1 .1 .1 .1 .1 .1 .0) (at-start .args .known .now) (at-start .args .t) (at-start .args .incoming) _
     (at-start .args .guard) (at-start .args .lhs .now) (at-start .pre .1 .1 .1 .1 .1) (at-start .pre .0 .0) (at-start .pre .1 .0) (at-deep-form .deep-form-by-unchecked .ensures)
-    (at-n .n .given .1) (at-deep-form .deep-form-by-unchecked .kept .0) refl
+    (at-n .n .given .1)
     (first-part (at-deep-form .deep-form-by-unchecked .last .1 .1 .1 .1 .1 .1 .1 .1 .1 .0) _
     (let h = form-short (at-deep-form .deep-form-by-unchecked .last .1 .1 .1 .1 .1 .1 .1 .1 .1 .0) (at-start .args .known .now) (at-start .args .t) _ (at-start .pre .0 .0)
-    (at-start .pre .1 .0) (at-deep-form .deep-form-by-unchecked .ensures) (at-n .n .given .1) (at-deep-form .deep-form-by-unchecked .kept .0) refl in
+    (at-start .pre .1 .0) (at-deep-form .deep-form-by-unchecked .ensures) (at-n .n .given .1) in
     let k = at-deep-form .deep-form-by-unchecked .kept .1 .1 .1 .1 .1 .1 .1 .1 .1 .0 in omega arith))
     _ (toZ-ofZ w32 (at-start .args .guard) (at-start .fits .guard)) (at-resolve-forms .resolve-forms .ensures))
     -- same-length-7

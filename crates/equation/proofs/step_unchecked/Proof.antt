@@ -53,7 +53,7 @@ step-unchecked-spec =
     let at-start = at-first .before .before .before .before .before .before .before .before .before in
     (let h = form-short (at-deep-form .deep-form-by-unchecked .last .1 .1 .1 .1 .1 .1 .1 .1 .1 .0) (at-start .args .known .now) (at-first .first .result) _ (at-start .pre .0)
     (left-fits (at-start .args .known .now) (at-start .args .e) (at-start .args .guard) _ _ (at-start .pre .0) (at-start .pre .1 .0) _ (at-first .first .ensures))
-    (at-deep-form .deep-form-by-unchecked .ensures) (at-n .n .given .1) (at-deep-form .deep-form-by-unchecked .kept .0) refl in
+    (at-deep-form .deep-form-by-unchecked .ensures) (at-n .n .given .1) in
     let k = at-deep-form .deep-form-by-unchecked .kept .1 .1 .1 .1 .1 .1 .1 .1 .1 .0 in omega arith))
     -- slice-aggregate-right-form
     (λ c.
@@ -63,7 +63,7 @@ step-unchecked-spec =
     let at-start = at-first .before .before .before .before .before .before .before .before .before in
     (let h = form-short (at-deep-form .deep-form-by-unchecked .last .1 .1 .1 .1 .1 .1 .1 .1 .1 .0) (at-start .args .known .now) (at-first .first .result) _ (at-start .pre .0)
     (left-fits (at-start .args .known .now) (at-start .args .e) (at-start .args .guard) _ _ (at-start .pre .0) (at-start .pre .1 .0) _ (at-first .first .ensures))
-    (at-deep-form .deep-form-by-unchecked .ensures) (at-n .n .given .1) (at-deep-form .deep-form-by-unchecked .kept .0) refl in
+    (at-deep-form .deep-form-by-unchecked .ensures) (at-n .n .given .1) in
     let k = at-deep-form .deep-form-by-unchecked .kept .1 .1 .1 .1 .1 .1 .1 .1 .1 .0 in sym (length-take-le _ (at-deep-form .deep-form-by-unchecked .last .1 .1 .1 .1 .1 .1 .1 .1 .1 .0) (omega arith))))
     -- right-form-requires
     (λ c κs.
@@ -75,32 +75,26 @@ step-unchecked-spec =
     let at-start = at-first .before .before .before .before .before .before .before .before .before in
     let by-left-fits = left-fits (at-start .args .known .now) (at-start .args .e) (at-start .args .guard) _ _ (at-start .pre .0) (at-start .pre .1 .0) _ (at-first .first .ensures) in
     let the-deep-form = at-deep-form .deep-form-by-unchecked .last .1 .1 .1 .1 .1 .1 .1 .1 .1 .0 in
-    let the-deep-form-ensures = at-deep-form .deep-form-by-unchecked .ensures in
-    let the-deep-form-kept = at-deep-form .deep-form-by-unchecked .kept .0 in (
+    let the-deep-form-ensures = at-deep-form .deep-form-by-unchecked .ensures in (
       (
-        form-ready the-deep-form (at-start .args .known .now) (at-first .first .result) _ (at-start .pre .0) by-left-fits the-deep-form-ensures (at-n .n .given .1)
-            the-deep-form-kept refl,
-        form-candidates the-deep-form (at-start .args .known .now) (at-first .first .result) _ (at-start .pre .0) by-left-fits the-deep-form-ensures (at-n .n .given .1)
-            the-deep-form-kept refl (at-known-table-unchecked .known-table-unchecked .ensures),
+        form-ready the-deep-form (at-start .args .known .now) (at-first .first .result) _ (at-start .pre .0) by-left-fits the-deep-form-ensures (at-n .n .given .1),
+        form-candidates the-deep-form (at-start .args .known .now) (at-first .first .result) _ (at-start .pre .0) by-left-fits the-deep-form-ensures (at-n .n .given .1) (at-known-table-unchecked .known-table-unchecked .ensures),
       ),
       (
         right-fits (at-start .args .known .now) (at-start .args .e) (at-start .args .guard) _ _ (at-start .pre .0) (at-start .pre .1 .0) the-deep-form _
-            (at-first .first .result) (at-second .second .result) (at-first .first .ensures) (at-second .second .ensures) the-deep-form-ensures (at-n .n .given .1)
-            the-deep-form-kept refl,
+            (at-first .first .result) (at-second .second .result) (at-first .first .ensures) (at-second .second .ensures) the-deep-form-ensures (at-n .n .given .1),
         (
           form-list the-deep-form (at-start .args .known .now) (at-first .first .result) _ (at-start .pre .0) by-left-fits the-deep-form-ensures (at-n .n .given .1)
-              the-deep-form-kept refl
               (first-part the-deep-form _
               (let h = form-short the-deep-form (at-start .args .known .now) (at-first .first .result) _ (at-start .pre .0) by-left-fits the-deep-form-ensures
-              (at-n .n .given .1) the-deep-form-kept refl in
+              (at-n .n .given .1) in
               let k = at-deep-form .deep-form-by-unchecked .kept .1 .1 .1 .1 .1 .1 .1 .1 .1 .0 in omega arith)),
           (
             ap isGuard (toZ-ofZ w32 (at-start .args .guard) (at-start .fits .guard))
                 ∙ step-guard (at-start .args .known .now) (at-start .args .e) (at-start .args .guard) _ _ (at-start .pre .0) (at-start .pre .1 .0),
             (
               at-start .pre .1 .1,
-              form-incoming the-deep-form (at-start .args .known .now) (at-first .first .result) _ (at-start .pre .0) by-left-fits the-deep-form-ensures (at-n .n .given .1)
-                  the-deep-form-kept refl (omega arith),
+              form-incoming the-deep-form (at-start .args .known .now) (at-first .first .result) _ (at-start .pre .0) by-left-fits the-deep-form-ensures (at-n .n .given .1) (omega arith),
             ),
           ),
         ),
@@ -135,11 +129,10 @@ step-unchecked-spec =
     let the-deep-form = at-deep-form .deep-form-by-unchecked .last .1 .1 .1 .1 .1 .1 .1 .1 .1 .0 in
     left-some (at-start .args .known .now) (at-start .args .e) (at-start .args .guard) _ _ (at-start .pre .0) (at-start .pre .1 .0) the-deep-form _ (at-first .first .result)
     (at-second .second .result) (at-first .first .ensures) (at-second .second .ensures) (at-deep-form .deep-form-by-unchecked .ensures) (at-n .n .given .1)
-    (at-deep-form .deep-form-by-unchecked .kept .0) refl
     (first-part the-deep-form _
     (let h = form-short the-deep-form (at-start .args .known .now) (at-first .first .result) _ (at-start .pre .0)
     (left-fits (at-start .args .known .now) (at-start .args .e) (at-start .args .guard) _ _ (at-start .pre .0) (at-start .pre .1 .0) _ (at-first .first .ensures))
-    (at-deep-form .deep-form-by-unchecked .ensures) (at-n .n .given .1) (at-deep-form .deep-form-by-unchecked .kept .0) refl in
+    (at-deep-form .deep-form-by-unchecked .ensures) (at-n .n .given .1) in
     let k = at-deep-form .deep-form-by-unchecked .kept .1 .1 .1 .1 .1 .1 .1 .1 .1 .0 in omega arith))
     _ (toZ-ofZ w32 (at-start .args .guard) (at-start .fits .guard)) (at-right-form .right-form .ensures))
     -- same-length-7

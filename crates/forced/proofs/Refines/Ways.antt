@@ -14,12 +14,14 @@ use Rattle.records.specs.Lists.{all}
 use Rattle.records.specs.Store.{Store, Out, ok, stop, andThen, _>>=_, isString}
 use Rattle.records.specs.View.{charLimit, Lent, lent, storeOf, readIn, termed}
 use Rattle.records.specs.Rules.{audit, listLimit, isList}
-use Rattle.records.specs.Calls.{Working, Public, call}
+use Rattle.records.specs.Calls.{Public, call}
+use Rattle.records.specs.Working.Doing.{Working}
 use Rattle.records.specs.Working.Audited.{Ready}
 use Rattle.records.proofs.Lists.{table-length, both-left, both-right, both-true, and-stop, and-next, failed, passed, every-at, all-take, all-drop}
 use Rattle.records.proofs.ListLaws.{list-short, list-strings, list-every}
 use Rattle.records.proofs.Public.{call-unready, call-unfit, call-works, passed-ready}
 use Rattle.records.proofs.Works.{stop-not}
+use Rattle.records.proofs.Doing.{working-same, working-stopped, working-at, working-is}
 use Rattle.normalize.specs.Normalize.{flatten}
 use Rattle.wordeq.specs.declared.Rest.{Rest}
 use Rattle.wordeq.specs.Wordeq.{same, fixed, lettersOf, letters, variables, rest}
@@ -138,18 +140,18 @@ module _ (m : Lent) (c : State) where
   says-read l r o w = sym (fitted-on o read whole (sideFit whole l r) (w ∙ ap (ok read) (fit-read l r)))
 
   module _ (l r : List ℕ) (b : Bool) (i : b ≡ isForced read l r) where
-    pub sides-left : b ≡ true → (o : Forced) → fitted o read ≡ ok read (sideFit read l r) → Working (sidesFit l r) m m c (fitted o whole)
+    pub sides-left : Ready m c → b ≡ true → (o : Forced) → fitted o read ≡ ok read (sideFit read l r) → Working (sidesFit l r) m m c (fitted o whole)
     unfolding sidesFit
-    sides-left h o w = record { says = rw (sym (form-read l r) ∙ sym i ∙ h) (says-read l r o w); kept = refl }
+    sides-left ready h o w = working-at (says-read l r o w) (working-same ready (rw (sym (form-read l r) ∙ sym i ∙ h)))
 
     module _ (h : b ≡ false) (x : Bool) (j : x ≡ isForced read r l) where
-      pub sides-right : x ≡ true → (o : Forced) → fitted o read ≡ ok read (sideFit read r l) → Working (sidesFit l r) m m c (fitted o whole)
+      pub sides-right : Ready m c → x ≡ true → (o : Forced) → fitted o read ≡ ok read (sideFit read r l) → Working (sidesFit l r) m m c (fitted o whole)
       unfolding sidesFit
-      sides-right q o w = record { says = rw (sym (form-read l r) ∙ sym i ∙ h, sym (form-read r l) ∙ sym j ∙ q) (says-read r l o w); kept = refl }
+      sides-right ready q o w = working-at (says-read r l o w) (working-same ready (rw (sym (form-read l r) ∙ sym i ∙ h, sym (form-read r l) ∙ sym j ∙ q)))
 
       pub sides-none : x ≡ false → Working (sidesFit l r) m m c (stop 11)
       unfolding sidesFit
-      sides-none q = record { says = rw (sym (form-read l r) ∙ sym i ∙ h, sym (form-read r l) ∙ sym j ∙ q); kept = refl }
+      sides-none q = working-stopped (rw (sym (form-read l r) ∙ sym i ∙ h, sym (form-read r l) ∙ sym j ∙ q)) refl
 
   -- STRIPPED
 
@@ -173,10 +175,7 @@ module _ (m : Lent) (c : State) where
   pub stripped : (l r : List ℕ) (x : Rest) → Finds read l r x → {o : Out Fit}
       → Working (sidesFit (part l (x .from) (x .lhs)) (part r (x .from) (x .rhs))) m m c o → Working (residualFit l r) m m c o
   unfolding residualFit
-  stripped l r x f w = record {
-    says = ap (λ (v : List ℕ × List ℕ). sidesFit (v .0) (v .1) whole) (rest-read m c l r ∙ f .is) ∙ w .says;
-    kept = w .kept;
-  }
+  stripped l r x f w = working-is (ap (λ (v : List ℕ × List ℕ). sidesFit (v .0) (v .1) whole) (rest-read m c l r ∙ f .is)) w
 
   -- FLATTENED
 
@@ -186,16 +185,16 @@ module _ (m : Lent) (c : State) where
 
     pub left-passes : flatten l whole ≡ stop 6 → Working (forcedLength l r) m m c (stop 6)
     unfolding forcedLength
-    left-passes e = record { says = ap (andThen onward) e; kept = refl }
+    left-passes e = working-stopped (ap (andThen onward) e) refl
 
     module _ (l₁ : List ℕ) (e : flatten l whole ≡ ok whole l₁) where
       pub right-passes : flatten r whole ≡ stop 6 → Working (forcedLength l r) m m c (stop 6)
       unfolding forcedLength
-      right-passes f = record { says = ap (andThen onward) e ∙ ap (andThen (λ r₁. residualFit l₁ r₁)) f; kept = refl }
+      right-passes f = working-stopped (ap (andThen onward) e ∙ ap (andThen (λ r₁. residualFit l₁ r₁)) f) refl
 
       pub flat-done : (r₁ : List ℕ) → flatten r whole ≡ ok whole r₁ → {o : Out Fit} → Working (residualFit l₁ r₁) m m c o → Working (forcedLength l r) m m c o
       unfolding forcedLength
-      flat-done r₁ f w = record { says = ap (andThen onward) e ∙ ap (andThen (λ r₂. residualFit l₁ r₂)) f ∙ w .says; kept = w .kept }
+      flat-done r₁ f w = working-is (ap (andThen onward) e ∙ ap (andThen (λ r₂. residualFit l₁ r₂)) f) w
 
 -- THE CALL
 

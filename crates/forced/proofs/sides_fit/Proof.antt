@@ -23,7 +23,7 @@ sides-fit-spec =
     (λ c.
     let at-start = c .before .before .before .before .before .before .before .before .before .before in
     sides-left (lent (at-start .args .terms .now) (at-start .args .cells .now) (at-start .args .chars .now) (at-start .args .reasons .now) (at-start .args .keys .now))
-    (at-start .args .c) (at-start .args .lhs .now) (at-start .args .rhs .now) _ (c .before .before .is-forced .ensures) (c .before .if1 .taken) (c .side-fit .result)
+    (at-start .args .c) (at-start .args .lhs .now) (at-start .args .rhs .now) _ (c .before .before .is-forced .ensures) (at-start .pre .0) (c .before .if1 .taken) (c .side-fit .result)
     (c .side-fit .ensures))
     -- is-forced-requires-2
     (λ c κs.
@@ -42,7 +42,7 @@ sides-fit-spec =
     let at-start = at-is-forced .before .before .before .before .before .before .before .before in
     sides-right (lent (at-start .args .terms .now) (at-start .args .cells .now) (at-start .args .chars .now) (at-start .args .reasons .now) (at-start .args .keys .now))
     (at-start .args .c) (at-start .args .lhs .now) (at-start .args .rhs .now) _ (at-is-forced .is-forced .ensures) (at-if1 .if1 .left) _
-    (c .before .before .is-forced2 .ensures) (c .before .if2 .taken) (c .side-fit2 .result) (c .side-fit2 .ensures))
+    (c .before .before .is-forced2 .ensures) (at-start .pre .0) (c .before .if2 .taken) (c .side-fit2 .result) (c .side-fit2 .ensures))
     -- returns-3
     (λ c.
     let at-is-forced = c .before .before .before in

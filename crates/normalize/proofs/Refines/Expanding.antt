@@ -18,11 +18,13 @@ use Rattle.records.specs.Lists.{if_then_else_, all, any, isIn, none-left, and}
 use Rattle.records.specs.Store.{Term, Store, Out, ok, stop, Work, andThen, give, count, termIn, isString}
 use Rattle.records.specs.View.{Lent, storeOf, termLimit}
 use Rattle.records.specs.Working.Audited.{Ready}
-use Rattle.records.specs.Calls.{Working}
+use Rattle.records.specs.Working.Doing.{Working}
 use Rattle.records.proofs.Lists.{decide, left-false, all-every, every-all, every-at, table-at, within-high}
 use Rattle.records.proofs.Works.{via}
 use Rattle.records.proofs.Grown.{string-term, Strings, strings-later}
 use Rattle.records.proofs.Climbs.{view-count}
+use Rattle.records.proofs.Doing.{working-at}
+use Rattle.records.proofs.Sequence.{working-stop}
 use Rattle.normalize.specs.declared.Form.{Form}
 use Rattle.normalize.specs.declared.Form.the-variants as form
 use Rattle.normalize.specs.declared.DeepForm.{DeepForm}
@@ -36,7 +38,7 @@ use Rattle.normalize.specs.Working.Deeps.{opensIn, Met, RoundOf, expandA
 use Rattle.normalize.proofs.Rewritten.{Rewritten}
 use Rattle.normalize.proofs.Formed.{form-ends}
 use Rattle.normalize.proofs.Deep.{expand-ends}
-use Rattle.normalize.proofs.Carried.{Carried, carried-none, carried-ready, carried-kept, carried-then}
+use Rattle.normalize.proofs.Carried.{Carried, carried-none, carried-kept, carried-then, ready-for, working-left}
 use Rattle.normalize.proofs.Candidates.{candidates-later}
 use Rattle.normalize.proofs.Refines.Words.{words-length, words-none, words-put}
 
@@ -59,12 +61,16 @@ module _ {m m′ : Lent} {c : State} (ready : Ready m c) (known table : List ℕ
   abbrev so : List ℕ
   so = firstWords next j
 
-  form-says : (y : Form) → x ≡ y → normalForm known a s ≡ formed y m′ list
-  form-says y e = w .says ∙ ap (λ (z : Form). formed z m′ list) e
+  form-is : (y : Form) → x ≡ y → Working (normalForm known a) m m′ c (formed y m′ list)
+  form-is y e = working-at (ap (λ (z : Form). formed z m′ list) e) w
+
+  -- after the list so far, where it is not too long
+  rest : List ℕ → Work (Option (List ℕ))
+  rest f = if ltb deepLimit (length (so ++ f)) then give none else give (some (so ++ f))
 
   pub form-short : (n : ℕ) (d : State) → x ≡ form.List n d → n ≤ listLimit
   form-short n d e =
-      let f = form-ends known a s (ready .audited) (all-every (isString s) known (k .strings)) i .given (storeOf m′ d) (firstWords list n) (form-says (form.List n d) e) in
+      let f = form-ends known a s (ready .audited) (all-every (isString s) known (k .strings)) i .given (storeOf m′ d) (firstWords list n) (form-is (form.List n d) e .says) in
       let l = f .long in
       let z = words-length list n in omega arith
 
@@ -72,27 +78,20 @@ module _ {m m′ : Lent} {c : State} (ready : Ready m c) (known table : List ℕ
   long-is n = length-append so (firstWords list n) ∙ (let p = words-length next j in let q = words-length list n in omega arith)
 
   pub atom-none : (n : ℕ) (d : State) → x ≡ form.List n d → deepLimit < j + n → Working (expandAtom known a so) m m′ c (ok (storeOf m′ d) none)
-  unfolding expandAtom
-  atom-none n d e h = record {
-    says = ap (andThen (λ (f : List ℕ). if ltb deepLimit (length (so ++ f)) then give none else give (some (so ++ f)))) (form-says (form.List n d) e)
-        ∙ rw (lt-ltb deepLimit (length (so ++ firstWords list n)) (let z = long-is n in omega arith));
-    kept = w .kept;
-  }
+  unfolding expandAtom rest
+  atom-none n d e h =
+      let v = form-is (form.List n d) e in
+      working-left (v .ready d _ refl) (ap (andThen rest) (v .says) ∙ rw (lt-ltb deepLimit (length (so ++ firstWords list n)) (let z = long-is n in omega arith))) (v .kept)
 
   pub atom-some : (n : ℕ) (d : State) (next′ : List ℕ) → x ≡ form.List n d → j + n ≤ deepLimit → firstWords next′ (j + n) ≡ so ++ firstWords list n → Working (expandAtom known a so) m m′ c (ok (storeOf m′ d) (some (firstWords next′ (j + n))))
-  unfolding expandAtom
-  atom-some n d next′ e h q = record {
-    says = ap (andThen (λ (f : List ℕ). if ltb deepLimit (length (so ++ f)) then give none else give (some (so ++ f)))) (form-says (form.List n d) e)
-        ∙ rw (le-ltb deepLimit (length (so ++ firstWords list n)) (let z = long-is n in omega arith), q);
-    kept = w .kept;
-  }
+  unfolding expandAtom rest
+  atom-some n d next′ e h q =
+      let v = form-is (form.List n d) e in
+      working-left (v .ready d _ refl) (ap (andThen rest) (v .says) ∙ rw (le-ltb deepLimit (length (so ++ firstWords list n)) (let z = long-is n in omega arith), q)) (v .kept)
 
   pub atom-stopped : (n : ℕ) → x ≡ form.Refused n → Working (expandAtom known a so) m m′ c (stop n)
-  unfolding expandAtom
-  atom-stopped n e = record {
-    says = ap (andThen (λ (f : List ℕ). if ltb deepLimit (length (so ++ f)) then give none else give (some (so ++ f)))) (form-says (form.Refused n) e);
-    kept = w .kept;
-  }
+  unfolding expandAtom rest
+  atom-stopped n e = working-stop rest (form-is (form.Refused n) e)
 
 -- what it answers has 256 atoms at most
 atom-length : (known : List ℕ) (a : ℕ) (l : List ℕ) (s s′ : Store) (l′ : List ℕ) → expandAtom known a l s ≡ ok s′ (some l′) → length l′ ≤ deepLimit
@@ -168,6 +167,7 @@ module _ {m : Lent} {c : State} (ready : Ready m c) (known : List ℕ) (t a : �
   pub one-plain : not b ≡ true → k < length next → Expands known t (a ∷ []) next k table m m c (set next k a) table (deep.List (k + 1) c)
   one-plain h l = record {
     kept = refl;
+    ready = ready-for ready;
     is = λ met q. record {
       met = met;
       is = expand-plain known t a st (record { list = firstWords next k; met = met }) (sym e ∙ not-true b h)
@@ -186,6 +186,7 @@ module _ {m : Lent} {c : State} (ready : Ready m c) (known : List ℕ) (t a : �
     pub one-again : getD table a 0 ≡ 1 → Expands known t (a ∷ []) next k table m m c next table (deep.None c)
     one-again d = record {
       kept = refl;
+      ready = ready-for ready;
       is = λ met q. record {
         met = [];
         is = expand-again known t a st (record { list = firstWords next k; met = met }) opened (met-is met q ∙ eq-eqb (getD table a 0) 1 d);
@@ -196,6 +197,7 @@ module _ {m : Lent} {c : State} (ready : Ready m c) (known : List ℕ) (t a : �
     pub one-opened : (getD table a 0 ≡ 1 → ⊥) → {m′ : Lent} (x : DeepForm) (next′ : List ℕ) → Working (expandAtom known a (firstWords next k)) m m′ c (deepened x m′ next′) → Expands known t (a ∷ []) next k table m m′ c next′ (set table a 1) x
     one-opened d {m′} x next′ w = record {
       kept = w .kept;
+      ready = w .ready;
       is = λ met q. record {
         met = a ∷ met;
         is = expand-open known t a st (record { list = firstWords next k; met = met }) opened (met-is met q ∙ ne-eqb (getD table a 0) 1 d) ∙ ap (andThen (asRound known t a st (a ∷ met))) (w .says) ∙ turned met x;
@@ -285,16 +287,13 @@ walking-none {m} {c} known t l next table r = record {
 }
 
 module _ (list : List ℕ) (count′ : ℕ) {known : List ℕ} {t : ℕ} {next₀ table₀ : List ℕ} {m₀ m : Lent} {c d : State} {next : List ℕ} {k : ℕ} {table : List ℕ} {i : ℕ}
-    (g : Walking known t (firstWords list count′) next₀ table₀ m₀ c m d next k table i) (ready : Ready m₀ c) (nodes : List ℕ) (cs : Candidates (storeOf m₀ c) known nodes)
+    (g : Walking known t (firstWords list count′) next₀ table₀ m₀ c m d next k table i) (nodes : List ℕ) (cs : Candidates (storeOf m₀ c) known nodes)
     (o : RoundOf (storeOf m₀ c) list count′ table₀ next₀) (h : i < count′) where
   abbrev sw : Store
   sw = storeOf m d
 
   abbrev at : ℕ
   at = getD list i 0
-
-  pub walk-ready : Ready m d
-  walk-ready = carried-ready (g .carried) ready
 
   pub walk-candidates : Candidates sw known nodes
   walk-candidates = candidates-later cs (g .carried .later)
@@ -314,7 +313,7 @@ module _ (list : List ℕ) (count′ : ℕ) {known : List ℕ} {t : ℕ} {next�
   pub walk-low : k < 2 * deepLimit
   walk-low = let l = g .low in let s = o .short in omega arith
 
-  module _ {m′ : Lent} (next′ table′ : List ℕ) (x : DeepForm) (p : length (m′ .terms) ≡ length (m .terms)) (q : length (m′ .cells) ≡ length (m .cells)) (w : Expands known t (at ∷ []) next k table m m′ d next′ table′ x) where
+  module _ {m′ : Lent} (next′ table′ : List ℕ) (x : DeepForm) (w : Expands known t (at ∷ []) next k table m m′ d next′ table′ x) where
     one : (met : List ℕ) (z : Met table₀ met) → ExpandedTo (expand known t (at ∷ []) (record { list = firstWords next k; met = g .rest met z .now }) sw) m′ next′ table′ x
     one met z = w .is (g .rest met z .now) (g .rest met z .tells)
 
@@ -339,39 +338,28 @@ module _ (list : List ℕ) (count′ : ℕ) {known : List ℕ} {t : ℕ} {next�
 
       pub walking-turn : Walking known t (firstWords list count′) next₀ table₀ m₀ c m′ d′ next′ n table′ (i + 1)
       walking-turn = record {
-        carried = carried-then (g .carried) m′ d′ (w .kept) (rewritten .later) p q;
+        carried = carried-then (g .carried) m′ d′ (w .kept) (rewritten .later);
         out = rewritten .strings;
         low = (let l = expand-short known t at (record { list = firstWords next k; met = g .rest (o .told .met) (o .told .is) .now }) sw (storeOf m′ d′) (record { list = firstWords next′ n; met = one (o .told .met) (o .told .is) .met }) (deepLimit + i) first-says (let y = words-length next k in let z = g .low in omega arith) (omega arith) in
             let y = words-length next′ n in omega arith);
         rest = λ met z. record { now = one met z .met; tells = one met z .tells n d′ e; is = rw add-one (rest-says met z (deep.List n d′) e) };
       }
 
-    walking-none-met : (d′ : State) → x ≡ deep.None d′ → Expands known t (firstWords list count′) next₀ 0 table₀ m₀ m′ c next′ table′ (deep.None d′)
-    walking-none-met d′ e = record {
-      kept = carried-kept (g .carried) m′ (w .kept);
-      is = λ met z. record { met = []; is = sym (rest-says met z (deep.None d′) e); tells = λ n f y. no-list y };
-    }
-
-    walking-stopped : (j : ℕ) → x ≡ deep.Refused j → Expands known t (firstWords list count′) next₀ 0 table₀ m₀ m′ c next′ table′ (deep.Refused j)
-    walking-stopped j e = record {
-      kept = carried-kept (g .carried) m′ (w .kept);
-      is = λ met z. record { met = []; is = sym (rest-says met z (deep.Refused j) e); tells = λ n f y. no-refusal y };
-    }
-
     -- an answer that is no list ends the loop
     pub walking-ended : OneOf (1 ∷ 2 ∷ []) (tagOf the-type x) → Expands known t (firstWords list count′) next₀ 0 table₀ m₀ m′ c next′ table′ x
-    walking-ended k = go x refl k
+    walking-ended k = record { kept = carried-kept (g .carried) m′ (w .kept); ready = w .ready; is = λ met z. go met z x refl k }
       where
-        go : (y : DeepForm) → x ≡ y → OneOf (1 ∷ 2 ∷ []) (tagOf the-type y) → Expands known t (firstWords list count′) next₀ 0 table₀ m₀ m′ c next′ table′ y
-        go (deep.List n d′) e k = ⊎-elim (λ (z : _≡_ {A = ℕ} 0 1). absurd (omega arith)) (λ (z : _≡_ {A = ℕ} 0 2). absurd (omega arith)) k
-        go (deep.None d′) e k = walking-none-met d′ e
-        go (deep.Refused j) e k = walking-stopped j e
+        go : (met : List ℕ) → Met table₀ met → (y : DeepForm) → x ≡ y → OneOf (1 ∷ 2 ∷ []) (tagOf the-type y) → ExpandedTo (expand known t (firstWords list count′) (record { list = firstWords next₀ 0; met = met }) (storeOf m₀ c)) m′ next′ table′ y
+        go met z (deep.List n d′) e k = ⊎-elim (λ (u : _≡_ {A = ℕ} 0 1). absurd (omega arith)) (λ (u : _≡_ {A = ℕ} 0 2). absurd (omega arith)) k
+        go met z (deep.None d′) e k = record { met = []; is = sym (rest-says met z (deep.None d′) e); tells = λ n f y. no-list y }
+        go met z (deep.Refused j) e k = record { met = []; is = sym (rest-says met z (deep.Refused j) e); tells = λ n f y. no-refusal y }
 
 pub walking-done : (list : List ℕ) (n : ℕ) {known : List ℕ} {t : ℕ} {next₀ table₀ : List ℕ} {m₀ m : Lent} {c d : State} {next : List ℕ} {k : ℕ} {table : List ℕ} {i : ℕ}
     → Walking known t (firstWords list n) next₀ table₀ m₀ c m d next k table i → n ≤ i → Expands known t (firstWords list n) next₀ 0 table₀ m₀ m c next table (deep.List k d)
 unfolding expand
 walking-done list n {i = i} g h = record {
   kept = g .carried .kept;
+  ready = ready-for (g .carried .ready);
   is = λ met z. record {
     met = g .rest met z .now;
     is = sym (rw (drop-of-length-le (firstWords list n) {i = i} (let y = words-length list n in omega arith)) at (g .rest met z .is));
@@ -381,8 +369,11 @@ walking-done list n {i = i} g h = record {
 
 -- A ROUND'S LIST
 
+pub expanded-ready : {known : List ℕ} {t : ℕ} {l next : List ℕ} {j : ℕ} {table : List ℕ} {m m′ : Lent} {c : State} {next′ table′ : List ℕ} {x : DeepForm} → Expands known t l next j table m m′ c next′ table′ x → {k : ℕ} {d : State} → x ≡ deep.List k d → Ready m′ d
+expanded-ready {m′ = m′} {next′ = next′} w {k} {d} e = w .ready d (some (firstWords next′ k)) (ap (λ (u : DeepForm). deepened u m′ next′) e)
+
 module _ {m m′ : Lent} {c : State} (ready : Ready m c) (known nodes : List ℕ) (cs : Candidates (storeOf m c) known nodes) (t : ℕ) {list next table next′ table′ : List ℕ} {n : ℕ} (o : RoundOf (storeOf m c) list n table next)
-    (p : length (m′ .terms) ≡ length (m .terms)) (q : length (m′ .cells) ≡ length (m .cells)) (x : DeepForm) (w : Expands known t (firstWords list n) next 0 table m m′ c next′ table′ x) (k : ℕ) (d : State) (e : x ≡ deep.List k d) where
+    (x : DeepForm) (w : Expands known t (firstWords list n) next 0 table m m′ c next′ table′ x) (k : ℕ) (d : State) (e : x ≡ deep.List k d) where
   witness : ExpandedTo (expand known t (firstWords list n) (record { list = firstWords next 0; met = o .told .met }) (storeOf m c)) m′ next′ table′ x
   witness = w .is (o .told .met) (o .told .is)
 
@@ -395,7 +386,7 @@ module _ {m m′ : Lent} {c : State} (ready : Ready m c) (known nodes : List ℕ
       (all-every (isString (storeOf m c)) _ (o .strings)) (subst (Strings (storeOf m c)) (sym (words-none next)) none-left) .given (storeOf m′ d) (some (record { list = firstWords next′ k; met = witness .met })) says
 
   pub round-carried : Carried m c m′ d
-  round-carried = carried-then (carried-none ready) m′ d (w .kept) (list-ends .later) p q
+  round-carried = carried-then (carried-none ready) m′ d (w .kept) (list-ends .later)
 
   pub round-strings : all (isString (storeOf m′ d)) (firstWords next′ k) ≡ true
   round-strings = every-all (list-ends .strings)

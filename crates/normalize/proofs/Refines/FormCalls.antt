@@ -12,7 +12,8 @@ use Rattle.records.specs.Store.{Store, Out, stop, Work, isString}
 use Rattle.records.specs.View.{Lent, storeOf}
 use Rattle.records.specs.Rules.{audit, listLimit, isList}
 use Rattle.records.specs.Working.Audited.{Ready}
-use Rattle.records.specs.Calls.{Public, call, Working}
+use Rattle.records.specs.Calls.{Public, call}
+use Rattle.records.specs.Working.Doing.{Working}
 use Rattle.records.proofs.Lists.{left-false, and-next}
 use Rattle.records.proofs.Public.{call-unready, call-unfit, call-works, passed-ready}
 use Rattle.records.proofs.Works.{stop-not}

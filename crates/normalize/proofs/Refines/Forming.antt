@@ -12,19 +12,22 @@ use Rattle.records.specs.Lists.{all, concatMap, Every, none-left, and}
 use Rattle.records.specs.Store.{Store, ok, stop, andThen, _>>=_, give, kind, count, within, rootIn, isString}
 use Rattle.records.specs.View.{Lent, storeOf, termsView, termLimit}
 use Rattle.records.specs.Working.Audited.{Ready}
-use Rattle.records.specs.Calls.{Working}
-use Rattle.records.proofs.Lists.{both-left, both-right, both-true, all-append, all-every, every-all, every-map, within-low, within-high}
+use Rattle.records.specs.Working.Doing.{Working}
+use Rattle.records.proofs.Lists.{both-right, both-true, all-append, all-every, every-all, every-map, within-low, within-high}
 use Rattle.records.proofs.Grown.{string-term}
 use Rattle.records.proofs.Climbs.{root-term, view-count, term-within, ready-roots}
+use Rattle.records.proofs.Doing.{working-stopped, working-is}
+use Rattle.records.proofs.Sequence.{working-stop}
 use Rattle.normalize.specs.declared.Form.{Form}
 use Rattle.normalize.specs.declared.Form.the-variants as form
 use Rattle.normalize.specs.Normalize.{atoms, pushForms, normalForm, formArguments}
 use Rattle.records.specs.Rules.{listLimit, isList}
-use Rattle.normalize.specs.Working.Flat.{bare, Nested, Appended}
+use Rattle.normalize.specs.Working.Flat.{bare, Appended}
 use Rattle.normalize.specs.Working.Nodes.{NodeOf, withNodes, Rooting}
 use Rattle.normalize.specs.Working.Pushes.{pushed, Candidates}
 use Rattle.normalize.specs.Calls.{firstWords, formed}
-use Rattle.normalize.proofs.Atoms.{same-atoms, atoms-plain, recorded-nested, atoms-strings, flatten-fits, flatten-full}
+use Rattle.normalize.proofs.Atoms.{same-atoms, atoms-plain, atoms-strings, flatten-fits, flatten-full}
+use Rattle.normalize.proofs.Carried.{working-left}
 use Rattle.normalize.proofs.FormReady.{known-list}
 use Rattle.normalize.proofs.Represents.{nodes-more, nodes-none}
 
@@ -69,15 +72,12 @@ module _ {m : Lent} {c : State} (ready : Ready m c) where
   -- from the atoms on, where they are within the limit
   atoms-done : {m′ : Lent} (known : List ℕ) (t : ℕ) (flat list : List ℕ) (x : Form) → concatMap (atoms s) (t ∷ []) ≡ flat → length flat ≤ listLimit → Working (pushForms (known ++ flat) flat []) m m′ c (pushed x m′ list) → Working (normalForm known t) m m′ c (formed x m′ list)
   unfolding normalForm
-  atoms-done {m′} known t flat list x e h w = record {
-    says = ap (andThen (λ l. pushForms (known ++ l) l [] >>= (λ out. give (reverse out)))) (flatten-fits (t ∷ []) s (let k = ap length e in omega arith) ∙ ap (λ (l : List ℕ). ok s l) e)
-        ∙ ap (andThen (λ out. give (reverse out))) (w .says) ∙ turned x;
-    kept = w .kept;
-  }
+  atoms-done {m′} known t flat list x e h w =
+      working-is (ap (andThen (λ l. pushForms (known ++ l) l [] >>= (λ out. give (reverse out)))) (flatten-fits (t ∷ []) s (let k = ap length e in omega arith) ∙ ap (λ (l : List ℕ). ok s l) e)) (turned x w)
     where
-      turned : (y : Form) → andThen (λ out. give (reverse out)) (pushed y m′ list) ≡ formed y m′ list
-      turned (form.List k d) = ap (λ (z : List ℕ). ok (storeOf m′ d) z) (reverse-reverse (firstWords list k))
-      turned (form.Refused k) = refl
+      turned : (y : Form) → Working (pushForms (known ++ flat) flat []) m m′ c (pushed y m′ list) → Working (pushForms (known ++ flat) flat [] >>= (λ out. give (reverse out))) m m′ c (formed y m′ list)
+      turned (form.List k d) v = working-left (v .ready d _ refl) (ap (andThen (λ out. give (reverse out))) (v .says) ∙ ap (λ (z : List ℕ). ok (storeOf m′ d) z) (reverse-reverse (firstWords list k))) (v .kept)
+      turned (form.Refused k) v = working-stop (λ out. give (reverse out)) v
 
   -- a term that is no concatenation
   pub one-string : (t : ℕ) → isString s t ≡ true → all (isString s) (t ∷ []) ≡ true
@@ -98,7 +98,7 @@ module _ {m : Lent} {c : State} (ready : Ready m c) where
     form-passes h known =
         let e = ap length atoms-are in
         let p = a .passes h in
-        record { says = ap (andThen (λ flat. pushForms (known ++ flat) flat [] >>= (λ out. give (reverse out)))) (flatten-full (t ∷ []) s (omega arith)); kept = refl }
+        working-stopped (ap (andThen (λ flat. pushForms (known ++ flat) flat [] >>= (λ out. give (reverse out)))) (flatten-full (t ∷ []) s (omega arith))) refl
 
     module _ (h : n ≤ listLimit) where
       flat-is : concatMap (atoms s) (t ∷ []) ≡ take n l′

@@ -3,13 +3,14 @@ use mathlib.Core.Path.{_≡_, refl, sym, ap, _∙_}
 use mathlib.Core.List.{List, [], _∷_, reverse}
 use Prim.Native.Nat.{ℕ, _+_, _≤_}
 use native.Mathlib.Omega.{arith}
-use lib.ListN.{length, length-reverse}
+use lib.ListN.{length-reverse}
 use Rattle.records.specs.declared.State.{State}
 use Rattle.records.specs.Lists.{table, none-left}
 use Rattle.records.specs.Store.{ok, stop, Work, andThen}
 use Rattle.records.specs.View.{Lent, storeOf}
 use Rattle.records.specs.Working.Audited.{Ready}
-use Rattle.records.specs.Calls.{Working}
+use Rattle.records.specs.Working.Doing.{Working}
+use Rattle.records.proofs.Doing.{working-stopped}
 use Rattle.records.proofs.Grown.{Strings}
 use Rattle.normalize.specs.declared.Form.{Form}
 use Rattle.normalize.specs.declared.Form.the-variants as form
@@ -17,7 +18,7 @@ use Rattle.normalize.specs.Working.Pushes.{pushed}
 use Rattle.normalize.specs.Calls.{firstWords}
 use Rattle.normalize.proofs.Ends.{Ends}
 use Rattle.normalize.proofs.Formed.{Pushed}
-use Rattle.normalize.proofs.Carried.{Carried, carried-none, carried-kept, carried-then}
+use Rattle.normalize.proofs.Carried.{Carried, carried-none, carried-kept, carried-then, working-left}
 use Rattle.normalize.proofs.Refines.Words.{words-length}
 
 -- the work that is left after i turns and a list, which stands last atom first
@@ -37,12 +38,12 @@ module _ (left : ℕ → List ℕ → Work (List ℕ)) where
     so = reverse (firstWords out k)
 
     pub heaping-end : left i so (storeOf m d) ≡ ok (storeOf m d) so → Working (left 0 []) m₀ m c (ok (storeOf m d) so)
-    heaping-end z = record { says = sym (g .rest) ∙ z; kept = g .carried .kept }
+    heaping-end z = working-left (g .carried .ready) (sym (g .rest) ∙ z) (g .carried .kept)
 
     -- the work of turn i, by which the atom a is pushed
     module _ (one : Work (List ℕ)) (a : ℕ) (next : left i so (storeOf m d) ≡ andThen (left (i + 1)) (one (storeOf m d)))
         (ends : Ends (λ s′ out′. Pushed (storeOf m d) s′ (a ∷ []) so out′) (one (storeOf m d)))
-        {m′ : Lent} (out′ : List ℕ) (x : Form) (p : length (m′ .terms) ≡ length (m .terms)) (q : length (m′ .cells) ≡ length (m .cells)) (w : Working one m m′ d (pushed x m′ out′)) where
+        {m′ : Lent} (out′ : List ℕ) (x : Form) (w : Working one m m′ d (pushed x m′ out′)) where
       says : (y : Form) → x ≡ y → one (storeOf m d) ≡ pushed y m′ out′
       says y e = w .says ∙ ap (λ (v : Form). pushed v m′ out′) e
 
@@ -59,11 +60,11 @@ module _ (left : ℕ → List ℕ → Work (List ℕ)) where
           let v′ = words-length out k in
           let b = g .low in
           record {
-            carried = carried-then (g .carried) m′ d′ (w .kept) (f .list .later) p q;
+            carried = carried-then (g .carried) m′ d′ (w .kept) (f .list .later);
             strings = f .list .strings;
             rest = rest-is (form.List j d′) e;
             low = omega arith;
           }
 
       pub heaping-stopped : (j : ℕ) → x ≡ form.Refused j → Working (left 0 []) m₀ m′ c (stop j)
-      heaping-stopped j e = record { says = sym (rest-is (form.Refused j) e); kept = carried-kept (g .carried) m′ (w .kept) }
+      heaping-stopped j e = working-stopped (sym (rest-is (form.Refused j) e)) (carried-kept (g .carried) m′ (w .kept))

@@ -16,14 +16,18 @@ use Rattle.records.specs.Store.{Store, Term as TermOf, Out, ok, stop, Work, and
 use Rattle.records.specs.View.{Lent, storeOf, termsView, termAt}
 use Rattle.records.specs.Make.{makeConstant}
 use Rattle.records.specs.Working.Audited.{Ready}
-use Rattle.records.specs.Calls.{Working, made}
+use Rattle.records.specs.Calls.{made}
+use Rattle.records.specs.Working.Doing.{Working}
 use Rattle.records.proofs.Lists.{both-left, both-right, both-true, left-false, clash, decide, table-length, table-suc}
 use Rattle.records.proofs.Views.{second-at, text-span}
 use Rattle.records.proofs.Grown.{kind-term}
+use Rattle.records.proofs.Doing.{working-same, working-stopped, working-is}
+use Rattle.records.proofs.Sequence.{made-is, made-stops}
 use Rattle.normalize.specs.Normalize.{join, push}
 use Rattle.normalize.specs.Working.Flat.{bare}
 use Rattle.normalize.specs.Working.Pushes.{isEmptyIn, joinsIn}
 use Rattle.normalize.specs.Calls.{firstWords}
+use Rattle.normalize.proofs.Carried.{working-left}
 use Rattle.normalize.proofs.Refines.Words.{words-put}
 
 -- THE LIST IN THE SLICE, LAST ATOM FIRST
@@ -103,10 +107,10 @@ module _ {m : Lent} {c : State} (ready : Ready m c) (t n : ℕ) (l : List ℕ) (
   says o e = ap (λ (k : List ℕ). join t k (storeOf m c)) (last-first l n p) ∙ join-is (storeOf m c) t (getD l (n - 1) 0) _ split ∙ ap (andThen (λ (x : ℕ). give (x ∷ reverse (firstWords l (n - 1))))) e
 
   pub join-made : {m′ : Lent} (r : Made) (x : ℕ) (d : State) → Working w m m′ c (made r m′) → r ≡ Term x d → Working (join t (reverse (firstWords l n))) m m′ c (ok (storeOf m′ d) (reverse (firstWords (set l (n - 1) x) n)))
-  join-made {m′} r x d o e = record { says = rw (put-last l n x p q) (says _ (o .says ∙ ap (λ (k : Made). made k m′) e)); kept = o .kept }
+  join-made r x d o e = let u = made-is e o in working-left (u .ready d x refl) (rw (put-last l n x p q) (says _ (u .says))) (u .kept)
 
   pub join-stopped : {m′ : Lent} (r : Made) (k : ℕ) → Working w m m′ c (made r m′) → r ≡ Refused k → Working (join t (reverse (firstWords l n))) m m′ c (stop k)
-  join-stopped {m′} r k o e = record { says = says _ (o .says ∙ ap (λ (k : Made). made k m′) e); kept = o .kept }
+  join-stopped r k o e = working-stopped (says _ (made-stops e o .says)) (o .kept)
 
 -- PUSHING
 
@@ -125,7 +129,7 @@ module _ {m : Lent} {c : State} (ready : Ready m c) (t : ℕ) (out : List ℕ) w
 
   pub push-empty : (b : Bool) → b ≡ isEmptyIn (s .terms) t → b ≡ true → Working (push t out) m m c (ok s out)
   unfolding push
-  push-empty b e h = record { says = rw (sym empty-is ∙ sym e ∙ h); kept = refl }
+  push-empty b e h = working-same ready (rw (sym empty-is ∙ sym e ∙ h))
 
   module _ (b : Bool) (e : b ≡ isEmptyIn (s .terms) t) (h : b ≡ false) where
     push-join : push t out s ≡ join t out s
@@ -133,7 +137,7 @@ module _ {m : Lent} {c : State} (ready : Ready m c) (t : ℕ) (out : List ℕ) w
     push-join = rw (sym empty-is ∙ sym e ∙ h)
 
     pub push-joined : {m′ : Lent} {r : Out (List ℕ)} → Working (join t out) m m′ c r → Working (push t out) m m′ c r
-    push-joined o = record { says = push-join ∙ o .says; kept = o .kept }
+    push-joined o = working-is push-join o
 
     plain : (l : List ℕ) → joinsIn (s .terms) t l ≡ false → join t l s ≡ ok s (t ∷ l)
     unfolding join joinsIn
@@ -141,4 +145,4 @@ module _ {m : Lent} {c : State} (ready : Ready m c) (t : ℕ) (out : List ℕ) w
     plain (u ∷ l) q = rw q
 
     pub push-plain : (l : List ℕ) (n : ℕ) → out ≡ reverse (firstWords l n) → n < length l → (j : Bool) → j ≡ joinsIn (s .terms) t out → j ≡ false → Working (push t out) m m c (ok s (reverse (firstWords (set l n t) (n + 1))))
-    push-plain l n i h j q d = record { says = rw (put-next l n t h, ← i) (push-join ∙ plain out (sym q ∙ d)); kept = refl }
+    push-plain l n i h j q d = working-same ready (rw (put-next l n t h, ← i) (push-join ∙ plain out (sym q ∙ d)))

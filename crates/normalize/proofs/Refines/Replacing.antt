@@ -16,10 +16,13 @@ use Rattle.records.specs.Lists.{if_then_else_}
 use Rattle.records.specs.Store.{Store, Out, ok, stop, Work, andThen, _>>=_, give, within, classUp, isString}
 use Rattle.records.specs.View.{Lent, storeOf, termsView, termLimit}
 use Rattle.records.specs.Working.Audited.{Ready, Closed}
-use Rattle.records.specs.Calls.{Working, added}
+use Rattle.records.specs.Calls.{added}
+use Rattle.records.specs.Working.Doing.{Working}
 use Rattle.records.proofs.Lists.{both-left, both-right, both-true, every-at}
 use Rattle.records.proofs.Grown.{string-term, Strings, strings-later}
 use Rattle.records.proofs.Climbs.{view-count, term-within, ready-roots}
+use Rattle.records.proofs.Doing.{working-same, working-is, working-at}
+use Rattle.records.proofs.Sequence.{working-stop}
 use Rattle.engine.specs.Explain.{explain, explainArguments}
 use Rattle.normalize.specs.declared.Form.{Form}
 use Rattle.normalize.specs.declared.Form.the-variants as form
@@ -30,44 +33,44 @@ use Rattle.normalize.specs.Calls.{firstWords}
 use Rattle.normalize.proofs.Candidates.{later-strings, later-rep}
 use Rattle.normalize.proofs.Ends.{Ends}
 use Rattle.normalize.proofs.Formed.{Stands, representative-stands, replace-ends, atom-ends, Pushed}
-use Rattle.normalize.proofs.Carried.{Carried, carried-none, carried-ready, carried-kept, carried-then}
+use Rattle.normalize.proofs.Carried.{Carried, carried-none, carried-then, carried-on}
 use Rattle.normalize.proofs.Refines.Heaping.{Heaping, heaping-end, heaping-turn, heaping-stopped}
 
 -- CITING
 
-pub cite-same : {m : Lent} {c : State} (a r : ℕ) → r ≡ a → Working (cite a r) m m c (ok (storeOf m c) tt)
+pub cite-same : {m : Lent} {c : State} → Ready m c → (a r : ℕ) → r ≡ a → Working (cite a r) m m c (ok (storeOf m c) tt)
 unfolding cite
-cite-same a r e = record { says = rw (eq-eqb r a e); kept = refl }
+cite-same ready a r e = working-same ready (rw (eq-eqb r a e))
 
 pub cite-other : {m m′ : Lent} {c : State} (a r : ℕ) {o : Out (Unit {0})} → (r ≡ a → ⊥) → Working (explain a r) m m′ c o → Working (cite a r) m m′ c o
 unfolding cite
-cite-other a r d w = record { says = rw (ne-eqb r a d) (w .says); kept = w .kept }
+cite-other a r d w = working-is (rw (ne-eqb r a d)) w
 
-module _ {m m′ : Lent} {c : State} (ready : Ready m c) (a r : ℕ) (x : Added) (args : explainArguments a r (storeOf m c) ≡ true) (p : length (m′ .terms) ≡ length (m .terms)) (q : length (m′ .cells) ≡ length (m .cells)) (w : Working (cite a r) m m′ c (added x m′)) where
+module _ {m m′ : Lent} {c : State} (ready : Ready m c) (a r : ℕ) (x : Added) (args : explainArguments a r (storeOf m c) ≡ true) (w : Working (cite a r) m m′ c (added x m′)) where
   abbrev s : Store
   s = storeOf m c
 
-  says : (y : Added) → x ≡ y → cite a r s ≡ added y m′
-  says y e = w .says ∙ ap (λ (z : Added). added z m′) e
+  cited : (y : Added) → x ≡ y → Working (cite a r) m m′ c (added y m′)
+  cited y e = working-at (ap (λ (z : Added). added z m′) e) w
 
   cited-carried : (d : State) → x ≡ Counts d → Carried m c m′ d
   unfolding cite
   cited-carried d e =
       let b = both-left (isString s a && isString s r) _ args in
       let st : Stands s a r = record { string = both-right (isString s a) _ b; class = both-right (isString s a && isString s r) _ args } in
-      let h = replace-ends a r s (ready .audited) (both-left (isString s a) _ b) st .given (storeOf m′ d) tt (says (Counts d) e) in
-      carried-then (carried-none ready) m′ d (w .kept) (h .later) p q
+      let h = replace-ends a r s (ready .audited) (both-left (isString s a) _ b) st .given (storeOf m′ d) tt (cited (Counts d) e .says) in
+      carried-then (carried-none ready) m′ d (w .kept) (h .later)
 
   pub cited-ready : (d : State) → x ≡ Counts d → Ready m′ d
-  cited-ready d e = carried-ready (cited-carried d e) ready
+  cited-ready d e = cited (Counts d) e .ready d tt refl
 
   pub push-for-done : (d : State) (out : List ℕ) {m″ : Lent} {o : Out (List ℕ)} → x ≡ Counts d → Working (push r out) m′ m″ d o → Working (pushFor a r out) m m″ c o
   unfolding pushFor
-  push-for-done d out {m″} e v = record { says = ap (andThen (λ (u : Unit {0}). push r out)) (says (Counts d) e) ∙ v .says; kept = carried-kept (cited-carried d e) m″ (v .kept) }
+  push-for-done d out e v = carried-on (cited-carried d e) (λ u. push r out) (cited (Counts d) e) v
 
   pub push-for-stopped : (k : ℕ) (out : List ℕ) → x ≡ Refused k → Working (pushFor a r out) m m′ c (stop k)
   unfolding pushFor
-  push-for-stopped k out e = record { says = ap (andThen (λ (u : Unit {0}). push r out)) (says (Refused k) e); kept = w .kept }
+  push-for-stopped k out e = working-stop (λ u. push r out) (cited (Refused k) e)
 
 -- THE LOOP
 
@@ -84,7 +87,7 @@ for-is cs a out s = go ((if eqb (representative s cs a) a then give tt else expl
 abbrev pub formsLeft : List ℕ → List ℕ → ℕ → List ℕ → Work (List ℕ)
 formsLeft cs flat i out = pushForms cs (drop i flat) out
 
-module _ {m₀ m : Lent} {c d : State} {cs flat list : List ℕ} {count i : ℕ} (g : Heaping (formsLeft cs flat) m₀ c m d list count i) (ready : Ready m₀ c) (table : List ℕ) (k : Candidates (storeOf m₀ c) cs table)
+module _ {m₀ m : Lent} {c d : State} {cs flat list : List ℕ} {count i : ℕ} (g : Heaping (formsLeft cs flat) m₀ c m d list count i) (table : List ℕ) (k : Candidates (storeOf m₀ c) cs table)
     (atoms : Strings (storeOf m₀ c) flat) (h : i < length flat) where
   abbrev st : Store
   st = storeOf m d
@@ -95,18 +98,15 @@ module _ {m₀ m : Lent} {c d : State} {cs flat list : List ℕ} {count i : ℕ}
   abbrev out : List ℕ
   out = reverse (firstWords list count)
 
-  pub now-ready : Ready m d
-  now-ready = carried-ready (g .carried) ready
-
   string : isString st a ≡ true
   string = every-at flat i 0 (strings-later (g .carried .later .grown) atoms) h
 
   pub rep-requires : (d .terms ≤ termLimit) × ((within (d .terms) a ≡ true) × Closed (classUp (termsView (m .terms) (d .terms))) (d .terms))
-  rep-requires = (now-ready .sized .termLimited, (term-within m d a (string-term st a string), ready-roots m d (now-ready .audited .classed)))
+  rep-requires = (g .carried .ready .sized .termLimited, (term-within m d a (string-term st a string), ready-roots m d (g .carried .ready .audited .classed)))
 
   module _ (r : ℕ) (e : r ≡ nodeAt (termsView (m .terms) (d .terms)) table a) where
     rep-is : r ≡ representative st cs a
-    rep-is = e ∙ later-rep k (g .carried .later) a string (let z = view-count (m .terms) (d .terms) in let y = now-ready .sized .termLimited in omega arith)
+    rep-is = e ∙ later-rep k (g .carried .later) a string (let z = view-count (m .terms) (d .terms) in let y = g .carried .ready .sized .termLimited in omega arith)
 
     pub for-arguments : explainArguments a r st ≡ true
     for-arguments =
@@ -123,12 +123,12 @@ module _ {m₀ m : Lent} {c d : State} {cs flat list : List ℕ} {count i : ℕ}
     atom-pushed : Ends (λ s′ out′. Pushed st s′ (a ∷ []) out out′) (pushFor a r out st)
     atom-pushed = subst (Ends (λ s′ out′. Pushed st s′ (a ∷ []) out out′)) atom-is (atom-ends cs a out st (g .carried .later .audited) (later-strings k (g .carried .later)) string (g .strings))
 
-    module _ {m′ : Lent} (list′ : List ℕ) (x : Form) (p : length (m′ .terms) ≡ length (m .terms)) (q : length (m′ .cells) ≡ length (m .cells)) (w : Working (pushFor a r out) m m′ d (pushed x m′ list′)) where
+    module _ {m′ : Lent} (list′ : List ℕ) (x : Form) (w : Working (pushFor a r out) m m′ d (pushed x m′ list′)) where
       pub forms-turn : (n : ℕ) (d′ : State) → x ≡ form.List n d′ → Heaping (formsLeft cs flat) m₀ c m′ d′ list′ n (i + 1)
-      forms-turn = heaping-turn (formsLeft cs flat) g (pushFor a r out) a next atom-pushed list′ x p q w
+      forms-turn = heaping-turn (formsLeft cs flat) g (pushFor a r out) a next atom-pushed list′ x w
 
       pub forms-stopped : (j : ℕ) → x ≡ form.Refused j → Working (pushForms cs flat []) m₀ m′ c (stop j)
-      forms-stopped = heaping-stopped (formsLeft cs flat) g (pushFor a r out) a next atom-pushed list′ x p q w
+      forms-stopped = heaping-stopped (formsLeft cs flat) g (pushFor a r out) a next atom-pushed list′ x w
 
 pub forms-done : (cs flat : List ℕ) {m₀ m : Lent} {c d : State} {list : List ℕ} {count i : ℕ} → Heaping (formsLeft cs flat) m₀ c m d list count i → length flat ≤ i → Working (pushForms cs flat []) m₀ m c (ok (storeOf m d) (reverse (firstWords list count)))
 unfolding pushForms

@@ -19,7 +19,7 @@ use Rattle.records.specs.Lists.{if_then_else_, all, any, table, sameWord}
 use Rattle.records.specs.Store.{Store, Out, ok, stop, Work, andThen, give, isString}
 use Rattle.records.specs.View.{Lent, storeOf}
 use Rattle.records.specs.Working.Audited.{Ready}
-use Rattle.records.specs.Calls.{Working}
+use Rattle.records.specs.Working.Doing.{Working}
 use Rattle.records.proofs.Lists.{all-every, every-all, every-at, table-at, word-is}
 use Rattle.normalize.specs.declared.Form.{Form}
 use Rattle.normalize.specs.declared.Form.the-variants as form
@@ -31,12 +31,15 @@ use Rattle.normalize.specs.declared.Turn.the-variants as turn
 use Rattle.normalize.specs.Normalize.{deepLimit, normalForm, push, pushAll, expand, settle, afterExpand, rounds, deepForm}
 use Rattle.normalize.specs.Working.Pushes.{pushed, Candidates}
 use Rattle.normalize.specs.Calls.{firstWords, formed, deepened}
-use Rattle.normalize.specs.Working.Deeps.{opensIn, Met, MetTable, expanded, Expands, settled, settling, Settles, roundThen, TurnedTo, Turns}
+use Rattle.normalize.specs.Working.Deeps.{opensIn, Met, MetTable, expanded, ReadyFor, Expands, settled, turned, settling, Settles, roundThen, TurnedTo, Turns}
+use Rattle.records.proofs.Works.{stop-not}
+use Rattle.records.proofs.Doing.{working-is, working-at}
+use Rattle.records.proofs.Sequence.{working-stop}
 use Rattle.records.proofs.Grown.{strings-later}
 use Rattle.normalize.proofs.Ends.{Ends}
 use Rattle.normalize.proofs.Formed.{Pushed, push-ends, Formed, form-ends}
 use Rattle.normalize.proofs.Deep.{Answers, rounds-end}
-use Rattle.normalize.proofs.Carried.{Carried, carried-none, carried-ready, carried-kept, carried-then}
+use Rattle.normalize.proofs.Carried.{Carried, carried-none, carried-kept, carried-then, carried-on, ready-for, working-left}
 use Rattle.normalize.proofs.Candidates.{candidates-later}
 use Rattle.normalize.proofs.Refines.Words.{words-length, words-none}
 use Rattle.normalize.proofs.Refines.Heaping.{Heaping, heaping-end, heaping-turn, heaping-stopped}
@@ -71,12 +74,12 @@ module _ (next : List ℕ) (n : ℕ) {m₀ m : Lent} {c d : State} {out : List �
         let s = every-at (firstWords next n) i 0 (strings-later (g .carried .later .grown) (all-every (isString (storeOf m₀ c)) _ good)) inside in
         push-ends at so (storeOf m d) (g .carried .later .audited) (rw at-is at s) (g .strings)
 
-    module _ {m′ : Lent} (out′ : List ℕ) (x : Form) (p : length (m′ .terms) ≡ length (m .terms)) (q : length (m′ .cells) ≡ length (m .cells)) (w : Working (push at so) m m′ d (pushed x m′ out′)) where
+    module _ {m′ : Lent} (out′ : List ℕ) (x : Form) (w : Working (push at so) m m′ d (pushed x m′ out′)) where
       pub all-turn : (j : ℕ) (d′ : State) → x ≡ form.List j d′ → Heaping (allLeft next n) m₀ c m′ d′ out′ j (i + 1)
-      all-turn = heaping-turn (allLeft next n) g (push at so) at all-next at-pushed out′ x p q w
+      all-turn = heaping-turn (allLeft next n) g (push at so) at all-next at-pushed out′ x w
 
       pub all-stopped : (j : ℕ) → x ≡ form.Refused j → Working (pushAll (firstWords next n) []) m₀ m′ c (stop j)
-      all-stopped = heaping-stopped (allLeft next n) g (push at so) at all-next at-pushed out′ x p q w
+      all-stopped = heaping-stopped (allLeft next n) g (push at so) at all-next at-pushed out′ x w
 
   pub all-done : n ≤ i → Working (pushAll (firstWords next n) []) m₀ m c (ok (storeOf m d) so)
   unfolding pushAll
@@ -85,14 +88,20 @@ module _ (next : List ℕ) (n : ℕ) {m₀ m : Lent} {c d : State} {out : List �
 -- THE END OF A ROUND
 
 module _ {m m′ : Lent} {c : State} (before list out : List ℕ) (x : Form) (w : Working (pushAll list []) m m′ c (pushed x m′ out)) where
+  joined : (y : Form) → x ≡ y → Working (pushAll list []) m m′ c (pushed y m′ out)
+  joined y e = working-at (ap (λ (v : Form). pushed v m′ out) e) w
+
   joined-says : (n : ℕ) (d : State) → x ≡ form.List n d → (more : List ℕ → Work (Option (List ℕ))) → settling before list more (storeOf m c) ≡ settle before more (firstWords out n) (storeOf m′ d)
   joined-says n d e more =
-      ap (andThen (λ l. settle before more (reverse l))) (w .says ∙ ap (λ (v : Form). pushed v m′ out) e) ∙ ap (λ (l : List ℕ). settle before more l (storeOf m′ d)) (reverse-reverse (firstWords out n))
+      ap (andThen (λ l. settle before more (reverse l))) (joined (form.List n d) e .says) ∙ ap (λ (l : List ℕ). settle before more l (storeOf m′ d)) (reverse-reverse (firstWords out n))
 
   module _ (n : ℕ) (d : State) (e : x ≡ form.List n d) where
+    joined-ready : Ready m′ d
+    joined-ready = joined (form.List n d) e .ready d (reverse (firstWords out n)) refl
+
     pub settle-long : deepLimit < n → (l : List ℕ) → Settles before list m m′ c l (turn.Ends (deep.None d))
     unfolding settle
-    settle-long h l = record { kept = w .kept; is = λ more. joined-says n d e more ∙ rw (lt-ltb deepLimit (length (firstWords out n)) (let z = words-length out n in omega arith)) }
+    settle-long h l = record { kept = w .kept; ready = ready-for joined-ready; is = λ more. joined-says n d e more ∙ rw (lt-ltb deepLimit (length (firstWords out n)) (let z = words-length out n in omega arith)) }
 
     module _ (h : n ≤ deepLimit) (b : Bool) (f : b ≡ sameWord (firstWords out n) before) where
       short : ltb deepLimit (length (firstWords out n)) ≡ false
@@ -102,6 +111,7 @@ module _ {m m′ : Lent} {c : State} (before list out : List ℕ) (x : Form) (w 
       unfolding settle
       settle-same i l k j = record {
         kept = w .kept;
+        ready = ready-for joined-ready;
         is = λ more. joined-says n d e more ∙ rw (short, sym f ∙ i) (ap (λ (v : List ℕ). ok (storeOf m′ d) (some v)) (word-is (firstWords out n) before (sym f ∙ i) ∙ j));
       }
 
@@ -109,19 +119,21 @@ module _ {m m′ : Lent} {c : State} (before list out : List ℕ) (x : Form) (w 
       unfolding settle
       settle-other i l l′ j = record {
         kept = w .kept;
+        ready = ready-for joined-ready;
         is = λ more. joined-says n d e more ∙ rw (short, sym f ∙ i) (ap (λ (v : List ℕ). more v (storeOf m′ d)) (sym (ap (firstWords l′) (sym (zero-add n)) ∙ j ∙ ap (λ (v : List ℕ). v ++ firstWords out n) (words-none l))));
       }
 
   pub settle-stopped : (j : ℕ) → x ≡ form.Refused j → (l : List ℕ) → Settles before list m m′ c l (turn.Ends (deep.Refused j))
-  settle-stopped j e l = record { kept = w .kept; is = λ more. ap (andThen (λ u. settle before more (reverse u))) (w .says ∙ ap (λ (v : Form). pushed v m′ out) e) }
+  settle-stopped j e l = record { kept = w .kept; ready = λ d a q. stop-not q; is = λ more. ap (andThen (λ u. settle before more (reverse u))) (joined (form.Refused j) e .says) }
 
 -- A ROUND
 
 module _ {m : Lent} {c : State} (known : List ℕ) (t : ℕ) (list : List ℕ) (n : ℕ) (table : List ℕ) (b : Bool) (e : b ≡ any (opensIn (storeOf m c .terms) t) (firstWords list n)) where
-  pub round-stands : not b ≡ true → Turns known t (firstWords list n) table m m c list table (turn.Ends (deep.List n c))
+  pub round-stands : Ready m c → not b ≡ true → Turns known t (firstWords list n) table m m c list table (turn.Ends (deep.List n c))
   unfolding roundThen
-  round-stands h = record {
+  round-stands ready h = record {
     kept = refl;
+    ready = ready-for ready;
     is = λ met q. record { met = met; is = λ more. rw (sym e ∙ not-true b h); tells = λ k f z. q };
   }
 
@@ -133,11 +145,14 @@ module _ {m : Lent} {c : State} (known : List ℕ) (t : ℕ) (list : List ℕ) (
         rw (sym e ∙ not-false b h) (ap (λ (l : List ℕ). andThen (afterExpand (firstWords list n) more) (expand known t (firstWords list n) (record { list = l; met = met }) (storeOf m c))) (sym (words-none next))
         ∙ ap (andThen (afterExpand (firstWords list n) more)) (w .is met q .is ∙ ap (λ (u : DeepForm). expanded u (w .is met q .met) m′ next′) i))
 
+    left : (y : DeepForm) → x ≡ y → ReadyFor m′ (deepened y m′ next′)
+    left y i d a q = w .ready d a (ap (λ (u : DeepForm). deepened u m′ next′) i ∙ q)
+
     round-none : (d : State) → x ≡ deep.None d → (l : List ℕ) → Turns known t (firstWords list n) table m m′ c l table′ (turn.Ends (deep.None d))
-    round-none d i l = record { kept = w .kept; is = λ met q. record { met = []; is = λ more. round-says met q (deep.None d) i more; tells = λ k f z. (let y : _≡_ {A = ℕ} 0 1 = cc in absurd (omega arith)) } }
+    round-none d i l = record { kept = w .kept; ready = left (deep.None d) i; is = λ met q. record { met = []; is = λ more. round-says met q (deep.None d) i more; tells = λ k f z. (let y : _≡_ {A = ℕ} 0 1 = cc in absurd (omega arith)) } }
 
     round-stopped : (j : ℕ) → x ≡ deep.Refused j → (l : List ℕ) → Turns known t (firstWords list n) table m m′ c l table′ (turn.Ends (deep.Refused j))
-    round-stopped j i l = record { kept = w .kept; is = λ met q. record { met = []; is = λ more. round-says met q (deep.Refused j) i more; tells = λ k f z. (let y : _≡_ {A = ℕ} 0 1 = cc in absurd (omega arith)) } }
+    round-stopped j i l = record { kept = w .kept; ready = left (deep.Refused j) i; is = λ met q. record { met = []; is = λ more. round-says met q (deep.Refused j) i more; tells = λ k f z. (let y : _≡_ {A = ℕ} 0 1 = cc in absurd (omega arith)) } }
 
     -- an answer that is no list ends the round
     pub round-ended : OneOf (1 ∷ 2 ∷ []) (tagOf the-type x) → (l : List ℕ) → Turns known t (firstWords list n) table m m′ c l table′ (turn.Ends x)
@@ -151,6 +166,7 @@ module _ {m : Lent} {c : State} (known : List ℕ) (t : ℕ) (list : List ℕ) (
     pub round-settled : (k : ℕ) (d : State) → x ≡ deep.List k d → Carried m c m′ d → {m″ : Lent} (l : List ℕ) (y : Turn) → Settles (firstWords list n) (firstWords next′ k) m′ m″ d l y → Turns known t (firstWords list n) table m m″ c l table′ y
     round-settled k d i a {m″} l y v = record {
       kept = carried-kept a m″ (v .kept);
+      ready = v .ready;
       is = λ met q. record {
         met = w .is met q .met;
         is = λ more. round-says met q (deep.List k d) i more ∙ v .is (more (w .is met q .met));
@@ -175,10 +191,7 @@ pub rounding-none : {m : Lent} {c : State} (known : List ℕ) (t : ℕ) (list : 
     → Rounding known t (firstWords list n) m c m c list n table 0
 rounding-none known t list n table r e h z f = record { carried = carried-none r; strings = e; short = h; rest = record { met = []; tells = met-none table z f; is = refl } }
 
-module _ {known : List ℕ} {t : ℕ} {l : List ℕ} {m₀ m : Lent} {c d : State} {list : List ℕ} {n : ℕ} {table : List ℕ} {i : ℕ} (g : Rounding known t l m₀ c m d list n table i) (ready : Ready m₀ c) (nodes : List ℕ) (cs : Candidates (storeOf m₀ c) known nodes) where
-  pub rounding-ready : Ready m d
-  rounding-ready = carried-ready (g .carried) ready
-
+module _ {known : List ℕ} {t : ℕ} {l : List ℕ} {m₀ m : Lent} {c d : State} {list : List ℕ} {n : ℕ} {table : List ℕ} {i : ℕ} (g : Rounding known t l m₀ c m d list n table i) (nodes : List ℕ) (cs : Candidates (storeOf m₀ c) known nodes) where
   pub rounding-candidates : Candidates (storeOf m d) known nodes
   rounding-candidates = candidates-later cs (g .carried .later)
 
@@ -186,20 +199,20 @@ module _ {known : List ℕ} {t : ℕ} {l : List ℕ} {m₀ m : Lent} {c d : Stat
   rounding-met = record { met = g .rest .met; is = g .rest .tells }
 
   module _ (h : i < 64) {m′ : Lent} (list′ table′ : List ℕ) (x : Turn) (w : Turns known t (firstWords list n) table m m′ d list′ table′ x) where
-    turned : TurnedTo (λ more. roundThen known t (g .rest .met) (firstWords list n) more (storeOf m d)) m′ list′ table′ x
-    turned = w .is (g .rest .met) (g .rest .tells)
+    now-turned : TurnedTo (λ more. roundThen known t (g .rest .met) (firstWords list n) more (storeOf m d)) m′ list′ table′ x
+    now-turned = w .is (g .rest .met) (g .rest .tells)
 
-    round-is : (j : ℕ) (y : Turn) → x ≡ y → rounds (suc j) known t (g .rest .met) (firstWords list n) (storeOf m d) ≡ settled y (rounds j known t (turned .met)) m′ list′
+    round-is : (j : ℕ) (y : Turn) → x ≡ y → rounds (suc j) known t (g .rest .met) (firstWords list n) (storeOf m d) ≡ settled y (rounds j known t (now-turned .met)) m′ list′
     unfolding rounds roundThen
-    round-is j y e = turned .is (rounds j known t) ∙ ap (λ (v : Turn). settled v (rounds j known t (turned .met)) m′ list′) e
+    round-is j y e = now-turned .is (rounds j known t) ∙ ap (λ (v : Turn). settled v (rounds j known t (now-turned .met)) m′ list′) e
 
-    turn-rest : (y : Turn) → x ≡ y → settled y (rounds (64 - (i + 1)) known t (turned .met)) m′ list′ ≡ rounds 64 known t [] l (storeOf m₀ c)
+    turn-rest : (y : Turn) → x ≡ y → settled y (rounds (64 - (i + 1)) known t (now-turned .met)) m′ list′ ≡ rounds 64 known t [] l (storeOf m₀ c)
     turn-rest y e =
         let z : 64 - i ≡ suc (64 - (i + 1)) = omega arith in
         sym (round-is (64 - (i + 1)) y e) ∙ ap (λ (j : ℕ). rounds j known t (g .rest .met) (firstWords list n) (storeOf m d)) (sym z) ∙ g .rest .is
 
     pub rounds-ended : (a : DeepForm) → x ≡ turn.Ends a → Working (rounds 64 known t [] l) m₀ m′ c (deepened a m′ list′)
-    rounds-ended a e = record { says = sym (turn-rest (turn.Ends a) e); kept = carried-kept (g .carried) m′ (w .kept) }
+    rounds-ended a e = record { says = sym (turn-rest (turn.Ends a) e); kept = carried-kept (g .carried) m′ (w .kept); ready = λ f v q. w .ready f v (ap (λ (y : Turn). turned y m′ list′) e ∙ q) }
 
     answers : (k : ℕ) (f : State) → x ≡ turn.Again k f → Answers (storeOf m d) (firstWords list n) (storeOf m′ f) (some (firstWords list′ k))
     unfolding rounds
@@ -207,43 +220,49 @@ module _ {known : List ℕ} {t : ℕ} {l : List ℕ} {m₀ m : Lent} {c d : Stat
         rounds-end known 1 t (g .rest .met) (firstWords list n) (storeOf m d) (g .carried .later .audited) (all-every (isString (storeOf m d)) known (rounding-candidates .strings))
         (all-every (isString (storeOf m d)) _ (g .strings)) (let z = words-length list n in let y = g .short in omega arith) .given (storeOf m′ f) (some (firstWords list′ k)) (round-is 0 (turn.Again k f) e)
 
-    pub rounding-turn : (k : ℕ) (f : State) → x ≡ turn.Again k f → length (m′ .terms) ≡ length (m .terms) → length (m′ .cells) ≡ length (m .cells) → Rounding known t l m₀ c m′ f list′ k table′ (i + 1)
-    rounding-turn k f e p q =
+    pub rounding-turn : (k : ℕ) (f : State) → x ≡ turn.Again k f → Rounding known t l m₀ c m′ f list′ k table′ (i + 1)
+    rounding-turn k f e =
         let a = answers k f e in
         record {
-          carried = carried-then (g .carried) m′ f (w .kept) (a .0 .later) p q;
+          carried = carried-then (g .carried) m′ f (w .kept) (a .0 .later);
           strings = every-all (a .0 .strings);
           short = (let z = words-length list′ k in let y = a .1 in omega arith);
-          rest = record { met = turned .met; tells = turned .tells k f e; is = turn-rest (turn.Again k f) e };
+          rest = record { met = now-turned .met; tells = now-turned .tells k f e; is = turn-rest (turn.Again k f) e };
         }
 
   pub rounds-done : 64 ≤ i → Working (rounds 64 known t [] l) m₀ m c (ok (storeOf m d) (some (firstWords list n)))
   unfolding rounds
-  rounds-done h = let z : 64 - i ≡ 0 = omega arith in record { says = sym (g .rest .is) ∙ ap (λ (j : ℕ). rounds j known t (g .rest .met) (firstWords list n) (storeOf m d)) z; kept = g .carried .kept }
+  rounds-done h = let z : 64 - i ≡ 0 = omega arith in working-left (g .carried .ready) (sym (g .rest .is) ∙ ap (λ (j : ℕ). rounds j known t (g .rest .met) (firstWords list n) (storeOf m d)) z) (g .carried .kept)
 
 -- THE DEEP FORM
 
 module _ {m m′ : Lent} {c : State} (ready : Ready m c) (known nodes : List ℕ) (cs : Candidates (storeOf m c) known nodes) (t : ℕ) (i : isString (storeOf m c) t ≡ true) (list : List ℕ) (x : Form) (w : Working (normalForm known t) m m′ c (formed x m′ list)) where
-  form-is : (y : Form) → x ≡ y → normalForm known t (storeOf m c) ≡ formed y m′ list
-  form-is y e = w .says ∙ ap (λ (v : Form). formed v m′ list) e
+  form-is : (y : Form) → x ≡ y → Working (normalForm known t) m m′ c (formed y m′ list)
+  form-is y e = working-at (ap (λ (v : Form). formed v m′ list) e) w
 
   rest : List ℕ → Work (Option (List ℕ))
   rest l = if ltb deepLimit (length l) then give none else rounds 64 known t [] l
 
   pub deep-stopped : (j : ℕ) → x ≡ form.Refused j → Working (deepForm known t) m m′ c (stop j)
   unfolding deepForm rest
-  deep-stopped j e = record { says = ap (andThen rest) (form-is (form.Refused j) e); kept = w .kept }
+  deep-stopped j e = working-stop rest (form-is (form.Refused j) e)
 
   module _ (n : ℕ) (d : State) (e : x ≡ form.List n d) where
+    made : Working (normalForm known t) m m′ c (ok (storeOf m′ d) (firstWords list n))
+    made = form-is (form.List n d) e
+
+    pub deep-ready : Ready m′ d
+    deep-ready = made .ready d (firstWords list n) refl
+
     pub deep-long : deepLimit < n → Working (deepForm known t) m m′ c (ok (storeOf m′ d) none)
     unfolding deepForm rest
-    deep-long h = record { says = ap (andThen rest) (form-is (form.List n d) e) ∙ rw (lt-ltb deepLimit (length (firstWords list n)) (let z = words-length list n in omega arith)); kept = w .kept }
+    deep-long h = working-left deep-ready (ap (andThen rest) (made .says) ∙ rw (lt-ltb deepLimit (length (firstWords list n)) (let z = words-length list n in omega arith))) (w .kept)
 
     given : Formed (storeOf m c) (storeOf m′ d) t (firstWords list n)
-    given = form-ends known t (storeOf m c) (ready .audited) (all-every (isString (storeOf m c)) known (cs .strings)) i .given (storeOf m′ d) (firstWords list n) (form-is (form.List n d) e)
+    given = form-ends known t (storeOf m c) (ready .audited) (all-every (isString (storeOf m c)) known (cs .strings)) i .given (storeOf m′ d) (firstWords list n) (made .says)
 
-    pub deep-carried : length (m′ .terms) ≡ length (m .terms) → length (m′ .cells) ≡ length (m .cells) → Carried m c m′ d
-    deep-carried p q = carried-then (carried-none ready) m′ d (w .kept) (given .later) p q
+    deep-carried : Carried m c m′ d
+    deep-carried = carried-then (carried-none ready) m′ d (w .kept) (given .later)
 
     pub deep-strings : all (isString (storeOf m′ d)) (firstWords list n) ≡ true
     deep-strings = every-all (given .strings)
@@ -251,9 +270,6 @@ module _ {m m′ : Lent} {c : State} (ready : Ready m c) (known nodes : List ℕ
     pub deep-candidates : Candidates (storeOf m′ d) known nodes
     deep-candidates = candidates-later cs (given .later)
 
-    pub deep-done : length (m′ .terms) ≡ length (m .terms) → length (m′ .cells) ≡ length (m .cells) → n ≤ deepLimit → {m″ : Lent} {o : Out (Option (List ℕ))} → Working (rounds 64 known t [] (firstWords list n)) m′ m″ d o → Working (deepForm known t) m m″ c o
+    pub deep-done : n ≤ deepLimit → {m″ : Lent} {o : Out (Option (List ℕ))} → Working (rounds 64 known t [] (firstWords list n)) m′ m″ d o → Working (deepForm known t) m m″ c o
     unfolding deepForm rest
-    deep-done p q h {m″} v = record {
-      says = ap (andThen rest) (form-is (form.List n d) e) ∙ rw (le-ltb deepLimit (length (firstWords list n)) (let z = words-length list n in omega arith)) (v .says);
-      kept = carried-kept (deep-carried p q) m″ (v .kept);
-    }
+    deep-done h v = carried-on deep-carried rest made (working-is (rw (le-ltb deepLimit (length (firstWords list n)) (let z = words-length list n in omega arith))) v)

@@ -10,6 +10,8 @@ use Rattle.records.specs.declared.State.{State}
 use Rattle.records.specs.Lists.{if_then_else_, all, any, isIn}
 use Rattle.records.specs.Store.{Term, Store, Out, ok, stop, Work, _>>=_, give, store, termIn, isString}
 use Rattle.records.specs.View.{Lent, storeOf, termLimit}
+use Rattle.records.specs.Calls.{KeepsStore}
+use Rattle.records.specs.Working.Audited.{Ready}
 use Rattle.normalize.specs.Normalize.{normalForm, pushAll, deepLimit, opens, Round, expand, settle, afterExpand}
 use Rattle.normalize.specs.Calls.{firstWords, deepened}
 use Rattle.normalize.specs.declared.DeepForm.{DeepForm}
@@ -57,9 +59,14 @@ pub record ExpandedTo (o : Out (Option Round)) (m : Lent) (next table : List ℕ
   pub is : o ≡ expanded x met m next
   pub tells : (n : ℕ) (c : State) → x ≡ deep.List n c → Met table met
 
+-- the slices are ready for the counts of the answer: what the next working function requires
+abbrev pub ReadyFor : {A : Type 0} → Lent → Out A → Type 0
+ReadyFor {A} m r = (d : State) (a : A) → r ≡ ok (storeOf m d) a → Ready m d
+
 -- the atoms l expanded after the first k words of a slice
 pub record Expands (known : List ℕ) (t : ℕ) (l next : List ℕ) (k : ℕ) (table : List ℕ) (m m′ : Lent) (c : State) (next′ table′ : List ℕ) (x : DeepForm) : Type 0 where
-  pub kept : storeOf m′ c ≡ storeOf m c
+  pub kept : KeepsStore m m′ c
+  pub ready : ReadyFor m′ (deepened x m′ next′)
   pub is : (met : List ℕ) → Met table met → ExpandedTo (expand known t l (record { list = firstWords next k; met = met }) (storeOf m c)) m′ next′ table′ x
 
 -- what a round ends with: another round over its list, or the answer
@@ -67,12 +74,17 @@ abbrev pub settled : Turn → (List ℕ → Work (Option (List ℕ))) → Lent �
 settled (turn.Again n c) more m l = more (firstWords l n) (storeOf m c)
 settled (turn.Ends x) more m l = deepened x m l
 
+-- its list, or the answer
+abbrev pub turned : Turn → Lent → List ℕ → Out (Option (List ℕ))
+turned x m l = settled x (λ v. give (some v)) m l
+
 -- the joining after a round that began with `before`
 abbrev pub settling : List ℕ → List ℕ → (List ℕ → Work (Option (List ℕ))) → Work (Option (List ℕ))
 settling before list more = pushAll list [] >>= (λ out. settle before more (reverse out))
 
 pub record Settles (before list : List ℕ) (m m′ : Lent) (c : State) (l : List ℕ) (x : Turn) : Type 0 where
-  pub kept : storeOf m′ c ≡ storeOf m c
+  pub kept : KeepsStore m m′ c
+  pub ready : ReadyFor m′ (turned x m′ l)
   pub is : (more : List ℕ → Work (Option (List ℕ))) → settling before list more (storeOf m c) ≡ settled x more m′ l
 
 -- one round, and what follows it
@@ -87,5 +99,6 @@ pub record TurnedTo (o : (List ℕ → List ℕ → Work (Option (List ℕ))) �
   pub tells : (n : ℕ) (c : State) → x ≡ turn.Again n c → Met table met
 
 pub record Turns (known : List ℕ) (t : ℕ) (l table : List ℕ) (m m′ : Lent) (c : State) (l′ table′ : List ℕ) (x : Turn) : Type 0 where
-  pub kept : storeOf m′ c ≡ storeOf m c
+  pub kept : KeepsStore m m′ c
+  pub ready : ReadyFor m′ (turned x m′ l′)
   pub is : (met : List ℕ) → Met table met → TurnedTo (λ more. roundThen known t met l more (storeOf m c)) m′ l′ table′ x

@@ -12,24 +12,29 @@ use Rattle.records.specs.declared.State.{State}
 use Rattle.records.specs.Lists.{any, oneMore}
 use Rattle.records.specs.Store.{ok, stop}
 use Rattle.records.specs.View.{lent, storeOf, pairAt, pairsView, keyRoom, oneKey}
+use Rattle.records.specs.Rules.{keyRule}
 use Rattle.records.specs.Make.{addKey, ordered, samePair}
+use Rattle.records.specs.Working.Audited.{Ready}
 use Rattle.records.specs.Working.Puts.{PairPut}
-use Rattle.records.specs.Calls.{Working}
+use Rattle.records.specs.Working.Doing.{Working}
 use Rattle.records.proofs.Lists.{table-length}
+use Rattle.records.proofs.Kept.{key-audited}
+use Rattle.records.proofs.Doing.{works, working-stopped}
 
 -- KEYS
 
-module _ (t e h r k : List ℕ) (c : State) (a b : ℕ) (fits : Bool) (p : fits ≡ ltb (c .keys) (keyRoom k)) where
+module _ (t e h r k : List ℕ) (c : State) (ready : Ready (lent t e h r k) c) (a b : ℕ) (good : keyRule (storeOf (lent t e h r k) c) (ordered a b) ≡ true) (fits : Bool) (p : fits ≡ ltb (c .keys) (keyRoom k)) where
   pub key-added : (k′ : List ℕ) (x y : ℕ) (d : State) → x ≡ min a b → y ≡ max a b → PairPut k k′ (c .keys) x y → length k′ ≡ length k → fits ≡ true → d ≡ oneKey c
       → Working (addKey a b) (lent t e h r k) (lent t e h r k′) c (ok (storeOf (lent t e h r k′) d) tt)
   unfolding addKey
   key-added k′ x y d o u w n f q =
       let g : pairsView k′ (c .keys + 1) ≡ oneMore (pairsView k (c .keys)) (x, y) = rw add-one (w .grown) in
-      record { says = rw (table-length (pairAt k) (c .keys), ← p, f, q, n, g, o, u); kept = rw (w .kept, n) }
+      works ready (λ s z i. key-audited a b (storeOf (lent t e h r k) c) s (ready .audited) good i)
+      (record { says = rw (table-length (pairAt k) (c .keys), ← p, f, q, n, g, o, u); kept = rw (w .kept, n) })
 
   pub key-refused : fits ≡ false → Working (addKey a b) (lent t e h r k) (lent t e h r k) c (stop 8)
   unfolding addKey
-  key-refused f = record { says = rw (table-length (pairAt k) (c .keys), ← p, f); kept = refl }
+  key-refused f = working-stopped (rw (table-length (pairAt k) (c .keys), ← p, f)) refl
 
 -- the pair that is looked for, by its two numbers in order
 pub key-known : (l : List ℕ) (n a b x y : ℕ) (r : Bool) → x ≡ min a b → y ≡ max a b → r ≡ any (samePair (x, y)) (pairsView l n) → r ≡ any (samePair (ordered a b)) (pairsView l n)

@@ -5,6 +5,7 @@ use mathlib.Core.List.{List}
 use Prim.Native.Nat.{ℕ, _<_, _≤_}
 use native.Mathlib.Omega.{arith}
 use lib.ListN.{length, getD}
+use lib.Dec.{leb}
 use borrow.Author.Tests.{le-leb, lt-leb}
 use Rattle.records.specs.declared.State.{State}
 use Rattle.records.specs.Lists.{all, allBelow}
@@ -12,8 +13,9 @@ use Rattle.records.specs.Store.{Store, Out, stop, isString}
 use Rattle.records.specs.View.{Lent, lent, storeOf, termed}
 use Rattle.records.specs.Rules.{listLimit, isList, isEquatable, audit}
 use Rattle.records.specs.Make.{makeConcat, makeLength, makeEquation, concatArguments, lengthArguments, equationArguments}
-use Rattle.records.specs.Calls.{call, Public, Working}
-use Rattle.records.proofs.Lists.{left-false, all-table, below-stop, below-done}
+use Rattle.records.specs.Calls.{call, Public}
+use Rattle.records.specs.Working.Doing.{Working}
+use Rattle.records.proofs.Lists.{left-false, both-true, all-table, below-stop, below-done}
 use Rattle.records.proofs.Refines.MakeCalls.{whole-word}
 use Rattle.records.proofs.Kept.{concat-stops, length-stops, equation-stops}
 use Rattle.records.proofs.Public.{call-unfit, call-works}
@@ -37,6 +39,14 @@ module _ (s : Store) (l : List ℕ) where
 
     pub list-done : (i : ℕ) → i ≤ length l → length l ≤ i → allBelow (λ j. isString s (getD l j 0)) i ≡ true → true ≡ isList s l
     list-done i a b h = below-done (λ j. isString s (getD l j 0)) (length l) i a b h ∙ sym is-all
+
+-- what the work requires, where the code's test passes
+pub concat-right : (m : Lent) (c : State) (l : List ℕ) (b : Bool) → 2 ≤ length l → b ≡ isList (termed (m .terms) c) l → b ≡ true → concatArguments l (storeOf m c) ≡ true
+concat-right m c l b two test f = both-true (leb 2 (length l)) (isList (storeOf m c) l) (le-leb 2 (length l) two) (sym test ∙ f)
+
+pub equation-right : (m : Lent) (c : State) (x y : ℕ) (b : Bool) → b ≡ isEquatable (termed (m .terms) c) x y → b ≡ true → equationArguments x y (storeOf m c) ≡ true
+unfolding isEquatable
+equation-right m c x y b test f = sym test ∙ f
 
 -- THE CALLS: `b` is the code's test of the arguments, which reads the terms alone
 

@@ -15,12 +15,14 @@ use Rattle.records.specs.declared.State.{State}
 use Rattle.records.specs.declared.Made.the-variants.{Term, Refused}
 use Rattle.records.specs.Store.{Term as Record, Cell, Store, Out, ok, stop, Work, term, kind, count, within, chainIn}
 use Rattle.records.specs.View.{Lent, lent, storeOf, termWords, cellWords, termLimit, cellLimit, termRoom, cellRoom, termAt, cellAt, cellsView, oneTerm, moreCells}
-use Rattle.records.specs.Make.{lookup, lowest, addChain, addTerm, concatOf, makeConcat, lengthOf, equationOf, makeLength, makeEquation}
+use Rattle.records.specs.Make.{lookup, lowest, addChain, addTerm, concatOf, makeConcat, lengthOf, equationOf, makeLength, makeEquation, concatArguments, lengthArguments, equationArguments}
 use Rattle.records.specs.Working.Leaves.{numberOf, Passed, appendParts, hasParts, sidesOf, hasSides, makeSides}
 use Rattle.records.specs.Working.Puts.{TermPut, ChainPut}
 use Rattle.records.specs.Working.Audited.{Ready, Sized, Recorded, Ascends}
-use Rattle.records.specs.Calls.{Working, made}
+use Rattle.records.specs.Calls.{made}
+use Rattle.records.specs.Working.Doing.{Working, Building}
 use Rattle.records.proofs.Lists.{left-false, right-false, both-left, both-right, decide, within-low, within-high, table-length, first-same, word-is, every-at, firsts-length, every-firsts}
+use Rattle.records.proofs.Doing.{working-same, works, building-is, concat-fit, length-fit, equation-fit}
 use Rattle.records.proofs.Views.{term-is, cell-is}
 use Rattle.records.proofs.Chains.{chain-none, chain-is}
 use Rattle.records.proofs.Refines.Making.{passed-up-to, lowest-old, lowest-new}
@@ -98,12 +100,12 @@ module _ (t e h r ks : List ℕ) (c : State) (k a b : ℕ) (u : ℕ) (look : u �
   looked : u ≡ numberOf (lookup (sidesOf k a b) (storeOf (lent t e h r ks) c))
   looked = look ∙ ap numberOf (sides-found (lent t e h r ks) c k a b)
 
-  pub sides-old : (u ≡ 0 → ⊥) → Working (makeSides k a b) (lent t e h r ks) (lent t e h r ks) c (made (Term u c) (lent t e h r ks))
+  pub sides-old : (u ≡ 0 → ⊥) → Building (makeSides k a b) (lent t e h r ks) (lent t e h r ks) c (made (Term u c) (lent t e h r ks))
   unfolding makeSides
   sides-old d = record { says = lowest-old (sidesOf k a b) (addTerm k a b) (storeOf (lent t e h r ks) c) u looked d; kept = refl }
 
   module _ (z : u ≡ 0) (fits : Bool) (room : fits ≡ ltb (c .terms) (termRoom t)) where
-    pub sides-full : fits ≡ false → Working (makeSides k a b) (lent t e h r ks) (lent t e h r ks) c (made (Refused 8) (lent t e h r ks))
+    pub sides-full : fits ≡ false → Building (makeSides k a b) (lent t e h r ks) (lent t e h r ks) c (made (Refused 8) (lent t e h r ks))
     unfolding makeSides
     sides-full f =
         record {
@@ -112,7 +114,7 @@ module _ (t e h r ks : List ℕ) (c : State) (k a b : ℕ) (u : ℕ) (look : u �
         }
 
     pub sides-made : (t′ : List ℕ) (d : State) → fits ≡ true → TermPut t t′ (c .terms) k a b → length t′ ≡ length t → d ≡ oneTerm c
-        → Working (makeSides k a b) (lent t e h r ks) (lent t′ e h r ks) c (made (Term (c .terms + 1) d) (lent t′ e h r ks))
+        → Building (makeSides k a b) (lent t e h r ks) (lent t′ e h r ks) c (made (Term (c .terms + 1) d) (lent t′ e h r ks))
     unfolding makeSides
     sides-made t′ d f p n q =
         record {
@@ -141,12 +143,12 @@ equation-is : (s : Store) (a b : ℕ) → makeEquation a b s ≡ makeSides 5 a b
 unfolding makeEquation makeSides equationOf sidesOf
 equation-is s a b = lowest-same (equationOf a b) (sidesOf 5 a b) (addTerm 5 a b) s (λ t. refl)
 
-module _ (m m′ : Lent) (c : State) (o : Out ℕ) where
-  pub length-made : (a : ℕ) → Ready m c → Working (makeSides 4 a 0) m m′ c o → Working (makeLength a) m m′ c o
-  length-made a good w = record { says = length-is (storeOf m c) a (good .audited .recorded) ∙ w .says; kept = w .kept }
+module _ (m m′ : Lent) (c : State) (o : Out ℕ) (ready : Ready m c) where
+  pub length-made : (a : ℕ) → lengthArguments a (storeOf m c) ≡ true → Building (makeSides 4 a 0) m m′ c o → Working (makeLength a) m m′ c o
+  length-made a good b = works ready (λ s t e. length-fit (storeOf m c) s t (ready .audited) a good e .audited) (building-is (length-is (storeOf m c) a (ready .audited .recorded)) b)
 
-  pub equation-made : (a b : ℕ) → Working (makeSides 5 a b) m m′ c o → Working (makeEquation a b) m m′ c o
-  equation-made a b w = record { says = equation-is (storeOf m c) a b ∙ w .says; kept = w .kept }
+  pub equation-made : (a b : ℕ) → equationArguments a b (storeOf m c) ≡ true → Building (makeSides 5 a b) m m′ c o → Working (makeEquation a b) m m′ c o
+  equation-made x y good b = works ready (λ s t e. equation-fit (storeOf m c) s t (ready .audited) x y good e .audited) (building-is (equation-is (storeOf m c) x y) b)
 
 -- CHAINS: `Walked` says that i values are passed, and what is left of the chain decides
 
@@ -238,7 +240,7 @@ parts-from m c w r good e = passed-up-to (hasParts (m .terms) (cellsView (m .cel
     omega arith)
 
 module _ (t e h r ks : List ℕ) (c : State) (w : List ℕ) (f : Bool) (cells-here : f ≡ leb (c .cells + length w) (cellRoom e)) where
-  pub append-long : not f ≡ true → Working (appendParts w) (lent t e h r ks) (lent t e h r ks) c (made (Refused 8) (lent t e h r ks))
+  pub append-long : not f ≡ true → Building (appendParts w) (lent t e h r ks) (lent t e h r ks) c (made (Refused 8) (lent t e h r ks))
   unfolding addChain
   append-long q = record { says = rw (table-length (λ i. cellAt e (suc i)) (c .cells), ← cells-here, not-true f q); kept = refl }
 
@@ -250,7 +252,7 @@ module _ (t e h r ks : List ℕ) (c : State) (w : List ℕ) (f : Bool) (cells-he
   append-words z q = cells-room e (c .cells) (length w) (z .cellRoom) (sym cells-here ∙ not-false f q)
 
   module _ (q : not f ≡ false) (g : Bool) (term-here : g ≡ ltb (c .terms) (termRoom t)) where
-    pub append-full : not g ≡ true → Working (appendParts w) (lent t e h r ks) (lent t e h r ks) c (made (Refused 8) (lent t e h r ks))
+    pub append-full : not g ≡ true → Building (appendParts w) (lent t e h r ks) (lent t e h r ks) c (made (Refused 8) (lent t e h r ks))
     unfolding addChain addTerm
     append-full p = record {
       says =
@@ -260,7 +262,7 @@ module _ (t e h r ks : List ℕ) (c : State) (w : List ℕ) (f : Bool) (cells-he
 
     pub append-made : (t′ e′ : List ℕ) (d d′ : State) → not g ≡ false → ChainPut e e′ (c .cells) w → length e′ ≡ length e
         → TermPut t t′ (c .terms) 3 (c .cells + 1) 0 → length t′ ≡ length t → d ≡ moreCells c (length w) → d′ ≡ oneTerm d
-        → Working (appendParts w) (lent t e h r ks) (lent t′ e′ h r ks) c (made (Term (c .terms + 1) d′) (lent t′ e′ h r ks))
+        → Building (appendParts w) (lent t e h r ks) (lent t′ e′ h r ks) c (made (Term (c .terms + 1) d′) (lent t′ e′ h r ks))
     unfolding addChain
     append-made t′ e′ d d′ p a la b lb x y = record { says = chained ∙ termed; kept = rw (a .kept, b .kept, la, lb, a .zero, b .zero) }
       where
@@ -276,10 +278,17 @@ module _ (t e h r ks : List ℕ) (c : State) (w : List ℕ) (u : ℕ)
   sought : u ≡ numberOf (lookup (concatOf w) (storeOf (lent t e h r ks) c))
   sought = look ∙ ap numberOf (parts-found (lent t e h r ks) c w)
 
-  pub concat-old : (u ≡ 0 → ⊥) → Working (makeConcat w) (lent t e h r ks) (lent t e h r ks) c (made (Term u c) (lent t e h r ks))
+  found : (u ≡ 0 → ⊥) → makeConcat w (storeOf (lent t e h r ks) c) ≡ ok (storeOf (lent t e h r ks) c) u
   unfolding makeConcat
-  concat-old d = record { says = lowest-old (concatOf w) (appendParts w) (storeOf (lent t e h r ks) c) u sought d; kept = refl }
+  found d = lowest-old (concatOf w) (appendParts w) (storeOf (lent t e h r ks) c) u sought d
 
-  pub concat-new : (m′ : Lent) (o : Out ℕ) → u ≡ 0 → Working (appendParts w) (lent t e h r ks) m′ c o → Working (makeConcat w) (lent t e h r ks) m′ c o
+  absent : u ≡ 0 → makeConcat w (storeOf (lent t e h r ks) c) ≡ appendParts w (storeOf (lent t e h r ks) c)
   unfolding makeConcat
-  concat-new m′ o z p = record { says = lowest-new (concatOf w) (appendParts w) (storeOf (lent t e h r ks) c) u sought z ∙ p .says; kept = p .kept }
+  absent z = lowest-new (concatOf w) (appendParts w) (storeOf (lent t e h r ks) c) u sought z
+
+  module _ (ready : Ready (lent t e h r ks) c) where
+    pub concat-old : (u ≡ 0 → ⊥) → Working (makeConcat w) (lent t e h r ks) (lent t e h r ks) c (made (Term u c) (lent t e h r ks))
+    concat-old d = working-same ready (found d)
+
+    pub concat-new : (m′ : Lent) (o : Out ℕ) → concatArguments w (storeOf (lent t e h r ks) c) ≡ true → u ≡ 0 → Building (appendParts w) (lent t e h r ks) m′ c o → Working (makeConcat w) (lent t e h r ks) m′ c o
+    concat-new m′ o good z b = works ready (λ s i q. concat-fit (storeOf (lent t e h r ks) c) s i (ready .audited) w good q .audited) (building-is (absent z) b)

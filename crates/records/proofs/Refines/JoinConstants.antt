@@ -11,14 +11,17 @@ use Rattle.records.specs.declared.State.{State}
 use Rattle.records.specs.Lists.{all, concatMap, sameWord, Every}
 use Rattle.records.specs.Store.{Out, isConstant, kind, termIn, textIn, text}
 use Rattle.records.specs.View.{lent, Lent, storeOf, charRoom, termAt, textAt, termsView, charsView, span, lengths}
+use Rattle.records.specs.Rules.{isChar}
 use Rattle.records.specs.Make.{makeConstant}
 use Rattle.records.specs.Working.Leaves.{hasText, makeText}
 use Rattle.records.specs.Working.Puts.{TextsWithin}
 use Rattle.records.specs.Working.Audited.{Ready}
-use Rattle.records.specs.Calls.{Working}
-use Rattle.records.proofs.Lists.{within-low, within-high, all-every, every-map, concatMap-same, table-length}
+use Rattle.records.specs.Working.Doing.{Working, Building}
+use Rattle.records.proofs.Lists.{within-low, within-high, all-every, every-map, concatMap-same, all-concatMap, table-length}
 use Rattle.records.proofs.Views.{term-is, text-span}
 use Rattle.records.proofs.Grown.{kind-term}
+use Rattle.records.proofs.Readings.{text-characters}
+use Rattle.records.proofs.Doing.{working-is}
 use Rattle.records.proofs.Refines.JoinedTexts.{lengths-concatMap}
 use Rattle.records.proofs.Refines.Making.{other-length, same-kind, constant-made, long-room}
 
@@ -67,12 +70,13 @@ module _ {t e h r ks : List ℕ} {c : State} (ready : Ready (lent t e h r ks) c)
     pub texts-there : TextsWithin t (length h) ts
     texts-there = every-map (λ x a. let w = a .within in let s = ready .sized .charRoom in omega arith) each
 
-    pub joined-made : {m : Lent} {o : Out ℕ} → Working (makeText 1 (concatMap (textAt t h) ts)) (lent t e h r ks) m c o
+    pub joined-made : {m : Lent} {o : Out ℕ} → Building (makeText 1 (concatMap (textAt t h) ts)) (lent t e h r ks) m c o
         → Working (λ s. makeConstant (concatMap (text s) ts) s) (lent t e h r ks) m c o
     joined-made w =
-        let v = constant-made (concatMap (textAt t h) ts) w in
-        let p = concatMap-same (textAt t h) (text (storeOf (lent t e h r ks) c)) (every-map (λ x a. a .same) each) in
-        record { says = rw p at (v .says); kept = v .kept }
+        let s = storeOf (lent t e h r ks) c in
+        let p = concatMap-same (textAt t h) (text s) (every-map (λ x a. a .same) each) in
+        let good : all isChar (concatMap (textAt t h) ts) ≡ true = ap (all isChar) p ∙ all-concatMap isChar (text s) ts (text-characters s (ready .audited .recorded)) in
+        working-is (ap (λ (u : List ℕ). makeConstant u s) (sym p)) (constant-made (concatMap (textAt t h) ts) ready good w)
 
 -- the counted length is that of the joined word, and fits where the test says so
 module _ {t e h r ks : List ℕ} {c : State} (ready : Ready (lent t e h r ks) c) (ts : List ℕ) (total : ℕ) (sum : total ≡ lengths t ts) where

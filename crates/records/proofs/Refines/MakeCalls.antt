@@ -1,6 +1,6 @@
 -- The public calls that make constants and variables.
 use mathlib.Core.Path.{_≡_, refl, sym, ap, _∙_}
-use mathlib.Core.Bool.{Bool, true, false, not}
+use mathlib.Core.Bool.{Bool, true, false, not, _&&_}
 use mathlib.Core.List.{List}
 use Prim.Native.Nat.{ℕ}
 use native.Mathlib.Omega.{arith}
@@ -14,8 +14,9 @@ use Rattle.records.specs.Store.{Out, stop}
 use Rattle.records.specs.View.{Lent, storeOf, charsView}
 use Rattle.records.specs.Rules.{isChar, audit}
 use Rattle.records.specs.Make.{makeConstant, makeVariable, constantArguments, variableArguments}
-use Rattle.records.specs.Calls.{call, Public, Working}
-use Rattle.records.proofs.Lists.{table-at, table-length, left-false, and-next}
+use Rattle.records.specs.Calls.{call, Public}
+use Rattle.records.specs.Working.Doing.{Working}
+use Rattle.records.proofs.Lists.{table-at, table-length, left-false, both-true, and-next}
 use Rattle.records.proofs.Kept.{constant-stops, variable-stops}
 use Rattle.records.proofs.Public.{call-unready, call-unfit, call-works}
 
@@ -29,8 +30,11 @@ module _ (w : List ℕ) (b : Bool) (test : b ≡ all isChar (charsView w (length
   wrong : not b ≡ true → all isChar w ≡ false
   wrong d = sym (ap (all isChar) (whole-word w)) ∙ sym test ∙ not-true b d
 
-  right : not b ≡ false → all isChar w ≡ true
+  pub right : not b ≡ false → all isChar w ≡ true
   right d = sym (ap (all isChar) (whole-word w)) ∙ sym test ∙ not-false b d
+
+  pub right-name : (length w ≡ 0 → ⊥) → not b ≡ false → (leb 1 (length w) && all isChar w) ≡ true
+  right-name long d = both-true (leb 1 (length w)) (all isChar w) (le-leb 1 (length w) (omega arith)) (right d)
 
 module _ (w : List ℕ) (m : Lent) (c : State) (k : ℕ) (verdict : k ≡ audit m c) where
   pub constant-unready : (k ≡ 0 → ⊥) → Public (call (constantArguments w) (makeConstant w) m c) m m c (stop k)
@@ -67,5 +71,5 @@ module _ (w : List ℕ) (m : Lent) (c : State) (k : ℕ) (verdict : k ≡ audit 
             → Public (call (variableArguments w) (makeVariable w) m c) m m′ c r
         variable-called d v =
             call-works (variableArguments w) (makeVariable w) m c k verdict zero-is _ refl
-            (sym (and-next (leb 1 (length w)) (all isChar w) true filled (sym (right w b test d))))
+            (right-name w b test long d)
             (λ j e. let q = variable-stops w (storeOf m c) j e in omega arith) v

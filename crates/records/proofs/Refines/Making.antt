@@ -16,13 +16,15 @@ use Rattle.records.specs.Store.{Term as Record, Store, Out, ok, stop, Wo
 use Rattle.records.specs.declared.Made.the-variants.{Term, Refused}
 use Rattle.records.specs.View.{lent, termWords, termLimit, charLimit, charRoom, termRoom, oneTerm, moreChars, Lent, storeOf, termAt, termsView, charsView, span}
 use Rattle.records.specs.Working.Audited.{Ready, Sized}
-use Rattle.records.specs.Calls.{Working, made}
+use Rattle.records.specs.Calls.{made}
+use Rattle.records.specs.Working.Doing.{Working, Building}
 use Rattle.records.specs.Working.Puts.{CharsPut, TermPut}
-use Rattle.records.specs.Make.{lookup, orMake, lowest, addText, addTerm, withChars, withTerms, own, makeConstant, makeVariable, constantOf}
+use Rattle.records.specs.Make.{lookup, orMake, lowest, addText, addTerm, withChars, withTerms, own, makeConstant, makeVariable, constantOf, constantArguments, variableArguments}
 use Rattle.records.specs.Working.Leaves.{numberOf, Passed, textOf, hasText, appendText, makeText}
 use Rattle.records.specs.Rules.{named}
 use Rattle.records.proofs.Views.{term-is, text-span}
 use Rattle.records.proofs.Refines.Rooms.{chars-fit, chars-limit, chars-room, chars-over, term-limit, term-room}
+use Rattle.records.proofs.Doing.{works, building-is, constant-fit, variable-fit}
 use Rattle.records.proofs.Lists.{same-test, decide, within-low, within-high, first-same, left-false, right-false, word-differs, table-length, first-zero, first-pass, first-hit, first-stays, first-absent}
 
 -- WHETHER A TERM HAS A TEXT
@@ -160,17 +162,17 @@ module _ (l : List ℕ) (n k : ℕ) (limit : n ≤ charLimit) where
 -- A NEW TEXT in the words: the tests of room, for n characters
 
 module _ {t e h r ks : List ℕ} {c : State} (k : ℕ) (w : List ℕ) (n : ℕ) (long : n ≡ length w) (f : Bool) (fits : f ≡ leb (c .chars + n) (charRoom h)) where
-  pub text-long : not f ≡ true → Working (appendText k w) (lent t e h r ks) (lent t e h r ks) c (made (Refused 8) (lent t e h r ks))
+  pub text-long : not f ≡ true → Building (appendText k w) (lent t e h r ks) (lent t e h r ks) c (made (Refused 8) (lent t e h r ks))
   text-long q = record { says = append-long k w _ (rw (table-length, ← long) (sym fits ∙ not-true f q)); kept = refl }
 
   module _ (q : not f ≡ false) (g : Bool) (one : g ≡ ltb (c .terms) (termRoom t)) where
-    pub text-full : not g ≡ true → Working (appendText k w) (lent t e h r ks) (lent t e h r ks) c (made (Refused 8) (lent t e h r ks))
+    pub text-full : not g ≡ true → Building (appendText k w) (lent t e h r ks) (lent t e h r ks) c (made (Refused 8) (lent t e h r ks))
     text-full u =
         record { says = append-full k w _ (rw (table-length, ← long) (sym fits ∙ not-false f q)) (rw table-length (sym one ∙ not-true g u)); kept = refl }
 
     pub text-made : not g ≡ false → {t′ h′ : List ℕ} {d d′ : State} → CharsPut h h′ (c .chars) w → length h′ ≡ length h
         → TermPut t t′ (c .terms) k (c .chars) n → length t′ ≡ length t → d ≡ moreChars c n → d′ ≡ oneTerm d
-        → Working (appendText k w) (lent t e h r ks) (lent t′ e h′ r ks) c (made (Term (c .terms + 1) d′) (lent t′ e h′ r ks))
+        → Building (appendText k w) (lent t e h r ks) (lent t′ e h′ r ks) c (made (Term (c .terms + 1) d′) (lent t′ e h′ r ks))
     text-made u p lp v lv x y =
         record {
           says =
@@ -186,13 +188,13 @@ module _ {t e h r ks : List ℕ} {c : State} (ready : Ready (lent t e h r ks) c)
   looked : t₀ ≡ numberOf (lookup (textOf k w) (storeOf (lent t e h r ks) c))
   looked = look ∙ ap numberOf (found-text (lent t e h r ks) c k w (texts-within (lent t e h r ks) c k ready text))
 
-  pub text-found : (t₀ ≡ 0 → ⊥) → Working (makeText k w) (lent t e h r ks) (lent t e h r ks) c (made (Term t₀ c) (lent t e h r ks))
+  pub text-found : (t₀ ≡ 0 → ⊥) → Building (makeText k w) (lent t e h r ks) (lent t e h r ks) c (made (Term t₀ c) (lent t e h r ks))
   unfolding makeText
   text-found d = record { says = lowest-old (textOf k w) (appendText k w) (storeOf (lent t e h r ks) c) t₀ looked d; kept = refl }
 
-  pub text-new : {m′ : Lent} {o : Out ℕ} → t₀ ≡ 0 → Working (appendText k w) (lent t e h r ks) m′ c o → Working (makeText k w) (lent t e h r ks) m′ c o
+  pub text-new : {m′ : Lent} {o : Out ℕ} → t₀ ≡ 0 → Building (appendText k w) (lent t e h r ks) m′ c o → Building (makeText k w) (lent t e h r ks) m′ c o
   unfolding makeText
-  text-new z p = record { says = lowest-new (textOf k w) (appendText k w) (storeOf (lent t e h r ks) c) t₀ looked z ∙ p .says; kept = p .kept }
+  text-new z p = building-is (lowest-new (textOf k w) (appendText k w) (storeOf (lent t e h r ks) c) t₀ looked z) p
 
 -- what the tests of room say of the numbers
 module _ {t e h r ks : List ℕ} {c : State} (sized : Sized (lent t e h r ks) c) (f : Bool) (q : not f ≡ false) where
@@ -212,16 +214,29 @@ module _ {t e h r ks : List ℕ} {c : State} (sized : Sized (lent t e h r ks) c)
   next-limit n x e = rw x (one-limit e)
 
 -- a constant is a text of kind 1, a variable one of kind 2
-module _ (w : List ℕ) {m m′ : Lent} {c : State} {o : Out ℕ} where
-  pub constant-made : Working (makeText 1 w) m m′ c o → Working (makeConstant w) m m′ c o
-  unfolding makeText makeConstant lowest lookup textOf constantOf
-  constant-made r = record { says = r .says; kept = r .kept }
+constant-is : (w : List ℕ) (s : Store) → makeConstant w s ≡ makeText 1 w s
+unfolding makeText makeConstant lowest lookup textOf constantOf
+constant-is w s = refl
 
-  pub variable-made : Working (makeText 2 w) m m′ c o → Working (makeVariable w) m m′ c o
-  unfolding makeText makeVariable lowest lookup textOf named
-  variable-made r = record { says = r .says; kept = r .kept }
+variable-is : (w : List ℕ) (s : Store) → makeVariable w s ≡ makeText 2 w s
+unfolding makeText makeVariable lowest lookup textOf named
+variable-is w s = refl
 
-  -- a variable of a name that is not found
-  pub variable-new : lookup (named w) (storeOf m c) ≡ none → Working (appendText 2 w) m m′ c o → Working (makeVariable w) m m′ c o
-  unfolding makeVariable lowest
-  variable-new e r = record { says = rw e (r .says); kept = r .kept }
+-- a name that is not found
+name-is-new : (w : List ℕ) (s : Store) → lookup (named w) s ≡ none → makeVariable w s ≡ appendText 2 w s
+unfolding makeVariable lowest
+name-is-new w s e = rw e
+
+module _ (w : List ℕ) {m m′ : Lent} {c : State} {o : Out ℕ} (ready : Ready m c) where
+  pub constant-made : constantArguments w (storeOf m c) ≡ true → Building (makeText 1 w) m m′ c o → Working (makeConstant w) m m′ c o
+  constant-made good b = works ready (λ s t e. constant-fit (storeOf m c) s t (ready .audited) w good e .audited) (building-is (constant-is w (storeOf m c)) b)
+
+  module _ (good : variableArguments w (storeOf m c) ≡ true) where
+    variable-works : Building (makeVariable w) m m′ c o → Working (makeVariable w) m m′ c o
+    variable-works b = works ready (λ s t e. variable-fit (storeOf m c) s t (ready .audited) w good e .audited) b
+
+    pub variable-made : Building (makeText 2 w) m m′ c o → Working (makeVariable w) m m′ c o
+    variable-made b = variable-works (building-is (variable-is w (storeOf m c)) b)
+
+    pub variable-new : lookup (named w) (storeOf m c) ≡ none → Building (appendText 2 w) m m′ c o → Working (makeVariable w) m m′ c o
+    variable-new e b = variable-works (building-is (name-is-new w (storeOf m c) e) b)

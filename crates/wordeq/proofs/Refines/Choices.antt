@@ -13,7 +13,9 @@ use Rattle.records.specs.Lists.{all}
 use Rattle.records.specs.Store.{Store, ok, andThen, isVariable}
 use Rattle.records.specs.View.{Lent, storeOf, readIn, termed}
 use Rattle.records.specs.Make.{makeConstant}
+use Rattle.records.specs.Working.Audited.{Ready}
 use Rattle.records.proofs.Lists.{both-left, both-right, both-true}
+use Rattle.records.proofs.Doing.{working-same, working-is}
 use Rattle.wordeq.specs.declared.StepResult.{StepResult}
 use Rattle.wordeq.specs.declared.StepResult.the-variants as step
 use Rattle.wordeq.specs.Wordeq.{propagate, Tried, answer, fixed, letters, isPlain, alias, empties, assigns, _orElse_}
@@ -137,17 +139,12 @@ module _ (m : Lent) (c : State) (l r : List ℕ) where
   alias-same = refl
 
   module _ (x : Bool) (i : x ≡ aliased (readIn (m .terms) (m .chars) c) l r) where
-    pub choice-alias : x ≡ true → Tries whole m m c (step.Propagate c (getD l 0 0) (getD r 0 0) false)
-    choice-alias t =
+    pub choice-alias : Ready m c → x ≡ true → Tries whole m m c (step.Propagate c (getD l 0 0) (getD r 0 0) false)
+    choice-alias d t =
         let e = i ∙ alias-same in
         let n = aliased-lengths now l r x t e in
         let a = alias-lone now l r (n .0) (n .1) (aliased-plain now l r x t e) in
-        record {
-          is = λ k. record {
-            says = else-answer fourth (assigns r l) now (else-answer third (assigns l r) now (else-answer second (empties r l) now (else-answer first (empties l r) now a)));
-            kept = refl;
-          };
-        }
+        record { is = λ k. working-same d (else-answer fourth (assigns r l) now (else-answer third (assigns l r) now (else-answer second (empties r l) now (else-answer first (empties l r) now a)))) }
 
     module _ (t : x ≡ false) (y : Bool) (f : y ≡ emptied (termed (m .terms) c) l r) where
       to-second : second now ≡ empties l r now
@@ -159,14 +156,10 @@ module _ (m : Lent) (c : State) (l r : List ℕ) where
           let a = p .0 in
           let b = p .1 in
           record {
-            is = λ k. record {
-              says =
-                  else-none fourth (assigns r l) now (assigns-never r l (λ z. omega arith))
-                  ∙ else-none third (assigns l r) now (assigns-never l r (λ z. omega arith))
-                  ∙ else-none second (empties r l) now (empties-never r l (λ z. omega arith))
-                  ∙ to-second ∙ ap (λ (j : List ℕ). empties j r now) (bare l a) ∙ w .is k .says;
-              kept = w .is k .kept;
-            };
+            is = λ k. working-is (else-none fourth (assigns r l) now (assigns-never r l (λ z. omega arith))
+                ∙ else-none third (assigns l r) now (assigns-never l r (λ z. omega arith))
+                ∙ else-none second (empties r l) now (empties-never r l (λ z. omega arith))
+                ∙ to-second ∙ ap (λ (j : List ℕ). empties j r now) (bare l a)) (w .is k);
           }
 
       module _ (g : y ≡ false) (y₁ : Bool) (f₁ : y₁ ≡ emptied (termed (m .terms) c) r l) where
@@ -179,13 +172,9 @@ module _ (m : Lent) (c : State) (l r : List ℕ) where
             let a = p .0 in
             let b = p .1 in
             record {
-              is = λ k. record {
-                says =
-                    else-none fourth (assigns r l) now (assigns-never r l (λ z. omega arith))
-                    ∙ else-none third (assigns l r) now (assigns-never l r (λ z. omega arith))
-                    ∙ to-third ∙ ap (λ (j : List ℕ). empties j l now) (bare r a) ∙ w .is k .says;
-                kept = w .is k .kept;
-              };
+              is = λ k. working-is (else-none fourth (assigns r l) now (assigns-never r l (λ z. omega arith))
+                  ∙ else-none third (assigns l r) now (assigns-never l r (λ z. omega arith))
+                  ∙ to-third ∙ ap (λ (j : List ℕ). empties j l now) (bare r a)) (w .is k);
             }
 
         module _ (g₁ : y₁ ≡ false) (u : Bool) (j : u ≡ assigned (termed (m .terms) c) l r) where
@@ -205,12 +194,8 @@ module _ (m : Lent) (c : State) (l r : List ℕ) where
               let n = assigned-length now l r u h (j ∙ left-same) in
               let b = assigned-both now l r u h (j ∙ left-same) in
               record {
-                is = λ k. record {
-                  says =
-                      else-made fourth (assigns r l) now (makeConstant (letters now r) now) (λ a. propagate (getD l 0 0) a false) (to-fourth ∙ assigns-lone now l r n b)
-                      ∙ to-fourth ∙ ap (λ (z : List ℕ). assigns z r now) (lone l n) ∙ w .is k .says;
-                  kept = w .is k .kept;
-                };
+                is = λ k. working-is (else-made fourth (assigns r l) now (makeConstant (letters now r) now) (λ a. propagate (getD l 0 0) a false) (to-fourth ∙ assigns-lone now l r n b)
+                    ∙ to-fourth ∙ ap (λ (z : List ℕ). assigns z r now) (lone l n)) (w .is k);
               }
 
           module _ (h : u ≡ false) (v : Bool) (q : v ≡ assigned (termed (m .terms) c) r l) where
@@ -219,13 +204,7 @@ module _ (m : Lent) (c : State) (l r : List ℕ) where
 
             pub choice-last : v ≡ true → {m₁ : Lent} {o : StepResult} → Tries (assigns (getD r 0 0 ∷ []) l) m m₁ c o → Tries whole m m₁ c o
             choice-last z w =
-                let n = assigned-length now r l v z (q ∙ right-same) in
-                record {
-                  is = λ k. record {
-                    says = to-whole ∙ ap (λ (z : List ℕ). assigns z l now) (lone r n) ∙ w .is k .says;
-                    kept = w .is k .kept;
-                  };
-                }
+                let n = assigned-length now r l v z (q ∙ right-same) in record { is = λ k. working-is (to-whole ∙ ap (λ (z : List ℕ). assigns z l now) (lone r n)) (w .is k) }
 
-            pub choice-none : v ≡ false → Tries whole m m c (step.Done c)
-            choice-none z = record { is = λ k. record { says = to-whole ∙ assigns-none now r l (sym (q ∙ right-same) ∙ z); kept = refl } }
+            pub choice-none : Ready m c → v ≡ false → Tries whole m m c (step.Done c)
+            choice-none d z = record { is = λ k. working-same d (to-whole ∙ assigns-none now r l (sym (q ∙ right-same) ∙ z)) }

@@ -13,9 +13,11 @@ use Rattle.records.specs.Store.{Store, Out, ok, stop, isString}
 use Rattle.records.specs.View.{Lent, storeOf, readIn}
 use Rattle.records.specs.Rules.{audit, isList}
 use Rattle.records.specs.Working.Audited.{Ready}
-use Rattle.records.specs.Calls.{Working, Public, call}
+use Rattle.records.specs.Calls.{Public, call}
+use Rattle.records.specs.Working.Doing.{Working}
 use Rattle.records.proofs.Lists.{both-left, both-right, left-false, and-next}
 use Rattle.records.proofs.Passed.{ready-of}
+use Rattle.records.proofs.Doing.{working-same}
 use Rattle.records.proofs.Public.{call-unready, call-unfit, call-works, audit-low}
 use Rattle.records.proofs.Works.{stop-not}
 use Rattle.records.proofs.ListLaws.{list-strings}
@@ -76,7 +78,7 @@ module _ (m : Lent) (c : State) (l r : List ℕ) (k : ℕ) (v : k ≡ audit m c)
       unfolding equalLists
       equal-gives x q =
           call-works (equalArguments l r) (equalLists l r) m c k v z b e (not-false b h) (λ j n. let y : _≡_ {A = ℕ} 0 1 = cc in absurd (omega arith))
-          (record { says = ap (ok (storeOf m c)) (sym (q ∙ equal-read m c l r)); kept = refl })
+          (working-same (ready-of m c (sym v ∙ z)) (ap (ok (storeOf m c)) (sym (q ∙ equal-read m c l r))))
 
 -- NF_EQUAL_EXPLAIN
 

@@ -12,8 +12,10 @@ use Rattle.records.specs.Lists.{if_then_else_, all, keep, Every, none-left, and
 use Rattle.records.specs.Store.{Store, Term, Out, ok, Work, andThen, termIn, isConstant, isString, root, sameClass}
 use Rattle.records.specs.View.{Lent, lent, storeOf, termsView, readIn}
 use Rattle.records.specs.Working.Audited.{Audited, Ready}
-use Rattle.records.specs.Calls.{Working, added}
+use Rattle.records.specs.Calls.{added}
+use Rattle.records.specs.Working.Doing.{Working}
 use Rattle.records.proofs.Lists.{both-left, both-right, both-true, clash, decide, every-at}
+use Rattle.records.proofs.Doing.{working-same, working-is}
 use Rattle.engine.specs.Explain.{explain, explainArguments}
 use Rattle.records.proofs.Outcomes.{ends-give, ends-map, ends-if}
 use Rattle.wordeq.specs.Wordeq.{same, explainAll, variables}
@@ -30,9 +32,9 @@ use Rattle.records.specs.declared.Added.{Added as Answered}
 -- ONE ATOM
 
 module _ (t e h r ks : List ℕ) (c : State) (u v k : ℕ) (i : k ≡ termIn (termsView t (c .terms)) u .kind) where
-  pub atom-constant : k ≡ 1 → Working (explainAtom u v) (lent t e h r ks) (lent t e h r ks) c (added (adding.Counts c) (lent t e h r ks))
+  pub atom-constant : Ready (lent t e h r ks) c → k ≡ 1 → Working (explainAtom u v) (lent t e h r ks) (lent t e h r ks) c (added (adding.Counts c) (lent t e h r ks))
   unfolding explainAtom
-  atom-constant j = record { says = rw (eq-eqb (termIn (termsView t (c .terms)) u .kind) 1 (sym i ∙ j)); kept = refl }
+  atom-constant d j = working-same d (rw (eq-eqb (termIn (termsView t (c .terms)) u .kind) 1 (sym i ∙ j)))
 
   module _ (d : k ≡ 1 → ⊥) where
     other : eqb (termIn (termsView t (c .terms)) u .kind) 1 ≡ false
@@ -43,7 +45,7 @@ module _ (t e h r ks : List ℕ) (c : State) (u v k : ℕ) (i : k ≡ termIn (te
 
     pub atom-explained : {m′ : Lent} {o : Out (Unit {0})} → Working (explain u v) (lent t e h r ks) m′ c o → Working (explainAtom u v) (lent t e h r ks) m′ c o
     unfolding explainAtom
-    atom-explained w = record { says = rw other (w .says); kept = w .kept }
+    atom-explained w = working-is (rw other) w
 
 atom-ends : (u v : ℕ) (s : Store) → Audited s → isString s u ≡ true → isString s v ≡ true → (isConstant s u ≡ false → sameClass s u v ≡ true) → Ends (λ s′ x. Cited (λ w. Unit {0}) s s′) (explainAtom u v s)
 unfolding explainAtom

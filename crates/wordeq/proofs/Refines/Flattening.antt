@@ -14,8 +14,9 @@ use Rattle.records.specs.Lists.{any, concatMap}
 use Rattle.records.specs.Store.{Store, Out, ok, stop, andThen, _>>=_, give, isConcat}
 use Rattle.records.specs.View.{Lent, storeOf}
 use Rattle.records.specs.Rules.{listLimit}
-use Rattle.records.specs.Calls.{Working}
+use Rattle.records.specs.Working.Doing.{Working}
 use Rattle.records.proofs.Lists.{any-append}
+use Rattle.records.proofs.Doing.{working-stopped, working-at, working-is}
 use Rattle.normalize.specs.Normalize.{atoms, flatten}
 use Rattle.normalize.specs.Working.Flat.{Appended}
 use Rattle.wordeq.specs.declared.StepResult.{StepResult}
@@ -23,6 +24,7 @@ use Rattle.wordeq.specs.declared.StepResult.the-variants as step
 use Rattle.wordeq.specs.Wordeq.{Answer, steps, softened, isGuard}
 use Rattle.wordeq.specs.Calls.{resolved}
 use Rattle.wordeq.specs.Working.Resolving.{soft, flatSteps, ran}
+use Rattle.wordeq.proofs.Refines.Leaving.{one-store, working-answer}
 use Rattle.wordeq.proofs.Refines.Stripping.{drop-head}
 
 -- SOME ATOM IS A CONCATENATION
@@ -102,26 +104,26 @@ module _ (m : Lent) (c : State) (l r : List ℕ) (g : ℤ) where
 
   pub left-passes : flatten l (storeOf m c) ≡ stop 6 → Working (flatSteps l r g) m m c (stop 6)
   unfolding flatSteps
-  left-passes e = record { says = ap (andThen onward) e; kept = refl }
+  left-passes e = working-stopped (ap (andThen onward) e) refl
 
   module _ (l₁ : List ℕ) (e : flatten l (storeOf m c) ≡ ok (storeOf m c) l₁) where
     pub right-passes : flatten r (storeOf m c) ≡ stop 6 → Working (flatSteps l r g) m m c (stop 6)
     unfolding flatSteps
-    right-passes f = record { says = ap (andThen onward) e ∙ ap (andThen (λ r₁. steps g l₁ r₁ >>= (λ y. give (softened y)))) f; kept = refl }
+    right-passes f = working-stopped (ap (andThen onward) e ∙ ap (andThen (λ r₁. steps g l₁ r₁ >>= (λ y. give (softened y)))) f) refl
 
     pub flat-done : SFits w32 g → (r₁ : List ℕ) → flatten r (storeOf m c) ≡ ok (storeOf m c) r₁ → {m′ : Lent} (k : List ℕ) (o : StepResult) → Working (steps (toZ w32 (ofZ w32 g)) l₁ r₁) m m′ c (resolved o m′ k)
         → (x : StepResult) → x ≡ soft o → Working (flatSteps l r g) m m′ c (resolved x m′ k)
     unfolding flatSteps
-    flat-done z r₁ f {m′} k o w x i = record {
-      says = ap (andThen onward) e ∙ ap (andThen (λ r₂. steps g l₁ r₂ >>= (λ y. give (softened y)))) f ∙ ap (andThen (λ y. give (softened y))) (ap (λ (y : ℤ). steps y l₁ r₁ (storeOf m c)) (sym (toZ-ofZ w32 g z)) ∙ w .says) ∙ softened-is m′ k o ∙ ap (λ (z : StepResult). resolved z m′ k) (sym i);
-      kept = w .kept;
-    }
+    flat-done z r₁ f {m′} k o w x i =
+        working-at (softened-is m′ k o ∙ ap (λ (z : StepResult). resolved z m′ k) (sym i))
+        (working-is (ap (andThen onward) e ∙ ap (andThen (λ r₂. steps g l₁ r₂ >>= (λ y. give (softened y)))) f)
+        (working-answer (λ y. give (softened y)) (λ y s s′ x j. one-store j) {w = steps g l₁ r₁} (working-is (ap (λ (y : ℤ). steps y l₁ r₁ (storeOf m c)) (sym (toZ-ofZ w32 g z))) w)))
 
   module _ (b : Bool) (e : b ≡ any (isConcat (storeOf m c)) (l ++ r)) where
     pub ran-flat : b ≡ true → SFits w32 g → {m′ : Lent} {o : Out Answer} → Working (flatSteps l r (toZ w32 (ofZ w32 g))) m m′ c o → Working (ran l r g) m m′ c o
     unfolding ran
-    ran-flat h z w = record { says = rw (sym e ∙ h) (ap (λ (y : ℤ). flatSteps l r y (storeOf m c)) (sym (toZ-ofZ w32 g z)) ∙ w .says); kept = w .kept }
+    ran-flat h z w = working-is (rw (sym e ∙ h) (ap (λ (y : ℤ). flatSteps l r y (storeOf m c)) (sym (toZ-ofZ w32 g z)))) w
 
     pub ran-plain : b ≡ false → SFits w32 g → {m′ : Lent} {o : Out Answer} → Working (steps (toZ w32 (ofZ w32 g)) l r) m m′ c o → Working (ran l r g) m m′ c o
     unfolding ran
-    ran-plain h z w = record { says = rw (sym e ∙ h) (ap (λ (y : ℤ). steps y l r (storeOf m c)) (sym (toZ-ofZ w32 g z)) ∙ w .says); kept = w .kept }
+    ran-plain h z w = working-is (rw (sym e ∙ h) (ap (λ (y : ℤ). steps y l r (storeOf m c)) (sym (toZ-ofZ w32 g z)))) w

@@ -8,12 +8,10 @@ use Rattle.records.specs.Lists.{all}
 use Rattle.records.specs.Store.{Store, Term, within, termIn, isString}
 use Rattle.records.specs.View.{Lent, lent, storeOf, termsView, readIn}
 use Rattle.records.specs.Working.Audited.{Ready}
-use Rattle.records.proofs.Passed.{ready-after}
 use Rattle.records.proofs.Counts.{agree-below}
 use Rattle.records.proofs.Later.{Added, added-none, added-then, later-added, later-higher}
 use Rattle.wordeq.specs.Wordeq.{same}
 use Rattle.wordeq.specs.Working.Stripping.{Pair}
-use Rattle.wordeq.proofs.Cited.{Cited}
 
 module _ (t e h ks : List ℕ) where
   abbrev at : List ℕ → Lent
@@ -35,8 +33,8 @@ module _ (t e h ks : List ℕ) where
     pub kept-down : (rs₂ : List ℕ) → storeOf (at rs₂) d ≡ storeOf (at rs₁) d → storeOf (at rs₂) c ≡ storeOf (at rs) c
     kept-down rs₂ k = agree-below (at rs) (at rs₁) (at rs₂) c d (later-higher (later-added (g .added) (g .ready .audited))) k ∙ g .kept
 
-    pub going-then : {P : (ℕ → List ℕ) → Type 0} {d₂ : State} (rs₂ : List ℕ) → Cited P (storeOf (at rs₁) d) (storeOf (at rs₂) d₂) → storeOf (at rs₂) d ≡ storeOf (at rs₁) d → Going c rs d₂ rs₂
-    going-then rs₂ x k = record { ready = ready-after (g .ready) refl refl (x .audited); added = added-then (g .added) (x .added); kept = kept-down rs₂ k }
+    pub going-then : {d₂ : State} (rs₂ : List ℕ) → Ready (at rs₂) d₂ → Added (storeOf (at rs₁) d) (storeOf (at rs₂) d₂) → storeOf (at rs₂) d ≡ storeOf (at rs₁) d → Going c rs d₂ rs₂
+    going-then rs₂ r x k = record { ready = r; added = added-then (g .added) x; kept = kept-down rs₂ k }
 
     pub going-strings : (l : List ℕ) → all (isString (readIn t h c)) l ≡ true → all (isString (readIn t h d)) l ≡ true
     going-strings l i = subst (λ (x : List Term). all (λ a. within 3 (termIn x a .kind)) l ≡ true) (sym terms-kept) i

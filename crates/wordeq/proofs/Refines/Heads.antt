@@ -24,11 +24,12 @@ use Rattle.records.specs.View.{Lent, storeOf, pairsView, readIn, termed, termAt
 use Rattle.records.specs.Rules.{isChar, isList, listLimit}
 use Rattle.records.specs.Make.{withKeys, ordered, samePair, addKey, isKey}
 use Rattle.records.specs.Working.Audited.{Audited, Ready}
-use Rattle.records.specs.Calls.{Working, added}
+use Rattle.records.specs.Calls.{added}
+use Rattle.records.specs.Working.Doing.{Working}
 use Rattle.records.proofs.Lists.{both-left, both-right, left-false, and-stop, and-next, clash, decide, table-at, table-length}
 use Rattle.records.proofs.Readings.{text-characters}
-use Rattle.records.proofs.Kept.{KeyAdded, key-kept}
-use Rattle.records.proofs.Passed.{ready-after}
+use Rattle.records.proofs.Kept.{key-kept}
+use Rattle.records.proofs.Doing.{working-same, working-at, working-is}
 use Rattle.normalize.specs.declared.Form.{Form}
 use Rattle.normalize.specs.declared.Form.the-variants as form
 use Rattle.wordeq.specs.Wordeq.{Answer, saturated, conflict, split, Tried, _orElse_, isFull, differ, clashes, splitHeads, splitBy, splits, isGuard}
@@ -39,6 +40,7 @@ use Rattle.wordeq.specs.Working.Heads.{HeadsApart, HeadPair, atomsBy, at
 use Rattle.records.proofs.Counts.{higher-below}
 use Rattle.records.proofs.Sequence.{grows-key, working-then, working-stop}
 use Rattle.wordeq.proofs.Strip.{Apart}
+use Rattle.wordeq.proofs.Refines.Leaving.{one-store, working-answer, added-at}
 use Rattle.wordeq.proofs.Refines.SideTexts.{text-words}
 use Rattle.wordeq.proofs.Refines.SideReady.{ready-readIn}
 use Rattle.wordeq.proofs.Counted.{then-same, character-counted, heads-counted}
@@ -147,20 +149,18 @@ right-open false y e f = clash f refl
 module _ {m m₁ : Lent} {c : State} {o : Out (List ℕ)} (a b : ℕ) where
   pub atoms-right : (x : ℕ) (v : List ℕ) → isFull (storeOf m c) b ≡ true → text (storeOf m c) b ≡ x ∷ v → Working (characterAtoms a x) m m₁ c o → Working (atomsOf a b) m m₁ c o
   unfolding atomsOf isFull
-  atoms-right x v f e w =
-      let i : isConstant (storeOf m c) b ≡ true = both-left _ _ f in
-      record { says = rw (i, e) (w .says); kept = w .kept }
+  atoms-right x v f e w = let i : isConstant (storeOf m c) b ≡ true = both-left _ _ f in working-is (rw (i, e)) w
 
   pub atoms-left : HeadPair (storeOf m c) a b → (x : ℕ) (v : List ℕ) → isFull (storeOf m c) a ≡ true → text (storeOf m c) a ≡ x ∷ v → Working (characterAtoms b x) m m₁ c o → Working (atomsOf a b) m m₁ c o
   unfolding atomsOf isFull
   atoms-left p x v f e w =
       let i : isConstant (storeOf m c) a ≡ true = both-left _ _ f in
       let j : isConstant (storeOf m c) b ≡ false = right-open _ _ (p .mixed) i in
-      record { says = rw (j, i, e) (w .says); kept = w .kept }
+      working-is (rw (j, i, e)) w
 
   pub atoms-heads : isFull (storeOf m c) b ≡ false → isFull (storeOf m c) a ≡ false → Working (headAtoms a b) m m₁ c o → Working (atomsOf a b) m m₁ c o
   unfolding atomsOf isFull
-  atoms-heads e f w = record { says = go (isConstant (storeOf m c) b) (isConstant (storeOf m c) a) (text (storeOf m c) b) (text (storeOf m c) a) e f ∙ w .says; kept = w .kept }
+  atoms-heads e f w = working-is (go (isConstant (storeOf m c) b) (isConstant (storeOf m c) a) (text (storeOf m c) b) (text (storeOf m c) a) e f) w
     where
       go : (p q : Bool) (u v : List ℕ) → (p && ltb 0 (length u)) ≡ false → (q && ltb 0 (length v)) ≡ false
           → (if p then atomsBy a u (headAtoms a b) else if q then atomsBy b v (headAtoms a b) else headAtoms a b) (storeOf m c) ≡ headAtoms a b (storeOf m c)
@@ -213,31 +213,25 @@ module _ (g : ℤ) (a b : ℕ) where
 module _ {m m₁ : Lent} {c : State} {r : Added} (g : ℤ) (a b : ℕ) (w : Working (addKey a b) m m₁ c (added r m₁)) where
   pub new-stop : {k : ℕ} → r ≡ adding.Refused k → Working (splitNew g a b) m m₁ c (stop k)
   unfolding splitNew
-  new-stop e = working-stop {w = addKey a b} (λ u s. (atomsOf a b >>= splitFrom g (count s)) s) (record { says = w .says ∙ ap (λ (x : Added). added x m₁) e; kept = w .kept })
+  new-stop e = working-stop {w = addKey a b} (λ u s. (atomsOf a b >>= splitFrom g (count s)) s) (added-at e w)
 
   module _ {d : State} (e : r ≡ adding.Counts d) where
-    counted : Working (addKey a b) m m₁ c (ok (storeOf m₁ d) tt)
-    counted = record { says = w .says ∙ ap (λ (x : Added). added x m₁) e; kept = w .kept }
-
-    module _ (ready : Ready m c) (p : HeadPair (storeOf m c) a b) where
-      key-added : KeyAdded a b (storeOf m c) (storeOf m₁ d)
-      key-added = key-kept a b (storeOf m c) (storeOf m₁ d) (ready .audited) (p .left) (p .right) (p .apart) (counted .says)
-
-      pub new-ready : length (m₁ .terms) ≡ length (m .terms) → length (m₁ .cells) ≡ length (m .cells) → Ready m₁ d
-      new-ready i j = ready-after ready i j (key-added .audited)
-
-      pub new-pair : HeadPair (storeOf m₁ d) a b
-      new-pair = subst (λ (s : Store). HeadPair s a b) (sym (key-added .is)) (record { left = p .left; right = p .right; apart = p .apart; mixed = p .mixed })
+    pub new-pair : Ready m c → HeadPair (storeOf m c) a b → HeadPair (storeOf m₁ d) a b
+    new-pair ready p =
+        let k = key-kept a b (storeOf m c) (storeOf m₁ d) (ready .audited) (p .left) (p .right) (p .apart) (added-at e w .says) in
+        subst (λ (s : Store). HeadPair s a b) (sym (k .is)) (record { left = p .left; right = p .right; apart = p .apart; mixed = p .mixed })
 
     -- what follows the key
     after-key : {m₂ : Lent} {o : Out (List ℕ)} → Working (atomsOf a b) m₁ m₂ d o → Working (splitNew g a b) m m₂ c (andThen (splitFrom g (count (storeOf m₁ d))) o)
-    unfolding splitNew
-    after-key w₂ = working-then {w = addKey a b} (λ u s. (atomsOf a b >>= splitFrom g (count s)) s) d tt (grows-key a b) counted (record { says = ap (andThen (splitFrom g (count (storeOf m₁ d)))) (w₂ .says); kept = w₂ .kept })
+    unfolding splitNew splitFrom
+    after-key w₂ =
+        working-then {w = addKey a b} (λ u s. (atomsOf a b >>= splitFrom g (count s)) s) d tt (grows-key a b) (added-at e w)
+        (working-is refl (working-answer (splitFrom g (count (storeOf m₁ d))) (λ l s s′ x i. one-store i) w₂))
 
     module _ {m₂ : Lent} {f : Form} (l : List ℕ) (w₂ : Working (atomsOf a b) m₁ m₂ d (listed f m₂ l)) where
       -- the atoms, by the form
       atoms-are : {y : Form} → f ≡ y → Working (atomsOf a b) m₁ m₂ d (listed y m₂ l)
-      atoms-are i = record { says = w₂ .says ∙ ap (λ (x : Form). listed x m₂ l) i; kept = w₂ .kept }
+      atoms-are i = working-at (ap (λ (x : Form). listed x m₂ l) i) w₂
 
       pub new-done : {n j : ℕ} {d₂ : State} {z : ℤ} → f ≡ form.List n d₂ → z ≡ negℤ g → j ≡ d₂ .terms - d .terms → Working (splitNew g a b) m m₂ c (ok (storeOf m₂ d₂) (some (split (take n l) z j)))
       unfolding splitFrom
@@ -268,16 +262,16 @@ module _ {m m₁ : Lent} {c : State} {r : Added} (g : ℤ) (a b : ℕ) (w : Work
 abbrev differs : Store → ℕ → ℕ → Bool
 differs s a b = isConstant s a && isConstant s b && differ (text s a) (text s b)
 
-module _ {m : Lent} {c : State} (g : ℤ) (x : Bool) where
+module _ {m : Lent} {c : State} (ready : Ready m c) (g : ℤ) (x : Bool) where
   pub left-none : (l r : List ℕ) → length l ≡ 0 → Working (clashes l r orElse splits g x l r) m m c (ok (storeOf m c) none)
   unfolding clashes splits
-  left-none [] r e = record { says = refl; kept = refl }
+  left-none [] r e = working-same ready refl
   left-none (a ∷ l) r e = absurd (omega arith)
 
   pub right-none : (l r : List ℕ) → length r ≡ 0 → Working (clashes l r orElse splits g x l r) m m c (ok (storeOf m c) none)
   unfolding clashes splits
-  right-none [] [] e = record { says = refl; kept = refl }
-  right-none (a ∷ l) [] e = record { says = refl; kept = refl }
+  right-none [] [] e = working-same ready refl
+  right-none (a ∷ l) [] e = working-same ready refl
   right-none l (b ∷ r) e = absurd (omega arith)
 
   pub heads-clash : (l r : List ℕ) → (length l ≡ 0 → ⊥) → (length r ≡ 0 → ⊥) → differs (storeOf m c) (getD l 0 0) (getD r 0 0) ≡ true
@@ -285,14 +279,14 @@ module _ {m : Lent} {c : State} (g : ℤ) (x : Bool) where
   unfolding clashes
   heads-clash [] r p q e = absurd (p refl)
   heads-clash (a ∷ l) [] p q e = absurd (q refl)
-  heads-clash (a ∷ l) (b ∷ r) p q e = record { says = rw e; kept = refl }
+  heads-clash (a ∷ l) (b ∷ r) p q e = working-same ready (rw e)
 
   pub heads-constant : (l r : List ℕ) → (length l ≡ 0 → ⊥) → (length r ≡ 0 → ⊥) → differs (storeOf m c) (getD l 0 0) (getD r 0 0) ≡ false
       → (isConstant (storeOf m c) (getD l 0 0) && isConstant (storeOf m c) (getD r 0 0)) ≡ true → Working (clashes l r orElse splits g x l r) m m c (ok (storeOf m c) none)
   unfolding clashes splits
   heads-constant [] r p q e f = absurd (p refl)
   heads-constant (a ∷ l) [] p q e f = absurd (q refl)
-  heads-constant (a ∷ l) (b ∷ r) p q e f = record { says = rw (e, f); kept = refl }
+  heads-constant (a ∷ l) (b ∷ r) p q e f = working-same ready (rw (e, f))
 
   -- where one head at most is a constant
   module _ (l r : List ℕ) (p : length l ≡ 0 → ⊥) (q : length r ≡ 0 → ⊥) (e : differs (storeOf m c) (getD l 0 0) (getD r 0 0) ≡ false)
@@ -306,19 +300,19 @@ module _ {m : Lent} {c : State} (g : ℤ) (x : Bool) where
             → (x || isKey (storeOf m c) (getD l 0 0) (getD r 0 0)) ≡ true → Working (clashes l r orElse splits g x l r) m m c (ok (storeOf m c) (some saturated))
         go [] r p q e f h = absurd (p refl)
         go (a ∷ l) [] p q e f h = absurd (q refl)
-        go (a ∷ l) (b ∷ r) p q e f h = record { says = rw (e, f, h); kept = refl }
+        go (a ∷ l) (b ∷ r) p q e f h = working-same ready (rw (e, f, h))
 
-    pub heads-new : Ready m c → HeadPair (storeOf m c) (getD l 0 0) (getD r 0 0) → (x || isKey (storeOf m c) (getD l 0 0) (getD r 0 0)) ≡ false → {m₁ : Lent} {o : Out (Option Answer)} {g₁ : ℤ} → g₁ ≡ g
+    pub heads-new : HeadPair (storeOf m c) (getD l 0 0) (getD r 0 0) → (x || isKey (storeOf m c) (getD l 0 0) (getD r 0 0)) ≡ false → {m₁ : Lent} {o : Out (Option Answer)} {g₁ : ℤ} → g₁ ≡ g
         → Working (splitNew g₁ (getD l 0 0) (getD r 0 0)) m m₁ c o → Working (clashes l r orElse splits g x l r) m m₁ c o
     unfolding clashes splits
-    heads-new ready pair h {m₁} {o} i w = go l r p q e f pair h (subst (λ (z : ℤ). Working (splitNew z (getD l 0 0) (getD r 0 0)) m m₁ c o) i w)
+    heads-new pair h {m₁} {o} i w = go l r p q e f pair h (subst (λ (z : ℤ). Working (splitNew z (getD l 0 0) (getD r 0 0)) m m₁ c o) i w)
       where
         go : (l r : List ℕ) → (length l ≡ 0 → ⊥) → (length r ≡ 0 → ⊥) → differs (storeOf m c) (getD l 0 0) (getD r 0 0) ≡ false
             → (isConstant (storeOf m c) (getD l 0 0) && isConstant (storeOf m c) (getD r 0 0)) ≡ false → HeadPair (storeOf m c) (getD l 0 0) (getD r 0 0)
             → (x || isKey (storeOf m c) (getD l 0 0) (getD r 0 0)) ≡ false → Working (splitNew g (getD l 0 0) (getD r 0 0)) m m₁ c o → Working (clashes l r orElse splits g x l r) m m₁ c o
         go [] r p q e f y h w = absurd (p refl)
         go (a ∷ l) [] p q e f y h w = absurd (q refl)
-        go (a ∷ l) (b ∷ r) p q e f y h w = record { says = rw (e, f, h) (new-is g a b (storeOf m c) (ready .audited) y ∙ w .says); kept = w .kept }
+        go (a ∷ l) (b ∷ r) p q e f y h w = working-is (rw (e, f, h) (new-is g a b (storeOf m c) (ready .audited) y)) w
 
 -- the heads that step 1 leaves
 pub heads-apart : (l r : List ℕ) → Apart l r → HeadsApart l r

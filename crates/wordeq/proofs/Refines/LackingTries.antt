@@ -9,6 +9,7 @@ use Rattle.records.specs.View.{Lent, lent, storeOf, readIn, termed}
 use Rattle.records.specs.Rules.{listLimit}
 use Rattle.records.specs.Working.Audited.{Ready}
 use Rattle.records.proofs.ListLaws.{list-short}
+use Rattle.records.proofs.Doing.{working-same}
 use Rattle.wordeq.specs.declared.StepResult.the-variants as step
 use Rattle.wordeq.specs.Wordeq.{fixed, lettersOf, letters, unequal, short, absent, constants}
 use Rattle.wordeq.specs.Working.Sides.{Texts, Spelled}
@@ -58,11 +59,11 @@ module _ (m : Lent) (c : State) (l r : List ℕ) where
   constants-need x b = (ready-readIn m c x, list-short (storeOf m c) l (b .left), list-short (storeOf m c) r (b .right))
 
   -- and what it answers
-  module _ (b : Bool) (e : b ≡ conflicts (readIn (m .terms) (m .chars) c) l r) where
+  module _ (ready : Ready m c) (b : Bool) (e : b ≡ conflicts (readIn (m .terms) (m .chars) c) l r) where
     pub constants-conflict : b ≡ true → Tries (constants l r) m m c (step.Conflict c)
     unfolding constants conflicts
-    constants-conflict q = record { is = λ k. record { says = (let f = sym (e ∙ conflicts-whole) ∙ q in rw f); kept = refl } }
+    constants-conflict q = record { is = λ k. working-same ready (let f = sym (e ∙ conflicts-whole) ∙ q in rw f) }
 
     pub constants-pass : b ≡ false → Tries (constants l r) m m c (step.Done c)
     unfolding constants conflicts
-    constants-pass q = record { is = λ k. record { says = (let f = sym (e ∙ conflicts-whole) ∙ q in rw f); kept = refl } }
+    constants-pass q = record { is = λ k. working-same ready (let f = sym (e ∙ conflicts-whole) ∙ q in rw f) }

@@ -12,8 +12,10 @@ use Rattle.records.specs.Lists.{all, sameWord}
 use Rattle.records.specs.Store.{Store, Out, ok, Work, andThen, isConstant, isString, text, sameClass}
 use Rattle.records.specs.View.{Lent, lent, storeOf, readIn}
 use Rattle.records.specs.Working.Audited.{Ready}
-use Rattle.records.specs.Calls.{Working, added}
+use Rattle.records.specs.Calls.{added}
+use Rattle.records.specs.Working.Doing.{Working}
 use Rattle.records.proofs.Lists.{both-true}
+use Rattle.records.proofs.Doing.{working-same, working-is}
 use Rattle.engine.specs.Explain.{explain, explainArguments}
 use Rattle.wordeq.specs.Wordeq.{explainPair, nfExplain}
 use Rattle.wordeq.specs.Working.Stripping.{Readable, Pair}
@@ -43,19 +45,19 @@ module _ (t e h r ks : List ℕ) (c : State) (a b : ℕ) where
   abbrev s : Store
   s = storeOf m c
 
-  pub pair-number : a ≡ b → Working (explainPair a b) m m c (added (adding.Counts c) m)
+  pub pair-number : Ready m c → a ≡ b → Working (explainPair a b) m m c (added (adding.Counts c) m)
   unfolding explainPair
-  pair-number i = record { says = rw (eq-eqb a b i); kept = refl }
+  pair-number y i = working-same y (rw (eq-eqb a b i))
 
   module _ (d : a ≡ b → ⊥) (x : Bool) (i : x ≡ (isConstant s a && isConstant s b && sameWord (text s a) (text s b))) where
-    pub pair-alike : x ≡ true → Working (explainPair a b) m m c (added (adding.Counts c) m)
+    pub pair-alike : Ready m c → x ≡ true → Working (explainPair a b) m m c (added (adding.Counts c) m)
     unfolding explainPair
-    pair-alike j = record { says = rw (ne-eqb a b d, sym i ∙ j); kept = refl }
+    pair-alike y j = working-same y (rw (ne-eqb a b d, sym i ∙ j))
 
     module _ (j : x ≡ false) (y : Bool) (f : y ≡ sameClass s a b) where
-      pub pair-apart : not y ≡ true → Working (explainPair a b) m m c (added (adding.Counts c) m)
+      pub pair-apart : Ready m c → not y ≡ true → Working (explainPair a b) m m c (added (adding.Counts c) m)
       unfolding explainPair
-      pair-apart z = record { says = rw (ne-eqb a b d, sym i ∙ j, sym f ∙ not-true y z); kept = refl }
+      pair-apart k z = working-same k (rw (ne-eqb a b d, sym i ∙ j, sym f ∙ not-true y z))
 
       module _ (z : not y ≡ false) where
         pub pair-arguments : Pair (readIn t h c) a b → explainArguments a b s ≡ true
@@ -63,7 +65,7 @@ module _ (t e h r ks : List ℕ) (c : State) (a b : ℕ) where
 
         pub pair-explained : {m′ : Lent} {o : Out (Unit {0})} → Working (explain a b) m m′ c o → Working (explainPair a b) m m′ c o
         unfolding explainPair
-        pair-explained w = record { says = rw (ne-eqb a b d, sym i ∙ j, sym f ∙ not-false y z) (w .says); kept = w .kept }
+        pair-explained w = working-is (rw (ne-eqb a b d, sym i ∙ j, sym f ∙ not-false y z)) w
 
 -- EACH PAIR
 

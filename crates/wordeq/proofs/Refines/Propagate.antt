@@ -12,24 +12,26 @@ use Rattle.records.specs.declared.State.{State}
 use Rattle.records.specs.declared.Made.{Made}
 use Rattle.records.specs.declared.Made.the-variants.{Term, Refused}
 use Rattle.records.specs.Lists.{all, firstOf, Every}
-use Rattle.records.specs.Store.{Store, andThen, within, kind, isVariable, isString}
+use Rattle.records.specs.Store.{Store, ok, andThen, within, kind, isVariable, isString}
 use Rattle.records.specs.View.{Lent, storeOf, readIn, termed}
 use Rattle.records.specs.Make.{makeConstant}
 use Rattle.records.specs.Working.Audited.{Ready}
-use Rattle.records.specs.Calls.{Working, made}
+use Rattle.records.specs.Calls.{made}
+use Rattle.records.specs.Working.Doing.{Working}
 use Rattle.records.proofs.Lists.{both-left, both-right, failed, passed, every-map, all-every}
 use Rattle.records.proofs.Grown.{grown-string}
-use Rattle.records.proofs.Kept.{MadeIn, made-string}
+use Rattle.records.proofs.Kept.{made-string}
+use Rattle.records.proofs.Doing.{working-at, working-is, constant-fit}
 use Rattle.wordeq.specs.declared.StepResult.{StepResult}
 use Rattle.wordeq.specs.declared.StepResult.the-variants as step
-use Rattle.wordeq.specs.Wordeq.{same, fixed, letters, isPlain, empties, emptiesAt, assigns}
+use Rattle.wordeq.specs.Wordeq.{Answer, Tried, same, fixed, letters, isPlain, empties, emptiesAt, assigns}
 use Rattle.wordeq.specs.Working.Results.{tried, Tries}
-use Rattle.wordeq.specs.Working.Stripping.{Readable, Pair}
+use Rattle.wordeq.specs.Working.Stripping.{Pair}
 use Rattle.wordeq.specs.Working.Propagates.{aliased, emptied, assigned, linked}
 use Rattle.wordeq.proofs.Refines.Stripping.{drop-head}
-use Rattle.records.proofs.Sequence.{made-is, made-stops}
-use Rattle.wordeq.proofs.Refines.SplitAtoms.{constant-in, empty-ready}
-use Rattle.wordeq.proofs.Refines.PropagateMakes.{assigns-done, assigns-stop}
+use Rattle.wordeq.proofs.Refines.Leaving.{one-store, working-answer, made-at}
+use Rattle.wordeq.proofs.Refines.SplitAtoms.{no-characters}
+use Rattle.wordeq.proofs.Refines.PropagateMakes.{assigns-made}
 
 -- THE TESTS
 
@@ -98,7 +100,11 @@ module _ (s : Store) (c : State) (l : List ℕ) (w i : ℕ) (h : firstOf (λ v. 
 pub emptied-parts : (s : Store) (l r : List ℕ) → emptied s l r ≡ true → (length l ≡ 0) × (2 ≤ length r) × (all (isVariable s) r ≡ true)
 emptied-parts s l r h = (eqb-true _ _ (both-left _ _ (both-left _ _ h)), leb-true _ _ (both-right (eqb (length l) 0) _ (both-left _ _ h)), both-right (eqb (length l) 0 && leb 2 (length r)) _ h)
 
-empties-is : (s : Store) (r : List ℕ) → 2 ≤ length r → all (isVariable s) r ≡ true → empties [] r s ≡ andThen (λ e s₁. emptiesAt e (firstOf (λ v. not (same s₁ v e)) r) s₁) (makeConstant [] s)
+-- what follows the word ""
+abbrev following : List ℕ → ℕ → Tried
+following r e s = emptiesAt e (firstOf (λ v. not (same s v e)) r) s
+
+empties-is : (s : Store) (r : List ℕ) → 2 ≤ length r → all (isVariable s) r ≡ true → empties [] r s ≡ andThen (following r) (makeConstant [] s)
 unfolding empties
 empties-is s [] n h = absurd (omega arith)
 empties-is s (a ∷ []) n h = absurd (omega arith)
@@ -108,12 +114,19 @@ variable-string : (s : Store) (v : ℕ) → isVariable s v ≡ true → isString
 unfolding within
 variable-string s v h = rw (eqb-true (kind s v) 2 h)
 
-empties-shape : (m : Lent) (c : State) (l : List ℕ) → emptied (termed (m .terms) c) [] l ≡ true → empties [] l (storeOf m c) ≡ andThen (λ e s₁. emptiesAt e (firstOf (λ v. not (same s₁ v e)) l) s₁) (makeConstant [] (storeOf m c))
+empties-shape : (m : Lent) (c : State) (l : List ℕ) → emptied (termed (m .terms) c) [] l ≡ true → empties [] l (storeOf m c) ≡ andThen (following l) (makeConstant [] (storeOf m c))
 empties-shape m c l h = let p = emptied-parts (storeOf m c) [] l h in empties-is (storeOf m c) l (p .1) (p .2)
 
 module _ {m m₁ : Lent} {c : State} {x : Made} (l : List ℕ) (h : emptied (termed (m .terms) c) [] l ≡ true) (w : Working (makeConstant []) m m₁ c (made x m₁)) where
+  empties-made : {y : Made} → x ≡ y → Working (empties [] l) m m₁ c (andThen (following l) (made y m₁))
+  empties-made e = working-is (empties-shape m c l h) (working-answer (following l) (λ t s s′ a i. idle t (firstOf (λ v. not (same s v t)) l) i) (made-at e w))
+    where
+      idle : (t : ℕ) (o : Option ℕ) {s s′ : Store} {a : Option Answer} → emptiesAt t o s ≡ ok s′ a → s ≡ s′
+      idle t none i = one-store i
+      idle t (some v) i = one-store i
+
   pub empties-stop : {k : ℕ} → x ≡ Refused k → Tries (empties [] l) m m₁ c (step.Refused k)
-  empties-stop e = record { is = λ k. record { says = empties-shape m c l h ∙ ap (andThen (λ e s₁. emptiesAt e (firstOf (λ v. not (same s₁ v e)) l) s₁)) (made-stops e w .says); kept = w .kept } }
+  empties-stop e = record { is = λ k. empties-made e }
 
   module _ {t : ℕ} {d : State} (e : x ≡ Term t d) where
     linked-tried : (k : List ℕ) (o : Option ℕ) → emptiesAt t o (storeOf m₁ d) ≡ tried (linked d t o) m₁ k
@@ -123,27 +136,15 @@ module _ {m m₁ : Lent} {c : State} {x : Made} (l : List ℕ) (h : emptied (ter
     pub empties-done : {o : StepResult} → o ≡ linked d t (firstOf (λ v. not (same (readIn (m₁ .terms) (m₁ .chars) d) v t)) l) → Tries (empties [] l) m m₁ c o
     unfolding same
     empties-done {o} f = record {
-      is = λ k. record {
-        says =
-            empties-shape m c l h ∙ ap (andThen (λ e s₁. emptiesAt e (firstOf (λ v. not (same s₁ v e)) l) s₁)) (made-is e w .says)
-            ∙ linked-tried k (firstOf (λ v. not (same (storeOf m₁ d) v t)) l) ∙ ap (λ (z : StepResult). tried z m₁ k) (sym f);
-        kept = w .kept;
-      };
+      is = λ k. working-at (linked-tried k (firstOf (λ v. not (same (storeOf m₁ d) v t)) l) ∙ ap (λ (z : StepResult). tried z m₁ k) (sym f)) (empties-made e);
     }
 
-    module _ (ready : Ready m c) where
-      empty-in : MadeIn (storeOf m c) (storeOf m₁ d) t 1
-      unfolding all
-      empty-in = constant-in ready e [] refl w
-
-      pub empties-able : length (m₁ .terms) ≡ length (m .terms) → length (m₁ .cells) ≡ length (m .cells) → Readable (m₁ .terms) (m₁ .chars) d
-      empties-able p q = record { cells = m₁ .cells; reasons = m₁ .reasons; keys = m₁ .keys; ready = empty-ready ready p q w e }
-
-      pub empties-pairs : Every (λ v. Pair (readIn (m₁ .terms) (m₁ .chars) d) v t) l
-      unfolding within
-      empties-pairs =
-          every-map (λ v i. record { one = grown-string (empty-in .grown) v (variable-string (storeOf m c) v i); other = made-string empty-in refl })
-          (all-every (isVariable (storeOf m c)) l (emptied-parts (storeOf m c) [] l h .2))
+    pub empties-pairs : Ready m c → Every (λ v. Pair (readIn (m₁ .terms) (m₁ .chars) d) v t) l
+    unfolding within
+    empties-pairs ready =
+        let x = constant-fit (storeOf m c) (storeOf m₁ d) t (ready .audited) [] no-characters (made-at e w .says) in
+        every-map (λ v i. record { one = grown-string (x .grown) v (variable-string (storeOf m c) v i); other = made-string x refl })
+        (all-every (isVariable (storeOf m c)) l (emptied-parts (storeOf m c) [] l h .2))
 
 -- A LONE VARIABLE AGAINST CONSTANTS
 
@@ -153,10 +154,10 @@ both-whole m c a l h = h
 
 module _ {m m₁ : Lent} {c : State} {x : Made} (a : ℕ) (l : List ℕ) (h : isVariable (termed (m .terms) c) a && fixed (termed (m .terms) c) l ≡ true) (w : Working (λ s. makeConstant (letters s l) s) m m₁ c (made x m₁)) where
   pub assigned-done : {t : ℕ} {d : State} → x ≡ Term t d → Tries (assigns (a ∷ []) l) m m₁ c (step.Propagate d a t false)
-  assigned-done e = record { is = λ k. assigns-done a l (both-whole m c a l h) w e }
+  assigned-done e = record { is = λ k. assigns-made a l (both-whole m c a l h) w e }
 
   pub assigned-stop : {k : ℕ} → x ≡ Refused k → Tries (assigns (a ∷ []) l) m m₁ c (step.Refused k)
-  assigned-stop e = record { is = λ k. assigns-stop a l (both-whole m c a l h) w e }
+  assigned-stop e = record { is = λ k. assigns-made a l (both-whole m c a l h) w e }
 
 pub side-fixed : (m : Lent) (c : State) (a : ℕ) (l : List ℕ) → isVariable (termed (m .terms) c) a && fixed (termed (m .terms) c) l ≡ true → fixed (storeOf m c) l ≡ true
 unfolding fixed

@@ -17,8 +17,9 @@ use Rattle.records.specs.View.{Lent, storeOf, pairsView}
 use Rattle.records.specs.Make.{withReasons}
 use Rattle.records.specs.Rules.{audit, listLimit, isList}
 use Rattle.records.specs.Working.Audited.{Ready}
-use Rattle.records.specs.Calls.{Working}
+use Rattle.records.specs.Working.Doing.{Working}
 use Rattle.records.proofs.Lists.{both-left, both-right, left-false, and-next, all-every}
+use Rattle.records.proofs.Doing.{works}
 use Rattle.records.proofs.Public.{audit-low, passed-ready}
 use Rattle.records.proofs.Works.{stop-not}
 use Rattle.normalize.proofs.ListCalls.{listed-short, listed-unready, listed-unfit, listed-works}
@@ -30,7 +31,7 @@ use Rattle.wordeq.specs.Working.Resolving.{closing, flatSteps, ran}
 use Rattle.wordeq.specs.Repeated.{Decides}
 use Rattle.wordeq.specs.Calls.{equalArguments, PublicResolve, resolved}
 use Rattle.records.proofs.ListLaws.{list-strings}
-use Rattle.wordeq.proofs.Resolve.{resolve-gives, resolve-grows, resolve-sound, resolve-stops}
+use Rattle.wordeq.proofs.Resolve.{resolve-gives, resolve-grows, resolve-kept, resolve-sound, resolve-stops}
 use Rattle.wordeq.proofs.Decided.{resolve-decides}
 
 -- CLOSED
@@ -55,12 +56,17 @@ resolve-is : (l r : List ℕ) (g : ℤ) (s : Store) → resolve l r g s ≡ andT
 unfolding resolve ran flatSteps
 resolve-is l r g s = refl
 
-pub resolve-closed : (m : Lent) (c : State) (l r : List ℕ) (g : ℤ) → SFits w32 g → {m′ : Lent} (k : List ℕ) (o : StepResult) → Working (ran l r (toZ w32 (ofZ w32 g))) m m′ c (resolved o m′ k)
-    → (x : StepResult) → x ≡ closing (c .reasons) o → Working (resolve l r g) m m′ c (resolved x m′ k)
-resolve-closed m c l r g f {m′} k o w x i = record {
-  says = resolve-is l r g (storeOf m c) ∙ ap (andThen (closed (pairsView (m .reasons) (c .reasons)))) (ap (λ (y : ℤ). ran l r y (storeOf m c)) (sym (toZ-ofZ w32 g f)) ∙ w .says) ∙ closed-is m m′ c k (w .kept) o ∙ ap (λ (z : StepResult). resolved z m′ k) (sym i);
-  kept = w .kept;
-}
+pub resolve-closed : (m : Lent) (c : State) (l r : List ℕ) (g : ℤ) → Ready m c → BothLists (storeOf m c) l r → SFits w32 g → {m′ : Lent} (k : List ℕ) (o : StepResult)
+    → Working (ran l r (toZ w32 (ofZ w32 g))) m m′ c (resolved o m′ k) → (x : StepResult) → x ≡ closing (c .reasons) o → Working (resolve l r g) m m′ c (resolved x m′ k)
+resolve-closed m c l r g ready lists f {m′} k o w x i =
+    works ready (resolve-kept l r g (storeOf m c) (ready .audited) (list-strings (storeOf m c) l (lists .left)) (list-strings (storeOf m c) r (lists .right)))
+    (record {
+      says =
+          resolve-is l r g (storeOf m c)
+          ∙ ap (andThen (closed (pairsView (m .reasons) (c .reasons)))) (ap (λ (y : ℤ). ran l r y (storeOf m c)) (sym (toZ-ofZ w32 g f)) ∙ w .says)
+          ∙ closed-is m m′ c k (w .kept) o ∙ ap (λ (z : StepResult). resolved z m′ k) (sym i);
+      kept = w .kept;
+    })
 
 -- ARGUMENTS
 

@@ -6,28 +6,31 @@ use mathlib.Core.Option.{none}
 use Prim.Native.Nat.{ℕ, _≤_}
 use native.Mathlib.Omega.{arith}
 use lib.ListN.{length, take, set}
-use borrow.Author.Tests.{eq-eqb, ne-eqb}
+use borrow.Author.Tests.{eq-eqb, ne-eqb, le-leb}
 use Rattle.records.specs.declared.State.{State}
 use Rattle.records.specs.declared.Made.{Made}
 use Rattle.records.specs.declared.Made.the-variants.{Term, Refused}
 use Rattle.records.specs.declared.Named.{Named}
-use Rattle.records.specs.Lists.{if_then_else_, all, none-left, and}
+use Rattle.records.specs.Lists.{if_then_else_, all}
 use Rattle.records.specs.Store.{Store, Out, ok, stop, Work, andThen, _>>=_, give, within, isConstant, isString, text}
 use Rattle.records.specs.View.{Lent, storeOf}
-use Rattle.records.specs.Rules.{isChar, isEquatable, named}
-use Rattle.records.specs.Make.{lookup, makeConstant, makeVariable, makeConcat, makeLength, makeEquation, takeName}
-use Rattle.records.specs.Working.Audited.{Audited, Ready}
-use Rattle.records.specs.Calls.{Working, made, Taken}
-use Rattle.records.proofs.Lists.{both-true, every-all}
-use Rattle.records.proofs.Works.{via, branch}
-use Rattle.records.proofs.Grown.{Grown, grown-string, grown-kind, grown-then}
-use Rattle.records.proofs.Kept.{MadeIn, made-string, constant-kept, concat-kept, length-kept, equation-kept, name-taken, name-audited, fresh-kept}
-use Rattle.records.proofs.Passed.{ready-after}
+use Rattle.records.specs.Rules.{isChar, named}
+use Rattle.records.specs.Make.{lookup, makeConstant, makeVariable, makeConcat, makeLength, makeEquation, variableArguments, concatArguments, equationArguments, nameOf, takeName}
+use Rattle.records.specs.Working.Audited.{Ready}
+use Rattle.records.specs.Calls.{made}
+use Rattle.records.specs.Working.Doing.{Working, Taken}
+use Rattle.records.proofs.Lists.{both-true}
+use Rattle.records.proofs.Works.{branch}
+use Rattle.records.proofs.Grown.{grown-string, grown-kind}
+use Rattle.records.proofs.Kept.{made-string, name-characters, name-filled, NameTaken, name-taken, fresh-kept}
+use Rattle.records.proofs.Doing.{working-same, working-stopped, constant-fit, concat-fit, length-fit}
 use Rattle.wordeq.specs.Wordeq.{Tried, freshVariable}
 use Rattle.wordeq.specs.Working.Splits.{prefixAtom, emptyAtom, characterAtom, lengthsAtom, characterAtoms, prefixAtoms, headAtoms}
 use Rattle.wordeq.specs.Working.Heads.{atomsBy, atomsOf}
 use Rattle.wordeq.proofs.Counted.{equatable-strings, equatable-lengths, characterThen, headsThen}
 use Rattle.records.proofs.Sequence.{Grows, grows-then, grows-constant, grows-variable, grows-concat, grows-length, grows-equation, grows-give, grows-name, working-then, working-stop, made-is, made-then, made-stop}
+use Rattle.normalize.proofs.Carried.{working-left}
+use Rattle.wordeq.proofs.Refines.Leaving.{made-ready, made-stays}
 
 -- A FRESH VARIABLE
 
@@ -40,44 +43,40 @@ module _ {m : Lent} {c : State} (r : Named) (x : Taken m c r) where
   answered b = if b then ok (storeOf m (r .state)) (take (r .len) (r .name)) else stop (r .code)
 
   taken-zero : r .code ≡ 0 → Working takeName m m c (ok (storeOf m (r .state)) (take (r .len) (r .name)))
-  taken-zero e = record { says = x .says ∙ ap answered (eq-eqb (r .code) 0 e); kept = refl }
+  taken-zero e = working-left (x .ready) (x .says ∙ ap answered (eq-eqb (r .code) 0 e)) refl
 
   pub named-stop : (r .code ≡ 0 → ⊥) → Working freshVariable m m c (stop (r .code))
   unfolding freshVariable
-  named-stop d = working-stop {w = takeName} makeVariable (record { says = x .says ∙ ap answered (ne-eqb (r .code) 0 d); kept = refl })
+  named-stop d = working-stop {w = takeName} makeVariable (working-stopped (x .says ∙ ap answered (ne-eqb (r .code) 0 d)) refl)
 
-  pub named-ready : Ready m c → r .code ≡ 0 → Ready m (r .state)
-  named-ready ready e = ready-after ready refl refl (name-audited (storeOf m c) (storeOf m (r .state)) _ (ready .audited) (taken-zero e .says))
+  name-of : r .code ≡ 0 → NameTaken (storeOf m c) (storeOf m (r .state)) (take (r .len) (r .name))
+  name-of e = name-taken (storeOf m c) (storeOf m (r .state)) _ (taken-zero e .says)
+
+  pub named-arguments : r .code ≡ 0 → variableArguments (take (r .len) (r .name)) (storeOf m (r .state)) ≡ true
+  named-arguments e =
+      let y = name-of e in
+      ap (λ (w : List ℕ). variableArguments w (storeOf m (r .state))) (y .name-is) ∙ both-true _ _ (le-leb 1 (length (nameOf (y .number))) (name-filled (y .number))) (name-characters (y .number))
 
   pub named-new : r .code ≡ 0 → lookup (named (take (r .len) (r .name))) (storeOf m (r .state)) ≡ none
-  named-new e = name-taken (storeOf m c) (storeOf m (r .state)) _ (taken-zero e .says) .new
+  named-new e = name-of e .new
 
   pub named-then : r .code ≡ 0 → {m₁ : Lent} {o : Out ℕ} → Working (makeVariable (take (r .len) (r .name))) m m₁ (r .state) o → Working freshVariable m m₁ c o
   unfolding freshVariable
   named-then e w = working-then makeVariable (r .state) (take (r .len) (r .name)) grows-name (taken-zero e) w
 
--- WHAT A MAKE LEAVES
+-- WHAT A MAKE REQUIRES
 
--- the slices after a make, which keep their lengths, are ready for the next
-pub next-ready : {m m₁ : Lent} {c d : State} {t k : ℕ} → Ready m c → length (m₁ .terms) ≡ length (m .terms) → length (m₁ .cells) ≡ length (m .cells) → MadeIn (storeOf m c) (storeOf m₁ d) t k → Ready m₁ d
-next-ready ready p q x = ready-after ready p q (x .audited)
+pub no-characters : all isChar [] ≡ true
+unfolding all
+no-characters = refl
 
-module _ {m m₁ : Lent} {c d : State} {r : Made} {t : ℕ} (ready : Ready m c) (e : r ≡ Term t d) where
-  pub fresh-in : Working freshVariable m m₁ c (made r m₁) → MadeIn (storeOf m c) (storeOf m₁ d) t 2
-  unfolding freshVariable
-  fresh-in w = fresh-kept (storeOf m c) (storeOf m₁ d) t (ready .audited) (made-is e w .says) .made
+pub one-character : (ch : ℕ) → isChar ch ≡ true → all isChar (ch ∷ []) ≡ true
+unfolding all
+one-character ch h = both-true (isChar ch) true h refl
 
-  pub constant-in : (u : List ℕ) → all isChar u ≡ true → Working (makeConstant u) m m₁ c (made r m₁) → MadeIn (storeOf m c) (storeOf m₁ d) t 1
-  constant-in u h w = constant-kept u (storeOf m c) (storeOf m₁ d) t (ready .audited) h (made-is e w .says) .made
-
-  pub concat-in : (a b : ℕ) → isString (storeOf m c) a ≡ true → isString (storeOf m c) b ≡ true → Working (makeConcat (a ∷ b ∷ [])) m m₁ c (made r m₁) → MadeIn (storeOf m c) (storeOf m₁ d) t 3
-  concat-in a b h i w = concat-kept (a ∷ b ∷ []) (storeOf m c) (storeOf m₁ d) t (ready .audited) (omega arith) (every-all (and h (and i none-left))) (made-is e w .says) .made
-
-  pub length-in : (a : ℕ) → isString (storeOf m c) a ≡ true → Working (makeLength a) m m₁ c (made r m₁) → MadeIn (storeOf m c) (storeOf m₁ d) t 4
-  length-in a h w = length-kept a (storeOf m c) (storeOf m₁ d) t (ready .audited) h (made-is e w .says) .made
-
-  pub equation-in : (a b : ℕ) → isEquatable (storeOf m c) a b ≡ true → Working (makeEquation a b) m m₁ c (made r m₁) → MadeIn (storeOf m c) (storeOf m₁ d) t 5
-  equation-in a b h w = equation-kept a b (storeOf m c) (storeOf m₁ d) t (ready .audited) h (made-is e w .says) .made
+two-parts : (s : Store) (a b : ℕ) → isString s a ≡ true → isString s b ≡ true → concatArguments (a ∷ b ∷ []) s ≡ true
+unfolding all
+two-parts s a b p q = both-true (isString s a) _ p (both-true (isString s b) true q refl)
 
 -- v = h ++ z
 
@@ -97,16 +96,18 @@ module _ {m m₁ : Lent} {c : State} {r₁ : Made} (v h : ℕ) (w₁ : Working f
         made-then (λ z. makeConcat (h ∷ z ∷ []) >>= makeEquation v) grows-fresh e₁ w₁
         (made-then (makeEquation v) (grows-concat (h ∷ z ∷ [])) e₂ w₂ w₃)
 
-module _ {m m₁ : Lent} {c d : State} {z : ℕ} {r₁ : Made} (ready : Ready m c) (p : length (m₁ .terms) ≡ length (m .terms)) (q : length (m₁ .cells) ≡ length (m .cells)) (w₁ : Working freshVariable m m₁ c (made r₁ m₁)) (e₁ : r₁ ≡ Term z d) where
-  pub prefix-ready : Ready m₁ d
-  prefix-ready = next-ready ready p q (fresh-in ready e₁ w₁)
+module _ {m m₁ : Lent} {c d : State} {z : ℕ} {r₁ : Made} (h : ℕ) (ready : Ready m c) (sh : isString (storeOf m c) h ≡ true) (w₁ : Working freshVariable m m₁ c (made r₁ m₁)) (e₁ : r₁ ≡ Term z d) where
+  pub prefix-parts : concatArguments (h ∷ z ∷ []) (storeOf m₁ d) ≡ true
+  unfolding freshVariable within
+  prefix-parts =
+      two-parts (storeOf m₁ d) h z (made-stays grows-fresh e₁ w₁ h sh) (made-string (fresh-kept (storeOf m c) (storeOf m₁ d) z (ready .audited) (made-is e₁ w₁ .says) .made) refl)
 
-  pub prefix-ready-2 : (h : ℕ) → isString (storeOf m c) h ≡ true → {m₂ : Lent} {r₂ : Made} {t : ℕ} {d₂ : State} → length (m₂ .terms) ≡ length (m₁ .terms) → length (m₂ .cells) ≡ length (m₁ .cells)
-      → Working (makeConcat (h ∷ z ∷ [])) m₁ m₂ d (made r₂ m₂) → r₂ ≡ Term t d₂ → Ready m₂ d₂
+  pub prefix-sides : (v : ℕ) → isString (storeOf m c) v ≡ true → {m₂ : Lent} {r₂ : Made} {t : ℕ} {d₂ : State} → Working (makeConcat (h ∷ z ∷ [])) m₁ m₂ d (made r₂ m₂) → r₂ ≡ Term t d₂
+      → equationArguments v t (storeOf m₂ d₂) ≡ true
   unfolding within
-  prefix-ready-2 h sh p₂ q₂ w₂ e₂ =
-      let x = fresh-in ready e₁ w₁ in
-      next-ready prefix-ready p₂ q₂ (concat-in prefix-ready e₂ h z (grown-string (x .grown) h sh) (made-string x refl) w₂)
+  prefix-sides v sv {m₂} {r₂} {t} {d₂} w₂ e₂ =
+      equatable-strings (storeOf m₂ d₂) v t (made-stays (grows-concat (h ∷ z ∷ [])) e₂ w₂ v (made-stays grows-fresh e₁ w₁ v sv))
+      (made-string (concat-fit (storeOf m₁ d) (storeOf m₂ d₂) t (made-ready e₁ w₁ .audited) (h ∷ z ∷ []) prefix-parts (made-is e₂ w₂ .says)) refl)
 
 -- v = ""
 
@@ -119,9 +120,12 @@ module _ {m m₁ : Lent} {c : State} {r₁ : Made} (v : ℕ) (w₁ : Working (ma
   unfolding emptyAtom
   empty-done e w₂ = made-then (makeEquation v) (grows-constant []) e w₁ w₂
 
-pub empty-ready : {m m₁ : Lent} {c d : State} {r₁ : Made} {t : ℕ} → Ready m c → length (m₁ .terms) ≡ length (m .terms) → length (m₁ .cells) ≡ length (m .cells) → Working (makeConstant []) m m₁ c (made r₁ m₁) → r₁ ≡ Term t d → Ready m₁ d
-unfolding all
-empty-ready ready p q w₁ e = next-ready ready p q (constant-in ready e [] refl w₁)
+pub empty-sides : {m m₁ : Lent} {c d : State} {r₁ : Made} {t : ℕ} (v : ℕ) → Ready m c → isString (storeOf m c) v ≡ true → Working (makeConstant []) m m₁ c (made r₁ m₁) → r₁ ≡ Term t d
+    → equationArguments v t (storeOf m₁ d) ≡ true
+unfolding within
+empty-sides {m} {m₁} {c} {d} {t = t} v ready sv w₁ e =
+    equatable-strings (storeOf m₁ d) v t (made-stays (grows-constant []) e w₁ v sv)
+    (made-string (constant-fit (storeOf m c) (storeOf m₁ d) t (ready .audited) [] no-characters (made-is e w₁ .says)) refl)
 
 -- v = ch ++ z
 
@@ -134,17 +138,11 @@ module _ {m m₁ : Lent} {c : State} {r₁ : Made} (v ch : ℕ) (w₁ : Working 
   unfolding characterAtom
   character-done e w₂ = made-then (prefixAtom v) (grows-constant (ch ∷ [])) e w₁ w₂
 
-module _ {m m₁ : Lent} {c d : State} {r₁ : Made} {h : ℕ} (ch : ℕ) (ready : Ready m c) (good : isChar ch ≡ true) (w₁ : Working (makeConstant (ch ∷ [])) m m₁ c (made r₁ m₁)) (e : r₁ ≡ Term h d) where
-  character-in : MadeIn (storeOf m c) (storeOf m₁ d) h 1
-  unfolding all
-  character-in = constant-in ready e (ch ∷ []) (both-true (isChar ch) true good refl) w₁
-
-  pub character-ready : length (m₁ .terms) ≡ length (m .terms) → length (m₁ .cells) ≡ length (m .cells) → Ready m₁ d
-  character-ready p q = next-ready ready p q character-in
-
-  pub character-string : isString (storeOf m₁ d) h ≡ true
-  unfolding within
-  character-string = made-string character-in refl
+pub character-string : {m m₁ : Lent} {c d : State} {r₁ : Made} {h : ℕ} (ch : ℕ) → Ready m c → isChar ch ≡ true → Working (makeConstant (ch ∷ [])) m m₁ c (made r₁ m₁) → r₁ ≡ Term h d
+    → isString (storeOf m₁ d) h ≡ true
+unfolding within
+character-string {m} {m₁} {c} {d} {h = h} ch ready good w₁ e =
+    made-string (constant-fit (storeOf m c) (storeOf m₁ d) h (ready .audited) (ch ∷ []) (one-character ch good) (made-is e w₁ .says)) refl
 
 -- EQUAL LENGTHS
 
@@ -162,46 +160,12 @@ module _ {m m₁ : Lent} {c : State} {r₁ : Made} (a b : ℕ) (w₁ : Working (
     unfolding lengthsAtom
     lengths-done e₂ w₃ = made-then (λ la. makeLength b >>= makeEquation la) (grows-length a) e₁ w₁ (made-then (makeEquation la) (grows-length b) e₂ w₂ w₃)
 
-module _ {m m₁ : Lent} {c d : State} {r₁ : Made} {la : ℕ} (a b : ℕ) (ready : Ready m c) (sa : isString (storeOf m c) a ≡ true) (p : length (m₁ .terms) ≡ length (m .terms)) (q : length (m₁ .cells) ≡ length (m .cells)) (w₁ : Working (makeLength a) m m₁ c (made r₁ m₁)) (e₁ : r₁ ≡ Term la d) where
-  pub lengths-ready : Ready m₁ d
-  lengths-ready = next-ready ready p q (length-in ready e₁ a sa w₁)
-
-  pub lengths-ready-2 : isString (storeOf m c) b ≡ true → {m₂ : Lent} {r₂ : Made} {lb : ℕ} {d₂ : State} → length (m₂ .terms) ≡ length (m₁ .terms) → length (m₂ .cells) ≡ length (m₁ .cells)
-      → Working (makeLength b) m₁ m₂ d (made r₂ m₂) → r₂ ≡ Term lb d₂ → Ready m₂ d₂
-  lengths-ready-2 sb p₂ q₂ w₂ e₂ = next-ready lengths-ready p₂ q₂ (length-in lengths-ready e₂ b (grown-string (length-in ready e₁ a sa w₁ .grown) b sb) w₂)
-
--- WHAT AN ATOM LEAVES
-
-pub record Left (s s′ : Store) : Type 0 where
-  pub audited : Audited s′
-  pub grown : Grown s s′
-
-left-then : {s s₁ s₂ : Store} {t k : ℕ} → Grown s s₁ → MadeIn s₁ s₂ t k → Left s s₂
-left-then g x = record { audited = x .audited; grown = grown-then g (x .grown) }
-
-pub empty-left : (v : ℕ) (s s′ : Store) (t : ℕ) → Audited s → isString s v ≡ true → emptyAtom v s ≡ ok s′ t → Left s s′
-unfolding emptyAtom all within
-empty-left v s s′ t a sv e = via (makeEquation v) (makeConstant [] s) e (λ s₁ n i j.
-    let x = constant-kept [] s s₁ n a refl i .made in
-    left-then (x .grown) (equation-kept v n s₁ s′ t (x .audited) (equatable-strings s₁ v n (grown-string (x .grown) v sv) (made-string x refl)) j .made))
-
-pub prefix-left : (v h : ℕ) (s s′ : Store) (t : ℕ) → Audited s → isString s v ≡ true → isString s h ≡ true → prefixAtom v h s ≡ ok s′ t → Left s s′
-unfolding prefixAtom freshVariable within
-prefix-left v h s s′ t a sv sh e = via (λ z. makeConcat (h ∷ z ∷ []) >>= makeEquation v) (freshVariable s) e (λ s₁ z i j. via (makeEquation v) (makeConcat (h ∷ z ∷ []) s₁) j (λ s₂ u k l.
-    let x = fresh-kept s s₁ z a i .made in
-    let y = concat-kept (h ∷ z ∷ []) s₁ s₂ u (x .audited) (omega arith) (every-all (and (grown-string (x .grown) h sh) (and (made-string x refl) none-left))) k .made in
-    let g = grown-then (x .grown) (y .grown) in
-    left-then g (equation-kept v u s₂ s′ t (y .audited) (equatable-strings s₂ v u (grown-string g v sv) (made-string y refl)) l .made)))
-
-pub lengths-left : (a b : ℕ) (s s′ : Store) (t : ℕ) → Audited s → isString s a ≡ true → isString s b ≡ true → lengthsAtom a b s ≡ ok s′ t → Left s s′
-unfolding lengthsAtom
-lengths-left a b s s′ t d sa sb e = via (λ la. makeLength b >>= makeEquation la) (makeLength a s) e (λ s₁ la i j. via (makeEquation la) (makeLength b s₁) j (λ s₂ lb k l.
-    let x = length-kept a s s₁ la d sa i .made in
-    let y = length-kept b s₁ s₂ lb (x .audited) (grown-string (x .grown) b sb) k .made in
-    left-then (grown-then (x .grown) (y .grown)) (equation-kept la lb s₂ s′ t (y .audited) (equatable-lengths s₂ la lb (grown-kind (y .grown) la 3 (x .kind-is)) (y .kind-is)) l .made)))
-
-pub left-ready : {m m₁ : Lent} {c d : State} → Ready m c → length (m₁ .terms) ≡ length (m .terms) → length (m₁ .cells) ≡ length (m .cells) → Left (storeOf m c) (storeOf m₁ d) → Ready m₁ d
-left-ready ready p q x = ready-after ready p q (x .audited)
+pub lengths-sides : {m m₁ m₂ : Lent} {c d d₂ : State} {r₁ r₂ : Made} {la lb : ℕ} (a b : ℕ) → Ready m c → isString (storeOf m c) a ≡ true → isString (storeOf m c) b ≡ true
+    → Working (makeLength a) m m₁ c (made r₁ m₁) → r₁ ≡ Term la d → Working (makeLength b) m₁ m₂ d (made r₂ m₂) → r₂ ≡ Term lb d₂ → equationArguments la lb (storeOf m₂ d₂) ≡ true
+lengths-sides {m} {m₁} {m₂} {c} {d} {d₂} {la = la} {lb = lb} a b ready sa sb w₁ e₁ w₂ e₂ =
+    let x = length-fit (storeOf m c) (storeOf m₁ d) la (ready .audited) a sa (made-is e₁ w₁ .says) in
+    let y = length-fit (storeOf m₁ d) (storeOf m₂ d₂) lb (x .audited) b (grown-string (x .grown) b sb) (made-is e₂ w₂ .says) in
+    equatable-lengths (storeOf m₂ d₂) la lb (grown-kind (y .grown) la 3 (x .kind-is)) (y .kind-is)
 
 -- THE LISTS
 
@@ -253,8 +217,8 @@ three-put (x ∷ y ∷ []) p q u h = absurd (omega arith)
 three-put (x ∷ y ∷ z ∷ l) p q u h = refl
 
 -- the list as it stands in the slice
-given : {m : Lent} {c : State} {l k : List ℕ} → k ≡ l → Working (give l) m m c (ok (storeOf m c) k)
-given {m} {c} e = record { says = ap (ok (storeOf m c)) (sym e); kept = refl }
+given : {m : Lent} {c : State} {l k : List ℕ} → Ready m c → k ≡ l → Working (give l) m m c (ok (storeOf m c) k)
+given {m} {c} ready e = working-same ready (ap (ok (storeOf m c)) (sym e))
 
 module _ {m m₁ : Lent} {c : State} {r₁ : Made} (v ch : ℕ) (w₁ : Working (emptyAtom v) m m₁ c (made r₁ m₁)) where
   pub characters-stop : {k : ℕ} → r₁ ≡ Refused k → Working (characterAtoms v ch) m m₁ c (stop k)
@@ -270,10 +234,7 @@ module _ {m m₁ : Lent} {c : State} {r₁ : Made} (v ch : ℕ) (w₁ : Working 
     unfolding characterAtoms
     characters-done {d₂} {q} l h e₂ =
         made-then (λ p. characterAtom v ch >>= (λ q. give (p ∷ q ∷ []))) (grows-empty v) e₁ w₁
-        (made-then (λ q. give (p ∷ q ∷ [])) (grows-character v ch) e₂ w₂ (given (two-put l p q h)))
-
-pub characters-ready : {m m₁ : Lent} {c d : State} {r₁ : Made} {p : ℕ} (v : ℕ) → Ready m c → isString (storeOf m c) v ≡ true → length (m₁ .terms) ≡ length (m .terms) → length (m₁ .cells) ≡ length (m .cells) → Working (emptyAtom v) m m₁ c (made r₁ m₁) → r₁ ≡ Term p d → Ready m₁ d
-characters-ready {m} {m₁} {c} {d} {p = p} v ready sv i j w e = left-ready ready i j (empty-left v (storeOf m c) (storeOf m₁ d) p (ready .audited) sv (made-is e w .says))
+        (made-then (λ q. give (p ∷ q ∷ [])) (grows-character v ch) e₂ w₂ (given (made-ready e₂ w₂) (two-put l p q h)))
 
 module _ {m m₁ : Lent} {c : State} {r₁ : Made} (p a b : ℕ) (w₁ : Working (prefixAtom a b) m m₁ c (made r₁ m₁)) where
   pub prefixes-stop : {k : ℕ} → r₁ ≡ Refused k → Working (prefixAtoms p a b) m m₁ c (stop k)
@@ -289,17 +250,7 @@ module _ {m m₁ : Lent} {c : State} {r₁ : Made} (p a b : ℕ) (w₁ : Working
     unfolding prefixAtoms
     prefixes-done {d₂} {u} l h e₂ =
         made-then (λ q. prefixAtom b a >>= (λ u. give (p ∷ q ∷ u ∷ []))) (grows-prefix a b) e₁ w₁
-        (made-then (λ u. give (p ∷ q ∷ u ∷ [])) (grows-prefix b a) e₂ w₂ (given (three-put l p q u h)))
-
-module _ {m m₁ : Lent} {c d : State} {r₁ : Made} {q : ℕ} (a b : ℕ) (ready : Ready m c) (sa : isString (storeOf m c) a ≡ true) (sb : isString (storeOf m c) b ≡ true) (w₁ : Working (prefixAtom a b) m m₁ c (made r₁ m₁)) (e : r₁ ≡ Term q d) where
-  prefixes-left : Left (storeOf m c) (storeOf m₁ d)
-  prefixes-left = prefix-left a b (storeOf m c) (storeOf m₁ d) q (ready .audited) sa sb (made-is e w₁ .says)
-
-  pub prefixes-ready : length (m₁ .terms) ≡ length (m .terms) → length (m₁ .cells) ≡ length (m .cells) → Ready m₁ d
-  prefixes-ready i j = left-ready ready i j prefixes-left
-
-  pub prefixes-string : isString (storeOf m₁ d) a ≡ true
-  prefixes-string = grown-string (prefixes-left .grown) a sa
+        (made-then (λ u. give (p ∷ q ∷ u ∷ [])) (grows-prefix b a) e₂ w₂ (given (made-ready e₂ w₂) (three-put l p q u h)))
 
 module _ {m m₁ : Lent} {c : State} {r₁ : Made} (a b : ℕ) (w₁ : Working (lengthsAtom a b) m m₁ c (made r₁ m₁)) where
   pub heads-stop : {k : ℕ} → r₁ ≡ Refused k → Working (headAtoms a b) m m₁ c (stop k)
@@ -309,19 +260,6 @@ module _ {m m₁ : Lent} {c : State} {r₁ : Made} (a b : ℕ) (w₁ : Working (
   pub heads-done : {d : State} {p : ℕ} {m₂ : Lent} {o : Out (List ℕ)} → r₁ ≡ Term p d → Working (prefixAtoms p a b) m₁ m₂ d o → Working (headAtoms a b) m m₂ c o
   unfolding headAtoms
   heads-done e w₂ = made-then (λ p. prefixAtoms p a b) (grows-lengths a b) e w₁ w₂
-
-module _ {m m₁ : Lent} {c d : State} {r₁ : Made} {p : ℕ} (a b : ℕ) (ready : Ready m c) (sa : isString (storeOf m c) a ≡ true) (sb : isString (storeOf m c) b ≡ true) (w₁ : Working (lengthsAtom a b) m m₁ c (made r₁ m₁)) (e : r₁ ≡ Term p d) where
-  heads-left : Left (storeOf m c) (storeOf m₁ d)
-  heads-left = lengths-left a b (storeOf m c) (storeOf m₁ d) p (ready .audited) sa sb (made-is e w₁ .says)
-
-  pub heads-ready : length (m₁ .terms) ≡ length (m .terms) → length (m₁ .cells) ≡ length (m .cells) → Ready m₁ d
-  heads-ready i j = left-ready ready i j heads-left
-
-  pub heads-string : isString (storeOf m₁ d) a ≡ true
-  heads-string = grown-string (heads-left .grown) a sa
-
-  pub heads-string-2 : isString (storeOf m₁ d) b ≡ true
-  heads-string-2 = grown-string (heads-left .grown) b sb
 
 -- THE SPLITS: their atoms, and what is done with them
 

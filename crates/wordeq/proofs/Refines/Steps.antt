@@ -2,7 +2,7 @@
 use mathlib.Core.Path.{_≡_, refl, sym, ap, subst, _∙_}
 use mathlib.Core.Bool.{Bool, true, false}
 use mathlib.Core.List.{List, [], _∷_}
-use mathlib.Core.Option.{Option}
+use mathlib.Core.Option.{Option, none, some}
 use Prim.Native.Nat.{ℕ, _-_, _*_, _^_, _≤_, _<_}
 use native.Mathlib.Omega.{arith}
 use lib.ListN.{length, drop, length-append, length-take, length-drop}
@@ -14,9 +14,10 @@ use Rattle.records.specs.Lists.{if_then_else_, all, any}
 use Rattle.records.specs.Store.{Store, Out, ok, andThen, isString}
 use Rattle.records.specs.View.{Lent, storeOf, readIn}
 use Rattle.records.specs.Rules.{listLimit}
-use Rattle.records.specs.Calls.{Working}
+use Rattle.records.specs.Working.Audited.{Ready}
+use Rattle.records.specs.Working.Doing.{Working}
 use Rattle.records.proofs.Lists.{both-right, both-true, every-all}
-use Rattle.records.proofs.Passed.{ready-after}
+use Rattle.records.proofs.Doing.{working-stopped, working-at}
 use Rattle.records.proofs.Later.{Added}
 use Rattle.wordeq.specs.declared.StepResult.{StepResult}
 use Rattle.wordeq.specs.declared.StepResult.the-variants as step
@@ -28,12 +29,14 @@ use Rattle.wordeq.specs.Calls.{resolved}
 use Rattle.wordeq.specs.Working.Sides.{Spelled}
 use Rattle.wordeq.specs.Working.Heads.{HeadsApart}
 use Rattle.wordeq.specs.Working.Stripping.{part, stripped, Inside, Needed, Strips}
+use Rattle.normalize.proofs.Carried.{working-left}
+use Rattle.wordeq.proofs.Refines.Leaving.{one-store, working-answer}
 use Rattle.wordeq.proofs.Refines.LackingTries.{constants-need, constants-conflict, constants-pass}
 use Rattle.wordeq.proofs.Strip.{strip-ends}
 use Rattle.wordeq.proofs.Strip as strip
 use Rattle.wordeq.proofs.Refines.Heads.{heads-apart}
 use Rattle.records.proofs.Counts.{Higher, agree-below}
-use Rattle.wordeq.proofs.Refines.Trying.{Lined, Last, occursBoth, conflicts, propagates, tiles, grouped, occurs-goes, conflicts-goes, propagates-goes, after-groups, tiles-goes, done-is, else-works, else-tries, else-last}
+use Rattle.wordeq.proofs.Refines.Trying.{Lined, Last, occursBoth, conflicts, propagates, tiles, grouped, both-rises, conflicts-rises, propagates-rises, tiles-rises, after-groups, passed-ready, else-works, else-tries, else-last}
 use Rattle.records.proofs.ListLaws.{list-short, list-every}
 use Rattle.wordeq.specs.Working.Lacking.{conflicts as lacks}
 
@@ -45,10 +48,10 @@ lined-readIn {l} {r} {m} {c} x = constants-need m c l r (x .ready) (x .lists)
 
 module _ (l r : List ℕ) {m m₁ : Lent} {c d : State} {o : StepResult} (w : Tries (occursBoth l r) m m₁ c o) (e : o ≡ step.Done d) (b : Bool) (h : b ≡ lacks (readIn (m₁ .terms) (m₁ .chars) d) l r) where
   pub conflicts-found : b ≡ true → Tries (conflicts l r) m m₁ c (step.Conflict d)
-  conflicts-found z = else-tries (occurs-goes l r) (done-is e w) (constants-conflict m₁ d l r b h z)
+  conflicts-found z = else-tries (both-rises l r) w e (constants-conflict m₁ d l r (passed-ready (both-rises l r) w e) b h z)
 
   pub conflicts-none : b ≡ false → Tries (conflicts l r) m m₁ c (step.Done d)
-  conflicts-none z = else-tries (occurs-goes l r) (done-is e w) (constants-pass m₁ d l r b h z)
+  conflicts-none z = else-tries (both-rises l r) w e (constants-pass m₁ d l r (passed-ready (both-rises l r) w e) b h z)
 
 -- STEPS 2 TO 7
 
@@ -62,18 +65,18 @@ module _ (l r : List ℕ) (g : ℤ) (needed : Bool) where
 
     module _ {d : State} (e₁ : o₁ ≡ step.Done d) {m₂ : Lent} {o₂ : StepResult} (w₂ : Tries (propagates l r) m₁ m₂ d o₂) where
       pub after-known : Last o₂ → (k : List ℕ) → Working (after g needed l r) m₀ m₂ c (tried o₂ m₂ k)
-      after-known z k = regrouped (else-tries (conflicts-goes l r) (done-is e₁ w₁) (else-last (tiles l r orElse (clashes l r orElse splits g needed l r)) z w₂) .is k)
+      after-known z k = regrouped (else-tries (conflicts-rises l r) w₁ e₁ (else-last (tiles l r orElse (clashes l r orElse splits g needed l r)) z w₂) .is k)
 
       module _ {e : State} (e₂ : o₂ ≡ step.Done e) {m₃ : Lent} {o₃ : StepResult} (w₃ : Tries (tiles l r) m₂ m₃ e o₃) where
         pub after-tiled : Last o₃ → (k : List ℕ) → Working (after g needed l r) m₀ m₃ c (tried o₃ m₃ k)
         after-tiled z k =
-            regrouped (else-tries (conflicts-goes l r) (done-is e₁ w₁) (else-tries (propagates-goes l r) (done-is e₂ w₂)
+            regrouped (else-tries (conflicts-rises l r) w₁ e₁ (else-tries (propagates-rises l r) w₂ e₂
             (else-last (clashes l r orElse splits g needed l r) z w₃)) .is k)
 
         -- the guard is handed on as its bits are read
         pub after-split : {h : ℤ} → h ≡ g → {f : State} {m₄ : Lent} {o : Out (Option Answer)} → o₃ ≡ step.Done f → Working (clashes l r orElse splits h needed l r) m₃ m₄ f o → Working (after g needed l r) m₀ m₄ c o
         after-split q {f} {m₄} {o} e₃ v =
-            regrouped (else-works (conflicts-goes l r) (done-is e₁ w₁) (else-works (propagates-goes l r) (done-is e₂ w₂) (else-works (tiles-goes l r) (done-is e₃ w₃)
+            regrouped (else-works (conflicts-rises l r) w₁ e₁ (else-works (propagates-rises l r) w₂ e₂ (else-works (tiles-rises l r) w₃ e₃
             (subst (λ (z : ℤ). Working (clashes l r orElse splits z needed l r) m₃ m₄ f o) q v))))
 
 -- STEP 1 FIRST
@@ -104,6 +107,10 @@ finished (step.Propagate c v w f) m k = refl
 finished (step.Split c n g j) m k = refl
 finished (step.Refused n) m k = refl
 
+or-done : (a : Option Answer) (s s′ : Store) (x : Answer) → orDone a s ≡ ok s′ x → s ≡ s′
+or-done none s s′ x e = one-store e
+or-done (some y) s s′ x e = one-store e
+
 -- what step 1 requires
 pub lined-strings : {l r : List ℕ} {m : Lent} {c : State} → Lined l r m c → (all (isString (readIn (m .terms) (m .chars) c)) l ≡ true) × (all (isString (readIn (m .terms) (m .chars) c)) r ≡ true)
 lined-strings {l} {r} {m} {c} x = (both-right (leb (length l) listLimit) _ (x .lists .left), both-right (leb (length r) listLimit) _ (x .lists .right))
@@ -111,14 +118,18 @@ lined-strings {l} {r} {m} {c} x = (both-right (leb (length l) listLimit) _ (x .l
 module _ (g : ℤ) (l r : List ℕ) {m m₁ : Lent} {c : State} {y : Stripped} (w : Strips m m₁ c l r y) where
   pub steps-refused : (k : ℕ) → y ≡ Refused k → (ks : List ℕ) → Working (steps g l r) m m₁ c (resolved (step.Refused k) m₁ ks)
   unfolding steps
-  steps-refused k j ks = record { says = rw (w .is .says ∙ ap (λ (o : Stripped). stripped o m₁ l r) j); kept = w .is .kept }
+  steps-refused k j ks = working-stopped (rw (w .is .says ∙ ap (λ (o : Stripped). stripped o m₁ l r) j)) (w .is .kept)
 
   module _ {d : State} {i p q : ℕ} {f : Bool} (j : y ≡ Parts d i p q f) where
     pub parts-inside : (i ≤ p) × (p ≤ length l) × (i ≤ q) × (q ≤ length r)
     parts-inside = subst (λ (o : Stripped). Inside o l r) j (w .inside)
 
-    strip-says : strip l r (storeOf m c) ≡ ok (storeOf m₁ d) (part l i p, part r i q)
-    strip-says = w .is .says ∙ ap (λ (o : Stripped). stripped o m₁ l r) j
+    stripping : Working (strip l r) m m₁ c (ok (storeOf m₁ d) (part l i p, part r i q))
+    stripping = working-at (ap (λ (o : Stripped). stripped o m₁ l r) j) (w .is)
+
+    -- for the steps that follow
+    parts-ready : Ready m₁ d
+    parts-ready = stripping .ready d (part l i p, part r i q) refl
 
     abbrev rest : Bool → Bool → Out Answer
     rest bare added = andThen orDone ((if bare then answer done else after g added (part l i p) (part r i q)) (storeOf m₁ d))
@@ -128,21 +139,18 @@ module _ (g : ℤ) (l r : List ℕ) {m m₁ : Lent} {c : State} {y : Stripped} (
 
     opened : steps g l r (storeOf m c) ≡ rest (isBare (part l i p) (part r i q)) asked
     unfolding steps
-    opened = rw strip-says
+    opened = rw (stripping .says)
 
     counted : isBare (part l i p) (part r i q) ≡ false → f ≡ asked
     counted z = subst (λ (o : Stripped). Needed m c l r o) j (w .needs) .is z
 
     pub steps-bare : (b : Bool) → b ≡ isBare (part l i p) (part r i q) → b ≡ true → (k : List ℕ) → Working (steps g l r) m m₁ c (resolved (step.Done d) m₁ k)
-    steps-bare b e z k = record {
-      says = opened ∙ ap (λ (x : Bool). rest x asked) (sym e ∙ z);
-      kept = w .is .kept;
-    }
+    steps-bare b e z k = working-left parts-ready (opened ∙ ap (λ (x : Bool). rest x asked) (sym e ∙ z)) (w .is .kept)
 
     module _ (x : Lined l r m c) where
       off : strip.Stripped l r (storeOf m c) (storeOf m₁ d) (part l i p, part r i q)
       off = strip-ends l r (storeOf m c) (x .ready .audited) (list-every (storeOf m c) l (x .lists .left)) (list-every (storeOf m c) r (x .lists .right)) .given
-          (storeOf m₁ d) (part l i p, part r i q) strip-says
+          (storeOf m₁ d) (part l i p, part r i q) (stripping .says)
 
       -- a place in the lists, in bytes
       pub parts-fit : i * 4 < 2 ^ 64
@@ -152,14 +160,14 @@ module _ (g : ℤ) (l r : List ℕ) {m m₁ : Lent} {c : State} {y : Stripped} (
           let f = parts-inside .1 in
           omega arith
 
-      pub parts-lined : length (m₁ .terms) ≡ length (m .terms) → length (m₁ .cells) ≡ length (m .cells) → Lined (part l i p) (part r i q) m₁ d
-      parts-lined t e =
+      pub parts-lined : Lined (part l i p) (part r i q) m₁ d
+      parts-lined =
           let a = list-short (storeOf m c) l (x .lists .left) in
           let b = list-short (storeOf m c) r (x .lists .right) in
           let f = part-short l i p in
           let h = part-short r i q in
           record {
-            ready = ready-after (x .ready) t e (off .cited .audited);
+            ready = parts-ready;
             lists = record {
               left = both-true _ _ (le-leb (length (part l i p)) listLimit (omega arith)) (every-all (off .left));
               right = both-true _ _ (le-leb (length (part r i q)) listLimit (omega arith)) (every-all (off .right));
@@ -170,9 +178,12 @@ module _ (g : ℤ) (l r : List ℕ) {m m₁ : Lent} {c : State} {y : Stripped} (
       parts-apart = heads-apart (part l i p) (part r i q) (off .apart)
 
       pub steps-after : (b : Bool) → b ≡ isBare (part l i p) (part r i q) → b ≡ false → {h : ℤ} → h ≡ g → {m₂ : Lent} (o : StepResult) (k : List ℕ) → Working (after h f (part l i p) (part r i q)) m₁ m₂ d (tried o m₂ k) → Working (steps g l r) m m₂ c (resolved o m₂ k)
-      steps-after b e z n {m₂} o k v = record {
-        says =
-            opened ∙ ap (λ (x : Bool). rest x asked) (sym e ∙ z) ∙ ap (rest false) (sym (counted (sym e ∙ z)))
-            ∙ ap (λ (y : ℤ). andThen orDone (after y f (part l i p) (part r i q) (storeOf m₁ d))) (sym n) ∙ ap (andThen orDone) (v .says) ∙ finished o m₂ k;
-        kept = agree-below m m₁ m₂ c d (higher-added (off .cited .added)) (v .kept) ∙ w .is .kept;
-      }
+      steps-after b e z n {m₂} o k v =
+          let u = working-at (finished o m₂ k) (working-answer orDone or-done v) in
+          record {
+            says =
+                opened ∙ ap (λ (x : Bool). rest x asked) (sym e ∙ z) ∙ ap (rest false) (sym (counted (sym e ∙ z)))
+                ∙ ap (λ (y : ℤ). andThen orDone (after y f (part l i p) (part r i q) (storeOf m₁ d))) (sym n) ∙ u .says;
+            kept = agree-below m m₁ m₂ c d (higher-added (off .cited .added)) (v .kept) ∙ w .is .kept;
+            ready = u .ready;
+          }

@@ -11,12 +11,13 @@ use borrow.Author.Tests.{not-true, not-false, eq-eqb, ne-eqb}
 use Rattle.records.specs.declared.State.{State}
 use Rattle.records.specs.declared.Added.the-variants as adding
 use Rattle.records.specs.Lists.{all, any}
-use Rattle.records.specs.Store.{Store, Out, ok, stop, Work, andThen, isConstant, isString}
+use Rattle.records.specs.Store.{Store, Out, ok, Work, andThen, give, isConstant, isString}
 use Rattle.records.specs.View.{Lent, lent, storeOf, readIn}
 use Rattle.records.specs.Working.Audited.{Ready}
-use Rattle.records.specs.Calls.{Working, added}
+use Rattle.records.specs.Calls.{added}
+use Rattle.records.specs.Working.Doing.{Working}
 use Rattle.records.proofs.Lists.{both-true, all-every, every-at, any-append, or-left, clash}
-use Rattle.records.proofs.Passed.{ready-after}
+use Rattle.records.proofs.Doing.{working-same, working-stopped, working-at, working-is}
 use Rattle.records.proofs.Grown.{Strings}
 use Rattle.engine.specs.Explain.{explain, explainArguments, isReasoned}
 use Rattle.wordeq.specs.declared.Rest.{Rest}
@@ -24,6 +25,7 @@ use Rattle.wordeq.specs.declared.Stripped.the-variants.{Parts, Refused}
 use Rattle.wordeq.specs.Wordeq.{same, sameHeads, sameTails, matches, inner, rest, explainMatch, explainMatches, needsReason, isBare, strip}
 use Rattle.wordeq.specs.Working.Stripping.{Pair, part, Finds, Strips, Needs, Asked}
 use Rattle.wordeq.proofs.Strip.{plainly, same-class, match-ends, matches-append, matches-end, off-heads, every-back, Match}
+use Rattle.wordeq.proofs.Refines.Leaving.{one-store, working-answer, added-at, added-ready}
 use Rattle.wordeq.proofs.Refines.Going.{Going, going-pair, going-same, kept-down}
 use Rattle.wordeq.proofs.Refines.Turning.{Turning, turning-none, turning-end, turning-refused, turning-on}
 use Rattle.records.specs.declared.Added.{Added as Answered}
@@ -42,14 +44,14 @@ module _ (t e h r ks : List ℕ) (c : State) (a b : ℕ) where
   abbrev s : Store
   s = storeOf m c
 
-  pub match-number : a ≡ b → Working (explainMatch a b) m m c (added (adding.Counts c) m)
+  pub match-number : Ready m c → a ≡ b → Working (explainMatch a b) m m c (added (adding.Counts c) m)
   unfolding explainMatch
-  match-number i = record { says = rw (eq-eqb a b i); kept = refl }
+  match-number y i = working-same y (rw (eq-eqb a b i))
 
   module _ (d : a ≡ b → ⊥) (x : Bool) (i : x ≡ (isConstant s a && isConstant s b)) where
-    pub match-constants : x ≡ true → Working (explainMatch a b) m m c (added (adding.Counts c) m)
+    pub match-constants : Ready m c → x ≡ true → Working (explainMatch a b) m m c (added (adding.Counts c) m)
     unfolding explainMatch
-    match-constants j = record { says = rw (ne-eqb a b d, sym i ∙ j); kept = refl }
+    match-constants y j = working-same y (rw (ne-eqb a b d, sym i ∙ j))
 
     module _ (j : x ≡ false) where
       apart : plainly s a b ≡ false
@@ -60,7 +62,7 @@ module _ (t e h r ks : List ℕ) (c : State) (a b : ℕ) where
 
       pub match-explained : {m′ : Lent} {o : Out (Unit {0})} → Working (explain a b) m m′ c o → Working (explainMatch a b) m m′ c o
       unfolding explainMatch
-      match-explained w = record { says = rw (ne-eqb a b d, sym i ∙ j) (w .says); kept = w .kept }
+      match-explained w = working-is (rw (ne-eqb a b d, sym i ∙ j)) w
 
 -- ONE MATCH THAT NEEDS A REASON OR NONE
 
@@ -390,16 +392,13 @@ module _ (l r : List ℕ) where
 module _ (t e h ks l r : List ℕ) {c : State} {rs rs₁ : List ℕ} (x : Rest) (f : Finds (readIn t h c) l r x) (y : Answered)
     (w : Working (explainMatches (sameHeads (readIn t h c) l r)) (lent t e h rs ks) (lent t e h rs₁ ks) c (added y (lent t e h rs₁ ks))) where
   pub both-refused : (k : ℕ) → y ≡ adding.Refused k → Working (explainMatches (matches (readIn t h c) l r)) (lent t e h rs ks) (lent t e h rs₁ ks) c (added (adding.Refused k) (lent t e h rs₁ ks))
-  both-refused k j = record {
-    says =
-        matches-append (sameHeads (readIn t h c) l r) (sameTails (readIn t h c) (length (sameHeads (readIn t h c) l r)) l r) (storeOf (lent t e h rs ks) c)
-        ∙ ap (andThen (λ (u : Unit {0}). explainMatches (sameTails (readIn t h c) (length (sameHeads (readIn t h c) l r)) l r))) (w .says ∙ ap (λ (o : Answered). added o (lent t e h rs₁ ks)) j);
-    kept = w .kept;
-  }
+  both-refused k j =
+      working-stopped (matches-append (sameHeads (readIn t h c) l r) (sameTails (readIn t h c) (length (sameHeads (readIn t h c) l r)) l r) (storeOf (lent t e h rs ks) c)
+      ∙ ap (andThen (λ (u : Unit {0}). explainMatches (sameTails (readIn t h c) (length (sameHeads (readIn t h c) l r)) l r))) (added-at j w .says)) (w .kept)
 
   module _ (d : State) (j : y ≡ adding.Counts d) (ready : Ready (lent t e h rs ks) c) (strings : all (isString (readIn t h c)) l ≡ true) (others : all (isString (readIn t h c)) r ≡ true) where
     heads-say : explainMatches (sameHeads (readIn t h c) l r) (storeOf (lent t e h rs ks) c) ≡ ok (storeOf (lent t e h rs₁ ks) d) tt
-    heads-say = w .says ∙ ap (λ (o : Answered). added o (lent t e h rs₁ ks)) j
+    heads-say = added-at j w .says
 
     pub heads-going : Going t e h ks c rs d rs₁
     heads-going =
@@ -408,7 +407,7 @@ module _ (t e h ks l r : List ℕ) {c : State} {rs rs₁ : List ℕ} (x : Rest) 
         ap (λ (p : List (ℕ × ℕ)). explainMatches p (storeOf (lent t e h rs ks) c)) (heads-by (storeOf (lent t e h rs ks) c) (readIn t h c) (same-read t e h ks rs c) l r)
         ∙ heads-say in
         let o = matches-end (sameHeads (storeOf (lent t e h rs ks) c) l r) (storeOf (lent t e h rs ks) c) (ready .audited) m .given (storeOf (lent t e h rs₁ ks) d) tt k in
-        record { ready = ready-after ready refl refl (o .audited); added = o .added; kept = w .kept }
+        record { ready = added-ready j w; added = o .added; kept = w .kept }
 
     tails-kept : sameTails (readIn t h d) (x .from) l r ≡ sameTails (readIn t h c) (x .from) l r
     tails-kept = tails-by (readIn t h d) (readIn t h c) (going-same t e h ks heads-going) (x .from) l r
@@ -429,6 +428,7 @@ module _ (t e h ks l r : List ℕ) {c : State} {rs rs₁ : List ℕ} (x : Rest) 
           ∙ ap (λ (n : ℕ). explainMatches (sameTails (readIn t h c) n l r) (storeOf (lent t e h rs₁ ks) d)) (sym (f .heads))
           ∙ ap (λ (m : List (ℕ × ℕ)). explainMatches m (storeOf (lent t e h rs₁ ks) d)) (sym tails-kept) ∙ v .says;
       kept = kept-down t e h ks heads-going rs₂ (v .kept);
+      ready = v .ready;
     }
 
 -- WHETHER A MATCH NEEDS A REASON
@@ -470,20 +470,19 @@ module _ (t e h ks l r : List ℕ) {c : State} {rs rs₁ : List ℕ} (x : Rest) 
   abbrev entry : Store
   entry = storeOf (lent t e h rs ks) c
 
-  explained : (o : Out (Unit {0})) → added y (lent t e h rs₁ ks) ≡ o → explainMatches (matches entry l r) entry ≡ o
-  explained o j = ap (λ (m : List (ℕ × ℕ)). explainMatches m entry) (matches-by entry (readIn t h c) (same-read t e h ks rs c) l r) ∙ w .says ∙ j
+  explained : {z : Answered} → y ≡ z → Working (explainMatches (matches entry l r)) (lent t e h rs ks) (lent t e h rs₁ ks) c (added z (lent t e h rs₁ ks))
+  explained j = working-is (ap (λ (m : List (ℕ × ℕ)). explainMatches m entry) (matches-by entry (readIn t h c) (same-read t e h ks rs c) l r)) (added-at j w)
+
+  stripping : {z : Answered} → y ≡ z → Working (strip l r) (lent t e h rs ks) (lent t e h rs₁ ks) c (andThen (λ u. give (rest entry l r)) (added z (lent t e h rs₁ ks)))
+  unfolding strip
+  stripping j = working-is refl (working-answer (λ u. give (rest entry l r)) (λ u s s′ x i. one-store i) (explained j))
 
   pub strip-refused : (k : ℕ) → y ≡ adding.Refused k → Strips (lent t e h rs ks) (lent t e h rs₁ ks) c l r (Refused k)
-  unfolding strip
-  strip-refused k j = record { is = record { says = rw (explained (stop k) (ap (λ (o : Answered). added o (lent t e h rs₁ ks)) j)); kept = w .kept }; inside = tt; needs = tt }
+  strip-refused k j = record { is = stripping j; inside = tt; needs = tt }
 
   pub strip-parts : (d : State) → y ≡ adding.Counts d → (b : Bool) → Asked (lent t e h rs ks) c l r (x .from) (x .lhs) (x .rhs) b → Strips (lent t e h rs ks) (lent t e h rs₁ ks) c l r (Parts d (x .from) (x .lhs) (x .rhs) b)
-  unfolding strip
   strip-parts d j b a = record {
-    is = record {
-      says = rw (explained (ok (storeOf (lent t e h rs₁ ks) d) tt) (ap (λ (o : Answered). added o (lent t e h rs₁ ks)) j)) (ap (ok (storeOf (lent t e h rs₁ ks) d)) (rest-by entry (readIn t h c) (same-read t e h ks rs c) l r ∙ f .is));
-      kept = w .kept;
-    };
+    is = working-at (ap (ok (storeOf (lent t e h rs₁ ks) d)) (rest-by entry (readIn t h c) (same-read t e h ks rs c) l r ∙ f .is)) (stripping j);
     inside = f .inside;
     needs = a;
   }

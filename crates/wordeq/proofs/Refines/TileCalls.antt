@@ -13,9 +13,12 @@ use Rattle.records.specs.Lists.{if_then_else_, all, keep, Every}
 use Rattle.records.specs.Store.{Store, Out, ok, stop, andThen, _>>_, isString}
 use Rattle.records.specs.View.{Lent, lent, storeOf, termsView, readIn, termed}
 use Rattle.records.specs.Rules.{isList}
-use Rattle.records.specs.Calls.{Working, added}
+use Rattle.records.specs.Calls.{added}
+use Rattle.records.specs.Working.Audited.{Ready}
+use Rattle.records.specs.Working.Doing.{Working}
 use Rattle.records.proofs.Lists.{both-left, and-stop, and-next, failed, passed, decide, all-drop, all-every, every-at, every-map}
 use Rattle.records.proofs.ListLaws.{list-strings, list-every}
+use Rattle.records.proofs.Doing.{working-same, working-is}
 use Rattle.wordeq.specs.declared.StepResult.{StepResult}
 use Rattle.wordeq.specs.declared.StepResult.the-variants as step
 use Rattle.wordeq.specs.Wordeq.{conflict, Tried, answer, pass, settled, _orElse_, same, fixed, letters, fits, variables, explainAll, tileBy, tile}
@@ -24,6 +27,7 @@ use Rattle.wordeq.specs.Working.Sides.{Spelled, constantSide, otherSide}
 use Rattle.wordeq.specs.Working.Stripping.{Readable, Pair, part}
 use Rattle.wordeq.specs.Working.Explaining.{OneClass}
 use Rattle.wordeq.specs.Working.Spans.{FirstVariable, agrees, unfit}
+use Rattle.wordeq.proofs.Refines.Leaving.{one-store, working-answer, added-at}
 use Rattle.wordeq.proofs.Refines.Stripping.{part-whole}
 use Rattle.wordeq.proofs.Refines.SideReady.{ready-readIn, constant-side-whole, other-side-whole}
 use Rattle.wordeq.proofs.Refines.ExplainingEach.{same-classes}
@@ -97,9 +101,9 @@ module _ (t e h rs ks : List ℕ) (c : State) (word side : List ℕ) (i : ℕ) (
   unfolding fixed
   here = record { within = x .within; before = x .before; at = x .at }
 
-  pub tile-none : length side ≤ i → Tries (tileBy s₁ word side (variables s₁ side)) m m c (step.Done c)
+  pub tile-none : Ready m c → length side ≤ i → Tries (tileBy s₁ word side (variables s₁ side)) m m c (step.Done c)
   unfolding tileBy
-  tile-none b = record { is = λ k. record { says = ap (λ (l : List ℕ). tileBy s₁ word side l s₁) (variables-none s₁ side i here b); kept = refl } }
+  tile-none d b = record { is = λ k. working-same d (ap (λ (l : List ℕ). tileBy s₁ word side l s₁) (variables-none s₁ side i here b)) }
 
   module _ (b : i < length side) (y : Bool) (f : y ≡ unfit (readIn t h c) word side (getD side i 0) (variables (readIn t h c) (drop (suc i) side))) where
     found : variables s₁ side ≡ v₁ ∷ vs₁
@@ -109,9 +113,9 @@ module _ (t e h rs ks : List ℕ) (c : State) (word side : List ℕ) (i : ℕ) (
     unfolding same
     whole = f ∙ ap (λ (z : Bool). all (λ u. same s₁ u v₁) vs₁ && not z) (fits-whole t e h rs ks c word side (suc (length vs₁)))
 
-    pub tile-fits : not y ≡ true → Tries (tileBy s₁ word side (variables s₁ side)) m m c (step.Done c)
+    pub tile-fits : Ready m c → not y ≡ true → Tries (tileBy s₁ word side (variables s₁ side)) m m c (step.Done c)
     unfolding tileBy
-    tile-fits n = record { is = λ k. record { says = ap (λ (l : List ℕ). tileBy s₁ word side l s₁) found ∙ passes (failed _ y whole n); kept = refl } }
+    tile-fits d n = record { is = λ k. working-same d (ap (λ (l : List ℕ). tileBy s₁ word side l s₁) found ∙ passes (failed _ y whole n)) }
       where
         passes : unfit s₁ word side v₁ vs₁ ≡ false → tileBy s₁ word side (v₁ ∷ vs₁) s₁ ≡ ok s₁ none
         passes z = rw z
@@ -128,21 +132,21 @@ module _ (t e h rs ks : List ℕ) (c : State) (word side : List ℕ) (i : ℕ) (
       tile-classes = subst (Every (λ u. OneClass (termsView t (c .terms)) u v₁)) (sym (after side i)) (same-classes s₁ v₁ (drop (suc i) side) (both-left _ _ test))
 
       module _ (rs′ : List ℕ) (a : Answered) (w : Working (explainAll (variables (readIn t h c) (part side (i + 1) (length side))) v₁) m (lent t e h rs′ ks) c (added a (lent t e h rs′ ks))) where
-        explained : explainAll vs₁ v₁ s₁ ≡ added a (lent t e h rs′ ks)
-        explained = ap (λ (l : List ℕ). explainAll (variables s₁ l) v₁ s₁) (sym (after side i)) ∙ w .says
+        explained : {y : Answered} → a ≡ y → Working (explainAll vs₁ v₁) m (lent t e h rs′ ks) c (added y (lent t e h rs′ ks))
+        explained j = working-is (ap (λ (l : List ℕ). explainAll (variables s₁ l) v₁ s₁) (sym (after side i))) (added-at j w)
 
-        tiled : tileBy s₁ word side (variables s₁ side) s₁ ≡ andThen (λ u. answer conflict) (added a (lent t e h rs′ ks))
+        tiled : {y : Answered} → a ≡ y → Working (tileBy s₁ word side (variables s₁ side)) m (lent t e h rs′ ks) c (andThen (λ u. answer conflict) (added y (lent t e h rs′ ks)))
         unfolding tileBy
-        tiled = ap (λ (l : List ℕ). tileBy s₁ word side l s₁) found ∙ cites test ∙ ap (andThen (λ u. answer conflict)) explained
+        tiled j = working-is (ap (λ (l : List ℕ). tileBy s₁ word side l s₁) found ∙ cites test) (working-answer (λ u. answer conflict) (λ u s s′ x i. one-store i) (explained j))
           where
             cites : unfit s₁ word side v₁ vs₁ ≡ true → tileBy s₁ word side (v₁ ∷ vs₁) s₁ ≡ andThen (λ u. answer conflict) (explainAll vs₁ v₁ s₁)
             cites z = rw z
 
         pub tile-conflict : (d : State) → a ≡ adding.Counts d → Tries (tileBy s₁ word side (variables s₁ side)) m (lent t e h rs′ ks) c (step.Conflict d)
-        tile-conflict d j = record { is = λ k. record { says = tiled ∙ ap (λ (o : Answered). andThen (λ u. answer conflict) (added o (lent t e h rs′ ks))) j; kept = w .kept } }
+        tile-conflict d j = record { is = λ k. tiled j }
 
         pub tile-refused : (n : ℕ) → a ≡ adding.Refused n → Tries (tileBy s₁ word side (variables s₁ side)) m (lent t e h rs′ ks) c (step.Refused n)
-        tile-refused n j = record { is = λ k. record { says = tiled ∙ ap (λ (o : Answered). andThen (λ u. answer conflict) (added o (lent t e h rs′ ks))) j; kept = w .kept } }
+        tile-refused n j = record { is = λ k. tiled j }
 
 -- THE SIDES
 
@@ -224,7 +228,7 @@ module _ (m₀ : Lent) (c : State) (l r word side : List ℕ) (p : word ≡ cons
   }
 
   pub sides-tried : (m′ : Lent) (o : StepResult) → Tries (tileBy (storeOf m₀ c) word side (variables (storeOf m₀ c) side)) m₀ m′ c o → Tries (tile l r orElse tile r l) m₀ m′ c o
-  sides-tried m′ o x = record { is = λ k. record { says = tile-sides (storeOf m₀ c) l r ∙ same-sides ∙ x .is k .says; kept = x .is k .kept } }
+  sides-tried m′ o x = record { is = λ k. working-is (tile-sides (storeOf m₀ c) l r ∙ same-sides) (x .is k) }
     where
       same-sides : tileBy (storeOf m₀ c) (constantSide (storeOf m₀ c) l r) (otherSide (storeOf m₀ c) l r) (variables (storeOf m₀ c) (otherSide (storeOf m₀ c) l r)) (storeOf m₀ c) ≡ tileBy (storeOf m₀ c) word side (variables (storeOf m₀ c) side) (storeOf m₀ c)
       same-sides =

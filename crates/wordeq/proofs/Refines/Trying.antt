@@ -17,9 +17,9 @@ use Rattle.records.specs.Store.{Store, Out, ok, andThen, _>>=_, isConstant, isV
 use Rattle.records.specs.View.{Lent, storeOf}
 use Rattle.records.specs.Make.{makeConstant}
 use Rattle.records.specs.Working.Audited.{Ready}
-use Rattle.records.specs.Calls.{Working}
+use Rattle.records.specs.Working.Doing.{Working}
 use Rattle.records.proofs.Works.{via, branch}
-use Rattle.records.proofs.Passed.{ready-after}
+use Rattle.records.proofs.Doing.{working-at}
 use Rattle.engine.specs.Explain.{explain}
 use Rattle.wordeq.specs.declared.StepResult.{StepResult}
 use Rattle.wordeq.specs.declared.StepResult.the-variants as step
@@ -27,14 +27,9 @@ use Rattle.wordeq.specs.Wordeq.{Answer, conflict, propagate, Tried, answ
 use Rattle.wordeq.specs.Working.Results.{BothLists, tried, Tries}
 use Rattle.wordeq.proofs.StepResult.{the-type}
 use Rattle.wordeq.proofs.Refines.Orelse.{else-assoc}
-use Rattle.wordeq.proofs.Good.{Good, passes, Step, step-else, step-flip}
-use Rattle.records.proofs.Later.{Later}
-use Rattle.wordeq.proofs.Occurs.{occurs-step}
-use Rattle.wordeq.proofs.Constants.{constants-step, alias-step, empties-step, assigns-step}
-use Rattle.wordeq.proofs.Tile.{tile-step}
+use Rattle.wordeq.proofs.Refines.Leaving.{list-stays}
 use Rattle.records.proofs.Counts.{Higher, agree-below, higher-none, higher-then}
 use Rattle.records.proofs.Sequence.{grows-constant}
-use Rattle.records.proofs.ListLaws.{list-every, list-later}
 
 -- ORDER
 
@@ -62,50 +57,7 @@ rises-else {a} {b} p q = record { higher = λ s s′ e. via (settled b) (a s) e 
     go s s′ s₁ none i j = higher-then (p .higher s s₁ i) (q .higher s₁ s′ j)
     go s s′ s₁ (some x) i j = answered-not j
 
--- a step on two lists of string terms: its store stays audited, and it takes nothing away where it passes
-pub record Goes (l r : List ℕ) (a : Tried) : Type 0 where
-  pub step-of : Step false l r a
-  pub rises : Rises a
-
-pub goes-else : {l r : List ℕ} {a b : Tried} → Goes l r a → Goes l r b → Goes l r (a orElse b)
-goes-else {a = a} {b = b} p q = record { step-of = step-else a b (p .step-of) (q .step-of); rises = rises-else (p .rises) (q .rises) }
-
-pub goes-flip : {l r : List ℕ} {a : Tried} → Goes r l a → Goes l r a
-goes-flip p = record { step-of = step-flip (p .step-of); rises = p .rises }
-
 -- ONE STEP, THEN THE REST
-
-later-of : {l r : List ℕ} {s s′ : Store} {o : Option Answer} → Good false l r s s′ o → Later s s′
-later-of (passes k v h i) = k
-later-of (Good.answers k h c) = k
-
-module _ {l r : List ℕ} {a : Tried} (g : Goes l r a) {m m₁ : Lent} {c d : State} (w : Tries a m m₁ c (step.Done d)) where
-  passed : a (storeOf m c) ≡ ok (storeOf m₁ d) none
-  passed = w .is [] .says
-
-  -- for what the store has later
-  pub passed-later : Ready m c → BothLists (storeOf m c) l r → Later (storeOf m c) (storeOf m₁ d)
-  passed-later ready lists =
-      later-of (g .step-of (storeOf m c) (ready .audited) (list-every (storeOf m c) l (lists .left)) (list-every (storeOf m c) r (lists .right)) .given (storeOf m₁ d) none passed)
-
-  -- for the next step
-  pub passed-ready : Ready m c → BothLists (storeOf m c) l r → length (m₁ .terms) ≡ length (m .terms) → length (m₁ .cells) ≡ length (m .cells) → Ready m₁ d
-  passed-ready ready lists p q = ready-after ready p q (passed-later ready lists .audited)
-
-  pub passed-lists : Ready m c → BothLists (storeOf m c) l r → BothLists (storeOf m₁ d) l r
-  passed-lists ready lists =
-      let k = passed-later ready lists in
-      record { left = list-later l (k .grown) (lists .left); right = list-later r (k .grown) (lists .right) }
-
-  -- the next step's answer
-  pub else-works : {b : Tried} {m₂ : Lent} {o : Out (Option Answer)} → Working b m₁ m₂ d o → Working (a orElse b) m m₂ c o
-  else-works {b} {m₂} v = record {
-    says = ap (andThen (settled b)) passed ∙ v .says;
-    kept = agree-below m m₁ m₂ c d (g .rises .higher (storeOf m c) (storeOf m₁ d) passed) (v .kept) ∙ w .is [] .kept;
-  }
-
-  pub else-tries : {b : Tried} {m₂ : Lent} {o : StepResult} → Tries b m₁ m₂ d o → Tries (a orElse b) m m₂ c o
-  else-tries v = record { is = λ k. else-works (v .is k) }
 
 -- what each step requires
 pub record Lined (l r : List ℕ) (m : Lent) (c : State) : Type 0 where
@@ -115,12 +67,33 @@ pub record Lined (l r : List ℕ) (m : Lent) (c : State) : Type 0 where
 pub lined : {l r : List ℕ} {m : Lent} {c : State} → Ready m c → BothLists (storeOf m c) l r → Lined l r m c
 lined x y = record { ready = x; lists = y }
 
-pub done-is : {a : Tried} {m m₁ : Lent} {c d : State} {o : StepResult} → o ≡ step.Done d → Tries a m m₁ c o → Tries a m m₁ c (step.Done d)
-done-is {a} {m} {m₁} {c} e w = subst (Tries a m m₁ c) e w
+module _ {a : Tried} (g : Rises a) {m m₁ : Lent} {c d : State} {o : StepResult} (w : Tries a m m₁ c o) (e : o ≡ step.Done d) where
+  passed : Working a m m₁ c (ok (storeOf m₁ d) none)
+  passed = working-at (ap (λ (x : StepResult). tried x m₁ []) e) (w .is [])
 
-pub passed-on : {l r : List ℕ} {a : Tried} → Goes l r a → {m m₁ : Lent} {c d : State} {o : StepResult} → Tries a m m₁ c o → o ≡ step.Done d
-    → length (m₁ .terms) ≡ length (m .terms) → length (m₁ .cells) ≡ length (m .cells) → Lined l r m c → Lined l r m₁ d
-passed-on g w e p q x = record { ready = passed-ready g (done-is e w) (x .ready) (x .lists) p q; lists = passed-lists g (done-is e w) (x .ready) (x .lists) }
+  risen : Higher (storeOf m c) (storeOf m₁ d)
+  risen = g .higher (storeOf m c) (storeOf m₁ d) (passed .says)
+
+  -- for the next step
+  pub passed-ready : Ready m₁ d
+  passed-ready = passed .ready d none refl
+
+  pub passed-on : {l r : List ℕ} → BothLists (storeOf m c) l r → Lined l r m₁ d
+  passed-on {l} {r} x = record {
+    ready = passed-ready;
+    lists = record { left = list-stays m m₁ c d risen (passed .kept) l (x .left); right = list-stays m m₁ c d risen (passed .kept) r (x .right) };
+  }
+
+  -- the next step's answer
+  pub else-works : {b : Tried} {m₂ : Lent} {o₂ : Out (Option Answer)} → Working b m₁ m₂ d o₂ → Working (a orElse b) m m₂ c o₂
+  else-works {b} {m₂} v = record {
+    says = ap (andThen (settled b)) (passed .says) ∙ v .says;
+    kept = agree-below m m₁ m₂ c d risen (v .kept) ∙ passed .kept;
+    ready = v .ready;
+  }
+
+  pub else-tries : {b : Tried} {m₂ : Lent} {o₂ : StepResult} → Tries b m₁ m₂ d o₂ → Tries (a orElse b) m m₂ c o₂
+  else-tries v = record { is = λ k. else-works (v .is k) }
 
 -- a step that answers is the last
 abbrev pub Last : StepResult → Type 0
@@ -156,7 +129,7 @@ settles b m (step.Split d n g j) k z = refl
 settles b m (step.Refused n) k z = refl
 
 pub else-last : {a : Tried} (b : Tried) {m m₁ : Lent} {c : State} {o : StepResult} → Last o → Tries a m m₁ c o → Tries (a orElse b) m m₁ c o
-else-last b {m₁ = m₁} {o = o} z w = record { is = λ k. record { says = ap (andThen (settled b)) (w .is k .says) ∙ settles b m₁ o k z; kept = w .is k .kept } }
+else-last b {m₁ = m₁} {o = o} z w = record { is = λ k. record { says = ap (andThen (settled b)) (w .is k .says) ∙ settles b m₁ o k z; kept = w .is k .kept; ready = w .is k .ready } }
 
 -- THE STEPS
 
@@ -170,13 +143,13 @@ occurs-rises (x ∷ []) r = record { higher = λ s s′ e. branch (isConstant s 
     go s s′ none e = stays e
     go s s′ (some y) e = via (λ u. answer conflict) (explain y x s) e (λ s₁ u i j. answered-not j)
 
-pub constants-rises : (l r : List ℕ) → Rises (constants l r)
+constants-rises : (l r : List ℕ) → Rises (constants l r)
 unfolding constants
 constants-rises l r = record {
   higher = λ s s′ e. branch (unequal s l r || short s l r || short s r l || absent s l r || absent s r l) (answer conflict) pass (λ b i. answered-not i) (λ b i. stays i) e;
 }
 
-pub alias-rises : (l r : List ℕ) → Rises (alias l r)
+alias-rises : (l r : List ℕ) → Rises (alias l r)
 unfolding alias
 alias-rises (a ∷ []) (b ∷ []) = record { higher = λ s s′ e. branch (isPlain s a && isPlain s b) (answer (propagate a b false)) pass (λ x i. answered-not i) (λ x i. stays i) e }
 alias-rises (a ∷ []) [] = record { higher = λ s s′ e. stays e }
@@ -185,7 +158,7 @@ alias-rises [] r = record { higher = λ s s′ e. stays e }
 alias-rises (a ∷ c ∷ l) r = record { higher = λ s s′ e. stays e }
 
 -- the empty word may have been made
-pub empties-rises : (l r : List ℕ) → Rises (empties l r)
+empties-rises : (l r : List ℕ) → Rises (empties l r)
 unfolding empties
 empties-rises [] [] = record { higher = λ s s′ e. stays e }
 empties-rises [] (a ∷ []) = record { higher = λ s s′ e. stays e }
@@ -203,7 +176,7 @@ empties-rises [] (a ∷ b ∷ r) = record { higher = λ s s′ e. branch (all (i
     go s s′ e = via (λ t s₁. emptiesAt t (firstOf (λ v. not (same s₁ v t)) (a ∷ b ∷ r)) s₁) (makeConstant [] s) e (λ s₁ t i j.
         higher-then (grows-constant [] .higher s s₁ t i) (at t s₁ s′ (firstOf (λ v. not (same s₁ v t)) (a ∷ b ∷ r)) j))
 
-pub assigns-rises : (l r : List ℕ) → Rises (assigns l r)
+assigns-rises : (l r : List ℕ) → Rises (assigns l r)
 unfolding assigns
 assigns-rises [] r = record { higher = λ s s′ e. stays e }
 assigns-rises (a ∷ b ∷ l) r = record { higher = λ s s′ e. stays e }
@@ -212,7 +185,7 @@ assigns-rises (a ∷ []) r = record {
       (λ x i. via (λ w. answer (propagate a w false)) (makeConstant (letters s r) s) i (λ s₁ t p q. answered-not q)) (λ x i. stays i) e;
 }
 
-pub tile-rises : (l r : List ℕ) → Rises (tile l r)
+tile-rises : (l r : List ℕ) → Rises (tile l r)
 unfolding tile tileBy
 tile-rises l r = record { higher = λ s s′ e. branch (fixed s l) (tileBy s l r (variables s r)) pass (λ b i. go s s′ (variables s r) i) (λ b i. stays i) e }
   where
@@ -239,20 +212,17 @@ module _ (l r : List ℕ) where
   abbrev pub tiles : Tried
   tiles = tile l r orElse tile r l
 
-  pub occurs-goes : Goes l r occursBoth
-  occurs-goes = goes-else (record { step-of = occurs-step l r; rises = occurs-rises l r }) (goes-flip (record { step-of = occurs-step r l; rises = occurs-rises r l }))
+  pub both-rises : Rises occursBoth
+  both-rises = rises-else (occurs-rises l r) (occurs-rises r l)
 
-  pub conflicts-goes : Goes l r conflicts
-  conflicts-goes = goes-else occurs-goes (record { step-of = constants-step l r; rises = constants-rises l r })
+  pub conflicts-rises : Rises conflicts
+  conflicts-rises = rises-else both-rises (constants-rises l r)
 
-  pub propagates-goes : Goes l r propagates
-  propagates-goes =
-      goes-else (goes-else (goes-else (goes-else (record { step-of = alias-step l r; rises = alias-rises l r })
-      (record { step-of = empties-step l r; rises = empties-rises l r })) (goes-flip (record { step-of = empties-step r l; rises = empties-rises r l })))
-      (record { step-of = assigns-step l r; rises = assigns-rises l r })) (goes-flip (record { step-of = assigns-step r l; rises = assigns-rises r l }))
+  pub propagates-rises : Rises propagates
+  propagates-rises = rises-else (rises-else (rises-else (rises-else (alias-rises l r) (empties-rises l r)) (empties-rises r l)) (assigns-rises l r)) (assigns-rises r l)
 
-  pub tiles-goes : Goes l r tiles
-  tiles-goes = goes-else (record { step-of = tile-step l r; rises = tile-rises l r }) (goes-flip (record { step-of = tile-step r l; rises = tile-rises r l }))
+  pub tiles-rises : Rises tiles
+  tiles-rises = rises-else (tile-rises l r) (tile-rises r l)
 
   -- steps 2 to 7 in groups
   abbrev pub grouped : ℤ → Bool → Tried

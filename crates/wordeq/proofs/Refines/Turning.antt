@@ -9,8 +9,12 @@ use Rattle.records.specs.Store.{ok, Work, andThen}
 use Rattle.records.specs.View.{Lent, lent, storeOf}
 use Rattle.records.specs.Meaning.{Words}
 use Rattle.records.specs.Working.Audited.{Ready}
-use Rattle.records.specs.Calls.{Working, added}
+use Rattle.records.specs.Calls.{added}
+use Rattle.records.specs.Working.Doing.{Working}
+use Rattle.records.proofs.Doing.{working-stopped}
 use Rattle.wordeq.proofs.Cited.{Cited}
+use Rattle.normalize.proofs.Carried.{working-left}
+use Rattle.wordeq.proofs.Refines.Leaving.{added-at, added-ready}
 use Rattle.wordeq.proofs.Refines.Going.{Going, going-none, going-then, kept-down}
 
 -- the work that is left after i turns
@@ -27,22 +31,20 @@ module _ (t e h ks : List ℕ) (left : ℕ → Work (Unit {0})) where
 
   module _ {c d : State} {rs rs₁ : List ℕ} {i : ℕ} (g : Turning c rs d rs₁ i) where
     pub turning-end : left i (storeOf (at rs₁) d) ≡ ok (storeOf (at rs₁) d) tt → Working (left 0) (at rs) (at rs₁) c (added (adding.Counts d) (at rs₁))
-    turning-end z = record { says = sym (g .rest) ∙ z; kept = g .going .kept }
+    turning-end z = working-left (g .going .ready) (sym (g .rest) ∙ z) (g .going .kept)
 
     -- the work of turn i
     module _ (one : Work (Unit {0})) (next : left i (storeOf (at rs₁) d) ≡ andThen (λ u. left (i + 1)) (one (storeOf (at rs₁) d)))
         (rs₂ : List ℕ) (y : Answered) (w : Working one (at rs₁) (at rs₂) d (added y (at rs₂))) where
       pub turning-refused : (n : ℕ) → y ≡ adding.Refused n → Working (left 0) (at rs) (at rs₂) c (added (adding.Refused n) (at rs₂))
-      turning-refused n j = record {
-        says = sym (g .rest) ∙ next ∙ ap (andThen (λ u. left (i + 1))) (w .says ∙ ap (λ (o : Answered). added o (at rs₂)) j);
-        kept = kept-down t e h ks (g .going) rs₂ (w .kept);
-      }
+      turning-refused n j =
+          working-stopped (sym (g .rest) ∙ next ∙ ap (andThen (λ u. left (i + 1))) (added-at j w .says)) (kept-down t e h ks (g .going) rs₂ (w .kept))
 
       pub turning-on : {P : Words → Type 0} (d₂ : State) → y ≡ adding.Counts d₂
           → (one (storeOf (at rs₁) d) ≡ ok (storeOf (at rs₂) d₂) tt → Cited P (storeOf (at rs₁) d) (storeOf (at rs₂) d₂)) → Turning c rs d₂ rs₂ (i + 1)
       turning-on d₂ j x =
-          let k : one (storeOf (at rs₁) d) ≡ ok (storeOf (at rs₂) d₂) tt = w .says ∙ ap (λ (o : Answered). added o (at rs₂)) j in
+          let v = added-at j w in
           record {
-            going = going-then t e h ks (g .going) rs₂ (x k) (w .kept);
-            rest = sym (next ∙ ap (andThen (λ u. left (i + 1))) k) ∙ g .rest;
+            going = going-then t e h ks (g .going) rs₂ (added-ready j w) (x (v .says) .added) (v .kept);
+            rest = sym (next ∙ ap (andThen (λ u. left (i + 1))) (v .says)) ∙ g .rest;
           }

@@ -9,7 +9,7 @@ use Rattle.records.specs.Lists.{any}
 use Rattle.records.specs.Store.{Store, Out, ok, stop, isString}
 use Rattle.records.specs.View.{Lent, lent, storeOf}
 use Rattle.records.specs.Working.Audited.{Ready}
-use Rattle.records.specs.Calls.{Working}
+use Rattle.records.specs.Working.Doing.{Working}
 use Rattle.wordeq.specs.declared.Rest.{Rest}
 use Rattle.wordeq.specs.declared.Stripped.{Stripped}
 use Rattle.wordeq.specs.declared.Stripped.the-variants.{Parts, Refused}

@@ -12,7 +12,9 @@ undo-unchecked-spec =
     -- same-length
     (λ c. search needs)
     -- returns
-    (λ c. let s = c .before .before .before .before .args in undo-not (s .terms .now) (s .n) (s .child) (s .old) (s .under) _ (c .before .is-trace .ensures) (c .if1 .taken))
+    (λ c.
+    let s = c .before .before .before .before in
+    undo-not (s .args .terms .now) (s .args .n) (s .args .child) (s .args .old) (s .args .under) _ (c .before .is-trace .ensures) (c .if1 .taken) (s .pre))
     -- cut-unchecked-requires
     (λ c κs. let s = c .before .before .before .before .before in undo-asked (s .args .terms .now) (s .args .n) (s .args .child) (s .args .old) (s .args .under) _ (c .before .before .is-trace .ensures) (c .before .if1 .left) (s .pre))
     -- same-length-2

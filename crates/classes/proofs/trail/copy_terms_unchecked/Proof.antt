@@ -6,7 +6,7 @@ use Rattle.classes.proofs.trail.copy_terms_unchecked.Statement.{stateme
 use Rattle.classes.proofs.trail.copy_terms_unchecked.Tie as tie
 
 abbrev Inv-loop : tie.InvT-loop
-Inv-loop terms n table₀ words i₀ table i = Copying terms table n i
+Inv-loop terms n table₀ words i₀ table i = Copying terms table₀ table n i
 
 abbrev μ-loop : tie.MeasureT-loop
 μ-loop terms n table₀ words i₀ table i = words - i

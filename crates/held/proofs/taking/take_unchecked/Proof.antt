@@ -45,7 +45,7 @@ use denote.Exit.{yes}
 use denote.Triple.Clauses.{ensured, lasts}
 use Rattle.records.specs.View.{lent, namesAt}
 use Rattle.records.specs.Working.Audited.{Ready}
-use Rattle.records.specs.Calls.{Taken}
+use Rattle.records.specs.Working.Doing.{Taken}
 use Rattle.records.specs.declared.State.{State}
 use Rattle.records.specs.declared.Named.{Named}
 use Rattle.records.proofs.State as St

@@ -1,6 +1,4 @@
-use Rattle.normalize.proofs.Refines.Rounding.{deep-stopped, deep-long, deep-carried, deep-strings, deep-candidates, deep-done}
-use Rattle.normalize.proofs.Carried.{carried-ready}
-use mathlib.Core.Path.{refl}
+use Rattle.normalize.proofs.Refines.Rounding.{deep-stopped, deep-long, deep-ready, deep-strings, deep-candidates, deep-done}
 use native.Mathlib.Omega.{arith}
 use borrow.Author.Needs.{needs}
 use Rattle.normalize.proofs.deeper.deep_form_by_unchecked.Statement.{statement}
@@ -34,10 +32,8 @@ deep-form-by-unchecked-spec =
     let at-made = at-if1 .before .before in
     let at-form-by = at-made .before .before .before .before .before .before .before .before .before .before in
     let at-start = at-form-by .before .before .before .before .before .before .before .before .before .before .before .before in (
-      carried-ready
-          (deep-carried (at-start .pre .0) _ _ (at-start .pre .1 .0) _ (at-start .pre .1 .1 .0) (at-form-by .form-by .last .1 .1 .1 .1 .1 .1 .1 .1 .1 .0)
-          (at-form-by .form-by .result) (at-form-by .form-by .ensures) _ _ (at-made .made .given .1) (at-form-by .form-by .kept .0) refl)
-          (at-start .pre .0),
+      deep-ready (at-start .pre .0) _ _ (at-start .pre .1 .0) _ (at-start .pre .1 .1 .0) (at-form-by .form-by .last .1 .1 .1 .1 .1 .1 .1 .1 .1 .0)
+          (at-form-by .form-by .result) (at-form-by .form-by .ensures) _ _ (at-made .made .given .1),
       (
         deep-candidates (at-start .pre .0) _ _ (at-start .pre .1 .0) _ (at-start .pre .1 .1 .0) (at-form-by .form-by .last .1 .1 .1 .1 .1 .1 .1 .1 .1 .0)
             (at-form-by .form-by .result) (at-form-by .form-by .ensures) _ _ (at-made .made .given .1),
@@ -66,7 +62,7 @@ deep-form-by-unchecked-spec =
     let at-form-by = at-made .before .before .before .before .before .before .before .before .before .before in
     let at-start = at-form-by .before .before .before .before .before .before .before .before .before .before .before .before in
     deep-done (at-start .pre .0) _ _ (at-start .pre .1 .0) _ (at-start .pre .1 .1 .0) (at-form-by .form-by .last .1 .1 .1 .1 .1 .1 .1 .1 .1 .0) (at-form-by .form-by .result)
-    (at-form-by .form-by .ensures) _ _ (at-made .made .given .1) (at-form-by .form-by .kept .0) refl (at-if1 .if1 .left) (at-rounds .rounds .ensures))
+    (at-form-by .form-by .ensures) _ _ (at-made .made .given .1) (at-if1 .if1 .left) (at-rounds .rounds .ensures))
     -- same-length-9
     (λ c. search needs)
     -- same-length-10

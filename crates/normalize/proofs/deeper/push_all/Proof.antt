@@ -2,7 +2,6 @@ use lib.ListN.{length}
 use Prim.Native.Nat.{_-_, _≤_}
 use mathlib.Core.Path.{_≡_, refl}
 use Rattle.records.specs.View.{lent}
-use Rattle.normalize.proofs.Carried.{carried-ready}
 use Rattle.normalize.proofs.Refines.Heaping.{Heaping, heaping-none}
 use Rattle.normalize.proofs.Refines.Rounding.{allLeft, all-turn, all-stopped, all-done}
 use native.Mathlib.Omega.{arith}
@@ -35,7 +34,7 @@ push-all-spec =
     let at-loop-test = c .before .before .before .before in
     let at-loop = at-loop-test .before in
     let at-start = at-loop .before .before .before .before .before .before .before .before in (
-      carried-ready (at-loop .loop .inv .4 .carried) (at-start .pre .0),
+      at-loop .loop .inv .4 .carried .ready,
       (
         (let h = at-loop-test .loop-test .taken in let l = at-loop .loop .inv .4 .low in let p = at-start .pre .1 .1 .1 .0 in omega arith),
         (let l = at-loop .loop .inv .3 in let p = at-start .pre .1 .1 .1 .1 in omega arith),
@@ -58,7 +57,7 @@ push-all-spec =
     let at-loop = at-loop-test .before in
     let at-start = at-loop .before .before .before .before .before .before .before .before in
     all-stopped (at-start .args .next .now) (at-start .args .k) (at-loop .loop .inv .4) (at-start .pre .1 .0) (at-loop-test .loop-test .taken) _ _
-    (at-push .push .kept .0) refl (at-push .push .ensures) _ (c .before .form2 .given .1))
+    (at-push .push .ensures) _ (c .before .form2 .given .1))
     -- add-i
     (λ c.
     let at-loop-test = c .before .before .before .before .before .before .before .before .before .before .before .before .before .before in
@@ -77,7 +76,7 @@ push-all-spec =
           let at-loop = at-loop-test .before in
           let at-start = at-loop .before .before .before .before .before .before .before .before in
           all-turn (at-start .args .next .now) (at-start .args .k) (at-loop .loop .inv .4) (at-start .pre .1 .0) (at-loop-test .loop-test .taken) _ _
-          (at-push .push .kept .0) refl (at-push .push .ensures) _ _ (c .before .form .given .1),
+          (at-push .push .ensures) _ _ (c .before .form .given .1),
     ))
     -- same-length-4
     (λ c. search needs)

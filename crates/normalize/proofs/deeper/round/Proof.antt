@@ -1,8 +1,6 @@
 use lib.Dec.{lit≤}
 use lib.ListN.{replicate}
-use mathlib.Core.Path.{refl}
-use Rattle.normalize.proofs.Carried.{carried-ready}
-use Rattle.normalize.proofs.Refines.Expanding.{round-carried, round-strings, round-short}
+use Rattle.normalize.proofs.Refines.Expanding.{expanded-ready, round-carried, round-strings, round-short}
 use Rattle.normalize.proofs.Refines.Rounding.{round-stands, round-ended, round-settled}
 use native.Mathlib.Omega.{arith}
 use borrow.Author.Needs.{needs}
@@ -24,7 +22,7 @@ round-spec =
     -- returns
     (λ c.
     let at-start = c .before .before .before .before .before .before .before .before .before .before .before in
-    round-stands _ _ (at-start .args .list .now) (at-start .args .count) _ _ (c .before .any-opens .ensures) (c .if1 .taken))
+    round-stands _ _ (at-start .args .list .now) (at-start .args .count) _ _ (c .before .any-opens .ensures) (at-start .pre .0) (c .if1 .taken))
     -- slice-aggregate-expand
     (λ c. search needs)
     -- expand-requires
@@ -61,19 +59,15 @@ round-spec =
     let at-made = c .before .before .before .before .before .before in
     let at-expand = at-made .before .before .before .before .before .before .before .before .before in
     let at-start = at-expand .before .before .before .before .before .before .before .before .before .before .before .before .before .before .before .before .before .before in (
-      carried-ready
-          (round-carried (at-start .pre .0) _ _ (at-start .pre .1 .0) _ {list = at-start .args .list .now} {next = replicate 512 0} {n = at-start .args .count}
-          (record { strings = at-start .pre .1 .1 .0; short = at-start .pre .1 .1 .1 .0 .0; within = (let p = at-start .pre .1 .1 .1 .0 in omega arith); told = at-start .pre .1 .1 .1 .1; room = lit≤ tt })
-          (at-expand .expand .kept .0) refl _ (at-expand .expand .ensures) _ _ (at-made .made .given .1))
-          (at-start .pre .0),
+      expanded-ready (at-expand .expand .ensures) (at-made .made .given .1),
       (
         round-strings (at-start .pre .0) _ _ (at-start .pre .1 .0) _ {list = at-start .args .list .now} {next = replicate 512 0} {n = at-start .args .count}
             (record { strings = at-start .pre .1 .1 .0; short = at-start .pre .1 .1 .1 .0 .0; within = (let p = at-start .pre .1 .1 .1 .0 in omega arith); told = at-start .pre .1 .1 .1 .1; room = lit≤ tt })
-            (at-expand .expand .kept .0) refl _ (at-expand .expand .ensures) _ _ (at-made .made .given .1),
+            _ (at-expand .expand .ensures) _ _ (at-made .made .given .1),
         (
           (let s = round-short (at-start .pre .0) _ _ (at-start .pre .1 .0) _ {list = at-start .args .list .now} {next = replicate 512 0} {n = at-start .args .count}
               (record { strings = at-start .pre .1 .1 .0; short = at-start .pre .1 .1 .1 .0 .0; within = (let p = at-start .pre .1 .1 .1 .0 in omega arith); told = at-start .pre .1 .1 .1 .1; room = lit≤ tt })
-              (at-expand .expand .kept .0) refl _ (at-expand .expand .ensures) _ _ (at-made .made .given .1) in
+              _ (at-expand .expand .ensures) _ _ (at-made .made .given .1) in
               let e = at-expand .expand .kept .1 .1 .1 .1 .1 .1 .1 .1 .1 .1 .1 .1 .0 in (omega arith, omega arith)),
           ((let p = at-start .pre .1 .1 .1 .0 in omega arith), (let p = at-start .pre .1 .1 .1 .0 in omega arith)),
         ),
@@ -99,5 +93,5 @@ round-spec =
     (at-expand .expand .ensures) _ _ (at-made .made .given .1)
     (round-carried (at-start .pre .0) _ _ (at-start .pre .1 .0) _ {list = at-start .args .list .now} {next = replicate 512 0} {n = at-start .args .count}
     (record { strings = at-start .pre .1 .1 .0; short = at-start .pre .1 .1 .1 .0 .0; within = (let p = at-start .pre .1 .1 .1 .0 in omega arith); told = at-start .pre .1 .1 .1 .1; room = lit≤ tt })
-    (at-expand .expand .kept .0) refl _ (at-expand .expand .ensures) _ _ (at-made .made .given .1))
+    _ (at-expand .expand .ensures) _ _ (at-made .made .given .1))
     _ _ (at-settle .settle .ensures)))

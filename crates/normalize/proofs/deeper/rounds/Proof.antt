@@ -3,7 +3,7 @@ use Prim.Native.Nat.{_-_, _≤_}
 use mathlib.Core.Path.{_≡_, refl}
 use Rattle.normalize.specs.Calls.{firstWords}
 use Rattle.records.specs.View.{lent}
-use Rattle.normalize.proofs.Refines.Rounding.{Rounding, rounding-none, rounding-ready, rounding-candidates, rounding-met, rounds-ended, rounding-turn, rounds-done}
+use Rattle.normalize.proofs.Refines.Rounding.{Rounding, rounding-none, rounding-candidates, rounding-met, rounds-ended, rounding-turn, rounds-done}
 use native.Mathlib.Omega.{arith}
 use borrow.Author.Needs.{needs}
 use Rattle.normalize.proofs.deeper.rounds.Statement.{statement}
@@ -36,14 +36,14 @@ rounds-spec =
     (λ c κs.
     let at-loop = c .before .before .before .before .before .before in
     let at-start = at-loop .before .before .before .before .before .before .before .before in (
-      rounding-ready (at-loop .loop .inv .5) (at-start .pre .0) _ (at-start .pre .1 .0),
+      at-loop .loop .inv .5 .carried .ready,
       (
-        rounding-candidates (at-loop .loop .inv .5) (at-start .pre .0) _ (at-start .pre .1 .0),
+        rounding-candidates (at-loop .loop .inv .5) _ (at-start .pre .1 .0),
         (
           at-loop .loop .inv .5 .strings,
           (
             (at-loop .loop .inv .5 .short, (let e = at-loop .loop .inv .4 in let p = at-start .pre .1 .1 .1 .1 in omega arith)),
-            rounding-met (at-loop .loop .inv .5) (at-start .pre .0) _ (at-start .pre .1 .0),
+            rounding-met (at-loop .loop .inv .5) _ (at-start .pre .1 .0),
           ),
         ),
       ),
@@ -66,7 +66,7 @@ rounds-spec =
     let at-loop-test = at-round .before .before .before .before .before .before in
     let at-loop = at-loop-test .before in
     let at-start = at-loop .before .before .before .before .before .before .before .before in
-    rounds-ended (at-loop .loop .inv .5) (at-start .pre .0) _ (at-start .pre .1 .0) (at-loop-test .loop-test .taken) _ _ _ (at-round .round .ensures) _
+    rounds-ended (at-loop .loop .inv .5) _ (at-start .pre .1 .0) (at-loop-test .loop-test .taken) _ _ _ (at-round .round .ensures) _
     (c .before .turn2 .given .1))
     -- add-i
     (λ c. search needs)
@@ -83,8 +83,8 @@ rounds-spec =
           let at-loop-test = at-round .before .before .before .before .before .before in
           let at-loop = at-loop-test .before in
           let at-start = at-loop .before .before .before .before .before .before .before .before in
-          rounding-turn (at-loop .loop .inv .5) (at-start .pre .0) _ (at-start .pre .1 .0) (at-loop-test .loop-test .taken) _ _ _ (at-round .round .ensures) _ _
-          (c .before .turn .given .1) (at-round .round .kept .0) refl,
+          rounding-turn (at-loop .loop .inv .5) _ (at-start .pre .1 .0) (at-loop-test .loop-test .taken) _ _ _ (at-round .round .ensures) _ _
+          (c .before .turn .given .1),
     ))
     -- same-length-5
     (λ c. search needs)
@@ -97,4 +97,4 @@ rounds-spec =
     -- returns-2
     (λ c.
     let at-start = c .before .before .before .before .before .before .before .before .before in
-    rounds-done (c .before .loop .inv .5) (at-start .pre .0) _ (at-start .pre .1 .0) (c .loop-test .left)))
+    rounds-done (c .before .loop .inv .5) _ (at-start .pre .1 .0) (c .loop-test .left)))

@@ -3,7 +3,7 @@ use Prim.Native.Nat.{_-_, _≤_}
 use mathlib.Core.Path.{_≡_, refl}
 use Rattle.normalize.specs.Calls.{firstWords}
 use Rattle.records.specs.View.{lent}
-use Rattle.normalize.proofs.Refines.Expanding.{Walking, walking-none, walk-ready, walk-candidates, walk-string, walk-low, walking-turn, walking-ended, walking-done}
+use Rattle.normalize.proofs.Refines.Expanding.{Walking, walking-none, walk-candidates, walk-string, walk-low, walking-turn, walking-ended, walking-done}
 use native.Mathlib.Omega.{arith}
 use borrow.Author.Needs.{needs}
 use Rattle.normalize.proofs.expands.expand.Statement.{statement}
@@ -37,16 +37,15 @@ expand-spec =
     let at-loop-test = c .before .before .before .before .before .before in
     let at-loop = at-loop-test .before in
     let at-start = at-loop .before .before .before .before .before .before .before .before .before in (
-      walk-ready (at-start .args .list .now) (at-start .args .count) (at-loop .loop .inv .5) (at-start .pre .0) _ (at-start .pre .1 .0) (at-start .pre .1 .1)
-          (at-loop-test .loop-test .taken),
+      at-loop .loop .inv .5 .carried .ready,
       (
-        walk-candidates (at-start .args .list .now) (at-start .args .count) (at-loop .loop .inv .5) (at-start .pre .0) _ (at-start .pre .1 .0) (at-start .pre .1 .1)
+        walk-candidates (at-start .args .list .now) (at-start .args .count) (at-loop .loop .inv .5) _ (at-start .pre .1 .0) (at-start .pre .1 .1)
             (at-loop-test .loop-test .taken),
         (
-          walk-string (at-start .args .list .now) (at-start .args .count) (at-loop .loop .inv .5) (at-start .pre .0) _ (at-start .pre .1 .0) (at-start .pre .1 .1)
+          walk-string (at-start .args .list .now) (at-start .args .count) (at-loop .loop .inv .5) _ (at-start .pre .1 .0) (at-start .pre .1 .1)
               (at-loop-test .loop-test .taken),
           (
-            (let l = walk-low (at-start .args .list .now) (at-start .args .count) (at-loop .loop .inv .5) (at-start .pre .0) _ (at-start .pre .1 .0) (at-start .pre .1 .1)
+            (let l = walk-low (at-start .args .list .now) (at-start .args .count) (at-loop .loop .inv .5) _ (at-start .pre .1 .0) (at-start .pre .1 .1)
                 (at-loop-test .loop-test .taken) in
                 let r = at-start .pre .1 .1 .room in let e = at-loop .loop .inv .4 in omega arith),
             (let r = at-start .pre .1 .1 .room in let e = at-loop .loop .inv .4 in omega arith),
@@ -70,8 +69,8 @@ expand-spec =
     let at-loop-test = at-expand-one .before .before .before .before .before .before .before in
     let at-loop = at-loop-test .before in
     let at-start = at-loop .before .before .before .before .before .before .before .before .before in
-    walking-ended (at-start .args .list .now) (at-start .args .count) (at-loop .loop .inv .5) (at-start .pre .0) _ (at-start .pre .1 .0) (at-start .pre .1 .1)
-    (at-loop-test .loop-test .taken) _ _ _ (at-expand-one .expand-one .kept .0) refl (at-expand-one .expand-one .ensures) (c .match .keys2))
+    walking-ended (at-start .args .list .now) (at-start .args .count) (at-loop .loop .inv .5) _ (at-start .pre .1 .0) (at-start .pre .1 .1)
+    (at-loop-test .loop-test .taken) _ _ _ (at-expand-one .expand-one .ensures) (c .match .keys2))
     -- add-i
     (λ c.
     let at-loop-test = c .before .before .before .before .before .before .before .before .before .before .before .before .before .before .before .before .before .before in
@@ -90,8 +89,8 @@ expand-spec =
           let at-loop-test = at-expand-one .before .before .before .before .before .before .before in
           let at-loop = at-loop-test .before in
           let at-start = at-loop .before .before .before .before .before .before .before .before .before in
-          walking-turn (at-start .args .list .now) (at-start .args .count) (at-loop .loop .inv .5) (at-start .pre .0) _ (at-start .pre .1 .0) (at-start .pre .1 .1)
-          (at-loop-test .loop-test .taken) _ _ _ (at-expand-one .expand-one .kept .0) refl (at-expand-one .expand-one .ensures) _ _ (c .before .made .given .1),
+          walking-turn (at-start .args .list .now) (at-start .args .count) (at-loop .loop .inv .5) _ (at-start .pre .1 .0) (at-start .pre .1 .1)
+          (at-loop-test .loop-test .taken) _ _ _ (at-expand-one .expand-one .ensures) _ _ (c .before .made .given .1),
     ))
     -- same-length-5
     (λ c. search needs)

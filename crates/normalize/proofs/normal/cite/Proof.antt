@@ -6,7 +6,7 @@ use Rattle.normalize.proofs.normal.cite.Tie as tie
 pub cite-spec : {M : Type 1} → statement M
 cite-spec = tie.close (tie.spec
     -- returns
-    (λ c. cite-same _ _ (c .if1 .taken))
+    (λ c. let at-start = c .before .before .before .before .before .before .before in cite-same (at-start .pre .0) _ _ (c .if1 .taken))
     -- explain-unchecked-requires
     (λ c κs. search needs)
     -- same-length

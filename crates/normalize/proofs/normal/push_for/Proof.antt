@@ -1,4 +1,3 @@
-use mathlib.Core.Path.{refl}
 use Rattle.normalize.proofs.Refines.Replacing.{cited-ready, push-for-done, push-for-stopped}
 use borrow.Author.Needs.{needs}
 use Rattle.normalize.proofs.normal.push_for.Statement.{statement}
@@ -17,7 +16,7 @@ push-for-spec =
     let at-cited = c .before .before .before .before .before in
     let at-cite = at-cited .before .before .before .before .before .before in
     let at-start = at-cite .before .before .before .before .before .before .before .before .before .before .before .before in (
-      cited-ready (at-start .pre .0) _ _ _ (at-start .pre .1 .0) refl refl (at-cite .cite .ensures) _ (at-cited .cited .given .1),
+      cited-ready (at-start .pre .0) _ _ _ (at-start .pre .1 .0) (at-cite .cite .ensures) _ (at-cited .cited .given .1),
       (at-start .pre .1 .1 .0, at-start .pre .1 .1 .1),
     ))
     -- enum-known-cited-2
@@ -38,7 +37,7 @@ push-for-spec =
     let at-cited = at-push .before .before .before .before .before .before in
     let at-cite = at-cited .before .before .before .before .before .before in
     let at-start = at-cite .before .before .before .before .before .before .before .before .before .before .before .before in
-    push-for-done (at-start .pre .0) _ _ _ (at-start .pre .1 .0) refl refl (at-cite .cite .ensures) _ _ (at-cited .cited .given .1) (at-push .push .ensures))
+    push-for-done (at-start .pre .0) _ _ _ (at-start .pre .1 .0) (at-cite .cite .ensures) _ _ (at-cited .cited .given .1) (at-push .push .ensures))
     -- same-length-6
     (λ c. search needs)
     -- same-length-7
@@ -51,4 +50,4 @@ push-for-spec =
     (λ c.
     let at-cite = c .before .before .before .before .before .before .before in
     let at-start = at-cite .before .before .before .before .before .before .before .before .before .before .before .before in
-    push-for-stopped (at-start .pre .0) _ _ _ (at-start .pre .1 .0) refl refl (at-cite .cite .ensures) _ _ (c .before .cited2 .given .1)))
+    push-for-stopped (at-start .pre .0) _ _ _ (at-start .pre .1 .0) (at-cite .cite .ensures) _ _ (c .before .cited2 .given .1)))

@@ -1,11 +1,11 @@
 use lib.ListN.{length}
 use Prim.Native.Nat.{_-_, _≤_}
 use mathlib.Core.List.{_++_}
-use mathlib.Core.Path.{_≡_, refl, sym}
+use mathlib.Core.Path.{_≡_, refl}
 use Rattle.records.specs.View.{lent}
 use Rattle.records.proofs.Lists.{all-every, every-right}
 use Rattle.normalize.proofs.Refines.Heaping.{Heaping, heaping-none}
-use Rattle.normalize.proofs.Refines.Replacing.{formsLeft, now-ready, rep-requires as forms-rep, for-arguments, forms-turn, forms-stopped, forms-done}
+use Rattle.normalize.proofs.Refines.Replacing.{formsLeft, rep-requires as forms-rep, for-arguments, forms-turn, forms-stopped, forms-done}
 use native.Mathlib.Omega.{arith}
 use borrow.Author.Needs.{needs}
 use Rattle.normalize.proofs.normal.push_forms.Statement.{statement}
@@ -35,7 +35,7 @@ push-forms-spec =
     (λ c κs.
     let at-loop = c .before .before .before in
     let at-start = at-loop .before .before .before .before .before .before .before .before .before .before in
-    forms-rep (at-loop .loop .inv .5) (at-start .pre .0) _ (at-start .pre .1 .0) (every-right (at-start .args .known .now) _ (all-every _ _ (at-start .pre .1 .0 .strings)))
+    forms-rep (at-loop .loop .inv .5) _ (at-start .pre .1 .0) (every-right (at-start .args .known .now) _ (all-every _ _ (at-start .pre .1 .0 .strings)))
     (c .before .before .loop-test .taken))
     -- push-for-requires
     (λ c κs.
@@ -43,10 +43,9 @@ push-forms-spec =
     let at-loop-test = at-rep .before .before .before in
     let at-loop = at-loop-test .before in
     let at-start = at-loop .before .before .before .before .before .before .before .before .before .before in (
-      now-ready (at-loop .loop .inv .5) (at-start .pre .0) _ (at-start .pre .1 .0) (every-right (at-start .args .known .now) _ (all-every _ _ (at-start .pre .1 .0 .strings)))
-          (at-loop-test .loop-test .taken),
+      at-loop .loop .inv .5 .carried .ready,
       (
-        for-arguments (at-loop .loop .inv .5) (at-start .pre .0) _ (at-start .pre .1 .0)
+        for-arguments (at-loop .loop .inv .5) _ (at-start .pre .1 .0)
             (every-right (at-start .args .known .now) _ (all-every _ _ (at-start .pre .1 .0 .strings))) (at-loop-test .loop-test .taken) _ (at-rep .rep .ensures),
         (
           (let h = at-loop-test .loop-test .taken in let l = at-loop .loop .inv .5 .low in let p = at-start .pre .1 .1 .0 in omega arith),
@@ -75,8 +74,8 @@ push-forms-spec =
     let at-loop-test = at-rep .before .before .before in
     let at-loop = at-loop-test .before in
     let at-start = at-loop .before .before .before .before .before .before .before .before .before .before in
-    forms-stopped (at-loop .loop .inv .5) (at-start .pre .0) _ (at-start .pre .1 .0) (every-right (at-start .args .known .now) _ (all-every _ _ (at-start .pre .1 .0 .strings)))
-    (at-loop-test .loop-test .taken) _ (at-rep .rep .ensures) _ _ (at-push-for .push-for .kept .0) refl (at-push-for .push-for .ensures) _ (c .before .form2 .given .1))
+    forms-stopped (at-loop .loop .inv .5) _ (at-start .pre .1 .0) (every-right (at-start .args .known .now) _ (all-every _ _ (at-start .pre .1 .0 .strings)))
+    (at-loop-test .loop-test .taken) _ (at-rep .rep .ensures) _ _ (at-push-for .push-for .ensures) _ (c .before .form2 .given .1))
     -- add-i
     (λ c.
     let at-loop-test = c .before .before .before .before .before .before .before .before .before .before .before .before .before .before .before .before .before .before .before .before .before .before in
@@ -96,8 +95,8 @@ push-forms-spec =
           let at-loop-test = at-rep .before .before .before in
           let at-loop = at-loop-test .before in
           let at-start = at-loop .before .before .before .before .before .before .before .before .before .before in
-          forms-turn (at-loop .loop .inv .5) (at-start .pre .0) _ (at-start .pre .1 .0) (every-right (at-start .args .known .now) _ (all-every _ _ (at-start .pre .1 .0 .strings)))
-          (at-loop-test .loop-test .taken) _ (at-rep .rep .ensures) _ _ (at-push-for .push-for .kept .0) refl (at-push-for .push-for .ensures) _ _ (c .before .form .given .1),
+          forms-turn (at-loop .loop .inv .5) _ (at-start .pre .1 .0) (every-right (at-start .args .known .now) _ (all-every _ _ (at-start .pre .1 .0 .strings)))
+          (at-loop-test .loop-test .taken) _ (at-rep .rep .ensures) _ _ (at-push-for .push-for .ensures) _ _ (c .before .form .given .1),
       search needs,
     ))
     -- same-length-6

@@ -1,5 +1,6 @@
-use Rattle.records.proofs.Refines.BuildCalls.{concat-few, concat-unfit, concat-called}
+use Rattle.records.proofs.Refines.BuildCalls.{concat-few, concat-right, concat-unfit, concat-called}
 use Rattle.records.proofs.Public.{call-unready, passed-ready}
+use Rattle.records.specs.View.{lent}
 use borrow.Author.Needs.{needs}
 use Rattle.records.proofs.build.make_concatenation.Statement.{statement}
 use Rattle.records.proofs.build.make_concatenation.Tie as tie
@@ -28,7 +29,8 @@ make-concatenation-spec =
     (λ c κs.
     let at-if1 = c .before .before .before .before .before .before in
     let at-audit = at-if1 .before in
-    passed-ready _ _ _ (at-audit .audit .ensures) (at-if1 .if1 .left))
+    let a = at-audit .before .before .before .before .before .before .before .before .before .args in
+    (passed-ready _ _ _ (at-audit .audit .ensures) (at-if1 .if1 .left), concat-right (lent (a .terms .now) (a .cells .now) (a .chars .now) (a .reasons .now) (a .keys .now)) (a .c) (a .l .now) _ (search needs) (c .before .before .before .is-list .ensures) (c .before .before .if3 .taken)))
     -- same-length-5
     (λ c. search needs)
     -- same-length-6

@@ -12,7 +12,7 @@ make-concatenation-unchecked-spec =
     -- find-parts-requires
     (λ c κs.
     let at-start = c .before .before .before .before .before .before .before .before .before in
-    (at-start .pre .sized .termLimited, (at-start .pre .audited .recorded .nexts, parts-from _ _ _ _ (at-start .pre) (c .before .before .up-to-last .ensures))))
+    (at-start .pre .0 .sized .termLimited, (at-start .pre .0 .audited .recorded .nexts, parts-from _ _ _ _ (at-start .pre .0) (c .before .before .up-to-last .ensures))))
     -- same-length
     (λ c. search needs)
     -- same-length-2

@@ -1,5 +1,6 @@
-use Rattle.records.proofs.Refines.BuildCalls.{equation-unfit, equation-called}
+use Rattle.records.proofs.Refines.BuildCalls.{equation-right, equation-unfit, equation-called}
 use Rattle.records.proofs.Public.{call-unready, passed-ready}
+use Rattle.records.specs.View.{lent}
 use borrow.Author.Needs.{needs}
 use Rattle.records.proofs.build.make_equation.Statement.{statement}
 use Rattle.records.proofs.build.make_equation.Tie as tie
@@ -17,7 +18,7 @@ make-equation-spec =
     -- is-equatable-requires
     (λ c κs. search needs)
     -- make-equation-unchecked-requires
-    (λ c κs. search passed-ready)
+    (λ c κs. let a = c .before .before .before .before .before .before .before .before .before .before .before .before .args in (search passed-ready, equation-right (lent (a .terms .now) (a .cells .now) (a .chars .now) (a .reasons .now) (a .keys .now)) (a .c) (a .a) (a .b) _ (c .before .before .is-equatable .ensures) (c .before .if2 .taken)))
     -- same-length-2
     (λ c. search needs)
     -- returns-2

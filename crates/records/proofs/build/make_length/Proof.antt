@@ -1,5 +1,6 @@
 use Rattle.records.proofs.Refines.BuildCalls.{length-unfit, length-called}
 use Rattle.records.proofs.Public.{call-unready, passed-ready}
+use mathlib.Core.Path.{sym, _∙_}
 use borrow.Author.Needs.{needs}
 use Rattle.records.proofs.build.make_length.Statement.{statement}
 use Rattle.records.proofs.build.make_length.Tie as tie
@@ -17,7 +18,7 @@ make-length-spec =
     -- is-string-requires
     (λ c κs. search needs)
     -- make-length-unchecked-requires
-    (λ c κs. search passed-ready)
+    (λ c κs. (search passed-ready, sym (c .before .before .is-string .ensures) ∙ c .before .if2 .taken))
     -- same-length-2
     (λ c. search needs)
     -- returns-2

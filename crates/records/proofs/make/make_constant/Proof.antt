@@ -1,4 +1,4 @@
-use Rattle.records.proofs.Refines.MakeCalls.{constant-unready, constant-unfit, constant-called}
+use Rattle.records.proofs.Refines.MakeCalls.{right, constant-unready, constant-unfit, constant-called}
 use Rattle.records.proofs.Passed.{ready-of}
 use mathlib.Core.Path.{sym, _∙_}
 use borrow.Author.Needs.{needs}
@@ -34,7 +34,7 @@ make-constant-spec =
     (λ c κs.
     let at-if1 = c .before .before .before .before in
     let at-audit = at-if1 .before in
-    ready-of _ _ (sym (at-audit .audit .ensures) ∙ at-if1 .if1 .left))
+    (ready-of _ _ (sym (at-audit .audit .ensures) ∙ at-if1 .if1 .left), right _ _ (c .before .before .before .chars-ok .ensures) (c .before .before .if2 .left)))
     -- same-length-5
     (λ c. search needs)
     -- same-length-6

@@ -17,4 +17,4 @@ make-new-variable-unchecked-spec =
     (λ c.
     let at-append-text = c .before .before .before .before in
     let at-start = at-append-text .before .before .before .before .before .before .before .before .before in
-    variable-new _ (at-start .pre .1) (at-append-text .append-text .ensures)))
+    variable-new _ (at-start .pre .0) (at-start .pre .1 .0) (at-start .pre .1 .1) (at-append-text .append-text .ensures)))

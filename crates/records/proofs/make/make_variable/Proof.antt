@@ -1,4 +1,4 @@
-use Rattle.records.proofs.Refines.MakeCalls.{variable-unready, variable-empty, variable-unfit, variable-called}
+use Rattle.records.proofs.Refines.MakeCalls.{right-name, variable-unready, variable-empty, variable-unfit, variable-called}
 use Rattle.records.proofs.Passed.{ready-of}
 use mathlib.Core.Path.{sym, _∙_}
 use borrow.Author.Needs.{needs}
@@ -43,7 +43,7 @@ make-variable-spec =
     (λ c κs.
     let at-if1 = c .before .before .before .before .before in
     let at-audit = at-if1 .before in
-    ready-of _ _ (sym (at-audit .audit .ensures) ∙ at-if1 .if1 .left))
+    (ready-of _ _ (sym (at-audit .audit .ensures) ∙ at-if1 .if1 .left), right-name (at-audit .before .before .before .before .before .before .before .before .before .args .w .now) _ (c .before .before .before .chars-ok .ensures) (c .before .before .before .before .if2 .left) (c .before .before .if3 .left)))
     -- same-length-7
     (λ c. search needs)
     -- same-length-8

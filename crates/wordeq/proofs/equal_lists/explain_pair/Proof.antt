@@ -8,11 +8,14 @@ explain-pair-spec =
     tie.close
     (tie.spec
     -- returns
-    (λ c. pair-number _ _ _ _ _ _ _ _ (c .if1 .taken))
+    (λ c. let at-start = c .before .before .before .before .before .before .before in pair-number _ _ _ _ _ _ _ _ (at-start .pre .0) (c .if1 .taken))
     -- is-alike-requires
     (λ c κs. let at-start = c .before .before .before .before .before .before .before in ready-readable (at-start .pre .0))
     -- returns-2
-    (λ c. pair-alike _ _ _ _ _ _ _ _ (c .before .before .if1 .left) _ (c .before .is-alike .ensures) (c .if2 .taken))
+    (λ c.
+    let at-if1 = c .before .before in
+    let at-start = at-if1 .before .before .before .before .before .before .before in
+    pair-alike _ _ _ _ _ _ _ _ (at-if1 .if1 .left) _ (c .before .is-alike .ensures) (at-start .pre .0) (c .if2 .taken))
     -- same-class-unchecked-requires
     (λ c κs.
     let at-start = c .before .before .before .before .before .before .before .before .before in
@@ -21,7 +24,9 @@ explain-pair-spec =
     (λ c.
     let at-is-alike = c .before .before .before in
     let at-if1 = at-is-alike .before in
-    pair-apart _ _ _ _ _ _ _ _ (at-if1 .if1 .left) _ (at-is-alike .is-alike .ensures) (c .before .before .if2 .left) _ (c .before .same-class-unchecked .ensures) (c .if3 .taken))
+    let at-start = at-if1 .before .before .before .before .before .before .before in
+    pair-apart _ _ _ _ _ _ _ _ (at-if1 .if1 .left) _ (at-is-alike .is-alike .ensures) (c .before .before .if2 .left) _ (c .before .same-class-unchecked .ensures) (at-start .pre .0)
+    (c .if3 .taken))
     -- explain-unchecked-requires
     (λ c κs.
     let at-same-class-unchecked = c .before .before .before in

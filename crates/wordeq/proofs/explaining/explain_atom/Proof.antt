@@ -13,7 +13,7 @@ explain-atom-spec =
     (λ c.
     let at-start = c .before .before .before .before .before .before .before .before in
     atom-constant (at-start .args .terms .now) (at-start .args .cells .now) (at-start .args .chars .now) (at-start .args .reasons .now) (at-start .args .keys .now)
-    (at-start .args .c) _ _ _ (c .before .kind-of .ensures) (c .if1 .taken))
+    (at-start .args .c) _ _ _ (c .before .kind-of .ensures) (at-start .pre .0) (c .if1 .taken))
     -- explain-unchecked-requires
     (λ c κs.
     let at-kind-of = c .before .before .before in

@@ -1,5 +1,7 @@
 use mathlib.Core.Path.{refl}
-use Rattle.wordeq.proofs.Refines.Heads.{opposite-kept, new-ready, new-pair, new-below, new-small, new-done, new-stop, new-stop-2}
+use Rattle.records.proofs.Kept.{key-rule}
+use Rattle.wordeq.proofs.Refines.Leaving.{added-ready}
+use Rattle.wordeq.proofs.Refines.Heads.{opposite-kept, new-pair, new-below, new-small, new-done, new-stop, new-stop-2}
 use native.Mathlib.Omega.{arith}
 use borrow.Author.Needs.{needs}
 use Rattle.wordeq.proofs.heads.split_new.Statement.{statement}
@@ -9,7 +11,9 @@ negated-requires : tie.Need-negated-requires
 negated-requires c κs = search needs
 
 add-key-unchecked-requires : tie.Need-add-key-unchecked-requires
-add-key-unchecked-requires c κs = search needs
+add-key-unchecked-requires c κs =
+    let at-start = c .before .before .before .before .before .before .before .before .before .before .before in
+    (at-start .pre .0, key-rule _ _ _ (at-start .pre .1 .0 .left) (at-start .pre .1 .0 .right) (at-start .pre .1 .0 .apart))
 
 enum-known-key : tie.Need-enum-known-key
 enum-known-key c = search needs
@@ -19,8 +23,7 @@ put-atoms-requires c κs =
     let at-key = c .before .before .before .before .before .before in
     let at-add-key-unchecked = at-key .before .before .before .before in
     let at-start = at-add-key-unchecked .before .before .before .before .before .before .before .before .before .before .before .before in (
-      new-ready (at-start .args .guard) (at-start .args .a) (at-start .args .b) (at-add-key-unchecked .add-key-unchecked .ensures) (at-key .key .given .1) (at-start .pre .0)
-          (at-start .pre .1 .0) refl refl,
+      added-ready (at-key .key .given .1) (at-add-key-unchecked .add-key-unchecked .ensures),
       (
         new-pair (at-start .args .guard) (at-start .args .a) (at-start .args .b) (at-add-key-unchecked .add-key-unchecked .ensures) (at-key .key .given .1) (at-start .pre .0)
             (at-start .pre .1 .0),
@@ -48,8 +51,7 @@ cast-more c =
     let at-key = at-put-atoms .before .before .before .before .before .before .before in
     let at-add-key-unchecked = at-key .before .before .before .before in
     let at-start = at-add-key-unchecked .before .before .before .before .before .before .before .before .before .before .before .before in
-    let ready = new-ready (at-start .args .guard) (at-start .args .a) (at-start .args .b) (at-add-key-unchecked .add-key-unchecked .ensures) (at-key .key .given .1)
-    (at-start .pre .0) (at-start .pre .1 .0) refl refl in
+    let ready = added-ready (at-key .key .given .1) (at-add-key-unchecked .add-key-unchecked .ensures) in
     let pair = new-pair (at-start .args .guard) (at-start .args .a) (at-start .args .b) (at-add-key-unchecked .add-key-unchecked .ensures) (at-key .key .given .1)
     (at-start .pre .0) (at-start .pre .1 .0) in
     let small = new-small (at-start .args .guard) (at-start .args .a) (at-start .args .b) (at-add-key-unchecked .add-key-unchecked .ensures) (at-key .key .given .1) _

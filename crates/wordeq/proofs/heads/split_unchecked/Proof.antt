@@ -14,12 +14,12 @@ use Rattle.wordeq.proofs.heads.split_unchecked.Tie as tie
 returns : tie.Need-returns
 returns c =
     let at-start = c .before .before .before .before .before .before .before .before .before in
-    left-none (at-start .args .guard) (at-start .args .needed) (at-start .args .lhs .now) (at-start .args .rhs .now) (c .if1 .taken)
+    left-none (at-start .pre .0) (at-start .args .guard) (at-start .args .needed) (at-start .args .lhs .now) (at-start .args .rhs .now) (c .if1 .taken)
 
 returns-2 : tie.Need-returns-2
 returns-2 c =
     let at-start = c .before .before .before .before .before .before .before .before .before .before in
-    right-none (at-start .args .guard) (at-start .args .needed) (at-start .args .lhs .now) (at-start .args .rhs .now) (c .if2 .taken)
+    right-none (at-start .pre .0) (at-start .args .guard) (at-start .args .needed) (at-start .args .lhs .now) (at-start .args .rhs .now) (c .if2 .taken)
 
 shared-slice-read-a : tie.Need-shared-slice-read-a
 shared-slice-read-a c = search needs
@@ -43,7 +43,7 @@ returns-3 c =
     let at-if2 = c .before .before .before .before .before .before in
     let at-if1 = at-if2 .before in
     let at-start = at-if1 .before .before .before .before .before .before .before .before .before in
-    heads-clash (at-start .args .guard) (at-start .args .needed) (at-start .args .lhs .now) (at-start .args .rhs .now) (at-if1 .if1 .left) (at-if2 .if2 .left)
+    heads-clash (at-start .pre .0) (at-start .args .guard) (at-start .args .needed) (at-start .args .lhs .now) (at-start .args .rhs .now) (at-if1 .if1 .left) (at-if2 .if2 .left)
     (sym (c .before .constants-differ .ensures) ∙ c .if3 .taken)
 
 both-constant-requires : tie.Need-both-constant-requires
@@ -62,7 +62,7 @@ returns-4 c =
     let at-if2 = at-constants-differ .before .before .before .before .before in
     let at-if1 = at-if2 .before in
     let at-start = at-if1 .before .before .before .before .before .before .before .before .before in
-    heads-constant (at-start .args .guard) (at-start .args .needed) (at-start .args .lhs .now) (at-start .args .rhs .now) (at-if1 .if1 .left) (at-if2 .if2 .left)
+    heads-constant (at-start .pre .0) (at-start .args .guard) (at-start .args .needed) (at-start .args .lhs .now) (at-start .args .rhs .now) (at-if1 .if1 .left) (at-if2 .if2 .left)
     (sym (at-constants-differ .constants-differ .ensures) ∙ at-if3 .if3 .left) (sym (c .before .both-constant .ensures) ∙ c .if4 .taken)
 
 same-length-5 : tie.Need-same-length-5
@@ -78,7 +78,7 @@ returns-5 c =
     let at-if2 = at-constants-differ .before .before .before .before .before in
     let at-if1 = at-if2 .before in
     let at-start = at-if1 .before .before .before .before .before .before .before .before .before in
-    heads-saturated (at-start .args .guard) (at-start .args .needed) (at-start .args .lhs .now) (at-start .args .rhs .now) (at-if1 .if1 .left) (at-if2 .if2 .left)
+    heads-saturated (at-start .pre .0) (at-start .args .guard) (at-start .args .needed) (at-start .args .lhs .now) (at-start .args .rhs .now) (at-if1 .if1 .left) (at-if2 .if2 .left)
     (sym (at-constants-differ .constants-differ .ensures) ∙ at-if3 .if3 .left) (sym (c .before .before .both-constant .ensures) ∙ c .before .if4 .left)
     (or-left _ _ (c .if5 .taken))
 
@@ -104,7 +104,7 @@ returns-6 c =
     let at-if2 = at-constants-differ .before .before .before .before .before in
     let at-if1 = at-if2 .before in
     let at-start = at-if1 .before .before .before .before .before .before .before .before .before in
-    heads-saturated (at-start .args .guard) (at-start .args .needed) (at-start .args .lhs .now) (at-start .args .rhs .now) (at-if1 .if1 .left) (at-if2 .if2 .left)
+    heads-saturated (at-start .pre .0) (at-start .args .guard) (at-start .args .needed) (at-start .args .lhs .now) (at-start .args .rhs .now) (at-if1 .if1 .left) (at-if2 .if2 .left)
     (sym (at-constants-differ .constants-differ .ensures) ∙ at-if3 .if3 .left) (sym (at-both-constant .both-constant .ensures) ∙ at-if4 .if4 .left)
     (key-read (lent (at-start .args .terms .now) (at-start .args .cells .now) (at-start .args .chars .now) (at-start .args .reasons .now) (at-start .args .keys .now))
     (at-start .args .c) (getD (at-start .args .lhs .now) 0 0) (getD (at-start .args .rhs .now) 0 0) (c .before .is-key-unchecked .ensures) (at-if5 .if5 .left) (c .if6 .taken))
@@ -152,9 +152,8 @@ returns-7 c =
     let at-if1 = at-if2 .before in
     let at-start = at-if1 .before .before .before .before .before .before .before .before .before in
     heads-new {m = (lent (at-start .args .terms .now) (at-start .args .cells .now) (at-start .args .chars .now) (at-start .args .reasons .now) (at-start .args .keys .now))}
-    {c = at-start .args .c} (at-start .args .guard) (at-start .args .needed) (at-start .args .lhs .now) (at-start .args .rhs .now) (at-if1 .if1 .left) (at-if2 .if2 .left)
+    {c = at-start .args .c} (at-start .pre .0) (at-start .args .guard) (at-start .args .needed) (at-start .args .lhs .now) (at-start .args .rhs .now) (at-if1 .if1 .left) (at-if2 .if2 .left)
     (sym (at-constants-differ .constants-differ .ensures) ∙ at-if3 .if3 .left) (sym (at-both-constant .both-constant .ensures) ∙ at-if4 .if4 .left)
-    (at-start .pre .0)
     (pair-of _ _ _ (at-start .pre .1 .0) (at-start .pre .1 .1 .0) (at-if1 .if1 .left) (at-if2 .if2 .left) (sym (at-both-constant .both-constant .ensures) ∙ at-if4 .if4 .left))
     (key-read (lent (at-start .args .terms .now) (at-start .args .cells .now) (at-start .args .chars .now) (at-start .args .reasons .now) (at-start .args .keys .now))
     (at-start .args .c) (getD (at-start .args .lhs .now) 0 0) (getD (at-start .args .rhs .now) 0 0) (at-is-key-unchecked .is-key-unchecked .ensures) (at-if5 .if5 .left)

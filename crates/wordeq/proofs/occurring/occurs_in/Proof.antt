@@ -7,7 +7,7 @@ returns : tie.Need-returns
 returns c =
     let at-start = c .before .before .before .before .before .before .before .before in
     not-lone (at-start .args .terms .now) (at-start .args .cells .now) (at-start .args .chars .now) (at-start .args .reasons .now) (at-start .args .keys .now) (at-start .args .c)
-    (at-start .args .lone .now) (at-start .args .side .now) (c .if1 .taken)
+    (at-start .args .lone .now) (at-start .args .side .now) (at-start .pre .0) (c .if1 .taken)
 
 shared-slice-read-x : tie.Need-shared-slice-read-x
 shared-slice-read-x c = search needs
@@ -20,7 +20,8 @@ returns-2 c =
     let at-if1 = c .before .before .before in
     let at-start = at-if1 .before .before .before .before .before .before .before .before in
     lone-constant (at-start .args .terms .now) (at-start .args .cells .now) (at-start .args .chars .now) (at-start .args .reasons .now) (at-start .args .keys .now)
-    (at-start .args .c) (at-start .args .lone .now) (at-start .args .side .now) (at-if1 .if1 .left) _ (c .before .kind-of .ensures) (c .if2 .taken)
+    (at-start .args .c) (at-start .args .lone .now) (at-start .args .side .now) (at-if1 .if1 .left) _ (c .before .kind-of .ensures) (at-start .pre .0)
+    (c .if2 .taken)
 
 find-requires : tie.Need-find-requires
 find-requires c κs =

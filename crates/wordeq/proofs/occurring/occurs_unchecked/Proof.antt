@@ -1,7 +1,5 @@
-use mathlib.Core.Path.{refl, ap}
-use denote.Enum.Declared
-use Rattle.wordeq.proofs.StepResult
-use Rattle.wordeq.proofs.Refines.Lone.{not-done, first-answers, second-ready, second-lists, second-tries}
+use Rattle.wordeq.specs.Wordeq.{occurs}
+use Rattle.wordeq.proofs.Refines.Trying.{passed-on, occurs-rises, last-of, else-last, else-tries}
 use borrow.Author.Needs.{needs}
 use Rattle.wordeq.proofs.occurring.occurs_unchecked.Statement.{statement}
 use Rattle.wordeq.proofs.occurring.occurs_unchecked.Tie as tie
@@ -19,17 +17,16 @@ returns : tie.Need-returns
 returns c =
     let at-occurs-in = c .before .before .before in
     let at-start = at-occurs-in .before .before .before .before .before .before .before .before .before in
-    first-answers _ _ _ (at-start .args .lhs .now) (at-start .args .rhs .now) _ (at-occurs-in .occurs-in .ensures)
-    (λ d e. not-done _ (c .match .keys2) (ap (Declared.tagOf StepResult.the-type) e))
+    else-last (occurs (at-start .args .rhs .now) (at-start .args .lhs .now)) (last-of (at-occurs-in .occurs-in .result) (c .match .keys2)) (at-occurs-in .occurs-in .ensures)
 
 occurs-in-requires-2 : tie.Need-occurs-in-requires-2
 occurs-in-requires-2 c κs =
     let at-o = c .before .before in
     let at-occurs-in = at-o .before .before .before .before in
-    let at-start = at-occurs-in .before .before .before .before .before .before .before .before .before in (
-      second-ready _ _ _ (at-start .args .lhs .now) (at-start .args .rhs .now) _ (at-occurs-in .occurs-in .ensures) _ (at-o .o .given .1) refl refl (at-start .pre .0),
-      second-lists _ _ _ (at-start .args .lhs .now) (at-start .args .rhs .now) _ (at-occurs-in .occurs-in .ensures) _ (at-o .o .given .1) (at-start .pre .1),
-    )
+    let at-start = at-occurs-in .before .before .before .before .before .before .before .before .before in
+    let x = passed-on (occurs-rises (at-start .args .lhs .now) (at-start .args .rhs .now)) (at-occurs-in .occurs-in .ensures) (at-o .o .given .1)
+    (at-start .pre .1) in
+    (x .ready, record { left = x .lists .right; right = x .lists .left })
 
 same-length-2 : tie.Need-same-length-2
 same-length-2 c = search needs
@@ -39,7 +36,7 @@ returns-2 c =
     let at-o = c .before .before .before .before .before in
     let at-occurs-in = at-o .before .before .before .before in
     let at-start = at-occurs-in .before .before .before .before .before .before .before .before .before in
-    second-tries _ _ _ (at-start .args .lhs .now) (at-start .args .rhs .now) _ (at-occurs-in .occurs-in .ensures) _ (at-o .o .given .1) _ _ (c .before .before .occurs-in2 .ensures)
+    else-tries (occurs-rises (at-start .args .lhs .now) (at-start .args .rhs .now)) (at-occurs-in .occurs-in .ensures) (at-o .o .given .1) (c .before .before .occurs-in2 .ensures)
 
 pub occurs-unchecked-spec : {M : Type 1} → statement M
 occurs-unchecked-spec =

@@ -1,5 +1,7 @@
-use Rattle.wordeq.proofs.Refines.Propagate.{empties-able, empties-pairs, empties-done, empties-stop}
-use mathlib.Core.Path.{refl}
+use Rattle.wordeq.proofs.Refines.Propagate.{empties-pairs, empties-done, empties-stop}
+use Rattle.wordeq.proofs.Refines.Leaving.{made-ready}
+use Rattle.wordeq.proofs.Refines.Pairs.{ready-readable}
+use Rattle.wordeq.proofs.Refines.SplitAtoms.{no-characters}
 use borrow.Author.Needs.{needs}
 use Rattle.wordeq.proofs.propagate.empties_unchecked.Statement.{statement}
 use Rattle.wordeq.proofs.propagate.empties_unchecked.Tie as tie
@@ -11,7 +13,7 @@ empties-unchecked-spec =
     -- slice-aggregate-make-constant-unchecked
     (λ c. search needs)
     -- make-constant-unchecked-requires
-    (λ c κs. search needs)
+    (λ c κs. let at-start = c .before .before .before .before .before .before .before .before .before in (at-start .pre .0, no-characters))
     -- enum-known-empty
     (λ c. search needs)
     -- link-first-requires
@@ -19,8 +21,7 @@ empties-unchecked-spec =
     let at-empty = c .before .before .before in
     let at-make-constant-unchecked = at-empty .before .before .before .before .before .before in
     let at-start = at-make-constant-unchecked .before .before .before .before .before .before .before .before .before .before in (
-      empties-able (at-start .args .side .now) (at-start .pre .1) (at-make-constant-unchecked .make-constant-unchecked .ensures) (at-empty .empty .given .1) (at-start .pre .0)
-          (at-make-constant-unchecked .make-constant-unchecked .kept .0) refl,
+      ready-readable (made-ready (at-empty .empty .given .1) (at-make-constant-unchecked .make-constant-unchecked .ensures)),
       empties-pairs (at-start .args .side .now) (at-start .pre .1) (at-make-constant-unchecked .make-constant-unchecked .ensures) (at-empty .empty .given .1) (at-start .pre .0),
     ))
     -- enum-known-empty-2

@@ -38,16 +38,17 @@ propagate-unchecked-spec =
     let at-is-alias = c .before .before .before in
     let at-start = at-is-alias .before .before .before .before .before .before .before .before .before .before in
     choice-alias (lent (at-start .args .terms .now) (at-start .args .cells .now) (at-start .args .chars .now) (at-start .args .reasons .now) (at-start .args .keys .now))
-    (at-start .args .c) (at-start .args .lhs .now) (at-start .args .rhs .now) _ (at-is-alias .is-alias .ensures) (c .before .before .if1 .taken))
-    -- is-emptied-requires
+    (at-start .args .c) (at-start .args .lhs .now) (at-start .args .rhs .now) _ (at-is-alias .is-alias .ensures) (at-start .pre .0)
+    (c .before .before .if1 .taken))
+    -- is-emptied-unchecked-requires
     (λ c κs. search needs)
     -- empties-unchecked-requires
     (λ c κs.
-    let at-is-emptied = c .before .before .before in
-    let at-start = at-is-emptied .before .before .before .before .before .before .before .before .before .before .before .before .before in (
+    let at-is-emptied-unchecked = c .before .before .before in
+    let at-start = at-is-emptied-unchecked .before .before .before .before .before .before .before .before .before .before .before .before .before in (
       at-start .pre .0,
       emptied-bare (termed (at-start .args .terms .now) (at-start .args .c)) (at-start .args .lhs .now) (at-start .args .rhs .now) _ (c .before .before .if2 .taken)
-          (at-is-emptied .is-emptied .ensures),
+          (at-is-emptied-unchecked .is-emptied-unchecked .ensures),
     ))
     -- same-length-3
     (λ c. search needs)
@@ -57,22 +58,22 @@ propagate-unchecked-spec =
     (λ c.
     let at-empties-unchecked = c .before .before .before .before in
     let at-if2 = at-empties-unchecked .before .before .before in
-    let at-is-emptied = at-if2 .before in
-    let at-if1 = at-is-emptied .before .before in
+    let at-is-emptied-unchecked = at-if2 .before in
+    let at-if1 = at-is-emptied-unchecked .before .before in
     let at-is-alias = at-if1 .before in
     let at-start = at-is-alias .before .before .before .before .before .before .before .before .before .before in
     choice-left (lent (at-start .args .terms .now) (at-start .args .cells .now) (at-start .args .chars .now) (at-start .args .reasons .now) (at-start .args .keys .now))
-    (at-start .args .c) (at-start .args .lhs .now) (at-start .args .rhs .now) _ (at-is-alias .is-alias .ensures) (at-if1 .if1 .left) _ (at-is-emptied .is-emptied .ensures)
+    (at-start .args .c) (at-start .args .lhs .now) (at-start .args .rhs .now) _ (at-is-alias .is-alias .ensures) (at-if1 .if1 .left) _ (at-is-emptied-unchecked .is-emptied-unchecked .ensures)
     (at-if2 .if2 .taken) (at-empties-unchecked .empties-unchecked .ensures))
-    -- is-emptied-requires-2
+    -- is-emptied-unchecked-requires-2
     (λ c κs. search needs)
     -- empties-unchecked-requires-2
     (λ c κs.
-    let at-is-emptied2 = c .before .before .before in
-    let at-start = at-is-emptied2 .before .before .before .before .before .before .before .before .before .before .before .before .before .before .before .before in (
+    let at-is-emptied-unchecked2 = c .before .before .before in
+    let at-start = at-is-emptied-unchecked2 .before .before .before .before .before .before .before .before .before .before .before .before .before .before .before .before in (
       at-start .pre .0,
       emptied-bare (termed (at-start .args .terms .now) (at-start .args .c)) (at-start .args .rhs .now) (at-start .args .lhs .now) _ (c .before .before .if3 .taken)
-          (at-is-emptied2 .is-emptied2 .ensures),
+          (at-is-emptied-unchecked2 .is-emptied-unchecked2 .ensures),
     ))
     -- same-length-5
     (λ c. search needs)
@@ -82,15 +83,15 @@ propagate-unchecked-spec =
     (λ c.
     let at-empties-unchecked2 = c .before .before .before .before in
     let at-if3 = at-empties-unchecked2 .before .before .before in
-    let at-is-emptied2 = at-if3 .before in
-    let at-if2 = at-is-emptied2 .before .before in
-    let at-is-emptied = at-if2 .before in
-    let at-if1 = at-is-emptied .before .before in
+    let at-is-emptied-unchecked2 = at-if3 .before in
+    let at-if2 = at-is-emptied-unchecked2 .before .before in
+    let at-is-emptied-unchecked = at-if2 .before in
+    let at-if1 = at-is-emptied-unchecked .before .before in
     let at-is-alias = at-if1 .before in
     let at-start = at-is-alias .before .before .before .before .before .before .before .before .before .before in
     choice-right (lent (at-start .args .terms .now) (at-start .args .cells .now) (at-start .args .chars .now) (at-start .args .reasons .now) (at-start .args .keys .now))
-    (at-start .args .c) (at-start .args .lhs .now) (at-start .args .rhs .now) _ (at-is-alias .is-alias .ensures) (at-if1 .if1 .left) _ (at-is-emptied .is-emptied .ensures)
-    (at-if2 .if2 .left) _ (at-is-emptied2 .is-emptied2 .ensures) (at-if3 .if3 .taken) (at-empties-unchecked2 .empties-unchecked2 .ensures))
+    (at-start .args .c) (at-start .args .lhs .now) (at-start .args .rhs .now) _ (at-is-alias .is-alias .ensures) (at-if1 .if1 .left) _ (at-is-emptied-unchecked .is-emptied-unchecked .ensures)
+    (at-if2 .if2 .left) _ (at-is-emptied-unchecked2 .is-emptied-unchecked2 .ensures) (at-if3 .if3 .taken) (at-empties-unchecked2 .empties-unchecked2 .ensures))
     -- is-assigned-requires
     (λ c κs. search needs)
     -- shared-slice-read-assigns-unchecked
@@ -126,15 +127,15 @@ propagate-unchecked-spec =
     let at-if4 = at-assigns-unchecked .before .before .before .before in
     let at-is-assigned = at-if4 .before in
     let at-if3 = at-is-assigned .before .before in
-    let at-is-emptied2 = at-if3 .before in
-    let at-if2 = at-is-emptied2 .before .before in
-    let at-is-emptied = at-if2 .before in
-    let at-if1 = at-is-emptied .before .before in
+    let at-is-emptied-unchecked2 = at-if3 .before in
+    let at-if2 = at-is-emptied-unchecked2 .before .before in
+    let at-is-emptied-unchecked = at-if2 .before in
+    let at-if1 = at-is-emptied-unchecked .before .before in
     let at-is-alias = at-if1 .before in
     let at-start = at-is-alias .before .before .before .before .before .before .before .before .before .before in
     choice-first (lent (at-start .args .terms .now) (at-start .args .cells .now) (at-start .args .chars .now) (at-start .args .reasons .now) (at-start .args .keys .now))
-    (at-start .args .c) (at-start .args .lhs .now) (at-start .args .rhs .now) _ (at-is-alias .is-alias .ensures) (at-if1 .if1 .left) _ (at-is-emptied .is-emptied .ensures)
-    (at-if2 .if2 .left) _ (at-is-emptied2 .is-emptied2 .ensures) (at-if3 .if3 .left) _ (at-is-assigned .is-assigned .ensures) (at-if4 .if4 .taken)
+    (at-start .args .c) (at-start .args .lhs .now) (at-start .args .rhs .now) _ (at-is-alias .is-alias .ensures) (at-if1 .if1 .left) _ (at-is-emptied-unchecked .is-emptied-unchecked .ensures)
+    (at-if2 .if2 .left) _ (at-is-emptied-unchecked2 .is-emptied-unchecked2 .ensures) (at-if3 .if3 .left) _ (at-is-assigned .is-assigned .ensures) (at-if4 .if4 .taken)
     (at-assigns-unchecked .assigns-unchecked .ensures))
     -- is-assigned-requires-2
     (λ c κs. search needs)
@@ -173,15 +174,15 @@ propagate-unchecked-spec =
     let at-if4 = at-is-assigned2 .before .before in
     let at-is-assigned = at-if4 .before in
     let at-if3 = at-is-assigned .before .before in
-    let at-is-emptied2 = at-if3 .before in
-    let at-if2 = at-is-emptied2 .before .before in
-    let at-is-emptied = at-if2 .before in
-    let at-if1 = at-is-emptied .before .before in
+    let at-is-emptied-unchecked2 = at-if3 .before in
+    let at-if2 = at-is-emptied-unchecked2 .before .before in
+    let at-is-emptied-unchecked = at-if2 .before in
+    let at-if1 = at-is-emptied-unchecked .before .before in
     let at-is-alias = at-if1 .before in
     let at-start = at-is-alias .before .before .before .before .before .before .before .before .before .before in
     choice-last (lent (at-start .args .terms .now) (at-start .args .cells .now) (at-start .args .chars .now) (at-start .args .reasons .now) (at-start .args .keys .now))
-    (at-start .args .c) (at-start .args .lhs .now) (at-start .args .rhs .now) _ (at-is-alias .is-alias .ensures) (at-if1 .if1 .left) _ (at-is-emptied .is-emptied .ensures)
-    (at-if2 .if2 .left) _ (at-is-emptied2 .is-emptied2 .ensures) (at-if3 .if3 .left) _ (at-is-assigned .is-assigned .ensures) (at-if4 .if4 .left) _
+    (at-start .args .c) (at-start .args .lhs .now) (at-start .args .rhs .now) _ (at-is-alias .is-alias .ensures) (at-if1 .if1 .left) _ (at-is-emptied-unchecked .is-emptied-unchecked .ensures)
+    (at-if2 .if2 .left) _ (at-is-emptied-unchecked2 .is-emptied-unchecked2 .ensures) (at-if3 .if3 .left) _ (at-is-assigned .is-assigned .ensures) (at-if4 .if4 .left) _
     (at-is-assigned2 .is-assigned2 .ensures) (at-if5 .if5 .taken) (at-assigns-unchecked2 .assigns-unchecked2 .ensures))
     -- same-length-11
     (λ c. search needs)
@@ -192,13 +193,13 @@ propagate-unchecked-spec =
     let at-if4 = c .before .before .before in
     let at-is-assigned = at-if4 .before in
     let at-if3 = at-is-assigned .before .before in
-    let at-is-emptied2 = at-if3 .before in
-    let at-if2 = at-is-emptied2 .before .before in
-    let at-is-emptied = at-if2 .before in
-    let at-if1 = at-is-emptied .before .before in
+    let at-is-emptied-unchecked2 = at-if3 .before in
+    let at-if2 = at-is-emptied-unchecked2 .before .before in
+    let at-is-emptied-unchecked = at-if2 .before in
+    let at-if1 = at-is-emptied-unchecked .before .before in
     let at-is-alias = at-if1 .before in
     let at-start = at-is-alias .before .before .before .before .before .before .before .before .before .before in
     choice-none (lent (at-start .args .terms .now) (at-start .args .cells .now) (at-start .args .chars .now) (at-start .args .reasons .now) (at-start .args .keys .now))
-    (at-start .args .c) (at-start .args .lhs .now) (at-start .args .rhs .now) _ (at-is-alias .is-alias .ensures) (at-if1 .if1 .left) _ (at-is-emptied .is-emptied .ensures)
-    (at-if2 .if2 .left) _ (at-is-emptied2 .is-emptied2 .ensures) (at-if3 .if3 .left) _ (at-is-assigned .is-assigned .ensures) (at-if4 .if4 .left) _
-    (c .before .is-assigned2 .ensures) (c .if5 .left)))
+    (at-start .args .c) (at-start .args .lhs .now) (at-start .args .rhs .now) _ (at-is-alias .is-alias .ensures) (at-if1 .if1 .left) _ (at-is-emptied-unchecked .is-emptied-unchecked .ensures)
+    (at-if2 .if2 .left) _ (at-is-emptied-unchecked2 .is-emptied-unchecked2 .ensures) (at-if3 .if3 .left) _ (at-is-assigned .is-assigned .ensures) (at-if4 .if4 .left) _
+    (c .before .is-assigned2 .ensures) (at-start .pre .0) (c .if5 .left)))

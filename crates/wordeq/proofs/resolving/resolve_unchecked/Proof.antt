@@ -30,5 +30,5 @@ resolve-unchecked-spec =
     (λ c.
     let at-run = c .before .before .before .before .before .before .before .before .before .before .before .before .before in
     let at-start = at-run .before .before .before .before .before .before .before .before .before .before .before .before .before .before .before in
-    resolve-closed _ _ (at-start .args .lhs .now) (at-start .args .rhs .now) (at-start .args .guard) (at-start .fits .guard) _ (at-run .run .result) (at-run .run .ensures) _
-    (c .close .ensures)))
+    resolve-closed _ _ (at-start .args .lhs .now) (at-start .args .rhs .now) (at-start .args .guard) (at-start .pre .0) (at-start .pre .1 .0) (at-start .fits .guard) _
+    (at-run .run .result) (at-run .run .ensures) _ (c .close .ensures)))

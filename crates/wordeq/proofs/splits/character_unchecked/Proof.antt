@@ -1,5 +1,6 @@
-use Rattle.wordeq.proofs.Refines.SplitAtoms.{character-ready, character-string, character-done, character-stop}
-use mathlib.Core.Path.{refl}
+use Rattle.records.proofs.Sequence.{grows-constant}
+use Rattle.wordeq.proofs.Refines.Leaving.{made-ready, made-stays}
+use Rattle.wordeq.proofs.Refines.SplitAtoms.{one-character, character-string, character-done, character-stop}
 use borrow.Author.Needs.{needs}
 use Rattle.wordeq.proofs.splits.character_unchecked.Statement.{statement}
 use Rattle.wordeq.proofs.splits.character_unchecked.Tie as tie
@@ -11,7 +12,7 @@ character-unchecked-spec =
     -- slice-aggregate-make-constant-unchecked
     (λ c. search needs)
     -- make-constant-unchecked-requires
-    (λ c κs. search needs)
+    (λ c κs. let at-start = c .before .before .before .before .before .before .before .before .before in (at-start .pre .0, one-character _ (at-start .pre .1 .1)))
     -- enum-known-head
     (λ c. search needs)
     -- prefix-unchecked-requires
@@ -19,9 +20,11 @@ character-unchecked-spec =
     let at-head = c .before .before .before .before in
     let at-make-constant-unchecked = at-head .before .before .before .before .before .before in
     let at-start = at-make-constant-unchecked .before .before .before .before .before .before .before .before .before .before in (
-      character-ready _ (at-start .pre .0) (at-start .pre .1) (at-make-constant-unchecked .make-constant-unchecked .ensures) (at-head .head .given .1)
-          (at-make-constant-unchecked .make-constant-unchecked .kept .0) refl,
-      character-string _ (at-start .pre .0) (at-start .pre .1) (at-make-constant-unchecked .make-constant-unchecked .ensures) (at-head .head .given .1),
+      made-ready (at-head .head .given .1) (at-make-constant-unchecked .make-constant-unchecked .ensures),
+      (
+        made-stays (grows-constant _) (at-head .head .given .1) (at-make-constant-unchecked .make-constant-unchecked .ensures) _ (at-start .pre .1 .0),
+        character-string _ (at-start .pre .0) (at-start .pre .1 .1) (at-make-constant-unchecked .make-constant-unchecked .ensures) (at-head .head .given .1),
+      ),
     ))
     -- enum-known-head-2
     (λ c. search needs)

@@ -1,5 +1,5 @@
-use Rattle.wordeq.proofs.Refines.SplitAtoms.{empty-ready, empty-done, empty-stop}
-use mathlib.Core.Path.{refl}
+use Rattle.wordeq.proofs.Refines.Leaving.{made-ready}
+use Rattle.wordeq.proofs.Refines.SplitAtoms.{no-characters, empty-sides, empty-done, empty-stop}
 use borrow.Author.Needs.{needs}
 use Rattle.wordeq.proofs.splits.empty_unchecked.Statement.{statement}
 use Rattle.wordeq.proofs.splits.empty_unchecked.Tie as tie
@@ -11,16 +11,17 @@ empty-unchecked-spec =
     -- slice-aggregate-make-constant-unchecked
     (λ c. search needs)
     -- make-constant-unchecked-requires
-    (λ c κs. search needs)
+    (λ c κs. let at-start = c .before .before .before .before .before .before .before .before in (at-start .pre .0, no-characters))
     -- enum-known-empty
     (λ c. search needs)
     -- make-equation-unchecked-requires
     (λ c κs.
     let at-empty = c .before .before .before in
     let at-make-constant-unchecked = at-empty .before .before .before .before .before .before in
-    let at-start = at-make-constant-unchecked .before .before .before .before .before .before .before .before .before in
-    empty-ready (at-start .pre) (at-make-constant-unchecked .make-constant-unchecked .kept .0) refl (at-make-constant-unchecked .make-constant-unchecked .ensures)
-    (at-empty .empty .given .1))
+    let at-start = at-make-constant-unchecked .before .before .before .before .before .before .before .before .before in (
+      made-ready (at-empty .empty .given .1) (at-make-constant-unchecked .make-constant-unchecked .ensures),
+      empty-sides _ (at-start .pre .0) (at-start .pre .1) (at-make-constant-unchecked .make-constant-unchecked .ensures) (at-empty .empty .given .1),
+    ))
     -- enum-known-empty-2
     (λ c. search needs)
     -- same-length

@@ -1,4 +1,4 @@
-use Rattle.wordeq.proofs.Refines.SplitAtoms.{named-stop, named-ready, named-new, named-then}
+use Rattle.wordeq.proofs.Refines.SplitAtoms.{named-stop, named-arguments, named-new, named-then}
 use borrow.Author.Needs.{needs}
 use Rattle.wordeq.proofs.splits.fresh_str_unchecked.Statement.{statement}
 use Rattle.wordeq.proofs.splits.fresh_str_unchecked.Tie as tie
@@ -18,10 +18,12 @@ fresh-str-unchecked-spec =
     -- make-named-requires
     (λ c κs.
     let at-if1 = c .before .before .before .before in
-    let at-next-name-unchecked = at-if1 .before .before in
-    let at-start = at-next-name-unchecked .before .before .before .before .before .before .before .before in (
-      named-ready _ (at-next-name-unchecked .next-name-unchecked .ensures) (at-start .pre) (at-if1 .if1 .left),
-      (at-next-name-unchecked .next-name-unchecked .ensures .fits, named-new _ (at-next-name-unchecked .next-name-unchecked .ensures) (at-if1 .if1 .left)),
+    let at-next-name-unchecked = at-if1 .before .before in (
+      at-next-name-unchecked .next-name-unchecked .ensures .ready,
+      (
+        at-next-name-unchecked .next-name-unchecked .ensures .fits,
+        (named-arguments _ (at-next-name-unchecked .next-name-unchecked .ensures) (at-if1 .if1 .left), named-new _ (at-next-name-unchecked .next-name-unchecked .ensures) (at-if1 .if1 .left)),
+      ),
     ))
     -- same-length-3
     (λ c. search needs)

@@ -1,5 +1,6 @@
-use Rattle.wordeq.proofs.Refines.SplitAtoms.{lengths-ready, lengths-ready-2, lengths-done, lengths-stop, lengths-stop-2}
-use mathlib.Core.Path.{refl}
+use Rattle.records.proofs.Sequence.{grows-length}
+use Rattle.wordeq.proofs.Refines.Leaving.{made-ready, made-stays}
+use Rattle.wordeq.proofs.Refines.SplitAtoms.{lengths-sides, lengths-done, lengths-stop, lengths-stop-2}
 use borrow.Author.Needs.{needs}
 use Rattle.wordeq.proofs.splits.lengths_unchecked.Statement.{statement}
 use Rattle.wordeq.proofs.splits.lengths_unchecked.Tie as tie
@@ -15,9 +16,10 @@ lengths-unchecked-spec =
     -- make-length-unchecked-requires-2
     (λ c κs.
     let at-make-length-unchecked = c .before .before .before .before .before .before in
-    let at-start = at-make-length-unchecked .before .before .before .before .before .before .before in
-    lengths-ready _ (at-start .args .b) (at-start .pre .0) (at-start .pre .1 .0) (at-make-length-unchecked .make-length-unchecked .kept .0) refl
-    (at-make-length-unchecked .make-length-unchecked .ensures) (c .before .before .left .given .1))
+    let at-start = at-make-length-unchecked .before .before .before .before .before .before .before in (
+      made-ready (c .before .before .left .given .1) (at-make-length-unchecked .make-length-unchecked .ensures),
+      made-stays (grows-length _) (c .before .before .left .given .1) (at-make-length-unchecked .make-length-unchecked .ensures) _ (at-start .pre .1 .1),
+    ))
     -- enum-known-right
     (λ c. search needs)
     -- make-equation-unchecked-requires
@@ -25,10 +27,11 @@ lengths-unchecked-spec =
     let at-make-length-unchecked2 = c .before .before .before .before .before .before in
     let at-left = at-make-length-unchecked2 .before .before .before in
     let at-make-length-unchecked = at-left .before .before .before .before in
-    let at-start = at-make-length-unchecked .before .before .before .before .before .before .before in
-    lengths-ready-2 _ _ (at-start .pre .0) (at-start .pre .1 .0) (at-make-length-unchecked .make-length-unchecked .kept .0) refl
-    (at-make-length-unchecked .make-length-unchecked .ensures) (at-left .left .given .1) (at-start .pre .1 .1) (at-make-length-unchecked2 .make-length-unchecked2 .kept .0) refl
-    (at-make-length-unchecked2 .make-length-unchecked2 .ensures) (c .before .before .right .given .1))
+    let at-start = at-make-length-unchecked .before .before .before .before .before .before .before in (
+      made-ready (c .before .before .right .given .1) (at-make-length-unchecked2 .make-length-unchecked2 .ensures),
+      lengths-sides _ _ (at-start .pre .0) (at-start .pre .1 .0) (at-start .pre .1 .1) (at-make-length-unchecked .make-length-unchecked .ensures) (at-left .left .given .1)
+          (at-make-length-unchecked2 .make-length-unchecked2 .ensures) (c .before .before .right .given .1),
+    ))
     -- enum-known-right-2
     (λ c. search needs)
     -- enum-known-left-2

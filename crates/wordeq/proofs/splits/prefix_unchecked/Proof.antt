@@ -1,5 +1,6 @@
-use Rattle.wordeq.proofs.Refines.SplitAtoms.{prefix-ready, prefix-ready-2, prefix-done, prefix-stop, prefix-stop-2}
-use mathlib.Core.Path.{refl, _∙_}
+use Rattle.wordeq.proofs.Refines.Leaving.{made-ready}
+use Rattle.wordeq.proofs.Refines.SplitAtoms.{prefix-parts, prefix-sides, prefix-done, prefix-stop, prefix-stop-2}
+use mathlib.Core.Path.{_∙_}
 use borrow.Author.Needs.{needs}
 use Rattle.wordeq.proofs.splits.prefix_unchecked.Statement.{statement}
 use Rattle.wordeq.proofs.splits.prefix_unchecked.Tie as tie
@@ -21,9 +22,10 @@ prefix-unchecked-spec =
     (λ c κs.
     let at-fresh = c .before .before .before .before .before in
     let at-fresh-str-unchecked = at-fresh .before .before .before .before .before .before in
-    let at-start = at-fresh-str-unchecked .before .before .before .before .before .before .before .before .before in
-    prefix-ready (at-start .pre .0) (at-fresh-str-unchecked .fresh-str-unchecked .kept .0) refl (at-fresh-str-unchecked .fresh-str-unchecked .ensures)
-    (at-fresh .fresh .given .1))
+    let at-start = at-fresh-str-unchecked .before .before .before .before .before .before .before .before .before in (
+      made-ready (at-fresh .fresh .given .1) (at-fresh-str-unchecked .fresh-str-unchecked .ensures),
+      prefix-parts _ (at-start .pre .0) (at-start .pre .1 .1) (at-fresh-str-unchecked .fresh-str-unchecked .ensures) (at-fresh .fresh .given .1),
+    ))
     -- enum-known-whole
     (λ c. search needs)
     -- make-equation-unchecked-requires
@@ -32,11 +34,11 @@ prefix-unchecked-spec =
     let at-make-concatenation-unchecked = at-whole .before .before .before .before .before .before in
     let at-fresh = at-make-concatenation-unchecked .before .before .before .before .before .before in
     let at-fresh-str-unchecked = at-fresh .before .before .before .before .before .before in
-    let at-start = at-fresh-str-unchecked .before .before .before .before .before .before .before .before .before in
-    prefix-ready-2 (at-start .pre .0) (at-fresh-str-unchecked .fresh-str-unchecked .kept .0) refl (at-fresh-str-unchecked .fresh-str-unchecked .ensures)
-    (at-fresh .fresh .given .1) _ (at-start .pre .1) (at-make-concatenation-unchecked .make-concatenation-unchecked .kept .0)
-    (at-make-concatenation-unchecked .make-concatenation-unchecked .kept .1 .0) (at-make-concatenation-unchecked .make-concatenation-unchecked .ensures)
-    (at-whole .whole .given .1))
+    let at-start = at-fresh-str-unchecked .before .before .before .before .before .before .before .before .before in (
+      made-ready (at-whole .whole .given .1) (at-make-concatenation-unchecked .make-concatenation-unchecked .ensures),
+      prefix-sides _ (at-start .pre .0) (at-start .pre .1 .1) (at-fresh-str-unchecked .fresh-str-unchecked .ensures) (at-fresh .fresh .given .1) _ (at-start .pre .1 .0)
+          (at-make-concatenation-unchecked .make-concatenation-unchecked .ensures) (at-whole .whole .given .1),
+    ))
     -- enum-known-whole-2
     (λ c. search needs)
     -- enum-known-fresh-2

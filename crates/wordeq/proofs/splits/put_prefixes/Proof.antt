@@ -1,4 +1,5 @@
-use Rattle.wordeq.proofs.Refines.SplitAtoms.{prefixes-ready, prefixes-string, prefixes-done, prefixes-stop, prefixes-stop-2}
+use Rattle.wordeq.proofs.Refines.Leaving.{made-ready, made-stays}
+use Rattle.wordeq.proofs.Refines.SplitAtoms.{grows-prefix, prefixes-done, prefixes-stop, prefixes-stop-2}
 use lib.ListN.{length-set}
 use native.Mathlib.Omega.{arith}
 use borrow.Author.Needs.{needs}
@@ -18,9 +19,11 @@ put-prefixes-spec =
     let at-first = c .before .before .before .before in
     let at-prefix-unchecked = at-first .before .before .before .before .before .before .before .before in
     let at-start = at-prefix-unchecked .before .before .before .before .before .before .before .before .before .before in (
-      prefixes-ready _ _ (at-start .pre .0) (at-start .pre .1 .0) (at-start .pre .1 .1 .0) (at-prefix-unchecked .prefix-unchecked .ensures) (at-first .first .given .1)
-          (at-prefix-unchecked .prefix-unchecked .kept .0) (at-prefix-unchecked .prefix-unchecked .kept .1 .0),
-      prefixes-string _ _ (at-start .pre .0) (at-start .pre .1 .0) (at-start .pre .1 .1 .0) (at-prefix-unchecked .prefix-unchecked .ensures) (at-first .first .given .1),
+      made-ready (at-first .first .given .1) (at-prefix-unchecked .prefix-unchecked .ensures),
+      (
+        made-stays (grows-prefix _ _) (at-first .first .given .1) (at-prefix-unchecked .prefix-unchecked .ensures) _ (at-start .pre .1 .1 .0),
+        made-stays (grows-prefix _ _) (at-first .first .given .1) (at-prefix-unchecked .prefix-unchecked .ensures) _ (at-start .pre .1 .0),
+      ),
     ))
     -- enum-known-second
     (λ c. search needs)

@@ -1,6 +1,6 @@
-use Rattle.wordeq.proofs.Refines.SplitAtoms.{characters-ready, characters-done, characters-stop, characters-stop-2}
+use Rattle.wordeq.proofs.Refines.Leaving.{made-ready, made-stays}
+use Rattle.wordeq.proofs.Refines.SplitAtoms.{grows-empty, characters-done, characters-stop, characters-stop-2}
 use lib.ListN.{length-set}
-use mathlib.Core.Path.{refl}
 use native.Mathlib.Omega.{arith}
 use borrow.Author.Needs.{needs}
 use Rattle.wordeq.proofs.splits.split_character_unchecked.Statement.{statement}
@@ -19,9 +19,8 @@ split-character-unchecked-spec =
     let at-first = c .before .before .before .before in
     let at-empty-unchecked = at-first .before .before .before .before .before .before in
     let at-start = at-empty-unchecked .before .before .before .before .before .before .before .before .before .before in (
-      characters-ready _ (at-start .pre .0) (at-start .pre .1 .0) (at-empty-unchecked .empty-unchecked .kept .0) refl (at-empty-unchecked .empty-unchecked .ensures)
-          (at-first .first .given .1),
-      at-start .pre .1 .1 .0,
+      made-ready (at-first .first .given .1) (at-empty-unchecked .empty-unchecked .ensures),
+      (made-stays (grows-empty _) (at-first .first .given .1) (at-empty-unchecked .empty-unchecked .ensures) _ (at-start .pre .1 .0), at-start .pre .1 .1 .0),
     ))
     -- enum-known-second
     (λ c. search needs)

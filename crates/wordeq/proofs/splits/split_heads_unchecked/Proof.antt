@@ -1,5 +1,5 @@
-use Rattle.wordeq.proofs.Refines.SplitAtoms.{heads-ready, heads-string, heads-string-2, heads-done, heads-stop}
-use mathlib.Core.Path.{refl}
+use Rattle.wordeq.proofs.Refines.Leaving.{made-ready, made-stays}
+use Rattle.wordeq.proofs.Refines.SplitAtoms.{grows-lengths, heads-done, heads-stop}
 use borrow.Author.Needs.{needs}
 use Rattle.wordeq.proofs.splits.split_heads_unchecked.Statement.{statement}
 use Rattle.wordeq.proofs.splits.split_heads_unchecked.Tie as tie
@@ -17,15 +17,10 @@ split-heads-unchecked-spec =
     let at-lengths = c .before .before .before .before .before in
     let at-lengths-unchecked = at-lengths .before .before .before .before in
     let at-start = at-lengths-unchecked .before .before .before .before .before .before .before .before .before .before in (
-      heads-ready _ _ (at-start .pre .0) (at-start .pre .1 .0) (at-start .pre .1 .1 .0) (at-lengths-unchecked .lengths-unchecked .ensures) (at-lengths .lengths .given .1)
-          (at-lengths-unchecked .lengths-unchecked .kept .0) refl,
+      made-ready (at-lengths .lengths .given .1) (at-lengths-unchecked .lengths-unchecked .ensures),
       (
-        heads-string _ _ (at-start .pre .0) (at-start .pre .1 .0) (at-start .pre .1 .1 .0) (at-lengths-unchecked .lengths-unchecked .ensures) (at-lengths .lengths .given .1),
-        (
-          heads-string-2 _ _ (at-start .pre .0) (at-start .pre .1 .0) (at-start .pre .1 .1 .0) (at-lengths-unchecked .lengths-unchecked .ensures)
-              (at-lengths .lengths .given .1),
-          at-start .pre .1 .1 .1,
-        ),
+        made-stays (grows-lengths _ _) (at-lengths .lengths .given .1) (at-lengths-unchecked .lengths-unchecked .ensures) _ (at-start .pre .1 .0),
+        (made-stays (grows-lengths _ _) (at-lengths .lengths .given .1) (at-lengths-unchecked .lengths-unchecked .ensures) _ (at-start .pre .1 .1 .0), at-start .pre .1 .1 .1),
       ),
     ))
     -- enum-known-lengths-2

@@ -1,8 +1,8 @@
-use mathlib.Core.Path.{refl, ap, _∙_}
+use mathlib.Core.Path.{ap, _∙_}
 use Rattle.wordeq.specs.Wordeq.{isGuard}
 use mir.Facts.{toZ-ofZ}
 use Rattle.wordeq.proofs.Refines.Steps.{after-early, after-known, after-tiled, after-split}
-use Rattle.wordeq.proofs.Refines.Trying.{lined, passed-on, conflicts-goes, propagates-goes, tiles-goes, last-of}
+use Rattle.wordeq.proofs.Refines.Trying.{passed-on, conflicts-rises, propagates-rises, tiles-rises, last-of}
 use borrow.Author.Needs.{needs}
 use Rattle.wordeq.proofs.stepping.after_unchecked.Statement.{statement}
 use Rattle.wordeq.proofs.stepping.after_unchecked.Tie as tie
@@ -36,7 +36,7 @@ after-unchecked-spec =
     let at-early = c .before .before .before .before .before .before in
     let at-conflicts-unchecked = at-early .before .before .before .before in
     let at-start = at-conflicts-unchecked .before .before .before .before .before .before .before .before .before .before .before .before .before .before in
-    let x = passed-on (conflicts-goes (at-start .args .lhs .now) (at-start .args .rhs .now)) (at-conflicts-unchecked .conflicts-unchecked .ensures) (at-early .early .given .1) refl refl (lined (at-start .pre .0) (at-start .pre .1 .0)) in
+    let x = passed-on (conflicts-rises (at-start .args .lhs .now) (at-start .args .rhs .now)) (at-conflicts-unchecked .conflicts-unchecked .ensures) (at-early .early .given .1) (at-start .pre .1 .0) in
     (x .ready, x .lists))
     -- enum-known-known
     (λ c. search needs)
@@ -65,8 +65,8 @@ after-unchecked-spec =
     let at-early = at-propagate-unchecked .before .before .before .before .before .before .before in
     let at-conflicts-unchecked = at-early .before .before .before .before in
     let at-start = at-conflicts-unchecked .before .before .before .before .before .before .before .before .before .before .before .before .before .before in
-    let x = passed-on (conflicts-goes (at-start .args .lhs .now) (at-start .args .rhs .now)) (at-conflicts-unchecked .conflicts-unchecked .ensures) (at-early .early .given .1) refl refl (lined (at-start .pre .0) (at-start .pre .1 .0)) in
-    let y = passed-on (propagates-goes (at-start .args .lhs .now) (at-start .args .rhs .now)) (at-propagate-unchecked .propagate-unchecked .ensures) (at-known .known .given .1) (at-propagate-unchecked .propagate-unchecked .kept .0) refl x in
+    let x = passed-on (conflicts-rises (at-start .args .lhs .now) (at-start .args .rhs .now)) (at-conflicts-unchecked .conflicts-unchecked .ensures) (at-early .early .given .1) (at-start .pre .1 .0) in
+    let y = passed-on (propagates-rises (at-start .args .lhs .now) (at-start .args .rhs .now)) (at-propagate-unchecked .propagate-unchecked .ensures) (at-known .known .given .1) (x .lists) in
     (y .ready, y .lists))
     -- enum-known-tiled
     (λ c. search needs)
@@ -102,9 +102,9 @@ after-unchecked-spec =
     let at-early = at-propagate-unchecked .before .before .before .before .before .before .before in
     let at-conflicts-unchecked = at-early .before .before .before .before in
     let at-start = at-conflicts-unchecked .before .before .before .before .before .before .before .before .before .before .before .before .before .before in
-    let x = passed-on (conflicts-goes (at-start .args .lhs .now) (at-start .args .rhs .now)) (at-conflicts-unchecked .conflicts-unchecked .ensures) (at-early .early .given .1) refl refl (lined (at-start .pre .0) (at-start .pre .1 .0)) in
-    let y = passed-on (propagates-goes (at-start .args .lhs .now) (at-start .args .rhs .now)) (at-propagate-unchecked .propagate-unchecked .ensures) (at-known .known .given .1) (at-propagate-unchecked .propagate-unchecked .kept .0) refl x in
-    let z = passed-on (tiles-goes (at-start .args .lhs .now) (at-start .args .rhs .now)) (at-tile-unchecked .tile-unchecked .ensures) (at-tiled .tiled .given .1) refl refl y in
+    let x = passed-on (conflicts-rises (at-start .args .lhs .now) (at-start .args .rhs .now)) (at-conflicts-unchecked .conflicts-unchecked .ensures) (at-early .early .given .1) (at-start .pre .1 .0) in
+    let y = passed-on (propagates-rises (at-start .args .lhs .now) (at-start .args .rhs .now)) (at-propagate-unchecked .propagate-unchecked .ensures) (at-known .known .given .1) (x .lists) in
+    let z = passed-on (tiles-rises (at-start .args .lhs .now) (at-start .args .rhs .now)) (at-tile-unchecked .tile-unchecked .ensures) (at-tiled .tiled .given .1) (y .lists) in
     (z .ready, (z .lists, (at-start .pre .1 .1 .0, (ap isGuard (toZ-ofZ (at-start .fits .guard)) ∙ at-start .pre .1 .1 .1 .0, at-start .pre .1 .1 .1 .1)))))
     -- same-length-16
     (λ c.

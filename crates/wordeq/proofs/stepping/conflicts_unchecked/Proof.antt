@@ -1,6 +1,5 @@
-use mathlib.Core.Path.{refl}
 use Rattle.wordeq.proofs.Refines.Steps.{lined-readIn, conflicts-found, conflicts-none}
-use Rattle.wordeq.proofs.Refines.Trying.{lined, passed-on, occurs-goes, last-of, else-last}
+use Rattle.wordeq.proofs.Refines.Trying.{passed-on, both-rises, last-of, else-last}
 use Rattle.wordeq.specs.Wordeq.{constants}
 use borrow.Author.Needs.{needs}
 use Rattle.wordeq.proofs.stepping.conflicts_unchecked.Statement.{statement}
@@ -27,8 +26,8 @@ conflicts-unchecked-spec =
     let at-occurs-unchecked = c .before .before .before .before .before in
     let at-start = at-occurs-unchecked .before .before .before .before .before .before .before .before .before in
     lined-readIn
-    (passed-on (occurs-goes (at-start .args .lhs .now) (at-start .args .rhs .now)) (at-occurs-unchecked .occurs-unchecked .ensures) (c .before .o .given .1) refl refl
-    (lined (at-start .pre .0) (at-start .pre .1))))
+    (passed-on (both-rises (at-start .args .lhs .now) (at-start .args .rhs .now)) (at-occurs-unchecked .occurs-unchecked .ensures) (c .before .o .given .1)
+    (at-start .pre .1)))
     -- same-length-2
     (λ c. search needs)
     -- returns-2

@@ -1,4 +1,4 @@
-use mathlib.Core.Path.{refl, ap, _∙_}
+use mathlib.Core.Path.{ap, _∙_}
 use Rattle.wordeq.specs.Wordeq.{isGuard}
 use mir.Facts.{toZ-ofZ}
 use Rattle.wordeq.proofs.Refines.Steps.{lined-strings, parts-inside, parts-fit, parts-lined, parts-apart, steps-refused, steps-bare, steps-after}
@@ -85,8 +85,7 @@ steps-unchecked-spec =
     let at-strip-unchecked = at-parts .before .before .before .before in
     let at-start = at-strip-unchecked .before .before .before .before .before .before .before .before .before .before .before .before .before .before in
     let x = lined (at-start .pre .0) (at-start .pre .1 .0) in
-    let y = parts-lined (at-start .args .guard) (at-start .args .lhs .now) (at-start .args .rhs .now) (at-strip-unchecked .strip-unchecked .ensures) (at-parts .parts .given .1) x
-    refl refl in (
+    let y = parts-lined (at-start .args .guard) (at-start .args .lhs .now) (at-start .args .rhs .now) (at-strip-unchecked .strip-unchecked .ensures) (at-parts .parts .given .1) x in (
       y .ready,
       (
         y .lists,

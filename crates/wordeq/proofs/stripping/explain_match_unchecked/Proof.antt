@@ -8,11 +8,14 @@ explain-match-unchecked-spec =
     tie.close
     (tie.spec
     -- returns
-    (λ c. match-number _ _ _ _ _ _ _ _ (c .if1 .taken))
+    (λ c. let at-start = c .before .before .before .before .before .before .before in match-number _ _ _ _ _ _ _ _ (at-start .pre .0) (c .if1 .taken))
     -- both-constant-requires
     (λ c κs. search needs)
     -- returns-2
-    (λ c. match-constants _ _ _ _ _ _ _ _ (c .before .before .if1 .left) _ (c .before .both-constant .ensures) (c .if2 .taken))
+    (λ c.
+    let at-if1 = c .before .before in
+    let at-start = at-if1 .before .before .before .before .before .before .before in
+    match-constants _ _ _ _ _ _ _ _ (at-if1 .if1 .left) _ (c .before .both-constant .ensures) (at-start .pre .0) (c .if2 .taken))
     -- explain-unchecked-requires
     (λ c κs.
     let at-both-constant = c .before .before .before in

@@ -1,24 +1,33 @@
 -- The classes of a store are what pairs of terms generate: this stays where two terms are joined, the pair added, and where a term is made.
 use mathlib.Core.Path.{_≡_, refl, sym, ap, subst, _∙_}
 use mathlib.Core.Bool.{true}
-use mathlib.Core.List.{List, [], _∷_, _++_, List·Memᴰ, List·Memᴰ·head, List·Memᴰ·tail}
+use mathlib.Core.List.{List, [], _∷_, _++_, List·Memᴰ, List·Memᴰ·head, List·Memᴰ·tail, append-assoc, append-nil}
 use Prim.Native.Nat.{ℕ, suc, _≤_}
 use native.Mathlib.Decide.{decLe}
 use native.Mathlib.Omega.{arith}
+use lib.ListN.{length, drop}
+use lib.Seq.{drop-length, drop-append-seam}
 use Rattle.records.specs.Lists.{oneMore, Every, none-left, and}
-use Rattle.records.specs.Store.{Term, Cell, Store, count, within, isTerm, root}
-use Rattle.records.specs.Make.{withTerms, withNames}
+use Rattle.records.specs.Store.{Term, Cell, Store, count, within, isTerm, rootIn, root}
+use Rattle.records.specs.Rules.{keyRule}
+use Rattle.records.specs.Make.{own, withTerms, withNames}
 use Rattle.records.specs.Working.Audited.{Audited}
 use Rattle.records.proofs.Lists.{within-low, within-high, within-is, every-map, every-both, every-append, every-mem}
 use Rattle.records.proofs.Climbs.{root-self, root-term}
 use Rattle.records.proofs.Grown.{Grown, grown-term, string-term}
 use Rattle.records.proofs.Append
-use Rattle.records.proofs.Append.{grow, More, New}
+use Rattle.records.proofs.Append.{grow, More, New, kept-audited}
+use Rattle.records.proofs.Beside.{beside, audited-beside}
+use Rattle.records.proofs.Kept.{names-audited}
+use Rattle.records.proofs.Later.{Extended, as-was, one-term, counter, others}
 use Rattle.records.proofs.Extend.{kept-grown}
 use Rattle.classes.specs.Joins.{joinIn}
-use Rattle.classes.specs.History.{Generated, itself, pair, turned, linked}
+use Rattle.history.specs.History.{Generated, itself, pair, turned, linked}
+use Rattle.classes.proofs.Alike.{Like, recorded-like}
+use Rattle.classes.proofs.AlikeMade.{more-like, new-like, grow-like}
+use Rattle.classes.proofs.MarksLater.{since, more-terms}
 use Rattle.classes.proofs.Dividing.{Joint, were, across, back}
 use Rattle.classes.proofs.JoinKept.{Joinable, join-long, join-division, join-divided}
 
 -- PAIRS
 
@@ -50,8 +59,13 @@ pub record Divides (s : Store) (l : List (ℕ × ℕ)) : Type 0 where
   pub together : Every (λ p. root s (p .0) ≡ root s (p .1)) l
   pub made : (t u : ℕ) → isTerm s t ≡ true → isTerm s u ≡ true → root s t ≡ root s u → Generated l t u
 
-pub divides-names : (s : Store) (m : ℕ) (l : List (ℕ × ℕ)) → Divides s l → Divides (withNames s m) l
-divides-names s m l d = record { terms = d .terms; together = d .together; made = d .made }
+-- only the terms count
+divides-terms : (s s′ : Store) (l : List (ℕ × ℕ)) → s′ .terms ≡ s .terms → Divides s l → Divides s′ l
+divides-terms s s′ l e d = record {
+  terms = subst (λ (ts : List Term). Every (λ p. (within (length ts) (p .0) ≡ true) × (within (length ts) (p .1) ≡ true)) l) (sym e) (d .terms);
+  together = subst (λ (ts : List Term). Every (λ p. rootIn ts (p .0) ≡ rootIn ts (p .1)) l) (sym e) (d .together);
+  made = subst (λ (ts : List Term). (t u : ℕ) → within (length ts) t ≡ true → within (length ts) u ≡ true → rootIn ts t ≡ rootIn ts u → Generated l t u) (sym e) (d .made);
+}
 
 module _ (s : Store) (au : Audited s) (a b k v : ℕ) (j : Joinable s a b k v) (l : List (ℕ × ℕ)) (d : Divides s l) where
   abbrev after : Store
@@ -119,3 +133,32 @@ module _ (s : Store) (ds : List Cell) (hs : List ℕ) (k a b : ℕ) (au : Audite
       go t u wt wu e (yes p) (no q) = let h = old-low t (is-old t wt p) in let i = new-root u (is-new u wu q) in absurd (omega arith)
       go t u wt wu e (no p) (yes q) = let h = old-low u (is-old u wu q) in let i = new-root t (is-new t wt p) in absurd (omega arith)
       go t u wt wu e (no p) (no q) = subst (λ (z : ℕ). Generated l t z) (is-new t wt p ∙ sym (is-new u wu q)) itself
+
+since-more : (s s′ : Store) (x : Term) (l : List Term) → s′ .terms ≡ oneMore (s .terms) x ++ l → since s s′ ≡ x ∷ l
+since-more s s′ x l e = ap (drop (count s)) (e ∙ append-assoc (s .terms) (x ∷ []) l) ∙ drop-append-seam (s .terms) (x ∷ l)
+
+-- other reasons and keys beside a table of the same terms
+beside-like : (s : Store) (us : List Term) (rs ks : List (ℕ × ℕ)) → Like (s .terms) us → Audited (beside s rs ks (s .names)) → Audited (withTerms s us) → Audited (withTerms (beside s rs ks (s .names)) us)
+unfolding keyRule
+beside-like s us rs ks l a au =
+    audited-beside (withTerms s us) rs ks (s .names) au (a .recorded .reasons) (recorded-like (beside s rs ks (s .names)) us l (a .recorded) .keys) (a .roomy .reasons) (a .roomy .keys)
+
+-- so are all terms that a later store has more, behind a table of the same terms
+pub divides-later : (s s′ : Store) (us : List Term) (l : List (ℕ × ℕ)) → Audited (withTerms s us) → Like (s .terms) us → Extended s s′ → Divides (withTerms s us) l → Divides (withTerms s′ (us ++ since s s′)) l
+divides-later s s′ us l au k as-was d = divides-terms (withTerms s us) _ l (ap (λ (m : List Term). us ++ m) (drop-length (s .terms)) ∙ append-nil us) d
+divides-later s s′ us l au k (one-term {ds = ds} {hs = hs} {k = kind} {a = a} {b = b} m n p) d =
+    let m′ = more-like s us k ds hs kind a b m in
+    let n′ = new-like s us k ds hs kind a b n in
+    let s₁ = grow s ds hs kind a b in
+    let x = own (suc (count s)) kind a b in
+    let e : oneMore us (own (suc (length us)) kind a b) ≡ oneMore us x = ap (λ (j : ℕ). oneMore us (own (suc j) kind a b)) (k .long) in
+    let us₁ = oneMore us x in
+    let au₁ = subst (λ (ts : List Term). Audited (withTerms s₁ ts)) e (kept-audited (withTerms s us) ds hs kind a b au m′ n′) in
+    let k₁ = subst (Like (s₁ .terms)) e (grow-like s us k ds hs kind a b) in
+    let d₁ = subst (λ (ts : List Term). Divides (withTerms s₁ ts) l) e (divides-grow (withTerms s us) ds hs kind a b au m′ n′ l d) in
+    divides-terms (withTerms s′ (us₁ ++ since s₁ s′)) _ l (ap (λ (r : List Term). us ++ r) (since-more s s′ x (since s₁ s′) (more-terms p .terms)) ∙ sym (append-assoc us (x ∷ []) (since s₁ s′)))
+    (divides-later s₁ s′ us₁ l au₁ k₁ p d₁)
+divides-later s s′ us l au k (counter m p) d =
+    divides-later (withNames s m) s′ us l (names-audited (withTerms s us) m au) k p (divides-terms (withTerms s us) _ l refl d)
+divides-later s s′ us l au k (others rs ks a p) d =
+    divides-later (beside s rs ks (s .names)) s′ us l (beside-like s us rs ks k a au) k p (divides-terms (withTerms s us) _ l refl d)

@@ -7,8 +7,8 @@ use lib.ListN.{length, take}
 use Rattle.wordeq.specs.Wordeq.{fixed}
 use native.Mathlib.Omega.{arith}
 use borrow.Author.Needs.{needs}
-use Rattle.wordeq.proofs.spans.first_variable.Statement.{statement}
-use Rattle.wordeq.proofs.spans.first_variable.Tie as tie
+use Rattle.wordeq.proofs.spans.first_variable_unchecked.Statement.{statement}
+use Rattle.wordeq.proofs.spans.first_variable_unchecked.Tie as tie
 
 abbrev Inv-loop : tie.InvT-loop
 Inv-loop terms c side i₀ i = (i ≤ length side) × (fixed (termed terms c) (take i side) ≡ true)
@@ -16,8 +16,8 @@ Inv-loop terms c side i₀ i = (i ≤ length side) × (fixed (termed terms c) (t
 abbrev μ-loop : tie.MeasureT-loop
 μ-loop terms c side i₀ i = length side - i
 
-pub first-variable-spec : {M : Type 1} → statement M
-first-variable-spec =
+pub first-variable-unchecked-spec : {M : Type 1} → statement M
+first-variable-unchecked-spec =
     tie.close
     (tie.spec
     Inv-loop

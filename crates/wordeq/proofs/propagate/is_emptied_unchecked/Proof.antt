@@ -1,8 +1,8 @@
 use Rattle.records.specs.View.{termed}
 use Rattle.wordeq.proofs.Refines.Propagate.{emptied-left, emptied-short, emptied-last}
 use borrow.Author.Needs.{needs}
-use Rattle.wordeq.proofs.propagate.is_emptied.Statement.{statement}
-use Rattle.wordeq.proofs.propagate.is_emptied.Tie as tie
+use Rattle.wordeq.proofs.propagate.is_emptied_unchecked.Statement.{statement}
+use Rattle.wordeq.proofs.propagate.is_emptied_unchecked.Tie as tie
 
 returns : tie.Need-returns
 returns c =
@@ -23,8 +23,8 @@ returns-3 c =
     emptied-last (termed (at-start .args .terms .now) (at-start .args .c)) (at-start .args .l .now) (at-start .args .r .now) (c .before .before .if1 .left) (c .before .if2 .left) _
     (c .are-variables .ensures)
 
-pub is-emptied-spec : {M : Type 1} → statement M
-is-emptied-spec =
+pub is-emptied-unchecked-spec : {M : Type 1} → statement M
+is-emptied-unchecked-spec =
     tie.close
     (tie.spec
     returns

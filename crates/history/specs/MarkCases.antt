@@ -10,12 +10,14 @@ use Rattle.records.specs.View.{sizes}
 use Rattle.records.specs.Rules.{isChar, isNumber, reasonRule, keyRule, cellRule, textRule, named, nameRule, partRule, concatRule, lengthRule, isEquatable, equationRule, termRule, recordsRule, parentsRule, endsRule, alikeRule, aloneRule, edgeLabel, labelRule, classesRule, pairsOf, fallsRule, congruenceRule, congruencesRule}
 use Rattle.records.specs.Make.{withClass, withEdge, addText, addTerm, lookup, lowest, makeVariable}
 use Rattle.records.specs.AuditCases.{good, goodTerms, goodCells, goodCounts}
 use Rattle.classes.specs.declared.Standing.{Standing}
 use Rattle.classes.specs.Joins.{putEdge, putClass, turn, turns, joinIn, Trace, trace, isTrace, undoIn}
 use Rattle.classes.specs.Marks.{Trail, trailSizes, undoAll, rises, countsRule, marksRule, auditTrail, auditMarks}
 use Rattle.classes.specs.Calls.{joinTerms, setMark}
-use Rattle.classes.specs.History.{step, run}
-use Rattle.classes.specs.HistoryCases.{letter, lettered, abcd, begun, both}
+use Rattle.history.specs.History.{standingMarks}
+use Rattle.history.specs.Calls as calls
+use Rattle.history.specs.Calls.{run}
+use Rattle.history.specs.HistoryCases.{letter, lettered, abcd, begun, both}
 
 -- the trail of `both`: a mark, 2 joined with 3, a mark, 1 with 4, 5 with 3. Its tree has the root 4, and so has its class
 abbrev pub trailed : List ℕ → List Trace → Trail
@@ -66,7 +68,7 @@ trails =
     ∷ []
 
 pub trails-audited : T (audits (run both begun .store) trails)
-unfolding audits trails begun both step run joinTerms setMark undoAll rises countsRule marksRule auditTrail putEdge putClass turn turns joinIn isTrace undoIn addText addTerm lookup lowest named makeVariable recordsRule classesRule congruencesRule termRule cellRule textRule nameRule concatRule partRule lengthRule equationRule isEquatable isChar isNumber reasonRule keyRule parentsRule endsRule alikeRule aloneRule edgeLabel labelRule congruenceRule pairsOf fallsRule all any firstOf table sameWord isIn firsts seconds upTo allBelow firstBelow termIn cellIn within textIn chainBy climb aboveBy nearestIn pathIn
+unfolding audits trails begun both calls.after run standingMarks joinTerms setMark undoAll rises countsRule marksRule auditTrail putEdge putClass turn turns joinIn isTrace undoIn addText addTerm lookup lowest named makeVariable recordsRule classesRule congruencesRule termRule cellRule textRule nameRule concatRule partRule lengthRule equationRule isEquatable isChar isNumber reasonRule keyRule parentsRule endsRule alikeRule aloneRule edgeLabel labelRule congruenceRule pairsOf fallsRule all any firstOf table sameWord isIn firsts seconds upTo allBelow firstBelow termIn cellIn within textIn chainBy climb aboveBy nearestIn pathIn
 trails-audited = tt
 
 -- THE ORDER OF REFUSALS

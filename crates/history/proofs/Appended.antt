@@ -8,8 +8,8 @@ use lib.Seq.{drop-length, drop-append-le, getD-drop}
 use Rattle.records.specs.Lists.{oneMore}
 use Rattle.records.specs.Store.{Term, noTerm, termIn}
 use Rattle.records.specs.Make.{own}
-use Rattle.classes.specs.History.{eachAlone, withLater}
+use Rattle.history.specs.History.{eachAlone, withLater}
 use Rattle.classes.proofs.Alike.{Like}
 
 -- ts and then terms that are alone, one after the other
 pub data Appended (ts : List Term) : List Term → Type 0 where
