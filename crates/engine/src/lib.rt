@@ -352,7 +352,7 @@ fn give_plain(
         };
     }
     if put::push_reason_unchecked(reasons, c.reasons, kind, value) {
-        let d = c.with_reason();
+        let d = c.with_reason_unchecked();
         return Walked {
             code: 0,
             count: d.reasons,

@@ -169,7 +169,7 @@ impl State {
         }
     }
 
-    pub fn with_reason(self) -> State
+    pub fn with_reason_unchecked(self) -> State
         requires { ⌜ self .reasons < reasonLimit ⌝ }
         ensures { λ r. ⌜ r ≡ oneReason self ⌝ }
     {

@@ -17,7 +17,7 @@ give-plain-spec =
     (λ c. let at-is-listed = c .before .before .before in gives-listed _ _ _ _ _ _ _ _ (at-is-listed .is-listed .ensures) (c .if1 .taken))
     -- push-reason-unchecked-requires
     (λ c κs. search needs)
-    -- with-reason-requires
+    -- with-reason-unchecked-requires
     (λ c κs.
     pushed-low (c .before .before .before .push-reason-unchecked .ensures) (c .if2 .taken))
     -- same-length-3
@@ -28,7 +28,7 @@ give-plain-spec =
     (λ c.
     let at-push = c .before .before .before .before in
     let at-if1 = at-push .before .before in
-    rw (c .with-reason .ensures)
+    rw (c .with-reason-unchecked .ensures)
     (gives-one _ _ _ _ _ _ _ _ _ (at-if1 .before .before .before .is-listed .ensures) (at-if1 .if1 .left) _ (at-push .push-reason-unchecked .ensures) (c .before .if2 .taken)))
     -- same-length-5
     (λ c. search needs)
