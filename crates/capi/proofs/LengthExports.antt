@@ -15,7 +15,7 @@ use Rattle.forced.specs.declared.Forced.the-variants as forced
 use Rattle.forced.specs.Forced.{spans, short, Fit, forcedLength}
 use Rattle.forced.specs.Forces.{Few, Forces}
 use Rattle.forced.specs.Calls.{fitted, PublicForced}
-use Rattle.forced.proofs.Given.{forced-gives, forced-stops}
+use Rattle.forced.proofs.ForcedLength.{forced-gives, forced-stops}
 use Rattle.capi.specs.Interface.{stateOf, roomy}
 use Rattle.capi.specs.Lengths.{fitWords, fitRead, ExportedForced}
 use Rattle.capi.specs.Working.Leaves.{ToldBy}

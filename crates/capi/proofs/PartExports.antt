@@ -18,7 +18,7 @@ use Rattle.empties.specs.Empties.{Parts, emptyParts}
 use Rattle.empties.specs.Meaning.{Becomes}
 use Rattle.empties.specs.Repeats.{Repeats}
 use Rattle.empties.specs.Calls.{listed, PublicEmpties}
-use Rattle.empties.proofs.Given.{parts-later, parts-few, parts-stops}
+use Rattle.empties.proofs.EmptyParts.{parts-later, parts-few, parts-stops}
 use Rattle.capi.specs.Interface.{stateOf, roomy, over, told}
 use Rattle.capi.specs.Equations.{flag}
 use Rattle.capi.specs.Parts.{partsWords, partsRead, ExportedParts}

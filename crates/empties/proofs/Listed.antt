@@ -14,7 +14,7 @@ use Rattle.records.specs.Working.Audited.{Audited}
 use Rattle.records.proofs.Lists.{decide, clash, both-true, word-same, all-every, every-all, every-map}
 use Rattle.records.proofs.Works.{via}
 use Rattle.records.proofs.Kept.{ConstantMade, constant-kept}
-use Rattle.records.proofs.Meant.{constant-word}
+use Rattle.records.proofs.MadeWords.{constant-word}
 use Rattle.normalize.specs.Normalize.{atoms, flatten}
 use Rattle.normalize.proofs.Atoms.{flatten-flat, atoms-words}
 use Rattle.wordeq.proofs.Flattened.{neither-left, neither-right}

@@ -17,7 +17,7 @@ use Rattle.records.specs.Make.{withTerms}
 use Rattle.records.specs.Working.Audited.{Audited}
 use Rattle.records.proofs.Lists.{decide, every-at, within-low, within-high, within-is}
 use Rattle.records.proofs.Grown.{string-term}
-use Rattle.records.proofs.Later.{Extended}
+use Rattle.records.proofs.LaterStores.{Extended}
 use Rattle.classes.specs.Joins.{Trace, joinIn, traceOf, undoIn}
 use Rattle.classes.specs.Marks.{Trail, markLimit, joinLimit, undoAll, tableAt, marksRule}
 use Rattle.classes.specs.Calls.{Outcome, recorded, joinTerms, setMark, joinsAt, before, goBack}

@@ -9,7 +9,7 @@ use Rattle.records.specs.Calls.{KeepsStore}
 use Rattle.records.specs.Working.Doing.{Working}
 use Rattle.records.proofs.Passed.{ready-as, ready-later}
 use Rattle.records.proofs.Counts.{agree-below}
-use Rattle.records.proofs.Later.{Later, later-none, later-then, later-higher}
+use Rattle.records.proofs.LaterStores.{Later, later-none, later-then, later-higher}
 use Rattle.normalize.specs.Working.Deeps.{ReadyFor}
 
 pub record Carried (m₀ : Lent) (c₀ : State) (m : Lent) (c : State) : Type 0 where

@@ -10,7 +10,7 @@ ghost use Rattle.records.specs.View.{termLimit, termsView, termed};
 ghost use Rattle.records.specs.Rules.{eachTerm, parentsRule};
 ghost use Rattle.records.specs.Working.Leaves.{classTest, upIn};
 ghost use Rattle.records.specs.Working.Audited.{Closed};
-ghost use Rattle.records.specs.Working.Ends.{Ends, Kept, Tested};
+ghost use Rattle.records.specs.Working.ClimbEnds.{Ends, Kept, Tested};
 use crate::State;
 use crate::classes;
 use crate::fields;

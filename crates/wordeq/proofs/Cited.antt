@@ -11,10 +11,10 @@ use Rattle.records.specs.Working.Audited.{Audited}
 use Rattle.records.proofs.Grown.{Grown, grown-none, grown-then}
 use Rattle.records.proofs.Beside.{reading-beside}
 use Rattle.engine.specs.Explain.{explain}
-use Rattle.records.proofs.Later.{Added, added-none, added-then, added-once}
+use Rattle.records.proofs.LaterStores.{Added, added-none, added-then, added-once}
 use Rattle.engine.proofs.Sound.{Gave, explain-gives, explain-stops, holds-earlier}
 use Rattle.records.proofs.Outcomes.{ends-by}
-use Rattle.wordeq.proofs.Ends.{Ends}
+use Rattle.wordeq.proofs.StepOutcomes.{Ends}
 
 abbrev pub Under : Store → List (ℕ × ℕ) → (Words → Type 0) → Type 0
 Under s rs P = (w : Words) → Reading s w → Holds s rs w → P w

@@ -18,15 +18,15 @@ use Rattle.records.proofs.Lists.{both-left, both-right, either, clash, all-ever
 use Rattle.records.proofs.Paths.{first-has}
 use Rattle.records.proofs.Readings.{text-characters}
 use Rattle.records.proofs.Kept.{ConstantMade, constant-kept, constant-stops}
-use Rattle.records.proofs.Meant.{constant-word}
+use Rattle.records.proofs.MadeWords.{constant-word}
 use Rattle.records.proofs.Outcomes.{ends-give, ends-by, ends-if, ends-then}
 use Rattle.wordeq.specs.Wordeq.{conflict, answer, same, fixed, lettersOf, letters, unequal, short, absent, constants, isPlain, alias, emptiesAt, empties, assigns, differ, clashes}
 use Rattle.wordeq.specs.Repeated.{NoWord}
 use Rattle.wordeq.proofs.Words.{fill-within, fill-in, any-in, differ-apart, empty-each}
-use Rattle.wordeq.proofs.Ends.{Ends}
+use Rattle.wordeq.proofs.StepOutcomes.{Ends}
 use Rattle.wordeq.proofs.Cited.{cited-none}
 use Rattle.wordeq.proofs.Good.{Good, passes, Step, step-pass, step-conflict, step-propagate}
-use Rattle.records.proofs.Later.{later-none, later-made}
+use Rattle.records.proofs.LaterStores.{later-none, later-made}
 use Rattle.wordeq.proofs.Tile.{fixed-word}
 
 -- 3

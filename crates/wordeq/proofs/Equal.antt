@@ -14,12 +14,12 @@ use Rattle.records.specs.Meaning.{Words}
 use Rattle.records.specs.Working.Audited.{Audited}
 use Rattle.records.proofs.Lists.{both-left, both-right, decide, clash, all-every}
 use Rattle.engine.specs.Explain.{explain}
-use Rattle.records.proofs.Later.{Added}
+use Rattle.records.proofs.LaterStores.{Added}
 use Rattle.records.proofs.Outcomes.{ends-give, ends-map, ends-if, ends-then}
 use Rattle.records.proofs.Grown.{Strings, strings-later}
 use Rattle.wordeq.specs.Wordeq.{same, nfEqual, explainPair, nfExplain}
 use Rattle.wordeq.specs.Meaning.{ExplainsEqual}
-use Rattle.wordeq.proofs.Ends.{Ends}
+use Rattle.wordeq.proofs.StepOutcomes.{Ends}
 use Rattle.wordeq.proofs.Cited.{Cited, cited-none, cited-map, cited-then, explain-ends, Full, full-ok, full-if, full-then, explain-full}
 use Rattle.wordeq.proofs.Strip.{plainly, same-word, same-class}
 

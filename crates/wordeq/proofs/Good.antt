@@ -11,11 +11,11 @@ use Rattle.records.specs.Meaning.{Words}
 use Rattle.records.specs.Working.Audited.{Audited}
 use Rattle.records.proofs.Lists.{concatMap-same, every-map}
 use Rattle.records.proofs.Grown.{Grown, OldVariables, grown-kind, present, string-here, Strings, strings-later}
-use Rattle.records.proofs.Later.{Later, later-none, later-then, later-added}
+use Rattle.records.proofs.LaterStores.{Later, later-none, later-then, later-added}
 use Rattle.records.proofs.Outcomes.{ends-give, ends-map, ends-then}
 use Rattle.wordeq.specs.Wordeq.{Answer, done, saturated, conflict, propagate, split, Tried, answer, pass, settled, _orElse_}
 use Rattle.wordeq.specs.Meaning.{Worth, Sound}
-use Rattle.wordeq.proofs.Ends.{Ends}
+use Rattle.wordeq.proofs.StepOutcomes.{Ends}
 use Rattle.wordeq.proofs.Cited.{Under, Cited}
 
 pub later-cited : {P : Words → Type 0} {s s′ : Store} → Cited P s s′ → Later s s′

@@ -1,5 +1,5 @@
 pub mod Words
-pub mod Ends
+pub mod StepOutcomes
 pub mod Cited
 pub mod Good
 pub mod Strip

@@ -16,7 +16,7 @@ use Rattle.records.specs.Working.Audited.{Audited}
 use Rattle.records.proofs.Grown.{Strings}
 use Rattle.wordeq.specs.Wordeq.{isFull, occurrence, occursAt, occurs}
 use Rattle.wordeq.proofs.Words.{inside-longer, some-long}
-use Rattle.wordeq.proofs.Ends.{Ends}
+use Rattle.wordeq.proofs.StepOutcomes.{Ends}
 use Rattle.wordeq.proofs.Cited.{Cited, explain-ends, Full, full-ok, full-if, full-then, explain-full}
 use Rattle.wordeq.proofs.Good.{Good, Step, step-pass, step-conflict}
 

@@ -10,7 +10,7 @@ use Rattle.records.specs.Lists.{if_then_else_, sameWord, and}
 use Rattle.records.specs.Store.{Store, Out, ok, stop, Work, andThen, _>>=_, _>>_, give, store, isConstant, text, sameClass}
 use Rattle.records.specs.Working.Audited.{Audited}
 use Rattle.records.proofs.Grown.{Strings, strings-later}
-use Rattle.records.proofs.Later.{Added}
+use Rattle.records.proofs.LaterStores.{Added}
 use Rattle.engine.specs.Explain.{explain}
 use Rattle.wordeq.specs.Wordeq.{same, sameHeads, sameTails, rest, explainMatch, explainMatches, strip}
 use Rattle.wordeq.proofs.Strip.{match-ends, matches-append, matches-end, off-heads, every-back}

@@ -1,7 +1,7 @@
 -- That the code meets its definitions: each way through a function, and the invariants of its loops. No other crate cites these.
 pub mod Alike
 pub mod Leaving
-pub mod Going
+pub mod AddingReasons
 pub mod Turning
 pub mod Stripping
 pub mod SideLetters
@@ -23,7 +23,7 @@ pub mod Orelse
 pub mod Propagate
 pub mod Choices
 pub mod Elsewhere
-pub mod Lone
+pub mod LoneAtom
 pub mod LackingPlaces
 pub mod LackingSides
 pub mod LackingTries

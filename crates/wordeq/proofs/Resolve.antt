@@ -21,10 +21,10 @@ use Rattle.normalize.proofs.Atoms.{Flat, flatten-flat, flatten-stops, flatten-a
 use Rattle.records.proofs.Outcomes.{ends-give, ends-map, ends-by, ends-if, ends-then}
 use Rattle.wordeq.specs.Wordeq.{Answer, done, saturated, conflict, propagate, split, answer, needsReason, matches, strip, after, isBare, orDone, steps, softened, closed, resolve}
 use Rattle.wordeq.specs.Meaning.{Chosen, Sound}
-use Rattle.wordeq.proofs.Ends.{RefusedAtWork, Ends}
+use Rattle.wordeq.proofs.StepOutcomes.{RefusedAtWork, Ends}
 use Rattle.wordeq.proofs.Cited.{Under}
 use Rattle.wordeq.proofs.Good.{concatMap-local, worth-back, Calm, Good, passes, answers, Step, step-else, step-flip, later-cited}
-use Rattle.records.proofs.Later.{Later, later-then, later-cut, variables-added}
+use Rattle.records.proofs.LaterStores.{Later, later-then, later-cut, variables-added}
 use Rattle.wordeq.proofs.Strip.{Apart, Stripped, strip-still, strip-ends}
 use Rattle.wordeq.proofs.Occurs.{occurs-step}
 use Rattle.wordeq.proofs.Constants.{constants-step, alias-step, empties-step, assigns-step, clashes-step}

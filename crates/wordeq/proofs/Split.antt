@@ -19,15 +19,15 @@ use Rattle.records.proofs.Lists.{both-left, both-right, both-true, every-all, a
 use Rattle.records.proofs.Readings.{text-characters}
 use Rattle.records.proofs.Grown.{Grown, grown-then, grown-kind, grown-string, present, string-here}
 use Rattle.records.proofs.Kept.{made-string, ConcatMade, concat-kept, concat-stops, LengthMade, length-kept, length-stops, EquationMade, equation-kept, equation-stops, KeyAdded, key-kept, key-stops, Fresh, fresh-kept, fresh-stops}
-use Rattle.records.proofs.Meant.{constant-word, concat-word, equation-true, lengths-true, grown-true}
+use Rattle.records.proofs.MadeWords.{constant-word, concat-word, equation-true, lengths-true, grown-true}
 use Rattle.records.proofs.Outcomes.{ends-give, ends-map, ends-by, ends-if, ends-then}
 use Rattle.wordeq.specs.Wordeq.{split, Tried, freshVariable, splitCharacter, splitHeads, splitBy, splits}
 use Rattle.wordeq.specs.Meaning.{Chosen, Sound}
 use Rattle.wordeq.specs.Working.Heads.{splitFrom}
 use Rattle.wordeq.proofs.Words.{longer-is, first-is}
-use Rattle.wordeq.proofs.Ends.{Ends}
+use Rattle.wordeq.proofs.StepOutcomes.{Ends}
 use Rattle.wordeq.proofs.Good.{Good, answers, good-after, good-flip, Step, step-pass}
-use Rattle.records.proofs.Later.{Later, later-none, later-then, later-made, later-key}
+use Rattle.records.proofs.LaterStores.{Later, later-none, later-then, later-made, later-key}
 use Rattle.wordeq.proofs.Strip.{Apart}
 use Rattle.wordeq.proofs.Constants.{constant-ends}
 use Rattle.wordeq.proofs.Counted.{equatable-strings, equatable-lengths, character-counted, heads-counted}

@@ -17,10 +17,10 @@ use Rattle.records.proofs.Grown.{Strings, strings-later}
 use Rattle.engine.specs.Explain.{explain, isReasoned}
 use Rattle.engine.proofs.Sound.{unreasoned}
 use Rattle.wordeq.specs.Wordeq.{same, explainMatch, needsReason, strip, sameHeads, sameTails, matches, rest, explainMatches}
-use Rattle.records.proofs.Later.{Added}
+use Rattle.records.proofs.LaterStores.{Added}
 use Rattle.wordeq.proofs.Words
 use Rattle.wordeq.proofs.Words.{Alike, alike-reverse, cancel-front, cancel-back, unturn}
-use Rattle.wordeq.proofs.Ends.{Ends}
+use Rattle.wordeq.proofs.StepOutcomes.{Ends}
 use Rattle.wordeq.proofs.Cited.{Cited, cited-none, cited-then, explain-ends, Full, full-ok, full-if, full-then, explain-full}
 
 -- SAME

@@ -16,7 +16,7 @@ use Rattle.records.proofs.Grown.{grown-string, Strings, strings-later}
 use Rattle.records.proofs.Outcomes.{ends-give, ends-map, ends-if, ends-then}
 use Rattle.wordeq.specs.Wordeq.{same, fixed, lettersOf, letters, filled, lead, firstSpan, fits, explainAll, variables, tileBy, tile}
 use Rattle.wordeq.proofs.Words.{fill-is, fill-all, fill-length, span-is, span-forced}
-use Rattle.wordeq.proofs.Ends.{Ends}
+use Rattle.wordeq.proofs.StepOutcomes.{Ends}
 use Rattle.wordeq.proofs.Cited.{Cited, cited-none, cited-then, explain-ends, Full, full-ok, full-if, full-then, explain-full}
 use Rattle.wordeq.proofs.Good.{Good, Step, step-pass, step-conflict}
 use Rattle.wordeq.proofs.Strip.{same-class}

@@ -1,4 +1,4 @@
-use Rattle.empties.proofs.Refines.Ways.{parts-short, parts-unready, parts-unfit, parts-ready, parts-lists, parts-called}
+use Rattle.empties.proofs.Refines.EmptyPartsCalls.{parts-short, parts-unready, parts-unfit, parts-ready, parts-lists, parts-called}
 use Rattle.records.specs.View.{lent}
 use native.Mathlib.Omega.{arith}
 use borrow.Author.Needs.{needs}

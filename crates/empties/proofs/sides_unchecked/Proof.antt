@@ -1,4 +1,4 @@
-use Rattle.empties.proofs.Refines.Ways.{sides-left, sides-right, sides-none}
+use Rattle.empties.proofs.Refines.EmptyPartsCalls.{sides-left, sides-right, sides-none}
 use Rattle.records.specs.View.{lent}
 use native.Mathlib.Omega.{arith}
 use borrow.Author.Needs.{needs}

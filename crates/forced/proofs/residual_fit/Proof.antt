@@ -1,4 +1,4 @@
-use Rattle.forced.proofs.Refines.Ways.{read-strings, place-fits, parts-lists, stripped}
+use Rattle.forced.proofs.Refines.ForcedLengthCalls.{read-strings, place-fits, parts-lists, stripped}
 use Rattle.records.specs.View.{lent}
 use native.Mathlib.Omega.{arith}
 use borrow.Author.Needs.{needs}

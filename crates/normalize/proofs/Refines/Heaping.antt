@@ -16,7 +16,7 @@ use Rattle.normalize.specs.declared.Form.{Form}
 use Rattle.normalize.specs.declared.Form.the-variants as form
 use Rattle.normalize.specs.Working.Pushes.{pushed}
 use Rattle.normalize.specs.Calls.{firstWords}
-use Rattle.normalize.proofs.Ends.{Ends}
+use Rattle.normalize.proofs.FormOutcomes.{Ends}
 use Rattle.normalize.proofs.Formed.{Pushed}
 use Rattle.normalize.proofs.Carried.{Carried, carried-none, carried-kept, carried-then, working-left}
 use Rattle.normalize.proofs.Refines.Words.{words-length}

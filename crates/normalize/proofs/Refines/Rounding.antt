@@ -36,7 +36,7 @@ use Rattle.records.proofs.Works.{stop-not}
 use Rattle.records.proofs.Doing.{working-is, working-at}
 use Rattle.records.proofs.Sequence.{working-stop}
 use Rattle.records.proofs.Grown.{strings-later}
-use Rattle.normalize.proofs.Ends.{Ends}
+use Rattle.normalize.proofs.FormOutcomes.{Ends}
 use Rattle.normalize.proofs.Formed.{Pushed, push-ends, Formed, form-ends}
 use Rattle.normalize.proofs.Deep.{Answers, rounds-end}
 use Rattle.normalize.proofs.Carried.{Carried, carried-none, carried-kept, carried-then, carried-on, ready-for, working-left}

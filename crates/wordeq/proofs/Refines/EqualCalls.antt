@@ -25,7 +25,7 @@ use Rattle.wordeq.specs.Wordeq.{same, nfEqual, nfExplain, nfArguments}
 use Rattle.wordeq.specs.Working.Stripping.{Readable}
 use Rattle.wordeq.specs.Calls.{equalArguments, equalLists, PublicEqualExplain}
 use Rattle.wordeq.proofs.Equal.{explain-equal-gives, explain-equal-sound, explain-equal-stops}
-use Rattle.records.proofs.Later.{added-once}
+use Rattle.records.proofs.LaterStores.{added-once}
 
 -- ARGUMENTS
 

@@ -21,10 +21,10 @@ use Rattle.records.proofs.Outcomes.{ends-give, ends-map, ends-if}
 use Rattle.wordeq.specs.Wordeq.{same, explainAll, variables}
 use Rattle.wordeq.specs.Working.Stripping.{Pair}
 use Rattle.wordeq.specs.Working.Explaining.{OneClass, explainAtom}
-use Rattle.wordeq.proofs.Ends.{Ends}
+use Rattle.wordeq.proofs.StepOutcomes.{Ends}
 use Rattle.wordeq.proofs.Cited.{Cited, cited-none, cited-map, explain-ends}
 use Rattle.wordeq.proofs.Strip.{same-class}
-use Rattle.wordeq.proofs.Refines.Going.{going-pair, terms-kept}
+use Rattle.wordeq.proofs.Refines.AddingReasons.{going-pair, terms-kept}
 use Rattle.wordeq.proofs.Refines.Stripping.{drop-head}
 use Rattle.wordeq.proofs.Refines.Turning.{Turning, turning-none, turning-end, turning-refused, turning-on}
 use Rattle.records.specs.declared.Added.{Added as Answered}

@@ -19,7 +19,7 @@ use Rattle.records.proofs.Doing.{working-same, working-is}
 use Rattle.engine.specs.Explain.{explain, explainArguments}
 use Rattle.wordeq.specs.Wordeq.{explainPair, nfExplain}
 use Rattle.wordeq.specs.Working.Stripping.{Readable, Pair}
-use Rattle.wordeq.proofs.Refines.Going.{going-pair}
+use Rattle.wordeq.proofs.Refines.AddingReasons.{going-pair}
 use Rattle.wordeq.proofs.Refines.Stripping.{strings-pair, drop-head}
 use Rattle.wordeq.proofs.Refines.Turning.{Turning, turning-none, turning-end, turning-refused, turning-on}
 use Rattle.wordeq.proofs.Equal.{pair-ends}

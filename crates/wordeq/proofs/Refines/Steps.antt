@@ -18,7 +18,7 @@ use Rattle.records.specs.Working.Audited.{Ready}
 use Rattle.records.specs.Working.Doing.{Working}
 use Rattle.records.proofs.Lists.{both-right, both-true, every-all}
 use Rattle.records.proofs.Doing.{working-stopped, working-at}
-use Rattle.records.proofs.Later.{Added}
+use Rattle.records.proofs.LaterStores.{Added}
 use Rattle.wordeq.specs.declared.StepResult.{StepResult}
 use Rattle.wordeq.specs.declared.StepResult.the-variants as step
 use Rattle.wordeq.specs.declared.Stripped.{Stripped}

@@ -26,7 +26,7 @@ use Rattle.wordeq.specs.Wordeq.{same, sameHeads, sameTails, matches, inn
 use Rattle.wordeq.specs.Working.Stripping.{Pair, part, Finds, Strips, Needs, Asked}
 use Rattle.wordeq.proofs.Strip.{plainly, same-class, match-ends, matches-append, matches-end, off-heads, every-back, Match}
 use Rattle.wordeq.proofs.Refines.Leaving.{one-store, working-answer, added-at, added-ready}
-use Rattle.wordeq.proofs.Refines.Going.{Going, going-pair, going-same, kept-down}
+use Rattle.wordeq.proofs.Refines.AddingReasons.{Going, going-pair, going-same, kept-down}
 use Rattle.wordeq.proofs.Refines.Turning.{Turning, turning-none, turning-end, turning-refused, turning-on}
 use Rattle.records.specs.declared.Added.{Added as Answered}
 

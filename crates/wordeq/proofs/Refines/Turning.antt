@@ -15,7 +15,7 @@ use Rattle.records.proofs.Doing.{working-stopped}
 use Rattle.wordeq.proofs.Cited.{Cited}
 use Rattle.normalize.proofs.Carried.{working-left}
 use Rattle.wordeq.proofs.Refines.Leaving.{added-at, added-ready}
-use Rattle.wordeq.proofs.Refines.Going.{Going, going-none, going-then, kept-down}
+use Rattle.wordeq.proofs.Refines.AddingReasons.{Going, going-none, going-then, kept-down}
 
 -- the work that is left after i turns
 module _ (t e h ks : List ℕ) (left : ℕ → Work (Unit {0})) where

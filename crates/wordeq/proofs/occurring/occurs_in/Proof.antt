@@ -1,4 +1,4 @@
-use Rattle.wordeq.proofs.Refines.Lone.{not-lone, lone-constant, texts-known, classes-known, lone-within, side-within, not-found, found-arguments, found-conflict, found-refused}
+use Rattle.wordeq.proofs.Refines.LoneAtom.{not-lone, lone-constant, texts-known, classes-known, lone-within, side-within, not-found, found-arguments, found-conflict, found-refused}
 use borrow.Author.Needs.{needs}
 use Rattle.wordeq.proofs.occurring.occurs_in.Statement.{statement}
 use Rattle.wordeq.proofs.occurring.occurs_in.Tie as tie

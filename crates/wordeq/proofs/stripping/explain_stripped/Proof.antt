@@ -1,5 +1,5 @@
 use mathlib.Core.Path.{refl}
-use Rattle.wordeq.proofs.Refines.Going.{going-strings}
+use Rattle.wordeq.proofs.Refines.AddingReasons.{going-strings}
 use Rattle.wordeq.proofs.Refines.Stripping.{both-refused, heads-going, tails-counted, both-explained}
 use native.Mathlib.Omega.{arith}
 use borrow.Author.Needs.{needs}

@@ -41,7 +41,7 @@ use Rattle.normalize.proofs.Atoms.{every-of}
 use Rattle.empties.proofs.Unmet.{Agree, unmet-agree}
 use Rattle.empties.proofs.Listed.{listed-worth}
 use Rattle.empties.proofs.Repeating.{repeats}
-use Rattle.empties.proofs.Given.{parts-stops}
+use Rattle.empties.proofs.EmptyParts.{parts-stops}
 
 -- the first words of a slice that is long enough
 words-taken : (l : List ℕ) (n : ℕ) → n ≤ length l → firstWords l n ≡ take n l

@@ -12,7 +12,7 @@ use Rattle.records.specs.Make.{makeConstant}
 use Rattle.records.specs.Working.Audited.{Audited}
 use Rattle.records.proofs.Works.{via, branch}
 use Rattle.records.proofs.Kept.{constant-kept, constant-stops}
-use Rattle.records.proofs.Later.{Later, later-none, later-made}
+use Rattle.records.proofs.LaterStores.{Later, later-none, later-made}
 use Rattle.normalize.specs.Normalize.{flatten}
 use Rattle.normalize.proofs.Atoms.{flatten-flat, flatten-stops}
 use Rattle.empties.specs.Empties.{emptyAgainst, unmet, Parts, partsOf, emptied, sides, emptyParts}

@@ -1,10 +1,10 @@
 use Rattle.normalize.proofs.Refines.Pushing.{joins-none, joins-other, joins-last}
 use borrow.Author.Needs.{needs}
-use Rattle.normalize.proofs.pushes.joins.Statement.{statement}
-use Rattle.normalize.proofs.pushes.joins.Tie as tie
+use Rattle.normalize.proofs.pushes.joins_with_last.Statement.{statement}
+use Rattle.normalize.proofs.pushes.joins_with_last.Tie as tie
 
-pub joins-spec : {M : Type 1} → statement M
-joins-spec =
+pub joins-with-last-spec : {M : Type 1} → statement M
+joins-with-last-spec =
     tie.close
     (tie.spec
     -- returns

@@ -35,7 +35,7 @@ use Rattle.forced.specs.declared.Forced.the-variants as forced
 use Rattle.forced.specs.Forced.{spans, short, Fit, spanOf, fitOf, oneClass, isForced, sideFit, sidesFit, residualFit, forcedLength}
 use Rattle.forced.specs.Calls.{fitted, PublicForced}
 use Rattle.forced.proofs.Unfit.{some-variable}
-use Rattle.forced.proofs.Given.{forced-stops, forces, forced-few}
+use Rattle.forced.proofs.ForcedLength.{forced-stops, forces, forced-few}
 
 -- ONE CLASS
 

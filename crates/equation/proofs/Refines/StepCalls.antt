@@ -35,7 +35,7 @@ use Rattle.normalize.specs.declared.DeepForm.the-variants as deep
 use Rattle.normalize.specs.Normalize.{deepForm, formArguments}
 use Rattle.normalize.specs.Calls.{firstWords, deepened}
 use Rattle.normalize.specs.Working.Pushes.{Candidates}
-use Rattle.records.proofs.Later.{Later, later-below}
+use Rattle.records.proofs.LaterStores.{Later, later-below}
 use Rattle.normalize.proofs.Candidates.{candidates-later}
 use Rattle.normalize.proofs.Deep.{deep-gives, deep-kept}
 use Rattle.normalize.proofs.Carried.{Carried, carried-none, carried-then, carried-kept, working-left}

@@ -14,7 +14,7 @@ use Rattle.records.specs.View.{termLimit, termed}
 use Rattle.records.specs.Rules.{endsRule, labelRule}
 use Rattle.records.specs.Working.Leaves.{alikeAt, aloneAt, classTest}
 use Rattle.records.specs.Working.Audited.{Closed, Rooted}
-use Rattle.records.specs.Working.Ends.{End, Ends, Kept, Tested}
+use Rattle.records.specs.Working.ClimbEnds.{End, Ends, Kept, Tested}
 use Rattle.records.proofs.Lists.{decide, within-high}
 use Rattle.records.proofs.Climbs.{climb-add, Climbing, view-count}
 use Rattle.records.proofs.Repeats.{climb-one, climb-enough}

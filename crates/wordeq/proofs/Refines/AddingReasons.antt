@@ -9,7 +9,7 @@ use Rattle.records.specs.Store.{Store, Term, within, termIn, isString}
 use Rattle.records.specs.View.{Lent, lent, storeOf, termsView, readIn}
 use Rattle.records.specs.Working.Audited.{Ready}
 use Rattle.records.proofs.Counts.{agree-below}
-use Rattle.records.proofs.Later.{Added, added-none, added-then, later-added, later-higher}
+use Rattle.records.proofs.LaterStores.{Added, added-none, added-then, later-added, later-higher}
 use Rattle.wordeq.specs.Wordeq.{same}
 use Rattle.wordeq.specs.Working.Stripping.{Pair}
 
