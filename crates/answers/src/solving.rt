@@ -16,8 +16,8 @@ use equation::Outcome;
 use forced::Forced;
 use records::Added;
 use records::fields::word;
+use sides::StepResult;
 use wordeq::Equality;
-use wordeq::StepResult;
 
 fn positive(x: u32) -> i32
     requires { ⌜ x < 0x8000_0000 ⌝ }

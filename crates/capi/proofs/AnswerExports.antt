@@ -23,14 +23,14 @@ use Rattle.records.specs.Make.{EachOnce}
 use Rattle.records.specs.Rules.{listLimit, isList}
 use Rattle.records.proofs.Lists.{both-left, both-right, table-length}
 use Rattle.normalize.specs.Calls.{listCall, PublicList}
-use Rattle.wordeq.specs.declared.StepResult.{StepResult}
-use Rattle.wordeq.specs.declared.StepResult.the-variants as step
-use Rattle.wordeq.specs.Wordeq.{Answer, done, saturated, conflict, propagate, split, resolve, resolveArguments, isGuard}
-use Rattle.wordeq.specs.Meaning.{Sound}
-use Rattle.wordeq.specs.Repeated.{Repeated, Decides}
+use Rattle.sides.specs.declared.StepResult.{StepResult}
+use Rattle.sides.specs.declared.StepResult.the-variants as step
+use Rattle.sides.specs.Wordeq.{Answer, done, saturated, conflict, propagate, split, resolve, resolveArguments, isGuard}
+use Rattle.sides.specs.Meaning.{Sound}
+use Rattle.sides.specs.Repeated.{Repeated, Decides}
 use Rattle.wordeq.specs.Calls.{PublicResolve, resolved}
-use Rattle.wordeq.proofs.Resolve.{resolve-kept, resolve-stops}
-use Rattle.wordeq.proofs.FewAtoms.{Few, resolve-few}
+use Rattle.sides.proofs.Resolve.{resolve-kept, resolve-stops}
+use Rattle.sides.proofs.FewAtoms.{Few, resolve-few}
 use Rattle.capi.specs.Interface.{stateOf, roomy, over, told}
 use Rattle.capi.specs.Equations.{flag, answerWords, answerBy, answerRead, ExportedResolve}
 use Rattle.capi.specs.Working.Leaves.{Narrow, NarrowAnswer, Telling, tells, ToldWords, ToldBy, answerTelling}

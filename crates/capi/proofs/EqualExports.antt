@@ -15,10 +15,10 @@ use Rattle.records.specs.Make.{EachOnce}
 use Rattle.records.specs.Calls.{call, Public, added}
 use Rattle.wordeq.specs.declared.Equality.{Equality}
 use Rattle.wordeq.specs.declared.Equality.the-variants as equality
-use Rattle.wordeq.specs.Wordeq.{nfExplain, nfArguments}
-use Rattle.wordeq.specs.Meaning.{ExplainsEqual}
+use Rattle.sides.specs.Wordeq.{nfExplain, nfArguments}
+use Rattle.sides.specs.Meaning.{ExplainsEqual}
 use Rattle.wordeq.specs.Calls.{equalArguments, equalLists, compared, PublicEqualExplain}
-use Rattle.wordeq.proofs.Equal.{explain-equal-kept, explain-equal-stops}
+use Rattle.sides.proofs.Equal.{explain-equal-kept, explain-equal-stops}
 use Rattle.capi.specs.Interface.{stateOf, roomy}
 use Rattle.capi.specs.Equations.{flag, flagWords, flagRead, ExportedEqual, ExportedEqualExplain}
 use Rattle.capi.specs.Working.Leaves.{Narrow, Telling, tells, refuses, ToldBy, addedTelling}

@@ -17,8 +17,8 @@ use Rattle.records.specs.Make.{EachOnce}
 use Rattle.records.specs.Rules.{isList}
 use Rattle.records.proofs.Lists.{both-right}
 use Rattle.normalize.specs.Calls.{listCall, PublicList}
-use Rattle.wordeq.specs.declared.StepResult.{StepResult}
-use Rattle.wordeq.specs.Wordeq.{Answer, done, saturated, conflict, propagate, split}
+use Rattle.sides.specs.declared.StepResult.{StepResult}
+use Rattle.sides.specs.Wordeq.{Answer, done, saturated, conflict, propagate, split}
 use Rattle.wordeq.specs.Calls.{resolved}
 use Rattle.equation.specs.declared.Outcome.{Outcome}
 use Rattle.equation.specs.declared.Outcome.the-variants as outcome

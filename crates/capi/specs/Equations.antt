@@ -12,9 +12,9 @@ use Rattle.records.specs.View.{Lent, storeOf}
 use Rattle.records.specs.Make.{EachOnce}
 use Rattle.records.specs.Calls.{call, fullAlone}
 use Rattle.normalize.specs.Calls.{listCall}
-use Rattle.wordeq.specs.Wordeq.{Answer, done, saturated, conflict, propagate, split, resolve, resolveArguments, nfExplain, nfArguments}
-use Rattle.wordeq.specs.Meaning.{Sound, ExplainsEqual}
-use Rattle.wordeq.specs.Repeated.{Repeated, Worked, Decides}
+use Rattle.sides.specs.Wordeq.{Answer, done, saturated, conflict, propagate, split, resolve, resolveArguments, nfExplain, nfArguments}
+use Rattle.sides.specs.Meaning.{Sound, ExplainsEqual}
+use Rattle.sides.specs.Repeated.{Repeated, Worked, Decides}
 use Rattle.wordeq.specs.Calls.{equalArguments, equalLists}
 use Rattle.capi.specs.Interface.{stateOf, roomy, over, told, Exported, Answered, AnsweredList}
 

@@ -22,7 +22,7 @@ use records::Added;
 use records::Made;
 use records::State;
 use records::fields;
-use wordeq::StepResult;
+use sides::StepResult;
 
 // The counts and the name counter in the state's words.
 pub(crate) fn state_of(state: &[u32]) -> State

@@ -15,7 +15,7 @@ use Rattle.records.specs.Make.{withTerms, withReasons, samePair, isListed, addR
 use Rattle.classes.specs.Merge.{mergeIn}
 use Rattle.engine.specs.Explain.{wasSeen, each, edge, highest, walk, walked, explain, isReasoned}
 use Rattle.normalize.specs.Normalize.{atomsBy, flatten}
-use Rattle.wordeq.specs.Wordeq.{Answer, done, saturated, conflict, propagate, split, same, fixed, lettersOf, letters, sameHeads, sameTails, rest, explainMatch, explainMatches, needsReason, strip, isFull, occurrence, occurs, unequal, short, absent, constants, isPlain, alias, empties, assigns, filled, lead, firstSpan, fits, explainAll, tileBy, tile, differ, clashes, freshVariable, oneIfAbsent, splitCharacter, splitHeads, splits, after, steps, resolve}
+use Rattle.sides.specs.Wordeq.{Answer, done, saturated, conflict, propagate, split, same, fixed, lettersOf, letters, sameHeads, sameTails, rest, explainMatch, explainMatches, needsReason, strip, isFull, occurrence, occurs, unequal, short, absent, constants, isPlain, alias, empties, assigns, filled, lead, firstSpan, fits, explainAll, tileBy, tile, differ, clashes, freshVariable, oneIfAbsent, splitCharacter, splitHeads, splits, after, steps, resolve}
 
 -- STORES, line by line as `labelstep` builds them
 

@@ -18,7 +18,7 @@ use Rattle.records.specs.Store.{Store, Out, ok, stop, Work, andThen, _>>=_, giv
 use Rattle.records.specs.Make.{withReasons, makeConstant}
 use Rattle.records.proofs.Lists.{both-left, both-right, both-true, left-false, right-false, either, all-every}
 use Rattle.normalize.specs.Normalize.{flatten}
-use Rattle.wordeq.specs.Wordeq.{Answer, done, propagate, Tried, settled, _orElse_, answer, same, fixed, lettersOf, letters, sameHeads, sameTails, explainMatches, matches, needsReason, rest, strip, occurs, unequal, short, absent, constants, alias, emptiesAt, empties, assigns, filled, lead, firstSpan, fits, variables, tileBy, tile, clashes, splits, after, isBare, orDone, steps, softened, closed, resolve}
+use Rattle.sides.specs.Wordeq.{Answer, done, propagate, Tried, settled, _orElse_, answer, same, fixed, lettersOf, letters, sameHeads, sameTails, explainMatches, matches, needsReason, rest, strip, occurs, unequal, short, absent, constants, alias, emptiesAt, empties, assigns, filled, lead, firstSpan, fits, variables, tileBy, tile, clashes, splits, after, isBare, orDone, steps, softened, closed, resolve}
 use Rattle.empties.specs.Empties.{emptyAgainst, emptied, sides}
 
 -- WHAT IT ANSWERS

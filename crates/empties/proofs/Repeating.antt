@@ -23,7 +23,7 @@ use Rattle.records.proofs.Kept.{Appends, found, one-term, after-names, MadeIn, 
 use Rattle.records.proofs.ListLaws.{list-short, list-strings}
 use Rattle.normalize.specs.Normalize.{atoms, flatten}
 use Rattle.normalize.proofs.Atoms.{atoms-plain, atoms-is, flatten-fits, flatten-full}
-use Rattle.wordeq.specs.Wordeq.{Answer, done, propagate, same, softened, closed, steps, resolve}
+use Rattle.sides.specs.Wordeq.{Answer, done, propagate, same, softened, closed, steps, resolve}
 use Rattle.wordeq.proofs.Flattened.{neither-left, neither-right, plain-flat}
 use Rattle.classes.specs.Joins.{joinIn, traceOf}
 use Rattle.classes.specs.Marks.{Trail}

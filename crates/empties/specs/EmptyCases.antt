@@ -11,7 +11,7 @@ use Rattle.records.specs.Store.{Term, noTerm, Cell, noCell, Store, Out, ok, sto
 use Rattle.records.specs.Rules.{isNumber}
 use Rattle.records.specs.Make.{own, addText, addTerm, lookup, lowest, constantOf, makeConstant}
 use Rattle.normalize.specs.Normalize.{atomsBy, flatten}
-use Rattle.wordeq.specs.Wordeq.{Answer, done, saturated, conflict, propagate, split, same, fixed, lettersOf, letters, sameHeads, sameTails, rest, explainMatch, explainMatches, strip, isFull, occurrence, occurs, unequal, short, absent, constants, isPlain, alias, empties, assigns, filled, lead, firstSpan, fits, tileBy, tile, differ, clashes, splits, after, steps, resolve}
+use Rattle.sides.specs.Wordeq.{Answer, done, saturated, conflict, propagate, split, same, fixed, lettersOf, letters, sameHeads, sameTails, rest, explainMatch, explainMatches, strip, isFull, occurrence, occurs, unequal, short, absent, constants, isPlain, alias, empties, assigns, filled, lead, firstSpan, fits, tileBy, tile, differ, clashes, splits, after, steps, resolve}
 use Rattle.classes.specs.Joins.{putEdge, putClass, turn, turns, joinIn}
 use Rattle.classes.specs.Calls.{joinTerms}
 use Rattle.empties.specs.Empties.{isLabel, unmet, Parts, emptied, sides, emptyParts}

@@ -15,8 +15,8 @@ use Rattle.records.proofs.Works.{stop-not, via, branch}
 use Rattle.records.proofs.Grown.{Strings}
 use Rattle.normalize.specs.Normalize.{atoms, flatten}
 use Rattle.normalize.proofs.Atoms.{all-strings, flatten-flat, flatten-stops}
-use Rattle.wordeq.specs.Wordeq.{lettersOf, letters, variables, sameHeads, sameTails, inner, rest}
-use Rattle.wordeq.proofs.Residual.{variables-short}
+use Rattle.sides.specs.Wordeq.{lettersOf, letters, variables, sameHeads, sameTails, inner, rest}
+use Rattle.sides.proofs.Residual.{variables-short}
 use Rattle.forced.specs.Forced.{Fit, isForced, sideFit, sidesFit, residualFit, forcedLength}
 use Rattle.forced.specs.Forces.{Sums, Unfit, Few, Forces}
 use Rattle.forced.proofs.Sums.{span-sums, span-few, cause-of}

@@ -17,9 +17,9 @@ use Rattle.records.proofs.Works.{via}
 use Rattle.records.proofs.Grown.{Strings}
 use Rattle.normalize.specs.Normalize.{atoms, flatten}
 use Rattle.normalize.proofs.Atoms.{flatten-fits}
-use Rattle.wordeq.specs.Wordeq.{Answer, done, saturated, conflict, answer, matches, rest, explainMatches, strip, after, isBare, orDone, steps, softened, closed, resolve}
-use Rattle.wordeq.proofs.Cited.{Full}
-use Rattle.wordeq.proofs.Strip.{strip-ends, strip-full}
+use Rattle.sides.specs.Wordeq.{Answer, done, saturated, conflict, answer, matches, rest, explainMatches, strip, after, isBare, orDone, steps, softened, closed, resolve}
+use Rattle.sides.proofs.Cited.{Full}
+use Rattle.sides.proofs.Strip.{strip-ends, strip-full}
 use Rattle.wordeq.proofs.Flattened.{neither-left, neither-right, plain-flat}
 use Rattle.forced.specs.Forces.{Only, answers, full}
 use Rattle.forced.proofs.Unfit.{Ending, ends, stops, Refuted, after-ends, not-bare, refuted-beside}

@@ -17,11 +17,11 @@ use Rattle.records.specs.Working.Audited.{Audited}
 use Rattle.records.proofs.Lists.{both-left, both-right, both-true, left-false, clash, decide, or-left, or-right}
 use Rattle.records.proofs.Grown.{Strings}
 use Rattle.engine.specs.Explain.{explain}
-use Rattle.wordeq.specs.Wordeq.{Answer, conflict, Tried, answer, pass, settled, _orElse_, same, fixed, lettersOf, letters, variables, occurrence, occursAt, occurs, unequal, short, absent, constants, alias, empties, assigns, forced, fits, explainAll, tileBy, tile, clashes, splits, after, isBare}
-use Rattle.wordeq.proofs.Cited.{Full}
-use Rattle.wordeq.proofs.Occurs.{occurs-full}
-use Rattle.wordeq.proofs.Tile.{tile-full}
-use Rattle.wordeq.proofs.Residual.{fixed-variables, variables-short}
+use Rattle.sides.specs.Wordeq.{Answer, conflict, Tried, answer, pass, settled, _orElse_, same, fixed, lettersOf, letters, variables, occurrence, occursAt, occurs, unequal, short, absent, constants, alias, empties, assigns, forced, fits, explainAll, tileBy, tile, clashes, splits, after, isBare}
+use Rattle.sides.proofs.Cited.{Full}
+use Rattle.sides.proofs.Occurs.{occurs-full}
+use Rattle.sides.proofs.Tile.{tile-full}
+use Rattle.sides.proofs.Residual.{fixed-variables, variables-short}
 use Rattle.forced.specs.Forced.{oneClass, isForced}
 use Rattle.forced.proofs.Sums.{Cause, lacks, leaves, uneven, some-left, two-left}
 

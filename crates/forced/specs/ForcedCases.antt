@@ -7,7 +7,7 @@ use Rattle.records.specs.Lists.{all, keep, concatMap, table, sameWord, firsts}
 use Rattle.records.specs.Store.{Term, noTerm, Cell, noCell, Store, Out, ok, stop, termIn, cellIn, within, textIn, chainBy, climb}
 use Rattle.records.specs.Make.{own}
 use Rattle.normalize.specs.Normalize.{atomsBy, flatten}
-use Rattle.wordeq.specs.Wordeq.{same, fixed, lettersOf, letters, sameHeads, sameTails, rest}
+use Rattle.sides.specs.Wordeq.{same, fixed, lettersOf, letters, sameHeads, sameTails, rest}
 use Rattle.forced.specs.Forced.{Span, spans, short, Fit, oneClass, sidesFit, residualFit, forcedLength}
 
 -- the characters are "A7-A71". x, y and z, and 7 in the class of x; "A" twice, "A7", "A7-" and ""; 10 is x ++ "A7"; "-", "A7-A71" and "A7-A7"

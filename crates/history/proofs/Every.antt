@@ -24,10 +24,10 @@ use Rattle.engine.proofs.Sound.{explain-gave}
 use Rattle.normalize.specs.Normalize.{normalForm, deepForm, formArguments}
 use Rattle.normalize.proofs.Formed.{form-kept}
 use Rattle.normalize.proofs.Deep.{deep-kept}
-use Rattle.wordeq.specs.Wordeq.{resolve, resolveArguments, nfExplain, nfArguments, isGuard}
+use Rattle.sides.specs.Wordeq.{resolve, resolveArguments, nfExplain, nfArguments, isGuard}
 use Rattle.wordeq.specs.Calls.{equalArguments, equalLists}
-use Rattle.wordeq.proofs.Resolve.{resolve-gives}
-use Rattle.wordeq.proofs.Equal.{explain-equal-gives}
+use Rattle.sides.proofs.Resolve.{resolve-gives}
+use Rattle.sides.proofs.Equal.{explain-equal-gives}
 use Rattle.equation.specs.Equation.{step, stepArguments}
 use Rattle.equation.proofs.Sound.{step-gives}
 use Rattle.empties.specs.Empties.{emptyParts}

@@ -9,10 +9,11 @@ use lib.ListN.{length, getD, take, drop, length-take, length-drop}
 use lib.Seq.{ext-getD, getD-take, getD-drop}
 use Rattle.records.specs.declared.State.{State}
 use Rattle.records.specs.Lists.{table, sameWord}
-use Rattle.records.specs.Store.{Term, Cell, noTerm, noCell, termIn, cellIn, textIn, within, Store}
-use Rattle.records.specs.View.{termAt, cellAt, termsView, cellsView, charsView, pairsView, span, Lent, storeOf, pairAt, zeroTerm, zeroCell}
+use Rattle.records.specs.Store.{Term, Cell, noTerm, noCell, termIn, cellIn, textIn, within, Store, kind, term, text}
+use Rattle.records.specs.View.{termAt, cellAt, termsView, cellsView, charsView, pairsView, span, Lent, storeOf, pairAt, zeroTerm, zeroCell, readIn, termed}
 use Rattle.records.specs.Calls.{KeepsStore}
 use Rattle.records.proofs.Lists.{table-at, table-past, table-length, within-low, within-high}
+use Rattle.records.proofs.Grown.{kind-term}
 
 -- a counted term is read from its words, and no other number names one
 pub term-is : (l : List ℕ) (n t : ℕ) → 0 < t → t ≤ n → termIn (termsView l n) t ≡ termAt l t
@@ -194,3 +195,16 @@ agree-part l p a n r h e =
     let q : a + n - a ≡ n = omega arith in
     let f = rw (q, part-span l a n h) at e in
     rw (table-length (λ i. getD l (a + i) 0) n) at f
+
+-- a number with a kind names a counted term, and its text stands in the lent characters
+pub term-there : (l : List ℕ) (c : State) (t k : ℕ) → kind (termed l c) t ≡ suc k → term (termed l c) t ≡ termAt l t
+term-there l c t k e =
+    let q = kind-term (termed l c) t k e in
+    let w = rw (table-length (λ i. termAt l (suc i)) (c .terms)) at q in
+    term-is l (c .terms) t (within-low _ t w) (within-high _ t w)
+
+pub text-words : (w h : List ℕ) (c : State) (a k : ℕ) → kind (termed w c) a ≡ suc k → term (termed w c) a .first + term (termed w c) a .second ≤ c .chars
+    → text (readIn w h c) a ≡ span h (termAt w a .first) (termAt w a .second)
+text-words w h c a k e q =
+    text-span h (c .chars) (term (termed w c) a) q
+    ∙ ap (λ (t : Term). span h (t .first) (t .second)) (term-there w c a k e)

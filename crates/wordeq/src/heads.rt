@@ -11,21 +11,21 @@ ghost use Rattle.records.specs.Rules.{listLimit};
 ghost use Rattle.records.specs.Working.Audited.{Ready};
 ghost use Rattle.records.specs.Calls.{_into_};
 ghost use Rattle.records.specs.Working.Doing.{Does};
-ghost use Rattle.wordeq.specs.Wordeq.{_orElse_, isFull, clashes, splits, isGuard};
-ghost use Rattle.wordeq.specs.Working.Results.{BothLists, tried};
-ghost use Rattle.wordeq.specs.Working.Sides.{Texts, Spelled};
+ghost use Rattle.sides.specs.Wordeq.{_orElse_, isFull, clashes, splits, isGuard};
+ghost use Rattle.sides.specs.Working.Results.{BothLists, tried};
+ghost use Rattle.sides.specs.Working.Sides.{Texts, Spelled};
 ghost use Rattle.wordeq.specs.Working.Splits.{listed};
 ghost use Rattle.wordeq.specs.Working.Heads.{HeadsApart, HeadPair, atomsOf, splitNew};
-use crate::StepResult;
-use crate::sides;
 use crate::splits;
-use crate::stripping;
 use normalize::Form;
 use records::Added;
 use records::State;
 use records::fields;
 use records::put;
 use records::rules;
+use sides::StepResult;
+use sides::letters;
+use sides::stripping;
 
 // The guard negated: the lowest i32, which has no opposite, is no guard.
 fn negated(guard: i32) -> i32
@@ -154,7 +154,7 @@ pub(crate) fn split_unchecked(
     }
     let a = lhs[0];
     let b = rhs[0];
-    if sides::constants_differ(terms, chars, c, a, b) {
+    if letters::constants_differ_unchecked(terms, chars, c, a, b) {
         return StepResult::Conflict(c);
     }
     if stripping::both_constant(terms, c.terms, a, b) {

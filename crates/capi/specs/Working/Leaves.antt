@@ -15,8 +15,8 @@ use Rattle.normalize.specs.declared.Form.{Form}
 use Rattle.normalize.specs.declared.Form.the-variants as form
 use Rattle.normalize.specs.declared.DeepForm.{DeepForm}
 use Rattle.normalize.specs.declared.DeepForm.the-variants as deep
-use Rattle.wordeq.specs.declared.StepResult.{StepResult}
-use Rattle.wordeq.specs.declared.StepResult.the-variants as step
+use Rattle.sides.specs.declared.StepResult.{StepResult}
+use Rattle.sides.specs.declared.StepResult.the-variants as step
 use Rattle.equation.specs.declared.Outcome.{Outcome}
 use Rattle.equation.specs.declared.Outcome.the-variants as outcome
 use Rattle.capi.specs.Equations.{flag}

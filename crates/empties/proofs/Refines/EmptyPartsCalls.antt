@@ -31,8 +31,8 @@ use Rattle.normalize.specs.Calls.{firstWords}
 use Rattle.normalize.proofs.Carried.{working-left}
 use Rattle.normalize.proofs.ListCalls.{listed-short, listed-unready, listed-unfit, listed-works}
 use Rattle.wordeq.specs.Calls.{equalArguments}
-use Rattle.wordeq.specs.Working.Results.{BothLists}
-use Rattle.wordeq.specs.Working.Stripping.{Readable}
+use Rattle.sides.specs.Working.Results.{BothLists}
+use Rattle.sides.specs.Working.Stripping.{Readable}
 use Rattle.empties.specs.Empties.{emptyAgainst, unmet, Parts, linked, partsOf, emptied, sides, emptyParts}
 use Rattle.empties.specs.Repeats.{Repeats}
 use Rattle.empties.specs.Calls.{PublicEmpties}

@@ -11,7 +11,7 @@ use Rattle.records.specs.Lists.{if_then_else_, all, any, oneMore, Every, none-l
 use Rattle.records.specs.Store.{Store, isString, sameClass}
 use Rattle.records.proofs.Lists.{decide, or-left, or-none, both-left, both-right, both-true, all-append, all-every, every-at}
 use Rattle.records.proofs.Loops.{any-stop, any-turn, any-done}
-use Rattle.wordeq.specs.Working.Stripping.{Pair}
+use Rattle.sides.specs.Working.Stripping.{Pair}
 use Rattle.empties.specs.Empties.{unmet}
 use Rattle.empties.specs.Working.Listing.{tried, Starts}
 use Rattle.empties.proofs.Unmet.{unmet-none, unmet-met, unmet-new}

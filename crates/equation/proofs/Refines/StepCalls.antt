@@ -40,12 +40,12 @@ use Rattle.normalize.proofs.Candidates.{candidates-later}
 use Rattle.normalize.proofs.Deep.{deep-gives, deep-kept}
 use Rattle.normalize.proofs.Carried.{Carried, carried-none, carried-then, carried-kept, working-left}
 use Rattle.normalize.proofs.ListCalls.{listed-short, listed-unready, listed-unfit, listed-works}
-use Rattle.wordeq.proofs.StepResult.{the-type}
-use Rattle.wordeq.specs.declared.StepResult.{StepResult}
-use Rattle.wordeq.specs.declared.StepResult.the-variants.{Done, Saturated, Conflict, Propagate, Split, Refused}
-use Rattle.wordeq.specs.Wordeq.{Answer, done, saturated, conflict, propagate, split, isGuard, resolve}
-use Rattle.wordeq.specs.Working.Results.{BothLists}
-use Rattle.wordeq.proofs.Resolve.{resolve-gives}
+use Rattle.sides.proofs.StepResult.{the-type}
+use Rattle.sides.specs.declared.StepResult.{StepResult}
+use Rattle.sides.specs.declared.StepResult.the-variants.{Done, Saturated, Conflict, Propagate, Split, Refused}
+use Rattle.sides.specs.Wordeq.{Answer, done, saturated, conflict, propagate, split, isGuard, resolve}
+use Rattle.sides.specs.Working.Results.{BothLists}
+use Rattle.sides.proofs.Resolve.{resolve-gives}
 use Rattle.wordeq.specs.Calls.{resolved}
 use Rattle.equation.specs.declared.Outcome.the-variants.{Answered}
 use Rattle.equation.specs.Equation.{Stepped, unexpanded, answered, returned, orUnexpanded, step, stepArguments}

@@ -23,13 +23,13 @@ use Rattle.records.proofs.Public.{call-unready, call-unfit, call-works, passed-
 use Rattle.records.proofs.Works.{stop-not}
 use Rattle.records.proofs.Doing.{working-same, working-stopped, working-at, working-is}
 use Rattle.normalize.specs.Normalize.{flatten}
-use Rattle.wordeq.specs.declared.Rest.{Rest}
-use Rattle.wordeq.specs.Wordeq.{same, fixed, lettersOf, letters, variables, rest}
+use Rattle.sides.specs.declared.Rest.{Rest}
+use Rattle.sides.specs.Wordeq.{same, fixed, lettersOf, letters, variables, rest}
 use Rattle.wordeq.specs.Calls.{equalArguments}
-use Rattle.wordeq.specs.Working.Results.{BothLists}
-use Rattle.wordeq.specs.Working.Stripping.{Readable, Finds, part}
-use Rattle.wordeq.specs.Working.Spans.{FirstVariable, agrees}
-use Rattle.wordeq.proofs.Residual.{variables-from, variables-none, agree-variables, rest-read, letters-read}
+use Rattle.sides.specs.Working.Results.{BothLists}
+use Rattle.sides.specs.Working.Stripping.{Readable, Finds, part}
+use Rattle.sides.specs.Working.Spans.{FirstVariable, agrees}
+use Rattle.sides.proofs.Residual.{variables-from, variables-none, agree-variables, rest-read, letters-read}
 use Rattle.forced.specs.declared.Forced.{Forced}
 use Rattle.forced.specs.declared.Forced.the-variants as forced
 use Rattle.forced.specs.Forced.{spans, short, Fit, spanOf, fitOf, oneClass, isForced, sideFit, sidesFit, residualFit, forcedLength}

@@ -15,17 +15,16 @@ use Rattle.records.specs.Store.{Store, Out, ok, stop, andThen, _>>=_, give, isC
 use Rattle.records.specs.View.{Lent, storeOf}
 use Rattle.records.specs.Rules.{listLimit}
 use Rattle.records.specs.Working.Doing.{Working}
-use Rattle.records.proofs.Lists.{any-append}
+use Rattle.records.proofs.Lists.{any-append, drop-head}
 use Rattle.records.proofs.Doing.{working-stopped, working-at, working-is}
 use Rattle.normalize.specs.Normalize.{atoms, flatten}
 use Rattle.normalize.specs.Working.Flat.{Appended}
-use Rattle.wordeq.specs.declared.StepResult.{StepResult}
-use Rattle.wordeq.specs.declared.StepResult.the-variants as step
-use Rattle.wordeq.specs.Wordeq.{Answer, steps, softened, isGuard}
+use Rattle.sides.specs.declared.StepResult.{StepResult}
+use Rattle.sides.specs.declared.StepResult.the-variants as step
+use Rattle.sides.specs.Wordeq.{Answer, steps, softened, isGuard}
 use Rattle.wordeq.specs.Calls.{resolved}
 use Rattle.wordeq.specs.Working.Resolving.{soft, flatSteps, ran}
-use Rattle.wordeq.proofs.Refines.Leaving.{one-store, working-answer}
-use Rattle.wordeq.proofs.Refines.Stripping.{drop-head}
+use Rattle.sides.proofs.Leaving.{one-store, working-answer}
 
 -- SOME ATOM IS A CONCATENATION
 

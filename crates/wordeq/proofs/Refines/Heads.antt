@@ -32,19 +32,20 @@ use Rattle.records.proofs.Kept.{key-kept}
 use Rattle.records.proofs.Doing.{working-same, working-at, working-is}
 use Rattle.normalize.specs.declared.Form.{Form}
 use Rattle.normalize.specs.declared.Form.the-variants as form
-use Rattle.wordeq.specs.Wordeq.{Answer, saturated, conflict, split, Tried, _orElse_, isFull, differ, clashes, splitHeads, splitBy, splits, isGuard}
-use Rattle.wordeq.specs.Working.Results.{BothLists}
-use Rattle.wordeq.specs.Working.Sides.{Texts, Spelled}
+use Rattle.records.proofs.Views.{text-words}
+use Rattle.sides.specs.Wordeq.{Answer, saturated, conflict, split, Tried, _orElse_, isFull, differ, clashes, splitHeads, splitBy, splits, isGuard}
+use Rattle.sides.specs.Working.Results.{BothLists}
+use Rattle.sides.specs.Working.Sides.{Texts, Spelled}
 use Rattle.wordeq.specs.Working.Splits.{listed, characterAtoms, headAtoms}
-use Rattle.wordeq.specs.Working.Heads.{HeadsApart, HeadPair, atomsBy, atomsOf, splitFrom, splitNew}
+use Rattle.wordeq.specs.Working.Heads.{HeadsApart, HeadPair, atomsBy, atomsOf, splitNew}
+use Rattle.sides.specs.Working.Counting.{splitFrom}
 use Rattle.records.proofs.Counts.{higher-below}
 use Rattle.records.proofs.Sequence.{grows-key, working-then, working-stop}
-use Rattle.wordeq.proofs.Strip.{Apart}
-use Rattle.wordeq.proofs.Refines.Leaving.{one-store, working-answer, added-at}
-use Rattle.wordeq.proofs.Refines.SideTexts.{text-words}
-use Rattle.wordeq.proofs.Refines.SideReady.{ready-readIn}
-use Rattle.wordeq.proofs.Counted.{then-same, character-counted, heads-counted}
-use Rattle.wordeq.proofs.FewAtoms.{chosen-few}
+use Rattle.sides.proofs.Strip.{Apart}
+use Rattle.sides.proofs.Leaving.{one-store, working-answer, added-at}
+use Rattle.sides.proofs.SideReady.{ready-readIn}
+use Rattle.sides.proofs.Counted.{then-same, character-counted, heads-counted}
+use Rattle.sides.proofs.FewAtoms.{chosen-few}
 use Rattle.wordeq.proofs.Refines.SplitAtoms.{characters-then, heads-then, grows-atoms}
 
 -- THE GUARD
