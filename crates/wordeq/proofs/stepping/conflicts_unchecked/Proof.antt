@@ -35,7 +35,7 @@ conflicts-unchecked-spec =
     let at-o = c .before .before .before in
     let at-occurs-unchecked = at-o .before .before .before .before in
     let at-start = at-occurs-unchecked .before .before .before .before .before .before .before .before .before in
-    conflicts-found (at-start .args .lhs .now) (at-start .args .rhs .now) (at-occurs-unchecked .occurs-unchecked .ensures) (at-o .o .given .1) (c .before .constants .result)
+    conflicts-found (at-start .args .lhs .now) (at-start .args .rhs .now) (at-occurs-unchecked .occurs-unchecked .ensures) (at-o .o .given .1) (c .before .constants-unchecked .result)
     (c .before .constants-unchecked .ensures) (c .if1 .taken))
     -- same-length-3
     (λ c. search needs)
@@ -44,5 +44,5 @@ conflicts-unchecked-spec =
     let at-o = c .before .before .before in
     let at-occurs-unchecked = at-o .before .before .before .before in
     let at-start = at-occurs-unchecked .before .before .before .before .before .before .before .before .before in
-    conflicts-none (at-start .args .lhs .now) (at-start .args .rhs .now) (at-occurs-unchecked .occurs-unchecked .ensures) (at-o .o .given .1) (c .before .constants .result)
+    conflicts-none (at-start .args .lhs .now) (at-start .args .rhs .now) (at-occurs-unchecked .occurs-unchecked .ensures) (at-o .o .given .1) (c .before .constants-unchecked .result)
     (c .before .constants-unchecked .ensures) (c .if1 .left)))
