@@ -94,7 +94,7 @@ enum labels_case {
     LABELS_UNEXPANDED = 5
 };
 
-/* The other words of an answer: of Propagate the variable, a term that has its text and the link flag; of Split the count of its atoms, its
+/* The other words of an answer: of Propagate the variable, a term that has its word and the link flag; of Split the count of its atoms, its
  * guard and how many terms it made. */
 enum labels_answer_word {
     LABELS_ANSWER_CASE = 0,
@@ -225,7 +225,7 @@ uint32_t labels_find(LABELS_READ(state), LABELS_READ(terms), LABELS_READ(cells),
 uint32_t labels_explain(LABELS_WORDS(state), LABELS_READ(terms), LABELS_READ(cells), LABELS_READ(chars), LABELS_WORDS(reasons),
                         LABELS_READ(keys), uint32_t a, uint32_t b);
 
-/* `known` has the string terms by which entries may be replaced. Pass every one: where one is left out the answer says less, and nothing
+/* `known` has the string terms by which atoms may be replaced. Pass every one: where one is left out the answer says less, and nothing
  * wrong. `list` has 1,024 words or more. The normal forms put 1 and the list's count (deep: 0 and 0 for None) into words 0 and 1 of the
  * answer. */
 uint32_t labels_normal_form(LABELS_WORDS(state), LABELS_WORDS(terms), LABELS_READ(cells), LABELS_WORDS(chars), LABELS_WORDS(reasons),
@@ -234,7 +234,7 @@ uint32_t labels_deep_normal_form(LABELS_WORDS(state), LABELS_WORDS(terms), LABEL
                                  LABELS_READ(keys), LABELS_READ(known), uint32_t t, LABELS_WORDS(list), LABELS_WORDS(answer));
 
 /* The guard is the caller's number for the equation, neither 0 nor the lowest (5). The case stands in word 0 of the answer: 0 Done, 1
- * Saturated, 2 Conflict, 3 Propagate, 4 Split. Propagate puts the variable, a term that has its text and the link flag into words 1 to 3;
+ * Saturated, 2 Conflict, 3 Propagate, 4 Split. Propagate puts the variable, a term that has its word and the link flag into words 1 to 3;
  * Split puts the count of its atoms, which stand first in `list`, and the negated guard as a 32-bit two's complement into words 1 and 2: the
  * clause is, not the equation (the guard's literal, negated) or one of the atoms. Into word 3 Split puts how many terms it made, which is how
  * much the terms' count grew within this call: over two heads six, and one for each of the two lengths and their equation that was absent;
@@ -242,7 +242,7 @@ uint32_t labels_deep_normal_form(LABELS_WORDS(state), LABELS_WORDS(terms), LABEL
  * by more, since its normal forms make constants of their own before. A Conflict and a Propagate rest on the reasons below the state's count,
  * and a Split and a Saturated of the step rest on reasons too, those of the normal forms: keep them with whatever is kept of the answer.
  * Where one list is constants alone and the other constants and one variable that is alone in its class, once or more, the answer is Conflict
- * exactly when no text for the variable makes the sides equal. */
+ * exactly when no word for the variable makes the sides equal. */
 uint32_t labels_resolve_equation(LABELS_WORDS(state), LABELS_WORDS(terms), LABELS_WORDS(cells), LABELS_WORDS(chars), LABELS_WORDS(reasons),
                                  LABELS_WORDS(keys), LABELS_READ(lhs), LABELS_READ(rhs), int32_t guard, LABELS_WORDS(list),
                                  LABELS_WORDS(answer));
@@ -254,7 +254,7 @@ uint32_t labels_step(LABELS_WORDS(state), LABELS_WORDS(terms), LABELS_WORDS(cell
 /* Every part of a label that must still become "": where one flattened list is empty and the other is two or more variables, "" is made if the
  * store has none, and the variables that are not of its class yet stand first in `list`, in the order of their places, the first of each class.
  * Words 0 to 2 of the answer: how many they are, the number of "", and the link flag, 1 where something is listed. For other lists nothing is
- * made, and all three are 0. No reasons are added: if the two sides have equal texts, each listed variable has the text of "", whatever was
+ * made, and all three are 0. No reasons are added: if the two sides have equal words, each listed variable has the word of "", whatever was
  * merged. So what is joined for it rests on the equation between the lists and on what the lists rest on. */
 uint32_t labels_empty_parts(LABELS_WORDS(state), LABELS_WORDS(terms), LABELS_READ(cells), LABELS_WORDS(chars), LABELS_READ(reasons),
                             LABELS_READ(keys), LABELS_READ(lhs), LABELS_READ(rhs), LABELS_WORDS(list), LABELS_WORDS(answer));
@@ -263,7 +263,7 @@ uint32_t labels_empty_parts(LABELS_WORDS(state), LABELS_WORDS(terms), LABELS_REA
  * same tails are stripped. With k variables and c constant characters against l characters, l = c + k * m + r and r below k: words 0 to 5 of
  * the answer are 0, k, c, l, m and r. Where l is below c they are 1, k, c, l, the shortage c - l, and 0. With a remainder above 0 or a shortage
  * `labels_resolve_equation` on the same lists answers Conflict, or Saturated where it flattened a concatenation, unless the reasons are full
- * (7): no texts fit under the reasons that its Conflict names, and without them some may. Lists that have another form are refused with 11.
+ * (7): no words fit under the reasons that its Conflict names, and without them some may. Lists that have another form are refused with 11.
  * Nothing but the answer is written. */
 uint32_t labels_forced_length(LABELS_READ(state), LABELS_READ(terms), LABELS_READ(cells), LABELS_READ(chars), LABELS_READ(reasons),
                               LABELS_READ(keys), LABELS_READ(lhs), LABELS_READ(rhs), LABELS_WORDS(answer));

@@ -27,7 +27,7 @@ pub enum Refusal {
     Congruences,
     /// a wrong argument
     Argument,
-    /// a flattened list above 1,024 entries
+    /// a flattened list above 1,024 atoms
     List,
     /// no room for a reason
     Reasons,
@@ -159,7 +159,7 @@ impl fmt::Display for Reason {
     }
 }
 
-/// A normal form: the list has the term's text wherever the reasons hold.
+/// A normal form: the list has the term's word wherever the reasons hold.
 ///
 /// ```
 /// let mut store = labels::Store::new();
@@ -172,7 +172,7 @@ impl fmt::Display for Reason {
 #[must_use = "what the form is used for rests on its reasons"]
 #[derive(Clone, PartialEq, Eq, Hash, Debug)]
 pub struct Form {
-    /// the entries of the list, in order
+    /// the atoms of the list, in order
     pub atoms: Vec<Term>,
     /// those handed in, then those of what was replaced
     pub reasons: Vec<Reason>,
@@ -189,7 +189,7 @@ impl Form {
     }
 }
 
-/// The parts of a label that must still become "": if the two sides have equal texts, each of these variables has the text of "", whatever was
+/// The parts of a label that must still become "": if the two sides have equal words, each of these variables has the word of "", whatever was
 /// merged. That rests on the equation between the lists and on what the lists rest on.
 ///
 /// ```
@@ -248,7 +248,7 @@ pub enum Span {
 }
 
 /// The forced length of a repeated field. With a rest above 0 or a shortage [`Store::resolve_equation`](crate::Store::resolve_equation) answers
-/// Conflict on the same lists, or Saturated where it flattened, unless the reasons are full: no texts fit under the reasons that the Conflict
+/// Conflict on the same lists, or Saturated where it flattened, unless the reasons are full: no words fit under the reasons that the Conflict
 /// names, and without them some may.
 ///
 /// ```
@@ -324,15 +324,15 @@ pub enum Answer {
         /// why they are
         reasons: Vec<Reason>,
     },
-    /// where the sides are equal the variable has the text of a certain term
+    /// where the sides are equal the variable has the word of a certain term
     Propagate {
         /// the variable
         variable: Term,
-        /// a term that has the text
+        /// a term that has the word
         word: Term,
         /// whether an empty side stood against several variables: then ask again once this one is joined with ""
         link: bool,
-        /// why it has that text
+        /// why it has that word
         reasons: Vec<Reason>,
     },
     /// where the sides are equal one of the atoms is true: the clause is the guard's literal, negated, or one of them

@@ -1,6 +1,6 @@
 //! The label resolver's store and calls, with nothing unsafe for their user. Each call audits the store first, and what it leaves passes again.
 //!
-//! A term stands for a text: a constant for its own characters, a variable for any text, a concatenation for the texts of its parts in
+//! A term has a word, a list of characters: a constant its own, a variable any word, a concatenation the words of its parts in
 //! order. Classes of terms are joined for reasons, and a question about an equation is answered with the reasons that the answer rests on.
 //!
 //! ```
@@ -24,7 +24,7 @@
 //!
 //! # Characters
 //!
-//! They are those of SMT-LIB's strings, 0 to 0x2FFFF: Rust's below 0x30000, and 0xD800 to 0xDFFF besides. A text as `&str` can have no
+//! They are those of SMT-LIB's strings, 0 to 0x2FFFF: Rust's below 0x30000, and 0xD800 to 0xDFFF besides. A word as `&str` can have no
 //! surrogate; as numbers, to [`Store::constant_chars`] and [`Store::variable_chars`], it can have any. A pair of surrogates is two characters.
 //!
 //! # Asking a question
@@ -159,7 +159,7 @@ const REASON_COUNT: usize = 3;
 pub struct Store {
     /// counts of terms, cells, characters, reasons and keys, the name counter, counts of marks and of recorded joins
     pub state: [u32; 8],
-    /// eight words a term: kind, first, second, class parent, forest parent, edge kind, edge value, stamp
+    /// eight words a term: kind, first, second, class parent, forest parent, label kind, label value, stamp
     pub terms: Vec<u32>,
     /// three words a cell: value, second value, next
     pub cells: Vec<u32>,
@@ -229,7 +229,7 @@ impl Store {
         outcome(raw::audit(self))
     }
 
-    /// The constant of a text, made where the store has none. A character from U+30000 on is refused.
+    /// The constant of a word, made where the store has none. A character from U+30000 on is refused.
     ///
     /// ```
     /// let mut store = labels::Store::new();
@@ -448,7 +448,7 @@ impl Store {
         self.question().normal_form(known, t)
     }
 
-    /// The same with concatenations expanded, or None where that takes more than 256 entries or meets one again.
+    /// The same with concatenations expanded, or None where that takes more than 256 atoms or meets one again.
     ///
     /// ```
     /// use labels::Reason;
@@ -465,7 +465,7 @@ impl Store {
 
     /// The equation between two lists of string terms; the guard, which a Split hands back negated, is neither 0 nor the lowest number.
     /// Where one list is constants alone and the other constants and one variable that is alone in its class, once or more, the answer is
-    /// Conflict exactly when no text for the variable makes the sides equal.
+    /// Conflict exactly when no word for the variable makes the sides equal.
     ///
     /// ```
     /// use labels::Answer;
@@ -513,7 +513,7 @@ impl Store {
     /// let (site, batch, serial) = (store.variable("site")?, store.variable("batch")?, store.variable("serial")?);
     /// store.join(batch, site, Reason::Asserted(1))?;
     /// let label = [site, batch, serial];
-    /// // one entry for site and batch, which are of one class
+    /// // site stands for batch too, which is of its class
     /// let parts = store.empty_parts(&[], &label)?;
     /// assert_eq!((&parts.variables, parts.link), (&vec![site, serial], true));
     /// if let Some(empty) = parts.empty {
@@ -537,7 +537,7 @@ impl Store {
     /// then same tails are stripped; lists of another form are refused. Nothing is written.
     ///
     /// With a rest above 0 or a shortage [`Store::resolve_equation`] answers Conflict on the same lists, or Saturated where it flattened, unless
-    /// the reasons are full: no texts fit under the reasons that the Conflict names, and without them some may.
+    /// the reasons are full: no words fit under the reasons that the Conflict names, and without them some may.
     ///
     /// ```
     /// use labels::{Fit, Refusal, Span};
@@ -556,7 +556,7 @@ impl Store {
         Fit::of(&answer)
     }
 
-    /// Whether two lists are entry by entry the same.
+    /// Whether two lists are atom by atom the same.
     ///
     /// ```
     /// let mut store = labels::Store::new();

@@ -201,7 +201,7 @@ fn surrogates() {
     assert_eq!(s.resolve_equation(&[high, low], &[both], 1), Ok(Answer::Done));
     assert!(matches!(s.resolve_equation(&[high, low], &[one], 1), Ok(Answer::Conflict { .. })));
     assert!(matches!(s.resolve_equation(&[x], &[high, low], 1), Ok(Answer::Propagate { word, .. }) if word == both));
-    // escapes beside quotes and backslashes, so that a text of the same letters prints otherwise
+    // escapes beside quotes and backslashes, so that a word of the same letters prints otherwise
     let odd = s.constant_chars(&[0x22, 0xD800, 0x22, 0x5C]).unwrap();
     let letters = s.constant(r"\u{d800}").unwrap();
     assert_eq!((shown(&s, odd), shown(&s, letters)), (r#""\"\u{d800}\"\\""#.into(), r#""\\u{d800}""#.into()));

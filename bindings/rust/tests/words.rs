@@ -1,4 +1,4 @@
-//! Merges that a caller writes into the words itself, by the manual's rules ('Where the caller writes the words itself').
+//! Merges that a caller writes into the records itself, by the manual's rules ('Where the caller writes the records itself').
 
 use labels::{Answer, Reason, Refusal, Store, Term};
 

@@ -1,4 +1,4 @@
-// Words of a store.
+// The words of a store written for a case: terms, edges, chains of cells, reasons.
 use records::CELL_WIDTH;
 use records::TERM_WIDTH;
 use records::fields::word;

@@ -1,4 +1,4 @@
-// What is printed.
+// Printing reasons, lists, characters, and what a form made.
 use crate::Counts;
 use crate::building::narrow;
 use records::State;

@@ -1,4 +1,4 @@
--- The definition run on a small store.
+-- The definition of the forced length run on a small store: pairs of lists, each both ways round.
 use mathlib.Core.Bool.{Bool, false, _&&_}
 use mathlib.Core.List.{List, [], _∷_}
 use Prim.Native.Nat.{ℕ}

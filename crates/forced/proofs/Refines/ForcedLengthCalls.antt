@@ -1,4 +1,4 @@
--- Each way through the functions.
+-- Each way through the functions of the forced length: one variable class, the form of the two sides, what fits between them, the call.
 use mathlib.Core.Path.{_≡_, refl, sym, ap, subst, _∙_}
 use mathlib.Core.Bool.{Bool, true, false, not, _&&_}
 use mathlib.Core.List.{List, [], _∷_}
