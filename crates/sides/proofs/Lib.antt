@@ -14,7 +14,6 @@ mod Split
 pub mod Resolve
 pub mod Equal
 pub mod FewAtoms
-pub mod Leaving
 pub mod Orelse
 pub mod Trying
 pub mod SideReady

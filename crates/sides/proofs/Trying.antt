@@ -27,9 +27,9 @@ use Rattle.sides.specs.Wordeq.{Answer, conflict, propagate, Tried, answe
 use Rattle.sides.specs.Working.Results.{BothLists, tried, Tries}
 use Rattle.sides.proofs.StepResult.{the-type}
 use Rattle.sides.proofs.Orelse.{else-assoc}
-use Rattle.sides.proofs.Leaving.{list-stays}
 use Rattle.records.proofs.Counts.{Higher, agree-below, higher-none, higher-then}
 use Rattle.records.proofs.Sequence.{grows-constant}
+use Rattle.records.proofs.ListLaws.{list-stays}
 
 -- ORDER
 

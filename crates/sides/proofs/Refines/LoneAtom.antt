@@ -18,7 +18,7 @@ use Rattle.records.specs.Calls.{added}
 use Rattle.records.specs.Working.Doing.{Working}
 use Rattle.records.specs.Rules.{listLimit}
 use Rattle.records.proofs.Lists.{both-left, both-right, both-true, all-every, every-all, every-at, every-map}
-use Rattle.records.proofs.Doing.{working-same, working-is}
+use Rattle.records.proofs.Doing.{working-same, working-is, working-answer}
 use Rattle.engine.specs.Explain.{explain, explainArguments}
 use Rattle.sides.specs.declared.StepResult.the-variants as step
 use Rattle.sides.specs.Wordeq.{conflict, pass, answer, occurrence, occursAt, occurs}
@@ -27,7 +27,8 @@ use Rattle.sides.specs.Working.Sides.{Texts}
 use Rattle.sides.specs.Working.Occurring.{atPlace}
 use Rattle.sides.proofs.SideReady.{ready-readIn}
 use Rattle.records.proofs.Climbs.{string-within, ready-roots}
-use Rattle.sides.proofs.Leaving.{one-store, working-answer, added-at}
+use Rattle.records.proofs.Works.{one-store}
+use Rattle.records.proofs.Sequence.{added-at}
 use Rattle.sides.proofs.Refines.Elsewhere.{place-in, place-past, occurrence-whole, occurrence-class}
 use Rattle.records.specs.declared.Added.{Added as Answered}
 

@@ -17,15 +17,16 @@ use Rattle.records.specs.Working.Audited.{Ready}
 use Rattle.records.specs.Calls.{added}
 use Rattle.records.specs.Working.Doing.{Working}
 use Rattle.records.proofs.Lists.{both-true, all-every, every-at, any-append, or-left, clash, drop-head}
-use Rattle.records.proofs.Doing.{working-same, working-stopped, working-at, working-is}
+use Rattle.records.proofs.Doing.{working-same, working-stopped, working-at, working-is, working-answer}
 use Rattle.records.proofs.Grown.{Strings}
+use Rattle.records.proofs.Works.{one-store}
+use Rattle.records.proofs.Sequence.{added-at, added-ready}
 use Rattle.engine.specs.Explain.{explain, explainArguments, isReasoned}
 use Rattle.sides.specs.declared.Rest.{Rest}
 use Rattle.sides.specs.declared.Stripped.the-variants.{Parts, Refused}
 use Rattle.sides.specs.Wordeq.{same, sameHeads, sameTails, matches, inner, rest, explainMatch, explainMatches, needsReason, isBare, strip}
 use Rattle.sides.specs.Working.Stripping.{Pair, part, Finds, Strips, Needs, Asked}
 use Rattle.sides.proofs.Strip.{plainly, same-class, match-ends, matches-append, matches-end, off-heads, every-back, Match}
-use Rattle.sides.proofs.Leaving.{one-store, working-answer, added-at, added-ready}
 use Rattle.sides.proofs.Refines.AddingReasons.{Going, going-pair, going-same, kept-down}
 use Rattle.sides.proofs.Refines.Turning.{Turning, turning-none, turning-end, turning-refused, turning-on}
 use Rattle.records.specs.declared.Added.{Added as Answered}

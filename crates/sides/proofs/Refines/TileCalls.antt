@@ -18,7 +18,9 @@ use Rattle.records.specs.Working.Audited.{Ready}
 use Rattle.records.specs.Working.Doing.{Working}
 use Rattle.records.proofs.Lists.{both-left, and-stop, and-next, failed, passed, decide, all-drop, all-every, every-at, every-map}
 use Rattle.records.proofs.ListLaws.{list-strings, list-every}
-use Rattle.records.proofs.Doing.{working-same, working-is}
+use Rattle.records.proofs.Doing.{working-same, working-is, working-answer}
+use Rattle.records.proofs.Works.{one-store}
+use Rattle.records.proofs.Sequence.{added-at}
 use Rattle.sides.specs.declared.StepResult.{StepResult}
 use Rattle.sides.specs.declared.StepResult.the-variants as step
 use Rattle.sides.specs.Wordeq.{conflict, Tried, answer, pass, settled, _orElse_, same, fixed, letters, fits, variables, explainAll, tileBy, tile}
@@ -27,7 +29,6 @@ use Rattle.sides.specs.Working.Sides.{Spelled, constantSide, otherSide}
 use Rattle.sides.specs.Working.Stripping.{Readable, Pair, part}
 use Rattle.sides.specs.Working.Explaining.{OneClass}
 use Rattle.sides.specs.Working.Spans.{FirstVariable, agrees, unfit}
-use Rattle.sides.proofs.Leaving.{one-store, working-answer, added-at}
 use Rattle.sides.proofs.Refines.Stripping.{part-whole}
 use Rattle.sides.proofs.SideReady.{ready-readIn, constant-side-whole, other-side-whole}
 use Rattle.sides.proofs.Refines.ExplainingEach.{same-classes}

@@ -16,7 +16,8 @@ use Rattle.records.specs.View.{Lent, storeOf}
 use Rattle.records.specs.Rules.{listLimit}
 use Rattle.records.specs.Working.Doing.{Working}
 use Rattle.records.proofs.Lists.{any-append, drop-head}
-use Rattle.records.proofs.Doing.{working-stopped, working-at, working-is}
+use Rattle.records.proofs.Doing.{working-stopped, working-at, working-is, working-answer}
+use Rattle.records.proofs.Works.{one-store}
 use Rattle.normalize.specs.Normalize.{atoms, flatten}
 use Rattle.normalize.specs.Working.Flat.{Appended}
 use Rattle.sides.specs.declared.StepResult.{StepResult}
@@ -24,7 +25,6 @@ use Rattle.sides.specs.declared.StepResult.the-variants as step
 use Rattle.sides.specs.Wordeq.{Answer, steps, softened, isGuard}
 use Rattle.wordeq.specs.Calls.{resolved}
 use Rattle.wordeq.specs.Working.Resolving.{soft, flatSteps, ran}
-use Rattle.sides.proofs.Leaving.{one-store, working-answer}
 
 -- SOME ATOM IS A CONCATENATION
 

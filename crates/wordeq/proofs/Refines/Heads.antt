@@ -29,7 +29,7 @@ use Rattle.records.specs.Working.Doing.{Working}
 use Rattle.records.proofs.Lists.{both-left, both-right, left-false, and-stop, and-next, clash, decide, table-at, table-length}
 use Rattle.records.proofs.Readings.{text-characters}
 use Rattle.records.proofs.Kept.{key-kept}
-use Rattle.records.proofs.Doing.{working-same, working-at, working-is}
+use Rattle.records.proofs.Doing.{working-same, working-at, working-is, working-answer}
 use Rattle.normalize.specs.declared.Form.{Form}
 use Rattle.normalize.specs.declared.Form.the-variants as form
 use Rattle.records.proofs.Views.{text-words}
@@ -40,9 +40,9 @@ use Rattle.wordeq.specs.Working.Splits.{listed, characterAtoms, headAtom
 use Rattle.wordeq.specs.Working.Heads.{HeadsApart, HeadPair, atomsBy, atomsOf, splitNew}
 use Rattle.sides.specs.Working.Counting.{splitFrom}
 use Rattle.records.proofs.Counts.{higher-below}
-use Rattle.records.proofs.Sequence.{grows-key, working-then, working-stop}
+use Rattle.records.proofs.Sequence.{grows-key, working-then, working-stop, added-at}
+use Rattle.records.proofs.Works.{one-store}
 use Rattle.sides.proofs.Strip.{Apart}
-use Rattle.sides.proofs.Leaving.{one-store, working-answer, added-at}
 use Rattle.sides.proofs.SideReady.{ready-readIn}
 use Rattle.sides.proofs.Counted.{then-same, character-counted, heads-counted}
 use Rattle.sides.proofs.FewAtoms.{chosen-few}

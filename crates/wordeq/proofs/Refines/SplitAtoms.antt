@@ -28,9 +28,8 @@ use Rattle.sides.specs.Wordeq.{Tried, freshVariable}
 use Rattle.wordeq.specs.Working.Splits.{prefixAtom, emptyAtom, characterAtom, lengthsAtom, characterAtoms, prefixAtoms, headAtoms}
 use Rattle.wordeq.specs.Working.Heads.{atomsBy, atomsOf}
 use Rattle.sides.proofs.Counted.{equatable-strings, equatable-lengths, characterThen, headsThen}
-use Rattle.records.proofs.Sequence.{Grows, grows-then, grows-constant, grows-variable, grows-concat, grows-length, grows-equation, grows-give, grows-name, working-then, working-stop, made-is, made-then, made-stop}
+use Rattle.records.proofs.Sequence.{Grows, grows-then, grows-constant, grows-variable, grows-concat, grows-length, grows-equation, grows-give, grows-name, working-then, working-stop, made-is, made-then, made-stop, made-ready, made-stays}
 use Rattle.normalize.proofs.Carried.{working-left}
-use Rattle.sides.proofs.Leaving.{made-ready, made-stays}
 
 -- A FRESH VARIABLE
 

@@ -17,7 +17,7 @@ use Rattle.records.specs.Rules.{listLimit}
 use Rattle.records.specs.Working.Audited.{Ready}
 use Rattle.records.specs.Working.Doing.{Working}
 use Rattle.records.proofs.Lists.{both-right, both-true, every-all}
-use Rattle.records.proofs.Doing.{working-stopped, working-at}
+use Rattle.records.proofs.Doing.{working-stopped, working-at, working-answer}
 use Rattle.records.proofs.LaterStores.{Added}
 use Rattle.sides.specs.declared.StepResult.{StepResult}
 use Rattle.sides.specs.declared.StepResult.the-variants as step
@@ -30,7 +30,6 @@ use Rattle.sides.specs.Working.Sides.{Spelled}
 use Rattle.wordeq.specs.Working.Heads.{HeadsApart}
 use Rattle.sides.specs.Working.Stripping.{part, stripped, Inside, Needed, Strips}
 use Rattle.normalize.proofs.Carried.{working-left}
-use Rattle.sides.proofs.Leaving.{one-store, working-answer}
 use Rattle.sides.proofs.Strip.{strip-ends}
 use Rattle.sides.proofs.Strip as strip
 use Rattle.wordeq.proofs.Refines.Heads.{heads-apart}
@@ -38,6 +37,7 @@ use Rattle.records.proofs.Counts.{Higher, agree-below}
 use Rattle.sides.proofs.ConstantSides.{constants-need, constants-conflict, constants-pass}
 use Rattle.sides.proofs.Trying.{Lined, Last, occursBoth, conflicts, propagates, tiles, grouped, both-rises, conflicts-rises, propagates-rises, tiles-rises, after-groups, passed-ready, else-works, else-tries, else-last}
 use Rattle.records.proofs.ListLaws.{list-short, list-every}
+use Rattle.records.proofs.Works.{one-store}
 use Rattle.sides.specs.Working.Lacking.{conflicts as lacks}
 
 -- STEPS 2 AND 3

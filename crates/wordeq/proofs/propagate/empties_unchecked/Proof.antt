@@ -1,5 +1,5 @@
+use Rattle.records.proofs.Sequence.{made-ready}
 use Rattle.wordeq.proofs.Refines.Propagate.{empties-pairs, empties-done, empties-stop}
-use Rattle.sides.proofs.Leaving.{made-ready}
 use Rattle.sides.proofs.SideReady.{ready-readable}
 use Rattle.wordeq.proofs.Refines.SplitAtoms.{no-characters}
 use borrow.Author.Needs.{needs}
