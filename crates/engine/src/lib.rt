@@ -275,22 +275,14 @@ fn give_plain(
     requires { ⌜ c .reasons ≤ reasonRoom (now reasons) ⌝ }
     ensures { λ r. ⌜ Gives (now (reasons .entry)) (now (reasons .exit)) (now (places .entry)) (now (places .exit)) (c .reasons) kind value slot r ⌝ }
 {
-    if listing::is_listed(reasons, c.reasons, places, slot, kind, value) {
-        return Walked {
-            code: 0,
-            count: c.reasons,
-        };
+    let r = give(reasons, c.reasons, kind, value, slot, places);
+    if r.count == c.reasons {
+        return r;
     }
-    if put::push_reason_unchecked(reasons, c.reasons, kind, value) {
-        let d = c.with_reason_unchecked();
-        return Walked {
-            code: 0,
-            count: d.reasons,
-        };
-    }
+    let d = c.with_reason_unchecked();
     Walked {
-        code: 7,
-        count: c.reasons,
+        code: 0,
+        count: d.reasons,
     }
 }
 
