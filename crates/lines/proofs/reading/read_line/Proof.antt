@@ -2,8 +2,8 @@ use mathlib.Core.Path.{_≡_}
 use Prim.Native.Nat.{_-_, _≤_}
 use lib.ListN.{length}
 use borrow.Author.Needs.{needs}
-use Rattle.stores.proofs.reading.read_line.Statement.{statement}
-use Rattle.stores.proofs.reading.read_line.Tie as tie
+use Rattle.lines.proofs.reading.read_line.Statement.{statement}
+use Rattle.lines.proofs.reading.read_line.Tie as tie
 
 abbrev Inv-loop : tie.InvT-loop
 Inv-loop line numbers₀ count₀ i₀ numbers count i = (i ≤ length line) × (length numbers ≡ length numbers₀)

@@ -1,18 +1,19 @@
-// Reading a line: its letter, its numbers, and where its name starts.
-ghost use Prim.Native.Nat.{_≤_};
+// One line: its letter, its numbers, and where it ends.
+ghost use Prim.Native.Nat.{_-_, _≤_};
 ghost use lib.ListN.{length};
-use crate::changing::put;
+use crate::lending::least;
+use crate::put;
 use records::fields::word;
 use std::num::wrapping_add_u32;
 use std::num::wrapping_add_usize;
 
-// The numbers of a line are counted; its name starts at `at`.
-pub(crate) struct Line {
+// How many numbers a line has, and where its name starts.
+pub struct Line {
     pub count: usize,
     pub at: usize,
 }
 
-pub(crate) fn letter(line: &[u8]) -> u8 {
+pub fn letter(line: &[u8]) -> u8 {
     if line.len() == 0 {
         return 0;
     }
@@ -45,7 +46,8 @@ fn feed(numbers: &mut [u32], j: usize, b: u8) -> usize {
     j
 }
 
-pub(crate) fn read_line(line: &[u8], numbers: &mut [u32]) -> Line
+// The numbers of a line, from 1 on, up to its end or to `:`, after which its name starts.
+pub fn read_line(line: &[u8], numbers: &mut [u32]) -> Line
     ensures { λ r. ⌜ r .at ≤ length (now (line .entry)) ⌝ }
 {
     let mut count: usize = 0;
@@ -67,9 +69,18 @@ pub(crate) fn read_line(line: &[u8], numbers: &mut [u32]) -> Line
     }
 }
 
-pub(crate) fn line_end(text: &[u8], from: usize) -> usize
-    requires { ⌜ from ≤ length (now text) ⌝ }
-    ensures { λ r. ⌜ (from ≤ r) × (r ≤ length (now (text .entry))) ⌝ }
+// The first n numbers of a line, without what stands for its letter.
+pub fn numbers(list: &[u32], n: usize) -> &[u32] {
+    let e = least(wrapping_add_usize(n, 1), list.len());
+    if e < 1 {
+        return list;
+    }
+    &list[1..e]
+}
+
+// Where the line that starts at `from` ends: before its line feed, or where the text ends. It is no longer than what is left of the text.
+pub fn line_end(text: &[u8], from: usize) -> usize
+    ensures { λ r. ⌜ (from ≤ r) × (r - from ≤ length (now (text .entry)) - from) ⌝ }
 {
     let mut i = from;
     while i < text.len() {

@@ -1,11 +1,11 @@
 use Prim.Native.Nat.{_-_, _≤_}
 use lib.ListN.{length}
 use borrow.Author.Needs.{needs}
-use Rattle.stores.proofs.reading.line_end.Statement.{statement}
-use Rattle.stores.proofs.reading.line_end.Tie as tie
+use Rattle.lines.proofs.reading.line_end.Statement.{statement}
+use Rattle.lines.proofs.reading.line_end.Tie as tie
 
 abbrev Inv-loop : tie.InvT-loop
-Inv-loop text from i₀ i = (from ≤ i) × (i ≤ length text)
+Inv-loop text from i₀ i = (from ≤ i) × (i - from ≤ length text - from)
 
 abbrev μ-loop : tie.MeasureT-loop
 μ-loop text from i₀ i = length text - i

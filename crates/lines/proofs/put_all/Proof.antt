@@ -2,17 +2,17 @@ use mathlib.Core.Path.{_≡_}
 use Prim.Native.Nat.{_-_}
 use lib.ListN.{length}
 use borrow.Author.Needs.{needs}
-use Rattle.stores.proofs.changing.copy.Statement.{statement}
-use Rattle.stores.proofs.changing.copy.Tie as tie
+use Rattle.lines.proofs.put_all.Statement.{statement}
+use Rattle.lines.proofs.put_all.Tie as tie
 
 abbrev Inv-loop : tie.InvT-loop
-Inv-loop from to₀ at i₀ to i = length to ≡ length to₀
+Inv-loop to₀ at from i₀ to i = length to ≡ length to₀
 
 abbrev μ-loop : tie.MeasureT-loop
-μ-loop from to₀ at i₀ to i = length from - i
+μ-loop to₀ at from i₀ to i = length from - i
 
-pub copy-spec : {M : Type 1} → statement M
-copy-spec =
+pub put-all-spec : {M : Type 1} → statement M
+put-all-spec =
     tie.close
     (tie.spec
     Inv-loop
