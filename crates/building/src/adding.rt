@@ -1,41 +1,26 @@
 // The commands that change the store, the list or what is lent.
 use crate::Counts;
-use crate::building::narrow;
-use crate::building::put;
-use crate::building::put_chain;
-use crate::building::put_class;
-use crate::building::put_edge;
-use crate::building::put_expansions;
-use crate::building::put_line;
-use crate::building::put_numbered;
-use crate::building::put_pairs;
-use crate::building::put_reason;
-use crate::building::put_same;
-use crate::building::put_term;
-use crate::building::put_tower;
-use crate::building::put_variables;
-use crate::building::put_words;
+use crate::words::narrow;
+use crate::words::put_chain;
+use crate::words::put_class;
+use crate::words::put_edge;
+use crate::words::put_expansions;
+use crate::words::put_line;
+use crate::words::put_numbered;
+use crate::words::put_pairs;
+use crate::words::put_reason;
+use crate::words::put_same;
+use crate::words::put_term;
+use crate::words::put_tower;
+use crate::words::put_variables;
+use crate::words::put_words;
+use lines::put;
 use records::CELL_WIDTH;
 use records::TERM_WIDTH;
 use records::fields::word;
 use std::num::wrapping_add_u32;
 use std::num::wrapping_add_usize;
 use std::num::wrapping_sub_u32;
-
-// No record counted. The names that V gives have one character each, at the place of the variable's number, so 513 are counted.
-pub fn none() -> Counts {
-    Counts {
-        terms: 0,
-        cells: 0,
-        chars: 513,
-        reasons: 0,
-        keys: 0,
-        names: 0,
-        known: 0,
-        short: 0,
-        words: 0,
-    }
-}
 
 fn counted(c: Counts, terms: u32, cells: u32) -> Counts {
     let mut d = c;

@@ -1,18 +1,18 @@
 use mathlib.Core.Path.{_≡_}
-use Prim.Native.Nat.{_-_}
 use lib.ListN.{length}
+use Prim.Native.Nat.{_-_}
 use borrow.Author.Needs.{needs}
-use Rattle.answers.proofs.building.put_pairs.Statement.{statement}
-use Rattle.answers.proofs.building.put_pairs.Tie as tie
+use Rattle.building.proofs.words.put_variables.Statement.{statement}
+use Rattle.building.proofs.words.put_variables.Tie as tie
 
 abbrev Inv-loop : tie.InvT-loop
-Inv-loop to₀ i n a b j₀ to j = length to ≡ length to₀
+Inv-loop terms₀ chars₀ above n i₀ terms chars i = (length terms ≡ length terms₀) × (length chars ≡ length chars₀)
 
 abbrev μ-loop : tie.MeasureT-loop
-μ-loop to₀ i n a b j₀ to j = n - j
+μ-loop terms₀ chars₀ above n i₀ terms chars i = n - i
 
-pub put-pairs-spec : {M : Type 1} → statement M
-put-pairs-spec =
+pub put-variables-spec : {M : Type 1} → statement M
+put-variables-spec =
     tie.close
     (tie.spec
     Inv-loop

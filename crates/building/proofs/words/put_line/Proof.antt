@@ -1,28 +1,27 @@
 use mathlib.Core.Path.{_≡_}
-use Prim.Native.Nat.{_-_}
 use lib.ListN.{length}
+use Prim.Native.Nat.{_-_}
 use borrow.Author.Needs.{needs}
-use Rattle.answers.proofs.building.put_words.Statement.{statement}
-use Rattle.answers.proofs.building.put_words.Tie as tie
+use Rattle.building.proofs.words.put_line.Statement.{statement}
+use Rattle.building.proofs.words.put_line.Tie as tie
 
 abbrev Inv-loop : tie.InvT-loop
-Inv-loop to₀ at from last i₀ to i = length to ≡ length to₀
+Inv-loop terms₀ first n i₀ terms i = length terms ≡ length terms₀
 
 abbrev μ-loop : tie.MeasureT-loop
-μ-loop to₀ at from last i₀ to i = last - i
+μ-loop terms₀ first n i₀ terms i = n - i
 
-pub put-words-spec : {M : Type 1} → statement M
-put-words-spec =
+pub put-line-spec : {M : Type 1} → statement M
+put-line-spec =
     tie.close
     (tie.spec
     Inv-loop
     μ-loop
     (λ c. search needs)
+    (λ c κs. search needs)
+    (λ c κs. search needs)
+    (λ c κs. search needs)
     (λ c. search needs)
-    (λ c. search needs)
-    (λ c κs. search needs)
-    (λ c κs. search needs)
-    (λ c κs. search needs)
     (λ c. search needs)
     (λ c. search needs)
     (λ c. search needs)

@@ -2,8 +2,8 @@ use mathlib.Core.Path.{_≡_}
 use Prim.Native.Nat.{_-_}
 use lib.ListN.{length}
 use borrow.Author.Needs.{needs}
-use Rattle.answers.proofs.building.put_numbered.Statement.{statement}
-use Rattle.answers.proofs.building.put_numbered.Tie as tie
+use Rattle.building.proofs.words.put_numbered.Statement.{statement}
+use Rattle.building.proofs.words.put_numbered.Tie as tie
 
 abbrev Inv-loop : tie.InvT-loop
 Inv-loop to₀ i n kind first j₀ to j = length to ≡ length to₀

@@ -1,18 +1,18 @@
 use mathlib.Core.Path.{_≡_}
-use lib.ListN.{length}
 use Prim.Native.Nat.{_-_}
+use lib.ListN.{length}
 use borrow.Author.Needs.{needs}
-use Rattle.answers.proofs.building.put_variables.Statement.{statement}
-use Rattle.answers.proofs.building.put_variables.Tie as tie
+use Rattle.building.proofs.words.put_pairs.Statement.{statement}
+use Rattle.building.proofs.words.put_pairs.Tie as tie
 
 abbrev Inv-loop : tie.InvT-loop
-Inv-loop terms₀ chars₀ above n i₀ terms chars i = (length terms ≡ length terms₀) × (length chars ≡ length chars₀)
+Inv-loop to₀ i n a b j₀ to j = length to ≡ length to₀
 
 abbrev μ-loop : tie.MeasureT-loop
-μ-loop terms₀ chars₀ above n i₀ terms chars i = n - i
+μ-loop to₀ i n a b j₀ to j = n - j
 
-pub put-variables-spec : {M : Type 1} → statement M
-put-variables-spec =
+pub put-pairs-spec : {M : Type 1} → statement M
+put-pairs-spec =
     tie.close
     (tie.spec
     Inv-loop

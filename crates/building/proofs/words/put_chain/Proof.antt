@@ -2,8 +2,8 @@ use mathlib.Core.Path.{_≡_}
 use lib.ListN.{length}
 use Prim.Native.Nat.{_-_}
 use borrow.Author.Needs.{needs}
-use Rattle.answers.proofs.building.put_chain.Statement.{statement}
-use Rattle.answers.proofs.building.put_chain.Tie as tie
+use Rattle.building.proofs.words.put_chain.Statement.{statement}
+use Rattle.building.proofs.words.put_chain.Tie as tie
 
 abbrev Inv-loop : tie.InvT-loop
 Inv-loop cells₀ e n from last wide free₀ at₀ i₀ cells free at i = length cells ≡ length cells₀

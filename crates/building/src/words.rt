@@ -1,16 +1,12 @@
 // Words of a store.
+use lines::put;
+use lines::put_all;
 use records::CELL_WIDTH;
 use records::TERM_WIDTH;
 use records::fields::word;
 use std::num::wrapping_add_u32;
 use std::num::wrapping_add_usize;
 use std::num::wrapping_sub_u32;
-
-pub fn put(s: &mut [u32], i: usize, x: u32) {
-    if i < s.len() {
-        s[i] = x;
-    }
-}
 
 // A count as a word; none here is above 65,535.
 pub fn narrow(x: usize) -> u32 {
@@ -22,15 +18,8 @@ pub fn narrow(x: usize) -> u32 {
 
 // Alone in its class.
 pub fn put_term(terms: &mut [u32], t: u32, kind: u32, first: u32, second: u32) {
-    let at = TERM_WIDTH * (t as usize);
-    put(terms, at, kind);
-    put(terms, at + 1, first);
-    put(terms, at + 2, second);
-    put(terms, at + 3, t);
-    put(terms, at + 4, t);
-    put(terms, at + 5, 0);
-    put(terms, at + 6, 0);
-    put(terms, at + 7, 0);
+    let words = [kind, first, second, t, t, 0, 0, 0];
+    put_all(terms, TERM_WIDTH * (t as usize), &words);
 }
 
 pub fn put_class(terms: &mut [u32], t: u32, p: u32) {
@@ -38,24 +27,18 @@ pub fn put_class(terms: &mut [u32], t: u32, p: u32) {
 }
 
 pub fn put_edge(terms: &mut [u32], t: u32, p: u32, kind: u32, value: u32, stamp: u32) {
-    let at = TERM_WIDTH * (t as usize);
-    put(terms, at + 4, p);
-    put(terms, at + 5, kind);
-    put(terms, at + 6, value);
-    put(terms, at + 7, stamp);
+    let words = [p, kind, value, stamp];
+    put_all(terms, TERM_WIDTH * (t as usize) + 4, &words);
 }
 
 fn put_cell(cells: &mut [u32], e: u32, value: u32, other: u32, next: u32) {
-    let at = CELL_WIDTH * (e as usize);
-    put(cells, at, value);
-    put(cells, at + 1, other);
-    put(cells, at + 2, next);
+    let words = [value, other, next];
+    put_all(cells, CELL_WIDTH * (e as usize), &words);
 }
 
 pub fn put_reason(reasons: &mut [u32], i: usize, kind: u32, value: u32) {
-    let at = wrapping_add_usize(i, i);
-    put(reasons, at, kind);
-    put(reasons, wrapping_add_usize(at, 1), value);
+    let words = [kind, value];
+    put_all(reasons, wrapping_add_usize(i, i), &words);
 }
 
 fn put_variable(terms: &mut [u32], chars: &mut [u32], t: u32) {
