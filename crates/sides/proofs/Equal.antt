@@ -2,26 +2,26 @@
 use mathlib.Core.Path.{_≡_, refl, sym, ap, _∙_}
 use mathlib.Core.Bool.{Bool, true, false, not, _&&_, _||_}
 use mathlib.Core.List.{List, [], _∷_, _++_}
-use Prim.Native.Nat.{ℕ}
-use lib.ListN.{length}
+use Prim.Native.Nat.{ℕ, suc, _<_}
+use lib.ListN.{length, take}
 use native.Mathlib.Omega.{arith}
 use lib.Dec.{eqb}
-use borrow.Author.Tests.{not-false}
+use borrow.Author.Tests.{not-false, eq-eqb, ne-eqb}
 use Rattle.records.specs.Lists.{if_then_else_, all, concatMap, sameWord, and}
 use Rattle.records.specs.Store.{Store, Out, ok, stop, andThen, give, isConstant, isString, text, sameClass}
 use Rattle.records.specs.Make.{withReasons}
 use Rattle.records.specs.Meaning.{Words}
 use Rattle.records.specs.Working.Audited.{Audited}
-use Rattle.records.proofs.Lists.{both-left, both-right, decide, clash, all-every}
+use Rattle.records.proofs.Lists.{both-left, both-right, both-true, decide, clash, all-every}
 use Rattle.engine.specs.Explain.{explain}
 use Rattle.records.proofs.LaterStores.{Added}
 use Rattle.records.proofs.Outcomes.{ends-give, ends-map, ends-if, ends-then}
 use Rattle.records.proofs.Grown.{Strings, strings-later}
-use Rattle.sides.specs.Wordeq.{same, nfEqual, explainPair, nfExplain}
+use Rattle.sides.specs.Wordeq.{same, sameHeads, explainMatch, explainMatches, nfEqual, explainPair, nfExplain}
 use Rattle.sides.specs.Meaning.{ExplainsEqual}
 use Rattle.sides.proofs.StepOutcomes.{Ends}
 use Rattle.sides.proofs.Cited.{Cited, cited-none, cited-map, cited-then, explain-ends, Full, full-ok, full-if, full-then, explain-full}
-use Rattle.sides.proofs.Strip.{plainly, same-word, same-class}
+use Rattle.sides.proofs.Strip.{plainly, same-word, same-class, same-added, match-ends}
 
 -- a pair that needs no reason, or is not of one class
 abbrev skips : Store → ℕ → ℕ → Bool
@@ -50,6 +50,102 @@ pair-ends a b s d p q =
     ends-if (skips s a b) _ _
     (λ e. ends-give (cited-none s d (λ w rd h. decide (plainly s a b) (λ f. same-word s a b h f w rd) (λ f. clash (same-class s a b h f) (skipped s a b f e)))))
     (λ e. ends-map (λ s′ u m. cited-map (λ w k h. k) m) (explain-ends a b s d p q (of-class s a b e)))
+
+-- a pair that is the same is explained as a match of step 1
+pair-match : (a b : ℕ) (s : Store) → same s a b ≡ true → explainPair a b s ≡ explainMatch a b s
+unfolding same explainPair explainMatch
+pair-match a b s h = go (eqb a b) (isConstant s a && isConstant s b) (sameWord (text s a) (text s b)) (sameClass s a b) h
+  where
+    go : (x y z w : Bool) → x || (if y then z else w) ≡ true → (if x || (y && z) || not w then give tt else explain a b) s ≡ (if x || y then give tt else explain a b) s
+    go true y z w e = refl
+    go false true true w e = refl
+    go false true false w e = clash e refl
+    go false false z true e = refl
+    go false false z false e = clash e refl
+
+-- and so are all pairs of lists that are the same in s₀, in a store s in which the same is what it is there
+abbrev Matching : Store → List ℕ → List ℕ → Type 0
+Matching s₀ l r = (s : Store) → ((a b : ℕ) → same s a b ≡ same s₀ a b) → Audited s → Strings s l → Strings s r → explainMatches (sameHeads s₀ l r) s ≡ nfExplain l r s
+
+pub pairs-match : (s₀ : Store) (l r : List ℕ) → nfEqual s₀ l r ≡ true → Matching s₀ l r
+unfolding nfEqual nfExplain explainMatches sameHeads
+pairs-match s₀ [] [] h s f d hl hr = refl
+pairs-match s₀ [] (b ∷ r) h s f d hl hr = clash h refl
+pairs-match s₀ (a ∷ l) [] h s f d hl hr = clash h refl
+pairs-match s₀ (a ∷ l) (b ∷ r) h s f d (and p hl) (and q hr) =
+    ap (λ (x : Bool). explainMatches (elim x [ true ↦ (a, b) ∷ sameHeads s₀ l r | false ↦ [] ]) s) (both-left (same s₀ a b) _ h)
+    ∙ each (pairs-match s₀ l r (both-right (same s₀ a b) _ h)) (explainMatch a b s) refl ∙ ap (andThen (λ (u : Unit {0}). nfExplain l r)) (sym (pair-match a b s alike))
+  where
+    alike : same s a b ≡ true
+    alike = f a b ∙ both-left (same s₀ a b) _ h
+
+    each : Matching s₀ l r → (o : Out (Unit {0})) → explainMatch a b s ≡ o → andThen (λ (u : Unit {0}). explainMatches (sameHeads s₀ l r)) o ≡ andThen (λ (u : Unit {0}). nfExplain l r) o
+    each ih (ok s₁ u) i =
+        let c = match-ends a b s d p q alike .given s₁ u i in
+        ih s₁ (λ x y. same-added (c .added) x y ∙ f x y) (c .audited) (strings-later (c .grown) hl) (strings-later (c .grown) hr)
+    each ih (stop n) i = refl
+
+-- LISTS THAT ARE THE SAME THROUGHOUT
+
+module _ (s : Store) where
+  pub equal-lengths : (l r : List ℕ) → nfEqual s l r ≡ true → length l ≡ length r
+  unfolding nfEqual
+  equal-lengths [] [] h = refl
+  equal-lengths [] (b ∷ r) h = clash h refl
+  equal-lengths (a ∷ l) [] h = clash h refl
+  equal-lengths (a ∷ l) (b ∷ r) h = ap suc (equal-lengths l r (both-right (same s a b) _ h))
+
+  pub equal-heads : (l r : List ℕ) → nfEqual s l r ≡ true → length (sameHeads s l r) ≡ length l
+  unfolding nfEqual sameHeads
+  equal-heads [] r h = refl
+  equal-heads (a ∷ l) [] h = clash h refl
+  equal-heads (a ∷ l) (b ∷ r) h =
+      ap (λ (x : Bool). length {A = ℕ × ℕ} (elim x [ true ↦ (a, b) ∷ sameHeads s l r | false ↦ [] ])) (both-left (same s a b) _ h)
+      ∙ ap suc (equal-heads l r (both-right (same s a b) _ h))
+
+  heads-fewer : (l r : List ℕ) → length l ≡ length r → nfEqual s l r ≡ false → length (sameHeads s l r) < length l
+  unfolding nfEqual sameHeads
+  heads-fewer [] [] e h = clash refl h
+  heads-fewer [] (b ∷ r) e h = absurd (omega arith)
+  heads-fewer (a ∷ l) [] e h = absurd (omega arith)
+  heads-fewer (a ∷ l) (b ∷ r) e h = go (same s a b) h (heads-fewer l r (omega arith))
+    where
+      go : (x : Bool) → (x && nfEqual s l r) ≡ false → (nfEqual s l r ≡ false → length (sameHeads s l r) < length l) → length {A = ℕ × ℕ} (elim x [ true ↦ (a, b) ∷ sameHeads s l r | false ↦ [] ]) < length (a ∷ l)
+      go true h ih = let k = ih h in omega arith
+      go false h ih = omega arith
+
+  -- lists of one length, by their same heads counted
+  pub heads-all : (l r : List ℕ) → length l ≡ length r → eqb (length (sameHeads s l r)) (length l) ≡ nfEqual s l r
+  heads-all l r e =
+      decide (nfEqual s l r) (λ h. eq-eqb _ _ (equal-heads l r h) ∙ sym h)
+      (λ h. ne-eqb (length (sameHeads s l r)) (length l) (fewer (heads-fewer l r e h)) ∙ sym h)
+    where
+      fewer : {m n : ℕ} → m < n → m ≡ n → ⊥
+      fewer p q = absurd (omega arith)
+
+  -- the same heads alone
+  pub heads-alone : (l r : List ℕ) → sameHeads s (take (length (sameHeads s l r)) l) (take (length (sameHeads s l r)) r) ≡ sameHeads s l r
+  unfolding sameHeads
+  heads-alone [] r = refl
+  heads-alone (a ∷ l) [] = refl
+  heads-alone (a ∷ l) (b ∷ r) = go (same s a b) refl (heads-alone l r)
+    where
+      go : (x : Bool) → same s a b ≡ x → sameHeads s (take (length (sameHeads s l r)) l) (take (length (sameHeads s l r)) r) ≡ sameHeads s l r
+          → sameHeads s (take (length {A = ℕ × ℕ} (elim x [ true ↦ (a, b) ∷ sameHeads s l r | false ↦ [] ])) (a ∷ l)) (take (length {A = ℕ × ℕ} (elim x [ true ↦ (a, b) ∷ sameHeads s l r | false ↦ [] ])) (b ∷ r))
+          ≡ elim x [ true ↦ (a, b) ∷ sameHeads s l r | false ↦ [] ]
+      go true e ih = ap (λ (x : Bool). elim x [ true ↦ (a, b) ∷ sameHeads s (take (length (sameHeads s l r)) l) (take (length (sameHeads s l r)) r) | false ↦ [] ]) e ∙ ap (λ (m : List (ℕ × ℕ)). (a, b) ∷ m) ih
+      go false e ih = refl
+
+  pub alone-equal : (l r : List ℕ) → nfEqual s (take (length (sameHeads s l r)) l) (take (length (sameHeads s l r)) r) ≡ true
+  unfolding sameHeads nfEqual
+  alone-equal [] r = refl
+  alone-equal (a ∷ l) [] = refl
+  alone-equal (a ∷ l) (b ∷ r) = go (same s a b) refl (alone-equal l r)
+    where
+      go : (x : Bool) → same s a b ≡ x → nfEqual s (take (length (sameHeads s l r)) l) (take (length (sameHeads s l r)) r) ≡ true
+          → nfEqual s (take (length {A = ℕ × ℕ} (elim x [ true ↦ (a, b) ∷ sameHeads s l r | false ↦ [] ])) (a ∷ l)) (take (length {A = ℕ × ℕ} (elim x [ true ↦ (a, b) ∷ sameHeads s l r | false ↦ [] ])) (b ∷ r)) ≡ true
+      go true e ih = both-true _ _ e ih
+      go false e ih = refl
 
 -- more reasons, the same test
 equal-beside : (s : Store) (rs : List (ℕ × ℕ)) (l r : List ℕ) → nfEqual (withReasons s rs) l r ≡ nfEqual s l r

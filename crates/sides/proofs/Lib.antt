@@ -2,6 +2,7 @@ pub mod Words
 pub mod StepOutcomes
 pub mod Cited
 pub mod Good
+pub mod Ways
 pub mod Strip
 mod OnePass
 pub mod Occurs

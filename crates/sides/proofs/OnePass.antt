@@ -10,10 +10,9 @@ use Rattle.records.specs.Lists.{if_then_else_, sameWord, and}
 use Rattle.records.specs.Store.{Store, Out, ok, stop, Work, andThen, _>>=_, _>>_, give, store, isConstant, text, sameClass}
 use Rattle.records.specs.Working.Audited.{Audited}
 use Rattle.records.proofs.Grown.{Strings, strings-later}
-use Rattle.records.proofs.LaterStores.{Added}
 use Rattle.engine.specs.Explain.{explain}
 use Rattle.sides.specs.Wordeq.{same, sameHeads, sameTails, rest, explainMatch, explainMatches, strip}
-use Rattle.sides.proofs.Strip.{match-ends, matches-append, matches-end, off-heads, every-back}
+use Rattle.sides.proofs.Strip.{same-added, match-ends, matches-append, matches-end, off-heads, every-back}
 
 -- one number or two constants of equal characters: on; one class: explained, and on; else this is what is left
 unfoldable pub passHeads : List ℕ → List ℕ → Work (List ℕ × List ℕ)
@@ -51,10 +50,6 @@ module _ (a b : ℕ) (l r : List ℕ) (s : Store) where
       go false true false w m i = refl
       go false false z true m i = sym i
       go false false z false m i = refl
-
-same-added : {s s′ : Store} → Added s s′ → (a b : ℕ) → same s′ a b ≡ same s a b
-unfolding same
-same-added x a b = ap (λ (s : Store). same s a b) (x .is)
 
 -- what is left of both lists after n heads, whose explaining ends in o
 abbrev without : ℕ → List ℕ → List ℕ → Out (Unit {0}) → Out (List ℕ × List ℕ)

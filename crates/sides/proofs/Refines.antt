@@ -6,7 +6,6 @@ pub mod Stripping
 pub mod SideLetters
 pub mod SideWalk
 pub mod SideTexts
-pub mod Listed
 pub mod TileWalk
 pub mod SideUnequal
 pub mod ExplainingEach

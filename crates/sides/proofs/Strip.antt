@@ -1,7 +1,7 @@
 -- Step 1: what is stripped from one side has the words of what is stripped from the other, and the heads left are two terms.
 use mathlib.Core.Path.{_≡_, refl, sym, ap, subst, _∙_}
 use mathlib.Core.Bool.{Bool, true, false, _&&_, _||_}
-use mathlib.Core.List.{List, [], _∷_, _++_, reverse, reverse-cons}
+use mathlib.Core.List.{List, [], _∷_, _++_, reverse}
 use Prim.Native.Nat.{ℕ}
 use lib.ListN.{length, take, drop, take-append-drop}
 use lib.Dec.{eqb}
@@ -20,6 +20,7 @@ use Rattle.sides.specs.Wordeq.{same, explainMatch, needsReason, strip, s
 use Rattle.records.proofs.LaterStores.{Added}
 use Rattle.sides.proofs.Words
 use Rattle.sides.proofs.Words.{Alike, alike-reverse, cancel-front, cancel-back, unturn}
+use Rattle.sides.proofs.Ways.{every-reverse}
 use Rattle.sides.proofs.StepOutcomes.{Ends}
 use Rattle.sides.proofs.Cited.{Cited, cited-none, cited-then, explain-ends, Full, full-ok, full-if, full-then, explain-full}
 
@@ -59,6 +60,11 @@ module _ (s : Store) (a b : ℕ) where
       go true q = refl
       go false q = clash q refl
 
+-- what is the same stays so when reasons are added
+pub same-added : {s s′ : Store} → Added s s′ → (a b : ℕ) → same s′ a b ≡ same s a b
+unfolding same
+same-added x a b = ap (λ (s : Store). same s a b) (x .is)
+
 pub match-ends : (a b : ℕ) (s : Store) → Audited s → isString s a ≡ true → isString s b ≡ true → same s a b ≡ true → Ends (λ s′ u. Cited (λ w. w a ≡ w b) s s′) (explainMatch a b s)
 unfolding explainMatch
 match-ends a b s d p q e =
@@ -72,7 +78,7 @@ pub record Match (s : Store) (p : ℕ × ℕ) : Type 0 where
   pub other : isString s (p .1) ≡ true
   pub alike : same s (p .0) (p .1) ≡ true
 
--- what is the same stays so when reasons are added
+-- so does a match
 match-later : {s s′ : Store} {p : ℕ × ℕ} → Added s s′ → Match s p → Match s′ p
 unfolding same
 match-later {s} {p = p} a m = subst (λ (x : Store). Match x p) (sym (a .is)) (beside (s .reasons ++ a .more))
@@ -176,10 +182,6 @@ pub record Stripped (l r : List ℕ) (s s′ : Store) (v : List ℕ × List ℕ)
   pub left : Strings s′ (v .0)
   pub right : Strings s′ (v .1)
   pub apart : Apart (v .0) (v .1)
-
-every-reverse : {A : Type 0} {P : A → Type 0} {l : List A} → Every P l → Every P (reverse l)
-every-reverse none-left = none-left
-every-reverse (and {a} {l} p k) = rw (reverse-cons a l) (every-append (every-reverse k) (and p none-left))
 
 -- a list without its first n, turned round
 pub every-back : {A : Type 0} {P : A → Type 0} (n : ℕ) (l : List A) → Every P l → Every P (reverse (drop n l))

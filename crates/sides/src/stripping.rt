@@ -2,8 +2,8 @@
 ghost use mathlib.Core.Path.{_≡_};
 ghost use mathlib.Core.Bool.{true, _&&_};
 ghost use mathlib.Core.List.{[]};
-ghost use Prim.Native.Nat.{min, _≤_};
-ghost use lib.ListN.{length};
+ghost use Prim.Native.Nat.{min, _<_};
+ghost use lib.ListN.{length, getD};
 ghost use lib.Dec.{eqb};
 ghost use Rattle.records.specs.Lists.{all, sameWord};
 ghost use Rattle.records.specs.Store.{termIn, isConstant, isString, text, sameClass};
@@ -11,8 +11,8 @@ ghost use Rattle.records.specs.View.{storeOf, termsView, lends, across, Between
 ghost use Rattle.records.specs.Working.Audited.{Ready};
 ghost use Rattle.records.specs.Calls.{added};
 ghost use Rattle.records.specs.Working.Doing.{Does};
-ghost use Rattle.sides.specs.Wordeq.{same, sameHeads, sameTails, matches, explainMatch, explainMatches, needsReason};
-ghost use Rattle.sides.specs.Working.Stripping.{Readable, Pair, Finds, Strips, Needs, Asked};
+ghost use Rattle.sides.specs.Wordeq.{same, sameHeads, matches, explainMatches, needsReason, nfEqual, explainPair, nfExplain};
+ghost use Rattle.sides.specs.Working.Stripping.{Readable, Pair, way, Finds, Strips, Needs, Asked};
 use crate::Rest;
 use crate::Stripped;
 use records::Added;
@@ -69,30 +69,28 @@ pub fn same_unchecked(terms: &[u32], chars: &[u32], c: State, a: u32, b: u32) ->
     same_class_unchecked(terms, chars, c, a, b)
 }
 
-// The reasons why two same string terms are equal: none for one number or two constants.
-pub(crate) fn explain_match_unchecked(
-    terms: &[u32],
-    cells: &[u32],
-    chars: &[u32],
-    reasons: &mut [u32],
-    keys: &[u32],
-    c: State,
-    a: u32,
-    b: u32,
-    places: &mut [u32],
-) -> Added
-    requires { ⌜ Ready (lends terms cells chars reasons keys) c ⌝ }
-    requires { ⌜ Pair (readIn (now terms) (now chars) c) a b ⌝ }
-    requires { ⌜ same (readIn (now terms) (now chars) c) a b ≡ true ⌝ }
-    ensures { λ r. ⌜ Does (explainMatch a b) (across terms cells chars reasons keys) c (added r) ⌝ }
+// Whether they are two constants of equal characters.
+fn is_alike(terms: &[u32], chars: &[u32], c: State, a: u32, b: u32) -> bool
+    requires { ⌜ Readable (now terms) (now chars) c ⌝ }
+    ensures { λ r. do
+      let s = readIn (now (terms .entry)) (now (chars .entry)) c
+      ⌜ r ≡ (isConstant s a && isConstant s b && sameWord (text s a) (text s b)) ⌝ }
 {
-    if a == b {
-        return Added::Counts(c);
+    if !both_constant(terms, c.terms, a, b) {
+        return false;
     }
-    if both_constant(terms, c.terms, a, b) {
-        return Added::Counts(c);
+    same_text(terms, chars, c, a, b)
+}
+
+// The atom at place i, from the list's end on where `tail` says so.
+pub fn atom_unchecked(l: &[u32], i: usize, tail: bool) -> u32
+    requires { ⌜ i < length (now l) ⌝ }
+    ensures { λ r. ⌜ r ≡ getD (way tail (now (l .entry))) i 0 ⌝ }
+{
+    if tail {
+        return l[l.len() - 1 - i];
     }
-    engine::explain_unchecked(terms, cells, chars, reasons, keys, c, a, b, places)
+    l[i]
 }
 
 fn shorter(a: usize, b: usize) -> usize
@@ -104,44 +102,25 @@ fn shorter(a: usize, b: usize) -> usize
     b
 }
 
-// How many heads are the same.
-fn count_heads(terms: &[u32], chars: &[u32], c: State, lhs: &[u32], rhs: &[u32]) -> usize
-    requires { ⌜ Readable (now terms) (now chars) c ⌝ }
-    requires { ⌜ all (isString (readIn (now terms) (now chars) c)) (now lhs) ≡ true ⌝ }
-    requires { ⌜ all (isString (readIn (now terms) (now chars) c)) (now rhs) ≡ true ⌝ }
-    ensures { λ n. ⌜ n ≡ length (sameHeads (readIn (now (terms .entry)) (now (chars .entry)) c) (now (lhs .entry)) (now (rhs .entry))) ⌝ }
-{
-    let n = shorter(lhs.len(), rhs.len());
-    let mut i: usize = 0;
-    while i < n {
-        if !same_unchecked(terms, chars, c, lhs[i], rhs[i]) {
-            return i;
-        }
-        i += 1;
-    }
-    i
-}
-
-// How many tails are the same, from the ends down to place `from`.
-fn count_tails(
+// How many heads of two lists are the same, or how many tails, from the ends on.
+pub(crate) fn count_same(
     terms: &[u32],
     chars: &[u32],
     c: State,
     lhs: &[u32],
     rhs: &[u32],
-    from: usize,
+    tail: bool,
 ) -> usize
     requires { ⌜ Readable (now terms) (now chars) c ⌝ }
     requires { ⌜ all (isString (readIn (now terms) (now chars) c)) (now lhs) ≡ true ⌝ }
     requires { ⌜ all (isString (readIn (now terms) (now chars) c)) (now rhs) ≡ true ⌝ }
-    requires { ⌜ from ≤ min (length (now lhs)) (length (now rhs)) ⌝ }
-    ensures { λ n. ⌜ n ≡ length (sameTails (readIn (now (terms .entry)) (now (chars .entry)) c) from (now (lhs .entry)) (now (rhs .entry))) ⌝ }
+    ensures { λ n. ⌜ n ≡ length (sameHeads (readIn (now (terms .entry)) (now (chars .entry)) c) (way tail (now (lhs .entry))) (way tail (now (rhs .entry)))) ⌝ }
 {
     let n = shorter(lhs.len(), rhs.len());
     let mut i: usize = 0;
-    while i < n - from {
-        let x = lhs[lhs.len() - 1 - i];
-        let y = rhs[rhs.len() - 1 - i];
+    while i < n {
+        let x = atom_unchecked(lhs, i, tail);
+        let y = atom_unchecked(rhs, i, tail);
         if !same_unchecked(terms, chars, c, x, y) {
             return i;
         }
@@ -157,8 +136,10 @@ pub fn find_rest_unchecked(terms: &[u32], chars: &[u32], c: State, lhs: &[u32], 
     requires { ⌜ all (isString (readIn (now terms) (now chars) c)) (now rhs) ≡ true ⌝ }
     ensures { λ x. ⌜ Finds (readIn (now (terms .entry)) (now (chars .entry)) c) (now (lhs .entry)) (now (rhs .entry)) x ⌝ }
 {
-    let from = count_heads(terms, chars, c, lhs, rhs);
-    let n = count_tails(terms, chars, c, lhs, rhs, from);
+    let from = count_same(terms, chars, c, lhs, rhs, false);
+    let l = &lhs[from..lhs.len()];
+    let r = &rhs[from..rhs.len()];
+    let n = count_same(terms, chars, c, l, r, true);
     Rest {
         from: from,
         lhs: lhs.len() - n,
@@ -166,47 +147,35 @@ pub fn find_rest_unchecked(terms: &[u32], chars: &[u32], c: State, lhs: &[u32], 
     }
 }
 
-// The reasons why the first n heads, which are the same, are equal.
-fn explain_heads(
+// The reasons why two string terms of one class are equal: none for one number or for constants of equal characters.
+fn explain_pair(
     terms: &[u32],
     cells: &[u32],
     chars: &[u32],
     reasons: &mut [u32],
     keys: &[u32],
     c: State,
-    lhs: &[u32],
-    rhs: &[u32],
-    n: usize,
+    a: u32,
+    b: u32,
     places: &mut [u32],
 ) -> Added
-    requires { ⌜ Ready (lends terms cells chars reasons keys) c ⌝ }
-    requires { ⌜ all (isString (readIn (now terms) (now chars) c)) (now lhs) ≡ true ⌝ }
-    requires { ⌜ all (isString (readIn (now terms) (now chars) c)) (now rhs) ≡ true ⌝ }
-    requires { ⌜ n ≡ length (sameHeads (readIn (now terms) (now chars) c) (now lhs) (now rhs)) ⌝ }
-    ensures { λ o. do
-      let s = readIn (now (terms .entry)) (now (chars .entry)) c
-      ⌜ Does (explainMatches (sameHeads s (now (lhs .entry)) (now (rhs .entry)))) (across terms cells chars reasons keys) c (added o) ⌝ }
+    requires { ⌜ Ready (lends terms cells chars reasons keys) c ⌝ ∗ ⌜ Pair (readIn (now terms) (now chars) c) a b ⌝ }
+    ensures { λ r. ⌜ Does (explainPair a b) (across terms cells chars reasons keys) c (added r) ⌝ }
 {
-    let mut d = c;
-    let mut i: usize = 0;
-    while i < n {
-        let a = lhs[i];
-        let b = rhs[i];
-        match explain_match_unchecked(terms, cells, chars, reasons, keys, d, a, b, places) {
-            Added::Counts(e) => {
-                d = e;
-            }
-            Added::Refused(k) => {
-                return Added::Refused(k);
-            }
-        }
-        i += 1;
+    if a == b {
+        return Added::Counts(c);
     }
-    Added::Counts(d)
+    if is_alike(terms, chars, c, a, b) {
+        return Added::Counts(c);
+    }
+    if !same_class_unchecked(terms, chars, c, a, b) {
+        return Added::Counts(c);
+    }
+    engine::explain_unchecked(terms, cells, chars, reasons, keys, c, a, b, places)
 }
 
-// The reasons why the last n tails, which are the same, are equal, from the ends on.
-fn explain_tails(
+// The reasons why two lists of equal length are equal, pair by pair, from their fronts or from their ends on.
+pub(crate) fn explain_pairs(
     terms: &[u32],
     cells: &[u32],
     chars: &[u32],
@@ -215,24 +184,21 @@ fn explain_tails(
     c: State,
     lhs: &[u32],
     rhs: &[u32],
-    from: usize,
-    n: usize,
+    tail: bool,
     places: &mut [u32],
 ) -> Added
     requires { ⌜ Ready (lends terms cells chars reasons keys) c ⌝ }
     requires { ⌜ all (isString (readIn (now terms) (now chars) c)) (now lhs) ≡ true ⌝ }
     requires { ⌜ all (isString (readIn (now terms) (now chars) c)) (now rhs) ≡ true ⌝ }
-    requires { ⌜ n ≡ length (sameTails (readIn (now terms) (now chars) c) from (now lhs) (now rhs)) ⌝ }
-    ensures { λ o. do
-      let s = readIn (now (terms .entry)) (now (chars .entry)) c
-      ⌜ Does (explainMatches (sameTails s from (now (lhs .entry)) (now (rhs .entry)))) (across terms cells chars reasons keys) c (added o) ⌝ }
+    requires { ⌜ length (now lhs) ≡ length (now rhs) ⌝ }
+    ensures { λ r. ⌜ Does (nfExplain (way tail (now (lhs .entry))) (way tail (now (rhs .entry)))) (across terms cells chars reasons keys) c (added r) ⌝ }
 {
     let mut d = c;
     let mut i: usize = 0;
-    while i < n {
-        let a = lhs[lhs.len() - 1 - i];
-        let b = rhs[rhs.len() - 1 - i];
-        match explain_match_unchecked(terms, cells, chars, reasons, keys, d, a, b, places) {
+    while i < lhs.len() {
+        let a = atom_unchecked(lhs, i, tail);
+        let b = atom_unchecked(rhs, i, tail);
+        match explain_pair(terms, cells, chars, reasons, keys, d, a, b, places) {
             Added::Counts(e) => {
                 d = e;
             }
@@ -267,33 +233,15 @@ fn explain_stripped(
       ⌜ Does (explainMatches (matches s (now (lhs .entry)) (now (rhs .entry)))) (across terms cells chars reasons keys) c (added o) ⌝ }
 {
     let from = rest.from;
-    let n = lhs.len() - rest.lhs;
-    match explain_heads(
-        terms,
-        cells,
-        chars,
-        reasons,
-        keys,
-        c,
-        lhs,
-        rhs,
-        from,
-        places,
-    ) {
+    let l = &lhs[0..from];
+    let r = &rhs[0..from];
+    match explain_pairs(terms, cells, chars, reasons, keys, c, l, r, false, places) {
         Added::Counts(d) => {
-            explain_tails(
-                terms,
-                cells,
-                chars,
-                reasons,
-                keys,
-                d,
-                lhs,
-                rhs,
-                from,
-                n,
-                places,
-            )
+            let x = rest.lhs;
+            let y = rest.rhs;
+            let l = &lhs[x..lhs.len()];
+            let r = &rhs[y..rhs.len()];
+            explain_pairs(terms, cells, chars, reasons, keys, d, l, r, true, places)
         }
         Added::Refused(k) => Added::Refused(k),
     }
@@ -325,8 +273,8 @@ fn needs_reason(
     engine::is_reasoned_unchecked(terms, cells, chars, reasons, keys, c, a, b, places)
 }
 
-// Whether one of the first n heads, which are the same, needs a reason.
-fn heads_need(
+// Whether a pair of two lists that are atom by atom the same needs a reason, asked from their fronts or from their ends on.
+fn pairs_need(
     terms: &[u32],
     cells: &[u32],
     chars: &[u32],
@@ -335,52 +283,20 @@ fn heads_need(
     c: State,
     lhs: &[u32],
     rhs: &[u32],
-    n: usize,
+    tail: bool,
     places: &mut [u32],
 ) -> bool
     requires { ⌜ Ready (lends terms cells chars reasons keys) c ⌝ }
     requires { ⌜ all (isString (readIn (now terms) (now chars) c)) (now lhs) ≡ true ⌝ }
     requires { ⌜ all (isString (readIn (now terms) (now chars) c)) (now rhs) ≡ true ⌝ }
-    requires { ⌜ n ≡ length (sameHeads (readIn (now terms) (now chars) c) (now lhs) (now rhs)) ⌝ }
-    ensures { λ r. ⌜ Needs (across terms cells chars reasons keys .entry) c (sameHeads (readIn (now (terms .entry)) (now (chars .entry)) c) (now (lhs .entry)) (now (rhs .entry))) r ⌝ }
+    requires { ⌜ nfEqual (readIn (now terms) (now chars) c) (way tail (now lhs)) (way tail (now rhs)) ≡ true ⌝ }
+    ensures { λ r. ⌜ Needs (across terms cells chars reasons keys .entry) c (sameHeads (readIn (now (terms .entry)) (now (chars .entry)) c) (way tail (now (lhs .entry))) (way tail (now (rhs .entry)))) r ⌝ }
 {
     let mut i: usize = 0;
-    while i < n {
-        let a = lhs[i];
-        let b = rhs[i];
-        if needs_reason(terms, cells, chars, reasons, keys, c, a, b, places) {
-            return true;
-        }
-        i += 1;
-    }
-    false
-}
-
-// Whether one of the last n tails, which are the same, needs a reason.
-fn tails_need(
-    terms: &[u32],
-    cells: &[u32],
-    chars: &[u32],
-    reasons: &[u32],
-    keys: &[u32],
-    c: State,
-    lhs: &[u32],
-    rhs: &[u32],
-    from: usize,
-    n: usize,
-    places: &mut [u32],
-) -> bool
-    requires { ⌜ Ready (lends terms cells chars reasons keys) c ⌝ }
-    requires { ⌜ all (isString (readIn (now terms) (now chars) c)) (now lhs) ≡ true ⌝ }
-    requires { ⌜ all (isString (readIn (now terms) (now chars) c)) (now rhs) ≡ true ⌝ }
-    requires { ⌜ n ≡ length (sameTails (readIn (now terms) (now chars) c) from (now lhs) (now rhs)) ⌝ }
-    ensures { λ r. ⌜ Needs (across terms cells chars reasons keys .entry) c (sameTails (readIn (now (terms .entry)) (now (chars .entry)) c) from (now (lhs .entry)) (now (rhs .entry))) r ⌝ }
-{
-    let mut i: usize = 0;
-    while i < n {
-        let a = lhs[lhs.len() - 1 - i];
-        let b = rhs[rhs.len() - 1 - i];
-        if needs_reason(terms, cells, chars, reasons, keys, c, a, b, places) {
+    while i < lhs.len() {
+        let u = atom_unchecked(lhs, i, tail);
+        let v = atom_unchecked(rhs, i, tail);
+        if needs_reason(terms, cells, chars, reasons, keys, c, u, v, places) {
             return true;
         }
         i += 1;
@@ -413,34 +329,16 @@ fn matches_need(
             return false;
         }
     }
-    if heads_need(
-        terms,
-        cells,
-        chars,
-        reasons,
-        keys,
-        c,
-        lhs,
-        rhs,
-        from,
-        places,
-    ) {
+    let l = &lhs[0..from];
+    let r = &rhs[0..from];
+    if pairs_need(terms, cells, chars, reasons, keys, c, l, r, false, places) {
         return true;
     }
-    let n = lhs.len() - rest.lhs;
-    tails_need(
-        terms,
-        cells,
-        chars,
-        reasons,
-        keys,
-        c,
-        lhs,
-        rhs,
-        from,
-        n,
-        places,
-    )
+    let x = rest.lhs;
+    let y = rest.rhs;
+    let l = &lhs[x..lhs.len()];
+    let r = &rhs[y..rhs.len()];
+    pairs_need(terms, cells, chars, reasons, keys, c, l, r, true, places)
 }
 
 // Each match outside `rest` explained, over one table of places for all of them.

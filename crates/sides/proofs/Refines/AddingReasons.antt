@@ -12,6 +12,7 @@ use Rattle.records.proofs.Counts.{agree-below}
 use Rattle.records.proofs.LaterStores.{Added, added-none, added-then, later-added, later-higher}
 use Rattle.sides.specs.Wordeq.{same}
 use Rattle.sides.specs.Working.Stripping.{Pair}
+use Rattle.sides.proofs.Strip.{same-added}
 
 module _ (t e h ks : List ℕ) where
   abbrev at : List ℕ → Lent
@@ -45,6 +46,6 @@ module _ (t e h ks : List ℕ) where
         string : (a : ℕ) → isString (readIn t h c) a ≡ true → isString (readIn t h d) a ≡ true
         string a i = subst (λ (x : List Term). within 3 (termIn x a .kind) ≡ true) (sym terms-kept) i
 
-    pub going-same : (a b : ℕ) → same (readIn t h d) a b ≡ same (readIn t h c) a b
+    pub going-same : (a b : ℕ) → same (storeOf (at rs₁) d) a b ≡ same (readIn t h c) a b
     unfolding same
-    going-same a b = ap (λ (x : Store). same x a b) (g .added .is)
+    going-same = same-added (g .added)

@@ -1,34 +1,35 @@
--- The loops of step 1: same heads and tails counted, and the matches explained one after the other.
+-- The loops of step 1: same heads and tails counted, and whether a match needs a reason; and that the pairs explained are the matches.
 use mathlib.Core.Path.{_≡_, refl, sym, ap, _∙_}
 use mathlib.Core.Bool.{Bool, true, false, not, _&&_, _||_}
-use mathlib.Core.List.{List, [], _∷_, _++_, append-assoc, reverse, reverse-append, reverse-cons, reverse-reverse}
+use mathlib.Core.List.{List, [], _∷_, _++_, reverse}
 use Prim.Native.Nat.{ℕ, zero, suc, _+_, _-_, _≤_, _<_, min}
 use native.Mathlib.Numerals.{add-one}
 use native.Mathlib.Omega.{arith}
-use lib.ListN.{length, take, drop, getD, length-drop, length-reverse, take-append-drop, drop-of-length-le}
-use lib.Seq.{take-all, drop-cons, drop-at, getD-at, getD-drop, split-at}
+use lib.ListN.{length, take, drop, getD, length-drop, length-reverse, drop-of-length-le}
+use lib.Seq.{take-all, drop-cons, drop-drop}
+use lib.Dec.{eqb}
 use borrow.Author.Tests.{not-true, not-false, eq-eqb, ne-eqb}
 use Rattle.records.specs.declared.State.{State}
 use Rattle.records.specs.declared.Added.the-variants as adding
 use Rattle.records.specs.Lists.{all, any}
-use Rattle.records.specs.Store.{Store, Out, ok, Work, andThen, give, isConstant, isString}
+use Rattle.records.specs.Store.{Store, Out, ok, andThen, give, isConstant, isString}
 use Rattle.records.specs.View.{Lent, lent, storeOf, readIn}
 use Rattle.records.specs.Working.Audited.{Ready}
 use Rattle.records.specs.Calls.{added}
 use Rattle.records.specs.Working.Doing.{Working}
-use Rattle.records.proofs.Lists.{both-true, all-every, every-at, any-append, or-left, clash, drop-head}
-use Rattle.records.proofs.Doing.{working-same, working-stopped, working-at, working-is, working-answer}
-use Rattle.records.proofs.Grown.{Strings}
+use Rattle.records.proofs.Lists.{both-true, decide, all-every, every-at, all-take, all-drop, any-append, or-left, clash, drop-head}
+use Rattle.records.proofs.Doing.{working-stopped, working-at, working-is, working-answer}
 use Rattle.records.proofs.Works.{one-store}
 use Rattle.records.proofs.Sequence.{added-at, added-ready}
-use Rattle.engine.specs.Explain.{explain, explainArguments, isReasoned}
+use Rattle.engine.specs.Explain.{explainArguments, isReasoned}
 use Rattle.sides.specs.declared.Rest.{Rest}
 use Rattle.sides.specs.declared.Stripped.the-variants.{Parts, Refused}
-use Rattle.sides.specs.Wordeq.{same, sameHeads, sameTails, matches, inner, rest, explainMatch, explainMatches, needsReason, isBare, strip}
-use Rattle.sides.specs.Working.Stripping.{Pair, part, Finds, Strips, Needs, Asked}
-use Rattle.sides.proofs.Strip.{plainly, same-class, match-ends, matches-append, matches-end, off-heads, every-back, Match}
-use Rattle.sides.proofs.Refines.AddingReasons.{Going, going-pair, going-same, kept-down}
-use Rattle.sides.proofs.Refines.Turning.{Turning, turning-none, turning-end, turning-refused, turning-on}
+use Rattle.sides.specs.Wordeq.{same, sameHeads, sameTails, matches, inner, rest, explainMatches, needsReason, isBare, strip, nfEqual, nfExplain}
+use Rattle.sides.specs.Working.Stripping.{Pair, way, part, Finds, Strips, Needs, Asked}
+use Rattle.sides.proofs.Ways.{way-front, way-back, way-length, way-twice, way-every, way-all, way-take, way-drop}
+use Rattle.sides.proofs.Strip.{plainly, same-class, matches-append, off-heads, Match}
+use Rattle.sides.proofs.Equal.{pairs-match, equal-lengths, equal-heads, heads-all, heads-alone, alone-equal, explain-equal-gives}
+use Rattle.sides.proofs.Refines.AddingReasons.{Going, going-none, going-strings, going-same, kept-down}
 use Rattle.records.specs.declared.Added.{Added as Answered}
 
 -- what is the same is read in the terms and the characters
@@ -36,93 +37,59 @@ pub same-read : (t e h ks rs : List ℕ) (c : State) (a b : ℕ) → same (store
 unfolding same
 same-read t e h ks rs c a b = refl
 
--- ONE MATCH
+-- ONE MATCH THAT NEEDS A REASON OR NONE
 
 module _ (t e h r ks : List ℕ) (c : State) (a b : ℕ) where
-  abbrev m : Lent
-  m = lent t e h r ks
-
   abbrev s : Store
-  s = storeOf m c
+  s = storeOf (lent t e h r ks) c
 
-  pub match-number : Ready m c → a ≡ b → Working (explainMatch a b) m m c (added (adding.Counts c) m)
-  unfolding explainMatch
-  match-number y i = working-same y (rw (eq-eqb a b i))
+  pub need-number : a ≡ b → false ≡ needsReason s (a, b)
+  unfolding needsReason
+  need-number i = rw (eq-eqb a b i)
 
   module _ (d : a ≡ b → ⊥) (x : Bool) (i : x ≡ (isConstant s a && isConstant s b)) where
-    pub match-constants : Ready m c → x ≡ true → Working (explainMatch a b) m m c (added (adding.Counts c) m)
-    unfolding explainMatch
-    match-constants y j = working-same y (rw (ne-eqb a b d, sym i ∙ j))
+    pub need-constants : x ≡ true → false ≡ needsReason s (a, b)
+    unfolding needsReason
+    need-constants j = rw (ne-eqb a b d, sym i ∙ j)
 
     module _ (j : x ≡ false) where
       apart : plainly s a b ≡ false
       apart = rw (ne-eqb a b d, sym i ∙ j)
 
-      pub match-arguments : Pair (readIn t h c) a b → same (readIn t h c) a b ≡ true → explainArguments a b s ≡ true
-      match-arguments p k = both-true _ _ (both-true _ _ (p .one) (p .other)) (same-class s a b (same-read t e h ks r c a b ∙ k) apart)
+      pub need-arguments : Pair (readIn t h c) a b → same (readIn t h c) a b ≡ true → explainArguments a b s ≡ true
+      need-arguments p k = both-true _ _ (both-true _ _ (p .one) (p .other)) (same-class s a b (same-read t e h ks r c a b ∙ k) apart)
 
-      pub match-explained : {m′ : Lent} {o : Out (Unit {0})} → Working (explain a b) m m′ c o → Working (explainMatch a b) m m′ c o
-      unfolding explainMatch
-      match-explained w = working-is (rw (ne-eqb a b d, sym i ∙ j)) w
-
--- ONE MATCH THAT NEEDS A REASON OR NONE
-
-module _ (m : Lent) (c : State) (a b : ℕ) where
-  pub need-number : a ≡ b → false ≡ needsReason (storeOf m c) (a, b)
-  unfolding needsReason
-  need-number i = rw (eq-eqb a b i)
-
-  module _ (d : a ≡ b → ⊥) (x : Bool) (i : x ≡ (isConstant (storeOf m c) a && isConstant (storeOf m c) b)) where
-    pub need-constants : x ≡ true → false ≡ needsReason (storeOf m c) (a, b)
-    unfolding needsReason
-    need-constants j = rw (ne-eqb a b d, sym i ∙ j)
-
-    pub need-reasoned : x ≡ false → (y : Bool) → y ≡ isReasoned (storeOf m c) a b → y ≡ needsReason (storeOf m c) (a, b)
-    unfolding needsReason
-    need-reasoned j y e = rw (ne-eqb a b d, sym i ∙ j) e
+      pub need-reasoned : (y : Bool) → y ≡ isReasoned s a b → y ≡ needsReason s (a, b)
+      unfolding needsReason
+      need-reasoned y e = rw (ne-eqb a b d, sym i ∙ j) e
 
 -- PARTS
-
--- a list turned round, by places
-turned-at : (l : List ℕ) (i : ℕ) → i < length l → getD (reverse l) i 0 ≡ getD l (length l - 1 - i) 0
-turned-at l i h =
-    let j = length l - 1 - i in
-    let d = length-drop (suc j) l in
-    ap (λ (x : List ℕ). getD (reverse x) i 0) (split-at l j 0 (omega arith))
-    ∙ ap (λ (x : List ℕ). getD x i 0)
-    (reverse-append (take j l) (getD l j 0 ∷ drop (suc j) l) ∙ ap (λ (x : List ℕ). x ++ reverse (take j l)) (reverse-cons (getD l j 0) (drop (suc j) l))
-    ∙ append-assoc (reverse (drop (suc j) l)) (getD l j 0 ∷ []) (reverse (take j l)))
-    ∙ getD-at (reverse (drop (suc j) l)) (getD l j 0) (reverse (take j l)) 0 i (rw (length-reverse (drop (suc j) l)) (omega arith))
 
 module _ (l : List ℕ) where
   pub part-whole : (i : ℕ) → part l i (length l) ≡ drop i l
   part-whole i = take-all (length l - i) (drop i l) (rw (length-drop i l) (omega arith))
 
-  -- the part from f on, last atom first
-  abbrev pub back : ℕ → List ℕ
-  back f = reverse (drop f l)
+  -- the part up to place i
+  part-front : (i : ℕ) → way false (part l 0 i) ≡ take i l
+  part-front i = let z : i - 0 ≡ i = omega arith in way-front (part l 0 i) ∙ ap (λ (x : ℕ). take x l) z
 
-  pub back-at : (f i : ℕ) → f + i < length l → getD (back f) i 0 ≡ getD l (length l - 1 - i) 0
-  back-at f i h =
-      turned-at (drop f l) i (rw (length-drop f l) (omega arith)) ∙ getD-drop f l (length (drop f l) - 1 - i) 0
-      ∙ ap (λ (x : ℕ). getD l (f + (x - 1 - i)) 0) (length-drop f l) ∙ ap (λ (x : ℕ). getD l x 0) (place (length l) f i h)
+  -- the last n, from the end on, are the first n from the end on of the part from place f on
+  part-back : (f n e : ℕ) → f + n ≤ length l → e ≡ length l - n → way true (part l e (length l)) ≡ take n (way true (drop f l))
+  part-back f n e h i =
+      let d = length-drop f l in
+      ap (way true) (part-whole e ∙ ap (λ (x : ℕ). drop x l) (place (length l) (length (drop f l)) d i) ∙ sym (drop-drop (length (drop f l) - n) f l))
+      ∙ sym (way-take (drop f l) n (omega arith))
     where
-      place : (n f i : ℕ) → f + i < n → f + (n - f - 1 - i) ≡ n - 1 - i
-      place n f i h = omega arith
-
-  pub back-length : (f : ℕ) → length (back f) ≡ length l - f
-  back-length f = length-reverse (drop f l) ∙ length-drop f l
+      place : (m k : ℕ) → k ≡ m - f → e ≡ m - n → e ≡ f + (k - n)
+      place m k p q = omega arith
 
   -- a list without n heads and k tails is a part of it
-  pub inner-part : (n k : ℕ) → n + k ≤ length l → inner n k l ≡ part l n (length l - k)
+  inner-part : (n k : ℕ) → n + k ≤ length l → inner n k l ≡ part l n (length l - k)
   inner-part n k h =
       let d = length-drop n l in
-      let a = length-drop (length l - k - n) (drop n l) in
-      let z : length (reverse (drop (length l - k - n) (drop n l))) ≡ k = rw (length-reverse (drop (length l - k - n) (drop n l))) (omega arith) in
-      ap (λ (x : List ℕ). reverse (drop k (reverse x))) (sym (take-append-drop (length l - k - n) (drop n l)))
-      ∙ ap (λ (x : List ℕ). reverse (drop k x)) (reverse-append (part l n (length l - k)) (drop (length l - k - n) (drop n l)))
-      ∙ ap reverse (drop-at (reverse (drop (length l - k - n) (drop n l))) (reverse (part l n (length l - k))) k z)
-      ∙ reverse-reverse (part l n (length l - k))
+      let z : length (drop n l) - k ≡ length l - k - n = omega arith in
+      sym (way-back (drop k (reverse (drop n l)))) ∙ ap (λ (x : List ℕ). way true (drop k x)) (sym (way-back (drop n l)))
+      ∙ ap (way true) (way-drop (drop n l) k (omega arith)) ∙ way-twice true (take (length (drop n l) - k) (drop n l)) ∙ ap (λ (x : ℕ). take x (drop n l)) z
 
 -- THE SAME HEADS
 
@@ -152,7 +119,7 @@ heads-short s (a ∷ l) (b ∷ r) = go (same s a b) (heads-short s l r)
 
 tails-short : (s : Store) (n : ℕ) (l r : List ℕ) → length (sameTails s n l r) ≤ min (length l - n) (length r - n)
 unfolding sameTails
-tails-short s n l r = rw (back-length l n, back-length r n) at (heads-short s (back l n) (back r n))
+tails-short s n l r = rw (length-reverse (drop n l), length-reverse (drop n r), length-drop n l, length-drop n r) at (heads-short s (reverse (drop n l)) (reverse (drop n r)))
 
 -- the match at a place is of the two atoms there
 heads-at : (s : Store) (l r : List ℕ) (i : ℕ) → i < length (sameHeads s l r) → getD (sameHeads s l r) i (0, 0) ≡ (getD l i 0, getD r i 0)
@@ -179,7 +146,7 @@ module _ (s s′ : Store) (f : (a b : ℕ) → same s a b ≡ same s′ a b) whe
 
   tails-by : (n : ℕ) (l r : List ℕ) → sameTails s n l r ≡ sameTails s′ n l r
   unfolding sameTails
-  tails-by n l r = heads-by (back l n) (back r n)
+  tails-by n l r = heads-by (reverse (drop n l)) (reverse (drop n r))
 
   matches-by : (l r : List ℕ) → matches s l r ≡ matches s′ l r
   matches-by l r =
@@ -195,132 +162,46 @@ module _ (s s′ : Store) (f : (a b : ℕ) → same s a b ≡ same s′ a b) whe
 -- COUNTING
 
 -- i matches are counted: with those of what is left they are all
-module _ (s : Store) (l r : List ℕ) where
+module _ (s : Store) (l r : List ℕ) (tail : Bool) where
   pub record Counted (i : ℕ) : Type 0 where
-    pub sum : i + length (sameHeads s (drop i l) (drop i r)) ≡ length (sameHeads s l r)
+    pub sum : i + length (sameHeads s (drop i (way tail l)) (drop i (way tail r))) ≡ length (sameHeads s (way tail l) (way tail r))
 
   pub counted-none : Counted 0
   counted-none = record { sum = omega arith }
 
   module _ (n : ℕ) (z : n ≡ min (length l) (length r)) {i : ℕ} (k : Counted i) where
-    pub count-all : n ≤ i → i ≡ length (sameHeads s l r)
+    least : n ≡ min (length (way tail l)) (length (way tail r))
+    least = rw (way-length tail l, way-length tail r) z
+
+    pub count-all : n ≤ i → i ≡ length (sameHeads s (way tail l) (way tail r))
     count-all q =
-        let a = length-drop i l in
-        let b = length-drop i r in
-        let e = ap length (heads-none s (drop i l) (drop i r) (omega arith)) in
+        let m = least in
+        let a = length-drop i (way tail l) in
+        let b = length-drop i (way tail r) in
+        let e = ap length (heads-none s (drop i (way tail l)) (drop i (way tail r)) (omega arith)) in
         let j = k .sum in
         omega arith
 
-    module _ (h : i < n) (a b : ℕ) (p : getD l i 0 ≡ a) (q : getD r i 0 ≡ b) (x : Bool) (f : x ≡ same s a b) where
-      one : drop i l ≡ a ∷ drop (i + 1) l
-      one = drop-head l i (omega arith) ∙ ap (λ (y : ℕ). y ∷ drop (i + 1) l) p
+    module _ (h : i < n) {a b : ℕ} (p : a ≡ getD (way tail l) i 0) (q : b ≡ getD (way tail r) i 0) (x : Bool) (f : x ≡ same s a b) where
+      one : drop i (way tail l) ≡ a ∷ drop (i + 1) (way tail l)
+      one = let m = least in drop-head (way tail l) i (omega arith) ∙ ap (λ (y : ℕ). y ∷ drop (i + 1) (way tail l)) (sym p)
 
-      other : drop i r ≡ b ∷ drop (i + 1) r
-      other = drop-head r i (omega arith) ∙ ap (λ (y : ℕ). y ∷ drop (i + 1) r) q
+      other : drop i (way tail r) ≡ b ∷ drop (i + 1) (way tail r)
+      other = let m = least in drop-head (way tail r) i (omega arith) ∙ ap (λ (y : ℕ). y ∷ drop (i + 1) (way tail r)) (sym q)
 
-      pub count-stop : not x ≡ true → i ≡ length (sameHeads s l r)
+      pub count-stop : not x ≡ true → i ≡ length (sameHeads s (way tail l) (way tail r))
       count-stop d =
-          let e : length (sameHeads s (drop i l) (drop i r)) ≡ 0 = rw (one, other) (ap length (heads-stop s a b (drop (i + 1) l) (drop (i + 1) r) (sym f ∙ not-true x d))) in
+          let e : length (sameHeads s (drop i (way tail l)) (drop i (way tail r))) ≡ 0 =
+          rw (one, other) (ap length (heads-stop s a b (drop (i + 1) (way tail l)) (drop (i + 1) (way tail r)) (sym f ∙ not-true x d))) in
           let j = k .sum in
           omega arith
 
       pub count-turn : not x ≡ false → Counted (i + 1)
       count-turn d =
-          let e : length (sameHeads s (drop i l) (drop i r)) ≡ suc (length (sameHeads s (drop (i + 1) l) (drop (i + 1) r))) =
-          rw (one, other) (ap length (heads-more s a b (drop (i + 1) l) (drop (i + 1) r) (sym f ∙ not-false x d))) in
+          let e : length (sameHeads s (drop i (way tail l)) (drop i (way tail r))) ≡ suc (length (sameHeads s (drop (i + 1) (way tail l)) (drop (i + 1) (way tail r)))) =
+          rw (one, other) (ap length (heads-more s a b (drop (i + 1) (way tail l)) (drop (i + 1) (way tail r)) (sym f ∙ not-false x d))) in
           let j = k .sum in
           record { sum = omega arith }
-
--- EXPLAINING
-
--- match i of ps is that of a and b
-pub record Place (s : Store) (ps : List (ℕ × ℕ)) (i a b : ℕ) : Type 0 where
-  pub next : drop i ps ≡ (a, b) ∷ drop (i + 1) ps
-  pub pair : Pair s a b
-  pub alike : same s a b ≡ true
-
--- a match is of two string terms that are the same
-pub place-both : {s : Store} {ps : List (ℕ × ℕ)} {i a b : ℕ} → Place s ps i a b → Pair s a b × (same s a b ≡ true)
-place-both p = (p .pair, p .alike)
-
-place : (s : Store) (l r : List ℕ) → Strings s l → Strings s r → (i : ℕ) → i < length (sameHeads s l r) → Place s (sameHeads s l r) i (getD l i 0) (getD r i 0)
-place s l r p q i h =
-    let m : Match s (getD l i 0, getD r i 0) = rw (heads-at s l r i h) at (every-at (sameHeads s l r) i (0, 0) (off-heads s l r p q .matched) h) in
-    record {
-      next = rw (add-one i) (drop-cons (sameHeads s l r) i (0, 0) h ∙ ap (λ (x : ℕ × ℕ). x ∷ drop (suc i) (sameHeads s l r)) (heads-at s l r i h));
-      pair = record { one = m .one; other = m .other };
-      alike = m .alike;
-    }
-
--- the matches ps, one after the other
-module _ (t e h ks : List ℕ) (ps : List (ℕ × ℕ)) where
-  abbrev now : List ℕ → State → Store
-  now rs c = storeOf (lent t e h rs ks) c
-
-  abbrev left : ℕ → Work (Unit {0})
-  left i = explainMatches (drop i ps)
-
-  -- the first i are explained
-  abbrev pub Matching : State → List ℕ → State → List ℕ → ℕ → Type 0
-  Matching = Turning t e h ks left
-
-  pub matching-none : {c : State} {rs : List ℕ} → Ready (lent t e h rs ks) c → Matching c rs c rs 0
-  matching-none d = turning-none t e h ks left d
-
-  module _ {c d : State} {rs rs₁ : List ℕ} {i : ℕ} (g : Matching c rs d rs₁ i) where
-    pub matching-end : length ps ≤ i → Working (explainMatches ps) (lent t e h rs ks) (lent t e h rs₁ ks) c (added (adding.Counts d) (lent t e h rs₁ ks))
-    unfolding explainMatches
-    matching-end z = turning-end t e h ks left g (rw (drop-of-length-le ps z))
-
-    module _ (a b : ℕ) (m : Place (readIn t h c) ps i a b) where
-      pub matching-pair : Pair (readIn t h d) a b
-      matching-pair = going-pair t e h ks (g .going) a b (m .pair)
-
-      pub matching-same : same (readIn t h d) a b ≡ true
-      matching-same = going-same t e h ks (g .going) a b ∙ m .alike
-
-      next : left i (now rs₁ d) ≡ andThen (λ u. left (i + 1)) (explainMatch a b (now rs₁ d))
-      unfolding explainMatches
-      next = rw (m .next)
-
-      module _ (rs₂ : List ℕ) (y : Answered) (w : Working (explainMatch a b) (lent t e h rs₁ ks) (lent t e h rs₂ ks) d (added y (lent t e h rs₂ ks))) where
-        pub matching-refused : (k : ℕ) → y ≡ adding.Refused k → Working (explainMatches ps) (lent t e h rs ks) (lent t e h rs₂ ks) c (added (adding.Refused k) (lent t e h rs₂ ks))
-        matching-refused = turning-refused t e h ks left g (explainMatch a b) next rs₂ y w
-
-        pub matching-turn : (d₂ : State) → y ≡ adding.Counts d₂ → Matching c rs d₂ rs₂ (i + 1)
-        matching-turn d₂ j =
-            turning-on t e h ks left g (explainMatch a b) next rs₂ y w d₂ j
-            (match-ends a b (now rs₁ d) (g .going .ready .audited) (matching-pair .one) (matching-pair .other) (same-read t e h ks rs₁ d a b ∙ matching-same) .given (now rs₂ d₂) tt)
-
--- the matches ps, the first i of which need no reason
-pub record Needing (m : Lent) (c : State) (ps : List (ℕ × ℕ)) (i : ℕ) : Type 0 where
-  pub is : any (needsReason (storeOf m c)) (drop i ps) ≡ any (needsReason (storeOf m c)) ps
-
-module _ (m : Lent) (c : State) (ps : List (ℕ × ℕ)) where
-  pub needing-none : Needing m c ps 0
-  needing-none = record { is = refl }
-
-  pub needing-end : {i : ℕ} → Needing m c ps i → length ps ≤ i → Needs m c ps false
-  unfolding any
-  needing-end g z = record { is = rw (drop-of-length-le ps z) at (g .is) }
-
-  module _ {i : ℕ} (g : Needing m c ps i) {s : Store} {a b : ℕ} (p : Place s ps i a b) (x : Bool) (e : x ≡ needsReason (storeOf m c) (a, b)) where
-    opened : any (needsReason (storeOf m c)) ((a, b) ∷ drop (i + 1) ps) ≡ any (needsReason (storeOf m c)) ps
-    opened = rw (p .next) at (g .is)
-
-    pub needing-stop : x ≡ true → Needs m c ps true
-    unfolding any
-    needing-stop z = record { is = rw (sym e ∙ z) at opened }
-
-    pub needing-turn : x ≡ false → Needing m c ps (i + 1)
-    unfolding any
-    needing-turn z = record { is = rw (sym e ∙ z) at opened }
-
--- two atoms of two lists
-pub strings-pair : (s : Store) (l r : List ℕ) → all (isString s) l ≡ true → all (isString s) r ≡ true → (i j : ℕ) → i < length l → j < length r → Pair s (getD l i 0) (getD r j 0)
-strings-pair s l r p q i j f k = record { one = every-at l i 0 (all-every _ l p) f; other = every-at r j 0 (all-every _ r q) k }
-
--- THE LOOPS
 
 pub below-left : (n a b i : ℕ) → n ≡ min a b → i < n → i < a
 below-left n a b i e h = omega arith
@@ -328,103 +209,173 @@ below-left n a b i e h = omega arith
 pub below-right : (n a b i : ℕ) → n ≡ min a b → i < n → i < b
 below-right n a b i e h = omega arith
 
-pub below-tails : (n a b f i : ℕ) → n ≡ min a b → i < n - f → (f + i < a) × (f + i < b)
-below-tails n a b f i z h = (omega arith, omega arith)
+-- lists compared by their same heads counted
+module _ (s : Store) (l r : List ℕ) where
+  pub unequal-lengths : (length l ≡ length r → ⊥) → false ≡ nfEqual s l r
+  unequal-lengths d = decide (nfEqual s l r) (λ h. absurd (d (equal-lengths s l r h))) sym
 
-pub last-below : (n f i : ℕ) → f + i < n → n - 1 - i < n
-last-below n f i h = omega arith
+  pub equal-counted : (n : ℕ) → n ≡ length (sameHeads s (way false l) (way false r)) → length l ≡ length r → eqb n (length l) ≡ nfEqual s l r
+  unfolding way
+  equal-counted n e h = rw e (heads-all s l r h)
+
+-- WHETHER A PAIR NEEDS A REASON
+
+-- the pairs of two lists that are the same throughout, the first i of which need no reason
+pub record Needing (m : Lent) (c : State) (ps : List (ℕ × ℕ)) (i : ℕ) : Type 0 where
+  pub is : any (needsReason (storeOf m c)) (drop i ps) ≡ any (needsReason (storeOf m c)) ps
+
+module _ (m : Lent) (c : State) (s : Store) (l r : List ℕ) (tail : Bool) (h : nfEqual s (way tail l) (way tail r) ≡ true) where
+  abbrev pairs : List (ℕ × ℕ)
+  pairs = sameHeads s (way tail l) (way tail r)
+
+  all-pairs : length pairs ≡ length l
+  all-pairs = equal-heads s (way tail l) (way tail r) h ∙ way-length tail l
+
+  pub needing-none : Needing m c pairs 0
+  needing-none = record { is = refl }
+
+  pub needing-end : {i : ℕ} → Needing m c pairs i → length l ≤ i → Needs m c pairs false
+  unfolding any
+  needing-end {i} g z = record { is = rw (drop-of-length-le pairs {i = i} (let k = all-pairs in omega arith)) at (g .is) }
+
+  pub equal-within : {i : ℕ} → i < length l → i < length r
+  equal-within f = let e = equal-lengths s (way tail l) (way tail r) h in let x = way-length tail l in let y = way-length tail r in omega arith
+
+  module _ {i : ℕ} (f : i < length l) {a b : ℕ} (p : a ≡ getD (way tail l) i 0) (q : b ≡ getD (way tail r) i 0) where
+    placed : getD pairs i (0, 0) ≡ (a, b)
+    placed = rw (p, q) (heads-at s (way tail l) (way tail r) i (let k = all-pairs in omega arith))
+
+    pub equal-same : all (isString s) l ≡ true → all (isString s) r ≡ true → same s a b ≡ true
+    equal-same x y =
+        let k = all-pairs in
+        let m : Match s (a, b) = rw placed at (every-at pairs i (0, 0) (off-heads s (way tail l) (way tail r) (way-every tail (all-every _ l x)) (way-every tail (all-every _ r y)) .matched) (omega arith)) in
+        m .alike
+
+    module _ (g : Needing m c pairs i) (x : Bool) (e : x ≡ needsReason (storeOf m c) (a, b)) where
+      opened : any (needsReason (storeOf m c)) ((a, b) ∷ drop (i + 1) pairs) ≡ any (needsReason (storeOf m c)) pairs
+      opened =
+          let k = all-pairs in
+          ap (any (needsReason (storeOf m c))) (ap (λ (y : ℕ × ℕ). y ∷ drop (i + 1) pairs) (sym placed) ∙ rw (add-one i) (sym (drop-cons pairs i (0, 0) (omega arith)))) ∙ g .is
+
+      pub needing-stop : x ≡ true → Needs m c pairs true
+      unfolding any
+      needing-stop z = record { is = rw (sym e ∙ z) at opened }
+
+      pub needing-turn : x ≡ false → Needing m c pairs (i + 1)
+      unfolding any
+      needing-turn z = record { is = rw (sym e ∙ z) at opened }
+
+-- WHAT IS STRIPPED
+
+-- x and y are the same throughout, and ps are their pairs
+pub record Throughout (s : Store) (x y : List ℕ) (ps : List (ℕ × ℕ)) : Type 0 where
+  pub equal : nfEqual s x y ≡ true
+  pub pairs : sameHeads s x y ≡ ps
+
+through : (s : Store) (x y : List ℕ) (n : ℕ) → n ≡ length (sameHeads s x y) → Throughout s (take n x) (take n y) (sameHeads s x y)
+through s x y n e = rw e (record { equal = alone-equal s x y; pairs = heads-alone s x y })
+
+pub through-length : {s : Store} (tail : Bool) (l r : List ℕ) {ps : List (ℕ × ℕ)} → Throughout s (way tail l) (way tail r) ps → length l ≡ length r
+through-length {s} tail l r p = sym (way-length tail l) ∙ equal-lengths s (way tail l) (way tail r) (p .equal) ∙ way-length tail r
+
+-- a part of a list of string terms
+pub part-strings : (p : ℕ → Bool) (l : List ℕ) (i e : ℕ) → all p l ≡ true → all p (part l i e) ≡ true
+part-strings p l i e h = all-take p (e - i) (drop i l) (all-drop p i l h)
 
 module _ (l r : List ℕ) where
-  pub heads-within : (s : Store) (n i : ℕ) → n ≡ length (sameHeads s l r) → i < n → (i < length l) × (i < length r)
-  heads-within s n i e h = let k = heads-short s l r in (omega arith, omega arith)
+  pub heads-least : (s : Store) (n : ℕ) → n ≡ length (sameHeads s (way false l) (way false r)) → (n ≤ length l) × (n ≤ length r)
+  unfolding way
+  heads-least s n e = let k = heads-short s l r in (omega arith, omega arith)
 
-  pub tails-within : (s : Store) (f n i : ℕ) → n ≡ length (sameTails s f l r) → i < n → (f + i < length l) × (f + i < length r)
-  tails-within s f n i e h = let k = tails-short s f l r in (omega arith, omega arith)
+  tails-are : (s : Store) (f : ℕ) → sameHeads s (way true (part l f (length l))) (way true (part r f (length r))) ≡ sameTails s f l r
+  unfolding sameTails way
+  tails-are s f = rw (part-whole l f, part-whole r f)
 
-  pub tails-are : (s : Store) (f : ℕ) → sameHeads s (back l f) (back r f) ≡ sameTails s f l r
-  unfolding sameTails
-  tails-are s f = refl
-
-  pub heads-least : (s : Store) (n : ℕ) → n ≡ length (sameHeads s l r) → n ≤ min (length l) (length r)
-  heads-least s n e = let k = heads-short s l r in omega arith
-
-  pub tails-least : (s : Store) (f n : ℕ) → n ≡ length (sameTails s f l r) → (n ≤ length l) × (n ≤ length r)
-  tails-least s f n e = let k = tails-short s f l r in (omega arith, omega arith)
-
-  -- the tails are as many as both lists have from f on, at most
-  pub back-least : (f n : ℕ) → n ≡ min (length l) (length r) → n - f ≡ min (length (back l f)) (length (back r f))
-  back-least f n e = rw (back-length l f, back-length r f) (omega arith)
-
-  module _ (s : Store) (p : all (isString s) l ≡ true) (q : all (isString s) r ≡ true) where
-    pub heads-place : (n i : ℕ) → n ≡ length (sameHeads s l r) → i < n → Place s (sameHeads s l r) i (getD l i 0) (getD r i 0)
-    heads-place n i e h = place s l r (all-every _ l p) (all-every _ r q) i (omega arith)
-
-    pub tails-place : (f n i : ℕ) → n ≡ length (sameTails s f l r) → i < n → Place s (sameTails s f l r) i (getD l (length l - 1 - i) 0) (getD r (length r - 1 - i) 0)
-    unfolding sameTails
-    tails-place f n i e h =
-        let k = tails-within s f n i e h in
-        rw (back-at l f i (k .0), back-at r f i (k .1)) at (place s (back l f) (back r f) (every-back f l (all-every _ l p)) (every-back f r (all-every _ r q)) i (omega arith))
+  pub tails-least : (s : Store) (f n : ℕ) → n ≡ length (sameHeads s (way true (part l f (length l))) (way true (part r f (length r)))) → (n ≤ length l) × (n ≤ length r)
+  tails-least s f n e = let i = ap length (tails-are s f) in let k = tails-short s f l r in (omega arith, omega arith)
 
   -- what is left by its places
-  pub found : (s : Store) (f n : ℕ) → f ≡ length (sameHeads s l r) → n ≡ length (sameTails s f l r) → Finds s l r (record { from = f; lhs = length l - n; rhs = length r - n })
-  unfolding rest
-  found s f n p q =
+  pub found : (s : Store) (f n : ℕ) → f ≡ length (sameHeads s (way false l) (way false r)) → n ≡ length (sameHeads s (way true (part l f (length l))) (way true (part r f (length r))))
+      → Finds s l r (record { from = f; lhs = length l - n; rhs = length r - n })
+  unfolding rest way
+  found s f n p i =
+      let q = i ∙ ap length (tails-are s f) in
       let a = heads-short s l r in
       let b = tails-short s f l r in
       record {
         heads = p;
         left = ap (λ (x : ℕ). length l - x) q;
         right = ap (λ (x : ℕ). length r - x) q;
-        is = places ∙ pair-is (inner-part l f n (omega arith)) (inner-part r f n (omega arith));
+        is = places q ∙ pair-is (inner-part l f n (omega arith)) (inner-part r f n (omega arith));
         inside = (omega arith, omega arith, omega arith, omega arith);
       }
     where
       pair-is : {x x′ y y′ : List ℕ} → x ≡ x′ → y ≡ y′ → _≡_ {A = List ℕ × List ℕ} (x, y) (x′, y′)
       pair-is i j = rw (i, j)
 
-      places : rest s l r ≡ (inner f n l, inner f n r)
-      places = rw (q, p)
+      places : n ≡ length (sameTails s f l r) → rest s l r ≡ (inner f n l, inner f n r)
+      places q = rw (q, p)
+
+  module _ {s : Store} (x : Rest) (f : Finds s l r x) where
+    pub heads-through : Throughout s (way false (part l 0 (x .from))) (way false (part r 0 (x .from))) (sameHeads s l r)
+    heads-through = rw (part-front l (x .from), part-front r (x .from)) (through s l r (x .from) (f .heads))
+
+    pub tails-through : Throughout s (way true (part l (x .lhs) (length l))) (way true (part r (x .rhs) (length r))) (sameTails s (x .from) l r)
+    unfolding sameTails
+    tails-through =
+        let a = heads-short s l r in
+        let b = tails-short s (x .from) l r in
+        let n = length (sameTails s (x .from) l r) in
+        rw (part-back l (x .from) n (x .lhs) (let k = f .inside in omega arith) (f .left), part-back r (x .from) n (x .rhs) (let k = f .inside in omega arith) (f .right))
+        (rw (way-back (drop (x .from) l), way-back (drop (x .from) r)) (through s (reverse (drop (x .from) l)) (reverse (drop (x .from) r)) n refl))
 
 -- HEADS, THEN TAILS
 
-module _ (t e h ks l r : List ℕ) {c : State} {rs rs₁ : List ℕ} (x : Rest) (f : Finds (readIn t h c) l r x) (y : Answered)
-    (w : Working (explainMatches (sameHeads (readIn t h c) l r)) (lent t e h rs ks) (lent t e h rs₁ ks) c (added y (lent t e h rs₁ ks))) where
+module _ (t e h ks l r : List ℕ) {c : State} {rs rs₁ : List ℕ} (x : Rest) (f : Finds (readIn t h c) l r x) (ready : Ready (lent t e h rs ks) c) (strings : all (isString (readIn t h c)) l ≡ true)
+    (others : all (isString (readIn t h c)) r ≡ true) (y : Answered)
+    (w : Working (nfExplain (way false (part l 0 (x .from))) (way false (part r 0 (x .from)))) (lent t e h rs ks) (lent t e h rs₁ ks) c (added y (lent t e h rs₁ ks))) where
+  abbrev heads : List (ℕ × ℕ)
+  heads = sameHeads (readIn t h c) l r
+
+  abbrev tails : List (ℕ × ℕ)
+  tails = sameTails (readIn t h c) (x .from) l r
+
+  -- the pairs of two parts, explained as matches
+  said : (tail : Bool) (i k : ℕ) (j n : ℕ) {ps : List (ℕ × ℕ)} → Throughout (readIn t h c) (way tail (part l i k)) (way tail (part r j n)) ps
+      → {d : State} {rs′ : List ℕ} → Going t e h ks c rs d rs′
+      → explainMatches ps (storeOf (lent t e h rs′ ks) d) ≡ nfExplain (way tail (part l i k)) (way tail (part r j n)) (storeOf (lent t e h rs′ ks) d)
+  said tail i k j n p {d} {rs′} g =
+      ap (λ (m : List (ℕ × ℕ)). explainMatches m (storeOf (lent t e h rs′ ks) d)) (sym (p .pairs))
+      ∙ pairs-match (readIn t h c) (way tail (part l i k)) (way tail (part r j n)) (p .equal) (storeOf (lent t e h rs′ ks) d) (going-same t e h ks g) (g .ready .audited)
+      (way-every tail (all-every _ _ (going-strings t e h ks g (part l i k) (part-strings _ l i k strings))))
+      (way-every tail (all-every _ _ (going-strings t e h ks g (part r j n) (part-strings _ r j n others))))
+
+  -- heads and then tails
+  both-said : {o : Out (Unit {0})} → nfExplain (way false (part l 0 (x .from))) (way false (part r 0 (x .from))) (storeOf (lent t e h rs ks) c) ≡ o
+      → explainMatches (matches (readIn t h c) l r) (storeOf (lent t e h rs ks) c) ≡ andThen (λ (u : Unit {0}). explainMatches tails) o
+  both-said {o} q =
+      ap (λ (n : ℕ). explainMatches (heads ++ sameTails (readIn t h c) n l r) (storeOf (lent t e h rs ks) c)) (sym (f .heads))
+      ∙ matches-append heads tails (storeOf (lent t e h rs ks) c)
+      ∙ ap (andThen (λ (u : Unit {0}). explainMatches tails)) (said false 0 (x .from) 0 (x .from) (heads-through l r x f) (going-none t e h ks ready) ∙ q)
+
   pub both-refused : (k : ℕ) → y ≡ adding.Refused k → Working (explainMatches (matches (readIn t h c) l r)) (lent t e h rs ks) (lent t e h rs₁ ks) c (added (adding.Refused k) (lent t e h rs₁ ks))
-  both-refused k j =
-      working-stopped (matches-append (sameHeads (readIn t h c) l r) (sameTails (readIn t h c) (length (sameHeads (readIn t h c) l r)) l r) (storeOf (lent t e h rs ks) c)
-      ∙ ap (andThen (λ (u : Unit {0}). explainMatches (sameTails (readIn t h c) (length (sameHeads (readIn t h c) l r)) l r))) (added-at j w .says)) (w .kept)
+  both-refused k j = working-stopped (both-said (added-at j w .says)) (w .kept)
 
-  module _ (d : State) (j : y ≡ adding.Counts d) (ready : Ready (lent t e h rs ks) c) (strings : all (isString (readIn t h c)) l ≡ true) (others : all (isString (readIn t h c)) r ≡ true) where
-    heads-say : explainMatches (sameHeads (readIn t h c) l r) (storeOf (lent t e h rs ks) c) ≡ ok (storeOf (lent t e h rs₁ ks) d) tt
-    heads-say = added-at j w .says
-
+  module _ (d : State) (j : y ≡ adding.Counts d) where
     pub heads-going : Going t e h ks c rs d rs₁
-    heads-going =
-        let m = off-heads (storeOf (lent t e h rs ks) c) l r (all-every _ l strings) (all-every _ r others) .matched in
-        let k =
-        ap (λ (p : List (ℕ × ℕ)). explainMatches p (storeOf (lent t e h rs ks) c)) (heads-by (storeOf (lent t e h rs ks) c) (readIn t h c) (same-read t e h ks rs c) l r)
-        ∙ heads-say in
-        let o = matches-end (sameHeads (storeOf (lent t e h rs ks) c) l r) (storeOf (lent t e h rs ks) c) (ready .audited) m .given (storeOf (lent t e h rs₁ ks) d) tt k in
-        record { ready = added-ready j w; added = o .added; kept = w .kept }
+    heads-going = record {
+      ready = added-ready j w;
+      added =
+          explain-equal-gives (way false (part l 0 (x .from))) (way false (part r 0 (x .from))) (storeOf (lent t e h rs ks) c) (ready .audited)
+          (way-all _ false _ (part-strings _ l 0 (x .from) strings)) (way-all _ false _ (part-strings _ r 0 (x .from) others)) (storeOf (lent t e h rs₁ ks) d) tt (added-at j w .says) .added;
+      kept = w .kept;
+    }
 
-    tails-kept : sameTails (readIn t h d) (x .from) l r ≡ sameTails (readIn t h c) (x .from) l r
-    tails-kept = tails-by (readIn t h d) (readIn t h c) (going-same t e h ks heads-going) (x .from) l r
-
-    pub tails-counted : (n : ℕ) → n ≡ length l - x .lhs → n ≡ length (sameTails (readIn t h d) (x .from) l r)
-    tails-counted n q =
-        let a = f .left in
-        let b = tails-short (readIn t h c) (x .from) l r in
-        let k = ap length tails-kept in
-        omega arith
-
-    pub both-explained : (rs₂ : List ℕ) (o : Answered) → Working (explainMatches (sameTails (readIn t h d) (x .from) l r)) (lent t e h rs₁ ks) (lent t e h rs₂ ks) d (added o (lent t e h rs₂ ks))
+    pub both-explained : (rs₂ : List ℕ) (o : Answered)
+        → Working (nfExplain (way true (part l (x .lhs) (length l))) (way true (part r (x .rhs) (length r)))) (lent t e h rs₁ ks) (lent t e h rs₂ ks) d (added o (lent t e h rs₂ ks))
         → Working (explainMatches (matches (readIn t h c) l r)) (lent t e h rs ks) (lent t e h rs₂ ks) c (added o (lent t e h rs₂ ks))
     both-explained rs₂ o v = record {
-      says =
-          matches-append (sameHeads (readIn t h c) l r) (sameTails (readIn t h c) (length (sameHeads (readIn t h c) l r)) l r) (storeOf (lent t e h rs ks) c)
-          ∙ ap (andThen (λ (u : Unit {0}). explainMatches (sameTails (readIn t h c) (length (sameHeads (readIn t h c) l r)) l r))) heads-say
-          ∙ ap (λ (n : ℕ). explainMatches (sameTails (readIn t h c) n l r) (storeOf (lent t e h rs₁ ks) d)) (sym (f .heads))
-          ∙ ap (λ (m : List (ℕ × ℕ)). explainMatches m (storeOf (lent t e h rs₁ ks) d)) (sym tails-kept) ∙ v .says;
+      says = both-said (added-at j w .says) ∙ said true (x .lhs) (length l) (x .rhs) (length r) (tails-through l r x f) heads-going ∙ v .says;
       kept = kept-down t e h ks heads-going rs₂ (v .kept);
       ready = v .ready;
     }
@@ -449,17 +400,19 @@ module _ (t e h rs ks l r : List ℕ) (c : State) (x : Rest) (f : Finds (readIn 
         ∙ ap (any (needsReason (storeOf lentNow c))) (sym (matches-by (storeOf lentNow c) (readIn t h c) (same-read t e h ks rs c) l r));
   }
 
-  module _ (b : Bool) (p : Needs lentNow c (sameHeads (readIn t h c) l r) b) where
+  module _ (b : Bool) (p : Needs lentNow c (sameHeads (readIn t h c) (way false (part l 0 (x .from))) (way false (part r 0 (x .from)))) b) where
+    heads-need : b ≡ any (needsReason (storeOf lentNow c)) (sameHeads (readIn t h c) l r)
+    heads-need = p .is ∙ ap (any (needsReason (storeOf lentNow c))) (heads-through l r x f .pairs)
+
     pub asked-heads : b ≡ true → Asked lentNow c l r (x .from) (x .lhs) (x .rhs) true
-    asked-heads z = both-needed true (sym (any-append (needsReason (storeOf lentNow c)) (sameHeads (readIn t h c) l r) (sameTails (readIn t h c) (x .from) l r) ∙ or-left _ _ (sym (p .is) ∙ z)))
+    asked-heads z = both-needed true (sym (any-append (needsReason (storeOf lentNow c)) (sameHeads (readIn t h c) l r) (sameTails (readIn t h c) (x .from) l r) ∙ or-left _ _ (sym heads-need ∙ z)))
 
-    pub asked-tails : b ≡ false → (d : Bool) → Needs lentNow c (sameTails (readIn t h c) (x .from) l r) d → Asked lentNow c l r (x .from) (x .lhs) (x .rhs) d
+    pub asked-tails : b ≡ false → (d : Bool) → Needs lentNow c (sameHeads (readIn t h c) (way true (part l (x .lhs) (length l))) (way true (part r (x .rhs) (length r)))) d
+        → Asked lentNow c l r (x .from) (x .lhs) (x .rhs) d
     asked-tails z d q =
-        both-needed d (q .is ∙ sym (any-append (needsReason (storeOf lentNow c)) (sameHeads (readIn t h c) l r) (sameTails (readIn t h c) (x .from) l r)
-        ∙ ap (λ (y : Bool). y || any (needsReason (storeOf lentNow c)) (sameTails (readIn t h c) (x .from) l r)) (sym (p .is) ∙ z)))
-
-  pub asked-counted : (n : ℕ) → n ≡ length l - x .lhs → n ≡ length (sameTails (readIn t h c) (x .from) l r)
-  asked-counted n q = let a = f .left in let b = tails-short (readIn t h c) (x .from) l r in omega arith
+        both-needed d (q .is ∙ ap (any (needsReason (storeOf lentNow c))) (tails-through l r x f .pairs)
+        ∙ sym (any-append (needsReason (storeOf lentNow c)) (sameHeads (readIn t h c) l r) (sameTails (readIn t h c) (x .from) l r)
+        ∙ ap (λ (y : Bool). y || any (needsReason (storeOf lentNow c)) (sameTails (readIn t h c) (x .from) l r)) (sym heads-need ∙ z)))
 
 -- STEP 1
 

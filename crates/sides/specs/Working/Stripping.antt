@@ -1,7 +1,7 @@
 -- What the working functions of step 1 read, and what they answer.
 use mathlib.Core.Path.{_≡_}
 use mathlib.Core.Bool.{Bool, true, false}
-use mathlib.Core.List.{List}
+use mathlib.Core.List.{List, reverse}
 use Prim.Native.Nat.{ℕ, _-_, _≤_}
 use lib.ListN.{length, take, drop}
 use Rattle.records.specs.declared.State.{State}
@@ -26,6 +26,11 @@ pub record Readable (t h : List ℕ) (c : State) : Type 0 where
 pub record Pair (s : Store) (a b : ℕ) : Type 0 where
   pub one : isString s a ≡ true
   pub other : isString s b ≡ true
+
+-- a list from its front on, or from its end on
+unfoldable pub way : Bool → List ℕ → List ℕ
+way false l = l
+way true l = reverse l
 
 -- the part of a list from place i up to place e
 abbrev pub part : List ℕ → ℕ → ℕ → List ℕ

@@ -1,8 +1,8 @@
 use Rattle.sides.proofs.SideReady.{ready-readable}
 use Rattle.sides.proofs.Refines.Pairs.{pair-number, pair-alike, pair-apart, pair-arguments, pair-explained}
 use borrow.Author.Needs.{needs}
-use Rattle.sides.proofs.equal_lists.explain_pair.Statement.{statement}
-use Rattle.sides.proofs.equal_lists.explain_pair.Tie as tie
+use Rattle.sides.proofs.stripping.explain_pair.Statement.{statement}
+use Rattle.sides.proofs.stripping.explain_pair.Tie as tie
 
 pub explain-pair-spec : {M : Type 1} → statement M
 explain-pair-spec =

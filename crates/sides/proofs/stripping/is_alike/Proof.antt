@@ -3,8 +3,8 @@ use Rattle.sides.proofs.Refines.Pairs.{alike-not, alike-text}
 use borrow.Author.Tests.{not-false}
 use mathlib.Core.Path.{sym, _∙_}
 use borrow.Author.Needs.{needs}
-use Rattle.sides.proofs.equal_lists.is_alike.Statement.{statement}
-use Rattle.sides.proofs.equal_lists.is_alike.Tie as tie
+use Rattle.sides.proofs.stripping.is_alike.Statement.{statement}
+use Rattle.sides.proofs.stripping.is_alike.Tie as tie
 
 pub is-alike-spec : {M : Type 1} → statement M
 is-alike-spec = tie.close (tie.spec
