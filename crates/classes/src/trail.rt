@@ -1,7 +1,6 @@
 // The words lent for marks: their audit, a join or a mark recorded, and joins undone.
 ghost use mathlib.Core.Path.{_≡_};
 ghost use mathlib.Core.Bool.{true, _&&_};
-ghost use mathlib.Core.Option.{some};
 ghost use Prim.Native.Nat.{_+_, _<_, _≤_};
 ghost use lib.ListN.{length, getD, drop};
 ghost use Rattle.records.specs.Lists.{all, oneMore, table};

@@ -11,7 +11,7 @@ use lib.IntN.{ℤ}
 use lib.Dec.{eqb, leb}
 use borrow.Author.Tests.{eqb-true, eq-eqb, ne-eqb, not-true, leb-true, leb-false, le-leb, lt-ltb}
 use Rattle.records.specs.Lists.{all, any, concatMap, firstBelow, sameWord, firsts, Every}
-use Rattle.records.specs.Store.{Term, Store, Out, ok, stop, Work, andThen, _>>=_, give, term, count, kind, within, isTerm, isString, isConstant, isVariable, isConcat, text, parts, chainIn, root, sameClass}
+use Rattle.records.specs.Store.{Term, Store, Out, ok, stop, Work, andThen, _>>=_, give, count, kind, within, isTerm, isString, isConstant, isVariable, isConcat, text, parts, chainIn, root, sameClass}
 use Rattle.records.specs.Rules.{listLimit, isList, isReasonKind, isNumber}
 use Rattle.records.specs.Make.{withTerms, lookup, lowest, constantOf, makeConstant}
 use Rattle.records.specs.Working.Audited.{Audited}
@@ -316,9 +316,6 @@ module _ (l r A B p : List ℕ) (g : ℤ) where
           constant = kind-like s us like e ∙ k .constant;
           empty = empty-like s us e like (k .empty);
         }
-
-        term-v : isTerm s v ≡ true
-        term-v = string-term s v (joinable .one)
 
         term-e : isTerm s e ≡ true
         term-e = string-term s e (joinable .other)

@@ -6,7 +6,7 @@ ghost use Prim.Native.Nat.{_≤_, _<_};
 ghost use lib.ListN.{length, take};
 ghost use Rattle.records.specs.Lists.{all, any};
 ghost use Rattle.records.specs.Store.{isString, sameClass};
-ghost use Rattle.records.specs.View.{storeOf, lends, across, readIn, termed};
+ghost use Rattle.records.specs.View.{storeOf, lends, across, readIn};
 ghost use Rattle.records.specs.Rules.{listLimit, isList};
 ghost use Rattle.records.specs.Calls.{Writes, _into_};
 ghost use Rattle.records.specs.Working.Doing.{Does};

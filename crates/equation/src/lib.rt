@@ -1,7 +1,6 @@
 // The step over one equation: the deep forms of its two sides, then wordeq over them.
 ghost use mathlib.Core.Path.{_≡_};
 ghost use mathlib.Core.Bool.{true};
-ghost use mathlib.Core.List.{[]};
 ghost use Prim.Native.Nat.{_≤_};
 ghost use lib.ListN.{length};
 ghost use Rattle.records.specs.View.{storeOf, lends, across, termed};

@@ -1,6 +1,6 @@
 -- Wordeq on two lists whose residual lists have a remainder or a shortage: the answer is Conflict, or Saturated where a concatenation was
 -- flattened, unless the reasons are full.
-use mathlib.Core.Path.{_≡_, refl, sym, ap, subst, _∙_}
+use mathlib.Core.Path.{_≡_, refl, sym, subst, _∙_}
 use mathlib.Core.Bool.{Bool, true, false}
 use mathlib.Core.List.{List, _++_}
 use mathlib.Core.Option.{Option}

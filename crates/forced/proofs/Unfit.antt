@@ -1,14 +1,13 @@
 -- Steps 2 to 5 on a side of constants and a side of one variable class, with a remainder or a shortage: the answer is Conflict, unless the
 -- reasons are full.
 use mathlib.Core.Path.{_≡_, refl, sym, ap, subst, _∙_}
-use mathlib.Core.Bool.{Bool, true, false, not, _&&_, _||_}
+use mathlib.Core.Bool.{Bool, true, false, _&&_, _||_}
 use mathlib.Core.List.{List, [], _∷_}
 use mathlib.Core.Option.{Option, none, some}
-use Prim.Native.Nat.{ℕ, suc, _+_, _*_, _-_, _/_, _%_, _≤_, _<_}
+use Prim.Native.Nat.{ℕ, suc, _+_, _*_, _-_, _%_, _≤_, _<_}
 use native.Mathlib.Omega.{arith}
 use lib.ListN.{length}
 use lib.IntN.{ℤ}
-use lib.Dec.{eqb, ltb}
 use borrow.Author.Tests.{eqb-true, lt-ltb, ne-eqb}
 use Rattle.records.specs.Lists.{if_then_else_, all, keep, concatMap}
 use Rattle.records.specs.Store.{Store, Out, ok, stop, andThen, isConstant, isVariable, kind}
@@ -17,7 +16,7 @@ use Rattle.records.specs.Working.Audited.{Audited}
 use Rattle.records.proofs.Lists.{both-left, both-right, both-true, left-false, clash, decide, or-left, or-right}
 use Rattle.records.proofs.Grown.{Strings}
 use Rattle.engine.specs.Explain.{explain}
-use Rattle.sides.specs.Wordeq.{Answer, conflict, Tried, answer, pass, settled, _orElse_, same, fixed, lettersOf, letters, variables, occurrence, occursAt, occurs, unequal, short, absent, constants, alias, empties, assigns, forced, fits, explainAll, tileBy, tile, clashes, splits, after, isBare}
+use Rattle.sides.specs.Wordeq.{Answer, conflict, Tried, answer, pass, settled, same, fixed, lettersOf, letters, variables, occurrence, occursAt, occurs, unequal, short, absent, constants, alias, empties, assigns, forced, fits, explainAll, tileBy, tile, clashes, splits, after, isBare}
 use Rattle.sides.proofs.Cited.{Full}
 use Rattle.sides.proofs.Occurs.{occurs-full}
 use Rattle.sides.proofs.Tile.{tile-full}

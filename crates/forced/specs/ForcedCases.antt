@@ -4,7 +4,7 @@ use mathlib.Core.List.{List, [], _∷_}
 use Prim.Native.Nat.{ℕ}
 use lib.Dec.{eqb, T}
 use Rattle.records.specs.Lists.{all, keep, concatMap, table, sameWord, firsts}
-use Rattle.records.specs.Store.{Term, noTerm, Cell, noCell, Store, Out, ok, stop, termIn, cellIn, within, textIn, chainBy, climb}
+use Rattle.records.specs.Store.{Term, noTerm, noCell, Store, Out, ok, stop, termIn, cellIn, within, textIn, chainBy, climb}
 use Rattle.records.specs.Make.{own}
 use Rattle.normalize.specs.Normalize.{atomsBy, flatten}
 use Rattle.sides.specs.Wordeq.{same, fixed, lettersOf, letters, sameHeads, sameTails, rest}

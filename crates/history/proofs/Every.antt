@@ -7,7 +7,7 @@ use Prim.Native.Nat.{ℕ}
 use lib.ListN.{length}
 use lib.Dec.{leb}
 use borrow.Author.Tests.{leb-true}
-use Rattle.records.specs.Lists.{if_then_else_, all, oneMore}
+use Rattle.records.specs.Lists.{all, oneMore}
 use Rattle.records.specs.Store.{Store, Out, ok, stop, Work, root, within}
 use Rattle.records.specs.Rules.{reasonRule, listLimit, isList}
 use Rattle.records.specs.Make.{withTerms, withReasons, constantArguments, makeConstant, variableArguments, makeVariable, concatArguments, makeConcat, lengthArguments, makeLength, equationArguments, makeEquation}

@@ -10,7 +10,7 @@ use lib.ListN.{length, getD, take, drop, length-append, length-take, List·getD-
 use lib.Seq.{drop-length, drop-append-le, getD-append-seam, getD-take}
 use lib.Dec.{ltb}
 use borrow.Author.Tests.{ltb-true, ltb-false}
-use Rattle.records.specs.Lists.{if_then_else_, oneMore}
+use Rattle.records.specs.Lists.{oneMore}
 use Rattle.records.specs.Store.{Term, Room, Store, within}
 use Rattle.records.specs.View.{termLimit}
 use Rattle.records.specs.Make.{withTerms}

@@ -1,6 +1,6 @@
 -- Part of the way through a call: the slices and counts so far, what their store is to the one at entry, that what was counted at entry
 -- is kept, and that they are what the next working function requires.
-use mathlib.Core.Path.{_≡_, refl, ap, _∙_}
+use mathlib.Core.Path.{refl, ap, _∙_}
 use Rattle.records.specs.declared.State.{State}
 use Rattle.records.specs.Store.{Out, ok, Work, andThen, _>>=_}
 use Rattle.records.specs.View.{Lent, storeOf}

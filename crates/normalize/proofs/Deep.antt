@@ -1,6 +1,6 @@
 -- The deep form over an audited store: a list answered has the term's word, None leaves terms and reasons added by then, and with which
 -- numbers it stops.
-use mathlib.Core.Path.{_≡_, refl, sym, subst, _∙_}
+use mathlib.Core.Path.{_≡_, refl, sym, _∙_}
 use mathlib.Core.Bool.{true}
 use mathlib.Core.List.{List, [], _∷_, _++_, reverse, append-nil, append-assoc}
 use mathlib.Core.Option.{Option, none, some}

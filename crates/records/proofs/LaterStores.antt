@@ -4,8 +4,7 @@ use mathlib.Core.Bool.{true, not}
 use mathlib.Core.List.{List, [], _∷_, _++_, append-assoc, append-nil}
 use Prim.Native.Nat.{ℕ, _≤_}
 use native.Mathlib.Omega.{arith}
-use lib.ListN.{length, drop, length-append}
-use lib.Seq.{drop-append-seam}
+use lib.ListN.{length, length-append}
 use Rattle.records.specs.declared.State.{State}
 use Rattle.records.specs.Store.{Cell, Store, kind}
 use Rattle.records.specs.View.{Lent, storeOf}
@@ -34,9 +33,6 @@ module _ {A : Type 0} where
 
   pub more-longer : {l m : List A} → More l m → length l ≤ length m
   more-longer {l} p = let e = ap length (p .is) ∙ length-append l (p .more) in omega arith
-
-  pub more-after : {l m : List A} (p : More l m) → drop (length l) m ≡ p .more
-  more-after {l} p = ap (drop (length l)) (p .is) ∙ drop-append-seam l (p .more)
 
 -- reasons that a list lacked, each once: none, and then more
 pub new-then : (l m n : List (ℕ × ℕ)) → eachNew l m ≡ true → eachNew (l ++ m) n ≡ true → eachNew l (m ++ n) ≡ true

@@ -17,7 +17,7 @@ use Rattle.records.proofs.Lists.{both-left, both-right, both-true, all-
 use Rattle.records.proofs.Views.{term-is}
 use Rattle.records.proofs.Counts.{Higher, higher-below}
 use Rattle.records.proofs.Climbs.{string-within}
-use Rattle.records.proofs.Grown.{Grown, Strings, strings-later}
+use Rattle.records.proofs.Grown.{Strings}
 
 module _ (s : Store) (l : List ℕ) (e : isList s l ≡ true) where
   pub list-short : length l ≤ listLimit
@@ -28,9 +28,6 @@ module _ (s : Store) (l : List ℕ) (e : isList s l ≡ true) where
 
   pub list-every : Strings s l
   list-every = all-every (isString s) l list-strings
-
-pub list-later : {s s′ : Store} (l : List ℕ) → Grown s s′ → isList s l ≡ true → isList s′ l ≡ true
-list-later {s} l g e = both-true _ _ (both-left (leb (length l) listLimit) _ e) (every-all (strings-later g (list-every s l e)))
 
 -- where what was counted is kept and no count is lower, a string term stays one
 module _ (m m′ : Lent) (c d : State) (higher : Higher (storeOf m c) (storeOf m′ d)) (kept : KeepsStore m m′ c) where

@@ -10,7 +10,7 @@ use lib.Seq.{ext-getD, getD-take, getD-drop}
 use Rattle.records.specs.declared.State.{State}
 use Rattle.records.specs.Lists.{table, sameWord}
 use Rattle.records.specs.Store.{Term, Cell, noTerm, noCell, termIn, cellIn, textIn, within, Store, kind, term, text}
-use Rattle.records.specs.View.{termWidth, cellWidth, termPlace, cellPlace, termWords, cellWords, termAt, cellAt, termsView, cellsView, charsView, pairsView, span, Lent, storeOf, pairAt, zeroTerm, zeroCell, readIn, termed}
+use Rattle.records.specs.View.{termWidth, cellWidth, termPlace, cellPlace, termWords, cellWords, termAt, cellAt, termsView, cellsView, charsView, pairsView, span, Lent, pairAt, zeroTerm, zeroCell, readIn, termed}
 use Rattle.records.specs.Calls.{KeepsStore}
 use Rattle.records.proofs.Lists.{table-at, table-past, table-same, table-length, within-low, within-high}
 use Rattle.records.proofs.Grown.{kind-term}

@@ -1,14 +1,14 @@
 -- Joining and undoing over words: what each call asks, and what the last one leaves.
 use mathlib.Core.Path.{_≡_, refl, sym, ap, subst, _∙_}
-use mathlib.Core.Bool.{Bool, true, false, not, _&&_}
+use mathlib.Core.Bool.{Bool, true, false, not}
 use mathlib.Core.List.{List}
-use mathlib.Core.Option.{Option, some, none}
-use Prim.Native.Nat.{ℕ, suc, _+_, _*_, _≤_, _<_}
+use mathlib.Core.Option.{Option, none}
+use Prim.Native.Nat.{ℕ, suc, _≤_}
 use native.Mathlib.Omega.{arith}
 use lib.ListN.{length}
 use lib.Dec.{eqb}
 use borrow.Author.Tests.{eq-eqb, ne-eqb, not-true, not-false}
-use Rattle.records.specs.Store.{Term, termIn, within, climb, classUp, forestUp, rootIn}
+use Rattle.records.specs.Store.{Term, within, climb, classUp, forestUp, rootIn}
 use Rattle.records.specs.View.{termAt, termsView, termWords}
 use Rattle.records.specs.Make.{withClass}
 use Rattle.records.specs.Working.Audited.{Closed}

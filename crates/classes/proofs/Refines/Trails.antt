@@ -1,9 +1,9 @@
 -- The words lent for marks: their sizes, a join or a mark recorded, and joins undone one after the other.
 use mathlib.Core.Path.{_≡_, refl, sym, ap, subst, _∙_}
-use mathlib.Core.Bool.{Bool, true, false, not, _&&_, _||_}
-use mathlib.Core.List.{List, [], _∷_, _++_}
+use mathlib.Core.Bool.{Bool, true, false, not, _&&_}
+use mathlib.Core.List.{List, [], _∷_}
 use mathlib.Core.Option.{Option, none, some}
-use Prim.Native.Nat.{ℕ, zero, suc, _+_, _-_, _*_, _<_, _≤_}
+use Prim.Native.Nat.{ℕ, suc, _+_, _-_, _*_, _<_, _≤_}
 use native.Mathlib.Omega.{arith}
 use lib.ListN.{length, getD, set, drop, length-set}
 use lib.Seq.{getD-set-same, getD-set-other, drop-append-le, drop-length}
@@ -55,12 +55,6 @@ pub above-joins : (d : Standing) (i : ℕ) → isCounted d i ≡ false → markL
 above-joins d i h k =
     decide (ltb i (tracePlace (d .joins) 0)) (λ t. clash (or-right (ltb i (d .marks)) _ (both-true _ _ (le-leb markLimit i k) t)) h)
     (λ t. let q = ltb-false i (tracePlace (d .joins) 0) t in omega arith)
-
--- the marks and the joins read alike in two slices
-pub trail-same : (l l′ : List ℕ) (d : Standing) → ((i : ℕ) → i < d .marks → getD l′ i 0 ≡ getD l i 0) → ((j : ℕ) → j < d .joins → traceAt l′ j ≡ traceAt l j) → trailOf l′ d ≡ trailOf l d
-trail-same l l′ d f g =
-    let p = table-same (λ i. getD l′ i 0) (λ i. getD l i 0) (d .marks) f in
-    let q = table-same (traceAt l′) (traceAt l) (d .joins) g in cc
 
 module _ (l : List ℕ) (d : Standing) (s : TrailSized l d) where
   abbrev none-more : Trail

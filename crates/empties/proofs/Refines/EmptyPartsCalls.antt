@@ -23,7 +23,7 @@ use Rattle.records.proofs.Public.{passed-ready, audit-low}
 use Rattle.records.proofs.Doing.{working-same, working-stopped, working-is}
 use Rattle.records.proofs.Grown.{grown-string}
 use Rattle.records.proofs.Kept.{MadeIn, made-string, constant-kept}
-use Rattle.records.proofs.ListLaws.{list-short, list-strings}
+use Rattle.records.proofs.ListLaws.{list-strings}
 use Rattle.records.proofs.Works.{stop-not}
 use Rattle.records.proofs.Sequence.{made-is, made-stops}
 use Rattle.normalize.specs.Normalize.{flatten}
@@ -38,7 +38,7 @@ use Rattle.empties.specs.Repeats.{Repeats}
 use Rattle.empties.specs.Calls.{PublicEmpties}
 use Rattle.empties.specs.Working.Listing.{Starts}
 use Rattle.normalize.proofs.Atoms.{every-of}
-use Rattle.empties.proofs.Unmet.{Agree, unmet-agree}
+use Rattle.empties.proofs.Unmet.{unmet-agree}
 use Rattle.empties.proofs.Listed.{listed-worth}
 use Rattle.empties.proofs.Repeating.{repeats}
 use Rattle.empties.proofs.EmptyParts.{parts-stops}

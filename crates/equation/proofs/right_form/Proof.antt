@@ -1,7 +1,7 @@
 use lib.Seq.{length-take-le}
 use Rattle.equation.proofs.Refines.StepCalls.{form-ready, form-incoming, form-short, form-list, form-keeps, first-part, right-stop, right-none, right-some}
 use Rattle.normalize.proofs.FormReady.{term-string}
-use mathlib.Core.Path.{refl, sym, ap, _∙_}
+use mathlib.Core.Path.{sym, ap, _∙_}
 use Rattle.sides.specs.Wordeq.{isGuard}
 use mir.Syntax.{w32}
 use mir.ValLaws.{toZ-ofZ}

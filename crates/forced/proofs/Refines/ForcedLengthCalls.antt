@@ -1,20 +1,19 @@
 -- Each way through the functions of the forced length: one variable class, the form of the two sides, what fits between them, the call.
-use mathlib.Core.Path.{_≡_, refl, sym, ap, subst, _∙_}
+use mathlib.Core.Path.{_≡_, refl, sym, ap, _∙_}
 use mathlib.Core.Bool.{Bool, true, false, not, _&&_}
 use mathlib.Core.List.{List, [], _∷_}
 use Prim.Native.Nat.{ℕ, suc, _+_, _-_, _*_, _^_, _/_, _%_, _≤_, _<_}
 use native.Mathlib.Numerals.{add-one}
 use native.Mathlib.Omega.{arith}
-use lib.ListN.{length, getD, take, drop, length-take, length-drop}
+use lib.ListN.{length, getD, drop, length-take, length-drop}
 use lib.Seq.{take-all}
 use lib.Dec.{ltb}
 use borrow.Author.Tests.{not-true, not-false, lt-ltb, le-leb, le-ltb}
 use Rattle.records.specs.declared.State.{State}
 use Rattle.records.specs.Lists.{all}
 use Rattle.records.specs.Store.{Store, Out, ok, stop, andThen, _>>=_, isString}
-use Rattle.records.specs.View.{charLimit, Lent, lent, storeOf, readIn, termed}
+use Rattle.records.specs.View.{charLimit, Lent, storeOf, readIn, termed}
 use Rattle.records.specs.Rules.{audit, listLimit, isList}
-use Rattle.records.specs.Calls.{Public, call}
 use Rattle.records.specs.Working.Doing.{Working}
 use Rattle.records.specs.Working.Audited.{Ready}
 use Rattle.records.proofs.Lists.{table-length, both-left, both-right, both-true, and-stop, and-next, failed, passed, every-at, all-take, all-drop}
@@ -24,7 +23,7 @@ use Rattle.records.proofs.Works.{stop-not}
 use Rattle.records.proofs.Doing.{working-same, working-stopped, working-at, working-is}
 use Rattle.normalize.specs.Normalize.{flatten}
 use Rattle.sides.specs.declared.Rest.{Rest}
-use Rattle.sides.specs.Wordeq.{same, fixed, lettersOf, letters, variables, rest}
+use Rattle.sides.specs.Wordeq.{same, fixed, lettersOf, letters, variables}
 use Rattle.wordeq.specs.Calls.{equalArguments}
 use Rattle.sides.specs.Working.Results.{BothLists}
 use Rattle.sides.specs.Working.Stripping.{Readable, Finds, part}
@@ -32,7 +31,7 @@ use Rattle.sides.specs.Working.Spans.{FirstVariable, agrees}
 use Rattle.sides.proofs.Residual.{variables-from, variables-none, agree-variables, rest-read, letters-read}
 use Rattle.forced.specs.declared.Forced.{Forced}
 use Rattle.forced.specs.declared.Forced.the-variants as forced
-use Rattle.forced.specs.Forced.{spans, short, Fit, spanOf, fitOf, oneClass, isForced, sideFit, sidesFit, residualFit, forcedLength}
+use Rattle.forced.specs.Forced.{spans, short, Fit, fitOf, oneClass, isForced, sideFit, sidesFit, residualFit, forcedLength}
 use Rattle.forced.specs.Calls.{fitted, PublicForced}
 use Rattle.forced.proofs.Unfit.{some-variable}
 use Rattle.forced.proofs.ForcedLength.{forced-stops, forces, forced-few}
