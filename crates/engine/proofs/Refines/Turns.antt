@@ -122,8 +122,8 @@ module _ {l l′ places places′ : List ℕ} {n kind value slot : ℕ} {r : Wal
       let f : ℕ → Walked = λ x. record { code = x; count = r .count } in
       let h : ℕ → Walked = λ x. record { code = 0; count = x } in ap f (p .0) ∙ ap h c)
 
-  pub gives-counted : Gives l l′ places places′ n kind value slot (record { code = 0; count = n + 1 })
-  gives-counted = subst (λ (x : Walked). Gives l l′ places places′ n kind value slot x) gives-one-more g
+  pub gives-counted : (m : ℕ) → m ≡ n + 1 → Gives l l′ places places′ n kind value slot (record { code = 0; count = m })
+  gives-counted m e = rw e (subst (λ (x : Walked). Gives l l′ places places′ n kind value slot x) gives-one-more g)
 
 -- AN EDGE BY ITS LABEL
 

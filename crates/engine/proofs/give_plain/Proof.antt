@@ -1,3 +1,5 @@
+use mathlib.Core.Path.{ap}
+use Rattle.records.specs.declared.State.{State}
 use Rattle.engine.proofs.Refines.Turns.{gives-low, gives-counted}
 use borrow.Author.Needs.{needs}
 use Rattle.engine.proofs.give_plain.Statement.{statement}
@@ -28,4 +30,4 @@ give-plain-spec =
     (λ c.
     let at-give = c .before .before .before .before .before .before .before .before in
     let at-start = at-give .before .before .before .before .before in
-    rw (c .with-reason-unchecked .ensures) (gives-counted (at-give .give .ensures) (at-start .pre) (c .before .if1 .left))))
+    gives-counted (at-give .give .ensures) (at-start .pre) (c .before .if1 .left) _ (ap (λ (s : State). s .reasons) (c .with-reason-unchecked .ensures))))
