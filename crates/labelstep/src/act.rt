@@ -1,5 +1,4 @@
 // What each command does.
-use crate::front::front;
 use crate::say::say_bad;
 use crate::say::say_outcome;
 use crate::say::say_refused;
@@ -10,7 +9,9 @@ use crate::session::with_stamp;
 use crate::session::without_reasons;
 use classes::merge;
 use commands::Parsed;
+use lines::lending::front;
 use records::Made;
+use records::State;
 use records::build::make_concatenation;
 use records::build::make_equation;
 use records::fields::word;
@@ -33,71 +34,30 @@ fn after_making(r: Made, s: Session) -> Session {
     }
 }
 
-// `C text`.
-fn constant(
-    n: usize,
-    list: &[u32; 1024],
-    terms: &mut [u32; 4104],
-    cells: &[u32; 6147],
-    chars: &mut [u32; 16384],
-    reasons: &[u32; 8192],
-    keys: &[u32; 8192],
-    s: Session,
-) -> Session {
-    let c = s.counts;
-    let w = front(list, n);
-    let r = make_constant(terms, cells, chars, reasons, keys, c, w);
-    after_making(r, s)
-}
-
-// `V name`.
-fn variable(
-    n: usize,
-    list: &[u32; 1024],
-    terms: &mut [u32; 4104],
-    cells: &[u32; 6147],
-    chars: &mut [u32; 16384],
-    reasons: &[u32; 8192],
-    keys: &[u32; 8192],
-    s: Session,
-) -> Session {
-    let c = s.counts;
-    let w = front(list, n);
-    let r = make_variable(terms, cells, chars, reasons, keys, c, w);
-    after_making(r, s)
-}
-
-// `P t u ..`.
-fn parts(
-    n: usize,
+// `C text`, `V name`, `P t u ..` and `E t u`. Any other line makes no term.
+fn make(
+    p: Parsed,
     list: &[u32; 1024],
     terms: &mut [u32; 4104],
     cells: &mut [u32; 6147],
-    chars: &[u32; 16384],
+    chars: &mut [u32; 16384],
     reasons: &[u32; 8192],
     keys: &[u32; 8192],
-    s: Session,
-) -> Session {
-    let c = s.counts;
-    let w = front(list, n);
-    let r = make_concatenation(terms, cells, chars, reasons, keys, c, w);
-    after_making(r, s)
-}
-
-// `E t u`.
-fn sides(
-    t: u32,
-    u: u32,
-    terms: &mut [u32; 4104],
-    cells: &[u32; 6147],
-    chars: &[u32; 16384],
-    reasons: &[u32; 8192],
-    keys: &[u32; 8192],
-    s: Session,
-) -> Session {
-    let c = s.counts;
-    let r = make_equation(terms, cells, chars, reasons, keys, c, t, u);
-    after_making(r, s)
+    c: State,
+) -> Made {
+    match p {
+        Parsed::Constant(n) => {
+            make_constant(terms, cells, chars, reasons, keys, c, front(list, n))
+        }
+        Parsed::Variable(n) => {
+            make_variable(terms, cells, chars, reasons, keys, c, front(list, n))
+        }
+        Parsed::Concatenation(n) => {
+            make_concatenation(terms, cells, chars, reasons, keys, c, front(list, n))
+        }
+        Parsed::Equation(t, u) => make_equation(terms, cells, chars, reasons, keys, c, t, u),
+        _ => Made::Refused(0),
+    }
 }
 
 // `M child parent n`.
@@ -180,16 +140,13 @@ pub(crate) fn act(
     s: Session,
 ) -> Session {
     match p {
-        Parsed::Constant(n) => constant(n, list, terms, cells, chars, reasons, keys, s),
-        Parsed::Variable(n) => variable(n, list, terms, cells, chars, reasons, keys, s),
-        Parsed::Concatenation(n) => parts(n, list, terms, cells, chars, reasons, keys, s),
-        Parsed::Equation(t, u) => sides(t, u, terms, cells, chars, reasons, keys, s),
         Parsed::Merge(t, u, n) => merge_classes(t, u, n, terms, cells, chars, reasons, keys, s),
         Parsed::Known(n) => set_known(list, n, known, terms, s),
         Parsed::Resolve(e, g) => resolve(e, g, list, known, terms, cells, chars, reasons, keys, s),
-        Parsed::Bad => {
-            say_bad(s.line);
-            s
+        _ => {
+            let c = s.counts;
+            let r = make(p, list, terms, cells, chars, reasons, keys, c);
+            after_making(r, s)
         }
     }
 }
