@@ -31,7 +31,7 @@ use Rattle.wordeq.specs.Repeated.{Repeated, Decides}
 use Rattle.wordeq.specs.Calls.{PublicResolve, resolved}
 use Rattle.wordeq.proofs.Resolve.{resolve-kept, resolve-stops}
 use Rattle.wordeq.proofs.FewAtoms.{Few, resolve-few}
-use Rattle.capi.specs.Interface.{stateOf, roomy, over, told}
+use Rattle.capi.specs.Interface.{stateOf, stateRoom, answerRoom, roomy, over, told}
 use Rattle.capi.specs.Equations.{flag, answerWords, answerBy, answerRead, ExportedResolve}
 use Rattle.capi.specs.Working.Leaves.{Narrow, NarrowAnswer, Telling, tells, ToldWords, ToldBy, answerTelling}
 use Rattle.capi.proofs.Words.{told-by}
@@ -110,7 +110,7 @@ module _ {A : Type 0} {fit : Store → Bool} {work : Work A} (can : Tells fit wo
 pub answer-narrow : (r : StepResult) {k′ : List ℕ} → ((c : State) (v : List ℕ) → answerTelling r ≡ tells c v → Narrow c) → Stands r k′ → NarrowAnswer r
 answer-narrow r f i = record { counts = f; split = λ d n h u e. (let j = i .split d n h u e in let p = j .three in record { list = omega arith; guard = j .guard }) }
 
-pub answer-shows : (r : StepResult) (m′ : Lent) (k′ : List ℕ) → Stands r k′ → Shows 8 answerWords (answerRead k′) m′ (resolved r m′ k′) (answerTelling r)
+pub answer-shows : (r : StepResult) (m′ : Lent) (k′ : List ℕ) → Stands r k′ → Shows answerRoom answerWords (answerRead k′) m′ (resolved r m′ k′) (answerTelling r)
 answer-shows (step.Done c) m′ k′ i = record { value = done; outcome = refl; spelt = refl; few = omega arith; back = λ z. refl }
 answer-shows (step.Saturated c) m′ k′ i = record { value = saturated; outcome = refl; spelt = refl; few = omega arith; back = λ z. refl }
 answer-shows (step.Conflict c) m′ k′ i = record { value = conflict; outcome = refl; spelt = refl; few = omega arith; back = λ z. refl }
@@ -128,7 +128,7 @@ answer-shows (step.Refused n) m′ k′ i = refl
 
 -- RESOLVE_EQUATION
 
-pub resolve-untold : (l r : List ℕ) (g : ℤ) (m : Lent) (k w a : List ℕ) → roomy w a ≡ false → ExportedResolve l r g m m k k w w a a 1
+pub resolve-untold : (l r : List ℕ) (g : ℤ) (m : Lent) (k w a : List ℕ) → roomy stateRoom w a ≡ false → ExportedResolve l r g m m k k w w a a 1
 resolve-untold l r g m k w a e = record { is = untold-list _ answerWords m k w a _ e; worth = λ z. absurd (omega arith); once = λ z. absurd (omega arith); grows = λ z y. absurd (omega arith); decides = λ v f i. absurd (i 1 refl (omega arith)) }
 
 -- the terms counted are those of the state
@@ -148,13 +148,13 @@ module _ {l r : List ℕ} {g : ℤ} {m m′ : Lent} {k k′ : List ℕ} {c : Sta
     split = λ d n h j e. split-stands (resolve-tells l r g) (λ x. x) g fit (λ s f. both-right (isList s l && isList s r) _ f) (λ s s′ x q. resolve-few g l r s .given s′ x q) m m′ k k′ c same d n h j (sym (called .store .says) ∙ ap (λ (x : StepResult). resolved x m′ k′) e);
   }
 
-  shows : Shows 8 answerWords (answerRead k′) m′ (resolved o m′ k′) (answerTelling o)
+  shows : Shows answerRoom answerWords (answerRead k′) m′ (resolved o m′ k′) (answerTelling o)
   shows = answer-shows o m′ k′ stands
 
   pub resolve-tellable : NarrowAnswer o
   resolve-tellable = answer-narrow o (list-tellable (resolve-tells l r g) called answerWords (answerRead k′) (answerTelling o) shows) stands
 
-  pub resolve-exported : {w w′ a a′ : List ℕ} {n : ℕ} → roomy w a ≡ true → c ≡ stateOf w → ToldBy answerTelling w w′ a a′ o n
+  pub resolve-exported : {w w′ a a′ : List ℕ} {n : ℕ} → roomy stateRoom w a ≡ true → c ≡ stateOf w → ToldBy answerTelling w w′ a a′ o n
       → ExportedResolve l r g m m′ k k′ w w′ a a′ n
   resolve-exported {w} {w′} {a} {a′} {n} room e u =
       let x = list-exported (resolve-tells l r g) called answerWords (answerRead k′) (answerTelling o) shows room e (u .is) in

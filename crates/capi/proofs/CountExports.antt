@@ -13,7 +13,7 @@ use Rattle.records.specs.declared.Added.the-variants as adding
 use Rattle.records.specs.Store.{Store, ok, stop, Work}
 use Rattle.records.specs.View.{Lent, storeOf}
 use Rattle.records.specs.Calls.{call, Public, added, fullAlone}
-use Rattle.capi.specs.Interface.{stateOf, over, Exported}
+use Rattle.capi.specs.Interface.{stateOf, stateRoom, over, Exported}
 use Rattle.capi.specs.Working.Leaves.{Narrow, ToldBy, addedTelling}
 use Rattle.capi.proofs.Exports.{Tells, narrow, call-audited, call-stops, Shows, told-exported, told-worth, told-stop}
 
@@ -35,9 +35,9 @@ module _ {fit : Store → Bool} {work : Work (Unit {0})} (can : Tells fit work) 
   stops e = call-stops can m c 0 (sym (called .says) ∙ e) refl
 
   module _ {w w′ : List ℕ} {k : ℕ} (t : ToldBy addedTelling w w′ [] [] r k) where
-    pub counts-exported : 6 ≤ length w → c ≡ stateOf w → Exported (over (leb 6 (length w)) (call fit work m (stateOf w))) m m′ w w′ 0 [] [] tt k
+    pub counts-exported : stateRoom ≤ length w → c ≡ stateOf w → Exported (over (leb stateRoom (length w)) (call fit work m (stateOf w))) m m′ w w′ 0 [] [] tt k
     counts-exported room e =
-        told-exported 0 noWords noRead m′ (added r m′) (addedTelling r) (added-shows r m′) stops (t .is) (le-leb 6 (length w) room) room (omega arith)
+        told-exported 0 noWords noRead m′ (added r m′) (addedTelling r) (added-shows r m′) stops (t .is) (le-leb stateRoom (length w) room) room (omega arith)
         (subst (λ (d : State). Public (call fit work m d) m m′ d (added r m′)) e called) .is
 
     pub counts-worth : {P : Store → Type 0} → ((s′ : Store) → added r m′ ≡ ok s′ tt → P s′) → k ≡ 0 → P (storeOf m′ (stateOf w′))

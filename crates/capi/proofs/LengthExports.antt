@@ -16,7 +16,7 @@ use Rattle.forced.specs.Forced.{spans, short, Fit, forcedLength}
 use Rattle.forced.specs.Forces.{Few, Forces}
 use Rattle.forced.specs.Calls.{fitted, PublicForced}
 use Rattle.forced.proofs.ForcedLength.{forced-gives, forced-stops}
-use Rattle.capi.specs.Interface.{stateOf, roomy}
+use Rattle.capi.specs.Interface.{stateOf, stateRoom, answerRoom, roomy}
 use Rattle.capi.specs.Lengths.{fitWords, fitRead, ExportedForced}
 use Rattle.capi.specs.Working.Leaves.{ToldBy}
 use Rattle.capi.specs.Working.Measuring.{forcedTelling, Word, NarrowForced}
@@ -29,12 +29,12 @@ forced-tells l r = record {
   stops = λ s n a f e z. let q = forced-stops l r s n e in absurd (omega arith);
 }
 
-forced-shows : (o : Forced) (m : Lent) (c : State) → Shows 8 fitWords fitRead m (fitted o (storeOf m c)) (forcedTelling c o)
+forced-shows : (o : Forced) (m : Lent) (c : State) → Shows answerRoom fitWords fitRead m (fitted o (storeOf m c)) (forcedTelling c o)
 forced-shows (forced.Spans k n l i r) m c = record { value = record { k = k; c = n; l = l; span = spans i r }; outcome = refl; spelt = refl; few = omega arith; back = λ z. refl }
 forced-shows (forced.Shortage k n l d) m c = record { value = record { k = k; c = n; l = l; span = short d }; outcome = refl; spelt = refl; few = omega arith; back = λ z. refl }
 forced-shows (forced.Refused k) m c = refl
 
-pub forced-untold : (l r : List ℕ) (m : Lent) (w a : List ℕ) → roomy w a ≡ false → ExportedForced l r m w a a 1
+pub forced-untold : (l r : List ℕ) (m : Lent) (w a : List ℕ) → roomy stateRoom w a ≡ false → ExportedForced l r m w a a 1
 forced-untold l r m w a e = record { is = record { is = untold _ m w (length (fitWords (fitRead a))) a (fitRead a) e; says = λ z. absurd (omega arith) }; worth = λ z. absurd (omega arith) }
 
 module _ {l r : List ℕ} {m : Lent} {c : State} {o : Forced} (called : PublicForced l r m m c (fitted o (storeOf m c))) where
@@ -50,11 +50,11 @@ module _ {l r : List ℕ} {m : Lent} {c : State} {o : Forced} (called : PublicFo
         (omega arith, omega arith, omega arith, omega arith);
   }
 
-  pub forced-exported : {w a a′ : List ℕ} {k : ℕ} → roomy w a ≡ true → c ≡ stateOf w → ToldBy (forcedTelling (stateOf w)) w w a a′ o k → ExportedForced l r m w a a′ k
+  pub forced-exported : {w a a′ : List ℕ} {k : ℕ} → roomy stateRoom w a ≡ true → c ≡ stateOf w → ToldBy (forcedTelling (stateOf w)) w w a a′ o k → ExportedForced l r m w a a′ k
   forced-exported {w} {a} {a′} {k} room e u = record {
-    is = told-exported 8 fitWords fitRead m (fitted o (storeOf m (stateOf w))) (forcedTelling (stateOf w) o) (forced-shows o m (stateOf w)) not-none (u .is) room
-        (roomy-state w a room) (roomy-answer w a room) (at .is);
-    worth = told-worth 8 fitWords fitRead m (fitted o (storeOf m (stateOf w))) (forcedTelling (stateOf w) o) (forced-shows o m (stateOf w)) not-none (u .is)
+    is = told-exported answerRoom fitWords fitRead m (fitted o (storeOf m (stateOf w))) (forcedTelling (stateOf w) o) (forced-shows o m (stateOf w)) not-none (u .is) room
+        (roomy-state stateRoom w a room) (roomy-answer stateRoom w a room) (at .is);
+    worth = told-worth answerRoom fitWords fitRead m (fitted o (storeOf m (stateOf w))) (forcedTelling (stateOf w) o) (forced-shows o m (stateOf w)) not-none (u .is)
         {P = λ s′ x. Forces (storeOf m (stateOf w)) l r x} (at .worth);
   }
     where

@@ -19,7 +19,7 @@ use Rattle.empties.specs.Meaning.{Becomes}
 use Rattle.empties.specs.Repeats.{Repeats}
 use Rattle.empties.specs.Calls.{listed, PublicEmpties}
 use Rattle.empties.proofs.EmptyParts.{parts-later, parts-few, parts-stops}
-use Rattle.capi.specs.Interface.{stateOf, roomy, over, told}
+use Rattle.capi.specs.Interface.{stateOf, stateRoom, answerRoom, roomy, over, told}
 use Rattle.capi.specs.Equations.{flag}
 use Rattle.capi.specs.Parts.{partsWords, partsRead, ExportedParts}
 use Rattle.capi.specs.Working.Leaves.{NarrowList, ToldBy}
@@ -34,7 +34,7 @@ parts-tells l r = record {
   stops = λ s n a f e z. let q = parts-stops l r s n e in absurd (omega arith);
 }
 
-parts-shows : (o : Empties) (m′ : Lent) (k′ : List ℕ) → Shows 8 partsWords (partsRead k′) m′ (listed o m′ k′) (partsTelling o)
+parts-shows : (o : Empties) (m′ : Lent) (k′ : List ℕ) → Shows answerRoom partsWords (partsRead k′) m′ (listed o m′ k′) (partsTelling o)
 parts-shows (empties.Parts c e n f) m′ k′ = record {
   value = record { empty = e; listed = firstWords k′ n; link = f };
   outcome = refl;
@@ -44,7 +44,7 @@ parts-shows (empties.Parts c e n f) m′ k′ = record {
 }
 parts-shows (empties.Refused k) m′ k′ = refl
 
-pub parts-untold : (l r : List ℕ) (m : Lent) (k w a : List ℕ) → roomy w a ≡ false → ExportedParts l r m m k k w w a a 1
+pub parts-untold : (l r : List ℕ) (m : Lent) (k w a : List ℕ) → roomy stateRoom w a ≡ false → ExportedParts l r m m k k w w a a 1
 parts-untold l r m k w a e = record { is = untold-list _ partsWords m k w a _ e; repeats = λ f. absurd (f 1 refl (omega arith)); worth = λ z. absurd (omega arith) }
 
 module _ {l r : List ℕ} {m m′ : Lent} {k k′ : List ℕ} {c : State} {o : Empties} (called : PublicEmpties l r m m′ k k′ c (listed o m′ k′)) where
@@ -57,7 +57,7 @@ module _ {l r : List ℕ} {m m′ : Lent} {k k′ : List ℕ} {c : State} {o : E
           let i = table-length (λ j. getD k′ j 0) n in
           record { counts = list-narrow (parts-tells l r) (called .is) d _ q; list = omega arith }
 
-  pub parts-exported : {w w′ a a′ : List ℕ} {n : ℕ} → roomy w a ≡ true → c ≡ stateOf w → ToldBy partsTelling w w′ a a′ o n → ExportedParts l r m m′ k k′ w w′ a a′ n
+  pub parts-exported : {w w′ a a′ : List ℕ} {n : ℕ} → roomy stateRoom w a ≡ true → c ≡ stateOf w → ToldBy partsTelling w w′ a a′ o n → ExportedParts l r m m′ k k′ w w′ a a′ n
   parts-exported {w} {w′} {a} {a′} {n} room e u =
       let x = list-exported (parts-tells l r) (called .is) partsWords (partsRead k′) (partsTelling o) (parts-shows o m′ k′) room e (u .is) in
       let q : told n w′ m′ (partsRead k′ a′) ≡ listed o m′ k′ =

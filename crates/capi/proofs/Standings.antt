@@ -12,24 +12,24 @@ use Rattle.records.specs.declared.State.{State}
 use Rattle.records.specs.Lists.{table, oneMore}
 use Rattle.records.specs.Store.{Term, Store, within, sameClass}
 use Rattle.records.specs.View.{Lent, storeOf, sizes}
-use Rattle.records.proofs.Lists.{both-left, both-right, left-false, and-next, decide, table-length}
+use Rattle.records.proofs.Lists.{both-left, both-right, decide, table-length}
 use Rattle.classes.specs.declared.Standing.{Standing}
 use Rattle.classes.specs.declared.Answer.{Answer}
 use Rattle.classes.specs.declared.Answer.the-variants.{Given, Refused}
 use Rattle.classes.specs.Joins.{Trace, traceOf}
 use Rattle.classes.specs.Marks.{Trail, markLimit, joinLimit, traceAt, trailOf, trailSizes, tableAt, auditMarks}
 use Rattle.classes.specs.Calls.{Outcome, gives, refuses, joinArguments, recorded, joinTerms, setMark, joinsAt, gone, goBack, unless, tracked, answered, Tracks, PublicJoin}
-use Rattle.capi.specs.Interface.{stateOf, Beyond}
-use Rattle.capi.specs.Marks.{standingOf, spacious, Inside, Promise, readAs, ExportedMarks}
+use Rattle.capi.specs.Interface.{stateOf, Beyond, answerRoom, roomy}
+use Rattle.capi.specs.Marks.{standingOf, markedRoom, Inside, Promise, readAs, ExportedMarks}
 use Rattle.capi.specs.Working.Standings.{standingIn, NarrowStanding, NarrowGiven, codeOf, stateAfter, answerAfter, ToldStanding, ToldAnswer}
-use Rattle.capi.proofs.Words.{beyond-same}
+use Rattle.capi.proofs.Words.{beyond-same, roomy-state, roomy-answer}
 
 -- THE STATE'S EIGHT WORDS
 
 data Eight : List ℕ → Type 0 where
   eight : (x0 x1 x2 x3 x4 x5 x6 x7 : ℕ) (w : List ℕ) → Eight (x0 ∷ x1 ∷ x2 ∷ x3 ∷ x4 ∷ x5 ∷ x6 ∷ x7 ∷ w)
 
-eight-of : (w : List ℕ) → 8 ≤ length w → Eight w
+eight-of : (w : List ℕ) → markedRoom ≤ length w → Eight w
 eight-of [] h = absurd (omega arith)
 eight-of (x0 ∷ []) h = absurd (omega arith)
 eight-of (x0 ∷ x1 ∷ []) h = absurd (omega arith)
@@ -57,28 +57,11 @@ module _ (e : Standing) where
   inside-marks : {w : List ℕ} → Eight w → e .joins ≡ getD w 7 0 → Inside 6 7 w (standingIn e w)
   inside-marks (eight x0 x1 x2 x3 x4 x5 x6 x7 w) p = record { length-is = refl; first = refl; rest = rw p }
 
-module _ (w a : List ℕ) where
-  pub spacious-state : spacious w a ≡ true → 8 ≤ length w
-  unfolding spacious
-  spacious-state e = leb-true 8 (length w) (both-left _ _ e)
-
-  pub spacious-answer : spacious w a ≡ true → 8 ≤ length a
-  unfolding spacious
-  spacious-answer e = leb-true 8 (length a) (both-right (leb 8 (length w)) _ e)
-
-  pub unspacious : length w < 8 → false ≡ spacious w a
-  unfolding spacious
-  unspacious h = sym (left-false _ _ (lt-leb 8 (length w) h))
-
-  pub spacious-is : 8 ≤ length w → leb 8 (length a) ≡ spacious w a
-  unfolding spacious
-  spacious-is h = and-next (leb 8 (length w)) (leb 8 (length a)) _ (le-leb 8 (length w) h) refl
-
 pub standing-read : (w : List ℕ) {x y : ℕ} → x ≡ getD w 6 0 → y ≡ getD w 7 0 → _≡_ {A = Standing} (record { marks = x; joins = y }) (standingOf w)
 standing-read w p q = rw (p, q)
 
 -- the answer's first word
-number-set : (a : List ℕ) (x : ℕ) → 8 ≤ length a → getD (set a 0 x) 0 0 ≡ x
+number-set : (a : List ℕ) (x : ℕ) → answerRoom ≤ length a → getD (set a 0 x) 0 0 ≡ x
 number-set [] x h = absurd (omega arith)
 number-set (y ∷ a) x h = refl
 
@@ -120,7 +103,7 @@ record Tellable (P : Promise) (i j : ℕ) (m m′ : Lent) (l l′ w : List ℕ) 
   idle : (k : ℕ) → r ≡ Refused k → (m′ ≡ m) × (l′ ≡ l)
   inside : (x : ℕ) (e : Standing) → r ≡ Given x e → Inside i j w (standingIn e w)
 
-module _ {P : Promise} {i j : ℕ} {fit : Bool} {m m′ : Lent} {l l′ w : List ℕ} (f : fit ≡ true) (h : 8 ≤ length w) where
+module _ {P : Promise} {i j : ℕ} {fit : Bool} {m m′ : Lent} {l l′ w : List ℕ} (f : fit ≡ true) (h : markedRoom ≤ length w) where
   -- n is the number given, and a word of the answer is written only where one is
   told-state : (r : Answer) → Tellable P i j m m′ l l′ w r → {w′ a a′ : List ℕ} {k : ℕ} → ToldStanding r w w′ k → (n : ℕ) → ((x : ℕ) (e : Standing) → r ≡ Given x e → n ≡ x) → Beyond 1 a a′
       → ((k ≡ 0 → ⊥) → a′ ≡ a) → ExportedMarks P i j fit m m′ l l′ w w′ a a′ n k
@@ -149,7 +132,7 @@ module _ {P : Promise} {i j : ℕ} {fit : Bool} {m m′ : Lent} {l l′ w : List
         answer-idle = λ y. z (λ v. y (sym (u .code) ∙ v));
       })
 
-  told-answer : {a : List ℕ} → 8 ≤ length a → (r : Answer) → Tellable P i j m m′ l l′ w r → {w′ a′ : List ℕ} {k : ℕ} → ToldAnswer r w w′ a a′ k → ExportedMarks P i j fit m m′ l l′ w w′ a a′ (getD a′ 0 0) k
+  told-answer : {a : List ℕ} → answerRoom ≤ length a → (r : Answer) → Tellable P i j m m′ l l′ w r → {w′ a′ : List ℕ} {k : ℕ} → ToldAnswer r w w′ a a′ k → ExportedMarks P i j fit m m′ l l′ w w′ a a′ (getD a′ 0 0) k
   told-answer {a} o (Given x e) t {w′} {a′} u =
       told-state (Given x e) t (u .is) (getD a′ 0 0) (λ y d q. ap (λ (v : List ℕ). getD v 0 0) (u .answer) ∙ number-set a x o ∙ (let p : x ≡ y = cc in p)) (rw (u .answer) (beyond-set a x))
       (λ y. absurd (y (u .is .code)))
@@ -257,8 +240,8 @@ tables-long f g i j p = sym (table-length f i) ∙ ap length p ∙ table-length 
 
 -- THE EXPORTED CALLS
 
-pub back-short : (m : Lent) (l w : List ℕ) (mark : ℕ) → length w < 8 → ExportedMarks (Tracks (goBack mark)) 6 8 (leb 8 (length w)) m m l l w w [] [] mark 1
-back-short m l w mark h = marks-short m l w [] mark (lt-leb 8 (length w) h)
+pub back-short : (m : Lent) (l w : List ℕ) (mark : ℕ) → length w < markedRoom → ExportedMarks (Tracks (goBack mark)) 6 8 (leb markedRoom (length w)) m m l l w w [] [] mark 1
+back-short m l w mark h = marks-short m l w [] mark (lt-leb markedRoom (length w) h)
 
 -- the promise of the counts that the words have
 module _ (P : Promise) (m m′ : Lent) (l l′ w : List ℕ) (r : Answer) where
@@ -266,12 +249,12 @@ module _ (P : Promise) (m m′ : Lent) (l l′ w : List ℕ) (r : Answer) where
   moved {c} i j p = subst (λ (y : State). P m m′ l l′ y (standingOf w) r) i (subst (λ (y : Standing). P m m′ l l′ c y r) j p)
 
 module _ {m m′ : Lent} {l l′ w w′ : List ℕ} {c : State} {d : Standing} {r : Answer} {k : ℕ} (counted : c ≡ stateOf w) (standing : d ≡ standingOf w) where
-  pub join-exported : {a b kind number : ℕ} {v v′ : List ℕ} → PublicJoin a b kind number m m′ l l′ c d r → spacious w v ≡ true → ToldAnswer r w w′ v v′ k
-      → ExportedMarks (PublicJoin a b kind number) 7 8 (spacious w v) m m′ l l′ w w′ v v′ (getD v′ 0 0) k
+  pub join-exported : {a b kind number : ℕ} {v v′ : List ℕ} → PublicJoin a b kind number m m′ l l′ c d r → roomy markedRoom w v ≡ true → ToldAnswer r w w′ v v′ k
+      → ExportedMarks (PublicJoin a b kind number) 7 8 (roomy markedRoom w v) m m′ l l′ w w′ v v′ (getD v′ 0 0) k
   join-exported {a} {b} {kind} {number} {v} called room u =
       let p = moved (PublicJoin a b kind number) m m′ l l′ w r counted standing called in
-      let h = spacious-state w v room in
-      told-answer {P = PublicJoin a b kind number} {i = 7} {j = 8} room h (spacious-answer w v room) r
+      let h = roomy-state markedRoom w v room in
+      told-answer {P = PublicJoin a b kind number} {i = 7} {j = 8} room h (roomy-answer markedRoom w v room) r
       (record {
         promise = p;
         stops = no-stop (p .tracks) (join-stops a b kind number (storeOf m (stateOf w)) (trailOf l (standingOf w)));
@@ -280,12 +263,12 @@ module _ {m m′ : Lent} {l l′ w w′ : List ℕ} {c : State} {d : Standing} {
             (join-marks a b kind number (storeOf m (stateOf w)) (trailOf l (standingOf w)) (storeOf m′ (stateOf w)) (trailOf l′ e) x (given-says (p .tracks) x e q)));
       }) u
 
-  pub mark-exported : {v v′ : List ℕ} → Tracks setMark m m′ l l′ c d r → spacious w v ≡ true → ToldAnswer r w w′ v v′ k
-      → ExportedMarks (Tracks setMark) 6 7 (spacious w v) m m′ l l′ w w′ v v′ (getD v′ 0 0) k
+  pub mark-exported : {v v′ : List ℕ} → Tracks setMark m m′ l l′ c d r → roomy markedRoom w v ≡ true → ToldAnswer r w w′ v v′ k
+      → ExportedMarks (Tracks setMark) 6 7 (roomy markedRoom w v) m m′ l l′ w w′ v v′ (getD v′ 0 0) k
   mark-exported {v} called room u =
       let p = moved (Tracks setMark) m m′ l l′ w r counted standing called in
-      let h = spacious-state w v room in
-      told-answer {P = Tracks setMark} {i = 6} {j = 7} room h (spacious-answer w v room) r
+      let h = roomy-state markedRoom w v room in
+      told-answer {P = Tracks setMark} {i = 6} {j = 7} room h (roomy-answer markedRoom w v room) r
       (record {
         promise = p;
         stops = no-stop p (mark-stops (storeOf m (stateOf w)) (trailOf l (standingOf w)));
@@ -294,11 +277,11 @@ module _ {m m′ : Lent} {l l′ w w′ : List ℕ} {c : State} {d : Standing} {
             (mark-joins (storeOf m (stateOf w)) (trailOf l (standingOf w)) (storeOf m′ (stateOf w)) (trailOf l′ e) x (given-says p x e q)));
       }) u
 
-  pub back-exported : {mark : ℕ} → Tracks (goBack mark) m m′ l l′ c d r → 8 ≤ length w → ToldStanding r w w′ k
-      → ExportedMarks (Tracks (goBack mark)) 6 8 (leb 8 (length w)) m m′ l l′ w w′ [] [] mark k
+  pub back-exported : {mark : ℕ} → Tracks (goBack mark) m m′ l l′ c d r → markedRoom ≤ length w → ToldStanding r w w′ k
+      → ExportedMarks (Tracks (goBack mark)) 6 8 (leb markedRoom (length w)) m m′ l l′ w w′ [] [] mark k
   back-exported {mark} called h u =
       let p = moved (Tracks (goBack mark)) m m′ l l′ w r counted standing called in
-      told-state {P = Tracks (goBack mark)} {i = 6} {j = 8} (le-leb 8 (length w) h) h r
+      told-state {P = Tracks (goBack mark)} {i = 6} {j = 8} (le-leb markedRoom (length w) h) h r
       (record {
         promise = p;
         stops = no-stop p (back-stops (storeOf m (stateOf w)) (trailOf l (standingOf w)) mark);

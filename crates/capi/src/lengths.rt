@@ -3,10 +3,11 @@ ghost use mathlib.Core.Path.{_≡_};
 ghost use mathlib.Core.Bool.{true};
 ghost use mathlib.Core.List.{[], _∷_};
 ghost use Rattle.records.specs.View.{across};
-ghost use Rattle.capi.specs.Interface.{stateOf, roomy};
+ghost use Rattle.capi.specs.Interface.{stateOf, stateRoom, roomy};
 ghost use Rattle.capi.specs.Lengths.{ExportedForced};
 ghost use Rattle.capi.specs.Working.Leaves.{tells, ToldWords, ToldBy};
 ghost use Rattle.capi.specs.Working.Measuring.{forcedTelling, NarrowForced};
+use crate::telling::STATE_ROOM;
 use crate::telling::is_roomy;
 use crate::telling::state_of;
 use forced::Forced;
@@ -22,7 +23,7 @@ fn tell_six(
     v: u32,
     t: u32,
 ) -> u32
-    requires { ⌜ roomy (now state) (now answer) ≡ true ⌝ }
+    requires { ⌜ roomy stateRoom (now state) (now answer) ≡ true ⌝ }
     ensures { λ r. do
       let w = now (state .entry)
       ⌜ ToldWords w w (now (answer .entry)) (now (answer .exit)) (tells (stateOf w) (x ∷ y ∷ z ∷ u ∷ v ∷ t ∷ [])) r ⌝ }
@@ -38,7 +39,7 @@ fn tell_six(
 
 // 0, k, c, l, m and r, or 1, k, c, l, the shortage and 0.
 fn tell_forced(state: &[u32], answer: &mut [u32], made: Forced) -> u32
-    requires { ⌜ roomy (now state) (now answer) ≡ true ⌝ ∗ ⌜ NarrowForced made ⌝ }
+    requires { ⌜ roomy stateRoom (now state) (now answer) ≡ true ⌝ ∗ ⌜ NarrowForced made ⌝ }
     ensures { λ r. do
       let w = now (state .entry)
       ⌜ ToldBy (forcedTelling (stateOf w)) w w (now (answer .entry)) (now (answer .exit)) made r ⌝ }
@@ -82,7 +83,7 @@ pub extern "C" fn labels_forced_length(
 ) -> u32
     ensures { λ r. ⌜ ExportedForced (now (lhs .entry)) (now (rhs .entry)) (across terms cells chars reasons keys .entry) (now (state .entry)) (now (answer .entry)) (now (answer .exit)) r ⌝ }
 {
-    if !is_roomy(state, answer) {
+    if !is_roomy(STATE_ROOM, state, answer) {
         return 1;
     }
     let c = state_of(state);

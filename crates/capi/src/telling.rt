@@ -11,7 +11,7 @@ ghost use Rattle.records.specs.declared.Made.the-variants.{Term};
 ghost use Rattle.records.specs.declared.Added.the-variants as adding;
 ghost use Rattle.normalize.specs.declared.Form.the-variants as form;
 ghost use Rattle.normalize.specs.declared.DeepForm.the-variants as deep;
-ghost use Rattle.capi.specs.Interface.{stateOf, roomy};
+ghost use Rattle.capi.specs.Interface.{stateOf, stateRoom, roomy};
 ghost use Rattle.capi.specs.Equations.{flag};
 ghost use Rattle.capi.specs.Working.Leaves.{written, tells, ToldWords, ToldBy, madeTelling, addedTelling, formTelling, deepTelling, answerTelling, outcomeTelling};
 ghost use Rattle.capi.specs.Working.Leaves.{Narrow, NarrowList, NarrowAnswer, NarrowOutcome};
@@ -23,6 +23,11 @@ use records::Made;
 use records::State;
 use records::fields;
 use wordeq::StepResult;
+
+// The words that a state and an answer must have.
+pub(crate) const STATE_ROOM: usize = 6;
+
+pub(crate) const ANSWER_ROOM: usize = 8;
 
 // The counts and the name counter in the state's words.
 pub(crate) fn state_of(state: &[u32]) -> State
@@ -39,7 +44,7 @@ pub(crate) fn state_of(state: &[u32]) -> State
 }
 
 pub(crate) fn write_state(state: &mut [u32], c: State)
-    requires { ⌜ (6 ≤ length (now state)) × Narrow c ⌝ }
+    requires { ⌜ (stateRoom ≤ length (now state)) × Narrow c ⌝ }
     ensures { λ _. ⌜ now (state .exit) ≡ written c (now (state .entry)) ⌝ }
 {
     state[0] = c.terms as u32;
@@ -50,19 +55,19 @@ pub(crate) fn write_state(state: &mut [u32], c: State)
     state[5] = c.names;
 }
 
-// Whether the state has its six words and the answer its eight.
-pub(crate) fn is_roomy(state: &[u32], answer: &[u32]) -> bool
-    ensures { λ r. ⌜ r ≡ roomy (now (state .entry)) (now (answer .entry)) ⌝ }
+// Whether the state has n words and the answer its eight.
+pub(crate) fn is_roomy(n: usize, state: &[u32], answer: &[u32]) -> bool
+    ensures { λ r. ⌜ r ≡ roomy n (now (state .entry)) (now (answer .entry)) ⌝ }
 {
-    if state.len() < 6 {
+    if state.len() < n {
         return false;
     }
-    8 <= answer.len()
+    ANSWER_ROOM <= answer.len()
 }
 
 // A making call's answer into the state's and the answer's words.
 pub(crate) fn tell(state: &mut [u32], answer: &mut [u32], made: Made) -> u32
-    requires { ⌜ (roomy (now state) (now answer) ≡ true) × ((t : ℕ) (c : State) → made ≡ Term t c → Narrow c) ⌝ }
+    requires { ⌜ (roomy stateRoom (now state) (now answer) ≡ true) × ((t : ℕ) (c : State) → made ≡ Term t c → Narrow c) ⌝ }
     ensures { λ r. ⌜ ToldBy madeTelling (now (state .entry)) (now (state .exit)) (now (answer .entry)) (now (answer .exit)) made r ⌝ }
 {
     match made {
@@ -73,7 +78,7 @@ pub(crate) fn tell(state: &mut [u32], answer: &mut [u32], made: Made) -> u32
 
 // The counts after explain into the state's words.
 pub(crate) fn tell_counts(state: &mut [u32], added: Added) -> u32
-    requires { ⌜ (6 ≤ length (now state)) × ((c : State) → added ≡ adding.Counts c → Narrow c) ⌝ }
+    requires { ⌜ (stateRoom ≤ length (now state)) × ((c : State) → added ≡ adding.Counts c → Narrow c) ⌝ }
     ensures { λ r. ⌜ ToldBy addedTelling (now (state .entry)) (now (state .exit)) [] [] added r ⌝ }
 {
     match added {
@@ -87,7 +92,7 @@ pub(crate) fn tell_counts(state: &mut [u32], added: Added) -> u32
 
 // The counts into the state's words, and an answer of one word; two, three and four below.
 pub(crate) fn tell_one(state: &mut [u32], answer: &mut [u32], c: State, x: u32) -> u32
-    requires { ⌜ (roomy (now state) (now answer) ≡ true) × Narrow c ⌝ }
+    requires { ⌜ (roomy stateRoom (now state) (now answer) ≡ true) × Narrow c ⌝ }
     ensures { λ r. ⌜ ToldWords (now (state .entry)) (now (state .exit)) (now (answer .entry)) (now (answer .exit)) (tells c (x ∷ [])) r ⌝ }
 {
     write_state(state, c);
@@ -96,7 +101,7 @@ pub(crate) fn tell_one(state: &mut [u32], answer: &mut [u32], c: State, x: u32) 
 }
 
 pub(crate) fn tell_two(state: &mut [u32], answer: &mut [u32], c: State, x: u32, y: u32) -> u32
-    requires { ⌜ (roomy (now state) (now answer) ≡ true) × Narrow c ⌝ }
+    requires { ⌜ (roomy stateRoom (now state) (now answer) ≡ true) × Narrow c ⌝ }
     ensures { λ r. ⌜ ToldWords (now (state .entry)) (now (state .exit)) (now (answer .entry)) (now (answer .exit)) (tells c (x ∷ y ∷ [])) r ⌝ }
 {
     write_state(state, c);
@@ -113,7 +118,7 @@ pub(crate) fn tell_three(
     y: u32,
     z: u32,
 ) -> u32
-    requires { ⌜ (roomy (now state) (now answer) ≡ true) × Narrow c ⌝ }
+    requires { ⌜ (roomy stateRoom (now state) (now answer) ≡ true) × Narrow c ⌝ }
     ensures { λ r. ⌜ ToldWords (now (state .entry)) (now (state .exit)) (now (answer .entry)) (now (answer .exit)) (tells c (x ∷ y ∷ z ∷ [])) r ⌝ }
 {
     write_state(state, c);
@@ -132,7 +137,7 @@ pub(crate) fn tell_four(
     z: u32,
     u: u32,
 ) -> u32
-    requires { ⌜ (roomy (now state) (now answer) ≡ true) × Narrow c ⌝ }
+    requires { ⌜ (roomy stateRoom (now state) (now answer) ≡ true) × Narrow c ⌝ }
     ensures { λ r. ⌜ ToldWords (now (state .entry)) (now (state .exit)) (now (answer .entry)) (now (answer .exit)) (tells c (x ∷ y ∷ z ∷ u ∷ [])) r ⌝ }
 {
     write_state(state, c);
@@ -145,7 +150,7 @@ pub(crate) fn tell_four(
 
 // A normal form's answer into the words.
 pub(crate) fn tell_form(state: &mut [u32], answer: &mut [u32], made: Form) -> u32
-    requires { ⌜ (roomy (now state) (now answer) ≡ true) × ((n : ℕ) (c : State) → made ≡ form.List n c → NarrowList n c) ⌝ }
+    requires { ⌜ (roomy stateRoom (now state) (now answer) ≡ true) × ((n : ℕ) (c : State) → made ≡ form.List n c → NarrowList n c) ⌝ }
     ensures { λ r. ⌜ ToldBy formTelling (now (state .entry)) (now (state .exit)) (now (answer .entry)) (now (answer .exit)) made r ⌝ }
 {
     match made {
@@ -156,7 +161,7 @@ pub(crate) fn tell_form(state: &mut [u32], answer: &mut [u32], made: Form) -> u3
 
 // A deep form's answer into the words.
 pub(crate) fn tell_deep_form(state: &mut [u32], answer: &mut [u32], made: DeepForm) -> u32
-    requires { ⌜ (roomy (now state) (now answer) ≡ true) × ((n : ℕ) (c : State) → made ≡ deep.List n c → NarrowList n c) × ((c : State) → made ≡ deep.None c → Narrow c) ⌝ }
+    requires { ⌜ (roomy stateRoom (now state) (now answer) ≡ true) × ((n : ℕ) (c : State) → made ≡ deep.List n c → NarrowList n c) × ((c : State) → made ≡ deep.None c → Narrow c) ⌝ }
     ensures { λ r. ⌜ ToldBy deepTelling (now (state .entry)) (now (state .exit)) (now (answer .entry)) (now (answer .exit)) made r ⌝ }
 {
     match made {
@@ -188,7 +193,7 @@ pub(crate) fn bits_of(g: i32) -> u32
 
 // An answer of wordeq into the words.
 pub(crate) fn tell_answer(state: &mut [u32], answer: &mut [u32], made: StepResult) -> u32
-    requires { ⌜ (roomy (now state) (now answer) ≡ true) × NarrowAnswer made ⌝ }
+    requires { ⌜ (roomy stateRoom (now state) (now answer) ≡ true) × NarrowAnswer made ⌝ }
     ensures { λ r. ⌜ ToldBy answerTelling (now (state .entry)) (now (state .exit)) (now (answer .entry)) (now (answer .exit)) made r ⌝ }
 {
     match made {
@@ -203,7 +208,7 @@ pub(crate) fn tell_answer(state: &mut [u32], answer: &mut [u32], made: StepResul
 
 // An answer of the step over one equation into the words.
 pub(crate) fn tell_outcome(state: &mut [u32], answer: &mut [u32], made: Outcome) -> u32
-    requires { ⌜ (roomy (now state) (now answer) ≡ true) × NarrowOutcome made ⌝ }
+    requires { ⌜ (roomy stateRoom (now state) (now answer) ≡ true) × NarrowOutcome made ⌝ }
     ensures { λ r. ⌜ ToldBy outcomeTelling (now (state .entry)) (now (state .exit)) (now (answer .entry)) (now (answer .exit)) made r ⌝ }
 {
     match made {

@@ -29,7 +29,7 @@ labels-nf-equal-spec =
     (λ c.
     let at-if1 = c .before .before .before .before .before .before in
     let at-is-roomy = at-if1 .before in
-    let h = roomy-answer _ _ (sym (at-is-roomy .is-roomy .ensures) ∙ not-false _ (at-if1 .if1 .left)) in omega arith)
+    let h = roomy-answer _ _ _ (sym (at-is-roomy .is-roomy .ensures) ∙ not-false _ (at-if1 .if1 .left)) in omega arith)
     -- enum-known-compared-2
     (λ c. search needs)
     -- same-length-2

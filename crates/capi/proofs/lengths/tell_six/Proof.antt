@@ -11,17 +11,17 @@ tell-six-spec =
     tie.close
     (tie.spec
     -- slice-write-answer
-    (λ c. (let h = roomy-answer _ _ (c .pre) in omega arith))
+    (λ c. (let h = roomy-answer _ _ _ (c .pre) in omega arith))
     -- slice-write-answer-2
-    (λ c. (let h = roomy-answer _ _ (c .pre) in simp length-set (omega arith)))
+    (λ c. (let h = roomy-answer _ _ _ (c .pre) in simp length-set (omega arith)))
     -- slice-write-answer-3
-    (λ c. (let h = roomy-answer _ _ (c .pre) in simp length-set (omega arith)))
+    (λ c. (let h = roomy-answer _ _ _ (c .pre) in simp length-set (omega arith)))
     -- slice-write-answer-4
-    (λ c. (let h = roomy-answer _ _ (c .pre) in simp length-set (omega arith)))
+    (λ c. (let h = roomy-answer _ _ _ (c .pre) in simp length-set (omega arith)))
     -- slice-write-answer-5
-    (λ c. (let h = roomy-answer _ _ (c .pre) in simp length-set (omega arith)))
+    (λ c. (let h = roomy-answer _ _ _ (c .pre) in simp length-set (omega arith)))
     -- slice-write-answer-6
-    (λ c. (let h = roomy-answer _ _ (c .pre) in simp length-set (omega arith)))
+    (λ c. (let h = roomy-answer _ _ _ (c .pre) in simp length-set (omega arith)))
     -- same-length
     (λ c. search needs)
     -- returns

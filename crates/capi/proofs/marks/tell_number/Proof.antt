@@ -1,6 +1,7 @@
 use mathlib.Core.Path.{refl}
 use native.Mathlib.Omega.{arith}
-use Rattle.capi.proofs.Standings.{spacious-state, spacious-answer, number-told}
+use Rattle.capi.proofs.Standings.{number-told}
+use Rattle.capi.proofs.Words.{roomy-state, roomy-answer}
 use borrow.Author.Needs.{needs}
 use Rattle.capi.proofs.marks.tell_number.Statement.{statement}
 use Rattle.capi.proofs.marks.tell_number.Tie as tie
@@ -15,11 +16,11 @@ tell-number-spec =
     (λ c κs.
     let at-told = c .before .before in
     let at-start = at-told .before .before .before .before in
-    (spacious-state _ _ (at-start .pre .0), at-start .pre .1 .counts _ _ (at-told .told .given .1)))
+    (roomy-state _ _ _ (at-start .pre .0), at-start .pre .1 .counts _ _ (at-told .told .given .1)))
     -- slice-write-answer
     (λ c.
     let at-start = c .before .before .before .before .before .before .before .before .before in
-    let h = spacious-answer _ _ (at-start .pre .0) in omega arith)
+    let h = roomy-answer _ _ _ (at-start .pre .0) in omega arith)
     -- enum-known-told-2
     (λ c. search needs)
     -- same-length

@@ -11,21 +11,21 @@ tell-four-spec =
     tie.close
     (tie.spec
     -- write-state-requires
-    (λ c κs. let at-start = c .before .before .before in (roomy-state _ _ (at-start .pre .0), at-start .pre .1))
+    (λ c κs. let at-start = c .before .before .before in (roomy-state _ _ _ (at-start .pre .0), at-start .pre .1))
     -- slice-write-answer
-    (λ c. let at-start = c .before .before .before .before .before .before in let h = roomy-answer _ _ (at-start .pre .0) in omega arith)
+    (λ c. let at-start = c .before .before .before .before .before .before in let h = roomy-answer _ _ _ (at-start .pre .0) in omega arith)
     -- slice-write-answer-2
     (λ c.
     let at-start = c .before .before .before .before .before .before in
-    let h = roomy-answer _ _ (at-start .pre .0) in simp length-set (omega arith))
+    let h = roomy-answer _ _ _ (at-start .pre .0) in simp length-set (omega arith))
     -- slice-write-answer-3
     (λ c.
     let at-start = c .before .before .before .before .before .before in
-    let h = roomy-answer _ _ (at-start .pre .0) in simp length-set (omega arith))
+    let h = roomy-answer _ _ _ (at-start .pre .0) in simp length-set (omega arith))
     -- slice-write-answer-4
     (λ c.
     let at-start = c .before .before .before .before .before .before in
-    let h = roomy-answer _ _ (at-start .pre .0) in simp length-set (omega arith))
+    let h = roomy-answer _ _ _ (at-start .pre .0) in simp length-set (omega arith))
     -- same-length
     (λ c. search needs)
     -- same-length-2
