@@ -33,8 +33,7 @@ use Rattle.wordeq.proofs.Resolve.{resolve-kept, resolve-stops}
 use Rattle.wordeq.proofs.FewAtoms.{Few, resolve-few}
 use Rattle.capi.specs.Interface.{stateOf, stateRoom, answerRoom, roomy, over, told}
 use Rattle.capi.specs.Equations.{flag, answerWords, answerBy, answerRead, ExportedResolve}
-use Rattle.capi.specs.Working.Leaves.{Narrow, NarrowAnswer, Telling, tells, ToldWords, ToldBy, answerTelling}
-use Rattle.capi.proofs.Words.{told-by}
+use Rattle.capi.specs.Working.Leaves.{written, Narrow, NarrowAnswer, tells, ToldBy, answerTelling}
 use Rattle.capi.proofs.Exports.{Tells, Shows}
 use Rattle.capi.proofs.Listings.{list-gives, list-room, list-tellable, list-exported, list-worth, untold-list}
 
@@ -154,7 +153,7 @@ module _ {l r : List ℕ} {g : ℤ} {m m′ : Lent} {k k′ : List ℕ} {c : Sta
   pub resolve-tellable : NarrowAnswer o
   resolve-tellable = answer-narrow o (list-tellable (resolve-tells l r g) called answerWords (answerRead k′) (answerTelling o) shows) stands
 
-  pub resolve-exported : {w w′ a a′ : List ℕ} {n : ℕ} → roomy stateRoom w a ≡ true → c ≡ stateOf w → ToldBy answerTelling w w′ a a′ o n
+  pub resolve-exported : {w w′ a a′ : List ℕ} {n : ℕ} → roomy stateRoom w a ≡ true → c ≡ stateOf w → ToldBy written answerTelling w w′ a a′ o n
       → ExportedResolve l r g m m′ k k′ w w′ a a′ n
   resolve-exported {w} {w′} {a} {a′} {n} room e u =
       let x = list-exported (resolve-tells l r g) called answerWords (answerRead k′) (answerTelling o) shows room e (u .is) in
@@ -177,19 +176,3 @@ module _ {l r : List ℕ} {g : ℤ} {m m′ : Lent} {k k′ : List ℕ} {c : Sta
       grown z y =
           let f = list-worth (resolve-tells l r g) called answerWords (answerRead k′) (answerTelling o) shows room e (u .is) {P = Grown} (λ s′ x q atoms h i p. subst (λ (d : State). count s′ ≡ i + count (storeOf m d)) e (here .grows s′ atoms h i (q ∙ ap (ok s′) p))) z in
           sym (counted m′ w′) ∙ f _ _ _ (ap (λ (j : ℕ). answerBy j k′ a′) y) ∙ ap (λ (j : ℕ). getD a′ 3 0 + j) (counted m w)
-
--- TELLING
-
-module _ {R : Type 0} {f : R → Telling} {r : R} {w w′ a a′ : List ℕ} {k : ℕ} {c : State} where
-  -- words that are the telling's own
-  told-as : {v v′ : List ℕ} → f r ≡ tells c v → v′ ≡ v → ToldWords w w′ a a′ (tells c v′) k → ToldBy f w w′ a a′ r k
-  told-as e q t = told-by (e ∙ ap (tells c) (sym q)) t
-
-  pub told-flag : {x y z u u′ : ℕ} → f r ≡ tells c (x ∷ y ∷ z ∷ u ∷ []) → u′ ≡ u → ToldWords w w′ a a′ (tells c (x ∷ y ∷ z ∷ u′ ∷ [])) k → ToldBy f w w′ a a′ r k
-  told-flag {x} {y} {z} e q t = told-as e (ap (λ (v : ℕ). x ∷ y ∷ z ∷ v ∷ []) q) t
-
-  pub told-third : {x y u u′ : ℕ} → f r ≡ tells c (x ∷ y ∷ u ∷ []) → u′ ≡ u → ToldWords w w′ a a′ (tells c (x ∷ y ∷ u′ ∷ [])) k → ToldBy f w w′ a a′ r k
-  told-third {x} {y} e q t = told-as e (ap (λ (v : ℕ). x ∷ y ∷ v ∷ []) q) t
-
-  pub told-guard : {x y z : ℕ} {g : ℤ} {u : ℕ} → f r ≡ tells c (x ∷ y ∷ ofZ w32 g ∷ z ∷ []) → SFits w32 g → u ≡ ofZ w32 (toZ w32 (ofZ w32 g)) → ToldWords w w′ a a′ (tells c (x ∷ y ∷ u ∷ z ∷ [])) k → ToldBy f w w′ a a′ r k
-  told-guard {x} {y} {z} {g} e h q t = told-as e (ap (λ (v : ℕ). x ∷ y ∷ v ∷ z ∷ []) (q ∙ ap (ofZ w32) (toZ-ofZ w32 g h))) t

@@ -14,7 +14,7 @@ use Rattle.records.specs.Store.{Store, ok, stop, Work}
 use Rattle.records.specs.View.{Lent, storeOf}
 use Rattle.records.specs.Calls.{call, Public, added, fullAlone}
 use Rattle.capi.specs.Interface.{stateOf, stateRoom, over, Exported}
-use Rattle.capi.specs.Working.Leaves.{Narrow, ToldBy, addedTelling}
+use Rattle.capi.specs.Working.Leaves.{written, Narrow, ToldBy, addedTelling}
 use Rattle.capi.proofs.Exports.{Tells, narrow, call-audited, call-stops, Shows, told-exported, told-worth, told-stop}
 
 abbrev noWords : Unit {0} → List ℕ
@@ -34,7 +34,7 @@ module _ {fit : Store → Bool} {work : Work (Unit {0})} (can : Tells fit work) 
   stops : added r m′ ≡ stop 0 → ⊥
   stops e = call-stops can m c 0 (sym (called .says) ∙ e) refl
 
-  module _ {w w′ : List ℕ} {k : ℕ} (t : ToldBy addedTelling w w′ [] [] r k) where
+  module _ {w w′ : List ℕ} {k : ℕ} (t : ToldBy written addedTelling w w′ [] [] r k) where
     pub counts-exported : stateRoom ≤ length w → c ≡ stateOf w → Exported (over (leb stateRoom (length w)) (call fit work m (stateOf w))) m m′ w w′ 0 [] [] tt k
     counts-exported room e =
         told-exported 0 noWords noRead m′ (added r m′) (addedTelling r) (added-shows r m′) stops (t .is) (le-leb stateRoom (length w) room) room (omega arith)

@@ -4,7 +4,7 @@ use mathlib.Core.Bool.{true, _&&_}
 use mathlib.Core.List.{List, [], _∷_}
 use Prim.Native.Nat.{ℕ, _≤_, _<_}
 use native.Mathlib.Omega.{arith}
-use lib.ListN.{length, getD, set}
+use lib.ListN.{length, getD}
 use borrow.Author.Tests.{lt-leb}
 use Rattle.records.specs.declared.State.{State}
 use Rattle.records.specs.declared.Added.{Added}
@@ -23,9 +23,9 @@ use Rattle.engine.specs.Meaning.{Explains, addedTo, Labels}
 use Rattle.engine.specs.Calls.{found, PublicExplain}
 use Rattle.engine.proofs.Sound.{explain-kept, explain-stops}
 use Rattle.capi.specs.Interface.{stateOf, stateRoom, answerRoom, roomy, over, Exported, ExportedExplain}
-use Rattle.capi.specs.Working.Leaves.{Narrow, Telling, tells, refuses, ToldBy, addedTelling}
-use Rattle.capi.proofs.Words.{written-same, roomy-state, roomy-answer, one-told, told-by, told-refuses}
-use Rattle.capi.proofs.Exports.{Tells, call-stops, untold, Shows, told-exported, numberWords, numberRead}
+use Rattle.capi.specs.Working.Leaves.{written, Narrow, Telling, tells, refuses, ToldWords, ToldBy, addedTelling}
+use Rattle.capi.proofs.Words.{told-by, told-refuses}
+use Rattle.capi.proofs.Exports.{Tells, untold, Shows, call-exported, numberWords, numberRead}
 use Rattle.capi.proofs.CountExports.{counts-tellable, counts-exported, counts-worth, counts-full}
 
 -- FIND
@@ -38,7 +38,7 @@ find-tells t = record {
 }
 
 -- the root; the counts are as they were
-abbrev foundTelling : State → Found → Telling
+abbrev foundTelling : State → Found → Telling State
 foundTelling c (Root u) = tells c (u ∷ [])
 foundTelling c (Refused k) = refuses k
 
@@ -50,14 +50,11 @@ module _ (t : ℕ) (m : Lent) (c : State) (r : Found) (called : Public (call (fi
   at : Public (call (findArguments t) (find t) m (stateOf w)) m m (stateOf w) (found r m (stateOf w))
   at = subst (λ (d : State). Public (call (findArguments t) (find t) m d) m m d (found r m d)) is called
 
-  find-exported : {a′ : List ℕ} {k : ℕ} → ToldBy (foundTelling (stateOf w)) w w a a′ r k → Exported (over (roomy stateRoom w a) (call (findArguments t) (find t) m (stateOf w))) m m w w 1 a a′ (getD a′ 0 0) k
-  find-exported u =
-      told-exported answerRoom numberWords numberRead m (found r m (stateOf w)) (foundTelling (stateOf w) r) (found-shows r m (stateOf w)) (λ q. call-stops (find-tells t) m (stateOf w) 0 (sym (at .says) ∙ q) refl) (u .is) room
-      (roomy-state stateRoom w a room) (roomy-answer stateRoom w a room) at .is
+  find-exported : {a′ : List ℕ} {k : ℕ} → ToldBy written (foundTelling (stateOf w)) w w a a′ r k → Exported (over (roomy stateRoom w a) (call (findArguments t) (find t) m (stateOf w))) m m w w 1 a a′ (getD a′ 0 0) k
+  find-exported u = call-exported (find-tells t) at numberWords numberRead (foundTelling (stateOf w) r) (found-shows r m (stateOf w)) room refl (u .is) .is
 
-  pub find-told : (u : ℕ) → r ≡ Root u
-      → Exported (over (roomy stateRoom w a) (call (findArguments t) (find t) m (stateOf w))) m m w w 1 a (set a 0 u) (getD (set a 0 u) 0 0) 0
-  find-told u e = find-exported (told-by (ap (foundTelling (stateOf w)) e) (one-told room (written-same w (roomy-state stateRoom w a room)) refl))
+  pub find-told : {a′ : List ℕ} {u k : ℕ} → r ≡ Root u → ToldWords written w w a a′ (tells (stateOf w) (u ∷ [])) k → Exported (over (roomy stateRoom w a) (call (findArguments t) (find t) m (stateOf w))) m m w w 1 a a′ (getD a′ 0 0) k
+  find-told e u = find-exported (told-by (ap (foundTelling (stateOf w)) e) u)
 
   pub find-untold : (k : ℕ) → r ≡ Refused k → Exported (over (roomy stateRoom w a) (call (findArguments t) (find t) m (stateOf w))) m m w w 1 a a (getD a 0 0) k
   find-untold k e = find-exported (told-refuses (ap (foundTelling (stateOf w)) e))
@@ -86,7 +83,7 @@ module _ {a b : ℕ} {m m′ : Lent} {c : State} {r : Added} (called : PublicExp
   pub explain-tellable : (d : State) → r ≡ adding.Counts d → Narrow d
   explain-tellable d e = counts-tellable (explain-tells a b) r (called .is) d e
 
-  pub explain-exported : {w w′ : List ℕ} {k : ℕ} → stateRoom ≤ length w → c ≡ stateOf w → ToldBy addedTelling w w′ [] [] r k → ExportedExplain a b m m′ w w′ k
+  pub explain-exported : {w w′ : List ℕ} {k : ℕ} → stateRoom ≤ length w → c ≡ stateOf w → ToldBy written addedTelling w w′ [] [] r k → ExportedExplain a b m m′ w w′ k
   explain-exported room e t = record {
     is = counts-exported (explain-tells a b) r (called .is) t room e;
     worth = counts-worth (explain-tells a b) r (called .is) t (λ s′ q. subst (λ (d : State). Explains (storeOf m d) s′ a b) e (called .worth s′ q));

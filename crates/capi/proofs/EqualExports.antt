@@ -4,7 +4,7 @@ use mathlib.Core.Bool.{Bool, true, false}
 use mathlib.Core.List.{List, [], _∷_}
 use Prim.Native.Nat.{ℕ, _≤_, _<_}
 use native.Mathlib.Omega.{arith}
-use lib.ListN.{length, set}
+use lib.ListN.{length}
 use borrow.Author.Tests.{lt-leb}
 use Rattle.records.specs.declared.State.{State}
 use Rattle.records.specs.declared.Added.{Added}
@@ -21,9 +21,9 @@ use Rattle.wordeq.specs.Calls.{equalArguments, equalLists, compared, PublicEqua
 use Rattle.wordeq.proofs.Equal.{explain-equal-kept, explain-equal-stops}
 use Rattle.capi.specs.Interface.{stateOf, stateRoom, answerRoom, roomy}
 use Rattle.capi.specs.Equations.{flag, flagWords, flagRead, ExportedEqual, ExportedEqualExplain}
-use Rattle.capi.specs.Working.Leaves.{Narrow, Telling, tells, refuses, ToldBy, addedTelling}
-use Rattle.capi.proofs.Words.{written-same, roomy-state, roomy-answer, one-told, told-by, told-refuses}
-use Rattle.capi.proofs.Exports.{Tells, call-stops, untold, Shows, told-exported}
+use Rattle.capi.specs.Working.Leaves.{written, Narrow, Telling, tells, refuses, ToldWords, ToldBy, addedTelling}
+use Rattle.capi.proofs.Words.{told-as, told-refuses}
+use Rattle.capi.proofs.Exports.{Tells, untold, Shows, call-exported}
 use Rattle.capi.proofs.CountExports.{counts-tellable, counts-exported, counts-worth, counts-full}
 use Rattle.capi.proofs.AnswerExports.{left-strings, right-strings, flag-back}
 
@@ -37,7 +37,7 @@ equal-tells l r = record {
 }
 
 -- the flag; the counts are as they were
-abbrev equalTelling : State → Equality → Telling
+abbrev equalTelling : State → Equality → Telling State
 equalTelling c (equality.Is b) = tells c (flag b ∷ [])
 equalTelling c (equality.Refused k) = refuses k
 
@@ -52,16 +52,11 @@ module _ (l r : List ℕ) (m : Lent) (c : State) (x : Equality) (called : Public
   at : Public (call (equalArguments l r) (equalLists l r) m (stateOf w)) m m (stateOf w) (compared x m (stateOf w))
   at = subst (λ (d : State). Public (call (equalArguments l r) (equalLists l r) m d) m m d (compared x m d)) is called
 
-  equal-exported : {a′ : List ℕ} {k : ℕ} → ToldBy (equalTelling (stateOf w)) w w a a′ x k → ExportedEqual l r m w a a′ k
-  equal-exported u = record {
-    is =
-        told-exported answerRoom flagWords flagRead m (compared x m (stateOf w)) (equalTelling (stateOf w) x) (equal-shows x m (stateOf w)) (λ q. call-stops (equal-tells l r) m (stateOf w) 0 (sym (at .says) ∙ q) refl) (u .is) room
-        (roomy-state stateRoom w a room) (roomy-answer stateRoom w a room) at;
-  }
+  equal-exported : {a′ : List ℕ} {k : ℕ} → ToldBy written (equalTelling (stateOf w)) w w a a′ x k → ExportedEqual l r m w a a′ k
+  equal-exported u = record { is = call-exported (equal-tells l r) at flagWords flagRead (equalTelling (stateOf w) x) (equal-shows x m (stateOf w)) room refl (u .is) }
 
-  pub equal-told : (b : Bool) → x ≡ equality.Is b → (u : ℕ) → u ≡ flag b → ExportedEqual l r m w a (set a 0 u) 0
-  equal-told b e u f =
-      equal-exported (told-by (ap (equalTelling (stateOf w)) e ∙ ap (λ (y : ℕ). tells (stateOf w) (y ∷ [])) (sym f)) (one-told room (written-same w (roomy-state stateRoom w a room)) refl))
+  pub equal-told : {a′ : List ℕ} {b : Bool} {u k : ℕ} → x ≡ equality.Is b → u ≡ flag b → ToldWords written w w a a′ (tells (stateOf w) (u ∷ [])) k → ExportedEqual l r m w a a′ k
+  equal-told e f u = equal-exported (told-as (ap (equalTelling (stateOf w)) e) u (ap (λ (y : ℕ). y ∷ []) f))
 
   pub equal-untold : (k : ℕ) → x ≡ equality.Refused k → ExportedEqual l r m w a a k
   equal-untold k e = equal-exported (told-refuses (ap (equalTelling (stateOf w)) e))
@@ -81,7 +76,7 @@ module _ {l r : List ℕ} {m m′ : Lent} {c : State} {x : Added} (called : Publ
   pub pairs-tellable : (d : State) → x ≡ adding.Counts d → Narrow d
   pairs-tellable d e = counts-tellable (pairs-tells l r) x (called .is) d e
 
-  pub pairs-exported : {w w′ : List ℕ} {k : ℕ} → stateRoom ≤ length w → c ≡ stateOf w → ToldBy addedTelling w w′ [] [] x k → ExportedEqualExplain l r m m′ w w′ k
+  pub pairs-exported : {w w′ : List ℕ} {k : ℕ} → stateRoom ≤ length w → c ≡ stateOf w → ToldBy written addedTelling w w′ [] [] x k → ExportedEqualExplain l r m m′ w w′ k
   pairs-exported room e t = record {
     is = counts-exported (pairs-tells l r) x (called .is) t room e;
     worth = counts-worth (pairs-tells l r) x (called .is) t (λ s′ q. subst (λ (d : State). ExplainsEqual (storeOf m d) s′ l r) e (called .worth s′ q));

@@ -24,7 +24,7 @@ use Rattle.normalize.proofs.Formed.{form-gives, form-kept, form-stops}
 use Rattle.normalize.proofs.Deep.{deep-gives, deep-kept, deep-stops}
 use Rattle.capi.specs.Interface.{stateOf, stateRoom, answerRoom, roomy}
 use Rattle.capi.specs.Forms.{formWords, deepWords, formRead, deepRead, ExportedForm, ExportedDeepForm}
-use Rattle.capi.specs.Working.Leaves.{Narrow, NarrowList, formTelling, deepTelling, ToldBy}
+use Rattle.capi.specs.Working.Leaves.{written, Narrow, NarrowList, formTelling, deepTelling, ToldBy}
 use Rattle.capi.proofs.Exports.{Tells, Shows}
 use Rattle.capi.proofs.Listings.{list-gives, list-narrow, list-exported, list-worth, untold-list}
 
@@ -77,7 +77,7 @@ module _ {known : List ℕ} {t : ℕ} {m m′ : Lent} {l l′ : List ℕ} {c : S
           let i = rw table-length at h in
           omega arith
 
-  pub form-exported : {w w′ a a′ : List ℕ} {k : ℕ} → roomy stateRoom w a ≡ true → c ≡ stateOf w → ToldBy formTelling w w′ a a′ r k → ExportedForm known t m m′ l l′ w w′ a a′ k
+  pub form-exported : {w w′ a a′ : List ℕ} {k : ℕ} → roomy stateRoom w a ≡ true → c ≡ stateOf w → ToldBy written formTelling w w′ a a′ r k → ExportedForm known t m m′ l l′ w w′ a a′ k
   form-exported room e u = record {
     is = list-exported (form-tells known t) (called .is) formWords (formRead l′) (formTelling r) (form-shows r m′ l′) room e (u .is);
     worth = list-worth (form-tells known t) (called .is) formWords (formRead l′) (formTelling r) (form-shows r m′ l′) room e (u .is) (λ s′ x q. subst (λ (d : State). Forms (storeOf m d) s′ t x) e (called .worth s′ x q));
@@ -115,7 +115,7 @@ module _ {known : List ℕ} {t : ℕ} {m m′ : Lent} {l l′ : List ℕ} {c : S
   pub none-tellable : (d : State) → r ≡ deep.None d → Narrow d
   none-tellable d e = list-narrow (deep-tells known t) (called .is) d none (ap (λ (x : DeepForm). deepened x m′ l′) e)
 
-  pub deep-exported : {w w′ a a′ : List ℕ} {k : ℕ} → roomy stateRoom w a ≡ true → c ≡ stateOf w → ToldBy deepTelling w w′ a a′ r k → ExportedDeepForm known t m m′ l l′ w w′ a a′ k
+  pub deep-exported : {w w′ a a′ : List ℕ} {k : ℕ} → roomy stateRoom w a ≡ true → c ≡ stateOf w → ToldBy written deepTelling w w′ a a′ r k → ExportedDeepForm known t m m′ l l′ w w′ a a′ k
   deep-exported room e u = record {
     is = list-exported (deep-tells known t) (called .is) deepWords (deepRead l′) (deepTelling r) (deep-shows r m′ l′) room e (u .is);
     worth = list-worth (deep-tells known t) (called .is) deepWords (deepRead l′) (deepTelling r) (deep-shows r m′ l′) room e (u .is) (λ s′ x q. subst (λ (d : State). DeepForms (storeOf m d) s′ t x) e (called .worth s′ x q));

@@ -6,7 +6,7 @@ use Prim.Native.Nat.{ℕ, _≤_, _<_}
 use native.Mathlib.Omega.{arith}
 use lib.ListN.{length}
 use Rattle.records.specs.declared.State.{State}
-use Rattle.records.specs.Store.{Store, Out, ok, stop}
+use Rattle.records.specs.Store.{Store, Out, ok}
 use Rattle.records.specs.View.{Lent, storeOf}
 use Rattle.records.specs.Working.Audited.{Audited}
 use Rattle.wordeq.specs.Calls.{equalArguments}
@@ -18,10 +18,9 @@ use Rattle.forced.specs.Calls.{fitted, PublicForced}
 use Rattle.forced.proofs.ForcedLength.{forced-gives, forced-stops}
 use Rattle.capi.specs.Interface.{stateOf, stateRoom, answerRoom, roomy}
 use Rattle.capi.specs.Lengths.{fitWords, fitRead, ExportedForced}
-use Rattle.capi.specs.Working.Leaves.{ToldBy}
+use Rattle.capi.specs.Working.Leaves.{written, ToldBy}
 use Rattle.capi.specs.Working.Measuring.{forcedTelling, Word, NarrowForced}
-use Rattle.capi.proofs.Words.{roomy-state, roomy-answer}
-use Rattle.capi.proofs.Exports.{Tells, call-stops, untold, Shows, told-exported, told-worth}
+use Rattle.capi.proofs.Exports.{Tells, untold, Shows, call-exported, call-worth}
 
 forced-tells : (l r : List ℕ) → Tells (equalArguments l r) (forcedLength l r)
 forced-tells l r = record {
@@ -50,16 +49,12 @@ module _ {l r : List ℕ} {m : Lent} {c : State} {o : Forced} (called : PublicFo
         (omega arith, omega arith, omega arith, omega arith);
   }
 
-  pub forced-exported : {w a a′ : List ℕ} {k : ℕ} → roomy stateRoom w a ≡ true → c ≡ stateOf w → ToldBy (forcedTelling (stateOf w)) w w a a′ o k → ExportedForced l r m w a a′ k
-  forced-exported {w} {a} {a′} {k} room e u = record {
-    is = told-exported answerRoom fitWords fitRead m (fitted o (storeOf m (stateOf w))) (forcedTelling (stateOf w) o) (forced-shows o m (stateOf w)) not-none (u .is) room
-        (roomy-state stateRoom w a room) (roomy-answer stateRoom w a room) (at .is);
-    worth = told-worth answerRoom fitWords fitRead m (fitted o (storeOf m (stateOf w))) (forcedTelling (stateOf w) o) (forced-shows o m (stateOf w)) not-none (u .is)
+  pub forced-exported : {w a a′ : List ℕ} {k : ℕ} → roomy stateRoom w a ≡ true → c ≡ stateOf w → ToldBy written (forcedTelling (stateOf w)) w w a a′ o k → ExportedForced l r m w a a′ k
+  forced-exported {w} room e u = record {
+    is = call-exported (forced-tells l r) (at .is) fitWords fitRead (forcedTelling (stateOf w) o) (forced-shows o m (stateOf w)) room refl (u .is);
+    worth = call-worth (forced-tells l r) (at .is) fitWords fitRead (forcedTelling (stateOf w) o) (forced-shows o m (stateOf w)) room refl (u .is)
         {P = λ s′ x. Forces (storeOf m (stateOf w)) l r x} (at .worth);
   }
     where
       at : PublicForced l r m m (stateOf w) (fitted o (storeOf m (stateOf w)))
       at = subst (λ (d : State). PublicForced l r m m d (fitted o (storeOf m d))) e called
-
-      not-none : fitted o (storeOf m (stateOf w)) ≡ stop 0 → ⊥
-      not-none q = call-stops (forced-tells l r) m (stateOf w) 0 (sym (at .is .says) ∙ q) refl

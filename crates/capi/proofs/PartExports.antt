@@ -22,7 +22,7 @@ use Rattle.empties.proofs.EmptyParts.{parts-later, parts-few, parts-stops}
 use Rattle.capi.specs.Interface.{stateOf, stateRoom, answerRoom, roomy, over, told}
 use Rattle.capi.specs.Equations.{flag}
 use Rattle.capi.specs.Parts.{partsWords, partsRead, ExportedParts}
-use Rattle.capi.specs.Working.Leaves.{NarrowList, ToldBy}
+use Rattle.capi.specs.Working.Leaves.{written, NarrowList, ToldBy}
 use Rattle.capi.specs.Working.Parting.{partsTelling, NarrowParts}
 use Rattle.capi.proofs.Exports.{Tells, Shows}
 use Rattle.capi.proofs.Listings.{list-gives, list-narrow, list-exported, list-worth, untold-list}
@@ -57,7 +57,7 @@ module _ {l r : List ℕ} {m m′ : Lent} {k k′ : List ℕ} {c : State} {o : E
           let i = table-length (λ j. getD k′ j 0) n in
           record { counts = list-narrow (parts-tells l r) (called .is) d _ q; list = omega arith }
 
-  pub parts-exported : {w w′ a a′ : List ℕ} {n : ℕ} → roomy stateRoom w a ≡ true → c ≡ stateOf w → ToldBy partsTelling w w′ a a′ o n → ExportedParts l r m m′ k k′ w w′ a a′ n
+  pub parts-exported : {w w′ a a′ : List ℕ} {n : ℕ} → roomy stateRoom w a ≡ true → c ≡ stateOf w → ToldBy written partsTelling w w′ a a′ o n → ExportedParts l r m m′ k k′ w w′ a a′ n
   parts-exported {w} {w′} {a} {a′} {n} room e u =
       let x = list-exported (parts-tells l r) (called .is) partsWords (partsRead k′) (partsTelling o) (parts-shows o m′ k′) room e (u .is) in
       let q : told n w′ m′ (partsRead k′ a′) ≡ listed o m′ k′ =

@@ -29,7 +29,7 @@ use Rattle.equation.proofs.FewAtoms.{step-few}
 use Rattle.capi.specs.Interface.{stateOf, stateRoom, answerRoom, roomy}
 use Rattle.capi.specs.Equations.{answerWords, answerRead}
 use Rattle.capi.specs.Steps.{stepWords, stepBy, stepRead, ExportedStep}
-use Rattle.capi.specs.Working.Leaves.{Narrow, NarrowOutcome, Telling, tells, refuses, ToldBy, answerTelling, outcomeTelling}
+use Rattle.capi.specs.Working.Leaves.{written, Narrow, NarrowOutcome, Telling, tells, refuses, ToldBy, answerTelling, outcomeTelling}
 use Rattle.capi.proofs.Exports.{Tells, Shows}
 use Rattle.capi.proofs.Listings.{list-tellable, list-exported, list-worth, untold-list}
 use Rattle.capi.proofs.AnswerExports.{Stands, split-stands, answer-narrow, answer-shows}
@@ -53,7 +53,7 @@ below-five conflict z = refl
 below-five (propagate v w f) z = refl
 below-five (split l g n) z = refl
 
-answered-shows : (k′ : List ℕ) (m′ : Lent) (r : Out Answer) (T : Telling) → Shows answerRoom answerWords (answerRead k′) m′ r T → Shows answerRoom stepWords (stepRead k′) m′ (andAnswered r) T
+answered-shows : (k′ : List ℕ) (m′ : Lent) (r : Out Answer) (T : Telling State) → Shows answerRoom answerWords (answerRead k′) m′ r T → Shows answerRoom stepWords (stepRead k′) m′ (andAnswered r) T
 answered-shows k′ m′ r (tells d v) s = record {
   value = answered (s .value);
   outcome = ap andAnswered (s .outcome);
@@ -103,7 +103,7 @@ module _ {known : List ℕ} {e : ℕ} {g : ℤ} {m m′ : Lent} {k k′ : List �
   pub step-tellable : NarrowOutcome o
   step-tellable = outcome-narrow o k′ (list-tellable (step-tells known e g) called stepWords (stepRead k′) (outcomeTelling o) shows) stands
 
-  pub step-exported : {w w′ a a′ : List ℕ} {n : ℕ} → roomy stateRoom w a ≡ true → c ≡ stateOf w → ToldBy outcomeTelling w w′ a a′ o n → ExportedStep known e g m m′ k k′ w w′ a a′ n
+  pub step-exported : {w w′ a a′ : List ℕ} {n : ℕ} → roomy stateRoom w a ≡ true → c ≡ stateOf w → ToldBy written outcomeTelling w w′ a a′ o n → ExportedStep known e g m m′ k k′ w w′ a a′ n
   step-exported {w} {w′} {a} {a′} {n} room q u = record {
     is = list-exported (step-tells known e g) called stepWords (stepRead k′) (outcomeTelling o) shows room q (u .is);
     worth = list-worth (step-tells known e g) called stepWords (stepRead k′) (outcomeTelling o) shows room q (u .is) (λ s′ x i. subst (λ (d : State). StepSound (storeOf m d) s′ e x) q (here .worth s′ x i));

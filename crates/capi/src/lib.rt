@@ -21,6 +21,7 @@ use telling::tell_counts;
 use telling::tell_deep_form;
 use telling::tell_form;
 use telling::tell_outcome;
+use telling::tell_still;
 use wordeq::Equality;
 
 pub mod lengths;
@@ -170,10 +171,7 @@ pub extern "C" fn labels_find(
     let c = state_of(state);
     let found = engine::find(terms, cells, chars, reasons, keys, c, t);
     match found {
-        Found::Root(u) => {
-            answer[0] = u;
-            0
-        }
+        Found::Root(u) => tell_still(state, answer, &[u]),
         Found::Refused(k) => k,
     }
 }
@@ -310,10 +308,7 @@ pub extern "C" fn labels_nf_equal(
     let c = state_of(state);
     let compared = wordeq::nf_equal(terms, cells, chars, reasons, keys, c, lhs, rhs);
     match compared {
-        Equality::Is(b) => {
-            answer[0] = flag_of(b);
-            0
-        }
+        Equality::Is(b) => tell_still(state, answer, &[flag_of(b)]),
         Equality::Refused(k) => k,
     }
 }

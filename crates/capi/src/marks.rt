@@ -2,15 +2,18 @@
 // first of them. The other calls leave these alone.
 ghost use mathlib.Core.Path.{_≡_};
 ghost use mathlib.Core.Bool.{true};
+ghost use mathlib.Core.List.{[]};
 ghost use Prim.Native.Nat.{_≤_};
 ghost use lib.ListN.{length};
 ghost use Rattle.records.specs.View.{across};
 ghost use Rattle.classes.specs.Calls.{setMark, Tracks, PublicJoin};
 ghost use Rattle.capi.specs.Interface.{roomy};
 ghost use Rattle.capi.specs.Marks.{standingOf, markedRoom, ExportsMarks, ExportsBack};
-ghost use Rattle.capi.specs.Working.Standings.{standingIn, NarrowStanding, NarrowGiven, ToldStanding, ToldAnswer};
+ghost use Rattle.capi.specs.Working.Leaves.{ToldBy, ToldIn};
+ghost use Rattle.capi.specs.Working.Standings.{standingIn, NarrowStanding, NarrowGiven, numberTelling, standingTelling};
 use crate::telling::is_roomy;
 use crate::telling::state_of;
+use crate::telling::write_words;
 use classes::Answer;
 use classes::Standing;
 use records::fields;
@@ -39,7 +42,7 @@ fn write_standing(state: &mut [u32], e: Standing)
 // The counts into the state's words; a refusal writes none.
 fn tell_standing(state: &mut [u32], told: Answer) -> u32
     requires { ⌜ markedRoom ≤ length (now state) ⌝ ∗ ⌜ NarrowGiven told ⌝ }
-    ensures { λ r. ⌜ ToldStanding told (now (state .entry)) (now (state .exit)) r ⌝ }
+    ensures { λ r. ⌜ ToldBy standingIn standingTelling (now (state .entry)) (now (state .exit)) [] [] told r ⌝ }
 {
     match told {
         Answer::Given(_, e) => {
@@ -53,12 +56,12 @@ fn tell_standing(state: &mut [u32], told: Answer) -> u32
 // The same, and the number into the answer's first word.
 fn tell_number(state: &mut [u32], answer: &mut [u32], told: Answer) -> u32
     requires { ⌜ roomy markedRoom (now state) (now answer) ≡ true ⌝ ∗ ⌜ NarrowGiven told ⌝ }
-    ensures { λ r. ⌜ ToldAnswer told (now (state .entry)) (now (state .exit)) (now (answer .entry)) (now (answer .exit)) r ⌝ }
+    ensures { λ r. ⌜ ToldIn standingIn numberTelling state answer told r ⌝ }
 {
     match told {
         Answer::Given(n, e) => {
             write_standing(state, e);
-            answer[0] = n;
+            write_words(answer, &[n]);
             0
         }
         Answer::Refused(k) => k,
