@@ -19,7 +19,6 @@ use Rattle.records.specs.declared.State.{State}
 use Rattle.records.specs.Lists.{all}
 use Rattle.records.specs.Store.{Store, ok, Work, count, isString}
 use Rattle.records.specs.View.{Lent, storeOf}
-use Rattle.records.specs.Make.{EachOnce}
 use Rattle.records.specs.Rules.{listLimit, isList}
 use Rattle.records.proofs.Lists.{both-left, both-right, table-length}
 use Rattle.normalize.specs.Calls.{listCall, PublicList}
@@ -35,7 +34,7 @@ use Rattle.capi.specs.Interface.{stateOf, stateRoom, answerRoom, roomy, 
 use Rattle.capi.specs.Equations.{flag, answerWords, answerBy, answerRead, ExportedResolve}
 use Rattle.capi.specs.Working.Leaves.{written, Narrow, NarrowAnswer, tells, ToldBy, answerTelling}
 use Rattle.capi.proofs.Exports.{Tells, Shows}
-use Rattle.capi.proofs.Listings.{list-gives, list-room, list-tellable, list-exported, list-worth, untold-list}
+use Rattle.capi.proofs.Listings.{list-gives, list-room, list-tellable, list-exported, list-worth, list-once, untold-list}
 
 -- THE WORK
 
@@ -162,17 +161,17 @@ module _ {l r : List ℕ} {g : ℤ} {m m′ : Lent} {k k′ : List ℕ} {c : Sta
       ∙ ap (λ (d : State). listCall k (resolveArguments l r g) (resolve l r g) m d) (sym e) ∙ sym (called .store .says) in
       record {
         is = x;
-        worth = list-worth (resolve-tells l r g) called answerWords (answerRead k′) (answerTelling o) shows room e (u .is) (λ s′ y z. subst (λ (d : State). Sound (storeOf m d) s′ l r y) e (here .worth s′ y z));
-        once = list-worth (resolve-tells l r g) called answerWords (answerRead k′) (answerTelling o) shows room e (u .is) (λ s′ y z. subst (λ (d : State). EachOnce (storeOf m d .reasons) (s′ .reasons)) e (here .once s′ y z));
+        worth = list-worth (resolve-tells l r g) called answerWords (answerRead k′) (answerTelling o) shows room e (u .is) (λ d s′ y. Sound (storeOf m d) s′ l r y) (here .worth);
+        once = list-once (resolve-tells l r g) called answerWords (answerRead k′) (answerTelling o) shows room e (u .is) (here .once);
         grows = λ z y. grown z y;
         decides = λ v f i. subst (λ (d : State). Decides (storeOf m d) l r (told n w′ m′ (answerRead k′ a′))) e
             (subst (Decides (storeOf m c) l r) (sym q) (here .decides v (subst (λ (d : State). Repeated (storeOf m d) v l r) (sym e) f) (λ j z. i j (q ∙ z))));
       }
     where
-      Grown : Store → Answer → Type 0
-      Grown s′ x = (atoms : List ℕ) (h : ℤ) (i : ℕ) → x ≡ split atoms h i → count s′ ≡ i + count (storeOf m (stateOf w))
+      Grown : State → Store → Answer → Type 0
+      Grown d s′ x = (atoms : List ℕ) (h : ℤ) (i : ℕ) → x ≡ split atoms h i → count s′ ≡ i + count (storeOf m d)
 
       grown : n ≡ 0 → getD a′ 0 0 ≡ 4 → getD w′ 0 0 ≡ getD a′ 3 0 + getD w 0 0
       grown z y =
-          let f = list-worth (resolve-tells l r g) called answerWords (answerRead k′) (answerTelling o) shows room e (u .is) {P = Grown} (λ s′ x q atoms h i p. subst (λ (d : State). count s′ ≡ i + count (storeOf m d)) e (here .grows s′ atoms h i (q ∙ ap (ok s′) p))) z in
+          let f = list-worth (resolve-tells l r g) called answerWords (answerRead k′) (answerTelling o) shows room e (u .is) Grown (λ s′ x q atoms h i p. here .grows s′ atoms h i (q ∙ ap (ok s′) p)) z in
           sym (counted m′ w′) ∙ f _ _ _ (ap (λ (j : ℕ). answerBy j k′ a′) y) ∙ ap (λ (j : ℕ). getD a′ 3 0 + j) (counted m w)

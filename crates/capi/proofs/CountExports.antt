@@ -12,6 +12,7 @@ use Rattle.records.specs.declared.Added.{Added}
 use Rattle.records.specs.declared.Added.the-variants as adding
 use Rattle.records.specs.Store.{Store, ok, stop, Work}
 use Rattle.records.specs.View.{Lent, storeOf}
+use Rattle.records.specs.Make.{EachOnce}
 use Rattle.records.specs.Calls.{call, Public, added, fullAlone}
 use Rattle.capi.specs.Interface.{stateOf, stateRoom, over, Exported}
 use Rattle.capi.specs.Working.Leaves.{written, Narrow, ToldBy, addedTelling}
@@ -40,8 +41,12 @@ module _ {fit : Store → Bool} {work : Work (Unit {0})} (can : Tells fit work) 
         told-exported 0 noWords noRead m′ (added r m′) (addedTelling r) (added-shows r m′) stops (t .is) (le-leb stateRoom (length w) room) room (omega arith)
         (subst (λ (d : State). Public (call fit work m d) m m′ d (added r m′)) e called) .is
 
-    pub counts-worth : {P : Store → Type 0} → ((s′ : Store) → added r m′ ≡ ok s′ tt → P s′) → k ≡ 0 → P (storeOf m′ (stateOf w′))
-    counts-worth {P} f z = told-worth 0 noWords noRead m′ (added r m′) (addedTelling r) (added-shows r m′) stops (t .is) {P = λ s u. P s} (λ s′ u q. f s′ q) z
+    -- what the call says of the counts at entry holds of those read off
+    pub counts-worth : (P : State → Store → Type 0) → c ≡ stateOf w → ((s′ : Store) → added r m′ ≡ ok s′ tt → P c s′) → k ≡ 0 → P (stateOf w) (storeOf m′ (stateOf w′))
+    counts-worth P e f z = told-worth 0 noWords noRead m′ (added r m′) (addedTelling r) (added-shows r m′) stops (t .is) {P = λ s u. P (stateOf w) s} (λ s′ u q. subst (λ (d : State). P d s′) e (f s′ q)) z
+
+    pub counts-once : c ≡ stateOf w → ((s′ : Store) → added r m′ ≡ ok s′ tt → EachOnce (storeOf m c .reasons) (s′ .reasons)) → k ≡ 0 → EachOnce (storeOf m (stateOf w) .reasons) (storeOf m′ (stateOf w′) .reasons)
+    counts-once e f z = counts-worth (λ d s′. EachOnce (storeOf m d .reasons) (s′ .reasons)) e f z
 
     -- what holds of every stop's number holds of the result, where it is a refusal
     pub counts-full : ((j : ℕ) → added r m′ ≡ stop j → fullAlone j) → fullAlone k

@@ -13,7 +13,6 @@ use Rattle.records.specs.Lists.{Every}
 use Rattle.records.specs.Store.{Store, isString, sameClass}
 use Rattle.records.specs.View.{Lent, storeOf}
 use Rattle.records.specs.Working.Audited.{Audited}
-use Rattle.records.specs.Make.{EachOnce}
 use Rattle.records.specs.Calls.{call, Public, added}
 use Rattle.records.proofs.Lists.{both-left, both-right}
 use Rattle.engine.specs.declared.Found.{Found}
@@ -26,7 +25,7 @@ use Rattle.capi.specs.Interface.{stateOf, stateRoom, answerRoom, roomy, 
 use Rattle.capi.specs.Working.Leaves.{written, Narrow, Telling, tells, refuses, ToldWords, ToldBy, addedTelling}
 use Rattle.capi.proofs.Words.{told-by, told-refuses}
 use Rattle.capi.proofs.Exports.{Tells, untold, Shows, call-exported, numberWords, numberRead}
-use Rattle.capi.proofs.CountExports.{counts-tellable, counts-exported, counts-worth, counts-full}
+use Rattle.capi.proofs.CountExports.{counts-tellable, counts-exported, counts-worth, counts-once, counts-full}
 
 -- FIND
 
@@ -86,8 +85,8 @@ module _ {a b : ℕ} {m m′ : Lent} {c : State} {r : Added} (called : PublicExp
   pub explain-exported : {w w′ : List ℕ} {k : ℕ} → stateRoom ≤ length w → c ≡ stateOf w → ToldBy written addedTelling w w′ [] [] r k → ExportedExplain a b m m′ w w′ k
   explain-exported room e t = record {
     is = counts-exported (explain-tells a b) r (called .is) t room e;
-    worth = counts-worth (explain-tells a b) r (called .is) t (λ s′ q. subst (λ (d : State). Explains (storeOf m d) s′ a b) e (called .worth s′ q));
-    once = counts-worth (explain-tells a b) r (called .is) t (λ s′ q. subst (λ (d : State). EachOnce (storeOf m d .reasons) (s′ .reasons)) e (called .once s′ q));
-    edges = counts-worth (explain-tells a b) r (called .is) t (λ s′ q. subst (λ (d : State). Every (Labels (storeOf m d)) (addedTo (storeOf m d) s′)) e (called .edges s′ q));
+    worth = counts-worth (explain-tells a b) r (called .is) t (λ d s′. Explains (storeOf m d) s′ a b) e (called .worth);
+    once = counts-once (explain-tells a b) r (called .is) t e (called .once);
+    edges = counts-worth (explain-tells a b) r (called .is) t (λ d s′. Every (Labels (storeOf m d)) (addedTo (storeOf m d) s′)) e (called .edges);
     full = counts-full (explain-tells a b) r (called .is) t (called .full);
   }

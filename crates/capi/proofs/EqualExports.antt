@@ -11,7 +11,6 @@ use Rattle.records.specs.declared.Added.{Added}
 use Rattle.records.specs.declared.Added.the-variants as adding
 use Rattle.records.specs.View.{Lent, storeOf}
 use Rattle.records.specs.Working.Audited.{Audited}
-use Rattle.records.specs.Make.{EachOnce}
 use Rattle.records.specs.Calls.{call, Public, added}
 use Rattle.wordeq.specs.declared.Equality.{Equality}
 use Rattle.wordeq.specs.declared.Equality.the-variants as equality
@@ -24,7 +23,7 @@ use Rattle.capi.specs.Equations.{flag, flagWords, flagRead, ExportedEqua
 use Rattle.capi.specs.Working.Leaves.{written, Narrow, Telling, tells, refuses, ToldWords, ToldBy, addedTelling}
 use Rattle.capi.proofs.Words.{told-as, told-refuses}
 use Rattle.capi.proofs.Exports.{Tells, untold, Shows, call-exported}
-use Rattle.capi.proofs.CountExports.{counts-tellable, counts-exported, counts-worth, counts-full}
+use Rattle.capi.proofs.CountExports.{counts-tellable, counts-exported, counts-worth, counts-once, counts-full}
 use Rattle.capi.proofs.AnswerExports.{left-strings, right-strings, flag-back}
 
 -- NF_EQUAL
@@ -79,7 +78,7 @@ module _ {l r : List ℕ} {m m′ : Lent} {c : State} {x : Added} (called : Publ
   pub pairs-exported : {w w′ : List ℕ} {k : ℕ} → stateRoom ≤ length w → c ≡ stateOf w → ToldBy written addedTelling w w′ [] [] x k → ExportedEqualExplain l r m m′ w w′ k
   pairs-exported room e t = record {
     is = counts-exported (pairs-tells l r) x (called .is) t room e;
-    worth = counts-worth (pairs-tells l r) x (called .is) t (λ s′ q. subst (λ (d : State). ExplainsEqual (storeOf m d) s′ l r) e (called .worth s′ q));
-    once = counts-worth (pairs-tells l r) x (called .is) t (λ s′ q. subst (λ (d : State). EachOnce (storeOf m d .reasons) (s′ .reasons)) e (called .once s′ q));
+    worth = counts-worth (pairs-tells l r) x (called .is) t (λ d s′. ExplainsEqual (storeOf m d) s′ l r) e (called .worth);
+    once = counts-once (pairs-tells l r) x (called .is) t e (called .once);
     full = counts-full (pairs-tells l r) x (called .is) t (called .full);
   }

@@ -9,7 +9,6 @@ use lib.ListN.{length, getD}
 use Rattle.records.specs.declared.State.{State}
 use Rattle.records.specs.Store.{Store, ok}
 use Rattle.records.specs.View.{Lent, storeOf}
-use Rattle.records.specs.Make.{EachOnce}
 use Rattle.records.specs.Rules.{listLimit}
 use Rattle.records.specs.Working.Audited.{Audited}
 use Rattle.records.proofs.Lists.{table-length}
@@ -26,7 +25,7 @@ use Rattle.capi.specs.Interface.{stateOf, stateRoom, answerRoom, roomy}
 use Rattle.capi.specs.Forms.{formWords, deepWords, formRead, deepRead, ExportedForm, ExportedDeepForm}
 use Rattle.capi.specs.Working.Leaves.{written, Narrow, NarrowList, formTelling, deepTelling, ToldBy}
 use Rattle.capi.proofs.Exports.{Tells, Shows}
-use Rattle.capi.proofs.Listings.{list-gives, list-narrow, list-exported, list-worth, untold-list}
+use Rattle.capi.proofs.Listings.{list-gives, list-narrow, list-exported, list-worth, list-once, untold-list}
 
 module _ (known : List ℕ) (t : ℕ) where
   pub form-tells : Tells (formArguments known t) (normalForm known t)
@@ -80,8 +79,8 @@ module _ {known : List ℕ} {t : ℕ} {m m′ : Lent} {l l′ : List ℕ} {c : S
   pub form-exported : {w w′ a a′ : List ℕ} {k : ℕ} → roomy stateRoom w a ≡ true → c ≡ stateOf w → ToldBy written formTelling w w′ a a′ r k → ExportedForm known t m m′ l l′ w w′ a a′ k
   form-exported room e u = record {
     is = list-exported (form-tells known t) (called .is) formWords (formRead l′) (formTelling r) (form-shows r m′ l′) room e (u .is);
-    worth = list-worth (form-tells known t) (called .is) formWords (formRead l′) (formTelling r) (form-shows r m′ l′) room e (u .is) (λ s′ x q. subst (λ (d : State). Forms (storeOf m d) s′ t x) e (called .worth s′ x q));
-    once = list-worth (form-tells known t) (called .is) formWords (formRead l′) (formTelling r) (form-shows r m′ l′) room e (u .is) (λ s′ x q. subst (λ (d : State). EachOnce (storeOf m d .reasons) (s′ .reasons)) e (called .once s′ x q));
+    worth = list-worth (form-tells known t) (called .is) formWords (formRead l′) (formTelling r) (form-shows r m′ l′) room e (u .is) (λ d s′ x. Forms (storeOf m d) s′ t x) (called .worth);
+    once = list-once (form-tells known t) (called .is) formWords (formRead l′) (formTelling r) (form-shows r m′ l′) room e (u .is) (called .once);
   }
 
 -- THE DEEP FORM
@@ -118,6 +117,6 @@ module _ {known : List ℕ} {t : ℕ} {m m′ : Lent} {l l′ : List ℕ} {c : S
   pub deep-exported : {w w′ a a′ : List ℕ} {k : ℕ} → roomy stateRoom w a ≡ true → c ≡ stateOf w → ToldBy written deepTelling w w′ a a′ r k → ExportedDeepForm known t m m′ l l′ w w′ a a′ k
   deep-exported room e u = record {
     is = list-exported (deep-tells known t) (called .is) deepWords (deepRead l′) (deepTelling r) (deep-shows r m′ l′) room e (u .is);
-    worth = list-worth (deep-tells known t) (called .is) deepWords (deepRead l′) (deepTelling r) (deep-shows r m′ l′) room e (u .is) (λ s′ x q. subst (λ (d : State). DeepForms (storeOf m d) s′ t x) e (called .worth s′ x q));
-    once = list-worth (deep-tells known t) (called .is) deepWords (deepRead l′) (deepTelling r) (deep-shows r m′ l′) room e (u .is) (λ s′ x q. subst (λ (d : State). EachOnce (storeOf m d .reasons) (s′ .reasons)) e (called .once s′ x q));
+    worth = list-worth (deep-tells known t) (called .is) deepWords (deepRead l′) (deepTelling r) (deep-shows r m′ l′) room e (u .is) (λ d s′ x. DeepForms (storeOf m d) s′ t x) (called .worth);
+    once = list-once (deep-tells known t) (called .is) deepWords (deepRead l′) (deepTelling r) (deep-shows r m′ l′) room e (u .is) (called .once);
   }

@@ -11,6 +11,7 @@ use Rattle.records.specs.declared.State.{State}
 use Rattle.records.specs.Lists.{if_then_else_}
 use Rattle.records.specs.Store.{Store, Out, ok, stop, Work}
 use Rattle.records.specs.View.{Lent, storeOf}
+use Rattle.records.specs.Make.{EachOnce}
 use Rattle.records.specs.Rules.{listLimit}
 use Rattle.records.specs.Working.Audited.{Audited}
 use Rattle.records.specs.Calls.{call}
@@ -65,8 +66,12 @@ module _ {A : Type 0} {fit : Store → Bool} {work : Work A} (can : Tells fit wo
       idle = λ z i. called .idle k (told-stop answerRoom words read m′ r T shows stops t z) i;
     }
 
-    pub list-worth : {P : Store → A → Type 0} → ((s′ : Store) (x : A) → r ≡ ok s′ x → P s′ x) → k ≡ 0 → P (storeOf m′ (stateOf w′)) (read a′)
-    list-worth {P} f z = told-worth answerRoom words read m′ r T shows stops t {P = P} f z
+    -- what the call says of the counts at entry holds of those read off
+    pub list-worth : (P : State → Store → A → Type 0) → ((s′ : Store) (x : A) → r ≡ ok s′ x → P c s′ x) → k ≡ 0 → P (stateOf w) (storeOf m′ (stateOf w′)) (read a′)
+    list-worth P f z = told-worth answerRoom words read m′ r T shows stops t {P = P (stateOf w)} (λ s′ x q. subst (λ (d : State). P d s′ x) e (f s′ x q)) z
+
+    pub list-once : ((s′ : Store) (x : A) → r ≡ ok s′ x → EachOnce (storeOf m c .reasons) (s′ .reasons)) → k ≡ 0 → EachOnce (storeOf m (stateOf w) .reasons) (storeOf m′ (stateOf w′) .reasons)
+    list-once f z = list-worth (λ d s′ x. EachOnce (storeOf m d .reasons) (s′ .reasons)) f z
 
 -- a state or an answer too short
 pub untold-list : {A : Type 0} {b : Bool} (o : Out A) (words : A → List ℕ) (m : Lent) (l w a : List ℕ) (x : A) → b ≡ false → AnsweredList (over b o) words m m l l w w a a x 1

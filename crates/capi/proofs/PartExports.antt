@@ -68,5 +68,5 @@ module _ {l r : List ℕ} {m m′ : Lent} {k k′ : List ℕ} {c : State} {o : E
         repeats = λ f. subst (λ (d : State). Repeats (storeOf m d) l r (told n w′ m′ (partsRead k′ a′))) e
             (subst (Repeats (storeOf m c) l r) (sym q) (called .repeats (λ j i. f j (q ∙ i))));
         worth = list-worth (parts-tells l r) (called .is) partsWords (partsRead k′) (partsTelling o) (parts-shows o m′ k′) room e (u .is)
-            (λ s′ y z. subst (λ (d : State). Becomes (storeOf m d) s′ l r y) e (called .worth s′ y z));
+            (λ d s′ y. Becomes (storeOf m d) s′ l r y) (called .worth);
       }

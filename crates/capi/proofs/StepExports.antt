@@ -13,7 +13,6 @@ use mir.ValLaws.{toZ-ofZ}
 use Rattle.records.specs.declared.State.{State}
 use Rattle.records.specs.Store.{Store, Out, ok, andThen, give, term, isEquation, isString}
 use Rattle.records.specs.View.{Lent, storeOf}
-use Rattle.records.specs.Make.{EachOnce}
 use Rattle.records.specs.Rules.{isList}
 use Rattle.records.proofs.Lists.{both-right}
 use Rattle.normalize.specs.Calls.{listCall, PublicList}
@@ -31,7 +30,7 @@ use Rattle.capi.specs.Equations.{answerWords, answerRead}
 use Rattle.capi.specs.Steps.{stepWords, stepBy, stepRead, ExportedStep}
 use Rattle.capi.specs.Working.Leaves.{written, Narrow, NarrowOutcome, Telling, tells, refuses, ToldBy, answerTelling, outcomeTelling}
 use Rattle.capi.proofs.Exports.{Tells, Shows}
-use Rattle.capi.proofs.Listings.{list-tellable, list-exported, list-worth, untold-list}
+use Rattle.capi.proofs.Listings.{list-tellable, list-exported, list-worth, list-once, untold-list}
 use Rattle.capi.proofs.AnswerExports.{Stands, split-stands, answer-narrow, answer-shows}
 
 pub step-tells : (known : List ℕ) (e : ℕ) (g : ℤ) → Tells (stepArguments known e g) (step known e g)
@@ -106,15 +105,15 @@ module _ {known : List ℕ} {e : ℕ} {g : ℤ} {m m′ : Lent} {k k′ : List �
   pub step-exported : {w w′ a a′ : List ℕ} {n : ℕ} → roomy stateRoom w a ≡ true → c ≡ stateOf w → ToldBy written outcomeTelling w w′ a a′ o n → ExportedStep known e g m m′ k k′ w w′ a a′ n
   step-exported {w} {w′} {a} {a′} {n} room q u = record {
     is = list-exported (step-tells known e g) called stepWords (stepRead k′) (outcomeTelling o) shows room q (u .is);
-    worth = list-worth (step-tells known e g) called stepWords (stepRead k′) (outcomeTelling o) shows room q (u .is) (λ s′ x i. subst (λ (d : State). StepSound (storeOf m d) s′ e x) q (here .worth s′ x i));
-    once = list-worth (step-tells known e g) called stepWords (stepRead k′) (outcomeTelling o) shows room q (u .is) (λ s′ x i. subst (λ (d : State). EachOnce (storeOf m d .reasons) (s′ .reasons)) q (here .once s′ x i));
+    worth = list-worth (step-tells known e g) called stepWords (stepRead k′) (outcomeTelling o) shows room q (u .is) (λ d s′ x. StepSound (storeOf m d) s′ e x) (here .worth);
+    once = list-once (step-tells known e g) called stepWords (stepRead k′) (outcomeTelling o) shows room q (u .is) (here .once);
     grows = λ z y. grown z y;
   }
     where
-      Grown : Store → Stepped → Type 0
-      Grown s′ x = (atoms : List ℕ) (h : ℤ) (j : ℕ) → x ≡ answered (split atoms h j) → GrowsAfterForms known e (storeOf m (stateOf w)) s′ j
+      Grown : State → Store → Stepped → Type 0
+      Grown d s′ x = (atoms : List ℕ) (h : ℤ) (j : ℕ) → x ≡ answered (split atoms h j) → GrowsAfterForms known e (storeOf m d) s′ j
 
       grown : n ≡ 0 → getD a′ 0 0 ≡ 4 → GrowsAfterForms known e (storeOf m (stateOf w)) (storeOf m′ (stateOf w′)) (getD a′ 3 0)
       grown z y =
-          let f = list-worth (step-tells known e g) called stepWords (stepRead k′) (outcomeTelling o) shows room q (u .is) {P = Grown} (λ s′ x i atoms h j p. subst (λ (d : State). GrowsAfterForms known e (storeOf m d) s′ j) q (here .grows s′ atoms h j (i ∙ ap (ok s′) p))) z in
+          let f = list-worth (step-tells known e g) called stepWords (stepRead k′) (outcomeTelling o) shows room q (u .is) Grown (λ s′ x i atoms h j p. here .grows s′ atoms h j (i ∙ ap (ok s′) p)) z in
           f _ _ _ (ap (λ (j : ℕ). stepBy j k′ a′) y)
