@@ -1,25 +1,24 @@
 -- The forced length, told in words.
-use mathlib.Core.Path.{_≡_, refl, sym, ap, subst, _∙_}
-use mathlib.Core.Bool.{Bool, true, false}
-use mathlib.Core.List.{List, [], _∷_}
-use Prim.Native.Nat.{ℕ, _≤_, _<_}
+use mathlib.Core.Path.{_≡_, refl, sym, ap, subst}
+use mathlib.Core.Bool.{true, false}
+use mathlib.Core.List.{List}
+use Prim.Native.Nat.{ℕ}
 use native.Mathlib.Omega.{arith}
 use lib.ListN.{length}
 use Rattle.records.specs.declared.State.{State}
-use Rattle.records.specs.Store.{Store, Out, ok}
 use Rattle.records.specs.View.{Lent, storeOf}
 use Rattle.records.specs.Working.Audited.{Audited}
 use Rattle.wordeq.specs.Calls.{equalArguments}
 use Rattle.forced.specs.declared.Forced.{Forced}
 use Rattle.forced.specs.declared.Forced.the-variants as forced
-use Rattle.forced.specs.Forced.{spans, short, Fit, forcedLength}
-use Rattle.forced.specs.Forces.{Few, Forces}
+use Rattle.forced.specs.Forced.{spans, short, forcedLength}
+use Rattle.forced.specs.Forces.{Forces}
 use Rattle.forced.specs.Calls.{fitted, PublicForced}
 use Rattle.forced.proofs.ForcedLength.{forced-gives, forced-stops}
 use Rattle.capi.specs.Interface.{stateOf, stateRoom, answerRoom, roomy}
 use Rattle.capi.specs.Lengths.{fitWords, fitRead, ExportedForced}
 use Rattle.capi.specs.Working.Leaves.{written, ToldBy}
-use Rattle.capi.specs.Working.Measuring.{forcedTelling, Word, NarrowForced}
+use Rattle.capi.specs.Working.Measuring.{forcedTelling, NarrowForced}
 use Rattle.capi.proofs.Exports.{Tells, untold, Shows, call-exported, call-worth}
 
 forced-tells : (l r : List ℕ) → Tells (equalArguments l r) (forcedLength l r)

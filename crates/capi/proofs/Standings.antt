@@ -21,7 +21,7 @@ use Rattle.classes.specs.Joins.{Trace, traceOf}
 use Rattle.classes.specs.Marks.{Trail, markLimit, joinLimit, traceAt, trailOf, trailSizes, tableAt, auditMarks}
 use Rattle.classes.specs.Calls.{Outcome, gives, refuses, joinArguments, recorded, joinTerms, setMark, joinsAt, gone, goBack, unless, tracked, answered, Tracks, PublicJoin}
 use Rattle.capi.specs.Interface.{stateOf, Beyond, answerRoom, roomy}
-use Rattle.capi.specs.Marks.{standingOf, markedRoom, Inside, Promise, readAs, ExportedMarks}
+use Rattle.capi.specs.Marks.{standingOf, markedRoom, Inside, Promise, ExportedMarks}
 use Rattle.capi.specs.Working.Leaves.{putFirst, answerWith, ToldWords, ToldBy}
 use Rattle.capi.specs.Working.Standings.{standingIn, NarrowStanding, NarrowGiven, givenTelling, numberTelling, standingTelling}
 use Rattle.capi.proofs.Words.{beyond-same, beyond-words, roomy-state, roomy-answer}
