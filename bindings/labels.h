@@ -49,13 +49,18 @@ extern "C" {
  * are two characters. One above is refused: 5 in a making call, 2 in a lent store. */
 #define LABELS_MAX_CHARACTER 0x2FFFF
 
+/* The words of a term, of a cell, and of a pair: a reason or a key. A character has one. */
+#define LABELS_TERM_WIDTH 8
+#define LABELS_CELL_WIDTH 3
+#define LABELS_PAIR_WIDTH 2
+
 /* The words of each slice at its limit; a shorter slice has less room, and a longer one no more. Terms and cells have a record 0 that takes
- * room and is never read or written. A term has eight words, a cell three, a character one, a reason and a key two. */
-#define LABELS_TERM_WORDS (8 * (LABELS_MAX_TERMS + 1))
-#define LABELS_CELL_WORDS (3 * (LABELS_MAX_CELLS + 1))
+ * room and is never read or written. */
+#define LABELS_TERM_WORDS (LABELS_TERM_WIDTH * (LABELS_MAX_TERMS + 1))
+#define LABELS_CELL_WORDS (LABELS_CELL_WIDTH * (LABELS_MAX_CELLS + 1))
 #define LABELS_CHAR_WORDS LABELS_MAX_CHARS
-#define LABELS_REASON_WORDS (2 * LABELS_MAX_REASONS)
-#define LABELS_KEY_WORDS (2 * LABELS_MAX_KEYS)
+#define LABELS_REASON_WORDS (LABELS_PAIR_WIDTH * LABELS_MAX_REASONS)
+#define LABELS_KEY_WORDS (LABELS_PAIR_WIDTH * LABELS_MAX_KEYS)
 
 /* The least that the calls ask of these: words of the state (six where nothing is joined or marked), of an answer, of a list that a call
  * fills, of the marks (a word for each of 64 marks, three for each of 511 joins). */
@@ -451,12 +456,13 @@ static inline uint32_t labels_store_forced_length(labels_store *s, LABELS_READ(l
  * none (NULL and 0) or with those that are handed in. After a refusal the count is that with which the question began. */
 static inline uint32_t labels_hand_in(labels_store *s, const uint32_t *pairs, size_t count) {
     size_t i;
-    if (count > LABELS_MAX_REASONS || count > s->reasons_len / 2)
+    if (count > LABELS_MAX_REASONS || count > s->reasons_len / LABELS_PAIR_WIDTH)
         return LABELS_REFUSED_REASONS;
     for (i = 0; i < count; i++)
-        if ((pairs[2 * i] != LABELS_ASSERTED && pairs[2 * i] != LABELS_INTERFACE) || pairs[2 * i + 1] > 0x7FFFFFFFu)
+        if ((pairs[LABELS_PAIR_WIDTH * i] != LABELS_ASSERTED && pairs[LABELS_PAIR_WIDTH * i] != LABELS_INTERFACE) ||
+            pairs[LABELS_PAIR_WIDTH * i + 1] > 0x7FFFFFFFu)
             return LABELS_REFUSED_ARGUMENT;
-    for (i = 0; i < 2 * count; i++)
+    for (i = 0; i < LABELS_PAIR_WIDTH * count; i++)
         s->reasons[i] = pairs[i];
     s->state[LABELS_COUNT_REASONS] = (uint32_t)count;
     return LABELS_ACCEPTED;
@@ -479,8 +485,8 @@ static inline int32_t labels_answer_guard(const labels_store *s) {
 static inline uint32_t labels_answer_terms_made(const labels_store *s) { return s->answer[LABELS_ANSWER_TERMS_MADE]; }
 static inline uint32_t labels_reason_count(const labels_store *s) { return s->state[LABELS_COUNT_REASONS]; }
 static inline void labels_reason(const labels_store *s, uint32_t i, uint32_t *kind, uint32_t *number) {
-    *kind = s->reasons[2 * (size_t)i];
-    *number = s->reasons[2 * (size_t)i + 1];
+    *kind = s->reasons[LABELS_PAIR_WIDTH * (size_t)i];
+    *number = s->reasons[LABELS_PAIR_WIDTH * (size_t)i + 1];
 }
 
 #ifdef __cplusplus

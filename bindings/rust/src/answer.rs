@@ -1,6 +1,6 @@
 //! What a call comes to: a refusal or an answer, and the reasons that it rests on.
 
-use crate::Term;
+use crate::{Term, ANSWER};
 use std::fmt;
 
 /// Why a call was refused. After the first five, and after `Mark` and `Form`, the call has changed no word of the store; a question has set
@@ -180,7 +180,7 @@ pub struct Form {
 
 impl Form {
     /// The form in an answer's words, or None for 0 in word 0.
-    pub(crate) fn of(answer: &[u32; 8], list: &[u32], reasons: Vec<Reason>) -> Result<Option<Form>, Refusal> {
+    pub(crate) fn of(answer: &[u32; ANSWER], list: &[u32], reasons: Vec<Reason>) -> Result<Option<Form>, Refusal> {
         match answer[0] {
             0 => Ok(None),
             1 => Ok(Some(Form { atoms: first(list, answer[1])?, reasons })),
@@ -212,7 +212,7 @@ pub struct EmptyParts {
 
 impl EmptyParts {
     /// The parts in an answer's words.
-    pub(crate) fn of(answer: &[u32; 8], list: &[u32]) -> Result<EmptyParts, Refusal> {
+    pub(crate) fn of(answer: &[u32; ANSWER], list: &[u32]) -> Result<EmptyParts, Refusal> {
         let (count, empty, link) = (answer[0], answer[1], answer[2]);
         if link > 1 || (link == 1) != (count > 0) || (count > 0 && empty == 0) {
             return Err(Refusal::UnknownAnswer(link));
@@ -274,7 +274,7 @@ pub struct Fit {
 
 impl Fit {
     /// The fit in an answer's words.
-    pub(crate) fn of(answer: &[u32; 8]) -> Result<Fit, Refusal> {
+    pub(crate) fn of(answer: &[u32; ANSWER]) -> Result<Fit, Refusal> {
         let span = match answer[0] {
             0 => Span::Length { length: answer[4], rest: answer[5] },
             1 => Span::Shortage(answer[4]),
@@ -372,7 +372,7 @@ impl Answer {
 }
 
 /// The case in an answer's words. A number that no call gives is an error, not the nearest case.
-pub(crate) fn answered_case(answer: &[u32; 8], list: &[u32], reasons: Vec<Reason>) -> Result<Answer, Refusal> {
+pub(crate) fn answered_case(answer: &[u32; ANSWER], list: &[u32], reasons: Vec<Reason>) -> Result<Answer, Refusal> {
     Ok(match answer[0] {
         0 => Answer::Done,
         1 => Answer::Saturated { reasons },

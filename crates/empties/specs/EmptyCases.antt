@@ -8,6 +8,7 @@ use lib.IntN.{pos}
 use lib.Dec.{eqb, T}
 use Rattle.records.specs.Lists.{if_then_else_, all, any, firstOf, keep, concatMap, sameWord, isIn, firsts, upTo, firstBelow}
 use Rattle.records.specs.Store.{Term, noTerm, Cell, noCell, Store, Out, ok, stop, termIn, cellIn, within, textIn, chainBy, climb, aboveBy, nearestIn, pathIn}
+use Rattle.records.specs.View.{termWords, cellWords}
 use Rattle.records.specs.Rules.{isNumber}
 use Rattle.records.specs.Make.{own, addText, addTerm, lookup, lowest, constantOf, makeConstant}
 use Rattle.normalize.specs.Normalize.{atomsBy, flatten}
@@ -41,7 +42,7 @@ storing n ts cs = record {
   reasons = [];
   keys = [];
   names = 0;
-  room = record { terms = n; cells = 64; chars = 64; reasons = 8; keys = 8; termsLong = 264; cellsLong = 195; zeroTerm = noTerm; zeroCell = noCell };
+  room = record { terms = n; cells = 64; chars = 64; reasons = 8; keys = 8; termsLong = termWords 32; cellsLong = cellWords 64; zeroTerm = noTerm; zeroCell = noCell };
 }
 
 -- eight variables, each alone; with "" after them; with 2 in the class of 1, and 3 in that of ""; with a second "", whose class has 1

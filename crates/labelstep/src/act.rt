@@ -10,8 +10,14 @@ use crate::session::without_reasons;
 use classes::merge;
 use commands::Parsed;
 use lines::lending::front;
+use records::CELL_SLICE;
+use records::CHAR_LIMIT;
+use records::KEY_SLICE;
+use records::LIST_LIMIT;
 use records::Made;
+use records::REASON_SLICE;
 use records::State;
+use records::TERM_SLICE;
 use records::build::make_concatenation;
 use records::build::make_equation;
 use records::fields::word;
@@ -37,12 +43,12 @@ fn after_making(r: Made, s: Session) -> Session {
 // `C text`, `V name`, `P t u ..` and `E t u`. Any other line makes no term.
 fn make(
     p: Parsed,
-    list: &[u32; 1024],
-    terms: &mut [u32; 4104],
-    cells: &mut [u32; 6147],
-    chars: &mut [u32; 16384],
-    reasons: &[u32; 8192],
-    keys: &[u32; 8192],
+    list: &[u32; LIST_LIMIT],
+    terms: &mut [u32; TERM_SLICE],
+    cells: &mut [u32; CELL_SLICE],
+    chars: &mut [u32; CHAR_LIMIT],
+    reasons: &[u32; REASON_SLICE],
+    keys: &[u32; KEY_SLICE],
     c: State,
 ) -> Made {
     match p {
@@ -65,11 +71,11 @@ fn merge_classes(
     child: u32,
     parent: u32,
     n: u32,
-    terms: &mut [u32; 4104],
-    cells: &[u32; 6147],
-    chars: &[u32; 16384],
-    reasons: &[u32; 8192],
-    keys: &[u32; 8192],
+    terms: &mut [u32; TERM_SLICE],
+    cells: &[u32; CELL_SLICE],
+    chars: &[u32; CHAR_LIMIT],
+    reasons: &[u32; REASON_SLICE],
+    keys: &[u32; KEY_SLICE],
     s: Session,
 ) -> Session {
     let c = s.counts;
@@ -82,9 +88,9 @@ fn merge_classes(
     with_stamp(s)
 }
 
-fn copy(from: &[u32], to: &mut [u32; 1024]) {
+fn copy(from: &[u32], to: &mut [u32; LIST_LIMIT]) {
     let mut i: usize = 0;
-    while i < 1024 {
+    while i < LIST_LIMIT {
         to[i] = word(from, i);
         i += 1;
     }
@@ -92,10 +98,10 @@ fn copy(from: &[u32], to: &mut [u32; 1024]) {
 
 // `K ..`: a list of string terms.
 fn set_known(
-    list: &[u32; 1024],
+    list: &[u32; LIST_LIMIT],
     n: usize,
-    known: &mut [u32; 1024],
-    terms: &[u32; 4104],
+    known: &mut [u32; LIST_LIMIT],
+    terms: &[u32; TERM_SLICE],
     s: Session,
 ) -> Session {
     let c = s.counts;
@@ -112,13 +118,13 @@ fn set_known(
 fn resolve(
     e: u32,
     g: i32,
-    list: &mut [u32; 1024],
-    known: &[u32; 1024],
-    terms: &mut [u32; 4104],
-    cells: &mut [u32; 6147],
-    chars: &mut [u32; 16384],
-    reasons: &mut [u32; 8192],
-    keys: &mut [u32; 8192],
+    list: &mut [u32; LIST_LIMIT],
+    known: &[u32; LIST_LIMIT],
+    terms: &mut [u32; TERM_SLICE],
+    cells: &mut [u32; CELL_SLICE],
+    chars: &mut [u32; CHAR_LIMIT],
+    reasons: &mut [u32; REASON_SLICE],
+    keys: &mut [u32; KEY_SLICE],
     s: Session,
 ) -> Session {
     let c = s.counts;
@@ -130,13 +136,13 @@ fn resolve(
 
 pub(crate) fn act(
     p: Parsed,
-    list: &mut [u32; 1024],
-    known: &mut [u32; 1024],
-    terms: &mut [u32; 4104],
-    cells: &mut [u32; 6147],
-    chars: &mut [u32; 16384],
-    reasons: &mut [u32; 8192],
-    keys: &mut [u32; 8192],
+    list: &mut [u32; LIST_LIMIT],
+    known: &mut [u32; LIST_LIMIT],
+    terms: &mut [u32; TERM_SLICE],
+    cells: &mut [u32; CELL_SLICE],
+    chars: &mut [u32; CHAR_LIMIT],
+    reasons: &mut [u32; REASON_SLICE],
+    keys: &mut [u32; KEY_SLICE],
     s: Session,
 ) -> Session {
     match p {

@@ -6,6 +6,7 @@ use lib.IntN.{pos}
 use lib.Dec.{eqb, T}
 use Rattle.records.specs.Lists.{if_then_else_, all, any, firstOf, keep, concatMap, sameWord, isIn, firstBelow, allBelow, upTo}
 use Rattle.records.specs.Store.{Term, noTerm, noCell, Store, Out, ok, stop, termIn, cellIn, within, textIn, climb, sameClass, isConstant, isVariable, text, aboveBy, nearestIn, pathIn}
+use Rattle.records.specs.View.{termWords, cellWords}
 use Rattle.records.specs.Rules.{eachTerm}
 use Rattle.records.specs.Make.{own, addText, addTerm, addKey, lookup, lowest, constantOf, makeConstant, samePair, isKey, lengthOf, makeLength, equationOf, makeEquation}
 use Rattle.engine.specs.Explain.{highest, wasSeen, each, edge, walk, walked, explain, isReasoned}
@@ -30,7 +31,7 @@ storing n ts keys = record {
   reasons = [];
   keys = keys;
   names = 0;
-  room = record { terms = n; cells = 0; chars = 7; reasons = 0; keys = 1; termsLong = 64; cellsLong = 3; zeroTerm = noTerm; zeroCell = noCell };
+  room = record { terms = n; cells = 0; chars = 7; reasons = 0; keys = 1; termsLong = termWords 7; cellsLong = cellWords 0; zeroTerm = noTerm; zeroCell = noCell };
 }
 
 -- a store, a side of constants and a label, and a word for the field, or that there is none
