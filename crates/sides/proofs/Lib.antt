@@ -3,6 +3,7 @@ pub mod StepOutcomes
 pub mod Cited
 pub mod Good
 pub mod Ways
+pub mod FirstOfKind
 pub mod Strip
 mod OnePass
 pub mod Occurs

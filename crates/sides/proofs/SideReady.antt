@@ -13,7 +13,7 @@ use Rattle.records.specs.View.{Lent, storeOf, readIn, termed}
 use Rattle.records.specs.Working.Audited.{Ready}
 use Rattle.records.proofs.Lists.{table-length}
 use Rattle.sides.specs.Wordeq.{fixed, lettersOf, letters, short}
-use Rattle.sides.specs.Working.Sides.{Texts, Spelled, constantSide, otherSide}
+use Rattle.sides.specs.Working.Sides.{Texts, Spelled, whichFixed}
 use Rattle.sides.specs.Working.Stripping.{Readable}
 use Rattle.sides.proofs.Refines.SideWalk.{count-same}
 
@@ -39,13 +39,9 @@ module _ (m : Lent) (c : State) where
   unfolding fixed
   fixed-whole l = refl
 
-  pub constant-side-whole : (l r : List ℕ) → constantSide (termed (m .terms) c) l r ≡ constantSide (storeOf m c) l r
-  unfolding constantSide fixed
-  constant-side-whole l r = refl
-
-  pub other-side-whole : (l r : List ℕ) → otherSide (termed (m .terms) c) l r ≡ otherSide (storeOf m c) l r
-  unfolding otherSide fixed
-  other-side-whole l r = refl
+  pub which-whole : (l r : List ℕ) → whichFixed (termed (m .terms) c) l r ≡ whichFixed (storeOf m c) l r
+  unfolding whichFixed fixed
+  which-whole l r = refl
 
   pub letters-whole : (l : List ℕ) → letters (readIn (m .terms) (m .chars) c) l ≡ letters (storeOf m c) l
   unfolding letters lettersOf

@@ -8,52 +8,80 @@ ghost use Rattle.records.specs.Lists.{sameWord};
 ghost use Rattle.records.specs.Store.{isConstant, text};
 ghost use Rattle.records.specs.View.{charLimit, span, readIn, termed};
 ghost use Rattle.records.specs.Rules.{listLimit};
-ghost use Rattle.sides.specs.Wordeq.{fixed, lettersOf, letters, unequal, short, isPlain, filled, differ};
-ghost use Rattle.sides.specs.Working.Sides.{Texts, Spelled, constantSide, otherSide, rest, next, There, Settled, headsAgree, fillCount, fillStart, fillSource, Ended, Tiling};
+ghost use Rattle.sides.specs.Wordeq.{fixed, lettersOf, letters, isFull, unequal, short, isPlain, filled, differ};
+ghost use Rattle.sides.specs.Working.Sides.{Texts, Spelled, ofKind, First, whichFixed, picked, rest, next, There, Settled, headsAgree, fillCount, fillStart, fillSource, Ended, Tiling};
 use crate::stripping;
 use records::State;
 use records::fields;
 use records::rules;
 use records::text::text_is;
 
+// Whether an atom's kind is k; where `is` is false, whether it is another.
+fn is_kind(terms: &[u32], c: State, a: u32, k: u32, is: bool) -> bool
+    ensures { λ r. ⌜ r ≡ ofKind (termed (now (terms .entry)) c) k is a ⌝ }
+{
+    if rules::kind_of(terms, c.terms, a) == k {
+        return is;
+    }
+    !is
+}
+
+// The place of the first atom whose kind is k, or is another; the list's end where there is none.
+pub fn first_of_kind(terms: &[u32], c: State, l: &[u32], k: u32, is: bool) -> usize
+    ensures { λ i. ⌜ First (ofKind (termed (now (terms .entry)) c) k is) (now (l .entry)) i ⌝ }
+{
+    let mut i: usize = 0;
+    while i < l.len() {
+        if is_kind(terms, c, l[i], k, is) {
+            return i;
+        }
+        i += 1;
+    }
+    i
+}
+
 // Whether all atoms are constants.
 pub fn is_fixed(terms: &[u32], c: State, l: &[u32]) -> bool
     ensures { λ r. ⌜ r ≡ fixed (termed (now (terms .entry)) c) (now (l .entry)) ⌝ }
 {
-    let mut i: usize = 0;
-    while i < l.len() {
-        if rules::kind_of(terms, c.terms, l[i]) != 1 {
-            return false;
-        }
-        i += 1;
-    }
-    true
+    first_of_kind(terms, c, l, 1, false) == l.len()
 }
 
-// The side of constants, as it was lent; an empty part where there is none.
-pub(crate) fn constant_side<'a>(terms: &[u32], c: State, l: &'a [u32], r: &'a [u32]) -> &'a [u32]
-    ensures { λ p. ⌜ now p ≡ constantSide (termed (now (terms .entry)) c) (now (l .entry)) (now (r .entry)) ⌝ }
+// Which of two lists is all constants: 1 for the left one, where both are too, 2 for the right one, 0 for none.
+pub(crate) fn which_fixed(terms: &[u32], c: State, l: &[u32], r: &[u32]) -> u32
+    ensures { λ w. ⌜ w ≡ whichFixed (termed (now (terms .entry)) c) (now (l .entry)) (now (r .entry)) ⌝ }
 {
     if is_fixed(terms, c, l) {
-        return &l[0..l.len()];
+        return 1;
     }
     if is_fixed(terms, c, r) {
+        return 2;
+    }
+    0
+}
+
+// One of two lists as it was lent: the first for 1, the second for 2, an empty part for any other number.
+pub(crate) fn pick<'a>(which: u32, l: &'a [u32], r: &'a [u32]) -> &'a [u32]
+    ensures { λ p. ⌜ now p ≡ picked which (now (l .entry)) (now (r .entry)) ⌝ }
+{
+    if which == 1 {
+        return &l[0..l.len()];
+    }
+    if which == 2 {
         return &r[0..r.len()];
     }
     &l[0..0]
 }
 
-// The side against it.
-pub(crate) fn other_side<'a>(terms: &[u32], c: State, l: &'a [u32], r: &'a [u32]) -> &'a [u32]
-    ensures { λ p. ⌜ now p ≡ otherSide (termed (now (terms .entry)) c) (now (l .entry)) (now (r .entry)) ⌝ }
+// The characters that fill the place of an atom, counted: a constant's own, or m for a variable.
+fn fill_count(terms: &[u32], c: State, a: u32, m: usize) -> usize
+    requires { ⌜ Texts (now terms) c ⌝ }
+    ensures { λ r. ⌜ r ≡ fillCount (termed (now (terms .entry)) c) a m ⌝ }
 {
-    if is_fixed(terms, c, l) {
-        return &r[0..r.len()];
+    if rules::kind_of(terms, c.terms, a) != 1 {
+        return m;
     }
-    if is_fixed(terms, c, r) {
-        return &l[0..l.len()];
-    }
-    &l[0..0]
+    fields::wide(fields::second(terms, a))
 }
 
 // The characters of an atom that is a constant, counted.
@@ -61,10 +89,15 @@ fn letter_count(terms: &[u32], c: State, a: u32) -> usize
     requires { ⌜ Texts (now terms) c ⌝ }
     ensures { λ r. ⌜ r ≡ length (lettersOf (termed (now (terms .entry)) c) a) ⌝ }
 {
-    if rules::kind_of(terms, c.terms, a) != 1 {
-        return 0;
-    }
-    fields::wide(fields::second(terms, a))
+    fill_count(terms, c, a, 0)
+}
+
+// A constant with at least one character.
+pub fn is_full_unchecked(terms: &[u32], c: State, a: u32) -> bool
+    requires { ⌜ Texts (now terms) c ⌝ }
+    ensures { λ r. ⌜ r ≡ isFull (termed (now (terms .entry)) c) a ⌝ }
+{
+    fill_count(terms, c, a, 0) > 0
 }
 
 // The constant characters of a side, counted.
@@ -218,18 +251,7 @@ fn onward(k: Cursor) -> Cursor
     }
 }
 
-// The characters that fill the place of an atom, counted: a constant's own, or m for a variable.
-fn fill_count(terms: &[u32], c: State, a: u32, m: usize) -> usize
-    requires { ⌜ Texts (now terms) c ⌝ }
-    ensures { λ r. ⌜ r ≡ fillCount (termed (now (terms .entry)) c) a m ⌝ }
-{
-    if rules::kind_of(terms, c.terms, a) != 1 {
-        return m;
-    }
-    fields::wide(fields::second(terms, a))
-}
-
-// Where they begin: at the atom itself, or at v.
+// Where what fills the place of an atom begins: at the atom itself, or at v.
 fn fill_start(terms: &[u32], c: State, a: u32, i: usize, v: Cursor) -> Cursor
     ensures { λ r. ⌜ r ≡ fillStart (termed (now (terms .entry)) c) a i v ⌝ }
 {
@@ -239,7 +261,7 @@ fn fill_start(terms: &[u32], c: State, a: u32, i: usize, v: Cursor) -> Cursor
     Cursor { atom: i, place: 0 }
 }
 
-// The list that they are read from: the side itself, or the word.
+// The list that it is read from: the side itself, or the word.
 fn fill_source<'a>(terms: &[u32], c: State, a: u32, side: &'a [u32], word: &'a [u32]) -> &'a [u32]
     ensures { λ p. ⌜ now p ≡ fillSource (termed (now (terms .entry)) c) a (now (side .entry)) (now (word .entry)) ⌝ }
 {

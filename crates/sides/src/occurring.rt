@@ -15,10 +15,10 @@ ghost use Rattle.sides.specs.Working.Sides.{Texts};
 ghost use Rattle.sides.specs.Working.Results.{BothLists, Tries};
 ghost use Rattle.sides.specs.Working.Occurring.{atPlace, ownCount};
 use crate::StepResult;
+use crate::letters;
 use records::Added;
 use records::State;
 use records::classes::root_unchecked;
-use records::fields;
 use records::rules;
 
 // 1 for a non-empty constant, 0 for any other atom.
@@ -26,10 +26,7 @@ fn own_count(terms: &[u32], c: State, a: u32) -> usize
     requires { ⌜ Texts (now terms) c ⌝ }
     ensures { λ r. ⌜ r ≡ ownCount (termed (now (terms .entry)) c) a ⌝ }
 {
-    if rules::kind_of(terms, c.terms, a) != 1 {
-        return 0;
-    }
-    if fields::second(terms, a) > 0 {
+    if letters::is_full_unchecked(terms, c, a) {
         return 1;
     }
     0

@@ -25,14 +25,7 @@ use records::rules;
 pub fn first_variable_unchecked(terms: &[u32], c: State, side: &[u32]) -> usize
     ensures { λ r. ⌜ FirstVariable (termed (now (terms .entry)) c) (now (side .entry)) r ⌝ }
 {
-    let mut i: usize = 0;
-    while i < side.len() {
-        if rules::kind_of(terms, c.terms, side[i]) != 1 {
-            return i;
-        }
-        i += 1;
-    }
-    i
+    letters::first_of_kind(terms, c, side, 1, false)
 }
 
 // Whether one word for the side's k variables fits: there is a length m with k × m + n = l, where the word has l characters and the side
@@ -186,7 +179,8 @@ pub fn tile_unchecked<'a>(
     requires { ⌜ BothLists (storeOf (lends terms cells chars reasons keys) c) (now lhs) (now rhs) ⌝ }
     ensures { λ o. ⌜ Between (Tries (tile (now (lhs .entry)) (now (rhs .entry)) orElse tile (now (rhs .entry)) (now (lhs .entry)))) (across terms cells chars reasons keys) c o ⌝ }
 {
-    let word = letters::constant_side(terms, c, lhs, rhs);
-    let side = letters::other_side(terms, c, lhs, rhs);
+    let which = letters::which_fixed(terms, c, lhs, rhs);
+    let word = letters::pick(which, lhs, rhs);
+    let side = letters::pick(which, rhs, lhs);
     tile_sides(terms, cells, chars, reasons, keys, c, word, side)
 }

@@ -12,34 +12,23 @@ use lib.Dec.{eqb, ltb}
 use borrow.Author.Tests.{eq-eqb, ne-eqb, lt-ltb, le-ltb, ltb-true, ltb-false}
 use Rattle.records.specs.declared.State.{State}
 use Rattle.records.specs.Lists.{if_then_else_, any, keep}
-use Rattle.records.specs.Store.{Store, Term, kind, isConstant, text, root, sameClass}
-use Rattle.records.specs.View.{Lent, storeOf, readIn, termed, termAt}
+use Rattle.records.specs.Store.{Store, isConstant, text, root, sameClass}
+use Rattle.records.specs.View.{Lent, storeOf, readIn, termed}
 use Rattle.records.proofs.Lists.{both-left, decide, drop-head}
 use Rattle.records.proofs.Loops.{Summing, summing-turn}
-use Rattle.records.proofs.Views.{term-there}
 use Rattle.sides.specs.Wordeq.{lettersOf, isFull, occurrence}
 use Rattle.sides.specs.Working.Sides.{Texts}
 use Rattle.sides.specs.Working.Occurring.{atPlace, ownCount}
-use Rattle.sides.proofs.Refines.SideLetters.{text-length}
 use Rattle.sides.proofs.Refines.SideWalk.{count-same}
 
 -- ONE ATOM
 
-module _ (l : List ℕ) (c : State) (x : Texts l c) (a k : ℕ) (e : k ≡ kind (termed l c) a) where
-  pub own-other : (k ≡ 1 → ⊥) → 0 ≡ ownCount (termed l c) a
-  unfolding isFull
-  own-other n = rw (ne-eqb (kind (termed l c) a) 1 (λ z. n (e ∙ z)))
+module _ (s : Store) (a : ℕ) (x : Bool) (e : x ≡ isFull s a) where
+  pub own-full : x ≡ true → 1 ≡ ownCount s a
+  own-full t = rw (sym e ∙ t)
 
-  module _ (n : k ≡ 1) (v : ℕ) (f : v ≡ termAt l a .second) where
-    full : isFull (termed l c) a ≡ ltb 0 v
-    unfolding isFull
-    full = rw (eq-eqb (kind (termed l c) a) 1 (sym e ∙ n)) (ap (ltb 0) (text-length l [] c a (x .constants a (sym e ∙ n)) ∙ ap (λ (t : Term). t .second) (term-there l c a 0 (sym e ∙ n)) ∙ sym f))
-
-    pub own-full : 0 < v → 1 ≡ ownCount (termed l c) a
-    own-full z = rw (full ∙ lt-ltb 0 v z)
-
-    pub own-empty : v ≤ 0 → 0 ≡ ownCount (termed l c) a
-    own-empty z = rw (full ∙ le-ltb 0 v z)
+  pub own-none : x ≡ false → 0 ≡ ownCount s a
+  own-none t = rw (sym e ∙ t)
 
 -- COUNTED
 

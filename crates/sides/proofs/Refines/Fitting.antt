@@ -4,17 +4,15 @@ use mathlib.Core.Bool.{Bool, true, false, not, _&&_}
 use mathlib.Core.List.{List, [], _∷_, _++_}
 use Prim.Native.Nat.{ℕ, zero, suc, _+_, _*_, _-_, _/_, _%_, _<_, _≤_}
 use native.Mathlib.Nat.{mul-comm, div-le-self, div-add-mod'}
-use native.Mathlib.Numerals.{add-one}
 use native.Mathlib.Omega.{arith}
 use lib.ListN.{length, getD, take, drop, length-append, length-drop, take-append-drop}
-use lib.Seq.{take-suc}
 use lib.Dec.{eqb}
 use borrow.Author.Tests.{eq-eqb, ne-eqb}
 use Rattle.records.specs.declared.State.{State}
 use Rattle.records.specs.Lists.{if_then_else_, all, keep, concatMap, sameWord}
 use Rattle.records.specs.Store.{Store, kind, isConstant, isString, text}
 use Rattle.records.specs.View.{lent, storeOf, readIn, termed}
-use Rattle.records.proofs.Lists.{both-left, both-right, both-true, left-false, and-next, or-stop, or-next, clash, all-append, all-every, every-at, concatMap-append}
+use Rattle.records.proofs.Lists.{both-left, both-right, left-false, and-next, or-stop, or-next, clash, all-every, every-at, concatMap-append}
 use Rattle.records.proofs.Loops.{Summing, summing-turn}
 use Rattle.sides.specs.Wordeq.{same, fixed, lettersOf, letters, filled, lead, forced, firstSpan, fits, variables}
 use Rattle.sides.specs.Working.Sides.{Spelled, rest, Tiling}
@@ -23,26 +21,6 @@ use Rattle.sides.specs.Working.Spans.{FirstVariable, agrees}
 use Rattle.sides.proofs.SideReady.{length-whole}
 
 -- THE FIRST VARIABLE
-
-pub first-start : (s : Store) (r : List ℕ) → fixed s (take 0 r) ≡ true
-unfolding fixed all
-first-start s r = refl
-
-module _ (s : Store) (r : List ℕ) (i : ℕ) (h : fixed s (take i r) ≡ true) where
-  module _ (k : ℕ) (b : i < length r) (e : k ≡ kind s (getD r i 0)) where
-    pub first-here : (k ≡ 1 → ⊥) → FirstVariable s r i
-    first-here n = record { within = omega arith; before = h; at = λ z. ne-eqb (kind s (getD r i 0)) 1 (λ q. n (e ∙ q)) }
-
-    one : k ≡ 1 → all (isConstant s) (getD r i 0 ∷ []) ≡ true
-    unfolding all
-    one n = rw (eq-eqb (kind s (getD r i 0)) 1 (sym e ∙ n))
-
-    pub first-turn : k ≡ 1 → fixed s (take (i + 1) r) ≡ true
-    unfolding fixed
-    first-turn n = rw add-one (ap (all (isConstant s)) (take-suc r i 0 b) ∙ all-append (isConstant s) (take i r) (getD r i 0 ∷ []) ∙ both-true _ _ h (one n))
-
-  pub first-none : i ≤ length r → length r ≤ i → FirstVariable s r i
-  first-none p q = record { within = p; before = h; at = λ z. absurd (omega arith) }
 
 module _ (s : Store) where
   lead-of : (r : List ℕ) (i : ℕ) → i ≤ length r → fixed s (take i r) ≡ true → (i < length r → isConstant s (getD r i 0) ≡ false) → lead s r ≡ letters s (take i r)

@@ -1,9 +1,8 @@
 -- The constants of a side, and their characters counted.
 use mathlib.Core.Path.{_≡_, sym, ap, _∙_, refl}
-use mathlib.Core.Bool.{Bool, true, false, not}
+use mathlib.Core.Bool.{Bool, true, false, not, _&&_}
 use mathlib.Core.List.{List, [], _++_, _∷_}
-use Prim.Native.Nat.{ℕ, suc, _+_, _*_, _-_, _<_, _≤_}
-use native.Mathlib.Numerals.{add-one}
+use Prim.Native.Nat.{ℕ, suc, _+_, _-_, _<_, _≤_}
 use native.Mathlib.Omega.{arith}
 use lib.ListN.{length, getD, take, drop, length-append, length-take, length-drop, drop-of-length-le}
 use lib.Seq.{drop-cons, take-all}
@@ -16,8 +15,8 @@ use Rattle.records.specs.View.{charLimit, termAt, readIn, termed}
 use Rattle.records.proofs.Lists.{and-stop, and-next, table-length, failed, passed}
 use Rattle.records.proofs.Views.{term-there}
 use Rattle.records.proofs.Loops.{Summing, summing-turn}
-use Rattle.sides.specs.Wordeq.{fixed, lettersOf, letters, short}
-use Rattle.sides.specs.Working.Sides.{Texts, constantSide, otherSide}
+use Rattle.sides.specs.Wordeq.{fixed, lettersOf, letters, isFull, short}
+use Rattle.sides.specs.Working.Sides.{Texts, whichFixed, picked, fillCount}
 
 -- THE CONSTANT SIDE
 
@@ -25,30 +24,32 @@ pub whole-part : (l : List ℕ) → take (length l - 0) (drop 0 l) ≡ l
 whole-part l = let e : length l - 0 ≡ length l = omega arith in rw e (take-all (length l) l (omega arith))
 
 module _ (s : Store) (l r : List ℕ) (x : Bool) (e : x ≡ fixed s l) where
-  pub constant-left : x ≡ true → take (length l - 0) (drop 0 l) ≡ constantSide s l r
-  unfolding constantSide
-  constant-left t = rw (sym e ∙ t) (whole-part l)
-
-  pub other-left : x ≡ true → take (length r - 0) (drop 0 r) ≡ otherSide s l r
-  unfolding otherSide
-  other-left t = rw (sym e ∙ t) (whole-part r)
+  pub which-left : x ≡ true → 1 ≡ whichFixed s l r
+  unfolding whichFixed
+  which-left t = rw (sym e ∙ t)
 
   module _ (f : x ≡ false) (y : Bool) (d : y ≡ fixed s r) where
-    pub constant-right : y ≡ true → take (length r - 0) (drop 0 r) ≡ constantSide s l r
-    unfolding constantSide
-    constant-right t = rw (sym e ∙ f, sym d ∙ t) (whole-part r)
+    pub which-right : y ≡ true → 2 ≡ whichFixed s l r
+    unfolding whichFixed
+    which-right t = rw (sym e ∙ f, sym d ∙ t)
 
-    pub constant-none : y ≡ false → take 0 (drop 0 l) ≡ constantSide s l r
-    unfolding constantSide
-    constant-none t = rw (sym e ∙ f, sym d ∙ t)
+    pub which-none : y ≡ false → 0 ≡ whichFixed s l r
+    unfolding whichFixed
+    which-none t = rw (sym e ∙ f, sym d ∙ t)
 
-    pub other-right : y ≡ true → take (length l - 0) (drop 0 l) ≡ otherSide s l r
-    unfolding otherSide
-    other-right t = rw (sym e ∙ f, sym d ∙ t) (whole-part l)
+module _ (w : ℕ) (l r : List ℕ) where
+  pub pick-first : w ≡ 1 → take (length l - 0) (drop 0 l) ≡ picked w l r
+  unfolding picked
+  pick-first e = rw (eq-eqb w 1 e) (whole-part l)
 
-    pub other-none : y ≡ false → take 0 (drop 0 l) ≡ otherSide s l r
-    unfolding otherSide
-    other-none t = rw (sym e ∙ f, sym d ∙ t)
+  module _ (d : w ≡ 1 → ⊥) where
+    pub pick-second : w ≡ 2 → take (length r - 0) (drop 0 r) ≡ picked w l r
+    unfolding picked
+    pick-second e = rw (ne-eqb w 1 d, eq-eqb w 2 e) (whole-part r)
+
+    pub pick-none : (w ≡ 2 → ⊥) → take 0 (drop 0 l) ≡ picked w l r
+    unfolding picked
+    pick-none f = rw (ne-eqb w 1 d, ne-eqb w 2 f)
 
 -- COUNTED
 
@@ -67,11 +68,26 @@ module _ (l h : List ℕ) (c : State) where
     unfolding lettersOf
     letters-other e = rw (ne-eqb (kind (termed l c) a) 1 e)
 
-pub count-none : (l : List ℕ) (c : State) (a k : ℕ) → Texts l c → k ≡ kind (termed l c) a → (k ≡ 1 → ⊥) → 0 ≡ length (lettersOf (termed l c) a)
-count-none l c a k x e n = sym (ap length (letters-other l [] c x a (λ z. n (e ∙ z))))
-
 pub count-some : (l : List ℕ) (c : State) (a k v r : ℕ) → Texts l c → k ≡ kind (termed l c) a → k ≡ 1 → v ≡ termAt l a .second → r ≡ v → r ≡ length (lettersOf (termed l c) a)
 count-some l c a k v r x e n f g = g ∙ f ∙ sym (letters-constant l [] c x a (sym e ∙ n))
+
+-- the letters of an atom are what fills its place, and nothing for a variable
+module _ (s : Store) (a n : ℕ) (e : n ≡ fillCount s a 0) where
+  pub count-letters : n ≡ length (lettersOf s a)
+  unfolding lettersOf
+  count-letters = e ∙ go (isConstant s a)
+    where
+      go : (b : Bool) → (if b then length (if b then text s a else []) else 0) ≡ length (if b then text s a else [])
+      go true = refl
+      go false = refl
+
+  pub count-full : ltb 0 n ≡ isFull s a
+  unfolding isFull lettersOf
+  count-full = ap (ltb 0) e ∙ go (isConstant s a)
+    where
+      go : (b : Bool) → ltb 0 (if b then length (if b then text s a else []) else 0) ≡ (b && ltb 0 (length (text s a)))
+      go true = refl
+      go false = refl
 
 -- the letters of an atom are no more than are counted
 pub count-limit : (l h : List ℕ) (c : State) (a : ℕ) → length (lettersOf (readIn l h c) a) ≤ c .chars

@@ -7,6 +7,7 @@ use Prim.Native.Nat.{ℕ, suc, _+_, _<_, _≤_}
 use native.Mathlib.Numerals.{add-one}
 use native.Mathlib.Omega.{arith}
 use lib.ListN.{length, getD, drop, length-drop}
+use lib.Dec.{eqb}
 use Rattle.records.specs.declared.State.{State}
 use Rattle.records.specs.declared.Added.the-variants as adding
 use Rattle.records.specs.Lists.{if_then_else_, all, keep, Every}
@@ -25,12 +26,12 @@ use Rattle.sides.specs.declared.StepResult.{StepResult}
 use Rattle.sides.specs.declared.StepResult.the-variants as step
 use Rattle.sides.specs.Wordeq.{conflict, Tried, answer, pass, settled, _orElse_, same, fixed, letters, fits, variables, explainAll, tileBy, tile}
 use Rattle.sides.specs.Working.Results.{BothLists, Tries}
-use Rattle.sides.specs.Working.Sides.{Spelled, constantSide, otherSide}
+use Rattle.sides.specs.Working.Sides.{Spelled, whichFixed, picked}
 use Rattle.sides.specs.Working.Stripping.{Readable, Pair, part}
 use Rattle.sides.specs.Working.Explaining.{OneClass}
 use Rattle.sides.specs.Working.Spans.{FirstVariable, agrees, unfit}
 use Rattle.sides.proofs.Refines.Stripping.{part-whole}
-use Rattle.sides.proofs.SideReady.{ready-readIn, constant-side-whole, other-side-whole}
+use Rattle.sides.proofs.SideReady.{ready-readIn, which-whole}
 use Rattle.sides.proofs.Refines.ExplainingEach.{same-classes}
 use Rattle.sides.proofs.Refines.Fitting.{fits-whole}
 use Rattle.sides.proofs.Residual.{fixed-variables, variables-from, variables-none, variables-short, agree-variables}
@@ -184,17 +185,17 @@ unfolding tileBy keep
 tile-empty s = refl
 
 -- 'The constant side is picked from the two lists and handed on as it was lent'
-pub tile-sides : (s : Store) (l r : List ℕ) → (tile l r orElse tile r l) s ≡ tileBy s (constantSide s l r) (otherSide s l r) (variables s (otherSide s l r)) s
-unfolding constantSide otherSide
+pub tile-sides : (s : Store) (l r : List ℕ) → (tile l r orElse tile r l) s ≡ tileBy s (picked (whichFixed s l r) l r) (picked (whichFixed s l r) r l) (variables s (picked (whichFixed s l r) r l)) s
+unfolding whichFixed picked
 tile-sides s l r = decide (fixed s l) (λ z. from-left z) (λ z. decide (fixed s r) (λ y. from-right z y) (λ y. from-none z y))
   where
-    from-left : fixed s l ≡ true → (tile l r orElse tile r l) s ≡ tileBy s (constantSide s l r) (otherSide s l r) (variables s (otherSide s l r)) s
+    from-left : fixed s l ≡ true → (tile l r orElse tile r l) s ≡ tileBy s (picked (whichFixed s l r) l r) (picked (whichFixed s l r) r l) (variables s (picked (whichFixed s l r) r l)) s
     from-left z = rw z (ap (andThen (settled (tile r l))) (tile-left s l r z) ∙ tileBy-once s l r (variables s r) (tile r l) (tile-fixed s r l z))
 
-    from-right : fixed s l ≡ false → fixed s r ≡ true → (tile l r orElse tile r l) s ≡ tileBy s (constantSide s l r) (otherSide s l r) (variables s (otherSide s l r)) s
+    from-right : fixed s l ≡ false → fixed s r ≡ true → (tile l r orElse tile r l) s ≡ tileBy s (picked (whichFixed s l r) l r) (picked (whichFixed s l r) r l) (variables s (picked (whichFixed s l r) r l)) s
     from-right z y = rw (z, y) (ap (andThen (settled (tile r l))) (tile-not s l r z) ∙ tile-left s r l y)
 
-    from-none : fixed s l ≡ false → fixed s r ≡ false → (tile l r orElse tile r l) s ≡ tileBy s (constantSide s l r) (otherSide s l r) (variables s (otherSide s l r)) s
+    from-none : fixed s l ≡ false → fixed s r ≡ false → (tile l r orElse tile r l) s ≡ tileBy s (picked (whichFixed s l r) l r) (picked (whichFixed s l r) r l) (variables s (picked (whichFixed s l r) r l)) s
     from-none z y = rw (z, y) (ap (andThen (settled (tile r l))) (tile-not s l r z) ∙ tile-not s r l y ∙ sym (tile-empty s))
 
 module _ (s : Store) where
@@ -207,31 +208,23 @@ module _ (s : Store) where
   either-list false true k j f g = g
   either-list false false k j f g = empty-list
 
-  constant-list : (l r : List ℕ) → isList s l ≡ true → isList s r ≡ true → isList s (constantSide s l r) ≡ true
-  unfolding constantSide
-  constant-list l r f g = either-list (fixed s l) (fixed s r) l r f g
+  picked-list : (w : ℕ) (l r : List ℕ) → isList s l ≡ true → isList s r ≡ true → isList s (picked w l r) ≡ true
+  unfolding picked
+  picked-list w l r f g = either-list (eqb w 1) (eqb w 2) l r f g
 
-  other-list : (l r : List ℕ) → isList s l ≡ true → isList s r ≡ true → isList s (otherSide s l r) ≡ true
-  unfolding otherSide
-  other-list l r f g = either-list (fixed s l) (fixed s r) r l g f
-
-module _ (m₀ : Lent) (c : State) (l r word side : List ℕ) (p : word ≡ constantSide (termed (m₀ .terms) c) l r) (q : side ≡ otherSide (termed (m₀ .terms) c) l r) where
-  picked : word ≡ constantSide (storeOf m₀ c) l r
-  picked = p ∙ constant-side-whole m₀ c l r
-
-  against : side ≡ otherSide (storeOf m₀ c) l r
-  against = q ∙ other-side-whole m₀ c l r
-
+module _ (m₀ : Lent) (c : State) (l r word side : List ℕ) (w : ℕ) (x : w ≡ whichFixed (termed (m₀ .terms) c) l r) (p : word ≡ picked w l r) (q : side ≡ picked w r l) where
   pub sides-lists : BothLists (storeOf m₀ c) l r → BothLists (storeOf m₀ c) word side
-  sides-lists x = record {
-    left = ap (isList (storeOf m₀ c)) picked ∙ constant-list (storeOf m₀ c) l r (x .left) (x .right);
-    right = ap (isList (storeOf m₀ c)) against ∙ other-list (storeOf m₀ c) l r (x .left) (x .right);
+  sides-lists y = record {
+    left = rw p (picked-list (storeOf m₀ c) w l r (y .left) (y .right));
+    right = rw q (picked-list (storeOf m₀ c) w r l (y .right) (y .left));
   }
 
   pub sides-tried : (m′ : Lent) (o : StepResult) → Tries (tileBy (storeOf m₀ c) word side (variables (storeOf m₀ c) side)) m₀ m′ c o → Tries (tile l r orElse tile r l) m₀ m′ c o
-  sides-tried m′ o x = record { is = λ k. working-is (tile-sides (storeOf m₀ c) l r ∙ same-sides) (x .is k) }
+  sides-tried m′ o y = record { is = λ k. working-is (tile-sides (storeOf m₀ c) l r ∙ same-sides) (y .is k) }
     where
-      same-sides : tileBy (storeOf m₀ c) (constantSide (storeOf m₀ c) l r) (otherSide (storeOf m₀ c) l r) (variables (storeOf m₀ c) (otherSide (storeOf m₀ c) l r)) (storeOf m₀ c) ≡ tileBy (storeOf m₀ c) word side (variables (storeOf m₀ c) side) (storeOf m₀ c)
+      same-sides : tileBy (storeOf m₀ c) (picked (whichFixed (storeOf m₀ c) l r) l r) (picked (whichFixed (storeOf m₀ c) l r) r l) (variables (storeOf m₀ c) (picked (whichFixed (storeOf m₀ c) l r) r l)) (storeOf m₀ c)
+          ≡ tileBy (storeOf m₀ c) word side (variables (storeOf m₀ c) side) (storeOf m₀ c)
       same-sides =
-          ap (λ (z : List ℕ). tileBy (storeOf m₀ c) z (otherSide (storeOf m₀ c) l r) (variables (storeOf m₀ c) (otherSide (storeOf m₀ c) l r)) (storeOf m₀ c)) (sym picked)
-          ∙ ap (λ (z : List ℕ). tileBy (storeOf m₀ c) word z (variables (storeOf m₀ c) z) (storeOf m₀ c)) (sym against)
+          ap (λ (z : ℕ). tileBy (storeOf m₀ c) (picked z l r) (picked z r l) (variables (storeOf m₀ c) (picked z r l)) (storeOf m₀ c)) (sym (x ∙ which-whole m₀ c l r))
+          ∙ ap (λ (z : List ℕ). tileBy (storeOf m₀ c) z (picked w r l) (variables (storeOf m₀ c) (picked w r l)) (storeOf m₀ c)) (sym p)
+          ∙ ap (λ (z : List ℕ). tileBy (storeOf m₀ c) word z (variables (storeOf m₀ c) z) (storeOf m₀ c)) (sym q)

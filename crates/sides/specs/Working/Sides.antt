@@ -1,12 +1,12 @@
 -- What the tests of two lists read: the terms and characters alone, and a place within a side's constant characters.
 use mathlib.Core.Path.{_≡_}
-use mathlib.Core.Bool.{Bool, false}
+use mathlib.Core.Bool.{Bool, true, false, not}
 use mathlib.Core.List.{List, [], _∷_}
 use Prim.Native.Nat.{ℕ, _+_, _≤_, _<_}
-use lib.ListN.{length, drop, getD}
+use lib.ListN.{length, take, drop, getD}
 use lib.Dec.{eqb}
 use Rattle.records.specs.declared.State.{State}
-use Rattle.records.specs.Lists.{if_then_else_, sameWord}
+use Rattle.records.specs.Lists.{if_then_else_, any, sameWord}
 use Rattle.records.specs.Store.{Store, kind, term, isConstant}
 use Rattle.records.specs.View.{charLimit, readIn, termed}
 use Rattle.sides.specs.declared.letters.Cursor.{Cursor}
@@ -23,12 +23,22 @@ pub record Spelled (l h : List ℕ) (c : State) : Type 0 where
   pub texts : Texts l c
   pub room : c .chars ≤ length h
 
--- 'The constant side is picked from the two lists': the left one where both are constant, and none where neither is
-unfoldable pub constantSide : Store → List ℕ → List ℕ → List ℕ
-constantSide s l r = if fixed s l then l else (if fixed s r then r else [])
+-- an atom's kind is k; where `is` is false, it is another
+unfoldable pub ofKind : Store → ℕ → Bool → ℕ → Bool
+ofKind s k is a = if eqb (kind s a) k then is else not is
 
-unfoldable pub otherSide : Store → List ℕ → List ℕ → List ℕ
-otherSide s l r = if fixed s l then r else (if fixed s r then l else [])
+-- the place of the first atom that p holds of; where there is none, the list's end
+pub record First (p : ℕ → Bool) (l : List ℕ) (i : ℕ) : Type 0 where
+  pub within : i ≤ length l
+  pub before : any p (take i l) ≡ false
+  pub at : i < length l → p (getD l i 0) ≡ true
+
+-- 'The constant side is picked from the two lists': 1 for the left one, where both are constant too, 2 for the right one, 0 for none
+unfoldable pub whichFixed : Store → List ℕ → List ℕ → ℕ
+whichFixed s l r = if fixed s l then 1 else (if fixed s r then 2 else 0)
+
+unfoldable pub picked : ℕ → List ℕ → List ℕ → List ℕ
+picked w l r = if eqb w 1 then l else (if eqb w 2 then r else [])
 
 -- A PLACE IN THE CONSTANT CHARACTERS OF A SIDE
 
