@@ -75,14 +75,12 @@ use lines::reading::line_end;
 use marking::is_mark;
 use marking::mark;
 use reading::read;
-use records::CELL_LIMIT;
-use records::CELL_WIDTH;
+use records::CELL_SLICE;
 use records::CHAR_LIMIT;
 use records::KEY_LIMIT;
 use records::LIST_LIMIT;
 use records::REASON_LIMIT;
-use records::TERM_LIMIT;
-use records::TERM_WIDTH;
+use records::TERM_SLICE;
 
 pub mod asking;
 pub mod lending;
@@ -93,10 +91,6 @@ pub mod solving;
 pub mod stating;
 
 // The words of each slice: of characters two more than the limit, of reasons and keys a record more.
-const TERM_WORDS: usize = TERM_WIDTH * (TERM_LIMIT + 1);
-
-const CELL_WORDS: usize = CELL_WIDTH * (CELL_LIMIT + 1);
-
 const CHAR_WORDS: usize = CHAR_LIMIT + 2;
 
 const REASON_WORDS: usize = 2 * (REASON_LIMIT + 1);
@@ -206,8 +200,8 @@ fn run(
 fn main() {
     let mut text = io::large_buffer();
     let len = io::read_full(0, &mut text);
-    let mut terms: [u32; TERM_WORDS] = [0; TERM_WORDS];
-    let mut cells: [u32; CELL_WORDS] = [0; CELL_WORDS];
+    let mut terms: [u32; TERM_SLICE] = [0; TERM_SLICE];
+    let mut cells: [u32; CELL_SLICE] = [0; CELL_SLICE];
     let mut chars: [u32; CHAR_WORDS] = [0; CHAR_WORDS];
     let mut reasons: [u32; REASON_WORDS] = [0; REASON_WORDS];
     let mut keys: [u32; KEY_WORDS] = [0; KEY_WORDS];
