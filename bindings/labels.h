@@ -31,10 +31,10 @@ extern "C" {
 #endif
 
 /* The version of this header, of the Rust crate and of CHANGELOG.md. */
-#define LABELS_VERSION "0.9.0"
+#define LABELS_VERSION "0.9.1"
 #define LABELS_VERSION_MAJOR 0
 #define LABELS_VERSION_MINOR 9
-#define LABELS_VERSION_PATCH 0
+#define LABELS_VERSION_PATCH 1
 
 /* The limits of the counts. */
 #define LABELS_MAX_TERMS 512
@@ -161,7 +161,7 @@ static inline const char *labels_refusal_text(uint32_t refusal) {
     case LABELS_REFUSED_ARGUMENT:
         return "a wrong argument";
     case LABELS_REFUSED_LIST:
-        return "a flattened list above 1,024 entries";
+        return "a flattened list above 1,024 atoms";
     case LABELS_REFUSED_REASONS:
         return "no room for the next reason";
     case LABELS_REFUSED_ROOM:

@@ -79,7 +79,7 @@ impl fmt::Display for Refusal {
             Refusal::Classes => "classes and forest do not agree, or would not after going back to a mark",
             Refusal::Congruences => "a congruence that its parts do not give",
             Refusal::Argument => "a wrong argument",
-            Refusal::List => "a flattened list above 1,024 entries",
+            Refusal::List => "a flattened list above 1,024 atoms",
             Refusal::Reasons => "no room for the next reason",
             Refusal::Room => "no room for a term, a cell, a character or a key",
             Refusal::Names => "no name left",
