@@ -859,7 +859,8 @@ pub(crate) fn long_pairs(depth: u32, pairs: usize) -> Lent {
     let mut s = lay_out(&Draft { layout: 0, ..Draft::default() });
     let place = s.add_text(&(0..2 * depth + 1).map(|i| 'a' as u32 + i).collect::<Vec<u32>>());
     let join = |s: &mut Lent, t: u32, root: u32, parent: u32, label: [u32; 3]| {
-        s.terms[TERM_WIDTH * t as usize + 3..TERM_WIDTH * t as usize + TERM_WIDTH].copy_from_slice(&[root, parent, label[0], label[1], label[2]]);
+        s.terms[TERM_WIDTH * t as usize + 3..TERM_WIDTH * t as usize + TERM_WIDTH]
+            .copy_from_slice(&[root, parent, label[0], label[1], label[2]]);
     };
     let root = s.add_term(VARIABLE, place, 1);
     let mut ends = [root; 2];

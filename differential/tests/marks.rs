@@ -198,7 +198,8 @@ fn planted_faults_are_found() {
         let mut t = run(s, a, n);
         if matches!(a, Act::GoBack { .. }) && t.code == 0 && s.joins() > 0 {
             let old = s.record(s.joins() - 1)[1] as usize;
-            t.exit.store.terms[TERM_WIDTH * old + 4..TERM_WIDTH * old + TERM_WIDTH].copy_from_slice(&s.store.terms[TERM_WIDTH * old + 4..TERM_WIDTH * old + TERM_WIDTH]);
+            t.exit.store.terms[TERM_WIDTH * old + 4..TERM_WIDTH * old + TERM_WIDTH]
+                .copy_from_slice(&s.store.terms[TERM_WIDTH * old + 4..TERM_WIDTH * old + TERM_WIDTH]);
         }
         t
     };
