@@ -10,8 +10,6 @@ use Rattle.records.specs.Working.Doing.{Working}
 use Rattle.records.proofs.Passed.{ready-later}
 use Rattle.records.proofs.Counts.{agree-below}
 use Rattle.records.proofs.LaterStores.{Later, later-none, later-then, later-higher}
--- crates above name this law from here
-pub use Rattle.records.proofs.Doing.{working-left}
 
 pub record Carried (m₀ : Lent) (c₀ : State) (m : Lent) (c : State) : Type 0 where
   pub later : Later (storeOf m₀ c₀) (storeOf m c)

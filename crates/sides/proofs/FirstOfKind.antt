@@ -78,10 +78,11 @@ module _ (p q : ℕ → Bool) (f : (a : ℕ) → p a ≡ not (q a)) where
           decide (ltb i (length l)) (λ t. ne-eqb i (length l) (apart (ltb-true i (length l) t)) ∙ sym (ap not t))
           (λ t. eq-eqb i (length l) (let b = ltb-false i (length l) t in let w = x .within in omega arith) ∙ sym (ap not t))
 
-any-by : (p q : ℕ → Bool) → ((a : ℕ) → p a ≡ q a) → (l : List ℕ) → any p l ≡ any q l
+-- a test that comes to the same
+pub any-same : (p q : ℕ → Bool) → ((a : ℕ) → p a ≡ q a) → (l : List ℕ) → any p l ≡ any q l
 unfolding any
-any-by p q f [] = refl
-any-by p q f (a ∷ l) = ap (λ (x : Bool). x || any p l) (f a) ∙ ap (λ (x : Bool). q a || x) (any-by p q f l)
+any-same p q e [] = refl
+any-same p q e (a ∷ l) = rw (e a, any-same p q e l)
 
 -- KINDS
 
@@ -115,7 +116,7 @@ module _ (s : Store) (k : ℕ) where
   all-kind = first-all (ofKind s k false) (λ a. eqb (kind s a) k) other-kind
 
   pub any-kind : (l : List ℕ) (i : ℕ) → First (ofKind s k true) l i → ltb i (length l) ≡ any (λ a. eqb (kind s a) k) l
-  any-kind l i f = first-any (ofKind s k true) l i f ∙ any-by (ofKind s k true) (λ a. eqb (kind s a) k) that-kind l
+  any-kind l i f = first-any (ofKind s k true) l i f ∙ any-same (ofKind s k true) (λ a. eqb (kind s a) k) that-kind l
 
 pub fixed-kind : (s : Store) (l : List ℕ) (i : ℕ) → First (ofKind s 1 false) l i → eqb i (length l) ≡ fixed s l
 unfolding fixed

@@ -2,7 +2,7 @@ pub mod Words
 pub mod StepOutcomes
 pub mod Cited
 pub mod Good
-pub mod Ways
+pub mod FrontOrEnd
 pub mod FirstOfKind
 pub mod Strip
 mod OnePass

@@ -1,6 +1,6 @@
 -- What the tests of two lists require follows from an audited store, and they say the same of the whole store: they read its terms and
 -- characters alone.
-use mathlib.Core.Path.{_≡_, refl, ap, _∙_}
+use mathlib.Core.Path.{_≡_, refl, sym, ap, _∙_}
 use mathlib.Core.Bool.{Bool, _&&_}
 use mathlib.Core.List.{List, [], _∷_}
 use Prim.Native.Nat.{ℕ}
@@ -12,9 +12,10 @@ use Rattle.records.specs.Lists.{concatMap}
 use Rattle.records.specs.View.{Lent, storeOf, readIn, termed}
 use Rattle.records.specs.Working.Audited.{Ready}
 use Rattle.records.proofs.Lists.{table-length}
-use Rattle.sides.specs.Wordeq.{fixed, lettersOf, letters, short}
+use Rattle.sides.specs.Wordeq.{fixed, lettersOf, letters, isFull, short}
 use Rattle.sides.specs.Working.Sides.{Texts, Spelled, whichFixed}
 use Rattle.sides.specs.Working.Stripping.{Readable}
+use Rattle.sides.proofs.Refines.SideLetters.{full-letters}
 use Rattle.sides.proofs.Refines.SideWalk.{count-same}
 
 pub ready-readable : {m : Lent} {c : State} → Ready m c → Readable (m .terms) (m .chars) c
@@ -47,8 +48,17 @@ module _ (m : Lent) (c : State) where
   unfolding letters lettersOf
   letters-whole l = refl
 
+  full-readIn : (a : ℕ) → isFull (readIn (m .terms) (m .chars) c) a ≡ isFull (storeOf m c) a
+  unfolding isFull
+  full-readIn a = refl
+
   -- how many letters there are does not depend on the characters
   module _ (x : Texts (m .terms) c) where
+    pub full-whole : (a : ℕ) → isFull (termed (m .terms) c) a ≡ isFull (storeOf m c) a
+    full-whole a =
+        full-letters (termed (m .terms) c) a ∙ ap (ltb 0) (sym (count-same (m .terms) (m .chars) c a x)) ∙ sym (full-letters (readIn (m .terms) (m .chars) c) a)
+        ∙ full-readIn a
+
     count-all : (l : List ℕ) → length (letters (termed (m .terms) c) l) ≡ length (letters (readIn (m .terms) (m .chars) c) l)
     unfolding letters concatMap
     count-all [] = refl

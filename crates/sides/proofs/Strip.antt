@@ -20,7 +20,7 @@ use Rattle.sides.specs.Wordeq.{same, explainMatch, needsReason, strip, s
 use Rattle.records.proofs.LaterStores.{Added}
 use Rattle.sides.proofs.Words
 use Rattle.sides.proofs.Words.{Alike, alike-reverse, cancel-front, cancel-back, unturn}
-use Rattle.sides.proofs.Ways.{every-reverse}
+use Rattle.sides.proofs.FrontOrEnd.{every-reverse}
 use Rattle.sides.proofs.StepOutcomes.{Ends}
 use Rattle.sides.proofs.Cited.{Cited, cited-none, cited-then, explain-ends, Full, full-ok, full-if, full-then, explain-full}
 

@@ -2,7 +2,6 @@
 // store's 16,384, so a table says which places there are used: an atom enters each of its places once, and the character of a place is
 // looked for once.
 ghost use mathlib.Core.Path.{_≡_};
-ghost use mathlib.Core.List.{[]};
 ghost use Prim.Native.Nat.{_+_, _<_, _≤_};
 ghost use lib.ListN.{length, getD};
 ghost use Rattle.records.specs.View.{charLimit, span, readIn};

@@ -1,7 +1,7 @@
 // The constants of a side and their characters: counted, walked and compared. Nothing is written.
 ghost use mathlib.Core.Path.{_≡_};
 ghost use mathlib.Core.Bool.{true, _&&_};
-ghost use mathlib.Core.List.{[], _∷_};
+ghost use mathlib.Core.List.{_∷_};
 ghost use Prim.Native.Nat.{_+_, _<_, _≤_};
 ghost use lib.ListN.{length, take};
 ghost use Rattle.records.specs.Lists.{sameWord};
@@ -27,7 +27,7 @@ fn is_kind(terms: &[u32], c: State, a: u32, k: u32, is: bool) -> bool
 }
 
 // The place of the first atom whose kind is k, or is another; the list's end where there is none.
-pub fn first_of_kind(terms: &[u32], c: State, l: &[u32], k: u32, is: bool) -> usize
+pub fn first_of_kind_unchecked(terms: &[u32], c: State, l: &[u32], k: u32, is: bool) -> usize
     ensures { λ i. ⌜ First (ofKind (termed (now (terms .entry)) c) k is) (now (l .entry)) i ⌝ }
 {
     let mut i: usize = 0;
@@ -44,7 +44,7 @@ pub fn first_of_kind(terms: &[u32], c: State, l: &[u32], k: u32, is: bool) -> us
 pub fn is_fixed(terms: &[u32], c: State, l: &[u32]) -> bool
     ensures { λ r. ⌜ r ≡ fixed (termed (now (terms .entry)) c) (now (l .entry)) ⌝ }
 {
-    first_of_kind(terms, c, l, 1, false) == l.len()
+    first_of_kind_unchecked(terms, c, l, 1, false) == l.len()
 }
 
 // Which of two lists is all constants: 1 for the left one, where both are too, 2 for the right one, 0 for none.

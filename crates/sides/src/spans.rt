@@ -25,7 +25,7 @@ use records::rules;
 pub fn first_variable_unchecked(terms: &[u32], c: State, side: &[u32]) -> usize
     ensures { λ r. ⌜ FirstVariable (termed (now (terms .entry)) c) (now (side .entry)) r ⌝ }
 {
-    letters::first_of_kind(terms, c, side, 1, false)
+    letters::first_of_kind_unchecked(terms, c, side, 1, false)
 }
 
 // Whether one word for the side's k variables fits: there is a length m with k × m + n = l, where the word has l characters and the side

@@ -1,4 +1,4 @@
-// Step 1: same heads and same tails are stripped, class matches explained.
+// Step 1: same heads and same tails are stripped, class matches explained. Pairs are read from the fronts of two lists or from their ends.
 ghost use mathlib.Core.Path.{_≡_};
 ghost use mathlib.Core.Bool.{true, _&&_};
 ghost use mathlib.Core.List.{[]};

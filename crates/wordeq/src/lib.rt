@@ -1,6 +1,5 @@
 // Word equations, steps 1 to 8: the public calls.
 ghost use mathlib.Core.Path.{_≡_};
-ghost use mathlib.Core.List.{[]};
 ghost use Rattle.records.specs.View.{across, termed};
 ghost use Rattle.records.specs.Calls.{added, Answers, Promises, Writes};
 ghost use Rattle.sides.specs.Wordeq.{isGuard, resolveArguments, nfArguments};

@@ -64,14 +64,7 @@ fn is_alias(terms: &[u32], chars: &[u32], c: State, l: &[u32], r: &[u32]) -> boo
 fn are_variables(terms: &[u32], c: State, l: &[u32]) -> bool
     ensures { λ r. ⌜ r ≡ all (isVariable (termed (now (terms .entry)) c)) (now (l .entry)) ⌝ }
 {
-    let mut i: usize = 0;
-    while i < l.len() {
-        if rules::kind_of(terms, c.terms, l[i]) != 2 {
-            return false;
-        }
-        i += 1;
-    }
-    true
+    letters::first_of_kind_unchecked(terms, c, l, 2, false) == l.len()
 }
 
 // An empty side against two or more variables.

@@ -21,21 +21,14 @@ use crate::stepping;
 use normalize::flat;
 use records::LIST_LIMIT;
 use records::State;
-use records::rules;
 use sides::StepResult;
+use sides::letters;
 
 // Whether some atom is a concatenation.
 fn has_concat(terms: &[u32], c: State, l: &[u32]) -> bool
     ensures { λ r. ⌜ r ≡ any (isConcat (termed (now (terms .entry)) c)) (now (l .entry)) ⌝ }
 {
-    let mut i: usize = 0;
-    while i < l.len() {
-        if rules::kind_of(terms, c.terms, l[i]) == 3 {
-            return true;
-        }
-        i += 1;
-    }
-    false
+    letters::first_of_kind_unchecked(terms, c, l, 3, true) < l.len()
 }
 
 fn either_concat(terms: &[u32], c: State, lhs: &[u32], rhs: &[u32]) -> bool

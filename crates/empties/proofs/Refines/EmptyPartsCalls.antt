@@ -20,7 +20,7 @@ use Rattle.records.specs.Calls.{made, writesNothing}
 use Rattle.records.specs.Working.Doing.{Working}
 use Rattle.records.proofs.Lists.{table-length, both-left, both-right, both-true, every-all, every-map, all-every}
 use Rattle.records.proofs.Public.{passed-ready, audit-low}
-use Rattle.records.proofs.Doing.{working-same, working-stopped, working-is}
+use Rattle.records.proofs.Doing.{working-same, working-stopped, working-is, working-left}
 use Rattle.records.proofs.Grown.{grown-string}
 use Rattle.records.proofs.Kept.{MadeIn, made-string, constant-kept}
 use Rattle.records.proofs.ListLaws.{list-strings}
@@ -28,7 +28,6 @@ use Rattle.records.proofs.Works.{stop-not}
 use Rattle.records.proofs.Sequence.{made-is, made-stops}
 use Rattle.normalize.specs.Normalize.{flatten}
 use Rattle.normalize.specs.Calls.{firstWords}
-use Rattle.normalize.proofs.Carried.{working-left}
 use Rattle.normalize.proofs.ListCalls.{listed-short, listed-unready, listed-unfit, listed-works}
 use Rattle.wordeq.specs.Calls.{equalArguments}
 use Rattle.sides.specs.Working.Results.{BothLists}

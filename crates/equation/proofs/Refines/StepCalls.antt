@@ -24,7 +24,7 @@ use Rattle.records.proofs.Lists.{both-left, both-right, both-true, left-false, 
 use Rattle.records.proofs.Works.{stop-not, via}
 use Rattle.records.proofs.Beside.{audited-beside}
 use Rattle.records.proofs.Passed.{ready-later}
-use Rattle.records.proofs.Doing.{working-stopped, working-is, works}
+use Rattle.records.proofs.Doing.{working-stopped, working-is, works, working-left}
 use Rattle.records.proofs.ListLaws.{list-strings}
 use Rattle.records.proofs.Views.{table-is}
 use Rattle.records.proofs.Climbs.{view-term, term-within}
@@ -38,7 +38,7 @@ use Rattle.normalize.specs.Working.Pushes.{Candidates}
 use Rattle.records.proofs.LaterStores.{Later, later-below}
 use Rattle.normalize.proofs.Candidates.{candidates-later}
 use Rattle.normalize.proofs.Deep.{deep-gives, deep-kept}
-use Rattle.normalize.proofs.Carried.{Carried, carried-none, carried-then, carried-kept, working-left}
+use Rattle.normalize.proofs.Carried.{Carried, carried-none, carried-then, carried-kept}
 use Rattle.normalize.proofs.ListCalls.{listed-short, listed-unready, listed-unfit, listed-works}
 use Rattle.sides.proofs.StepResult.{the-type}
 use Rattle.sides.specs.declared.StepResult.{StepResult}

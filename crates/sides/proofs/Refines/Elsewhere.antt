@@ -12,14 +12,15 @@ use lib.Dec.{eqb, ltb}
 use borrow.Author.Tests.{eq-eqb, ne-eqb, lt-ltb, le-ltb, ltb-true, ltb-false}
 use Rattle.records.specs.declared.State.{State}
 use Rattle.records.specs.Lists.{if_then_else_, any, keep}
-use Rattle.records.specs.Store.{Store, isConstant, text, root, sameClass}
-use Rattle.records.specs.View.{Lent, storeOf, readIn, termed}
+use Rattle.records.specs.Store.{Store, root, sameClass}
+use Rattle.records.specs.View.{Lent, storeOf, termed}
 use Rattle.records.proofs.Lists.{both-left, decide, drop-head}
 use Rattle.records.proofs.Loops.{Summing, summing-turn}
-use Rattle.sides.specs.Wordeq.{lettersOf, isFull, occurrence}
+use Rattle.sides.specs.Wordeq.{isFull, occurrence}
 use Rattle.sides.specs.Working.Sides.{Texts}
 use Rattle.sides.specs.Working.Occurring.{atPlace, ownCount}
-use Rattle.sides.proofs.Refines.SideWalk.{count-same}
+use Rattle.sides.proofs.SideReady.{full-whole}
+use Rattle.sides.proofs.FirstOfKind.{any-same}
 
 -- ONE ATOM
 
@@ -146,35 +147,13 @@ module _ (s : Store) (x : ℕ) (l : List ℕ) (i n r : ℕ) (b : Bool) (g : Seek
 
 -- THE WHOLE STORE has the same occurrence: how many letters there are does not depend on the characters
 
-full-letters : (s : Store) (a : ℕ) → isFull s a ≡ ltb 0 (length (lettersOf s a))
-unfolding isFull lettersOf
-full-letters s a = go (isConstant s a)
-  where
-    go : (b : Bool) → (b && ltb 0 (length (text s a))) ≡ ltb 0 (length (if b then text s a else []))
-    go true = refl
-    go false = refl
-
-any-same : (p q : ℕ → Bool) → ((a : ℕ) → p a ≡ q a) → (l : List ℕ) → any p l ≡ any q l
-unfolding any
-any-same p q e [] = refl
-any-same p q e (a ∷ l) = rw (e a, any-same p q e l)
-
 module _ (m : Lent) (c : State) (x : Texts (m .terms) c) where
-  full-readIn : (a : ℕ) → isFull (readIn (m .terms) (m .chars) c) a ≡ isFull (storeOf m c) a
-  unfolding isFull
-  full-readIn a = refl
-
-  full-whole : (a : ℕ) → isFull (termed (m .terms) c) a ≡ isFull (storeOf m c) a
-  full-whole a =
-      full-letters (termed (m .terms) c) a ∙ ap (ltb 0) (sym (count-same (m .terms) (m .chars) c a x)) ∙ sym (full-letters (readIn (m .terms) (m .chars) c) a)
-      ∙ full-readIn a
-
   pub occurrence-whole : (y : ℕ) (u l : List ℕ) → occurrence (termed (m .terms) c) y u l ≡ occurrence (storeOf m c) y u l
   unfolding occurrence
   occurrence-whole y u [] = refl
   occurrence-whole y u (a ∷ l) =
       ap (λ (b : Bool). elim (sameClass (storeOf m c) a y && b) as (λ z. Option ℕ) [ true ↦ some a | false ↦ occurrence (termed (m .terms) c) y (u ++ (a ∷ [])) l ])
-      (any-same (isFull (termed (m .terms) c)) (isFull (storeOf m c)) full-whole (u ++ l))
+      (any-same (isFull (termed (m .terms) c)) (isFull (storeOf m c)) (full-whole m c x) (u ++ l))
       ∙ ap (λ (o : Option ℕ). elim (sameClass (storeOf m c) a y && any (isFull (storeOf m c)) (u ++ l)) as (λ z. Option ℕ) [ true ↦ some a | false ↦ o ])
       (occurrence-whole y (u ++ (a ∷ [])) l)
 

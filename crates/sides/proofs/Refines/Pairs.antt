@@ -20,7 +20,7 @@ use Rattle.engine.specs.Explain.{explain, explainArguments}
 use Rattle.sides.specs.Wordeq.{explainPair, nfExplain}
 use Rattle.sides.specs.Working.Stripping.{Pair, way}
 use Rattle.sides.proofs.Refines.AddingReasons.{going-pair}
-use Rattle.sides.proofs.Ways.{way-length, way-every}
+use Rattle.sides.proofs.FrontOrEnd.{way-length, way-every}
 use Rattle.sides.proofs.Refines.Turning.{Turning, turning-none, turning-end, turning-refused, turning-on}
 use Rattle.sides.proofs.Equal.{pair-ends}
 use Rattle.records.specs.declared.Added.{Added as Answered}

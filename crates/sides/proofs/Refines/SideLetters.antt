@@ -71,6 +71,15 @@ module _ (l h : List ℕ) (c : State) where
 pub count-some : (l : List ℕ) (c : State) (a k v r : ℕ) → Texts l c → k ≡ kind (termed l c) a → k ≡ 1 → v ≡ termAt l a .second → r ≡ v → r ≡ length (lettersOf (termed l c) a)
 count-some l c a k v r x e n f g = g ∙ f ∙ sym (letters-constant l [] c x a (sym e ∙ n))
 
+-- a constant with letters
+pub full-letters : (s : Store) (a : ℕ) → isFull s a ≡ ltb 0 (length (lettersOf s a))
+unfolding isFull lettersOf
+full-letters s a = go (isConstant s a)
+  where
+    go : (b : Bool) → (b && ltb 0 (length (text s a))) ≡ ltb 0 (length (if b then text s a else []))
+    go true = refl
+    go false = refl
+
 -- the letters of an atom are what fills its place, and nothing for a variable
 module _ (s : Store) (a n : ℕ) (e : n ≡ fillCount s a 0) where
   pub count-letters : n ≡ length (lettersOf s a)
@@ -82,12 +91,7 @@ module _ (s : Store) (a n : ℕ) (e : n ≡ fillCount s a 0) where
       go false = refl
 
   pub count-full : ltb 0 n ≡ isFull s a
-  unfolding isFull lettersOf
-  count-full = ap (ltb 0) e ∙ go (isConstant s a)
-    where
-      go : (b : Bool) → ltb 0 (if b then length (if b then text s a else []) else 0) ≡ (b && ltb 0 (length (text s a)))
-      go true = refl
-      go false = refl
+  count-full = ap (ltb 0) count-letters ∙ sym (full-letters s a)
 
 -- the letters of an atom are no more than are counted
 pub count-limit : (l h : List ℕ) (c : State) (a : ℕ) → length (lettersOf (readIn l h c) a) ≤ c .chars

@@ -26,7 +26,7 @@ use Rattle.sides.specs.declared.Rest.{Rest}
 use Rattle.sides.specs.declared.Stripped.the-variants.{Parts, Refused}
 use Rattle.sides.specs.Wordeq.{same, sameHeads, sameTails, matches, inner, rest, explainMatches, needsReason, isBare, strip, nfEqual, nfExplain}
 use Rattle.sides.specs.Working.Stripping.{Pair, way, part, Finds, Strips, Needs, Asked}
-use Rattle.sides.proofs.Ways.{way-front, way-back, way-length, way-twice, way-every, way-all, way-take, way-drop}
+use Rattle.sides.proofs.FrontOrEnd.{way-front, way-back, way-length, way-twice, way-every, way-all, way-take, way-drop}
 use Rattle.sides.proofs.Strip.{plainly, same-class, matches-append, off-heads, Match}
 use Rattle.sides.proofs.Equal.{pairs-match, equal-lengths, equal-heads, heads-all, heads-alone, alone-equal, explain-equal-gives}
 use Rattle.sides.proofs.Refines.AddingReasons.{Going, going-none, going-strings, going-same, kept-down}

@@ -11,10 +11,9 @@ use Rattle.records.specs.Meaning.{Words}
 use Rattle.records.specs.Working.Audited.{Ready}
 use Rattle.records.specs.Calls.{added}
 use Rattle.records.specs.Working.Doing.{Working}
-use Rattle.records.proofs.Doing.{working-stopped}
+use Rattle.records.proofs.Doing.{working-stopped, working-left}
 use Rattle.records.proofs.Sequence.{added-at, added-ready}
 use Rattle.sides.proofs.Cited.{Cited}
-use Rattle.normalize.proofs.Carried.{working-left}
 use Rattle.sides.proofs.Refines.AddingReasons.{Going, going-none, going-then, kept-down}
 
 -- the work that is left after i turns

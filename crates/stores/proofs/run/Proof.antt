@@ -1,16 +1,9 @@
 use mathlib.Core.Path.{_≡_}
 use Prim.Native.Nat.{_-_, _<_}
 use lib.ListN.{length}
-use native.Mathlib.Omega.{arith}
 use borrow.Author.Needs.{needs}
 use Rattle.stores.proofs.run.Statement.{statement}
 use Rattle.stores.proofs.run.Tie as tie
-use Rattle.stores.proofs.run.Reads as reads
-use Rattle.stores.proofs.run.Lts as lts
-use Rattle.lines.proofs.reading.line_end.Reads as line-end-reads
-use Rattle.stores.proofs.counting.counts_of.Reads as counts-of-reads
-use Rattle.stores.proofs.counting.lens_of.Reads as lens-of-reads
-use Rattle.stores.proofs.step.Reads as step-reads
 
 abbrev Inv-loop : tie.InvT-loop
 Inv-loop text terms₀ cells₀ chars₀ reasons₀ keys₀ list₀ s₀ at₀ terms cells chars reasons keys list s at =

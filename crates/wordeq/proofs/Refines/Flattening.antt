@@ -43,9 +43,6 @@ module _ (s : Store) (l out₀ : List ℕ) where
     pub from : n ≤ listLimit
     pub words : take n out ++ concatMap (λ x. atoms s x) (drop i l) ≡ concatMap (λ x. atoms s x) l
 
-  pub flattening-none : Flattening out₀ 0 0
-  flattening-none = record { from = omega arith; words = refl }
-
   module _ {out : List ℕ} {i n : ℕ} (g : Flattening out i n) where
     empty : (k : List ℕ) → length k ≡ 0 → concatMap (λ x. atoms s x) k ≡ []
     unfolding concatMap

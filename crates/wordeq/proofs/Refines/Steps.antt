@@ -17,7 +17,7 @@ use Rattle.records.specs.Rules.{listLimit}
 use Rattle.records.specs.Working.Audited.{Ready}
 use Rattle.records.specs.Working.Doing.{Working}
 use Rattle.records.proofs.Lists.{both-right, both-true, every-all}
-use Rattle.records.proofs.Doing.{working-stopped, working-at, working-answer}
+use Rattle.records.proofs.Doing.{working-stopped, working-at, working-answer, working-left}
 use Rattle.records.proofs.LaterStores.{Added}
 use Rattle.sides.specs.declared.StepResult.{StepResult}
 use Rattle.sides.specs.declared.StepResult.the-variants as step
@@ -29,7 +29,6 @@ use Rattle.wordeq.specs.Calls.{resolved}
 use Rattle.sides.specs.Working.Sides.{Spelled}
 use Rattle.wordeq.specs.Working.Heads.{HeadsApart}
 use Rattle.sides.specs.Working.Stripping.{part, stripped, Inside, Needed, Strips}
-use Rattle.normalize.proofs.Carried.{working-left}
 use Rattle.sides.proofs.Strip.{strip-ends}
 use Rattle.sides.proofs.Strip as strip
 use Rattle.wordeq.proofs.Refines.Heads.{heads-apart}

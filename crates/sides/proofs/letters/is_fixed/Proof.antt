@@ -8,7 +8,7 @@ pub is-fixed-spec : {M : Type 1} → statement M
 is-fixed-spec =
     tie.close
     (tie.spec
-    -- first-of-kind-requires
+    -- first-of-kind-unchecked-requires
     (λ c κs. search needs)
     -- returns
-    (λ c. let at-start = c .before .before .before in fixed-kind (termed (at-start .args .terms .now) (at-start .args .c)) (at-start .args .l .now) _ (c .first-of-kind .ensures)))
+    (λ c. let at-start = c .before .before .before in fixed-kind (termed (at-start .args .terms .now) (at-start .args .c)) (at-start .args .l .now) _ (c .first-of-kind-unchecked .ensures)))

@@ -7,7 +7,7 @@ pub first-variable-unchecked-spec : {M : Type 1} → statement M
 first-variable-unchecked-spec =
     tie.close
     (tie.spec
-    -- first-of-kind-requires
+    -- first-of-kind-unchecked-requires
     (λ c κs. search needs)
     -- returns
-    (λ c. first-variable _ _ _ (c .first-of-kind .ensures)))
+    (λ c. first-variable _ _ _ (c .first-of-kind-unchecked .ensures)))

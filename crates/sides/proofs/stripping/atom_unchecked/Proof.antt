@@ -1,4 +1,4 @@
-use Rattle.sides.proofs.Ways.{read-first, read-last}
+use Rattle.sides.proofs.FrontOrEnd.{read-first, read-last}
 use borrow.Author.Needs.{needs}
 use Rattle.sides.proofs.stripping.atom_unchecked.Statement.{statement}
 use Rattle.sides.proofs.stripping.atom_unchecked.Tie as tie

@@ -1,5 +1,4 @@
 use Rattle.sides.proofs.Refines.Stripping.{strip-refused, strip-parts}
-use native.Mathlib.Omega.{arith}
 use borrow.Author.Needs.{needs}
 use Rattle.sides.proofs.stripping.strip_by.Statement.{statement}
 use Rattle.sides.proofs.stripping.strip_by.Tie as tie

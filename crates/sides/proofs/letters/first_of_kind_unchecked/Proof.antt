@@ -8,8 +8,8 @@ use Rattle.sides.specs.Working.Sides.{ofKind}
 use Rattle.sides.proofs.FirstOfKind.{first-start, first-here, first-turn, first-none}
 use native.Mathlib.Omega.{arith}
 use borrow.Author.Needs.{needs}
-use Rattle.sides.proofs.letters.first_of_kind.Statement.{statement}
-use Rattle.sides.proofs.letters.first_of_kind.Tie as tie
+use Rattle.sides.proofs.letters.first_of_kind_unchecked.Statement.{statement}
+use Rattle.sides.proofs.letters.first_of_kind_unchecked.Tie as tie
 
 abbrev Inv-loop : tie.InvT-loop
 Inv-loop terms c l k is i₀ i = (i ≤ length l) × (any (ofKind (termed terms c) k is) (take i l) ≡ false)
@@ -17,8 +17,8 @@ Inv-loop terms c l k is i₀ i = (i ≤ length l) × (any (ofKind (termed terms 
 abbrev μ-loop : tie.MeasureT-loop
 μ-loop terms c l k is i₀ i = length l - i
 
-pub first-of-kind-spec : {M : Type 1} → statement M
-first-of-kind-spec =
+pub first-of-kind-unchecked-spec : {M : Type 1} → statement M
+first-of-kind-unchecked-spec =
     tie.close
     (tie.spec
     Inv-loop
