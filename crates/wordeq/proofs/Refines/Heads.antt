@@ -93,7 +93,7 @@ module _ (w h : List ℕ) (c : State) (a : ℕ) (x : Texts w c) where
   text-size o = ap length (text-words w h c a 0 o (x .constants a o)) ∙ table-length (λ i. getD h (termAt w a .first + i) 0) (termAt w a .second)
 
 pub full-at : {m : Lent} {c : State} (a : ℕ) {r x : Bool} → Ready m c → r ≡ isFull (termed (m .terms) c) a → r ≡ x → isFull (storeOf m c) a ≡ x
-full-at {m} {c} a ready e f = sym (full-whole m c a (texts-of ready)) ∙ sym e ∙ f
+full-at {m} {c} a ready e f = sym (full-whole m c (texts-of ready) a) ∙ sym e ∙ f
 
 pub letter-first : (w h : List ℕ) (c : State) (a f p r : ℕ) → Spelled w h c → isFull (termed w c) a ≡ true → f ≡ termAt w a .first → p ≡ f → r ≡ getD h p 0
     → text (readIn w h c) a ≡ r ∷ drop 1 (text (readIn w h c) a)
