@@ -290,7 +290,9 @@ fn pairs_need(
     requires { ⌜ all (isString (readIn (now terms) (now chars) c)) (now lhs) ≡ true ⌝ }
     requires { ⌜ all (isString (readIn (now terms) (now chars) c)) (now rhs) ≡ true ⌝ }
     requires { ⌜ nfEqual (readIn (now terms) (now chars) c) (way tail (now lhs)) (way tail (now rhs)) ≡ true ⌝ }
-    ensures { λ r. ⌜ Needs (across terms cells chars reasons keys .entry) c (sameHeads (readIn (now (terms .entry)) (now (chars .entry)) c) (way tail (now (lhs .entry))) (way tail (now (rhs .entry)))) r ⌝ }
+    ensures { λ r. do
+      let s = readIn (now (terms .entry)) (now (chars .entry)) c
+      ⌜ Needs (across terms cells chars reasons keys .entry) c (sameHeads s (way tail (now (lhs .entry))) (way tail (now (rhs .entry)))) r ⌝ }
 {
     let mut i: usize = 0;
     while i < lhs.len() {
