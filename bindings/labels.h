@@ -16,7 +16,7 @@
  * A null pointer with length 0 is an empty slice: tried on x86-64 Linux for every slice of every call (bindings/c/null.c), and each call
  * answers and writes as it does for any other empty slice. A null pointer with another length is the caller's error.
  *
- * Stack: 192 KiB have to be free when a call is made. A tower of 506 congruences, which passes the audit, was measured to take 168,280
+ * Stack: 192 KiB have to be free when a call is made. A tower of 506 congruences, which passes the audit, was measured to take 175,432
  * bytes. The component's own calls make no congruences; without any the worst that was tried, the step on 508 concatenations within each
  * other, took 88,000. No call uses the heap or data of its own, so calls on stores that share no words may run at the same time.
  */
@@ -31,10 +31,10 @@ extern "C" {
 #endif
 
 /* The version of this header, of the Rust crate and of CHANGELOG.md. */
-#define LABELS_VERSION "0.9.0"
+#define LABELS_VERSION "0.9.1"
 #define LABELS_VERSION_MAJOR 0
 #define LABELS_VERSION_MINOR 9
-#define LABELS_VERSION_PATCH 0
+#define LABELS_VERSION_PATCH 1
 
 /* The limits of the counts. */
 #define LABELS_MAX_TERMS 512
@@ -49,13 +49,18 @@ extern "C" {
  * are two characters. One above is refused: 5 in a making call, 2 in a lent store. */
 #define LABELS_MAX_CHARACTER 0x2FFFF
 
+/* The words of a term, of a cell, and of a pair: a reason or a key. A character has one. */
+#define LABELS_TERM_WIDTH 8
+#define LABELS_CELL_WIDTH 3
+#define LABELS_PAIR_WIDTH 2
+
 /* The words of each slice at its limit; a shorter slice has less room, and a longer one no more. Terms and cells have a record 0 that takes
- * room and is never read or written. A term has eight words, a cell three, a character one, a reason and a key two. */
-#define LABELS_TERM_WORDS (8 * (LABELS_MAX_TERMS + 1))
-#define LABELS_CELL_WORDS (3 * (LABELS_MAX_CELLS + 1))
+ * room and is never read or written. */
+#define LABELS_TERM_WORDS (LABELS_TERM_WIDTH * (LABELS_MAX_TERMS + 1))
+#define LABELS_CELL_WORDS (LABELS_CELL_WIDTH * (LABELS_MAX_CELLS + 1))
 #define LABELS_CHAR_WORDS LABELS_MAX_CHARS
-#define LABELS_REASON_WORDS (2 * LABELS_MAX_REASONS)
-#define LABELS_KEY_WORDS (2 * LABELS_MAX_KEYS)
+#define LABELS_REASON_WORDS (LABELS_PAIR_WIDTH * LABELS_MAX_REASONS)
+#define LABELS_KEY_WORDS (LABELS_PAIR_WIDTH * LABELS_MAX_KEYS)
 
 /* The least that the calls ask of these: words of the state (six where nothing is joined or marked), of an answer, of a list that a call
  * fills, of the marks (a word for each of 64 marks, three for each of 511 joins). */
@@ -94,7 +99,7 @@ enum labels_case {
     LABELS_UNEXPANDED = 5
 };
 
-/* The other words of an answer: of Propagate the variable, a term that has its text and the link flag; of Split the count of its atoms, its
+/* The other words of an answer: of Propagate the variable, a term that has its word and the link flag; of Split the count of its atoms, its
  * guard and how many terms it made. */
 enum labels_answer_word {
     LABELS_ANSWER_CASE = 0,
@@ -156,7 +161,7 @@ static inline const char *labels_refusal_text(uint32_t refusal) {
     case LABELS_REFUSED_ARGUMENT:
         return "a wrong argument";
     case LABELS_REFUSED_LIST:
-        return "a flattened list above 1,024 entries";
+        return "a flattened list above 1,024 atoms";
     case LABELS_REFUSED_REASONS:
         return "no room for the next reason";
     case LABELS_REFUSED_ROOM:
@@ -225,7 +230,7 @@ uint32_t labels_find(LABELS_READ(state), LABELS_READ(terms), LABELS_READ(cells),
 uint32_t labels_explain(LABELS_WORDS(state), LABELS_READ(terms), LABELS_READ(cells), LABELS_READ(chars), LABELS_WORDS(reasons),
                         LABELS_READ(keys), uint32_t a, uint32_t b);
 
-/* `known` has the string terms by which entries may be replaced. Pass every one: where one is left out the answer says less, and nothing
+/* `known` has the string terms by which atoms may be replaced. Pass every one: where one is left out the answer says less, and nothing
  * wrong. `list` has 1,024 words or more. The normal forms put 1 and the list's count (deep: 0 and 0 for None) into words 0 and 1 of the
  * answer. */
 uint32_t labels_normal_form(LABELS_WORDS(state), LABELS_WORDS(terms), LABELS_READ(cells), LABELS_WORDS(chars), LABELS_WORDS(reasons),
@@ -234,7 +239,7 @@ uint32_t labels_deep_normal_form(LABELS_WORDS(state), LABELS_WORDS(terms), LABEL
                                  LABELS_READ(keys), LABELS_READ(known), uint32_t t, LABELS_WORDS(list), LABELS_WORDS(answer));
 
 /* The guard is the caller's number for the equation, neither 0 nor the lowest (5). The case stands in word 0 of the answer: 0 Done, 1
- * Saturated, 2 Conflict, 3 Propagate, 4 Split. Propagate puts the variable, a term that has its text and the link flag into words 1 to 3;
+ * Saturated, 2 Conflict, 3 Propagate, 4 Split. Propagate puts the variable, a term that has its word and the link flag into words 1 to 3;
  * Split puts the count of its atoms, which stand first in `list`, and the negated guard as a 32-bit two's complement into words 1 and 2: the
  * clause is, not the equation (the guard's literal, negated) or one of the atoms. Into word 3 Split puts how many terms it made, which is how
  * much the terms' count grew within this call: over two heads six, and one for each of the two lengths and their equation that was absent;
@@ -242,7 +247,7 @@ uint32_t labels_deep_normal_form(LABELS_WORDS(state), LABELS_WORDS(terms), LABEL
  * by more, since its normal forms make constants of their own before. A Conflict and a Propagate rest on the reasons below the state's count,
  * and a Split and a Saturated of the step rest on reasons too, those of the normal forms: keep them with whatever is kept of the answer.
  * Where one list is constants alone and the other constants and one variable that is alone in its class, once or more, the answer is Conflict
- * exactly when no text for the variable makes the sides equal. */
+ * exactly when no word for the variable makes the sides equal. */
 uint32_t labels_resolve_equation(LABELS_WORDS(state), LABELS_WORDS(terms), LABELS_WORDS(cells), LABELS_WORDS(chars), LABELS_WORDS(reasons),
                                  LABELS_WORDS(keys), LABELS_READ(lhs), LABELS_READ(rhs), int32_t guard, LABELS_WORDS(list),
                                  LABELS_WORDS(answer));
@@ -254,7 +259,7 @@ uint32_t labels_step(LABELS_WORDS(state), LABELS_WORDS(terms), LABELS_WORDS(cell
 /* Every part of a label that must still become "": where one flattened list is empty and the other is two or more variables, "" is made if the
  * store has none, and the variables that are not of its class yet stand first in `list`, in the order of their places, the first of each class.
  * Words 0 to 2 of the answer: how many they are, the number of "", and the link flag, 1 where something is listed. For other lists nothing is
- * made, and all three are 0. No reasons are added: if the two sides have equal texts, each listed variable has the text of "", whatever was
+ * made, and all three are 0. No reasons are added: if the two sides have equal words, each listed variable has the word of "", whatever was
  * merged. So what is joined for it rests on the equation between the lists and on what the lists rest on. */
 uint32_t labels_empty_parts(LABELS_WORDS(state), LABELS_WORDS(terms), LABELS_READ(cells), LABELS_WORDS(chars), LABELS_READ(reasons),
                             LABELS_READ(keys), LABELS_READ(lhs), LABELS_READ(rhs), LABELS_WORDS(list), LABELS_WORDS(answer));
@@ -263,7 +268,7 @@ uint32_t labels_empty_parts(LABELS_WORDS(state), LABELS_WORDS(terms), LABELS_REA
  * same tails are stripped. With k variables and c constant characters against l characters, l = c + k * m + r and r below k: words 0 to 5 of
  * the answer are 0, k, c, l, m and r. Where l is below c they are 1, k, c, l, the shortage c - l, and 0. With a remainder above 0 or a shortage
  * `labels_resolve_equation` on the same lists answers Conflict, or Saturated where it flattened a concatenation, unless the reasons are full
- * (7): no texts fit under the reasons that its Conflict names, and without them some may. Lists that have another form are refused with 11.
+ * (7): no words fit under the reasons that its Conflict names, and without them some may. Lists that have another form are refused with 11.
  * Nothing but the answer is written. */
 uint32_t labels_forced_length(LABELS_READ(state), LABELS_READ(terms), LABELS_READ(cells), LABELS_READ(chars), LABELS_READ(reasons),
                               LABELS_READ(keys), LABELS_READ(lhs), LABELS_READ(rhs), LABELS_WORDS(answer));
@@ -451,12 +456,13 @@ static inline uint32_t labels_store_forced_length(labels_store *s, LABELS_READ(l
  * none (NULL and 0) or with those that are handed in. After a refusal the count is that with which the question began. */
 static inline uint32_t labels_hand_in(labels_store *s, const uint32_t *pairs, size_t count) {
     size_t i;
-    if (count > LABELS_MAX_REASONS || count > s->reasons_len / 2)
+    if (count > LABELS_MAX_REASONS || count > s->reasons_len / LABELS_PAIR_WIDTH)
         return LABELS_REFUSED_REASONS;
     for (i = 0; i < count; i++)
-        if ((pairs[2 * i] != LABELS_ASSERTED && pairs[2 * i] != LABELS_INTERFACE) || pairs[2 * i + 1] > 0x7FFFFFFFu)
+        if ((pairs[LABELS_PAIR_WIDTH * i] != LABELS_ASSERTED && pairs[LABELS_PAIR_WIDTH * i] != LABELS_INTERFACE) ||
+            pairs[LABELS_PAIR_WIDTH * i + 1] > 0x7FFFFFFFu)
             return LABELS_REFUSED_ARGUMENT;
-    for (i = 0; i < 2 * count; i++)
+    for (i = 0; i < LABELS_PAIR_WIDTH * count; i++)
         s->reasons[i] = pairs[i];
     s->state[LABELS_COUNT_REASONS] = (uint32_t)count;
     return LABELS_ACCEPTED;
@@ -479,8 +485,8 @@ static inline int32_t labels_answer_guard(const labels_store *s) {
 static inline uint32_t labels_answer_terms_made(const labels_store *s) { return s->answer[LABELS_ANSWER_TERMS_MADE]; }
 static inline uint32_t labels_reason_count(const labels_store *s) { return s->state[LABELS_COUNT_REASONS]; }
 static inline void labels_reason(const labels_store *s, uint32_t i, uint32_t *kind, uint32_t *number) {
-    *kind = s->reasons[2 * (size_t)i];
-    *number = s->reasons[2 * (size_t)i + 1];
+    *kind = s->reasons[LABELS_PAIR_WIDTH * (size_t)i];
+    *number = s->reasons[LABELS_PAIR_WIDTH * (size_t)i + 1];
 }
 
 #ifdef __cplusplus

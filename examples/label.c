@@ -17,7 +17,7 @@ static void must(uint32_t refusal) {
 
 /* Prints the characters of a constant or the name of a variable; both have the place of their characters and their count in words 1 and 2. */
 static void print_text(uint32_t term) {
-    const uint32_t *record = store.terms + 8 * (size_t)term;
+    const uint32_t *record = store.terms + LABELS_TERM_WIDTH * (size_t)term;
     uint32_t i;
     for (i = 0; i < record[2]; i++)
         putchar((int)store.chars[record[1] + i]);

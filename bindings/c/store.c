@@ -37,7 +37,7 @@ static void making(void) {
     HOLD(labels_store_constant(&s, "", NULL) == 0 && labels_store_variable(&s, "", &again) == LABELS_REFUSED_ARGUMENT);
     HOLD(labels_store_constant(&s, "\xCE\xBB", &again) == LABELS_REFUSED_ARGUMENT);
     memset(big, 'z', LABELS_LIST_WORDS);
-    HOLD(labels_store_constant(&s, big, &long_text) == 0 && s.terms[8 * long_text + 2] == LABELS_LIST_WORDS);
+    HOLD(labels_store_constant(&s, big, &long_text) == 0 && s.terms[LABELS_TERM_WIDTH * long_text + 2] == LABELS_LIST_WORDS);
     big[LABELS_LIST_WORDS] = 'z';
     HOLD(labels_store_constant(&s, big, &again) == LABELS_REFUSED_ARGUMENT && again == 77);
     HOLD(labels_store_audit(&s) == LABELS_ACCEPTED);
@@ -54,7 +54,7 @@ static void alphabet(void) {
     HOLD(a == 6 && v == 7 && labels_store_audit(&s) == LABELS_ACCEPTED);
     HOLD(labels_store_make_constant(&s, LABELS_LEND(above), &x) == LABELS_REFUSED_ARGUMENT);
     HOLD(labels_store_make_variable(&s, LABELS_LEND(above), &x) == LABELS_REFUSED_ARGUMENT);
-    s.chars[s.terms[8 * v + 1]] = LABELS_MAX_CHARACTER + 1;
+    s.chars[s.terms[LABELS_TERM_WIDTH * v + 1]] = LABELS_MAX_CHARACTER + 1;
     HOLD(labels_store_audit(&s) == LABELS_REFUSED_RECORDS && labels_store_find(&s, a, &x) == LABELS_REFUSED_RECORDS);
 }
 
@@ -195,7 +195,7 @@ static void fitting(void) {
 
 /* A store keeps its words to itself, and may be small. */
 static void small(void) {
-    uint32_t few[8 * 2], cell[3], characters[1], x = 0;
+    uint32_t few[LABELS_TERM_WIDTH * 2], cell[LABELS_CELL_WIDTH], characters[1], x = 0;
     labels_store_over(&t, &other);
     t.terms = few, t.terms_len = 16, t.cells = cell, t.cells_len = 3, t.chars = characters, t.chars_len = 1;
     t.reasons = t.keys = NULL;

@@ -21,7 +21,7 @@ fn set(s: &mut Lent, random: &mut Random, of: impl Fn(&Term) -> bool, word: usiz
     }
     let t = *random.pick(&list);
     let v = value(t, s);
-    s.terms[8 * t as usize + word] = v;
+    s.terms[TERM_WIDTH * t as usize + word] = v;
     true
 }
 
@@ -40,7 +40,7 @@ fn set_cell(s: &mut Lent, random: &mut Random, congruence: bool, word: usize, va
         }
     }
     let v = value(c, s);
-    s.cells[3 * c as usize + word] = v;
+    s.cells[CELL_WIDTH * c as usize + word] = v;
     true
 }
 
@@ -58,7 +58,7 @@ fn root(s: &mut Lent, random: &mut Random, word: usize) -> bool {
         return false;
     }
     let t = *random.pick(&list) as usize;
-    s.terms[8 * t + word] = 1;
+    s.terms[TERM_WIDTH * t + word] = 1;
     true
 }
 
@@ -68,7 +68,7 @@ fn edge(s: &mut Lent, random: &mut Random, label: u32, word: usize, value: u32) 
         return false;
     }
     let t = *random.pick(&list) as usize;
-    s.terms[8 * t + word] = value;
+    s.terms[TERM_WIDTH * t + word] = value;
     true
 }
 
@@ -88,7 +88,7 @@ fn pair(s: &mut Lent, random: &mut Random, keys: bool, value: Pair) -> bool {
 }
 
 fn long(s: &mut Lent, i: usize, count: u32) -> bool {
-    let n = 8 * (count as usize + 2);
+    let n = TERM_WIDTH * (count as usize + 2);
     for slice in [&mut s.terms, &mut s.cells, &mut s.chars, &mut s.reasons, &mut s.keys] {
         if slice.len() < n {
             slice.resize(n, 0);
@@ -126,8 +126,8 @@ pub fn rules() -> Vec<Rule> {
         1 "4,097 reasons" |s, _| long(s, 3, 4097);
         1 "4,097 keys" |s, _| long(s, 4, 4097);
         1 "a count of 2^32 - 1" |s, r| { let i = r.below(5); s.state[i] = u32::MAX; true };
-        1 "terms too short by a word" |s, _| { s.terms.truncate(8 * (s.state[0] as usize + 1) - 1); true };
-        1 "cells too short by a word" |s, _| { s.cells.truncate(3 * (s.state[1] as usize + 1) - 1); true };
+        1 "terms too short by a word" |s, _| { s.terms.truncate(TERM_WIDTH * (s.state[0] as usize + 1) - 1); true };
+        1 "cells too short by a word" |s, _| { s.cells.truncate(CELL_WIDTH * (s.state[1] as usize + 1) - 1); true };
         1 "characters too short by a word" |s, _| { let n = s.state[2] as usize; n > 0 && { s.chars.truncate(n - 1); true } };
         1 "reasons too short by a word" |s, _| { let n = 2 * s.state[3] as usize; n > 0 && { s.reasons.truncate(n - 1); true } };
         1 "keys too short by a word" |s, _| { let n = 2 * s.state[4] as usize; n > 0 && { s.keys.truncate(n - 1); true } };
@@ -143,7 +143,7 @@ pub fn rules() -> Vec<Rule> {
             let v = terms(s, is(VARIABLE));
             v.len() >= 2 && {
                 let (a, b) = (v[r.below(v.len() - 1)] as usize, v[v.len() - 1] as usize);
-                s.terms.copy_within(8 * a + 1..8 * a + 3, 8 * b + 1);
+                s.terms.copy_within(TERM_WIDTH * a + 1..TERM_WIDTH * a + 3, TERM_WIDTH * b + 1);
                 true
             }
         };
@@ -161,7 +161,7 @@ pub fn rules() -> Vec<Rule> {
         2 "a part's second value" |s, r| set_cell(s, r, false, 1, |_, _| 1);
         2 "next is the cell itself" |s, r| set_cell(s, r, false, 2, |c, _| c);
         2 "next is above the cells" |s, r| set_cell(s, r, false, 2, |_, s| s.state[1] + 1);
-        2 "next is below" |s, r| { let n = s.state[1]; n >= 2 && { s.cells[3 * n as usize + 2] = 1 + r.below(n as usize - 1) as u32; true } };
+        2 "next is below" |s, r| { let n = s.state[1]; n >= 2 && { s.cells[CELL_WIDTH * n as usize + 2] = 1 + r.below(n as usize - 1) as u32; true } };
         2 "a length of no string term" |s, r| set(s, r, is(LENGTH), 1, |t, _| t);
         2 "a length of 0" |s, r| set(s, r, is(LENGTH), 1, |_, _| 0);
         2 "a length's second word" |s, r| set(s, r, is(LENGTH), 2, |_, _| 1);
@@ -193,21 +193,21 @@ pub fn rules() -> Vec<Rule> {
         3 "forest parent above the terms" |s, r| set(s, r, any, 4, |_, s| s.count() + 1);
         3 "class parents in a ring" |s, r| {
             let l: Vec<u32> = (1..=s.count()).filter(|&t| s.term(t).class_parent != t).collect();
-            !l.is_empty() && { let t = *r.pick(&l); let root = s.class_root(t); s.terms[8 * root as usize + 3] = t; true }
+            !l.is_empty() && { let t = *r.pick(&l); let root = s.class_root(t); s.terms[TERM_WIDTH * root as usize + 3] = t; true }
         };
         3 "forest parents in a ring" |s, r| {
             let l: Vec<u32> = (1..=s.count()).filter(|&t| s.is_edge(t)).collect();
-            !l.is_empty() && { let t = *r.pick(&l); let top = *s.ancestors(t).last().unwrap(); s.terms[8 * top as usize + 4] = t; true }
+            !l.is_empty() && { let t = *r.pick(&l); let top = *s.ancestors(t).last().unwrap(); s.terms[TERM_WIDTH * top as usize + 4] = t; true }
         };
         3 "one class of two trees" |s, r| match apart(s, r) {
-            Some((a, b)) => { let root = s.class_root(a); s.terms[8 * root as usize + 3] = b; true }
+            Some((a, b)) => { let root = s.class_root(a); s.terms[TERM_WIDTH * root as usize + 3] = b; true }
             None => false,
         };
         3 "two classes of one tree" |s, r| match apart(s, r) {
             Some((a, b)) => {
                 let top = *s.ancestors(a).last().unwrap() as usize;
-                s.terms[8 * top + 4] = b;
-                s.terms[8 * top + 5] = 1;
+                s.terms[TERM_WIDTH * top + 4] = b;
+                s.terms[TERM_WIDTH * top + 5] = 1;
                 true
             }
             None => false,
@@ -216,9 +216,9 @@ pub fn rules() -> Vec<Rule> {
             Some(t) => {
                 let l = strings(s);
                 let a = *r.pick(&l);
-                s.terms[8 * t as usize + 3] = a;
-                s.terms[8 * t as usize + 4] = a;
-                s.terms[8 * t as usize + 5] = 1;
+                s.terms[TERM_WIDTH * t as usize + 3] = a;
+                s.terms[TERM_WIDTH * t as usize + 4] = a;
+                s.terms[TERM_WIDTH * t as usize + 5] = 1;
                 true
             }
             None => false,
@@ -235,9 +235,9 @@ pub fn rules() -> Vec<Rule> {
             let l: Vec<u32> = (1..=s.count()).filter(|&t| s.is_edge(t) && (s.kind(t) != 3 || s.kind(s.term(t).forest_parent) != 3)).collect();
             !l.is_empty() && s.state[1] > 0 && {
                 let t = *r.pick(&l) as usize;
-                s.terms[8 * t + 5] = 3;
-                s.terms[8 * t + 6] = 1 + r.below(s.state[1] as usize) as u32;
-                s.terms[8 * t + 7] = u32::MAX;
+                s.terms[TERM_WIDTH * t + 5] = 3;
+                s.terms[TERM_WIDTH * t + 6] = 1 + r.below(s.state[1] as usize) as u32;
+                s.terms[TERM_WIDTH * t + 7] = u32::MAX;
                 true
             }
         };
@@ -252,7 +252,7 @@ pub fn rules() -> Vec<Rule> {
             let l = terms(s, |t| t.label_kind == 3);
             !l.is_empty() && {
                 let c = s.term(*r.pick(&l)).label_value as usize;
-                s.cells.swap(3 * c, 3 * c + 1);
+                s.cells.swap(CELL_WIDTH * c, CELL_WIDTH * c + 1);
                 true
             }
         };
@@ -289,8 +289,8 @@ pub fn scrambled(s: &Lent, random: &mut Random) -> Lent {
             2 if n[2] > 0 => put(&mut d.chars, random.below(n[2]), value),
             3 if n[3] > 0 => put(&mut d.reasons, random.below(2 * n[3]), value),
             4 if n[4] > 0 => put(&mut d.keys, random.below(2 * n[4]), value),
-            5..=7 if n[1] > 0 => put(&mut d.cells, 3 + random.below(3 * n[1]), value),
-            _ if n[0] > 0 => put(&mut d.terms, 8 + random.below(8 * n[0]), value),
+            5..=7 if n[1] > 0 => put(&mut d.cells, CELL_WIDTH + random.below(CELL_WIDTH * n[1]), value),
+            _ if n[0] > 0 => put(&mut d.terms, TERM_WIDTH + random.below(TERM_WIDTH * n[0]), value),
             _ => {}
         }
     }

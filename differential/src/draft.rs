@@ -314,7 +314,7 @@ pub fn lay_out(d: &Draft) -> Lent {
     s.state = counts.iter().map(|&c| c as u32).chain([d.names]).collect();
     for (place, &(a, b, next)) in cells.written.iter().enumerate() {
         let c = cells.number(place) as usize;
-        s.cells[3 * c..3 * c + 3].copy_from_slice(&[a, b, next.map_or(0, |p| cells.number(p))]);
+        s.cells[CELL_WIDTH * c..CELL_WIDTH * c + CELL_WIDTH].copy_from_slice(&[a, b, next.map_or(0, |p| cells.number(p))]);
     }
     s.chars[..chars.len()].copy_from_slice(&chars);
     for (i, r) in d.reasons.iter().enumerate() {
@@ -341,7 +341,7 @@ pub fn lay_out(d: &Draft) -> Lent {
             },
         };
         let words = [kind, first, second, parents[t] as u32, forest[t] as u32, label, value, stamp];
-        s.terms[8 * t..8 * t + 8].copy_from_slice(&words);
+        s.terms[TERM_WIDTH * t..TERM_WIDTH * t + TERM_WIDTH].copy_from_slice(&words);
     }
     s
 }

@@ -473,7 +473,7 @@ pub fn worst() -> Vec<(&'static str, Lent, Call)> {
     let mut s = lay_out(&d);
     // a class tree as deep as the forest
     for pair in [&[z][..], &ws].concat().windows(2) {
-        s.terms[8 * pair[1] as usize + 3] = pair[0];
+        s.terms[TERM_WIDTH * pair[1] as usize + 3] = pair[0];
     }
     let concats: Vec<u32> = (1..t).filter(|&c| s.kind(c) == CONCATENATION).collect();
     let known = [concats, vec![ws[249]; 1024 - 120]].concat();
@@ -517,7 +517,7 @@ fn repeating(number: impl Fn(u32) -> u32, incoming: usize) -> (Lent, Call) {
     let mut s = lay_out(&d);
     // a class tree as deep as the forest
     for pair in chain.windows(2) {
-        s.terms[8 * pair[1] as usize + 3] = pair[0];
+        s.terms[TERM_WIDTH * pair[1] as usize + 3] = pair[0];
     }
     let known = [vec![empty], concats].concat();
     (s, Call::Step { known, equation, guard: 1 })
@@ -859,7 +859,8 @@ pub(crate) fn long_pairs(depth: u32, pairs: usize) -> Lent {
     let mut s = lay_out(&Draft { layout: 0, ..Draft::default() });
     let place = s.add_text(&(0..2 * depth + 1).map(|i| 'a' as u32 + i).collect::<Vec<u32>>());
     let join = |s: &mut Lent, t: u32, root: u32, parent: u32, label: [u32; 3]| {
-        s.terms[8 * t as usize + 3..8 * t as usize + 8].copy_from_slice(&[root, parent, label[0], label[1], label[2]]);
+        s.terms[TERM_WIDTH * t as usize + 3..TERM_WIDTH * t as usize + TERM_WIDTH]
+            .copy_from_slice(&[root, parent, label[0], label[1], label[2]]);
     };
     let root = s.add_term(VARIABLE, place, 1);
     let mut ends = [root; 2];

@@ -9,6 +9,10 @@ pub const REASONS: usize = 4096;
 pub const KEYS: usize = 4096;
 pub const LIST: usize = 1024;
 
+/// How many words a term and a cell have.
+pub const TERM_WIDTH: usize = 8;
+pub const CELL_WIDTH: usize = 3;
+
 pub const CONSTANT: u32 = 1;
 pub const VARIABLE: u32 = 2;
 pub const CONCATENATION: u32 = 3;
@@ -51,7 +55,7 @@ impl Lent {
     }
 
     pub fn term(&self, t: u32) -> Term {
-        let w = &self.terms[8 * t as usize..8 * t as usize + 8];
+        let w = &self.terms[TERM_WIDTH * t as usize..TERM_WIDTH * t as usize + TERM_WIDTH];
         Term {
             kind: w[0],
             first: w[1],
@@ -78,7 +82,7 @@ impl Lent {
 
     /// value, second value, next
     pub fn cell(&self, c: u32) -> (u32, u32, u32) {
-        let w = &self.cells[3 * c as usize..3 * c as usize + 3];
+        let w = &self.cells[CELL_WIDTH * c as usize..CELL_WIDTH * c as usize + CELL_WIDTH];
         (w[0], w[1], w[2])
     }
 
@@ -163,8 +167,8 @@ impl Lent {
         let n: Vec<usize> = self.state.iter().map(|&x| x as usize).collect();
         [
             &self.state,
-            &self.terms[8..8 * (n[0] + 1)],
-            &self.cells[3..3 * (n[1] + 1)],
+            &self.terms[TERM_WIDTH..TERM_WIDTH * (n[0] + 1)],
+            &self.cells[CELL_WIDTH..CELL_WIDTH * (n[1] + 1)],
             &self.chars[..n[2]],
             &self.reasons[..2 * n[3]],
             &self.keys[..2 * n[4]],
@@ -184,7 +188,7 @@ impl Lent {
     pub fn add_term(&mut self, kind: u32, first: u32, second: u32) -> u32 {
         self.state[0] += 1;
         let t = self.state[0];
-        Lent::put(&mut self.terms, 8 * t as usize, &[kind, first, second, t, t, 0, 0, 0]);
+        Lent::put(&mut self.terms, TERM_WIDTH * t as usize, &[kind, first, second, t, t, 0, 0, 0]);
         t
     }
 
@@ -201,7 +205,7 @@ impl Lent {
             self.state[1] += 1;
             let c = self.state[1];
             let next = if i + 1 < values.len() { c + 1 } else { 0 };
-            Lent::put(&mut self.cells, 3 * c as usize, &[value, other, next]);
+            Lent::put(&mut self.cells, CELL_WIDTH * c as usize, &[value, other, next]);
         }
         first
     }

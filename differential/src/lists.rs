@@ -185,8 +185,8 @@ impl Run {
                 }
                 tally.restored += snapshot.len() as u64 / 8;
                 for t in snapshot.len() as u32 / 8 + 1..=store.count() {
-                    let w = &store.terms[8 * t as usize..8 * t as usize + 8];
-                    if w[..3] != before.store.terms[8 * t as usize..8 * t as usize + 3] || w[3..] != [t, t, 0, 0, 0] {
+                    let w = &store.terms[TERM_WIDTH * t as usize..TERM_WIDTH * t as usize + TERM_WIDTH];
+                    if w[..3] != before.store.terms[TERM_WIDTH * t as usize..TERM_WIDTH * t as usize + 3] || w[3..] != [t, t, 0, 0, 0] {
                         return Err(format!("term {t}, appended since the mark, is not alone"));
                     }
                     tally.later += 1;
@@ -375,7 +375,7 @@ fn shortened(random: &mut Random, s: &Marked) -> (Marked, usize) {
         0 => short.store.state.truncate(*random.pick(&[0, 5, 6, 7])),
         1 => short.marks.truncate(*random.pick(&[0, 64, WORDS - 1])),
         2 => room = *random.pick(&[0, 7]),
-        _ => short.store.terms.truncate(8 * (s.store.count() as usize + 1) - 1),
+        _ => short.store.terms.truncate(TERM_WIDTH * (s.store.count() as usize + 1) - 1),
     }
     (short, room)
 }

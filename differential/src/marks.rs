@@ -89,7 +89,7 @@ impl Marked {
 }
 
 fn hang(s: &mut Lent, t: u32, parent: u32, label: [u32; 3]) {
-    let at = 8 * t as usize;
+    let at = TERM_WIDTH * t as usize;
     s.terms[at + 4] = parent;
     s.terms[at + 5..at + 8].copy_from_slice(&label);
 }
@@ -118,7 +118,7 @@ fn undo(s: &mut Lent, [child, old_root, class_root]: [u32; 3]) -> bool {
     }
     hang(s, child, child, [0; 3]);
     reroot(s, old_root);
-    s.terms[8 * class_root as usize + 3] = class_root;
+    s.terms[TERM_WIDTH * class_root as usize + 3] = class_root;
     true
 }
 
@@ -180,7 +180,7 @@ pub fn run(s: &Marked, act: &Act, answer_room: usize) -> Told {
             let old_root = *store.ancestors(a).last().unwrap();
             reroot(store, a);
             hang(store, a, b, [kind, number, 0]);
-            store.terms[8 * under as usize + 3] = over;
+            store.terms[TERM_WIDTH * under as usize + 3] = over;
             if store.state[6] > 0 {
                 let at = 64 + 3 * store.state[7] as usize;
                 exit.marks[at..at + 3].copy_from_slice(&[a, old_root, under]);

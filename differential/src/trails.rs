@@ -4,7 +4,7 @@
 
 use crate::{
     draft::{lay_out, Draft, Edge, Label},
-    lent::Lent,
+    lent::{Lent, TERM_WIDTH},
     lists::{blank_marks, held, Answering},
     marks::{self, Act, Marked, STATE, WORDS},
     random::Random,
@@ -206,7 +206,7 @@ fn damages(s: &Marked, twice: bool) -> Vec<Damage> {
     }
     for t in 1..=s.store.count() as usize {
         for word in 3..8 {
-            list.extend(values.iter().map(|&v| vec![(Place::Term(8 * t + word), v)]));
+            list.extend(values.iter().map(|&v| vec![(Place::Term(TERM_WIDTH * t + word), v)]));
         }
     }
     let (marks, joins) = (s.standing(), s.joins());

@@ -3,7 +3,7 @@
 use differential::{
     audit::{audit, table_passes},
     draft::*,
-    lent::Lent,
+    lent::{Lent, TERM_WIDTH},
     lists::{self, Answering},
     marks::{audit_marked, run, Act, Marked, Told, STANDING, WORDS},
     model,
@@ -132,7 +132,7 @@ fn the_audit_of_marks_goes_by_number() {
     // the congruence's stamp falls to that of its pairs' path: 4 of the table, but 3 while a mark's table has it too
     let stamped = |s: &mut Marked| {
         let xx = if s.store.is_edge(3) { 3 } else { 4 };
-        s.store.terms[8 * xx + 7] = 0;
+        s.store.terms[TERM_WIDTH * xx + 7] = 0;
     };
     assert_eq!(due(&stamped), 3);
     let mut bare = congruent();
@@ -188,7 +188,7 @@ fn planted_faults_are_found() {
         let mut t = run(s, a, n);
         if matches!(a, Act::GoBack { .. }) && t.code == 0 && s.joins() > 0 {
             let under = s.record(s.joins() - 1)[2];
-            t.exit.store.terms[8 * under as usize + 3] = s.store.term(under).class_parent;
+            t.exit.store.terms[TERM_WIDTH * under as usize + 3] = s.store.term(under).class_parent;
         }
         t
     };
@@ -198,7 +198,8 @@ fn planted_faults_are_found() {
         let mut t = run(s, a, n);
         if matches!(a, Act::GoBack { .. }) && t.code == 0 && s.joins() > 0 {
             let old = s.record(s.joins() - 1)[1] as usize;
-            t.exit.store.terms[8 * old + 4..8 * old + 8].copy_from_slice(&s.store.terms[8 * old + 4..8 * old + 8]);
+            t.exit.store.terms[TERM_WIDTH * old + 4..TERM_WIDTH * old + TERM_WIDTH]
+                .copy_from_slice(&s.store.terms[TERM_WIDTH * old + 4..TERM_WIDTH * old + TERM_WIDTH]);
         }
         t
     };
@@ -207,7 +208,7 @@ fn planted_faults_are_found() {
     let shorter: Calls = |s, a, n| {
         let mut t = run(s, a, n);
         if let (0, Act::Join { a, .. }) = (t.code, a) {
-            t.exit.store.terms[8 * *a as usize + 3] = t.exit.store.class_root(*a);
+            t.exit.store.terms[TERM_WIDTH * *a as usize + 3] = t.exit.store.class_root(*a);
         }
         t
     };

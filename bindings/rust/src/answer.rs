@@ -1,6 +1,6 @@
 //! What a call comes to: a refusal or an answer, and the reasons that it rests on.
 
-use crate::Term;
+use crate::{Term, ANSWER};
 use std::fmt;
 
 /// Why a call was refused. After the first five, and after `Mark` and `Form`, the call has changed no word of the store; a question has set
@@ -27,7 +27,7 @@ pub enum Refusal {
     Congruences,
     /// a wrong argument
     Argument,
-    /// a flattened list above 1,024 entries
+    /// a flattened list above 1,024 atoms
     List,
     /// no room for a reason
     Reasons,
@@ -79,7 +79,7 @@ impl fmt::Display for Refusal {
             Refusal::Classes => "classes and forest do not agree, or would not after going back to a mark",
             Refusal::Congruences => "a congruence that its parts do not give",
             Refusal::Argument => "a wrong argument",
-            Refusal::List => "a flattened list above 1,024 entries",
+            Refusal::List => "a flattened list above 1,024 atoms",
             Refusal::Reasons => "no room for the next reason",
             Refusal::Room => "no room for a term, a cell, a character or a key",
             Refusal::Names => "no name left",
@@ -159,7 +159,7 @@ impl fmt::Display for Reason {
     }
 }
 
-/// A normal form: the list has the term's text wherever the reasons hold.
+/// A normal form: the list has the term's word wherever the reasons hold.
 ///
 /// ```
 /// let mut store = labels::Store::new();
@@ -172,7 +172,7 @@ impl fmt::Display for Reason {
 #[must_use = "what the form is used for rests on its reasons"]
 #[derive(Clone, PartialEq, Eq, Hash, Debug)]
 pub struct Form {
-    /// the entries of the list, in order
+    /// the atoms of the list, in order
     pub atoms: Vec<Term>,
     /// those handed in, then those of what was replaced
     pub reasons: Vec<Reason>,
@@ -180,7 +180,7 @@ pub struct Form {
 
 impl Form {
     /// The form in an answer's words, or None for 0 in word 0.
-    pub(crate) fn of(answer: &[u32; 8], list: &[u32], reasons: Vec<Reason>) -> Result<Option<Form>, Refusal> {
+    pub(crate) fn of(answer: &[u32; ANSWER], list: &[u32], reasons: Vec<Reason>) -> Result<Option<Form>, Refusal> {
         match answer[0] {
             0 => Ok(None),
             1 => Ok(Some(Form { atoms: first(list, answer[1])?, reasons })),
@@ -189,7 +189,7 @@ impl Form {
     }
 }
 
-/// The parts of a label that must still become "": if the two sides have equal texts, each of these variables has the text of "", whatever was
+/// The parts of a label that must still become "": if the two sides have equal words, each of these variables has the word of "", whatever was
 /// merged. That rests on the equation between the lists and on what the lists rest on.
 ///
 /// ```
@@ -212,7 +212,7 @@ pub struct EmptyParts {
 
 impl EmptyParts {
     /// The parts in an answer's words.
-    pub(crate) fn of(answer: &[u32; 8], list: &[u32]) -> Result<EmptyParts, Refusal> {
+    pub(crate) fn of(answer: &[u32; ANSWER], list: &[u32]) -> Result<EmptyParts, Refusal> {
         let (count, empty, link) = (answer[0], answer[1], answer[2]);
         if link > 1 || (link == 1) != (count > 0) || (count > 0 && empty == 0) {
             return Err(Refusal::UnknownAnswer(link));
@@ -248,7 +248,7 @@ pub enum Span {
 }
 
 /// The forced length of a repeated field. With a rest above 0 or a shortage [`Store::resolve_equation`](crate::Store::resolve_equation) answers
-/// Conflict on the same lists, or Saturated where it flattened, unless the reasons are full: no texts fit under the reasons that the Conflict
+/// Conflict on the same lists, or Saturated where it flattened, unless the reasons are full: no words fit under the reasons that the Conflict
 /// names, and without them some may.
 ///
 /// ```
@@ -274,7 +274,7 @@ pub struct Fit {
 
 impl Fit {
     /// The fit in an answer's words.
-    pub(crate) fn of(answer: &[u32; 8]) -> Result<Fit, Refusal> {
+    pub(crate) fn of(answer: &[u32; ANSWER]) -> Result<Fit, Refusal> {
         let span = match answer[0] {
             0 => Span::Length { length: answer[4], rest: answer[5] },
             1 => Span::Shortage(answer[4]),
@@ -324,15 +324,15 @@ pub enum Answer {
         /// why they are
         reasons: Vec<Reason>,
     },
-    /// where the sides are equal the variable has the text of a certain term
+    /// where the sides are equal the variable has the word of a certain term
     Propagate {
         /// the variable
         variable: Term,
-        /// a term that has the text
+        /// a term that has the word
         word: Term,
         /// whether an empty side stood against several variables: then ask again once this one is joined with ""
         link: bool,
-        /// why it has that text
+        /// why it has that word
         reasons: Vec<Reason>,
     },
     /// where the sides are equal one of the atoms is true: the clause is the guard's literal, negated, or one of them
@@ -372,7 +372,7 @@ impl Answer {
 }
 
 /// The case in an answer's words. A number that no call gives is an error, not the nearest case.
-pub(crate) fn answered_case(answer: &[u32; 8], list: &[u32], reasons: Vec<Reason>) -> Result<Answer, Refusal> {
+pub(crate) fn answered_case(answer: &[u32; ANSWER], list: &[u32], reasons: Vec<Reason>) -> Result<Answer, Refusal> {
     Ok(match answer[0] {
         0 => Answer::Done,
         1 => Answer::Saturated { reasons },

@@ -1,6 +1,6 @@
 //! A term as text.
 
-use crate::{Store, Term, MAX_CHARACTER};
+use crate::{Store, Term, CELL_WIDTH, MAX_CHARACTER, TERM_WIDTH};
 use std::fmt::{self, Write};
 
 /// How many terms are printed before the rest is left out: a term that has another twice may be longer than all memory.
@@ -43,7 +43,7 @@ impl Store {
 
     /// A counted term's kind, first and second words.
     fn record(&self, t: Term) -> Option<[u32; 3]> {
-        let words = self.terms.chunks_exact(8).nth(t as usize)?;
+        let words = self.terms.chunks_exact(TERM_WIDTH).nth(t as usize)?;
         (t != 0 && t <= self.state[0]).then(|| [words[0], words[1], words[2]])
     }
 
@@ -55,7 +55,7 @@ impl Store {
 
     /// A counted cell's value and the next cell of its chain, which has a higher number or is 0.
     fn cell(&self, c: u32) -> Option<(Term, u32)> {
-        let words = self.cells.chunks_exact(3).nth(c as usize)?;
+        let words = self.cells.chunks_exact(CELL_WIDTH).nth(c as usize)?;
         (c != 0 && c <= self.state[1] && (words[2] == 0 || words[2] > c)).then(|| (words[0], words[2]))
     }
 }

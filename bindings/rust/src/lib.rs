@@ -1,6 +1,6 @@
 //! The label resolver's store and calls, with nothing unsafe for their user. Each call audits the store first, and what it leaves passes again.
 //!
-//! A term stands for a text: a constant for its own characters, a variable for any text, a concatenation for the texts of its parts in
+//! A term has a word, a list of characters: a constant its own, a variable any word, a concatenation the words of its parts in
 //! order. Classes of terms are joined for reasons, and a question about an equation is answered with the reasons that the answer rests on.
 //!
 //! ```
@@ -24,7 +24,7 @@
 //!
 //! # Characters
 //!
-//! They are those of SMT-LIB's strings, 0 to 0x2FFFF: Rust's below 0x30000, and 0xD800 to 0xDFFF besides. A text as `&str` can have no
+//! They are those of SMT-LIB's strings, 0 to 0x2FFFF: Rust's below 0x30000, and 0xD800 to 0xDFFF besides. A word as `&str` can have no
 //! surrogate; as numbers, to [`Store::constant_chars`] and [`Store::variable_chars`], it can have any. A pair of surrogates is two characters.
 //!
 //! # Asking a question
@@ -53,21 +53,53 @@ use std::fmt;
 /// The version of this crate, of `labels.h` and of the changelog.
 ///
 /// ```
-/// assert_eq!(labels::VERSION, "0.9.0");
+/// assert_eq!(labels::VERSION, "0.9.1");
 /// ```
 pub const VERSION: &str = env!("CARGO_PKG_VERSION");
 
-/// How many terms a store counts at most. A term has eight words, and a record 0 that is never used stands before the first.
+/// How many words a term has.
 ///
 /// ```
-/// assert_eq!(labels::Store::new().terms.len(), 8 * (labels::TERMS + 1));
+/// let mut store = labels::Store::new();
+/// let t = store.variable("x")?;
+/// // the first word of its record is the kind: 2, a variable
+/// assert_eq!(store.terms[labels::TERM_WIDTH * t as usize], 2);
+/// # Ok::<(), labels::Refusal>(())
+/// ```
+pub const TERM_WIDTH: usize = 8;
+
+/// How many words a cell of a chain has.
+///
+/// ```
+/// let mut store = labels::Store::new();
+/// let (x, y) = (store.variable("x")?, store.variable("y")?);
+/// let xy = store.concatenation(&[x, y])?;
+/// // the second word of its record is the first cell, whose first word is the first part
+/// let cell = store.terms[labels::TERM_WIDTH * xy as usize + 1];
+/// assert_eq!(store.cells[labels::CELL_WIDTH * cell as usize], x);
+/// # Ok::<(), labels::Refusal>(())
+/// ```
+pub const CELL_WIDTH: usize = 3;
+
+/// How many words a pair has: a reason or a key.
+///
+/// ```
+/// let store = labels::Store::new();
+/// assert_eq!(store.reasons.len() / labels::PAIR_WIDTH, labels::REASONS);
+/// ```
+pub const PAIR_WIDTH: usize = 2;
+
+/// How many terms a store counts at most. A record 0 that is never used stands before the first.
+///
+/// ```
+/// assert_eq!(labels::Store::new().terms.len(), labels::TERM_WIDTH * (labels::TERMS + 1));
 /// ```
 pub const TERMS: usize = 512;
 
-/// How many cells of chains a store counts at most. A cell has three words, and a record 0 that is never used stands before the first.
+/// How many cells of chains a store counts at most. A record 0 that is never used stands before the first.
 ///
 /// ```
-/// assert_eq!(labels::Store::new().cells.len(), 3 * (labels::CELLS + 1));
+/// assert_eq!(labels::Store::new().cells.len(), labels::CELL_WIDTH * (labels::CELLS + 1));
 /// ```
 pub const CELLS: usize = 2048;
 
@@ -87,17 +119,17 @@ pub const CHARS: usize = 16384;
 /// ```
 pub const MAX_CHARACTER: u32 = 0x2FFFF;
 
-/// How many reasons a store counts at most, two words each.
+/// How many reasons a store counts at most.
 ///
 /// ```
-/// assert_eq!(labels::Store::new().reasons.len(), 2 * labels::REASONS);
+/// assert_eq!(labels::Store::new().reasons.len(), labels::PAIR_WIDTH * labels::REASONS);
 /// ```
 pub const REASONS: usize = 4096;
 
-/// How many keys, pairs of heads that were split, a store counts at most; two words each.
+/// How many keys, pairs of heads that were split, a store counts at most.
 ///
 /// ```
-/// assert_eq!(labels::Store::new().keys.len(), 2 * labels::KEYS);
+/// assert_eq!(labels::Store::new().keys.len(), labels::PAIR_WIDTH * labels::KEYS);
 /// ```
 pub const KEYS: usize = 4096;
 
@@ -141,6 +173,16 @@ pub const MARKS: usize = 1597;
 /// ```
 pub type Term = u32;
 
+/// The words of the state.
+///
+/// ```
+/// assert_eq!(labels::Store::new().state, [0; labels::STATE]);
+/// ```
+pub const STATE: usize = 8;
+
+/// The words of an answer.
+const ANSWER: usize = 8;
+
 /// Where the reasons' count stands in the state.
 const REASON_COUNT: usize = 3;
 
@@ -151,15 +193,15 @@ const REASON_COUNT: usize = 3;
 /// store.variable("x")?;
 /// assert_eq!(store.state, [1, 0, 1, 0, 0, 0, 0, 0]);
 /// // a term of no kind
-/// store.terms[8] = 6;
+/// store.terms[labels::TERM_WIDTH] = 6;
 /// assert_eq!(store.audit(), Err(labels::Refusal::Records));
 /// # Ok::<(), labels::Refusal>(())
 /// ```
 #[derive(Clone)]
 pub struct Store {
     /// counts of terms, cells, characters, reasons and keys, the name counter, counts of marks and of recorded joins
-    pub state: [u32; 8],
-    /// eight words a term: kind, first, second, class parent, forest parent, edge kind, edge value, stamp
+    pub state: [u32; STATE],
+    /// eight words a term: kind, first, second, class parent, forest parent, label kind, label value, stamp
     pub terms: Vec<u32>,
     /// three words a cell: value, second value, next
     pub cells: Vec<u32>,
@@ -176,12 +218,12 @@ pub struct Store {
 impl Default for Store {
     fn default() -> Self {
         Store {
-            state: [0; 8],
-            terms: vec![0; 8 * (TERMS + 1)],
-            cells: vec![0; 3 * (CELLS + 1)],
+            state: [0; STATE],
+            terms: vec![0; TERM_WIDTH * (TERMS + 1)],
+            cells: vec![0; CELL_WIDTH * (CELLS + 1)],
             chars: vec![0; CHARS],
-            reasons: vec![0; 2 * REASONS],
-            keys: vec![0; 2 * KEYS],
+            reasons: vec![0; PAIR_WIDTH * REASONS],
+            keys: vec![0; PAIR_WIDTH * KEYS],
             marks: vec![0; MARKS],
         }
     }
@@ -222,14 +264,14 @@ impl Store {
     ///
     /// ```
     /// let mut store = labels::Store::new();
-    /// store.state[0] = 513;
+    /// store.state[0] = labels::TERMS as u32 + 1;
     /// assert_eq!(store.audit(), Err(labels::Refusal::Sizes));
     /// ```
     pub fn audit(&self) -> Result<(), Refusal> {
         outcome(raw::audit(self))
     }
 
-    /// The constant of a text, made where the store has none. A character from U+30000 on is refused.
+    /// The constant of a word, made where the store has none. A character from U+30000 on is refused.
     ///
     /// ```
     /// let mut store = labels::Store::new();
@@ -339,7 +381,7 @@ impl Store {
     /// # Ok::<(), labels::Refusal>(())
     /// ```
     pub fn find(&self, t: Term) -> Result<Term, Refusal> {
-        let mut answer = [0; 8];
+        let mut answer = [0; ANSWER];
         outcome(raw::find(self, t, &mut answer))?;
         Ok(answer[0])
     }
@@ -408,10 +450,10 @@ impl Store {
         if reasons.iter().any(|reason| reason.words().1 >= 1 << 31) {
             return Err(Refusal::Argument);
         }
-        if reasons.len() > REASONS || 2 * reasons.len() > self.reasons.len() {
+        if reasons.len() > REASONS || PAIR_WIDTH * reasons.len() > self.reasons.len() {
             return Err(Refusal::Reasons);
         }
-        for (pair, reason) in self.reasons.chunks_exact_mut(2).zip(reasons) {
+        for (pair, reason) in self.reasons.chunks_exact_mut(PAIR_WIDTH).zip(reasons) {
             (pair[0], pair[1]) = reason.words();
         }
         self.state[REASON_COUNT] = reasons.len() as u32;
@@ -448,7 +490,7 @@ impl Store {
         self.question().normal_form(known, t)
     }
 
-    /// The same with concatenations expanded, or None where that takes more than 256 entries or meets one again.
+    /// The same with concatenations expanded, or None where that takes more than 256 atoms or meets one again.
     ///
     /// ```
     /// use labels::Reason;
@@ -465,7 +507,7 @@ impl Store {
 
     /// The equation between two lists of string terms; the guard, which a Split hands back negated, is neither 0 nor the lowest number.
     /// Where one list is constants alone and the other constants and one variable that is alone in its class, once or more, the answer is
-    /// Conflict exactly when no text for the variable makes the sides equal.
+    /// Conflict exactly when no word for the variable makes the sides equal.
     ///
     /// ```
     /// use labels::Answer;
@@ -513,7 +555,7 @@ impl Store {
     /// let (site, batch, serial) = (store.variable("site")?, store.variable("batch")?, store.variable("serial")?);
     /// store.join(batch, site, Reason::Asserted(1))?;
     /// let label = [site, batch, serial];
-    /// // one entry for site and batch, which are of one class
+    /// // site stands for batch too, which is of its class
     /// let parts = store.empty_parts(&[], &label)?;
     /// assert_eq!((&parts.variables, parts.link), (&vec![site, serial], true));
     /// if let Some(empty) = parts.empty {
@@ -528,7 +570,7 @@ impl Store {
     /// # Ok::<(), labels::Refusal>(())
     /// ```
     pub fn empty_parts(&mut self, lhs: &[Term], rhs: &[Term]) -> Result<EmptyParts, Refusal> {
-        let (mut list, mut answer) = (list(), [0; 8]);
+        let (mut list, mut answer) = (list(), [0; ANSWER]);
         outcome(raw::empty_parts(self, lhs, rhs, &mut list, &mut answer))?;
         EmptyParts::of(&answer, &list)
     }
@@ -537,7 +579,7 @@ impl Store {
     /// then same tails are stripped; lists of another form are refused. Nothing is written.
     ///
     /// With a rest above 0 or a shortage [`Store::resolve_equation`] answers Conflict on the same lists, or Saturated where it flattened, unless
-    /// the reasons are full: no texts fit under the reasons that the Conflict names, and without them some may.
+    /// the reasons are full: no words fit under the reasons that the Conflict names, and without them some may.
     ///
     /// ```
     /// use labels::{Fit, Refusal, Span};
@@ -551,12 +593,12 @@ impl Store {
     /// # Ok::<(), labels::Refusal>(())
     /// ```
     pub fn forced_length(&self, lhs: &[Term], rhs: &[Term]) -> Result<Fit, Refusal> {
-        let mut answer = [0; 8];
+        let mut answer = [0; ANSWER];
         outcome(raw::forced_length(self, lhs, rhs, &mut answer))?;
         Fit::of(&answer)
     }
 
-    /// Whether two lists are entry by entry the same.
+    /// Whether two lists are atom by atom the same.
     ///
     /// ```
     /// let mut store = labels::Store::new();
@@ -565,7 +607,7 @@ impl Store {
     /// # Ok::<(), labels::Refusal>(())
     /// ```
     pub fn nf_equal(&self, lhs: &[Term], rhs: &[Term]) -> Result<bool, Refusal> {
-        let mut answer = [0; 8];
+        let mut answer = [0; ANSWER];
         outcome(raw::nf_equal(self, lhs, rhs, &mut answer))?;
         flag(answer[0])
     }
@@ -598,7 +640,7 @@ impl Store {
     /// # Ok::<(), labels::Refusal>(())
     /// ```
     pub fn reason_list(&self) -> Vec<Reason> {
-        let pairs = self.reasons.chunks_exact(2).take(self.state[REASON_COUNT] as usize);
+        let pairs = self.reasons.chunks_exact(PAIR_WIDTH).take(self.state[REASON_COUNT] as usize);
         pairs.filter_map(|p| Reason::of(p[0], p[1])).collect()
     }
 
@@ -618,8 +660,8 @@ impl Store {
         Question { store: self }
     }
 
-    fn answered(&mut self, call: impl FnOnce(&mut Store, &mut [u32; 8]) -> u32) -> Result<Term, Refusal> {
-        let mut answer = [0; 8];
+    fn answered(&mut self, call: impl FnOnce(&mut Store, &mut [u32; ANSWER]) -> u32) -> Result<Term, Refusal> {
+        let mut answer = [0; ANSWER];
         outcome(call(self, &mut answer))?;
         Ok(answer[0])
     }
@@ -677,7 +719,7 @@ impl Question<'_> {
     /// # Ok::<(), labels::Refusal>(())
     /// ```
     pub fn normal_form(self, known: &[Term], t: Term) -> Result<Form, Refusal> {
-        let (mut list, mut answer) = (list(), [0; 8]);
+        let (mut list, mut answer) = (list(), [0; ANSWER]);
         outcome(raw::normal_form(self.store, known, t, &mut list, &mut answer))?;
         Form::of(&answer, &list, self.store.named()?)?.ok_or(Refusal::UnknownAnswer(answer[0]))
     }
@@ -695,7 +737,7 @@ impl Question<'_> {
     /// # Ok::<(), labels::Refusal>(())
     /// ```
     pub fn deep_normal_form(self, known: &[Term], t: Term) -> Result<Option<Form>, Refusal> {
-        let (mut list, mut answer) = (list(), [0; 8]);
+        let (mut list, mut answer) = (list(), [0; ANSWER]);
         outcome(raw::deep_normal_form(self.store, known, t, &mut list, &mut answer))?;
         Form::of(&answer, &list, self.store.named()?)
     }
@@ -714,7 +756,7 @@ impl Question<'_> {
     /// # Ok::<(), labels::Refusal>(())
     /// ```
     pub fn resolve_equation(self, lhs: &[Term], rhs: &[Term], guard: i32) -> Result<Answer, Refusal> {
-        let (mut list, mut answer) = (list(), [0; 8]);
+        let (mut list, mut answer) = (list(), [0; ANSWER]);
         outcome(raw::resolve_equation(self.store, lhs, rhs, guard, &mut list, &mut answer))?;
         answered_case(&answer, &list, self.store.named()?)
     }
@@ -735,7 +777,7 @@ impl Question<'_> {
     /// # Ok::<(), labels::Refusal>(())
     /// ```
     pub fn step(self, known: &[Term], equation: Term, guard: i32) -> Result<Answer, Refusal> {
-        let (mut list, mut answer) = (list(), [0; 8]);
+        let (mut list, mut answer) = (list(), [0; ANSWER]);
         outcome(raw::step(self.store, known, equation, guard, &mut list, &mut answer))?;
         answered_case(&answer, &list, self.store.named()?)
     }

@@ -3,7 +3,7 @@
 // a call of the interface has as many arguments as it lends slices
 #![allow(clippy::too_many_arguments)]
 
-use crate::Store;
+use crate::{Store, ANSWER};
 
 macro_rules! interface {
     ($borrow:ty, $words:ty, $pointer:ident: $($symbol:ident $name:ident($($arg:ident: $ty:ty),*);)*) => {
@@ -68,27 +68,27 @@ pub fn audit(s: &Store) -> u32 {
     audit_words(s)
 }
 
-pub fn make_constant(s: &mut Store, text: &[u32], answer: &mut [u32; 8]) -> u32 {
+pub fn make_constant(s: &mut Store, text: &[u32], answer: &mut [u32; ANSWER]) -> u32 {
     constant(s, text.as_ptr(), text.len(), answer.as_mut_ptr(), answer.len())
 }
 
-pub fn make_variable(s: &mut Store, name: &[u32], answer: &mut [u32; 8]) -> u32 {
+pub fn make_variable(s: &mut Store, name: &[u32], answer: &mut [u32; ANSWER]) -> u32 {
     variable(s, name.as_ptr(), name.len(), answer.as_mut_ptr(), answer.len())
 }
 
-pub fn make_concatenation(s: &mut Store, parts: &[u32], answer: &mut [u32; 8]) -> u32 {
+pub fn make_concatenation(s: &mut Store, parts: &[u32], answer: &mut [u32; ANSWER]) -> u32 {
     concatenation(s, parts.as_ptr(), parts.len(), answer.as_mut_ptr(), answer.len())
 }
 
-pub fn make_length(s: &mut Store, t: u32, answer: &mut [u32; 8]) -> u32 {
+pub fn make_length(s: &mut Store, t: u32, answer: &mut [u32; ANSWER]) -> u32 {
     length(s, t, answer.as_mut_ptr(), answer.len())
 }
 
-pub fn make_equation(s: &mut Store, t: u32, u: u32, answer: &mut [u32; 8]) -> u32 {
+pub fn make_equation(s: &mut Store, t: u32, u: u32, answer: &mut [u32; ANSWER]) -> u32 {
     equation(s, t, u, answer.as_mut_ptr(), answer.len())
 }
 
-pub fn find(s: &Store, t: u32, answer: &mut [u32; 8]) -> u32 {
+pub fn find(s: &Store, t: u32, answer: &mut [u32; ANSWER]) -> u32 {
     root(s, t, answer.as_mut_ptr(), answer.len())
 }
 
@@ -97,12 +97,12 @@ pub fn explain(s: &mut Store, a: u32, b: u32) -> u32 {
 }
 
 // the words of `marks` stand apart from the store's own, so that a call is lent both
-pub fn join(s: &mut Store, a: u32, b: u32, kind: u32, number: u32, answer: &mut [u32; 8]) -> u32 {
+pub fn join(s: &mut Store, a: u32, b: u32, kind: u32, number: u32, answer: &mut [u32; ANSWER]) -> u32 {
     let (marks, marks_len) = (s.marks.as_mut_ptr(), s.marks.len());
     joined(s, marks, marks_len, a, b, kind, number, answer.as_mut_ptr(), answer.len())
 }
 
-pub fn set_mark(s: &mut Store, answer: &mut [u32; 8]) -> u32 {
+pub fn set_mark(s: &mut Store, answer: &mut [u32; ANSWER]) -> u32 {
     let (marks, marks_len) = (s.marks.as_mut_ptr(), s.marks.len());
     marked(s, marks, marks_len, answer.as_mut_ptr(), answer.len())
 }
@@ -112,27 +112,27 @@ pub fn go_back(s: &mut Store, mark: u32) -> u32 {
     gone_back(s, marks, marks_len, mark)
 }
 
-pub fn normal_form(s: &mut Store, known: &[u32], t: u32, list: &mut [u32], answer: &mut [u32; 8]) -> u32 {
+pub fn normal_form(s: &mut Store, known: &[u32], t: u32, list: &mut [u32], answer: &mut [u32; ANSWER]) -> u32 {
     form(s, known.as_ptr(), known.len(), t, list.as_mut_ptr(), list.len(), answer.as_mut_ptr(), answer.len())
 }
 
-pub fn deep_normal_form(s: &mut Store, known: &[u32], t: u32, list: &mut [u32], answer: &mut [u32; 8]) -> u32 {
+pub fn deep_normal_form(s: &mut Store, known: &[u32], t: u32, list: &mut [u32], answer: &mut [u32; ANSWER]) -> u32 {
     deep_form(s, known.as_ptr(), known.len(), t, list.as_mut_ptr(), list.len(), answer.as_mut_ptr(), answer.len())
 }
 
-pub fn resolve_equation(s: &mut Store, lhs: &[u32], rhs: &[u32], guard: i32, list: &mut [u32], answer: &mut [u32; 8]) -> u32 {
+pub fn resolve_equation(s: &mut Store, lhs: &[u32], rhs: &[u32], guard: i32, list: &mut [u32], answer: &mut [u32; ANSWER]) -> u32 {
     resolved(s, lhs.as_ptr(), lhs.len(), rhs.as_ptr(), rhs.len(), guard, list.as_mut_ptr(), list.len(), answer.as_mut_ptr(), answer.len())
 }
 
-pub fn empty_parts(s: &mut Store, lhs: &[u32], rhs: &[u32], list: &mut [u32], answer: &mut [u32; 8]) -> u32 {
+pub fn empty_parts(s: &mut Store, lhs: &[u32], rhs: &[u32], list: &mut [u32], answer: &mut [u32; ANSWER]) -> u32 {
     parts(s, lhs.as_ptr(), lhs.len(), rhs.as_ptr(), rhs.len(), list.as_mut_ptr(), list.len(), answer.as_mut_ptr(), answer.len())
 }
 
-pub fn forced_length(s: &Store, lhs: &[u32], rhs: &[u32], answer: &mut [u32; 8]) -> u32 {
+pub fn forced_length(s: &Store, lhs: &[u32], rhs: &[u32], answer: &mut [u32; ANSWER]) -> u32 {
     forced(s, lhs.as_ptr(), lhs.len(), rhs.as_ptr(), rhs.len(), answer.as_mut_ptr(), answer.len())
 }
 
-pub fn nf_equal(s: &Store, lhs: &[u32], rhs: &[u32], answer: &mut [u32; 8]) -> u32 {
+pub fn nf_equal(s: &Store, lhs: &[u32], rhs: &[u32], answer: &mut [u32; ANSWER]) -> u32 {
     equal(s, lhs.as_ptr(), lhs.len(), rhs.as_ptr(), rhs.len(), answer.as_mut_ptr(), answer.len())
 }
 
@@ -140,6 +140,6 @@ pub fn nf_equal_explain(s: &mut Store, lhs: &[u32], rhs: &[u32]) -> u32 {
     reasons_of_lists(s, lhs.as_ptr(), lhs.len(), rhs.as_ptr(), rhs.len())
 }
 
-pub fn step(s: &mut Store, known: &[u32], e: u32, guard: i32, list: &mut [u32], answer: &mut [u32; 8]) -> u32 {
+pub fn step(s: &mut Store, known: &[u32], e: u32, guard: i32, list: &mut [u32], answer: &mut [u32; ANSWER]) -> u32 {
     stepped(s, known.as_ptr(), known.len(), e, guard, list.as_mut_ptr(), list.len(), answer.as_mut_ptr(), answer.len())
 }

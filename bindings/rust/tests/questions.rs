@@ -1,4 +1,4 @@
-use labels::{Answer, Form, Reason, Refusal, Store, Term, REASONS};
+use labels::{Answer, Form, Reason, Refusal, Store, Term, CELL_WIDTH, REASONS, TERM_WIDTH};
 use std::collections::HashSet;
 
 /// x ++ "a" = y ++ "b" with x and y of one class by a7, and the string terms.
@@ -158,14 +158,14 @@ fn printing_ends() {
     assert_eq!(shown.matches("..").count(), 1);
     assert!(shown.len() < 8 * 1024, "{}", shown.len());
     // the last concatenation's first part is itself, then a chain that does not end
-    let cell = s.terms[8 * t as usize + 1] as usize;
-    s.cells[3 * cell] = t;
+    let cell = s.terms[TERM_WIDTH * t as usize + 1] as usize;
+    s.cells[CELL_WIDTH * cell] = t;
     assert!(s.display(t).to_string().starts_with("? ++ "));
-    s.cells[3 * cell + 2] = cell as u32;
+    s.cells[CELL_WIDTH * cell + 2] = cell as u32;
     assert_eq!(s.display(t).to_string(), "?");
     s.terms.fill(u32::MAX);
     assert_eq!(s.display(t).to_string(), "?");
-    s.terms[8..11].copy_from_slice(&[1, u32::MAX, u32::MAX]);
+    s.terms[TERM_WIDTH..TERM_WIDTH + 3].copy_from_slice(&[1, u32::MAX, u32::MAX]);
     assert_eq!(s.display(1).to_string(), "?");
     s.terms.clear();
     assert_eq!(s.display(1).to_string(), "?");
@@ -201,7 +201,7 @@ fn surrogates() {
     assert_eq!(s.resolve_equation(&[high, low], &[both], 1), Ok(Answer::Done));
     assert!(matches!(s.resolve_equation(&[high, low], &[one], 1), Ok(Answer::Conflict { .. })));
     assert!(matches!(s.resolve_equation(&[x], &[high, low], 1), Ok(Answer::Propagate { word, .. }) if word == both));
-    // escapes beside quotes and backslashes, so that a text of the same letters prints otherwise
+    // escapes beside quotes and backslashes, so that a word of the same letters prints otherwise
     let odd = s.constant_chars(&[0x22, 0xD800, 0x22, 0x5C]).unwrap();
     let letters = s.constant(r"\u{d800}").unwrap();
     assert_eq!((shown(&s, odd), shown(&s, letters)), (r#""\"\u{d800}\"\\""#.into(), r#""\\u{d800}""#.into()));

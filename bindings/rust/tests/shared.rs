@@ -1,6 +1,9 @@
 //! What the crate shares with `labels.h` and the changelog: the version, the sizes and the texts of refusals.
 
-use labels::{Refusal, CELLS, CHARS, KEYS, LIST, MARKS, MAX_CHARACTER, REASONS, SPLIT_TERMS, TERMS, VERSION};
+use labels::{
+    Refusal, CELLS, CELL_WIDTH, CHARS, KEYS, LIST, MARKS, MAX_CHARACTER, PAIR_WIDTH, REASONS, SPLIT_TERMS, STATE, TERMS, TERM_WIDTH,
+    VERSION,
+};
 use std::fs;
 
 fn file(path: &str) -> String {
@@ -23,7 +26,9 @@ fn one_version() {
 fn the_same_sizes() {
     let header = file("../labels.h");
     let sizes = [("MAX_TERMS", TERMS), ("MAX_CELLS", CELLS), ("MAX_CHARS", CHARS), ("MAX_REASONS", REASONS), ("MAX_KEYS", KEYS)];
-    for (name, size) in sizes.into_iter().chain([("LIST_WORDS", LIST), ("MARK_WORDS", MARKS), ("MAX_SPLIT_TERMS", SPLIT_TERMS)]) {
+    let words = [("STATE_WORDS", STATE), ("LIST_WORDS", LIST), ("MARK_WORDS", MARKS)];
+    let widths = [("TERM_WIDTH", TERM_WIDTH), ("CELL_WIDTH", CELL_WIDTH), ("PAIR_WIDTH", PAIR_WIDTH)];
+    for (name, size) in sizes.into_iter().chain(words).chain(widths).chain([("MAX_SPLIT_TERMS", SPLIT_TERMS)]) {
         assert!(header.contains(&format!("#define LABELS_{name} {size}\n")), "{name}");
     }
     assert!(header.contains(&format!("#define LABELS_MAX_CHARACTER {MAX_CHARACTER:#X}\n")));

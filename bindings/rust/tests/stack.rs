@@ -1,6 +1,6 @@
 //! The calls do with 192 KiB of stack on the stores that take most of it, a tower of congruences above all, each explained by the one below it.
 
-use labels::{Answer, Fit, Reason, Span, Store, Term, LIST, TERMS};
+use labels::{Answer, Fit, Reason, Span, Store, Term, CELL_WIDTH, LIST, TERMS, TERM_WIDTH};
 use std::thread;
 
 /// What the header asks for. A thread's own words are within it, so a call has less.
@@ -14,7 +14,8 @@ fn under_a_tower() -> (Store, [Term; 3]) {
     let (x, z) = (s.variable("x").unwrap(), s.variable("z").unwrap());
     let (mut below, mut top) = (x, s.concatenation(&[x, z]).unwrap());
     let edge = |s: &mut Store, child: Term, parent, kind, value, stamp| {
-        s.terms[8 * child as usize + 3..8 * child as usize + 8].copy_from_slice(&[parent, parent, kind, value, stamp]);
+        let at = TERM_WIDTH * child as usize;
+        s.terms[at + 3..at + 8].copy_from_slice(&[parent, parent, kind, value, stamp]);
     };
     edge(&mut s, top, below, 1, 1, 1);
     let mut stamp = 1;
@@ -22,7 +23,7 @@ fn under_a_tower() -> (Store, [Term; 3]) {
         let above = s.concatenation(&[top, z]).unwrap();
         // the edge's chain: for each argument the pair that is equal
         let first = s.state[1] as usize + 1;
-        s.cells[3 * first..3 * first + 6].copy_from_slice(&[top, below, first as u32 + 1, z, z, 0]);
+        s.cells[CELL_WIDTH * first..CELL_WIDTH * (first + 2)].copy_from_slice(&[top, below, first as u32 + 1, z, z, 0]);
         s.state[1] += 2;
         stamp += 1;
         edge(&mut s, above, top, 3, first as u32, stamp);

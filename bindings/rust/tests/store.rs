@@ -1,8 +1,9 @@
-use labels::{Answer, EmptyParts, Form, Reason, Refusal, Store, Term};
+use labels::{Answer, EmptyParts, Form, Reason, Refusal, Store, Term, TERM_WIDTH};
 
 /// A root joins the class of another root by an asserted equality.
 fn merge(s: &mut Store, child: Term, parent: Term, number: u32) {
-    s.terms[8 * child as usize + 3..8 * child as usize + 8].copy_from_slice(&[parent, parent, 1, number, 1]);
+    let at = TERM_WIDTH * child as usize;
+    s.terms[at + 3..at + 8].copy_from_slice(&[parent, parent, 1, number, 1]);
 }
 
 #[test]
@@ -29,7 +30,7 @@ fn refusals_leave_the_store_alone() {
     assert_eq!(s.constant("a"), Err(Refusal::Sizes));
     assert_eq!(s.state, [1, 0, 16385, 0, 0, 0, 0, 0]);
     s.state[2] = 1;
-    s.terms[8] = 6;
+    s.terms[TERM_WIDTH] = 6;
     assert_eq!(s.audit(), Err(Refusal::Records));
     s.reasons.clear();
     s.state[3] = u32::MAX;
@@ -146,7 +147,7 @@ fn empty_parts() {
     assert_eq!((parts.empty, parts.link, s.reason_list()), (Some(10), true, vec![Reason::Asserted(1)]));
     // no room for ""
     s.state = before;
-    s.terms.truncate(8 * 10);
+    s.terms.truncate(TERM_WIDTH * 10);
     assert_eq!(s.empty_parts(&[], &label), Err(Refusal::Room));
     assert_eq!(s.state, before);
 }

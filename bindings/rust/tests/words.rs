@@ -1,13 +1,13 @@
-//! Merges that a caller writes into the words itself, by the manual's rules ('Where the caller writes the words itself').
+//! Merges that a caller writes into the records itself, by the manual's rules ('Where the caller writes the records itself').
 
-use labels::{Answer, Reason, Refusal, Store, Term};
+use labels::{Answer, Reason, Refusal, Store, Term, CELL_WIDTH, TERM_WIDTH};
 
 const ASSERTED: u32 = 1;
 const CONGRUENCE: u32 = 3;
 const DEFINITIONAL: u32 = 4;
 
 fn word(s: &mut Store, t: Term, field: usize) -> &mut u32 {
-    &mut s.terms[8 * t as usize + field]
+    &mut s.terms[TERM_WIDTH * t as usize + field]
 }
 
 /// The terms from t up to its root, by class parents (field 3) or forest parents (field 4).
@@ -43,7 +43,7 @@ fn congruence(s: &mut Store, a: Term, b: Term, pairs: &[(Term, Term)], stamp: u3
     for (i, &(t, u)) in pairs.iter().enumerate() {
         let cell = first + i as u32;
         let next = if i + 1 == pairs.len() { 0 } else { cell + 1 };
-        s.cells[3 * cell as usize..3 * cell as usize + 3].copy_from_slice(&[t, u, next]);
+        s.cells[CELL_WIDTH * cell as usize..CELL_WIDTH * (cell as usize + 1)].copy_from_slice(&[t, u, next]);
     }
     s.state[1] += pairs.len() as u32;
     merge(s, a, b, CONGRUENCE, first, stamp);
@@ -104,7 +104,8 @@ fn definitional() {
     merge(&mut s, x, a, DEFINITIONAL, 0, 0);
     assert_eq!(s.step(&[x, a, b], e, 1), Ok(Answer::Conflict { reasons: vec![] }));
     for t in 1..=s.state[0] as usize {
-        s.terms[8 * t + 3..8 * t + 8].copy_from_slice(&kept[8 * t + 3..8 * t + 8]);
+        let links = TERM_WIDTH * t + 3..TERM_WIDTH * t + 8;
+        s.terms[links.clone()].copy_from_slice(&kept[links]);
     }
     assert_eq!(s.step(&[x, a, b], e, 1), Ok(Answer::Propagate { variable: x, word: b, link: false, reasons: vec![] }));
     // a length is alone in its class
@@ -123,7 +124,7 @@ fn the_state_put_back() {
     assert!(matches!(&split, Answer::Split { terms_made: 9, .. }));
     assert_eq!(s.resolve_equation(&[x, y], &[y, x], 1), Ok(Answer::Saturated { reasons: vec![] }));
     let late = s.state[0];
-    let late = (1..=late).rev().find(|&t| s.terms[8 * t as usize] <= 3).unwrap();
+    let late = (1..=late).rev().find(|&t| s.terms[TERM_WIDTH * t as usize] <= 3).unwrap();
     s.join(x, late, Reason::Asserted(1)).unwrap();
     let joined = s.clone();
     s.state = kept;

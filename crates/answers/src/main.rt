@@ -64,17 +64,25 @@
 // as (t class-parent forest-parent label-kind label-value stamp), a recorded join as (child old-root class-root) after the marks' counts.
 use asking::ask;
 use asking::is_ask;
-use lending::part;
+use building::Counts;
+use building::adding::apply;
+use building::none;
 use lending::words_of;
+use lines::lending::front;
+use lines::lending::part;
+use lines::reading::letter;
+use lines::reading::line_end;
 use marking::is_mark;
 use marking::mark;
-use reading::letter;
-use reading::line_end;
 use reading::read;
+use records::CELL_SLICE;
+use records::CHAR_LIMIT;
+use records::KEY_LIMIT;
+use records::LIST_LIMIT;
+use records::REASON_LIMIT;
+use records::TERM_SLICE;
 
-pub mod adding;
 pub mod asking;
-pub mod building;
 pub mod lending;
 pub mod marking;
 pub mod reading;
@@ -82,55 +90,20 @@ pub mod saying;
 pub mod solving;
 pub mod stating;
 
-// How many terms, cells, characters, reasons and keys are counted, the name counter, how many atoms the list has, and which slice is not
-// lent whole, and how many of its words are.
-pub struct Counts {
-    pub terms: u32,
-    pub cells: u32,
-    pub chars: u32,
-    pub reasons: usize,
-    pub keys: usize,
-    pub names: u32,
-    pub known: usize,
-    pub short: u32,
-    pub words: usize,
-}
+// The words of each slice: of characters two more than the limit, of reasons and keys a record more.
+const CHAR_WORDS: usize = CHAR_LIMIT + 2;
 
-// With as many words lent of each slice as the counts say.
-fn ask_lent(
-    l: u8,
-    n: &[u32],
-    terms: &mut [u32],
-    cells: &mut [u32],
-    chars: &mut [u32],
-    reasons: &mut [u32],
-    keys: &mut [u32],
-    known: &[u32],
-    list: &mut [u32],
-    c: Counts,
-) -> Counts {
-    let t = part(words_of(c.short, c.words, 1), terms);
-    let e = part(words_of(c.short, c.words, 2), cells);
-    let h = part(words_of(c.short, c.words, 3), chars);
-    let r = part(words_of(c.short, c.words, 4), reasons);
-    let k = part(words_of(c.short, c.words, 5), keys);
-    let w = part(words_of(c.short, c.words, 6), list);
-    let o = part(c.known, known);
-    ask(
-        l,
-        n,
-        &mut terms[..t],
-        &mut cells[..e],
-        &mut chars[..h],
-        &mut reasons[..r],
-        &mut keys[..k],
-        &known[..o],
-        &mut list[..w],
-        c,
-    )
-}
+const REASON_WORDS: usize = 2 * (REASON_LIMIT + 1);
 
-// A command that asks is printed with its answer.
+const KEY_WORDS: usize = 2 * (KEY_LIMIT + 1);
+
+// The numbers or characters of a line, its letter before them.
+const NUMBERS: usize = 256;
+
+// Two lists of atoms, and a line more than the limit.
+const KNOWN_WORDS: usize = 2 * LIST_LIMIT + NUMBERS;
+
+// A command that asks is printed with its answer. As many words are lent of each slice as the counts say.
 fn ask_line(
     l: u8,
     line: &[u8],
@@ -143,18 +116,24 @@ fn ask_line(
     known: &[u32],
     c: Counts,
 ) -> Counts {
-    let mut list: [u32; 1024] = [0; 1024];
+    let mut list: [u32; LIST_LIMIT] = [0; LIST_LIMIT];
+    let t = part(words_of(c, 1), terms);
+    let e = part(words_of(c, 2), cells);
+    let h = part(words_of(c, 3), chars);
+    let r = part(words_of(c, 4), reasons);
+    let k = part(words_of(c, 5), keys);
+    let w = part(words_of(c, 6), &list);
     io::write_all(1, line);
-    let d = ask_lent(
+    let d = ask(
         l,
         n,
-        terms,
-        cells,
-        chars,
-        reasons,
-        keys,
-        known,
-        &mut list,
+        &mut terms[..t],
+        &mut cells[..e],
+        &mut chars[..h],
+        &mut reasons[..r],
+        &mut keys[..k],
+        front(known, c.known),
+        &mut list[..w],
         c,
     );
     io::write_all(1, b"\n");
@@ -178,7 +157,7 @@ fn step(
         io::write_all(1, b"\n");
         return c;
     }
-    let mut n: [u32; 256] = [0; 256];
+    let mut n: [u32; NUMBERS] = [0; NUMBERS];
     let last = read(l, line, &mut n);
     if is_mark(l) {
         return mark(l, line, &n, terms, cells, chars, reasons, keys, marks, c);
@@ -186,7 +165,7 @@ fn step(
     if is_ask(l) {
         return ask_line(l, line, &n, terms, cells, chars, reasons, keys, known, c);
     }
-    adding::apply(l, &n, last, terms, cells, chars, reasons, keys, known, c)
+    apply(l, &n, last, terms, cells, chars, reasons, keys, known, c)
 }
 
 fn run(
@@ -199,7 +178,7 @@ fn run(
     known: &mut [u32],
     marks: &mut [u32],
 ) {
-    let mut c = adding::none();
+    let mut c = none();
     let mut at: usize = 0;
     while at < text.len() {
         let end = line_end(text, at);
@@ -221,13 +200,13 @@ fn run(
 fn main() {
     let mut text = io::large_buffer();
     let len = io::read_full(0, &mut text);
-    let mut terms: [u32; 4104] = [0; 4104];
-    let mut cells: [u32; 6147] = [0; 6147];
-    let mut chars: [u32; 16386] = [0; 16386];
-    let mut reasons: [u32; 8194] = [0; 8194];
-    let mut keys: [u32; 8194] = [0; 8194];
-    let mut known: [u32; 2304] = [0; 2304];
-    let mut marks: [u32; 1599] = [0; 1599];
+    let mut terms: [u32; TERM_SLICE] = [0; TERM_SLICE];
+    let mut cells: [u32; CELL_SLICE] = [0; CELL_SLICE];
+    let mut chars: [u32; CHAR_WORDS] = [0; CHAR_WORDS];
+    let mut reasons: [u32; REASON_WORDS] = [0; REASON_WORDS];
+    let mut keys: [u32; KEY_WORDS] = [0; KEY_WORDS];
+    let mut known: [u32; KNOWN_WORDS] = [0; KNOWN_WORDS];
+    let mut marks: [u32; marking::WORDS] = [0; marking::WORDS];
     run(
         &text[..len],
         &mut terms,

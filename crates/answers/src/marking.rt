@@ -1,33 +1,36 @@
 // The commands about joins and marks, and what is printed of them.
-use crate::Counts;
-use crate::adding::none;
 use crate::asking::state;
-use crate::building::narrow;
-use crate::building::put;
-use crate::lending::least;
-use crate::lending::part;
 use crate::lending::words_of;
-use crate::saying::say;
-use crate::stating::say_count;
+use building::Counts;
+use building::none;
+use building::words::narrow;
 use classes::Answer;
 use classes::Standing;
+use classes::trail::MARK_LIMIT;
+use classes::trail::MARK_WORDS;
+use lines::lending::front;
+use lines::lending::least;
+use lines::lending::part;
+use lines::put;
+use lines::saying::say;
+use lines::saying::say_count;
 use records::State;
 use records::fields;
 use records::fields::word;
 use std::num::wrapping_add_usize;
 
 // The words lent for marks stand first; after them how many marks stand, and how many joins are recorded.
-const LENT: usize = 1597;
+pub const WORDS: usize = MARK_WORDS + 2;
 
 fn count(marks: &mut [u32], standing: u32, joins: u32) {
-    put(marks, LENT, standing);
-    put(marks, LENT + 1, joins);
+    put(marks, MARK_WORDS, standing);
+    put(marks, MARK_WORDS + 1, joins);
 }
 
 fn standing(marks: &[u32]) -> Standing {
     Standing {
-        marks: word(marks, LENT) as usize,
-        joins: word(marks, LENT + 1) as usize,
+        marks: word(marks, MARK_WORDS) as usize,
+        joins: word(marks, MARK_WORDS + 1) as usize,
     }
 }
 
@@ -36,9 +39,8 @@ fn say_answer(r: Answer, marks: &mut [u32]) {
     match r {
         Answer::Given(n, d) => {
             say(b": ", n);
-            io::write_all(1, b",");
-            say_count(d.marks);
-            say_count(d.joins);
+            say_count(b", ", d.marks);
+            say_count(b" ", d.joins);
             count(marks, narrow(d.marks), narrow(d.joins));
         }
         Answer::Refused(k) => say(b": refused ", k),
@@ -96,10 +98,10 @@ fn say_marks(marks: &[u32], n: usize) {
     }
 }
 
-// Join j: three words, from word 64 + 3 j on.
+// Join j: three words, after those of the marks.
 fn say_join(marks: &[u32], j: usize) {
     let three = wrapping_add_usize(wrapping_add_usize(j, j), j);
-    let at = wrapping_add_usize(64, three);
+    let at = wrapping_add_usize(MARK_LIMIT, three);
     say(b" (", word(marks, at));
     say_word(marks, wrapping_add_usize(at, 1));
     say_word(marks, wrapping_add_usize(at, 2));
@@ -158,21 +160,17 @@ fn ask_lent(
     marks: &mut [u32],
     c: Counts,
 ) -> Answer {
-    let t = part(words_of(c.short, c.words, 1), terms);
-    let e = part(words_of(c.short, c.words, 2), cells);
-    let h = part(words_of(c.short, c.words, 3), chars);
-    let r = part(words_of(c.short, c.words, 4), reasons);
-    let k = part(words_of(c.short, c.words, 5), keys);
-    let m = part(least(words_of(c.short, c.words, 7), LENT), marks);
+    let t = part(words_of(c, 1), terms);
+    let m = part(least(words_of(c, 7), MARK_WORDS), marks);
     let d = standing(marks);
     ask(
         l,
         n,
         &mut terms[..t],
-        &cells[..e],
-        &chars[..h],
-        &reasons[..r],
-        &keys[..k],
+        front(cells, words_of(c, 2)),
+        front(chars, words_of(c, 3)),
+        front(reasons, words_of(c, 4)),
+        front(keys, words_of(c, 5)),
         state(c),
         &mut marks[..m],
         d,

@@ -1,16 +1,13 @@
-// What is printed.
-use crate::Counts;
-use crate::building::narrow;
+// Printing reasons, lists, characters, and what a form made.
+use building::Counts;
+use building::words::narrow;
+use lines::saying::say;
+use lines::saying::say_count;
 use records::State;
 use records::fields;
 use records::fields::word;
 use std::num::wrapping_add_u32;
 use std::num::wrapping_add_usize;
-
-pub fn say(before: &[u8], x: u32) {
-    io::write_all(1, before);
-    io::print_decimal(1, x as u64);
-}
 
 fn say_kind(kind: u32) {
     if kind == 1 {
@@ -129,9 +126,7 @@ fn say_made(terms: &[u32], chars: &[u32], above: u32, n: u32) {
 pub fn say_after(terms: &[u32], chars: &[u32], reasons: &[u32], c: Counts, d: State) {
     io::write_all(1, b", ");
     say_reasons(reasons, d.reasons);
-    io::write_all(1, b", ");
-    io::print_decimal(1, d.terms as u64);
-    io::write_all(1, b" ");
-    io::print_decimal(1, d.chars as u64);
+    say_count(b", ", d.terms);
+    say_count(b" ", d.chars);
     say_made(terms, chars, c.terms, narrow(d.terms));
 }

@@ -1,17 +1,13 @@
 // What is printed of a store after resolve_equation and the step.
-use crate::Counts;
-use crate::building::narrow;
-use crate::saying::say;
 use crate::saying::say_constant;
 use crate::saying::say_reasons;
 use crate::saying::say_text;
+use building::Counts;
+use building::words::narrow;
+use lines::saying::say;
+use lines::saying::say_count;
 use records::State;
 use records::fields;
-
-pub fn say_count(x: usize) {
-    io::write_all(1, b" ");
-    io::print_decimal(1, x as u64);
-}
 
 // A concatenation made has two parts.
 fn say_concatenation(cells: &[u32], e: u32) {
@@ -73,11 +69,10 @@ pub fn say_store(
     io::write_all(1, case);
     io::write_all(1, b", ");
     say_reasons(reasons, d.reasons);
-    io::write_all(1, b",");
-    say_count(d.terms);
-    say_count(d.cells);
-    say_count(d.chars);
-    say_count(d.keys);
+    say_count(b", ", d.terms);
+    say_count(b" ", d.cells);
+    say_count(b" ", d.chars);
+    say_count(b" ", d.keys);
     say(b" ", d.names);
     say_terms(terms, cells, chars, c.terms, narrow(d.terms));
     kept(c, d)

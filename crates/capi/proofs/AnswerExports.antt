@@ -19,24 +19,22 @@ use Rattle.records.specs.declared.State.{State}
 use Rattle.records.specs.Lists.{all}
 use Rattle.records.specs.Store.{Store, ok, Work, count, isString}
 use Rattle.records.specs.View.{Lent, storeOf}
-use Rattle.records.specs.Make.{EachOnce}
 use Rattle.records.specs.Rules.{listLimit, isList}
 use Rattle.records.proofs.Lists.{both-left, both-right, table-length}
 use Rattle.normalize.specs.Calls.{listCall, PublicList}
-use Rattle.wordeq.specs.declared.StepResult.{StepResult}
-use Rattle.wordeq.specs.declared.StepResult.the-variants as step
-use Rattle.wordeq.specs.Wordeq.{Answer, done, saturated, conflict, propagate, split, resolve, resolveArguments, isGuard}
-use Rattle.wordeq.specs.Meaning.{Sound}
-use Rattle.wordeq.specs.Repeated.{Repeated, Decides}
+use Rattle.sides.specs.declared.StepResult.{StepResult}
+use Rattle.sides.specs.declared.StepResult.the-variants as step
+use Rattle.sides.specs.Wordeq.{Answer, done, saturated, conflict, propagate, split, resolve, resolveArguments, isGuard}
+use Rattle.sides.specs.Meaning.{Sound}
+use Rattle.sides.specs.Repeated.{Repeated, Decides}
 use Rattle.wordeq.specs.Calls.{PublicResolve, resolved}
-use Rattle.wordeq.proofs.Resolve.{resolve-kept, resolve-stops}
-use Rattle.wordeq.proofs.FewAtoms.{Few, resolve-few}
-use Rattle.capi.specs.Interface.{stateOf, roomy, over, told}
+use Rattle.sides.proofs.Resolve.{resolve-kept, resolve-stops}
+use Rattle.sides.proofs.FewAtoms.{Few, resolve-few}
+use Rattle.capi.specs.Interface.{stateOf, stateRoom, answerRoom, roomy, over, told}
 use Rattle.capi.specs.Equations.{flag, answerWords, answerBy, answerRead, ExportedResolve}
-use Rattle.capi.specs.Working.Leaves.{Narrow, NarrowAnswer, Telling, tells, ToldWords, ToldBy, answerTelling}
-use Rattle.capi.proofs.Words.{told-by}
+use Rattle.capi.specs.Working.Leaves.{written, Narrow, NarrowAnswer, tells, ToldBy, answerTelling}
 use Rattle.capi.proofs.Exports.{Tells, Shows}
-use Rattle.capi.proofs.Listings.{list-gives, list-room, list-tellable, list-exported, list-worth, untold-list}
+use Rattle.capi.proofs.Listings.{list-gives, list-room, list-tellable, list-exported, list-worth, list-once, untold-list}
 
 -- THE WORK
 
@@ -110,7 +108,7 @@ module _ {A : Type 0} {fit : Store → Bool} {work : Work A} (can : Tells fit wo
 pub answer-narrow : (r : StepResult) {k′ : List ℕ} → ((c : State) (v : List ℕ) → answerTelling r ≡ tells c v → Narrow c) → Stands r k′ → NarrowAnswer r
 answer-narrow r f i = record { counts = f; split = λ d n h u e. (let j = i .split d n h u e in let p = j .three in record { list = omega arith; guard = j .guard }) }
 
-pub answer-shows : (r : StepResult) (m′ : Lent) (k′ : List ℕ) → Stands r k′ → Shows 8 answerWords (answerRead k′) m′ (resolved r m′ k′) (answerTelling r)
+pub answer-shows : (r : StepResult) (m′ : Lent) (k′ : List ℕ) → Stands r k′ → Shows answerRoom answerWords (answerRead k′) m′ (resolved r m′ k′) (answerTelling r)
 answer-shows (step.Done c) m′ k′ i = record { value = done; outcome = refl; spelt = refl; few = omega arith; back = λ z. refl }
 answer-shows (step.Saturated c) m′ k′ i = record { value = saturated; outcome = refl; spelt = refl; few = omega arith; back = λ z. refl }
 answer-shows (step.Conflict c) m′ k′ i = record { value = conflict; outcome = refl; spelt = refl; few = omega arith; back = λ z. refl }
@@ -128,7 +126,7 @@ answer-shows (step.Refused n) m′ k′ i = refl
 
 -- RESOLVE_EQUATION
 
-pub resolve-untold : (l r : List ℕ) (g : ℤ) (m : Lent) (k w a : List ℕ) → roomy w a ≡ false → ExportedResolve l r g m m k k w w a a 1
+pub resolve-untold : (l r : List ℕ) (g : ℤ) (m : Lent) (k w a : List ℕ) → roomy stateRoom w a ≡ false → ExportedResolve l r g m m k k w w a a 1
 resolve-untold l r g m k w a e = record { is = untold-list _ answerWords m k w a _ e; worth = λ z. absurd (omega arith); once = λ z. absurd (omega arith); grows = λ z y. absurd (omega arith); decides = λ v f i. absurd (i 1 refl (omega arith)) }
 
 -- the terms counted are those of the state
@@ -148,13 +146,13 @@ module _ {l r : List ℕ} {g : ℤ} {m m′ : Lent} {k k′ : List ℕ} {c : Sta
     split = λ d n h j e. split-stands (resolve-tells l r g) (λ x. x) g fit (λ s f. both-right (isList s l && isList s r) _ f) (λ s s′ x q. resolve-few g l r s .given s′ x q) m m′ k k′ c same d n h j (sym (called .store .says) ∙ ap (λ (x : StepResult). resolved x m′ k′) e);
   }
 
-  shows : Shows 8 answerWords (answerRead k′) m′ (resolved o m′ k′) (answerTelling o)
+  shows : Shows answerRoom answerWords (answerRead k′) m′ (resolved o m′ k′) (answerTelling o)
   shows = answer-shows o m′ k′ stands
 
   pub resolve-tellable : NarrowAnswer o
   resolve-tellable = answer-narrow o (list-tellable (resolve-tells l r g) called answerWords (answerRead k′) (answerTelling o) shows) stands
 
-  pub resolve-exported : {w w′ a a′ : List ℕ} {n : ℕ} → roomy w a ≡ true → c ≡ stateOf w → ToldBy answerTelling w w′ a a′ o n
+  pub resolve-exported : {w w′ a a′ : List ℕ} {n : ℕ} → roomy stateRoom w a ≡ true → c ≡ stateOf w → ToldBy written answerTelling w w′ a a′ o n
       → ExportedResolve l r g m m′ k k′ w w′ a a′ n
   resolve-exported {w} {w′} {a} {a′} {n} room e u =
       let x = list-exported (resolve-tells l r g) called answerWords (answerRead k′) (answerTelling o) shows room e (u .is) in
@@ -163,33 +161,17 @@ module _ {l r : List ℕ} {g : ℤ} {m m′ : Lent} {k k′ : List ℕ} {c : Sta
       ∙ ap (λ (d : State). listCall k (resolveArguments l r g) (resolve l r g) m d) (sym e) ∙ sym (called .store .says) in
       record {
         is = x;
-        worth = list-worth (resolve-tells l r g) called answerWords (answerRead k′) (answerTelling o) shows room e (u .is) (λ s′ y z. subst (λ (d : State). Sound (storeOf m d) s′ l r y) e (here .worth s′ y z));
-        once = list-worth (resolve-tells l r g) called answerWords (answerRead k′) (answerTelling o) shows room e (u .is) (λ s′ y z. subst (λ (d : State). EachOnce (storeOf m d .reasons) (s′ .reasons)) e (here .once s′ y z));
+        worth = list-worth (resolve-tells l r g) called answerWords (answerRead k′) (answerTelling o) shows room e (u .is) (λ d s′ y. Sound (storeOf m d) s′ l r y) (here .worth);
+        once = list-once (resolve-tells l r g) called answerWords (answerRead k′) (answerTelling o) shows room e (u .is) (here .once);
         grows = λ z y. grown z y;
         decides = λ v f i. subst (λ (d : State). Decides (storeOf m d) l r (told n w′ m′ (answerRead k′ a′))) e
             (subst (Decides (storeOf m c) l r) (sym q) (here .decides v (subst (λ (d : State). Repeated (storeOf m d) v l r) (sym e) f) (λ j z. i j (q ∙ z))));
       }
     where
-      Grown : Store → Answer → Type 0
-      Grown s′ x = (atoms : List ℕ) (h : ℤ) (i : ℕ) → x ≡ split atoms h i → count s′ ≡ i + count (storeOf m (stateOf w))
+      Grown : State → Store → Answer → Type 0
+      Grown d s′ x = (atoms : List ℕ) (h : ℤ) (i : ℕ) → x ≡ split atoms h i → count s′ ≡ i + count (storeOf m d)
 
       grown : n ≡ 0 → getD a′ 0 0 ≡ 4 → getD w′ 0 0 ≡ getD a′ 3 0 + getD w 0 0
       grown z y =
-          let f = list-worth (resolve-tells l r g) called answerWords (answerRead k′) (answerTelling o) shows room e (u .is) {P = Grown} (λ s′ x q atoms h i p. subst (λ (d : State). count s′ ≡ i + count (storeOf m d)) e (here .grows s′ atoms h i (q ∙ ap (ok s′) p))) z in
+          let f = list-worth (resolve-tells l r g) called answerWords (answerRead k′) (answerTelling o) shows room e (u .is) Grown (λ s′ x q atoms h i p. here .grows s′ atoms h i (q ∙ ap (ok s′) p)) z in
           sym (counted m′ w′) ∙ f _ _ _ (ap (λ (j : ℕ). answerBy j k′ a′) y) ∙ ap (λ (j : ℕ). getD a′ 3 0 + j) (counted m w)
-
--- TELLING
-
-module _ {R : Type 0} {f : R → Telling} {r : R} {w w′ a a′ : List ℕ} {k : ℕ} {c : State} where
-  -- words that are the telling's own
-  told-as : {v v′ : List ℕ} → f r ≡ tells c v → v′ ≡ v → ToldWords w w′ a a′ (tells c v′) k → ToldBy f w w′ a a′ r k
-  told-as e q t = told-by (e ∙ ap (tells c) (sym q)) t
-
-  pub told-flag : {x y z u u′ : ℕ} → f r ≡ tells c (x ∷ y ∷ z ∷ u ∷ []) → u′ ≡ u → ToldWords w w′ a a′ (tells c (x ∷ y ∷ z ∷ u′ ∷ [])) k → ToldBy f w w′ a a′ r k
-  told-flag {x} {y} {z} e q t = told-as e (ap (λ (v : ℕ). x ∷ y ∷ z ∷ v ∷ []) q) t
-
-  pub told-third : {x y u u′ : ℕ} → f r ≡ tells c (x ∷ y ∷ u ∷ []) → u′ ≡ u → ToldWords w w′ a a′ (tells c (x ∷ y ∷ u′ ∷ [])) k → ToldBy f w w′ a a′ r k
-  told-third {x} {y} e q t = told-as e (ap (λ (v : ℕ). x ∷ y ∷ v ∷ []) q) t
-
-  pub told-guard : {x y z : ℕ} {g : ℤ} {u : ℕ} → f r ≡ tells c (x ∷ y ∷ ofZ w32 g ∷ z ∷ []) → SFits w32 g → u ≡ ofZ w32 (toZ w32 (ofZ w32 g)) → ToldWords w w′ a a′ (tells c (x ∷ y ∷ u ∷ z ∷ [])) k → ToldBy f w w′ a a′ r k
-  told-guard {x} {y} {z} {g} e h q t = told-as e (ap (λ (v : ℕ). x ∷ y ∷ v ∷ z ∷ []) (q ∙ ap (ofZ w32) (toZ-ofZ w32 g h))) t

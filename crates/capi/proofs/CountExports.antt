@@ -12,9 +12,10 @@ use Rattle.records.specs.declared.Added.{Added}
 use Rattle.records.specs.declared.Added.the-variants as adding
 use Rattle.records.specs.Store.{Store, ok, stop, Work}
 use Rattle.records.specs.View.{Lent, storeOf}
+use Rattle.records.specs.Make.{EachOnce}
 use Rattle.records.specs.Calls.{call, Public, added, fullAlone}
-use Rattle.capi.specs.Interface.{stateOf, over, Exported}
-use Rattle.capi.specs.Working.Leaves.{Narrow, ToldBy, addedTelling}
+use Rattle.capi.specs.Interface.{stateOf, stateRoom, over, Exported}
+use Rattle.capi.specs.Working.Leaves.{written, Narrow, ToldBy, addedTelling}
 use Rattle.capi.proofs.Exports.{Tells, narrow, call-audited, call-stops, Shows, told-exported, told-worth, told-stop}
 
 abbrev noWords : Unit {0} → List ℕ
@@ -34,14 +35,18 @@ module _ {fit : Store → Bool} {work : Work (Unit {0})} (can : Tells fit work) 
   stops : added r m′ ≡ stop 0 → ⊥
   stops e = call-stops can m c 0 (sym (called .says) ∙ e) refl
 
-  module _ {w w′ : List ℕ} {k : ℕ} (t : ToldBy addedTelling w w′ [] [] r k) where
-    pub counts-exported : 6 ≤ length w → c ≡ stateOf w → Exported (over (leb 6 (length w)) (call fit work m (stateOf w))) m m′ w w′ 0 [] [] tt k
+  module _ {w w′ : List ℕ} {k : ℕ} (t : ToldBy written addedTelling w w′ [] [] r k) where
+    pub counts-exported : stateRoom ≤ length w → c ≡ stateOf w → Exported (over (leb stateRoom (length w)) (call fit work m (stateOf w))) m m′ w w′ 0 [] [] tt k
     counts-exported room e =
-        told-exported 0 noWords noRead m′ (added r m′) (addedTelling r) (added-shows r m′) stops (t .is) (le-leb 6 (length w) room) room (omega arith)
+        told-exported 0 noWords noRead m′ (added r m′) (addedTelling r) (added-shows r m′) stops (t .is) (le-leb stateRoom (length w) room) room (omega arith)
         (subst (λ (d : State). Public (call fit work m d) m m′ d (added r m′)) e called) .is
 
-    pub counts-worth : {P : Store → Type 0} → ((s′ : Store) → added r m′ ≡ ok s′ tt → P s′) → k ≡ 0 → P (storeOf m′ (stateOf w′))
-    counts-worth {P} f z = told-worth 0 noWords noRead m′ (added r m′) (addedTelling r) (added-shows r m′) stops (t .is) {P = λ s u. P s} (λ s′ u q. f s′ q) z
+    -- what the call says of the counts at entry holds of those read off
+    pub counts-worth : (P : State → Store → Type 0) → c ≡ stateOf w → ((s′ : Store) → added r m′ ≡ ok s′ tt → P c s′) → k ≡ 0 → P (stateOf w) (storeOf m′ (stateOf w′))
+    counts-worth P e f z = told-worth 0 noWords noRead m′ (added r m′) (addedTelling r) (added-shows r m′) stops (t .is) {P = λ s u. P (stateOf w) s} (λ s′ u q. subst (λ (d : State). P d s′) e (f s′ q)) z
+
+    pub counts-once : c ≡ stateOf w → ((s′ : Store) → added r m′ ≡ ok s′ tt → EachOnce (storeOf m c .reasons) (s′ .reasons)) → k ≡ 0 → EachOnce (storeOf m (stateOf w) .reasons) (storeOf m′ (stateOf w′) .reasons)
+    counts-once e f z = counts-worth (λ d s′. EachOnce (storeOf m d .reasons) (s′ .reasons)) e f z
 
     -- what holds of every stop's number holds of the result, where it is a refusal
     pub counts-full : ((j : ℕ) → added r m′ ≡ stop j → fullAlone j) → fullAlone k

@@ -17,8 +17,8 @@ use Rattle.records.specs.Calls.{call, checked, unless, Public, made}
 use Rattle.records.proofs.Lists.{table-length}
 use Rattle.records.proofs.Works.{stop-not}
 use Rattle.records.proofs.Passed.{ready-of}
-use Rattle.capi.specs.Interface.{stateOf, Beyond, roomy, over, Exported, Answered}
-use Rattle.capi.specs.Working.Leaves.{Narrow, Telling, tells, refuses, numberOf, stateWith, answerWith, ToldWords, ToldBy, madeTelling}
+use Rattle.capi.specs.Interface.{stateOf, Beyond, stateRoom, answerRoom, roomy, over, Exported, Answered}
+use Rattle.capi.specs.Working.Leaves.{written, Narrow, Telling, tells, refuses, numberOf, stateWith, answerWith, ToldWords, ToldBy, madeTelling}
 use Rattle.capi.proofs.Words.{beyond-same, beyond-written, beyond-words, roomy-state, roomy-answer}
 
 -- the counts of an audited store are within their limits
@@ -65,7 +65,7 @@ module _ {A : Type 0} {fit : Store → Bool} {work : Work A} (can : Tells fit wo
 pub untold : {A : Type 0} {b : Bool} (o : Out A) (m : Lent) (w : List ℕ) (n : ℕ) (a : List ℕ) (x : A) → b ≡ false → Exported (over b o) m m w w n a a x 1
 untold o m w n a x e = record {
   public = record { says = rw e; idle = λ k z l. refl; kept = refl; passes = λ d y q. stop-not q };
-  state = beyond-same 6 w;
+  state = beyond-same stateRoom w;
   answer = beyond-same n a;
   state-idle = λ z. refl;
   answer-idle = λ z. refl;
@@ -86,17 +86,17 @@ module _ {A : Type 0} (n : ℕ) (words : A → List ℕ) (read : List ℕ → A)
     pub few : length v ≤ n
     pub back : (z : List ℕ) → read (v ++ z) ≡ value
 
-  abbrev pub Shows : Telling → Type 0
+  abbrev pub Shows : Telling State → Type 0
   Shows (tells d v) = Gives d v
   Shows (refuses k) = r ≡ stop k
 
 -- what the words left say is the outcome
-module _ {A : Type 0} (n : ℕ) (words : A → List ℕ) (read : List ℕ → A) (m′ : Lent) (r : Out A) (T : Telling) (shows : Shows n words read m′ r T) (stops : r ≡ stop 0 → ⊥)
-    {w w′ a a′ : List ℕ} {k : ℕ} (t : ToldWords w w′ a a′ T k) where
-  pub told-exported : {o : Out A} {b : Bool} {m : Lent} → b ≡ true → 6 ≤ length w → n ≤ length a → Public o m m′ (stateOf w) r → Answered (over b o) words m m′ w w′ a a′ (read a′) k
+module _ {A : Type 0} (n : ℕ) (words : A → List ℕ) (read : List ℕ → A) (m′ : Lent) (r : Out A) (T : Telling State) (shows : Shows n words read m′ r T) (stops : r ≡ stop 0 → ⊥)
+    {w w′ a a′ : List ℕ} {k : ℕ} (t : ToldWords written w w′ a a′ T k) where
+  pub told-exported : {o : Out A} {b : Bool} {m : Lent} → b ≡ true → stateRoom ≤ length w → n ≤ length a → Public o m m′ (stateOf w) r → Answered (over b o) words m m′ w w′ a a′ (read a′) k
   told-exported {o} {b} {m} room six wide called = go T shows (t .code) (t .state) (t .answer)
     where
-      go : (x : Telling) → Shows n words read m′ r x → k ≡ numberOf x → w′ ≡ stateWith x w → a′ ≡ answerWith x a → Answered (over b o) words m m′ w w′ a a′ (read a′) k
+      go : (x : Telling State) → Shows n words read m′ r x → k ≡ numberOf x → w′ ≡ stateWith written x w → a′ ≡ answerWith x a → Answered (over b o) words m m′ w w′ a a′ (read a′) k
       go (tells d v) s f g h =
           let y = s .back (drop (length v) a) in
           let p : words (read (v ++ drop (length v) a)) ≡ v = ap words y ∙ sym (s .spelt) in
@@ -115,7 +115,7 @@ module _ {A : Type 0} (n : ℕ) (words : A → List ℕ) (read : List ℕ → A)
           rw (f, g, h) (record {
             is = record {
               public = told-public room (sym s) called;
-              state = beyond-same 6 w;
+              state = beyond-same stateRoom w;
               answer = beyond-same (length (words (read a))) a;
               state-idle = λ z. refl;
               answer-idle = λ z. refl;
@@ -126,7 +126,7 @@ module _ {A : Type 0} (n : ℕ) (words : A → List ℕ) (read : List ℕ → A)
   pub told-worth : {P : Store → A → Type 0} → ((s′ : Store) (x : A) → r ≡ ok s′ x → P s′ x) → k ≡ 0 → P (storeOf m′ (stateOf w′)) (read a′)
   told-worth {P} f z = go T shows (t .code) (t .state) (t .answer)
     where
-      go : (x : Telling) → Shows n words read m′ r x → k ≡ numberOf x → w′ ≡ stateWith x w → a′ ≡ answerWith x a → P (storeOf m′ (stateOf w′)) (read a′)
+      go : (x : Telling State) → Shows n words read m′ r x → k ≡ numberOf x → w′ ≡ stateWith written x w → a′ ≡ answerWith x a → P (storeOf m′ (stateOf w′)) (read a′)
       go (tells d v) s p g h = rw (g, h) (subst (P (storeOf m′ d)) (sym (s .back (drop (length v) a))) (f (storeOf m′ d) (s .value) (s .outcome)))
       go (refuses zero) s p g h = absurd (stops s)
       go (refuses (suc j)) s p g h = absurd (omega arith)
@@ -134,9 +134,24 @@ module _ {A : Type 0} (n : ℕ) (words : A → List ℕ) (read : List ℕ → A)
   pub told-stop : (k ≡ 0 → ⊥) → r ≡ stop k
   told-stop z = go T shows (t .code)
     where
-      go : (x : Telling) → Shows n words read m′ r x → k ≡ numberOf x → r ≡ stop k
+      go : (x : Telling State) → Shows n words read m′ r x → k ≡ numberOf x → r ≡ stop k
       go (tells d v) s p = absurd (z p)
       go (refuses j) s p = s ∙ ap stop (sym p)
+
+-- A CALL WITH AN ANSWER
+
+module _ {A : Type 0} {fit : Store → Bool} {work : Work A} (can : Tells fit work) {m m′ : Lent} {c : State} {r : Out A} (called : Public (call fit work m c) m m′ c r)
+    (words : A → List ℕ) (read : List ℕ → A) (T : Telling State) (shows : Shows answerRoom words read m′ r T) {w w′ a a′ : List ℕ} {k : ℕ} (room : roomy stateRoom w a ≡ true) (e : c ≡ stateOf w)
+    (t : ToldWords written w w′ a a′ T k) where
+  stops : r ≡ stop 0 → ⊥
+  stops q = call-stops can m c 0 (sym (called .says) ∙ q) refl
+
+  pub call-exported : Answered (over (roomy stateRoom w a) (call fit work m (stateOf w))) words m m′ w w′ a a′ (read a′) k
+  call-exported =
+      told-exported answerRoom words read m′ r T shows stops t room (roomy-state stateRoom w a room) (roomy-answer stateRoom w a room) (subst (λ (d : State). Public (call fit work m d) m m′ d r) e called)
+
+  pub call-worth : {P : Store → A → Type 0} → ((s′ : Store) (x : A) → r ≡ ok s′ x → P s′ x) → k ≡ 0 → P (storeOf m′ (stateOf w′)) (read a′)
+  call-worth {P} f z = told-worth answerRoom words read m′ r T shows stops t {P = P} f z
 
 -- A CALL THAT ANSWERS A NUMBER
 
@@ -146,7 +161,7 @@ numberWords x = x ∷ []
 abbrev pub numberRead : List ℕ → ℕ
 numberRead a = getD a 0 0
 
-made-shows : (r : Made) (m′ : Lent) → Shows 8 numberWords numberRead m′ (made r m′) (madeTelling r)
+made-shows : (r : Made) (m′ : Lent) → Shows answerRoom numberWords numberRead m′ (made r m′) (madeTelling r)
 made-shows (Term t c) m′ = record { value = t; outcome = refl; spelt = refl; few = omega arith; back = λ z. refl }
 made-shows (Refused k) m′ = refl
 
@@ -154,8 +169,6 @@ module _ {fit : Store → Bool} {work : Work ℕ} (can : Tells fit work) {m m′
   pub tellable : (t : ℕ) (d : State) → r ≡ Term t d → Narrow d
   tellable t d e = narrow m′ d (call-audited can m c (storeOf m′ d) t (sym (called .says) ∙ ap (λ (x : Made). made x m′) e))
 
-  pub exported : {w w′ a a′ : List ℕ} {k : ℕ} → roomy w a ≡ true → c ≡ stateOf w → ToldBy madeTelling w w′ a a′ r k
-      → Exported (over (roomy w a) (call fit work m (stateOf w))) m m′ w w′ 1 a a′ (getD a′ 0 0) k
-  exported {w} {w′} {a} room e t =
-      told-exported 8 numberWords numberRead m′ (made r m′) (madeTelling r) (made-shows r m′) (λ q. call-stops can m c 0 (sym (called .says) ∙ q) refl) (t .is) room (roomy-state w a room) (roomy-answer w a room)
-      (subst (λ (d : State). Public (call fit work m d) m m′ d (made r m′)) e called) .is
+  pub exported : {w w′ a a′ : List ℕ} {k : ℕ} → roomy stateRoom w a ≡ true → c ≡ stateOf w → ToldBy written madeTelling w w′ a a′ r k
+      → Exported (over (roomy stateRoom w a) (call fit work m (stateOf w))) m m′ w w′ 1 a a′ (getD a′ 0 0) k
+  exported room e t = call-exported can called numberWords numberRead (madeTelling r) (made-shows r m′) room e (t .is) .is

@@ -1,5 +1,5 @@
 -- The normal forms, told in words.
-use mathlib.Core.Path.{_≡_, refl, sym, ap, subst, _∙_}
+use mathlib.Core.Path.{_≡_, refl, sym, ap, _∙_}
 use mathlib.Core.Bool.{true, false}
 use mathlib.Core.List.{List, [], _∷_}
 use mathlib.Core.Option.{Option, none, some}
@@ -9,7 +9,6 @@ use lib.ListN.{length, getD}
 use Rattle.records.specs.declared.State.{State}
 use Rattle.records.specs.Store.{Store, ok}
 use Rattle.records.specs.View.{Lent, storeOf}
-use Rattle.records.specs.Make.{EachOnce}
 use Rattle.records.specs.Rules.{listLimit}
 use Rattle.records.specs.Working.Audited.{Audited}
 use Rattle.records.proofs.Lists.{table-length}
@@ -22,11 +21,11 @@ use Rattle.normalize.specs.Meaning.{Forms, DeepForms}
 use Rattle.normalize.specs.Calls.{firstWords, formed, deepened, PublicForm, PublicDeepForm}
 use Rattle.normalize.proofs.Formed.{form-gives, form-kept, form-stops}
 use Rattle.normalize.proofs.Deep.{deep-gives, deep-kept, deep-stops}
-use Rattle.capi.specs.Interface.{stateOf, roomy}
+use Rattle.capi.specs.Interface.{stateOf, stateRoom, answerRoom, roomy}
 use Rattle.capi.specs.Forms.{formWords, deepWords, formRead, deepRead, ExportedForm, ExportedDeepForm}
-use Rattle.capi.specs.Working.Leaves.{Narrow, NarrowList, formTelling, deepTelling, ToldBy}
+use Rattle.capi.specs.Working.Leaves.{written, Narrow, NarrowList, formTelling, deepTelling, ToldBy}
 use Rattle.capi.proofs.Exports.{Tells, Shows}
-use Rattle.capi.proofs.Listings.{list-gives, list-narrow, list-exported, list-worth, untold-list}
+use Rattle.capi.proofs.Listings.{list-gives, list-narrow, list-exported, list-worth, list-once, untold-list}
 
 module _ (known : List ℕ) (t : ℕ) where
   pub form-tells : Tells (formArguments known t) (normalForm known t)
@@ -52,7 +51,7 @@ deep-short known t s s′ (some x) a f e = deep-gives known t s a f s′ x e .lo
 
 -- THE NORMAL FORM
 
-form-shows : (r : Form) (m′ : Lent) (l′ : List ℕ) → Shows 8 formWords (formRead l′) m′ (formed r m′ l′) (formTelling r)
+form-shows : (r : Form) (m′ : Lent) (l′ : List ℕ) → Shows answerRoom formWords (formRead l′) m′ (formed r m′ l′) (formTelling r)
 form-shows (form.List n d) m′ l′ = record {
   value = firstWords l′ n;
   outcome = refl;
@@ -62,7 +61,7 @@ form-shows (form.List n d) m′ l′ = record {
 }
 form-shows (form.Refused k) m′ l′ = refl
 
-pub form-untold : (known : List ℕ) (t : ℕ) (m : Lent) (l w a : List ℕ) → roomy w a ≡ false → ExportedForm known t m m l l w w a a 1
+pub form-untold : (known : List ℕ) (t : ℕ) (m : Lent) (l w a : List ℕ) → roomy stateRoom w a ≡ false → ExportedForm known t m m l l w w a a 1
 form-untold known t m l w a e = record { is = untold-list _ formWords m l w a _ e; worth = λ z. absurd (omega arith); once = λ z. absurd (omega arith) }
 
 module _ {known : List ℕ} {t : ℕ} {m m′ : Lent} {l l′ : List ℕ} {c : State} {r : Form} (called : PublicForm known t m m′ l l′ c (formed r m′ l′)) where
@@ -77,16 +76,16 @@ module _ {known : List ℕ} {t : ℕ} {m m′ : Lent} {l l′ : List ℕ} {c : S
           let i = rw table-length at h in
           omega arith
 
-  pub form-exported : {w w′ a a′ : List ℕ} {k : ℕ} → roomy w a ≡ true → c ≡ stateOf w → ToldBy formTelling w w′ a a′ r k → ExportedForm known t m m′ l l′ w w′ a a′ k
+  pub form-exported : {w w′ a a′ : List ℕ} {k : ℕ} → roomy stateRoom w a ≡ true → c ≡ stateOf w → ToldBy written formTelling w w′ a a′ r k → ExportedForm known t m m′ l l′ w w′ a a′ k
   form-exported room e u = record {
     is = list-exported (form-tells known t) (called .is) formWords (formRead l′) (formTelling r) (form-shows r m′ l′) room e (u .is);
-    worth = list-worth (form-tells known t) (called .is) formWords (formRead l′) (formTelling r) (form-shows r m′ l′) room e (u .is) (λ s′ x q. subst (λ (d : State). Forms (storeOf m d) s′ t x) e (called .worth s′ x q));
-    once = list-worth (form-tells known t) (called .is) formWords (formRead l′) (formTelling r) (form-shows r m′ l′) room e (u .is) (λ s′ x q. subst (λ (d : State). EachOnce (storeOf m d .reasons) (s′ .reasons)) e (called .once s′ x q));
+    worth = list-worth (form-tells known t) (called .is) formWords (formRead l′) (formTelling r) (form-shows r m′ l′) room e (u .is) (λ d s′ x. Forms (storeOf m d) s′ t x) (called .worth);
+    once = list-once (form-tells known t) (called .is) formWords (formRead l′) (formTelling r) (form-shows r m′ l′) room e (u .is) (called .once);
   }
 
 -- THE DEEP FORM
 
-deep-shows : (r : DeepForm) (m′ : Lent) (l′ : List ℕ) → Shows 8 deepWords (deepRead l′) m′ (deepened r m′ l′) (deepTelling r)
+deep-shows : (r : DeepForm) (m′ : Lent) (l′ : List ℕ) → Shows answerRoom deepWords (deepRead l′) m′ (deepened r m′ l′) (deepTelling r)
 deep-shows (deep.List n d) m′ l′ = record {
   value = some (firstWords l′ n);
   outcome = refl;
@@ -97,7 +96,7 @@ deep-shows (deep.List n d) m′ l′ = record {
 deep-shows (deep.None d) m′ l′ = record { value = none; outcome = refl; spelt = refl; few = omega arith; back = λ z. refl }
 deep-shows (deep.Refused k) m′ l′ = refl
 
-pub deep-untold : (known : List ℕ) (t : ℕ) (m : Lent) (l w a : List ℕ) → roomy w a ≡ false → ExportedDeepForm known t m m l l w w a a 1
+pub deep-untold : (known : List ℕ) (t : ℕ) (m : Lent) (l w a : List ℕ) → roomy stateRoom w a ≡ false → ExportedDeepForm known t m m l l w w a a 1
 deep-untold known t m l w a e = record { is = untold-list _ deepWords m l w a _ e; worth = λ z. absurd (omega arith); once = λ z. absurd (omega arith) }
 
 module _ {known : List ℕ} {t : ℕ} {m m′ : Lent} {l l′ : List ℕ} {c : State} {r : DeepForm} (called : PublicDeepForm known t m m′ l l′ c (deepened r m′ l′)) where
@@ -115,9 +114,9 @@ module _ {known : List ℕ} {t : ℕ} {m m′ : Lent} {l l′ : List ℕ} {c : S
   pub none-tellable : (d : State) → r ≡ deep.None d → Narrow d
   none-tellable d e = list-narrow (deep-tells known t) (called .is) d none (ap (λ (x : DeepForm). deepened x m′ l′) e)
 
-  pub deep-exported : {w w′ a a′ : List ℕ} {k : ℕ} → roomy w a ≡ true → c ≡ stateOf w → ToldBy deepTelling w w′ a a′ r k → ExportedDeepForm known t m m′ l l′ w w′ a a′ k
+  pub deep-exported : {w w′ a a′ : List ℕ} {k : ℕ} → roomy stateRoom w a ≡ true → c ≡ stateOf w → ToldBy written deepTelling w w′ a a′ r k → ExportedDeepForm known t m m′ l l′ w w′ a a′ k
   deep-exported room e u = record {
     is = list-exported (deep-tells known t) (called .is) deepWords (deepRead l′) (deepTelling r) (deep-shows r m′ l′) room e (u .is);
-    worth = list-worth (deep-tells known t) (called .is) deepWords (deepRead l′) (deepTelling r) (deep-shows r m′ l′) room e (u .is) (λ s′ x q. subst (λ (d : State). DeepForms (storeOf m d) s′ t x) e (called .worth s′ x q));
-    once = list-worth (deep-tells known t) (called .is) deepWords (deepRead l′) (deepTelling r) (deep-shows r m′ l′) room e (u .is) (λ s′ x q. subst (λ (d : State). EachOnce (storeOf m d .reasons) (s′ .reasons)) e (called .once s′ x q));
+    worth = list-worth (deep-tells known t) (called .is) deepWords (deepRead l′) (deepTelling r) (deep-shows r m′ l′) room e (u .is) (λ d s′ x. DeepForms (storeOf m d) s′ t x) (called .worth);
+    once = list-once (deep-tells known t) (called .is) deepWords (deepRead l′) (deepTelling r) (deep-shows r m′ l′) room e (u .is) (called .once);
   }

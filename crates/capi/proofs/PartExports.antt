@@ -2,11 +2,11 @@
 use mathlib.Core.Path.{_≡_, refl, sym, ap, subst, _∙_}
 use mathlib.Core.Bool.{Bool, true, false}
 use mathlib.Core.List.{List, [], _∷_}
-use Prim.Native.Nat.{ℕ, _≤_, _<_}
+use Prim.Native.Nat.{ℕ, _≤_}
 use native.Mathlib.Omega.{arith}
 use lib.ListN.{length, getD}
 use Rattle.records.specs.declared.State.{State}
-use Rattle.records.specs.Store.{Store, Out, ok, stop}
+use Rattle.records.specs.Store.{ok}
 use Rattle.records.specs.View.{Lent, storeOf}
 use Rattle.records.specs.Rules.{listLimit}
 use Rattle.records.proofs.Lists.{table-length}
@@ -18,11 +18,11 @@ use Rattle.empties.specs.Empties.{Parts, emptyParts}
 use Rattle.empties.specs.Meaning.{Becomes}
 use Rattle.empties.specs.Repeats.{Repeats}
 use Rattle.empties.specs.Calls.{listed, PublicEmpties}
-use Rattle.empties.proofs.Given.{parts-later, parts-few, parts-stops}
-use Rattle.capi.specs.Interface.{stateOf, roomy, over, told}
+use Rattle.empties.proofs.EmptyParts.{parts-later, parts-few, parts-stops}
+use Rattle.capi.specs.Interface.{stateOf, stateRoom, answerRoom, roomy, over, told}
 use Rattle.capi.specs.Equations.{flag}
 use Rattle.capi.specs.Parts.{partsWords, partsRead, ExportedParts}
-use Rattle.capi.specs.Working.Leaves.{NarrowList, ToldBy}
+use Rattle.capi.specs.Working.Leaves.{written, NarrowList, ToldBy}
 use Rattle.capi.specs.Working.Parting.{partsTelling, NarrowParts}
 use Rattle.capi.proofs.Exports.{Tells, Shows}
 use Rattle.capi.proofs.Listings.{list-gives, list-narrow, list-exported, list-worth, untold-list}
@@ -34,7 +34,7 @@ parts-tells l r = record {
   stops = λ s n a f e z. let q = parts-stops l r s n e in absurd (omega arith);
 }
 
-parts-shows : (o : Empties) (m′ : Lent) (k′ : List ℕ) → Shows 8 partsWords (partsRead k′) m′ (listed o m′ k′) (partsTelling o)
+parts-shows : (o : Empties) (m′ : Lent) (k′ : List ℕ) → Shows answerRoom partsWords (partsRead k′) m′ (listed o m′ k′) (partsTelling o)
 parts-shows (empties.Parts c e n f) m′ k′ = record {
   value = record { empty = e; listed = firstWords k′ n; link = f };
   outcome = refl;
@@ -44,7 +44,7 @@ parts-shows (empties.Parts c e n f) m′ k′ = record {
 }
 parts-shows (empties.Refused k) m′ k′ = refl
 
-pub parts-untold : (l r : List ℕ) (m : Lent) (k w a : List ℕ) → roomy w a ≡ false → ExportedParts l r m m k k w w a a 1
+pub parts-untold : (l r : List ℕ) (m : Lent) (k w a : List ℕ) → roomy stateRoom w a ≡ false → ExportedParts l r m m k k w w a a 1
 parts-untold l r m k w a e = record { is = untold-list _ partsWords m k w a _ e; repeats = λ f. absurd (f 1 refl (omega arith)); worth = λ z. absurd (omega arith) }
 
 module _ {l r : List ℕ} {m m′ : Lent} {k k′ : List ℕ} {c : State} {o : Empties} (called : PublicEmpties l r m m′ k k′ c (listed o m′ k′)) where
@@ -57,7 +57,7 @@ module _ {l r : List ℕ} {m m′ : Lent} {k k′ : List ℕ} {c : State} {o : E
           let i = table-length (λ j. getD k′ j 0) n in
           record { counts = list-narrow (parts-tells l r) (called .is) d _ q; list = omega arith }
 
-  pub parts-exported : {w w′ a a′ : List ℕ} {n : ℕ} → roomy w a ≡ true → c ≡ stateOf w → ToldBy partsTelling w w′ a a′ o n → ExportedParts l r m m′ k k′ w w′ a a′ n
+  pub parts-exported : {w w′ a a′ : List ℕ} {n : ℕ} → roomy stateRoom w a ≡ true → c ≡ stateOf w → ToldBy written partsTelling w w′ a a′ o n → ExportedParts l r m m′ k k′ w w′ a a′ n
   parts-exported {w} {w′} {a} {a′} {n} room e u =
       let x = list-exported (parts-tells l r) (called .is) partsWords (partsRead k′) (partsTelling o) (parts-shows o m′ k′) room e (u .is) in
       let q : told n w′ m′ (partsRead k′ a′) ≡ listed o m′ k′ =
@@ -68,5 +68,5 @@ module _ {l r : List ℕ} {m m′ : Lent} {k k′ : List ℕ} {c : State} {o : E
         repeats = λ f. subst (λ (d : State). Repeats (storeOf m d) l r (told n w′ m′ (partsRead k′ a′))) e
             (subst (Repeats (storeOf m c) l r) (sym q) (called .repeats (λ j i. f j (q ∙ i))));
         worth = list-worth (parts-tells l r) (called .is) partsWords (partsRead k′) (partsTelling o) (parts-shows o m′ k′) room e (u .is)
-            (λ s′ y z. subst (λ (d : State). Becomes (storeOf m d) s′ l r y) e (called .worth s′ y z));
+            (λ d s′ y. Becomes (storeOf m d) s′ l r y) (called .worth);
       }

@@ -5,95 +5,59 @@ use mathlib.Core.List.{List, [], _∷_}
 use mathlib.Core.Option.{Option, none, some}
 use Prim.Native.Nat.{ℕ, zero, suc, _≤_, _<_}
 use native.Mathlib.Omega.{arith}
-use lib.ListN.{length, getD, set}
+use lib.ListN.{length, getD, set, length-set}
+use lib.Seq.{take-set-le, drop-set-lt, set-getD, getD-set-same, getD-set-other}
 use lib.Dec.{leb, ltb}
 use borrow.Author.Tests.{leb-true, lt-leb, le-leb}
 use Rattle.records.specs.declared.State.{State}
 use Rattle.records.specs.Lists.{table, oneMore}
 use Rattle.records.specs.Store.{Term, Store, within, sameClass}
 use Rattle.records.specs.View.{Lent, storeOf, sizes}
-use Rattle.records.proofs.Lists.{both-left, both-right, left-false, and-next, decide, table-length}
+use Rattle.records.proofs.Lists.{both-left, both-right, decide, table-length}
 use Rattle.classes.specs.declared.Standing.{Standing}
 use Rattle.classes.specs.declared.Answer.{Answer}
 use Rattle.classes.specs.declared.Answer.the-variants.{Given, Refused}
 use Rattle.classes.specs.Joins.{Trace, traceOf}
 use Rattle.classes.specs.Marks.{Trail, markLimit, joinLimit, traceAt, trailOf, trailSizes, tableAt, auditMarks}
 use Rattle.classes.specs.Calls.{Outcome, gives, refuses, joinArguments, recorded, joinTerms, setMark, joinsAt, gone, goBack, unless, tracked, answered, Tracks, PublicJoin}
-use Rattle.capi.specs.Interface.{stateOf, Beyond}
-use Rattle.capi.specs.Marks.{standingOf, spacious, Inside, Promise, readAs, ExportedMarks}
-use Rattle.capi.specs.Working.Standings.{standingIn, NarrowStanding, NarrowGiven, codeOf, stateAfter, answerAfter, ToldStanding, ToldAnswer}
-use Rattle.capi.proofs.Words.{beyond-same}
+use Rattle.capi.specs.Interface.{stateOf, Beyond, answerRoom, roomy}
+use Rattle.capi.specs.Marks.{standingOf, markedRoom, Inside, Promise, ExportedMarks}
+use Rattle.capi.specs.Working.Leaves.{putFirst, answerWith, ToldWords, ToldBy}
+use Rattle.capi.specs.Working.Standings.{standingIn, NarrowStanding, NarrowGiven, givenTelling, numberTelling, standingTelling}
+use Rattle.capi.proofs.Words.{beyond-same, beyond-words, roomy-state, roomy-answer}
 
--- THE STATE'S EIGHT WORDS
-
-data Eight : List ℕ → Type 0 where
-  eight : (x0 x1 x2 x3 x4 x5 x6 x7 : ℕ) (w : List ℕ) → Eight (x0 ∷ x1 ∷ x2 ∷ x3 ∷ x4 ∷ x5 ∷ x6 ∷ x7 ∷ w)
-
-eight-of : (w : List ℕ) → 8 ≤ length w → Eight w
-eight-of [] h = absurd (omega arith)
-eight-of (x0 ∷ []) h = absurd (omega arith)
-eight-of (x0 ∷ x1 ∷ []) h = absurd (omega arith)
-eight-of (x0 ∷ x1 ∷ x2 ∷ []) h = absurd (omega arith)
-eight-of (x0 ∷ x1 ∷ x2 ∷ x3 ∷ []) h = absurd (omega arith)
-eight-of (x0 ∷ x1 ∷ x2 ∷ x3 ∷ x4 ∷ []) h = absurd (omega arith)
-eight-of (x0 ∷ x1 ∷ x2 ∷ x3 ∷ x4 ∷ x5 ∷ []) h = absurd (omega arith)
-eight-of (x0 ∷ x1 ∷ x2 ∷ x3 ∷ x4 ∷ x5 ∷ x6 ∷ []) h = absurd (omega arith)
-eight-of (x0 ∷ x1 ∷ x2 ∷ x3 ∷ x4 ∷ x5 ∷ x6 ∷ x7 ∷ w) h = eight x0 x1 x2 x3 x4 x5 x6 x7 w
+-- THE COUNTS OF MARKS AND JOINS
 
 inside-same : (i j : ℕ) (w : List ℕ) → Inside i j w w
 inside-same i j w = record { length-is = refl; first = refl; rest = refl }
 
-module _ (e : Standing) where
-  back : {w : List ℕ} → Eight w → standingOf (standingIn e w) ≡ e
-  back (eight x0 x1 x2 x3 x4 x5 x6 x7 w) = refl
-
-  -- the two words, one of them as it was or neither
-  inside-both : {w : List ℕ} → Eight w → Inside 6 8 w (standingIn e w)
-  inside-both (eight x0 x1 x2 x3 x4 x5 x6 x7 w) = record { length-is = refl; first = refl; rest = refl }
-
-  inside-joins : {w : List ℕ} → Eight w → e .marks ≡ getD w 6 0 → Inside 7 8 w (standingIn e w)
-  inside-joins (eight x0 x1 x2 x3 x4 x5 x6 x7 w) p = record { length-is = refl; first = rw p; rest = refl }
-
-  inside-marks : {w : List ℕ} → Eight w → e .joins ≡ getD w 7 0 → Inside 6 7 w (standingIn e w)
-  inside-marks (eight x0 x1 x2 x3 x4 x5 x6 x7 w) p = record { length-is = refl; first = refl; rest = rw p }
-
-module _ (w a : List ℕ) where
-  pub spacious-state : spacious w a ≡ true → 8 ≤ length w
-  unfolding spacious
-  spacious-state e = leb-true 8 (length w) (both-left _ _ e)
-
-  pub spacious-answer : spacious w a ≡ true → 8 ≤ length a
-  unfolding spacious
-  spacious-answer e = leb-true 8 (length a) (both-right (leb 8 (length w)) _ e)
-
-  pub unspacious : length w < 8 → false ≡ spacious w a
-  unfolding spacious
-  unspacious h = sym (left-false _ _ (lt-leb 8 (length w) h))
-
-  pub spacious-is : 8 ≤ length w → leb 8 (length a) ≡ spacious w a
-  unfolding spacious
-  spacious-is h = and-next (leb 8 (length w)) (leb 8 (length a)) _ (le-leb 8 (length w) h) refl
+inside-set : (i : ℕ) (w : List ℕ) (x : ℕ) → Inside i (suc i) w (set w i x)
+inside-set i w x = record { length-is = length-set w i x; first = take-set-le i w i x (omega arith); rest = drop-set-lt (suc i) w i x (omega arith) }
 
 pub standing-read : (w : List ℕ) {x y : ℕ} → x ≡ getD w 6 0 → y ≡ getD w 7 0 → _≡_ {A = Standing} (record { marks = x; joins = y }) (standingOf w)
 standing-read w p q = rw (p, q)
 
--- the answer's first word
-number-set : (a : List ℕ) (x : ℕ) → 8 ≤ length a → getD (set a 0 x) 0 0 ≡ x
-number-set [] x h = absurd (omega arith)
-number-set (y ∷ a) x h = refl
+module _ (e : Standing) (w : List ℕ) where
+  back : markedRoom ≤ length w → standingOf (standingIn e w) ≡ e
+  back h = sym (standing-read (standingIn e w) (sym (getD-set-other (set w 6 (e .marks)) 7 6 (e .joins) 0 (λ q. omega (arith, q)) ∙ getD-set-same w 6 (e .marks) 0 (omega arith)))
+      (sym (getD-set-same (set w 6 (e .marks)) 7 (e .joins) 0 (simp length-set (omega arith)))))
 
-beyond-set : (a : List ℕ) (x : ℕ) → Beyond 1 a (set a 0 x)
-beyond-set [] x = record { length-is = refl; rest = refl }
-beyond-set (y ∷ a) x = record { length-is = refl; rest = refl }
+  -- the two words, one of them as it was or neither
+  inside-both : Inside 6 8 w (standingIn e w)
+  inside-both = record {
+    length-is = length-set (set w 6 (e .marks)) 7 (e .joins) ∙ length-set w 6 (e .marks);
+    first = take-set-le 6 (set w 6 (e .marks)) 7 (e .joins) (omega arith) ∙ take-set-le 6 w 6 (e .marks) (omega arith);
+    rest = drop-set-lt 8 (set w 6 (e .marks)) 7 (e .joins) (omega arith) ∙ drop-set-lt 8 w 6 (e .marks) (omega arith);
+  }
 
--- TELLING
+  inside-joins : e .marks ≡ getD w 6 0 → Inside 7 8 w (standingIn e w)
+  inside-joins p = subst (λ (v : List ℕ). Inside 7 8 w (set v 7 (e .joins))) (sym (ap (set w 6) p ∙ set-getD w 6 0)) (inside-set 7 w (e .joins))
 
-module _ {r : Answer} {w w′ : List ℕ} {x : ℕ} {e : Standing} (q : r ≡ Given x e) (p : w′ ≡ standingIn e w) where
-  pub standing-told : ToldStanding r w w′ 0
-  standing-told = rw q record { code = refl; state = p }
-
-  pub number-told : {a a′ : List ℕ} → a′ ≡ set a 0 x → ToldAnswer r w w′ a a′ 0
-  number-told z = rw q record { is = record { code = refl; state = p }; answer = z }
+  inside-marks : e .joins ≡ getD w 7 0 → Inside 6 7 w (standingIn e w)
+  inside-marks p =
+      let v : List ℕ = set w 6 (e .marks) in
+      let q : getD v 7 0 ≡ getD w 7 0 = getD-set-other w 6 7 (e .marks) 0 (λ i. omega (arith, i)) in
+      subst (λ (u : List ℕ). Inside 6 7 w u) (sym (ap (set v 7) (p ∙ sym q) ∙ set-getD v 7 0)) (inside-set 6 w (e .marks))
 
 -- WHAT IS READ OFF
 
@@ -120,41 +84,39 @@ record Tellable (P : Promise) (i j : ℕ) (m m′ : Lent) (l l′ w : List ℕ) 
   idle : (k : ℕ) → r ≡ Refused k → (m′ ≡ m) × (l′ ≡ l)
   inside : (x : ℕ) (e : Standing) → r ≡ Given x e → Inside i j w (standingIn e w)
 
-module _ {P : Promise} {i j : ℕ} {fit : Bool} {m m′ : Lent} {l l′ w : List ℕ} (f : fit ≡ true) (h : 8 ≤ length w) where
-  -- n is the number given, and a word of the answer is written only where one is
-  told-state : (r : Answer) → Tellable P i j m m′ l l′ w r → {w′ a a′ : List ℕ} {k : ℕ} → ToldStanding r w w′ k → (n : ℕ) → ((x : ℕ) (e : Standing) → r ≡ Given x e → n ≡ x) → Beyond 1 a a′
-      → ((k ≡ 0 → ⊥) → a′ ≡ a) → ExportedMarks P i j fit m m′ l l′ w w′ a a′ n k
-  told-state (Given x e) t {w′} {a} {a′} u n g b z =
-      let q : Given n (standingOf (standingIn e w)) ≡ Given x e = ap (λ (y : ℕ). Given y (standingOf (standingIn e w))) (g x e refl) ∙ ap (Given x) (back e (eight-of w h)) in
-      rw (u .code, u .state) (record {
+module _ {P : Promise} {i j : ℕ} {fit : Bool} {m m′ : Lent} {l l′ w : List ℕ} (f : fit ≡ true) (h : markedRoom ≤ length w) where
+  -- n is the number given, and its words are one at most
+  told-state : (words : ℕ → List ℕ) (r : Answer) → Tellable P i j m m′ l l′ w r → {w′ a a′ : List ℕ} {k : ℕ} → ToldWords standingIn w w′ a a′ (givenTelling words r) k → (n : ℕ)
+      → ((x : ℕ) (e : Standing) → r ≡ Given x e → (n ≡ x) × Beyond 1 a (putFirst (words x) a)) → ExportedMarks P i j fit m m′ l l′ w w′ a a′ n k
+  told-state words (Given x e) t {w′} {a} {a′} u n g =
+      let q : Given n (standingOf (standingIn e w)) ≡ Given x e = ap (λ (y : ℕ). Given y (standingOf (standingIn e w))) (g x e refl .0) ∙ ap (Given x) (back e w h) in
+      rw (u .code, u .state, u .answer) (record {
         is = λ y. subst (λ (r : Answer). P m m′ l l′ (stateOf w) (standingOf w) r) (sym q) (t .promise);
         short = λ y. not-both f y;
         state = t .inside x e refl;
-        answer = b;
+        answer = g x e refl .1;
         store-idle = λ y. absurd (y refl);
         marks-idle = λ y. absurd (y refl);
         state-idle = λ y. absurd (y refl);
         answer-idle = λ y. absurd (y refl);
       })
-  told-state (Refused zero) t u n g b z = absurd (t .stops refl)
-  told-state (Refused (suc k)) t u n g b z =
-      rw (u .code, u .state) (record {
+  told-state words (Refused zero) t u n g = absurd (t .stops refl)
+  told-state words (Refused (suc k)) t {w′} {a} u n g =
+      rw (u .code, u .state, u .answer) (record {
         is = λ y. t .promise;
         short = λ y. not-both f y;
         state = inside-same i j w;
-        answer = b;
+        answer = beyond-same 1 a;
         store-idle = λ y. t .idle (suc k) refl .0;
         marks-idle = λ y. t .idle (suc k) refl .1;
         state-idle = λ y. refl;
-        answer-idle = λ y. z (λ v. y (sym (u .code) ∙ v));
+        answer-idle = λ y. refl;
       })
 
-  told-answer : {a : List ℕ} → 8 ≤ length a → (r : Answer) → Tellable P i j m m′ l l′ w r → {w′ a′ : List ℕ} {k : ℕ} → ToldAnswer r w w′ a a′ k → ExportedMarks P i j fit m m′ l l′ w w′ a a′ (getD a′ 0 0) k
-  told-answer {a} o (Given x e) t {w′} {a′} u =
-      told-state (Given x e) t (u .is) (getD a′ 0 0) (λ y d q. ap (λ (v : List ℕ). getD v 0 0) (u .answer) ∙ number-set a x o ∙ (let p : x ≡ y = cc in p)) (rw (u .answer) (beyond-set a x))
-      (λ y. absurd (y (u .is .code)))
-  told-answer {a} o (Refused k) t {w′} {a′} u =
-      told-state (Refused k) t (u .is) (getD a′ 0 0) (λ y d q. let p : _≡_ {A = ℕ} 0 1 = cc in absurd (omega arith)) (rw (u .answer) (beyond-same 1 a)) (λ y. u .answer)
+  told-number : {a : List ℕ} → answerRoom ≤ length a → (r : Answer) → Tellable P i j m m′ l l′ w r → {w′ a′ : List ℕ} {k : ℕ} → ToldBy standingIn numberTelling w w′ a a′ r k → ExportedMarks P i j fit m m′ l l′ w w′ a a′ (getD a′ 0 0) k
+  told-number {a} o r t {w′} {a′} u =
+      told-state (λ x. x ∷ []) r t (u .is) (getD a′ 0 0)
+      (λ x e q. (ap (λ (v : List ℕ). getD v 0 0) (u .is .answer ∙ ap (λ (y : Answer). answerWith (numberTelling y) a) q), beyond-words (x ∷ []) a (omega arith)))
 
 -- WHAT THE CALLS GIVE
 
@@ -257,8 +219,8 @@ tables-long f g i j p = sym (table-length f i) ∙ ap length p ∙ table-length 
 
 -- THE EXPORTED CALLS
 
-pub back-short : (m : Lent) (l w : List ℕ) (mark : ℕ) → length w < 8 → ExportedMarks (Tracks (goBack mark)) 6 8 (leb 8 (length w)) m m l l w w [] [] mark 1
-back-short m l w mark h = marks-short m l w [] mark (lt-leb 8 (length w) h)
+pub back-short : (m : Lent) (l w : List ℕ) (mark : ℕ) → length w < markedRoom → ExportedMarks (Tracks (goBack mark)) 6 8 (leb markedRoom (length w)) m m l l w w [] [] mark 1
+back-short m l w mark h = marks-short m l w [] mark (lt-leb markedRoom (length w) h)
 
 -- the promise of the counts that the words have
 module _ (P : Promise) (m m′ : Lent) (l l′ w : List ℕ) (r : Answer) where
@@ -266,42 +228,42 @@ module _ (P : Promise) (m m′ : Lent) (l l′ w : List ℕ) (r : Answer) where
   moved {c} i j p = subst (λ (y : State). P m m′ l l′ y (standingOf w) r) i (subst (λ (y : Standing). P m m′ l l′ c y r) j p)
 
 module _ {m m′ : Lent} {l l′ w w′ : List ℕ} {c : State} {d : Standing} {r : Answer} {k : ℕ} (counted : c ≡ stateOf w) (standing : d ≡ standingOf w) where
-  pub join-exported : {a b kind number : ℕ} {v v′ : List ℕ} → PublicJoin a b kind number m m′ l l′ c d r → spacious w v ≡ true → ToldAnswer r w w′ v v′ k
-      → ExportedMarks (PublicJoin a b kind number) 7 8 (spacious w v) m m′ l l′ w w′ v v′ (getD v′ 0 0) k
+  pub join-exported : {a b kind number : ℕ} {v v′ : List ℕ} → PublicJoin a b kind number m m′ l l′ c d r → roomy markedRoom w v ≡ true → ToldBy standingIn numberTelling w w′ v v′ r k
+      → ExportedMarks (PublicJoin a b kind number) 7 8 (roomy markedRoom w v) m m′ l l′ w w′ v v′ (getD v′ 0 0) k
   join-exported {a} {b} {kind} {number} {v} called room u =
       let p = moved (PublicJoin a b kind number) m m′ l l′ w r counted standing called in
-      let h = spacious-state w v room in
-      told-answer {P = PublicJoin a b kind number} {i = 7} {j = 8} room h (spacious-answer w v room) r
+      let h = roomy-state markedRoom w v room in
+      told-number {P = PublicJoin a b kind number} {i = 7} {j = 8} room h (roomy-answer markedRoom w v room) r
       (record {
         promise = p;
         stops = no-stop (p .tracks) (join-stops a b kind number (storeOf m (stateOf w)) (trailOf l (standingOf w)));
         idle = p .tracks .idle;
-        inside = λ x e q. inside-joins e (eight-of w h) (tables-long (λ (y : ℕ). getD l′ y 0) (λ (y : ℕ). getD l y 0) (e .marks) (getD w 6 0)
+        inside = λ x e q. inside-joins e w (tables-long (λ (y : ℕ). getD l′ y 0) (λ (y : ℕ). getD l y 0) (e .marks) (getD w 6 0)
             (join-marks a b kind number (storeOf m (stateOf w)) (trailOf l (standingOf w)) (storeOf m′ (stateOf w)) (trailOf l′ e) x (given-says (p .tracks) x e q)));
       }) u
 
-  pub mark-exported : {v v′ : List ℕ} → Tracks setMark m m′ l l′ c d r → spacious w v ≡ true → ToldAnswer r w w′ v v′ k
-      → ExportedMarks (Tracks setMark) 6 7 (spacious w v) m m′ l l′ w w′ v v′ (getD v′ 0 0) k
+  pub mark-exported : {v v′ : List ℕ} → Tracks setMark m m′ l l′ c d r → roomy markedRoom w v ≡ true → ToldBy standingIn numberTelling w w′ v v′ r k
+      → ExportedMarks (Tracks setMark) 6 7 (roomy markedRoom w v) m m′ l l′ w w′ v v′ (getD v′ 0 0) k
   mark-exported {v} called room u =
       let p = moved (Tracks setMark) m m′ l l′ w r counted standing called in
-      let h = spacious-state w v room in
-      told-answer {P = Tracks setMark} {i = 6} {j = 7} room h (spacious-answer w v room) r
+      let h = roomy-state markedRoom w v room in
+      told-number {P = Tracks setMark} {i = 6} {j = 7} room h (roomy-answer markedRoom w v room) r
       (record {
         promise = p;
         stops = no-stop p (mark-stops (storeOf m (stateOf w)) (trailOf l (standingOf w)));
         idle = p .idle;
-        inside = λ x e q. inside-marks e (eight-of w h) (tables-long (traceAt l′) (traceAt l) (e .joins) (getD w 7 0)
+        inside = λ x e q. inside-marks e w (tables-long (traceAt l′) (traceAt l) (e .joins) (getD w 7 0)
             (mark-joins (storeOf m (stateOf w)) (trailOf l (standingOf w)) (storeOf m′ (stateOf w)) (trailOf l′ e) x (given-says p x e q)));
       }) u
 
-  pub back-exported : {mark : ℕ} → Tracks (goBack mark) m m′ l l′ c d r → 8 ≤ length w → ToldStanding r w w′ k
-      → ExportedMarks (Tracks (goBack mark)) 6 8 (leb 8 (length w)) m m′ l l′ w w′ [] [] mark k
+  pub back-exported : {mark : ℕ} → Tracks (goBack mark) m m′ l l′ c d r → markedRoom ≤ length w → ToldBy standingIn standingTelling w w′ [] [] r k
+      → ExportedMarks (Tracks (goBack mark)) 6 8 (leb markedRoom (length w)) m m′ l l′ w w′ [] [] mark k
   back-exported {mark} called h u =
       let p = moved (Tracks (goBack mark)) m m′ l l′ w r counted standing called in
-      told-state {P = Tracks (goBack mark)} {i = 6} {j = 8} (le-leb 8 (length w) h) h r
+      told-state {P = Tracks (goBack mark)} {i = 6} {j = 8} (le-leb markedRoom (length w) h) h (λ x. []) r
       (record {
         promise = p;
         stops = no-stop p (back-stops (storeOf m (stateOf w)) (trailOf l (standingOf w)) mark);
         idle = p .idle;
-        inside = λ x e q. inside-both e (eight-of w h);
-      }) u mark (λ x e q. back-number (storeOf m (stateOf w)) (trailOf l (standingOf w)) mark (storeOf m′ (stateOf w)) (trailOf l′ e) x (given-says p x e q)) (beyond-same 1 []) (λ z. refl)
+        inside = λ x e q. inside-both e w;
+      }) (u .is) mark (λ x e q. (back-number (storeOf m (stateOf w)) (trailOf l (standingOf w)) mark (storeOf m′ (stateOf w)) (trailOf l′ e) x (given-says p x e q), beyond-same 1 []))

@@ -13,12 +13,11 @@ use mir.ValLaws.{toZ-ofZ}
 use Rattle.records.specs.declared.State.{State}
 use Rattle.records.specs.Store.{Store, Out, ok, andThen, give, term, isEquation, isString}
 use Rattle.records.specs.View.{Lent, storeOf}
-use Rattle.records.specs.Make.{EachOnce}
 use Rattle.records.specs.Rules.{isList}
 use Rattle.records.proofs.Lists.{both-right}
 use Rattle.normalize.specs.Calls.{listCall, PublicList}
-use Rattle.wordeq.specs.declared.StepResult.{StepResult}
-use Rattle.wordeq.specs.Wordeq.{Answer, done, saturated, conflict, propagate, split}
+use Rattle.sides.specs.declared.StepResult.{StepResult}
+use Rattle.sides.specs.Wordeq.{Answer, done, saturated, conflict, propagate, split}
 use Rattle.wordeq.specs.Calls.{resolved}
 use Rattle.equation.specs.declared.Outcome.{Outcome}
 use Rattle.equation.specs.declared.Outcome.the-variants as outcome
@@ -26,12 +25,12 @@ use Rattle.equation.specs.Equation.{Stepped, unexpanded, answered, step, stepAr
 use Rattle.equation.specs.Calls.{stepped, PublicStep}
 use Rattle.equation.proofs.Sound.{step-kept, step-stops}
 use Rattle.equation.proofs.FewAtoms.{step-few}
-use Rattle.capi.specs.Interface.{stateOf, roomy}
+use Rattle.capi.specs.Interface.{stateOf, stateRoom, answerRoom, roomy}
 use Rattle.capi.specs.Equations.{answerWords, answerRead}
 use Rattle.capi.specs.Steps.{stepWords, stepBy, stepRead, ExportedStep}
-use Rattle.capi.specs.Working.Leaves.{Narrow, NarrowOutcome, Telling, tells, refuses, ToldBy, answerTelling, outcomeTelling}
+use Rattle.capi.specs.Working.Leaves.{written, Narrow, NarrowOutcome, Telling, tells, refuses, ToldBy, answerTelling, outcomeTelling}
 use Rattle.capi.proofs.Exports.{Tells, Shows}
-use Rattle.capi.proofs.Listings.{list-tellable, list-exported, list-worth, untold-list}
+use Rattle.capi.proofs.Listings.{list-tellable, list-exported, list-worth, list-once, untold-list}
 use Rattle.capi.proofs.AnswerExports.{Stands, split-stands, answer-narrow, answer-shows}
 
 pub step-tells : (known : List ℕ) (e : ℕ) (g : ℤ) → Tells (stepArguments known e g) (step known e g)
@@ -53,7 +52,7 @@ below-five conflict z = refl
 below-five (propagate v w f) z = refl
 below-five (split l g n) z = refl
 
-answered-shows : (k′ : List ℕ) (m′ : Lent) (r : Out Answer) (T : Telling) → Shows 8 answerWords (answerRead k′) m′ r T → Shows 8 stepWords (stepRead k′) m′ (andAnswered r) T
+answered-shows : (k′ : List ℕ) (m′ : Lent) (r : Out Answer) (T : Telling State) → Shows answerRoom answerWords (answerRead k′) m′ r T → Shows answerRoom stepWords (stepRead k′) m′ (andAnswered r) T
 answered-shows k′ m′ r (tells d v) s = record {
   value = answered (s .value);
   outcome = ap andAnswered (s .outcome);
@@ -67,7 +66,7 @@ abbrev Stood : Outcome → List ℕ → Type 0
 Stood (outcome.Answered r) k′ = Stands r k′
 Stood (outcome.Unexpanded c) k′ = Unit {0}
 
-step-shows : (r : Outcome) (m′ : Lent) (k′ : List ℕ) → Stood r k′ → Shows 8 stepWords (stepRead k′) m′ (stepped r m′ k′) (outcomeTelling r)
+step-shows : (r : Outcome) (m′ : Lent) (k′ : List ℕ) → Stood r k′ → Shows answerRoom stepWords (stepRead k′) m′ (stepped r m′ k′) (outcomeTelling r)
 step-shows (outcome.Answered r) m′ k′ i = answered-shows k′ m′ (resolved r m′ k′) (answerTelling r) (answer-shows r m′ k′ i)
 step-shows (outcome.Unexpanded c) m′ k′ i = record { value = unexpanded; outcome = refl; spelt = refl; few = omega arith; back = λ z. refl }
 
@@ -77,7 +76,7 @@ outcome-narrow (outcome.Unexpanded c) k′ f i = f c (5 ∷ []) refl
 
 -- THE CALL
 
-pub step-untold : (known : List ℕ) (e : ℕ) (g : ℤ) (m : Lent) (k w a : List ℕ) → roomy w a ≡ false → ExportedStep known e g m m k k w w a a 1
+pub step-untold : (known : List ℕ) (e : ℕ) (g : ℤ) (m : Lent) (k w a : List ℕ) → roomy stateRoom w a ≡ false → ExportedStep known e g m m k k w w a a 1
 step-untold known e g m k w a q = record { is = untold-list _ stepWords m k w a _ q; worth = λ z. absurd (omega arith); once = λ z. absurd (omega arith); grows = λ z y. absurd (omega arith) }
 
 module _ {known : List ℕ} {e : ℕ} {g : ℤ} {m m′ : Lent} {k k′ : List ℕ} {c : State} (o : Outcome) (fit : SFits w32 g)
@@ -97,24 +96,24 @@ module _ {known : List ℕ} {e : ℕ} {g : ℤ} {m m′ : Lent} {k k′ : List �
   stands : Stood o k′
   stands = stood o (sym (called .store .says))
 
-  shows : Shows 8 stepWords (stepRead k′) m′ (stepped o m′ k′) (outcomeTelling o)
+  shows : Shows answerRoom stepWords (stepRead k′) m′ (stepped o m′ k′) (outcomeTelling o)
   shows = step-shows o m′ k′ stands
 
   pub step-tellable : NarrowOutcome o
   step-tellable = outcome-narrow o k′ (list-tellable (step-tells known e g) called stepWords (stepRead k′) (outcomeTelling o) shows) stands
 
-  pub step-exported : {w w′ a a′ : List ℕ} {n : ℕ} → roomy w a ≡ true → c ≡ stateOf w → ToldBy outcomeTelling w w′ a a′ o n → ExportedStep known e g m m′ k k′ w w′ a a′ n
+  pub step-exported : {w w′ a a′ : List ℕ} {n : ℕ} → roomy stateRoom w a ≡ true → c ≡ stateOf w → ToldBy written outcomeTelling w w′ a a′ o n → ExportedStep known e g m m′ k k′ w w′ a a′ n
   step-exported {w} {w′} {a} {a′} {n} room q u = record {
     is = list-exported (step-tells known e g) called stepWords (stepRead k′) (outcomeTelling o) shows room q (u .is);
-    worth = list-worth (step-tells known e g) called stepWords (stepRead k′) (outcomeTelling o) shows room q (u .is) (λ s′ x i. subst (λ (d : State). StepSound (storeOf m d) s′ e x) q (here .worth s′ x i));
-    once = list-worth (step-tells known e g) called stepWords (stepRead k′) (outcomeTelling o) shows room q (u .is) (λ s′ x i. subst (λ (d : State). EachOnce (storeOf m d .reasons) (s′ .reasons)) q (here .once s′ x i));
+    worth = list-worth (step-tells known e g) called stepWords (stepRead k′) (outcomeTelling o) shows room q (u .is) (λ d s′ x. StepSound (storeOf m d) s′ e x) (here .worth);
+    once = list-once (step-tells known e g) called stepWords (stepRead k′) (outcomeTelling o) shows room q (u .is) (here .once);
     grows = λ z y. grown z y;
   }
     where
-      Grown : Store → Stepped → Type 0
-      Grown s′ x = (atoms : List ℕ) (h : ℤ) (j : ℕ) → x ≡ answered (split atoms h j) → GrowsAfterForms known e (storeOf m (stateOf w)) s′ j
+      Grown : State → Store → Stepped → Type 0
+      Grown d s′ x = (atoms : List ℕ) (h : ℤ) (j : ℕ) → x ≡ answered (split atoms h j) → GrowsAfterForms known e (storeOf m d) s′ j
 
       grown : n ≡ 0 → getD a′ 0 0 ≡ 4 → GrowsAfterForms known e (storeOf m (stateOf w)) (storeOf m′ (stateOf w′)) (getD a′ 3 0)
       grown z y =
-          let f = list-worth (step-tells known e g) called stepWords (stepRead k′) (outcomeTelling o) shows room q (u .is) {P = Grown} (λ s′ x i atoms h j p. subst (λ (d : State). GrowsAfterForms known e (storeOf m d) s′ j) q (here .grows s′ atoms h j (i ∙ ap (ok s′) p))) z in
+          let f = list-worth (step-tells known e g) called stepWords (stepRead k′) (outcomeTelling o) shows room q (u .is) Grown (λ s′ x i atoms h j p. here .grows s′ atoms h j (i ∙ ap (ok s′) p)) z in
           f _ _ _ (ap (λ (j : ℕ). stepBy j k′ a′) y)

@@ -2,145 +2,109 @@
 use mathlib.Core.Path.{_≡_, refl, sym, ap, _∙_}
 use mathlib.Core.Bool.{true, false}
 use mathlib.Core.List.{List, [], _∷_, _++_}
-use Prim.Native.Nat.{ℕ, _≤_, _<_}
+use Prim.Native.Nat.{ℕ, suc, _+_, _≤_, _<_}
 use native.Mathlib.Omega.{arith}
-use lib.ListN.{length, getD, drop, set, length-append, length-drop}
-use lib.Seq.{drop-append-seam}
+use native.Mathlib.Numerals.{add-one}
+use lib.ListN.{length, getD, take, drop, set, length-append, length-drop, length-set}
+use lib.Seq.{drop-append-seam, sets-eq, set-getD, drop-cons, set-at, append-snoc, take-suc, take-length, length-take-le}
 use lib.Dec.{leb}
 use borrow.Author.Tests.{leb-true, lt-leb, le-leb}
 use Rattle.records.specs.declared.State.{State}
 use Rattle.records.specs.View.{Lent, counts}
 use Rattle.records.specs.Rules.{audit}
 use Rattle.records.proofs.Lists.{both-left, both-right, left-false, and-next}
-use Rattle.capi.specs.Interface.{stateOf, Beyond, roomy, audited}
-use Rattle.capi.specs.Working.Leaves.{written, Telling, tells, refuses, ToldWords, ToldBy}
-
--- six words one after the other
-pub sets-written : (c : State) (w : List ℕ) → 6 ≤ length w
-    → set (set (set (set (set (set w 0 (c .terms)) 1 (c .cells)) 2 (c .chars)) 3 (c .reasons)) 4 (c .keys)) 5 (c .names) ≡ written c w
-sets-written c [] h = absurd (omega arith)
-sets-written c (x0 ∷ []) h = absurd (omega arith)
-sets-written c (x0 ∷ x1 ∷ []) h = absurd (omega arith)
-sets-written c (x0 ∷ x1 ∷ x2 ∷ []) h = absurd (omega arith)
-sets-written c (x0 ∷ x1 ∷ x2 ∷ x3 ∷ []) h = absurd (omega arith)
-sets-written c (x0 ∷ x1 ∷ x2 ∷ x3 ∷ x4 ∷ []) h = absurd (omega arith)
-sets-written c (x0 ∷ x1 ∷ x2 ∷ x3 ∷ x4 ∷ x5 ∷ w) h = refl
-
-pub written-length : (c : State) (w : List ℕ) → 6 ≤ length w → length (written c w) ≡ length w
-written-length c [] h = absurd (omega arith)
-written-length c (x0 ∷ []) h = absurd (omega arith)
-written-length c (x0 ∷ x1 ∷ []) h = absurd (omega arith)
-written-length c (x0 ∷ x1 ∷ x2 ∷ []) h = absurd (omega arith)
-written-length c (x0 ∷ x1 ∷ x2 ∷ x3 ∷ []) h = absurd (omega arith)
-written-length c (x0 ∷ x1 ∷ x2 ∷ x3 ∷ x4 ∷ []) h = absurd (omega arith)
-written-length c (x0 ∷ x1 ∷ x2 ∷ x3 ∷ x4 ∷ x5 ∷ w) h = refl
+use Rattle.capi.specs.Interface.{stateOf, Beyond, stateRoom, answerRoom, roomy, audited}
+use Rattle.capi.specs.Working.Leaves.{putFirst, written, Telling, tells, refuses, ToldWords, ToldBy}
 
 pub beyond-same : (n : ℕ) (w : List ℕ) → Beyond n w w
 beyond-same n w = record { length-is = refl; rest = refl }
 
-pub beyond-written : (c : State) (w : List ℕ) → 6 ≤ length w → Beyond 6 w (written c w)
-beyond-written c w h = record { length-is = written-length c w h; rest = refl }
-
--- counts read off the words and written back
-pub written-same : (w : List ℕ) → 6 ≤ length w → w ≡ written (stateOf w) w
-written-same [] h = absurd (omega arith)
-written-same (x0 ∷ []) h = absurd (omega arith)
-written-same (x0 ∷ x1 ∷ []) h = absurd (omega arith)
-written-same (x0 ∷ x1 ∷ x2 ∷ []) h = absurd (omega arith)
-written-same (x0 ∷ x1 ∷ x2 ∷ x3 ∷ []) h = absurd (omega arith)
-written-same (x0 ∷ x1 ∷ x2 ∷ x3 ∷ x4 ∷ []) h = absurd (omega arith)
-written-same (x0 ∷ x1 ∷ x2 ∷ x3 ∷ x4 ∷ x5 ∷ w) h = refl
-
-module _ (w a : List ℕ) where
-  pub roomy-state : roomy w a ≡ true → 6 ≤ length w
-  unfolding roomy
-  roomy-state e = leb-true 6 (length w) (both-left _ _ e)
-
-  pub roomy-answer : roomy w a ≡ true → 8 ≤ length a
-  unfolding roomy
-  roomy-answer e = leb-true 8 (length a) (both-right (leb 6 (length w)) _ e)
-
-  pub unroomy : length w < 6 → false ≡ roomy w a
-  unfolding roomy
-  unroomy h = sym (left-false _ _ (lt-leb 6 (length w) h))
-
-  pub roomy-is : 6 ≤ length w → leb 8 (length a) ≡ roomy w a
-  unfolding roomy
-  roomy-is h = and-next (leb 6 (length w)) (leb 8 (length a)) _ (le-leb 6 (length w) h) refl
-
-pub state-read : (w : List ℕ) {x : State} {a b c d e f : ℕ} → x ≡ counts a b c d e f → a ≡ getD w 0 0 → b ≡ getD w 1 0 → c ≡ getD w 2 0 → d ≡ getD w 3 0 → e ≡ getD w 4 0 → f ≡ getD w 5 0
-    → x ≡ stateOf w
-state-read w i p q r s t u = i ∙ rw (p, q, r, s, t, u)
-
-pub audit-unstated : (w : List ℕ) (m : Lent) → length w < 6 → 1 ≡ audited w m
-unfolding audited
-audit-unstated w m h = rw (lt-leb 6 (length w) h)
-
-pub audit-stated : (w : List ℕ) (m : Lent) (c : State) (k : ℕ) → 6 ≤ length w → c ≡ stateOf w → k ≡ audit m c → k ≡ audited w m
-unfolding audited
-audit-stated w m c k h e v = rw (le-leb 6 (length w) h) (v ∙ ap (audit m) e)
-
--- WORDS PUT FIRST
-
-one-set : (a : List ℕ) (x : ℕ) → 8 ≤ length a → set a 0 x ≡ x ∷ drop 1 a
-one-set [] x h = absurd (omega arith)
-one-set (p ∷ a) x h = refl
-
-two-set : (a : List ℕ) (x y : ℕ) → 8 ≤ length a → set (set a 0 x) 1 y ≡ x ∷ y ∷ drop 2 a
-two-set [] x y h = absurd (omega arith)
-two-set (p ∷ []) x y h = absurd (omega arith)
-two-set (p ∷ q ∷ a) x y h = refl
-
-three-set : (a : List ℕ) (x y z : ℕ) → 8 ≤ length a → set (set (set a 0 x) 1 y) 2 z ≡ x ∷ y ∷ z ∷ drop 3 a
-three-set [] x y z h = absurd (omega arith)
-three-set (p ∷ []) x y z h = absurd (omega arith)
-three-set (p ∷ q ∷ []) x y z h = absurd (omega arith)
-three-set (p ∷ q ∷ r ∷ a) x y z h = refl
-
-four-set : (a : List ℕ) (x y z u : ℕ) → 8 ≤ length a → set (set (set (set a 0 x) 1 y) 2 z) 3 u ≡ x ∷ y ∷ z ∷ u ∷ drop 4 a
-four-set [] x y z u h = absurd (omega arith)
-four-set (p ∷ []) x y z u h = absurd (omega arith)
-four-set (p ∷ q ∷ []) x y z u h = absurd (omega arith)
-four-set (p ∷ q ∷ r ∷ []) x y z u h = absurd (omega arith)
-four-set (p ∷ q ∷ r ∷ t ∷ a) x y z u h = refl
-
-six-set : (a : List ℕ) (x y z u v t : ℕ) → 8 ≤ length a → set (set (set (set (set (set a 0 x) 1 y) 2 z) 3 u) 4 v) 5 t ≡ x ∷ y ∷ z ∷ u ∷ v ∷ t ∷ drop 6 a
-six-set [] x y z u v t h = absurd (omega arith)
-six-set (p ∷ []) x y z u v t h = absurd (omega arith)
-six-set (p ∷ q ∷ []) x y z u v t h = absurd (omega arith)
-six-set (p ∷ q ∷ r ∷ []) x y z u v t h = absurd (omega arith)
-six-set (p ∷ q ∷ r ∷ i ∷ []) x y z u v t h = absurd (omega arith)
-six-set (p ∷ q ∷ r ∷ i ∷ j ∷ []) x y z u v t h = absurd (omega arith)
-six-set (p ∷ q ∷ r ∷ i ∷ j ∷ k ∷ a) x y z u v t h = refl
-
-pub beyond-words : (v a : List ℕ) → length v ≤ length a → Beyond (length v) a (v ++ drop (length v) a)
+pub beyond-words : (v a : List ℕ) → length v ≤ length a → Beyond (length v) a (putFirst v a)
 beyond-words v a h = record {
   length-is = length-append v (drop (length v) a) ∙ (let e = length-drop (length v) a in omega arith);
   rest = drop-append-seam v (drop (length v) a);
 }
 
+-- THE STATE'S SIX WORDS
+
+abbrev sixWords : State → List ℕ
+sixWords c = c .terms ∷ c .cells ∷ c .chars ∷ c .reasons ∷ c .keys ∷ c .names ∷ []
+
+-- one after the other
+pub sets-written : (c : State) (w : List ℕ) → stateRoom ≤ length w
+    → set (set (set (set (set (set w 0 (c .terms)) 1 (c .cells)) 2 (c .chars)) 3 (c .reasons)) 4 (c .keys)) 5 (c .names) ≡ written c w
+sets-written c w h = sets-eq (sixWords c) w 0 h
+
+pub beyond-written : (c : State) (w : List ℕ) → stateRoom ≤ length w → Beyond stateRoom w (written c w)
+beyond-written c w h = beyond-words (sixWords c) w h
+
+-- counts read off the words and written back
+pub written-same : (w : List ℕ) → stateRoom ≤ length w → w ≡ written (stateOf w) w
+written-same w h = rw (set-getD w 0 0, set-getD w 1 0, set-getD w 2 0, set-getD w 3 0, set-getD w 4 0, set-getD w 5 0) at (sets-written (stateOf w) w h)
+
+module _ (n : ℕ) (w a : List ℕ) where
+  pub roomy-state : roomy n w a ≡ true → n ≤ length w
+  unfolding roomy
+  roomy-state e = leb-true n (length w) (both-left _ _ e)
+
+  pub roomy-answer : roomy n w a ≡ true → answerRoom ≤ length a
+  unfolding roomy
+  roomy-answer e = leb-true answerRoom (length a) (both-right (leb n (length w)) _ e)
+
+  pub unroomy : length w < n → false ≡ roomy n w a
+  unfolding roomy
+  unroomy h = sym (left-false _ _ (lt-leb n (length w) h))
+
+  pub roomy-is : n ≤ length w → leb answerRoom (length a) ≡ roomy n w a
+  unfolding roomy
+  roomy-is h = and-next (leb n (length w)) (leb answerRoom (length a)) _ (le-leb n (length w) h) refl
+
+pub state-read : (w : List ℕ) {x : State} {a b c d e f : ℕ} → x ≡ counts a b c d e f → a ≡ getD w 0 0 → b ≡ getD w 1 0 → c ≡ getD w 2 0 → d ≡ getD w 3 0 → e ≡ getD w 4 0 → f ≡ getD w 5 0
+    → x ≡ stateOf w
+state-read w i p q r s t u = i ∙ rw (p, q, r, s, t, u)
+
+pub audit-unstated : (w : List ℕ) (m : Lent) → length w < stateRoom → 1 ≡ audited w m
+unfolding audited
+audit-unstated w m h = rw (lt-leb stateRoom (length w) h)
+
+pub audit-stated : (w : List ℕ) (m : Lent) (c : State) (k : ℕ) → stateRoom ≤ length w → c ≡ stateOf w → k ≡ audit m c → k ≡ audited w m
+unfolding audited
+audit-stated w m c k h e v = rw (le-leb stateRoom (length w) h) (v ∙ ap (audit m) e)
+
+-- WORDS PUT FIRST
+
+-- the first i of v stand in a′
+pub record Putting (a a′ v : List ℕ) (i : ℕ) : Type 0 where
+  pub long : length a′ ≡ length a
+  pub few : i ≤ length v
+  pub is : a′ ≡ take i v ++ drop i a
+
+pub put-none : (a v : List ℕ) → Putting a a v 0
+put-none a v = record { long = refl; few = omega arith; is = refl }
+
+pub put-one : (a a′ v : List ℕ) (i : ℕ) → Putting a a′ v i → i < length v → length v ≤ length a → Putting a (set a′ i (getD v i 0)) v (i + 1)
+put-one a a′ v i p h k = record {
+  long = length-set a′ i (getD v i 0) ∙ p .long;
+  few = omega arith;
+  is =
+      rw (add-one i)
+      (ap (λ (l : List ℕ). set l i (getD v i 0)) (p .is ∙ ap (λ (l : List ℕ). take i v ++ l) (drop-cons a i 0 (omega arith)))
+      ∙ set-at (take i v) (getD a i 0) (drop (suc i) a) (getD v i 0) i (length-take-le i v (p .few)) ∙ sym (append-snoc (take i v) (getD v i 0) (drop (suc i) a))
+      ∙ ap (λ (l : List ℕ). l ++ drop (suc i) a) (sym (take-suc v i 0 h)));
+}
+
+pub put-all : (a a′ v : List ℕ) (i : ℕ) → Putting a a′ v i → length v ≤ i → a′ ≡ putFirst v a
+put-all a a′ v i p h = p .is ∙ (let q = p .few in let e : i ≡ length v = omega arith in rw e (ap (λ (l : List ℕ). l ++ drop (length v) a) (take-length v)))
+
 -- TELLING
 
-pub one-told : {w w′ a a′ : List ℕ} {c : State} {x : ℕ} → roomy w a ≡ true → w′ ≡ written c w → a′ ≡ set a 0 x → ToldWords w w′ a a′ (tells c (x ∷ [])) 0
-one-told {w} {a = a} {x = x} room p q = record { code = refl; state = p; answer = q ∙ one-set a x (roomy-answer w a room) }
-
-pub two-told : {w w′ a a′ : List ℕ} {c : State} {x y : ℕ} → roomy w a ≡ true → w′ ≡ written c w → a′ ≡ set (set a 0 x) 1 y → ToldWords w w′ a a′ (tells c (x ∷ y ∷ [])) 0
-two-told {w} {a = a} {x = x} {y = y} room p q = record { code = refl; state = p; answer = q ∙ two-set a x y (roomy-answer w a room) }
-
-pub three-told : {w w′ a a′ : List ℕ} {c : State} {x y z : ℕ} → roomy w a ≡ true → w′ ≡ written c w → a′ ≡ set (set (set a 0 x) 1 y) 2 z → ToldWords w w′ a a′ (tells c (x ∷ y ∷ z ∷ [])) 0
-three-told {w} {a = a} {x = x} {y = y} {z = z} room p q = record { code = refl; state = p; answer = q ∙ three-set a x y z (roomy-answer w a room) }
-
-pub four-told : {w w′ a a′ : List ℕ} {c : State} {x y z u : ℕ} → roomy w a ≡ true → w′ ≡ written c w → a′ ≡ set (set (set (set a 0 x) 1 y) 2 z) 3 u → ToldWords w w′ a a′ (tells c (x ∷ y ∷ z ∷ u ∷ [])) 0
-four-told {w} {a = a} {x = x} {y = y} {z = z} {u = u} room p q = record { code = refl; state = p; answer = q ∙ four-set a x y z u (roomy-answer w a room) }
-
--- the state's words stay
-pub six-told : {w a a′ : List ℕ} {x y z u v t : ℕ} → roomy w a ≡ true → a′ ≡ set (set (set (set (set (set a 0 x) 1 y) 2 z) 3 u) 4 v) 5 t
-    → ToldWords w w a a′ (tells (stateOf w) (x ∷ y ∷ z ∷ u ∷ v ∷ t ∷ [])) 0
-six-told {w} {a} {x = x} {y = y} {z = z} {u = u} {v = v} {t = t} room q = record { code = refl; state = written-same w (roomy-state w a room); answer = q ∙ six-set a x y z u v t (roomy-answer w a room) }
-
-module _ {R : Type 0} {f : R → Telling} {r : R} where
-  pub told-by : {w w′ a a′ : List ℕ} {T : Telling} {k : ℕ} → f r ≡ T → ToldWords w w′ a a′ T k → ToldBy f w w′ a a′ r k
+module _ {S R : Type 0} {put : S → List ℕ → List ℕ} {f : R → Telling S} {r : R} where
+  pub told-by : {w w′ a a′ : List ℕ} {T : Telling S} {k : ℕ} → f r ≡ T → ToldWords put w w′ a a′ T k → ToldBy put f w w′ a a′ r k
   told-by e t = record { is = rw e t }
 
-  pub told-refuses : {w a : List ℕ} {k : ℕ} → f r ≡ refuses k → ToldBy f w w a a r k
+  -- words that are the telling's own
+  pub told-as : {w w′ a a′ : List ℕ} {c : S} {v v′ : List ℕ} {k : ℕ} → f r ≡ tells c v → ToldWords put w w′ a a′ (tells c v′) k → v′ ≡ v → ToldBy put f w w′ a a′ r k
+  told-as {c = c} e t q = told-by (e ∙ ap (tells c) (sym q)) t
+
+  pub told-refuses : {w a : List ℕ} {k : ℕ} → f r ≡ refuses k → ToldBy put f w w a a r k
   told-refuses e = record { is = rw e (record { code = refl; state = refl; answer = refl }) }

@@ -2,7 +2,7 @@
 use mathlib.Core.Path.{_≡_}
 use mathlib.Core.Bool.{Bool, _&&_}
 use mathlib.Core.List.{List, []}
-use Prim.Native.Nat.{ℕ, zero, suc, _≤_, _<_}
+use Prim.Native.Nat.{ℕ, zero, suc}
 use lib.ListN.{length, getD, take, drop}
 use lib.Dec.{leb}
 use denote.Ref.{now}
@@ -28,13 +28,20 @@ pub record Beyond (n : ℕ) (w v : List ℕ) : Type 0 where
   pub length-is : length v ≡ length w
   pub rest : drop n v ≡ drop n w
 
--- a state of six words or more, and an answer of eight or more
-unfoldable pub roomy : List ℕ → List ℕ → Bool
-roomy w a = leb 6 (length w) && leb 8 (length a)
+-- how many words a state and an answer must have
+abbrev pub stateRoom : ℕ
+stateRoom = 6
+
+abbrev pub answerRoom : ℕ
+answerRoom = 8
+
+-- a state of n words or more, and an answer of eight or more
+unfoldable pub roomy : ℕ → List ℕ → List ℕ → Bool
+roomy n w a = leb n (length w) && leb answerRoom (length a)
 
 -- the audit's result, and 1 for a state under six words
 unfoldable pub audited : List ℕ → Lent → ℕ
-audited w m = if leb 6 (length w) then audit m (stateOf w) else 1
+audited w m = if leb stateRoom (length w) then audit m (stateOf w) else 1
 
 module _ {A : Type 0} where
   -- 1 for a state or an answer that is too short
@@ -50,7 +57,7 @@ module _ {A : Type 0} where
   -- the answer are written; after a refusal both are as they were.
   pub record Exported (o : Out A) (m m′ : Lent) (w w′ : List ℕ) (n : ℕ) (a a′ : List ℕ) (x : A) (k : ℕ) : Type 0 where
     pub public : Public o m m′ (stateOf w) (told k w′ m′ x)
-    pub state : Beyond 6 w w′
+    pub state : Beyond stateRoom w w′
     pub answer : Beyond n a a′
     pub state-idle : (k ≡ 0 → ⊥) → w′ ≡ w
     pub answer-idle : (k ≡ 0 → ⊥) → a′ ≡ a
@@ -68,7 +75,7 @@ module _ {A : Type 0} where
 -- THE WORDS OF CONTRACTS, slices by their names: an exported call that answers one number, and one that writes a list
 abbrev pub ExportsNumber : (Store → Bool) → Work ℕ → Both Lent Lent → Slice → Slice → ℕ → Type 0
 ExportsNumber fit work x state answer k =
-    Exported (over (roomy (now (state .entry)) (now (answer .entry))) (call fit work (x .entry) (stateOf (now (state .entry))))) (x .entry) (x .exit)
+    Exported (over (roomy stateRoom (now (state .entry)) (now (answer .entry))) (call fit work (x .entry) (stateOf (now (state .entry))))) (x .entry) (x .exit)
     (now (state .entry)) (now (state .exit)) 1 (now (answer .entry)) (now (answer .exit)) (getD (now (answer .exit)) 0 0) k
 
 abbrev pub ExportsList : (Lent → Lent → List ℕ → List ℕ → List ℕ → List ℕ → List ℕ → List ℕ → ℕ → Type 0) → Both Lent Lent → Slice → Slice → Slice → ℕ → Type 0
@@ -79,7 +86,7 @@ ExportsList P x list state answer k =
 -- words. The reasons at exit are those at entry and then reasons that the list lacked, each once. Every reason
 -- added labels an edge of the store; once the arguments pass, refusal 7 alone is given
 pub record ExportedExplain (a b : ℕ) (m m′ : Lent) (w w′ : List ℕ) (k : ℕ) : Type 0 where
-  pub is : Exported (over (leb 6 (length w)) (call (explainArguments a b) (explain a b) m (stateOf w))) m m′ w w′ 0 [] [] tt k
+  pub is : Exported (over (leb stateRoom (length w)) (call (explainArguments a b) (explain a b) m (stateOf w))) m m′ w w′ 0 [] [] tt k
   pub worth : k ≡ 0 → Explains (storeOf m (stateOf w)) (storeOf m′ (stateOf w′)) a b
   pub once : k ≡ 0 → EachOnce (storeOf m (stateOf w) .reasons) (storeOf m′ (stateOf w′) .reasons)
   pub edges : k ≡ 0 → Every (Labels (storeOf m (stateOf w))) (addedTo (storeOf m (stateOf w)) (storeOf m′ (stateOf w′)))

@@ -8,7 +8,7 @@ use Rattle.records.specs.Calls.{call}
 use Rattle.wordeq.specs.Calls.{equalArguments}
 use Rattle.forced.specs.Forced.{Span, spans, short, Fit, forcedLength}
 use Rattle.forced.specs.Forces.{Forces}
-use Rattle.capi.specs.Interface.{stateOf, roomy, over, Answered}
+use Rattle.capi.specs.Interface.{stateOf, stateRoom, roomy, over, Answered}
 
 -- word 0 is 0 where m and r are answered and 1 for a shortage; words 1 to 3 are k, c and l; words 4 and 5 m and r, or the shortage and 0
 abbrev pub spanWords : ℕ → ℕ → ℕ → Span → List ℕ
@@ -28,5 +28,5 @@ fitRead a = record { k = getD a 1 0; c = getD a 2 0; l = getD a 3 0; span = span
 
 -- forced_length told in words, and what it is worth; the store is as it was
 pub record ExportedForced (l r : List ℕ) (m : Lent) (w a a′ : List ℕ) (k : ℕ) : Type 0 where
-  pub is : Answered (over (roomy w a) (call (equalArguments l r) (forcedLength l r) m (stateOf w))) fitWords m m w w a a′ (fitRead a′) k
+  pub is : Answered (over (roomy stateRoom w a) (call (equalArguments l r) (forcedLength l r) m (stateOf w))) fitWords m m w w a a′ (fitRead a′) k
   pub worth : k ≡ 0 → Forces (storeOf m (stateOf w)) l r (fitRead a′)

@@ -1,6 +1,6 @@
 -- What the exported calls of joining, setting a mark and going back promise (document 02, Note 1).
 use mathlib.Core.Path.{_≡_}
-use mathlib.Core.Bool.{Bool, true, false, _&&_}
+use mathlib.Core.Bool.{Bool, true, false}
 use mathlib.Core.List.{List, []}
 use Prim.Native.Nat.{ℕ, zero, suc}
 use lib.ListN.{length, getD, take, drop}
@@ -13,15 +13,15 @@ use Rattle.classes.specs.declared.Standing.{Standing}
 use Rattle.classes.specs.declared.Answer.{Answer}
 use Rattle.classes.specs.declared.Answer.the-variants.{Given, Refused}
 use Rattle.classes.specs.Calls.{goBack, Tracks}
-use Rattle.capi.specs.Interface.{stateOf, Beyond}
+use Rattle.capi.specs.Interface.{stateOf, Beyond, roomy}
 
 -- the state's words 6 and 7: how many marks stand, and how many joins are recorded since the first of them
 abbrev pub standingOf : List ℕ → Standing
 standingOf w = record { marks = getD w 6 0; joins = getD w 7 0 }
 
--- a state of eight words or more, and an answer of eight or more
-unfoldable pub spacious : List ℕ → List ℕ → Bool
-spacious w a = leb 8 (length w) && leb 8 (length a)
+-- how many words a state must have that counts marks and joins
+abbrev pub markedRoom : ℕ
+markedRoom = 8
 
 -- v is w but for its words from place i up to place j
 pub record Inside (i j : ℕ) (w v : List ℕ) : Type 0 where
@@ -54,9 +54,9 @@ pub record ExportedMarks (P : Promise) (i j : ℕ) (fit : Bool) (m m′ : Lent) 
 -- THE WORDS OF CONTRACTS, slices by their names: a call that answers a number in word 0, and going back, which answers none
 abbrev pub ExportsMarks : Promise → ℕ → ℕ → Both Lent Lent → Slice → Slice → Slice → ℕ → Type 0
 ExportsMarks P i j x marks state answer k =
-    ExportedMarks P i j (spacious (now (state .entry)) (now (answer .entry))) (x .entry) (x .exit) (now (marks .entry)) (now (marks .exit)) (now (state .entry)) (now (state .exit))
+    ExportedMarks P i j (roomy markedRoom (now (state .entry)) (now (answer .entry))) (x .entry) (x .exit) (now (marks .entry)) (now (marks .exit)) (now (state .entry)) (now (state .exit))
     (now (answer .entry)) (now (answer .exit)) (getD (now (answer .exit)) 0 0) k
 
 abbrev pub ExportsBack : ℕ → Both Lent Lent → Slice → Slice → ℕ → Type 0
 ExportsBack mark x marks state k =
-    ExportedMarks (Tracks (goBack mark)) 6 8 (leb 8 (length (now (state .entry)))) (x .entry) (x .exit) (now (marks .entry)) (now (marks .exit)) (now (state .entry)) (now (state .exit)) [] [] mark k
+    ExportedMarks (Tracks (goBack mark)) 6 8 (leb markedRoom (length (now (state .entry)))) (x .entry) (x .exit) (now (marks .entry)) (now (marks .exit)) (now (state .entry)) (now (state .exit)) [] [] mark k

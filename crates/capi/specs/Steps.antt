@@ -10,7 +10,7 @@ use Rattle.records.specs.View.{Lent, storeOf}
 use Rattle.records.specs.Make.{EachOnce}
 use Rattle.normalize.specs.Calls.{listCall}
 use Rattle.equation.specs.Equation.{Stepped, unexpanded, answered, step, stepArguments, GrowsAfterForms, StepSound}
-use Rattle.capi.specs.Interface.{stateOf, roomy, over, AnsweredList}
+use Rattle.capi.specs.Interface.{stateOf, stateRoom, roomy, over, AnsweredList}
 use Rattle.capi.specs.Equations.{answerWords, answerBy}
 
 -- 5 for Unexpanded in word 0; the others as wordeq's
@@ -28,7 +28,7 @@ stepRead l a = stepBy (getD a 0 0) l a
 -- the step told in words, and what it is worth: demand 3. The reasons at exit are those at entry and then reasons that the list
 -- lacked, each once. After a Split word 3 of the answer is the growth 'within wordeq, terms of the normal forms left out'
 pub record ExportedStep (known : List ℕ) (e : ℕ) (g : ℤ) (m m′ : Lent) (k k′ w w′ a a′ : List ℕ) (n : ℕ) : Type 0 where
-  pub is : AnsweredList (over (roomy w a) (listCall k (stepArguments known e g) (step known e g) m (stateOf w))) stepWords m m′ k k′ w w′ a a′ (stepRead k′ a′) n
+  pub is : AnsweredList (over (roomy stateRoom w a) (listCall k (stepArguments known e g) (step known e g) m (stateOf w))) stepWords m m′ k k′ w w′ a a′ (stepRead k′ a′) n
   pub worth : n ≡ 0 → StepSound (storeOf m (stateOf w)) (storeOf m′ (stateOf w′)) e (stepRead k′ a′)
   pub once : n ≡ 0 → EachOnce (storeOf m (stateOf w) .reasons) (storeOf m′ (stateOf w′) .reasons)
   pub grows : n ≡ 0 → getD a′ 0 0 ≡ 4 → GrowsAfterForms known e (storeOf m (stateOf w)) (storeOf m′ (stateOf w′)) (getD a′ 3 0)

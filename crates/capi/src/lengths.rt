@@ -1,69 +1,31 @@
 // The forced length of a repeated field.
 ghost use mathlib.Core.Path.{_≡_};
 ghost use mathlib.Core.Bool.{true};
-ghost use mathlib.Core.List.{[], _∷_};
 ghost use Rattle.records.specs.View.{across};
-ghost use Rattle.capi.specs.Interface.{stateOf, roomy};
+ghost use Rattle.capi.specs.Interface.{stateOf, stateRoom, roomy};
 ghost use Rattle.capi.specs.Lengths.{ExportedForced};
-ghost use Rattle.capi.specs.Working.Leaves.{tells, ToldWords, ToldBy};
+ghost use Rattle.capi.specs.Working.Leaves.{written, ToldIn};
 ghost use Rattle.capi.specs.Working.Measuring.{forcedTelling, NarrowForced};
+use crate::telling::STATE_ROOM;
 use crate::telling::is_roomy;
 use crate::telling::state_of;
+use crate::telling::tell_still;
 use forced::Forced;
-
-// An answer of six words; the state stays.
-fn tell_six(
-    state: &[u32],
-    answer: &mut [u32],
-    x: u32,
-    y: u32,
-    z: u32,
-    u: u32,
-    v: u32,
-    t: u32,
-) -> u32
-    requires { ⌜ roomy (now state) (now answer) ≡ true ⌝ }
-    ensures { λ r. do
-      let w = now (state .entry)
-      ⌜ ToldWords w w (now (answer .entry)) (now (answer .exit)) (tells (stateOf w) (x ∷ y ∷ z ∷ u ∷ v ∷ t ∷ [])) r ⌝ }
-{
-    answer[0] = x;
-    answer[1] = y;
-    answer[2] = z;
-    answer[3] = u;
-    answer[4] = v;
-    answer[5] = t;
-    0
-}
 
 // 0, k, c, l, m and r, or 1, k, c, l, the shortage and 0.
 fn tell_forced(state: &[u32], answer: &mut [u32], made: Forced) -> u32
-    requires { ⌜ roomy (now state) (now answer) ≡ true ⌝ ∗ ⌜ NarrowForced made ⌝ }
-    ensures { λ r. do
-      let w = now (state .entry)
-      ⌜ ToldBy (forcedTelling (stateOf w)) w w (now (answer .entry)) (now (answer .exit)) made r ⌝ }
+    requires { ⌜ roomy stateRoom (now state) (now answer) ≡ true ⌝ ∗ ⌜ NarrowForced made ⌝ }
+    ensures { λ r. ⌜ ToldIn written (forcedTelling (stateOf (now (state .entry)))) state answer made r ⌝ }
 {
     match made {
-        Forced::Spans(k, c, l, m, r) => tell_six(
-            state,
-            answer,
-            0,
-            k as u32,
-            c as u32,
-            l as u32,
-            m as u32,
-            r as u32,
-        ),
-        Forced::Shortage(k, c, l, d) => tell_six(
-            state,
-            answer,
-            1,
-            k as u32,
-            c as u32,
-            l as u32,
-            d as u32,
-            0,
-        ),
+        Forced::Spans(k, c, l, m, r) => {
+            let words = [0, k as u32, c as u32, l as u32, m as u32, r as u32];
+            tell_still(state, answer, &words)
+        }
+        Forced::Shortage(k, c, l, d) => {
+            let words = [1, k as u32, c as u32, l as u32, d as u32, 0];
+            tell_still(state, answer, &words)
+        }
         Forced::Refused(j) => j,
     }
 }
@@ -82,7 +44,7 @@ pub extern "C" fn labels_forced_length(
 ) -> u32
     ensures { λ r. ⌜ ExportedForced (now (lhs .entry)) (now (rhs .entry)) (across terms cells chars reasons keys .entry) (now (state .entry)) (now (answer .entry)) (now (answer .exit)) r ⌝ }
 {
-    if !is_roomy(state, answer) {
+    if !is_roomy(STATE_ROOM, state, answer) {
         return 1;
     }
     let c = state_of(state);

@@ -11,6 +11,7 @@ ghost use Rattle.capi.specs.Steps.{ExportedStep};
 use engine::Found;
 use records::build;
 use records::make;
+use telling::STATE_ROOM;
 use telling::flag_of;
 use telling::is_roomy;
 use telling::state_of;
@@ -20,6 +21,7 @@ use telling::tell_counts;
 use telling::tell_deep_form;
 use telling::tell_form;
 use telling::tell_outcome;
+use telling::tell_still;
 use wordeq::Equality;
 
 pub mod lengths;
@@ -38,7 +40,7 @@ pub extern "C" fn labels_audit(
 ) -> u32
     ensures { λ r. ⌜ r ≡ audited (now (state .entry)) (across terms cells chars reasons keys .entry) ⌝ }
 {
-    if state.len() < 6 {
+    if state.len() < STATE_ROOM {
         return 1;
     }
     records::audit(terms, cells, chars, reasons, keys, state_of(state))
@@ -57,7 +59,7 @@ pub extern "C" fn labels_make_constant(
 ) -> u32
     ensures { λ r. ⌜ ExportsNumber (constantArguments (now (text .entry))) (makeConstant (now (text .entry))) (across terms cells chars reasons keys) state answer r ⌝ }
 {
-    if !is_roomy(state, answer) {
+    if !is_roomy(STATE_ROOM, state, answer) {
         return 1;
     }
     let c = state_of(state);
@@ -78,7 +80,7 @@ pub extern "C" fn labels_make_variable(
 ) -> u32
     ensures { λ r. ⌜ ExportsNumber (variableArguments (now (name .entry))) (makeVariable (now (name .entry))) (across terms cells chars reasons keys) state answer r ⌝ }
 {
-    if !is_roomy(state, answer) {
+    if !is_roomy(STATE_ROOM, state, answer) {
         return 1;
     }
     let c = state_of(state);
@@ -99,7 +101,7 @@ pub extern "C" fn labels_make_concatenation(
 ) -> u32
     ensures { λ r. ⌜ ExportsNumber (concatArguments (now (parts .entry))) (makeConcat (now (parts .entry))) (across terms cells chars reasons keys) state answer r ⌝ }
 {
-    if !is_roomy(state, answer) {
+    if !is_roomy(STATE_ROOM, state, answer) {
         return 1;
     }
     let c = state_of(state);
@@ -120,7 +122,7 @@ pub extern "C" fn labels_make_length(
 ) -> u32
     ensures { λ r. ⌜ ExportsNumber (lengthArguments t) (makeLength t) (across terms cells chars reasons keys) state answer r ⌝ }
 {
-    if !is_roomy(state, answer) {
+    if !is_roomy(STATE_ROOM, state, answer) {
         return 1;
     }
     let c = state_of(state);
@@ -142,7 +144,7 @@ pub extern "C" fn labels_make_equation(
 ) -> u32
     ensures { λ r. ⌜ ExportsNumber (equationArguments t u) (makeEquation t u) (across terms cells chars reasons keys) state answer r ⌝ }
 {
-    if !is_roomy(state, answer) {
+    if !is_roomy(STATE_ROOM, state, answer) {
         return 1;
     }
     let c = state_of(state);
@@ -163,16 +165,13 @@ pub extern "C" fn labels_find(
 ) -> u32
     ensures { λ r. ⌜ ExportsNumber (findArguments t) (find t) (across terms cells chars reasons keys) state answer r ⌝ }
 {
-    if !is_roomy(state, answer) {
+    if !is_roomy(STATE_ROOM, state, answer) {
         return 1;
     }
     let c = state_of(state);
     let found = engine::find(terms, cells, chars, reasons, keys, c, t);
     match found {
-        Found::Root(u) => {
-            answer[0] = u;
-            0
-        }
+        Found::Root(u) => tell_still(state, answer, &[u]),
         Found::Refused(k) => k,
     }
 }
@@ -190,7 +189,7 @@ pub extern "C" fn labels_explain(
 ) -> u32
     ensures { λ r. ⌜ Between (ExportedExplain a b) (across terms cells chars reasons keys) (now (state .entry)) (now (state .exit)) r ⌝ }
 {
-    if state.len() < 6 {
+    if state.len() < STATE_ROOM {
         return 1;
     }
     let c = state_of(state);
@@ -213,7 +212,7 @@ pub extern "C" fn labels_normal_form(
 ) -> u32
     ensures { λ r. ⌜ ExportsList (ExportedForm (now (known .entry)) t) (across terms cells chars reasons keys) list state answer r ⌝ }
 {
-    if !is_roomy(state, answer) {
+    if !is_roomy(STATE_ROOM, state, answer) {
         return 1;
     }
     let c = state_of(state);
@@ -236,7 +235,7 @@ pub extern "C" fn labels_deep_normal_form(
 ) -> u32
     ensures { λ r. ⌜ ExportsList (ExportedDeepForm (now (known .entry)) t) (across terms cells chars reasons keys) list state answer r ⌝ }
 {
-    if !is_roomy(state, answer) {
+    if !is_roomy(STATE_ROOM, state, answer) {
         return 1;
     }
     let c = state_of(state);
@@ -270,7 +269,7 @@ pub extern "C" fn labels_resolve_equation<'a>(
 ) -> u32
     ensures { λ r. ⌜ ExportsList (ExportedResolve (now (lhs .entry)) (now (rhs .entry)) guard) (across terms cells chars reasons keys) list state answer r ⌝ }
 {
-    if !is_roomy(state, answer) {
+    if !is_roomy(STATE_ROOM, state, answer) {
         return 1;
     }
     let c = state_of(state);
@@ -303,16 +302,13 @@ pub extern "C" fn labels_nf_equal(
 ) -> u32
     ensures { λ r. ⌜ ExportedEqual (now (lhs .entry)) (now (rhs .entry)) (across terms cells chars reasons keys .entry) (now (state .entry)) (now (answer .entry)) (now (answer .exit)) r ⌝ }
 {
-    if !is_roomy(state, answer) {
+    if !is_roomy(STATE_ROOM, state, answer) {
         return 1;
     }
     let c = state_of(state);
     let compared = wordeq::nf_equal(terms, cells, chars, reasons, keys, c, lhs, rhs);
     match compared {
-        Equality::Is(b) => {
-            answer[0] = flag_of(b);
-            0
-        }
+        Equality::Is(b) => tell_still(state, answer, &[flag_of(b)]),
         Equality::Refused(k) => k,
     }
 }
@@ -330,7 +326,7 @@ pub extern "C" fn labels_nf_equal_explain(
 ) -> u32
     ensures { λ r. ⌜ Between (ExportedEqualExplain (now (lhs .entry)) (now (rhs .entry))) (across terms cells chars reasons keys) (now (state .entry)) (now (state .exit)) r ⌝ }
 {
-    if state.len() < 6 {
+    if state.len() < STATE_ROOM {
         return 1;
     }
     let c = state_of(state);
@@ -354,7 +350,7 @@ pub extern "C" fn labels_step(
 ) -> u32
     ensures { λ r. ⌜ ExportsList (ExportedStep (now (known .entry)) e guard) (across terms cells chars reasons keys) list state answer r ⌝ }
 {
-    if !is_roomy(state, answer) {
+    if !is_roomy(STATE_ROOM, state, answer) {
         return 1;
     }
     let c = state_of(state);

@@ -2,16 +2,24 @@
 // first of them. The other calls leave these alone.
 ghost use mathlib.Core.Path.{_≡_};
 ghost use mathlib.Core.Bool.{true};
+ghost use mathlib.Core.List.{[]};
 ghost use Prim.Native.Nat.{_≤_};
 ghost use lib.ListN.{length};
 ghost use Rattle.records.specs.View.{across};
 ghost use Rattle.classes.specs.Calls.{setMark, Tracks, PublicJoin};
-ghost use Rattle.capi.specs.Marks.{standingOf, spacious, ExportsMarks, ExportsBack};
-ghost use Rattle.capi.specs.Working.Standings.{standingIn, NarrowStanding, NarrowGiven, ToldStanding, ToldAnswer};
+ghost use Rattle.capi.specs.Interface.{roomy};
+ghost use Rattle.capi.specs.Marks.{standingOf, markedRoom, ExportsMarks, ExportsBack};
+ghost use Rattle.capi.specs.Working.Leaves.{ToldBy, ToldIn};
+ghost use Rattle.capi.specs.Working.Standings.{standingIn, NarrowStanding, NarrowGiven, numberTelling, standingTelling};
+use crate::telling::is_roomy;
 use crate::telling::state_of;
+use crate::telling::write_words;
 use classes::Answer;
 use classes::Standing;
 use records::fields;
+
+// The words that a state must have which counts marks and joins.
+const MARKED_ROOM: usize = 8;
 
 // The counts of marks and of joins in the state's words.
 fn standing_of(state: &[u32]) -> Standing
@@ -24,27 +32,17 @@ fn standing_of(state: &[u32]) -> Standing
 }
 
 fn write_standing(state: &mut [u32], e: Standing)
-    requires { ⌜ 8 ≤ length (now state) ⌝ ∗ ⌜ NarrowStanding e ⌝ }
+    requires { ⌜ markedRoom ≤ length (now state) ⌝ ∗ ⌜ NarrowStanding e ⌝ }
     ensures { λ _. ⌜ now (state .exit) ≡ standingIn e (now (state .entry)) ⌝ }
 {
     state[6] = e.marks as u32;
     state[7] = e.joins as u32;
 }
 
-// Whether the state has its eight words and the answer its eight.
-fn is_spacious(state: &[u32], answer: &[u32]) -> bool
-    ensures { λ r. ⌜ r ≡ spacious (now (state .entry)) (now (answer .entry)) ⌝ }
-{
-    if state.len() < 8 {
-        return false;
-    }
-    8 <= answer.len()
-}
-
 // The counts into the state's words; a refusal writes none.
 fn tell_standing(state: &mut [u32], told: Answer) -> u32
-    requires { ⌜ 8 ≤ length (now state) ⌝ ∗ ⌜ NarrowGiven told ⌝ }
-    ensures { λ r. ⌜ ToldStanding told (now (state .entry)) (now (state .exit)) r ⌝ }
+    requires { ⌜ markedRoom ≤ length (now state) ⌝ ∗ ⌜ NarrowGiven told ⌝ }
+    ensures { λ r. ⌜ ToldBy standingIn standingTelling (now (state .entry)) (now (state .exit)) [] [] told r ⌝ }
 {
     match told {
         Answer::Given(_, e) => {
@@ -57,13 +55,13 @@ fn tell_standing(state: &mut [u32], told: Answer) -> u32
 
 // The same, and the number into the answer's first word.
 fn tell_number(state: &mut [u32], answer: &mut [u32], told: Answer) -> u32
-    requires { ⌜ spacious (now state) (now answer) ≡ true ⌝ ∗ ⌜ NarrowGiven told ⌝ }
-    ensures { λ r. ⌜ ToldAnswer told (now (state .entry)) (now (state .exit)) (now (answer .entry)) (now (answer .exit)) r ⌝ }
+    requires { ⌜ roomy markedRoom (now state) (now answer) ≡ true ⌝ ∗ ⌜ NarrowGiven told ⌝ }
+    ensures { λ r. ⌜ ToldIn standingIn numberTelling state answer told r ⌝ }
 {
     match told {
         Answer::Given(n, e) => {
             write_standing(state, e);
-            answer[0] = n;
+            write_words(answer, &[n]);
             0
         }
         Answer::Refused(k) => k,
@@ -87,7 +85,7 @@ pub extern "C" fn labels_join(
 ) -> u32
     ensures { λ r. ⌜ ExportsMarks (PublicJoin a b kind number) 7 8 (across terms cells chars reasons keys) marks state answer r ⌝ }
 {
-    if !is_spacious(state, answer) {
+    if !is_roomy(MARKED_ROOM, state, answer) {
         return 1;
     }
     let c = state_of(state);
@@ -122,7 +120,7 @@ pub extern "C" fn labels_set_mark(
 ) -> u32
     ensures { λ r. ⌜ ExportsMarks (Tracks setMark) 6 7 (across terms cells chars reasons keys) marks state answer r ⌝ }
 {
-    if !is_spacious(state, answer) {
+    if !is_roomy(MARKED_ROOM, state, answer) {
         return 1;
     }
     let c = state_of(state);
@@ -144,7 +142,7 @@ pub extern "C" fn labels_go_back(
 ) -> u32
     ensures { λ r. ⌜ ExportsBack mark (across terms cells chars reasons keys) marks state r ⌝ }
 {
-    if state.len() < 8 {
+    if state.len() < MARKED_ROOM {
         return 1;
     }
     let c = state_of(state);

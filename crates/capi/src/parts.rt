@@ -2,23 +2,24 @@
 ghost use mathlib.Core.Path.{_≡_};
 ghost use mathlib.Core.Bool.{true};
 ghost use Rattle.records.specs.View.{across};
-ghost use Rattle.capi.specs.Interface.{roomy, ExportsList};
+ghost use Rattle.capi.specs.Interface.{stateRoom, roomy, ExportsList};
 ghost use Rattle.capi.specs.Parts.{ExportedParts};
-ghost use Rattle.capi.specs.Working.Leaves.{ToldBy};
+ghost use Rattle.capi.specs.Working.Leaves.{written, ToldIn};
 ghost use Rattle.capi.specs.Working.Parting.{partsTelling, NarrowParts};
+use crate::telling::STATE_ROOM;
 use crate::telling::flag_of;
 use crate::telling::is_roomy;
 use crate::telling::state_of;
-use crate::telling::tell_three;
+use crate::telling::tell_words;
 use empties::Empties;
 
 // The count, the number of "" and the link flag into the words.
 fn tell_parts(state: &mut [u32], answer: &mut [u32], made: Empties) -> u32
-    requires { ⌜ roomy (now state) (now answer) ≡ true ⌝ ∗ ⌜ NarrowParts made ⌝ }
-    ensures { λ r. ⌜ ToldBy partsTelling (now (state .entry)) (now (state .exit)) (now (answer .entry)) (now (answer .exit)) made r ⌝ }
+    requires { ⌜ roomy stateRoom (now state) (now answer) ≡ true ⌝ ∗ ⌜ NarrowParts made ⌝ }
+    ensures { λ r. ⌜ ToldIn written partsTelling state answer made r ⌝ }
 {
     match made {
-        Empties::Parts(c, e, n, f) => tell_three(state, answer, c, n as u32, e, flag_of(f)),
+        Empties::Parts(c, e, n, f) => tell_words(state, answer, c, &[n as u32, e, flag_of(f)]),
         Empties::Refused(k) => k,
     }
 }
@@ -38,7 +39,7 @@ pub extern "C" fn labels_empty_parts(
 ) -> u32
     ensures { λ r. ⌜ ExportsList (ExportedParts (now (lhs .entry)) (now (rhs .entry))) (across terms cells chars reasons keys) list state answer r ⌝ }
 {
-    if !is_roomy(state, answer) {
+    if !is_roomy(STATE_ROOM, state, answer) {
         return 1;
     }
     let c = state_of(state);

@@ -9,13 +9,14 @@ use lib.ListN.{length}
 use lib.IntN.{ℤ, pos, negsuc}
 use lib.Dec.{eqb, T}
 use Rattle.records.specs.Lists.{all, any, firstOf, keep, concatMap, table, sameWord, isIn, firsts, seconds, upTo, allBelow, firstBelow}
-use Rattle.records.specs.Store.{Store, noTerm, noCell, Out, ok, stop, Work, _>>=_, _>>_, give, store, put, term, termIn, cellIn, within, textIn, chainBy, climb, aboveBy, nearestIn, pathIn}
+use Rattle.records.specs.Store.{Store, noTerm, noCell, Out, ok, stop, Work, _>>=_, _>>_, give, store, put, termIn, cellIn, within, textIn, chainBy, climb, aboveBy, nearestIn, pathIn}
+use Rattle.records.specs.View.{termWords, cellWords}
 use Rattle.records.specs.Rules.{isChar, isNumber, reasonRule, keyRule, cellRule, textRule, named, nameRule, partRule, concatRule, lengthRule, isEquatable, equationRule, termRule, recordsRule, parentsRule, endsRule, alikeRule, aloneRule, edgeLabel, labelRule, classesRule, pairsOf, fallsRule, congruenceRule, congruencesRule, auditStore}
 use Rattle.records.specs.Make.{withTerms, withReasons, samePair, isListed, addReason, isKey, addKey, addText, chainFrom, addChain, addTerm, lookup, lowest, constantOf, concatOf, lengthOf, equationOf, makeConstant, makeVariable, makeConcat, makeLength, makeEquation, decimalBy, nameOf, isTaken, takeNameBy, takeName}
 use Rattle.classes.specs.Merge.{mergeIn}
 use Rattle.engine.specs.Explain.{wasSeen, each, edge, highest, walk, walked, explain, isReasoned}
 use Rattle.normalize.specs.Normalize.{atomsBy, flatten}
-use Rattle.wordeq.specs.Wordeq.{Answer, done, saturated, conflict, propagate, split, same, fixed, lettersOf, letters, sameHeads, sameTails, rest, explainMatch, explainMatches, needsReason, strip, isFull, occurrence, occurs, unequal, short, absent, constants, isPlain, alias, empties, assigns, filled, lead, firstSpan, fits, explainAll, tileBy, tile, differ, clashes, freshVariable, oneIfAbsent, splitCharacter, splitHeads, splits, after, steps, resolve}
+use Rattle.sides.specs.Wordeq.{Answer, done, saturated, conflict, propagate, split, same, fixed, lettersOf, letters, sameHeads, sameTails, rest, explainMatch, explainMatches, needsReason, strip, isFull, occurrence, occurs, unequal, short, absent, constants, isPlain, alias, empties, assigns, filled, lead, firstSpan, fits, explainAll, tileBy, tile, differ, clashes, freshVariable, oneIfAbsent, splitCharacter, splitHeads, splits, after, steps, resolve}
 
 -- STORES, line by line as `labelstep` builds them
 
@@ -27,7 +28,7 @@ empty = record {
   reasons = [];
   keys = [];
   names = 0;
-  room = record { terms = 512; cells = 2048; chars = 16384; reasons = 4096; keys = 4096; termsLong = 4104; cellsLong = 6147; zeroTerm = noTerm; zeroCell = noCell };
+  room = record { terms = 512; cells = 2048; chars = 16384; reasons = 4096; keys = 4096; termsLong = termWords 512; cellsLong = cellWords 2048; zeroTerm = noTerm; zeroCell = noCell };
 }
 
 unfoldable pub codes : String → List ℕ

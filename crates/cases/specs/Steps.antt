@@ -12,7 +12,7 @@ use Rattle.records.specs.Rules.{isChar, isNumber, reasonRule, keyRule, cellRule
 use Rattle.records.specs.Make.{samePair, isListed, addReason, isKey, addKey, addText, chainFrom, addChain, addTerm, lookup, lowest, constantOf, concatOf, lengthOf, equationOf, makeConstant, makeVariable, makeConcat, makeLength, makeEquation, decimalBy, nameOf, isTaken, takeNameBy, takeName}
 use Rattle.engine.specs.Explain.{wasSeen, each, edge, highest, walk, walked, explain, isReasoned}
 use Rattle.normalize.specs.Normalize.{atomsBy, flatten, representative, substitute, join, push, pushAll, pushForms, normalForm, expand, settle, rounds, deepForm}
-use Rattle.wordeq.specs.Wordeq.{Answer, conflict, propagate, split, same, fixed, lettersOf, letters, sameHeads, sameTails, rest, explainMatch, explainMatches, needsReason, strip, isFull, occurrence, occurs, unequal, short, absent, constants, isPlain, alias, empties, assigns, filled, lead, firstSpan, fits, explainAll, tileBy, tile, differ, clashes, freshVariable, oneIfAbsent, splitCharacter, splitHeads, splits, after, steps, resolve}
+use Rattle.sides.specs.Wordeq.{Answer, conflict, propagate, split, same, fixed, lettersOf, letters, sameHeads, sameTails, rest, explainMatch, explainMatches, needsReason, strip, isFull, occurrence, occurs, unequal, short, absent, constants, isPlain, alias, empties, assigns, filled, lead, firstSpan, fits, explainAll, tileBy, tile, differ, clashes, freshVariable, oneIfAbsent, splitCharacter, splitHeads, splits, after, steps, resolve}
 use Rattle.equation.specs.Equation.{Stepped, unexpanded, answered, step}
 use Rattle.cases.specs.Cases.{empty, codes, Line, con, var, cat, len, equal, by, merged, line, build, number, values, guardOf, sameGuard, samePairs, Case, case, holds}
 

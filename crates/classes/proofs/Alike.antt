@@ -30,9 +30,6 @@ like-none ts = record { long = refl; words = λ f p t. refl }
 pub like-then : {ts us vs : List Term} → Like ts us → Like us vs → Like ts vs
 like-then k l = record { long = l .long ∙ k .long; words = λ f p t. l .words f p t ∙ k .words f p t }
 
-pub like-back : {ts us : List Term} → Like ts us → Like us ts
-like-back k = record { long = sym (k .long); words = λ f p t. sym (k .words f p t) }
-
 pub like-edge : (ts : List Term) (t : ℕ) (e : Edge) → within (length ts) t ≡ true → Like ts (putEdge ts t e)
 like-edge ts t e w = record { long = edge-long ts t e; words = λ f p u. edge-words ts t e w f (λ y. p .edges y e) u }
 

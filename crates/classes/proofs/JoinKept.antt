@@ -3,13 +3,13 @@ use mathlib.Core.Path.{_≡_}
 use mathlib.Core.Bool.{true}
 use Prim.Native.Nat.{ℕ}
 use lib.ListN.{length}
-use Rattle.records.specs.Store.{Term, Store, termIn, term, count, isTerm, isString, root}
+use Rattle.records.specs.Store.{Store, count, isTerm, isString, root}
 use Rattle.records.specs.Rules.{isNumber, isReasonKind}
-use Rattle.records.specs.Make.{withTerms, withClass}
+use Rattle.records.specs.Make.{withTerms}
 use Rattle.records.specs.Working.Audited.{Audited}
 use Rattle.records.proofs.Climbs.{root-root, root-term}
 use Rattle.records.proofs.Grown.{string-term}
-use Rattle.classes.specs.Joins.{Edge, bearing, joinIn, Linked}
+use Rattle.classes.specs.Joins.{joinIn, Linked}
 use Rattle.classes.proofs.Alike.{Like}
 use Rattle.classes.proofs.Dividing.{Joint}
 use Rattle.classes.proofs.Attaching.{Attachable, like, division, divided, edge-new, edges-kept, edges-only, attached-audited}
@@ -48,10 +48,6 @@ join-linked s a b k v au j =
 pub join-like : (s : Store) (a b k v : ℕ) → Audited s → Joinable s a b k v → Like (s .terms) (joinIn (s .terms) a b k v)
 unfolding joinIn
 join-like s a b k v au j = like s au a b (root s b) k v 0 (attachable s a b k v au j)
-
-pub join-words : (s : Store) (a b k v : ℕ) → Audited s → Joinable s a b k v → (f : Term → ℕ) → ((y : Term) (e : Edge) → f (bearing y e) ≡ f y) → ((y : Term) (p : ℕ) → f (withClass y p) ≡ f y)
-    → (t : ℕ) → f (termIn (joinIn (s .terms) a b k v) t) ≡ f (term s t)
-join-words s a b k v au j f h g t = join-like s a b k v au j .words f (record { edges = h; classes = g }) t
 
 pub join-long : (s : Store) (a b k v : ℕ) → Audited s → Joinable s a b k v → length (joinIn (s .terms) a b k v) ≡ count s
 join-long s a b k v au j = join-like s a b k v au j .long

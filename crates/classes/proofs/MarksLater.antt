@@ -14,7 +14,7 @@ use Rattle.records.specs.Working.Audited.{Audited}
 use Rattle.records.proofs.Lists.{both-true, all-every, every-all, every-map}
 use Rattle.records.proofs.Append.{grow, More, New, longer, kept-audited}
 use Rattle.records.proofs.Kept.{names-audited}
-use Rattle.records.proofs.Later.{Extended, as-was, one-term, counter, others}
+use Rattle.records.proofs.LaterStores.{Extended, as-was, one-term, counter, others}
 use Rattle.classes.specs.Joins.{Trace, undoIn}
 use Rattle.classes.specs.Marks.{Trail, undoAll, tableAt, passes, marksRule}
 use Rattle.classes.specs.Calls.{gives, joinsAt, before, goBack}

@@ -10,7 +10,7 @@ use Rattle.records.specs.View.{Lent, storeOf, sizes}
 use Rattle.records.specs.Rules.{recordsRule, classesRule, congruencesRule, auditStore, audit}
 use Rattle.records.specs.Working.Audited.{Ready}
 use Rattle.records.proofs.Passed.{ready-of, audit-of}
-use Rattle.records.proofs.Later.{Extended}
+use Rattle.records.proofs.LaterStores.{Extended}
 use Rattle.classes.specs.declared.Standing.{Standing}
 use Rattle.classes.specs.Marks.{trailOf, trailSizes, marksRule, auditTrail, auditMarks}
 use Rattle.classes.specs.Working.Doing.{ReadyMarks}

@@ -10,11 +10,11 @@ use lib.Dec.{ltb}
 use borrow.Author.Tests.{eqb-true, eqb-false, ltb-true}
 use Rattle.records.specs.Lists.{oneMore}
 use Rattle.records.specs.Store.{Term, Store, within, isString, sameClass, root}
-use Rattle.records.specs.Rules.{isReasonKind, recordsRule, classesRule, congruencesRule}
+use Rattle.records.specs.Rules.{isReasonKind}
 use Rattle.records.specs.Make.{withTerms}
-use Rattle.records.specs.Working.Audited.{Roomy, Audited}
+use Rattle.records.specs.Working.Audited.{Audited}
 use Rattle.records.proofs.Lists.{both-left, both-right, decide}
-use Rattle.records.proofs.Passed.{recorded-of, records-of, classed-of, classes-of, congruences-of, congruent-of}
+use Rattle.records.proofs.Passed.{records-of, classes-of, congruent-of}
 use Rattle.classes.specs.Joins.{traceOf, joinIn}
 use Rattle.classes.specs.Marks.{Trail, markLimit, tableAt, marksRule, auditTrail}
 use Rattle.classes.specs.Calls.{Outcome, gives, refuses, joinArguments, recorded, joinTerms, setMark, joinsAt, before, goBack}
@@ -24,12 +24,6 @@ use Rattle.classes.proofs.Marking.{rule-join, rule-mark, Back, rule-bac
 pub record Tracked (s : Store) (x : Trail) : Type 0 where
   pub audited : Audited s
   pub marked : marksRule s x ≡ true
-
-pub tracked-of : (s : Store) (x : Trail) → Roomy s → auditTrail s x ≡ 0 → Tracked s x
-unfolding auditTrail
-tracked-of s x r e = decide (recordsRule s) (λ p. decide (classesRule s && marksRule s x) (λ q. decide (congruencesRule s)
-    (λ z. record { audited = record { roomy = r; recorded = recorded-of s p; classed = classed-of s (both-left _ _ q); congruences = congruences-of s z }; marked = both-right (classesRule s) _ q })
-    (λ z. let w = rw (p, q, z) at e in absurd (omega arith))) (λ q. let w = rw (p, q) at e in absurd (omega arith))) (λ p. let w = rw p at e in absurd (omega arith))
 
 pub of-tracked : (s : Store) (x : Trail) → Tracked s x → auditTrail s x ≡ 0
 unfolding auditTrail
@@ -90,10 +84,6 @@ going i s x h = decide (within (length (x .marks)) i)
 -- of the store and the trail that a call gives
 pub record Keeps (o : Outcome) : Type 0 where
   pub tracked : (s : Store) (x : Trail) (n : ℕ) → o ≡ gives s x n → Tracked s x
-
--- the audit answers 0 again
-pub audited-again : {o : Outcome} {s : Store} {x : Trail} {n : ℕ} → Keeps o → o ≡ gives s x n → auditTrail s x ≡ 0
-audited-again {s = s} {x = x} {n = n} k e = of-tracked s x (k .tracked s x n e)
 
 kept : {s : Store} {x : Trail} {n : ℕ} → Tracked s x → Keeps (gives s x n)
 kept {s} {x} {n} h = record { tracked = λ s′ x′ m e. let p : s ≡ s′ = cc in let q : x ≡ x′ = cc in subst (λ (y : Trail). Tracked s′ y) q (subst (λ (y : Store). Tracked y x) p h) }

@@ -3,7 +3,7 @@ ghost use mathlib.Core.Path.{_≡_};
 ghost use Prim.Native.Nat.{suc};
 ghost use Rattle.records.specs.View.{termsView};
 ghost use Rattle.classes.specs.Joins.{edge, trace, joinIn, isTrace, cutIn, undoIn};
-ghost use Rattle.classes.specs.Working.Carries.{carryBy, Becomes, Carriable, Tabled, Linkable, Cuttable, Undoes};
+ghost use Rattle.classes.specs.Working.Carries.{carryBy, TermsBecome, Carriable, Tabled, Linkable, Cuttable, Undoes};
 use records::fields;
 use records::put::put_class_parent_unchecked;
 use records::put::put_edge_unchecked;
@@ -20,7 +20,7 @@ fn carry_unchecked(
     stamp: u32,
 )
     requires { ⌜ Carriable (now terms) n x parent ⌝ }
-    ensures { λ _. ⌜ Becomes (now (terms .entry)) (now (terms .exit)) n (carryBy (suc n) (termsView (now (terms .entry)) n) x (edge parent kind value stamp)) ⌝ }
+    ensures { λ _. ⌜ TermsBecome (now (terms .entry)) (now (terms .exit)) n (carryBy (suc n) (termsView (now (terms .entry)) n) x (edge parent kind value stamp)) ⌝ }
 {
     let mut at = x;
     let mut below = parent;
@@ -58,7 +58,7 @@ pub(crate) fn link_unchecked(
     number: u32,
 )
     requires { ⌜ Linkable (now terms) n a b under over ⌝ }
-    ensures { λ _. ⌜ Becomes (now (terms .entry)) (now (terms .exit)) n (joinIn (termsView (now (terms .entry)) n) a b kind number) ⌝ }
+    ensures { λ _. ⌜ TermsBecome (now (terms .entry)) (now (terms .exit)) n (joinIn (termsView (now (terms .entry)) n) a b kind number) ⌝ }
 {
     put_class_parent_unchecked(terms, under, over);
     carry_unchecked(terms, n, a, b, kind, number, 0);
@@ -67,7 +67,7 @@ pub(crate) fn link_unchecked(
 // Cuts the edge of a child, gives its tree its old root, and makes a class root its own parent.
 fn cut_unchecked(terms: &mut [u32], n: usize, child: u32, old: u32, under: u32)
     requires { ⌜ Cuttable (now terms) n (trace child old under) ⌝ }
-    ensures { λ _. ⌜ Becomes (now (terms .entry)) (now (terms .exit)) n (cutIn (termsView (now (terms .entry)) n) (trace child old under)) ⌝ }
+    ensures { λ _. ⌜ TermsBecome (now (terms .entry)) (now (terms .exit)) n (cutIn (termsView (now (terms .entry)) n) (trace child old under)) ⌝ }
 {
     put_edge_unchecked(terms, child, child, 0, 0, 0);
     carry_unchecked(terms, n, old, old, 0, 0, 0);

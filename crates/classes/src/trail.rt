@@ -1,7 +1,6 @@
 // The words lent for marks: their audit, a join or a mark recorded, and joins undone.
 ghost use mathlib.Core.Path.{_≡_};
 ghost use mathlib.Core.Bool.{true, _&&_};
-ghost use mathlib.Core.Option.{some};
 ghost use Prim.Native.Nat.{_+_, _<_, _≤_};
 ghost use lib.ListN.{length, getD, drop};
 ghost use Rattle.records.specs.Lists.{all, oneMore, table};
@@ -14,6 +13,7 @@ ghost use Rattle.classes.specs.Working.Carries.{Tabled, Undoes, Markable
 use crate::Standing;
 use crate::links::undo_unchecked;
 use records::State;
+use records::TERM_SLICE;
 use records::TERM_WIDTH;
 use records::classes::classes_ok_unchecked;
 use records::classes::congruences_ok_unchecked;
@@ -152,7 +152,7 @@ fn counts_ok(marks: &[u32], d: Standing) -> bool
 }
 
 // The words of n terms, record 0 too.
-fn copy_terms_unchecked(terms: &[u32], n: usize, table: &mut [u32; 4104])
+fn copy_terms_unchecked(terms: &[u32], n: usize, table: &mut [u32; TERM_SLICE])
     requires { ⌜ n ≤ termLimit ⌝ ∗ ⌜ termWords n ≤ length (now terms) ⌝ ∗ ⌜ length (now table) ≡ termWords termLimit ⌝ }
     ensures { λ _. ⌜ Copied (now (terms .entry)) (now (table .entry)) (now (table .exit)) n ⌝ }
 {
@@ -218,7 +218,7 @@ fn marks_ok_unchecked(terms: &[u32], cells: &[u32], c: State, marks: &[u32], d: 
     if d.marks == 0 {
         return true;
     }
-    let mut table: [u32; 4104] = [0; 4104];
+    let mut table: [u32; TERM_SLICE] = [0; TERM_SLICE];
     copy_terms_unchecked(terms, c.terms, &mut table);
     tables_ok_unchecked(&mut table, cells, c, marks, d)
 }

@@ -96,6 +96,14 @@ fn negative(x: u32) -> i32
     -1 - positive(x - 1)
 }
 
+// The guard with this word: from 2,147,483,648 on a negative one.
+pub fn guard_of_word(x: u32) -> i32 {
+    if x < 0x8000_0000 {
+        return positive(x);
+    }
+    negative(0xFFFF_FFFF - x + 1)
+}
+
 // A guard: digits, after a minus sign where it is below 0.
 fn guard_of(w: &[u8]) -> Guard
     ensures { λ r. ⌜ guardIs r ≡ guardOf (now (w .entry)) ⌝ }

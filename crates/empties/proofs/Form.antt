@@ -5,20 +5,20 @@ use mathlib.Core.Bool.{Bool, true, false, not, _&&_, _||_}
 use mathlib.Core.List.{List, [], _∷_, _++_, append-nil, reverse, reverse-reverse}
 use mathlib.Core.Logic.{⊎-elim}
 use mathlib.Core.Option.{Option, none, some}
-use Prim.Native.Nat.{ℕ, zero, suc, _+_, _*_, _-_, _/_, _≤_}
+use Prim.Native.Nat.{ℕ, suc, _+_, _*_, _-_, _/_, _≤_}
 use native.Mathlib.Nat.{div-le-self}
 use native.Mathlib.Omega.{arith}
-use lib.ListN.{length, take, drop}
+use lib.ListN.{length, take}
 use lib.Seq.{take-nil, drop-nil}
 use lib.IntN.{ℤ}
-use lib.Dec.{eqb, ltb, leb}
+use lib.Dec.{eqb, leb}
 use borrow.Author.Tests.{eqb-true, eq-eqb, ne-eqb, leb-true, le-leb}
-use Rattle.records.specs.Lists.{if_then_else_, all, any, keep, concatMap, sameWord, firstOf, Every, none-left, and}
-use Rattle.records.specs.Store.{Store, Out, ok, stop, Work, andThen, _>>=_, give, isConstant, isVariable, isConcat, text, kind}
+use Rattle.records.specs.Lists.{all, any, keep, concatMap, sameWord, firstOf, Every, none-left, and}
+use Rattle.records.specs.Store.{Store, Out, ok, stop, Work, andThen, _>>=_, give, isConstant, isVariable, isConcat, kind}
 use Rattle.records.specs.Make.{withReasons, makeConstant}
 use Rattle.records.proofs.Lists.{both-left, both-right, both-true, left-false, right-false, either, all-every}
 use Rattle.normalize.specs.Normalize.{flatten}
-use Rattle.wordeq.specs.Wordeq.{Answer, done, propagate, Tried, settled, _orElse_, answer, same, fixed, lettersOf, letters, sameHeads, sameTails, explainMatches, matches, needsReason, rest, strip, occurs, unequal, short, absent, constants, alias, emptiesAt, empties, assigns, filled, lead, firstSpan, fits, variables, tileBy, tile, clashes, splits, after, isBare, orDone, steps, softened, closed, resolve}
+use Rattle.sides.specs.Wordeq.{Answer, done, propagate, Tried, settled, _orElse_, same, fixed, lettersOf, letters, sameHeads, sameTails, explainMatches, matches, needsReason, rest, strip, occurs, unequal, short, absent, constants, alias, emptiesAt, empties, assigns, filled, lead, firstSpan, fits, variables, tileBy, tile, clashes, splits, after, orDone, steps, softened, closed, resolve}
 use Rattle.empties.specs.Empties.{emptyAgainst, emptied, sides}
 
 -- WHAT IT ANSWERS

@@ -2,5 +2,5 @@ mod Unmet
 mod Form
 mod Listed
 mod Repeating
-pub mod Given
+pub mod EmptyParts
 mod Refines

@@ -1,3 +1,3 @@
 -- That the code meets its definitions: each way through a function, and the invariants of its loops. No other crate cites these.
 pub mod Listing
-pub mod Ways
+pub mod EmptyPartsCalls

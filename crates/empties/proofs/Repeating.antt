@@ -11,7 +11,7 @@ use lib.IntN.{ℤ}
 use lib.Dec.{eqb, leb}
 use borrow.Author.Tests.{eqb-true, eq-eqb, ne-eqb, not-true, leb-true, leb-false, le-leb, lt-ltb}
 use Rattle.records.specs.Lists.{all, any, concatMap, firstBelow, sameWord, firsts, Every}
-use Rattle.records.specs.Store.{Term, Store, Out, ok, stop, Work, andThen, _>>=_, give, term, count, kind, within, isTerm, isString, isConstant, isVariable, isConcat, text, parts, chainIn, root, sameClass}
+use Rattle.records.specs.Store.{Term, Store, Out, ok, stop, Work, andThen, _>>=_, give, count, kind, within, isTerm, isString, isConstant, isVariable, isConcat, text, parts, chainIn, root, sameClass}
 use Rattle.records.specs.Rules.{listLimit, isList, isReasonKind, isNumber}
 use Rattle.records.specs.Make.{withTerms, lookup, lowest, constantOf, makeConstant}
 use Rattle.records.specs.Working.Audited.{Audited}
@@ -23,7 +23,7 @@ use Rattle.records.proofs.Kept.{Appends, found, one-term, after-names, MadeIn, 
 use Rattle.records.proofs.ListLaws.{list-short, list-strings}
 use Rattle.normalize.specs.Normalize.{atoms, flatten}
 use Rattle.normalize.proofs.Atoms.{atoms-plain, atoms-is, flatten-fits, flatten-full}
-use Rattle.wordeq.specs.Wordeq.{Answer, done, propagate, same, softened, closed, steps, resolve}
+use Rattle.sides.specs.Wordeq.{Answer, done, propagate, same, softened, closed, steps, resolve}
 use Rattle.wordeq.proofs.Flattened.{neither-left, neither-right, plain-flat}
 use Rattle.classes.specs.Joins.{joinIn, traceOf}
 use Rattle.classes.specs.Marks.{Trail}
@@ -316,9 +316,6 @@ module _ (l r A B p : List ℕ) (g : ℤ) where
           constant = kind-like s us like e ∙ k .constant;
           empty = empty-like s us e like (k .empty);
         }
-
-        term-v : isTerm s v ≡ true
-        term-v = string-term s v (joinable .one)
 
         term-e : isTerm s e ≡ true
         term-e = string-term s e (joinable .other)

@@ -2,16 +2,17 @@
 use mathlib.Core.Path.{_≡_, refl}
 use mathlib.Core.Bool.{Bool, true, false, _&&_}
 use mathlib.Core.List.{List, [], _∷_}
-use Prim.Native.Nat.{ℕ, suc, _-_}
+use Prim.Native.Nat.{ℕ, _-_}
 use lib.ListN.{length}
 use lib.IntN.{pos}
 use lib.Dec.{eqb, T}
 use Rattle.records.specs.Lists.{if_then_else_, all, any, firstOf, keep, concatMap, sameWord, isIn, firsts, upTo, firstBelow}
 use Rattle.records.specs.Store.{Term, noTerm, Cell, noCell, Store, Out, ok, stop, termIn, cellIn, within, textIn, chainBy, climb, aboveBy, nearestIn, pathIn}
+use Rattle.records.specs.View.{termWords, cellWords}
 use Rattle.records.specs.Rules.{isNumber}
 use Rattle.records.specs.Make.{own, addText, addTerm, lookup, lowest, constantOf, makeConstant}
 use Rattle.normalize.specs.Normalize.{atomsBy, flatten}
-use Rattle.wordeq.specs.Wordeq.{Answer, done, saturated, conflict, propagate, split, same, fixed, lettersOf, letters, sameHeads, sameTails, rest, explainMatch, explainMatches, strip, isFull, occurrence, occurs, unequal, short, absent, constants, isPlain, alias, empties, assigns, filled, lead, firstSpan, fits, tileBy, tile, differ, clashes, splits, after, steps, resolve}
+use Rattle.sides.specs.Wordeq.{Answer, done, saturated, conflict, propagate, split, same, fixed, lettersOf, letters, sameHeads, sameTails, rest, explainMatch, explainMatches, strip, isFull, occurrence, occurs, unequal, short, absent, constants, isPlain, alias, empties, assigns, filled, lead, firstSpan, fits, tileBy, tile, differ, clashes, splits, after, steps, resolve}
 use Rattle.classes.specs.Joins.{putEdge, putClass, turn, turns, joinIn}
 use Rattle.classes.specs.Calls.{joinTerms}
 use Rattle.empties.specs.Empties.{isLabel, unmet, Parts, emptied, sides, emptyParts}
@@ -41,7 +42,7 @@ storing n ts cs = record {
   reasons = [];
   keys = [];
   names = 0;
-  room = record { terms = n; cells = 64; chars = 64; reasons = 8; keys = 8; termsLong = 264; cellsLong = 195; zeroTerm = noTerm; zeroCell = noCell };
+  room = record { terms = n; cells = 64; chars = 64; reasons = 8; keys = 8; termsLong = termWords 32; cellsLong = cellWords 64; zeroTerm = noTerm; zeroCell = noCell };
 }
 
 -- eight variables, each alone; with "" after them; with 2 in the class of 1, and 3 in that of ""; with a second "", whose class has 1

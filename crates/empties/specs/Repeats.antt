@@ -9,7 +9,7 @@ use Rattle.records.specs.Lists.{concatMap}
 use Rattle.records.specs.Store.{Store, Out, ok, stop, sameClass}
 use Rattle.records.specs.Rules.{isReasonKind, isNumber}
 use Rattle.normalize.specs.Normalize.{atoms}
-use Rattle.wordeq.specs.Wordeq.{Answer, done, saturated, conflict, propagate, split, resolve}
+use Rattle.sides.specs.Wordeq.{Answer, done, saturated, conflict, propagate, split, resolve}
 use Rattle.classes.specs.Marks.{Trail}
 use Rattle.classes.specs.Calls.{Outcome, gives, refuses, joinTerms}
 use Rattle.empties.specs.Empties.{isLabel, Parts}

@@ -6,13 +6,13 @@ ghost use Prim.Native.Nat.{_≤_, _<_};
 ghost use lib.ListN.{length, take};
 ghost use Rattle.records.specs.Lists.{all, any};
 ghost use Rattle.records.specs.Store.{isString, sameClass};
-ghost use Rattle.records.specs.View.{storeOf, lends, across, readIn, termed};
+ghost use Rattle.records.specs.View.{storeOf, lends, across, readIn};
 ghost use Rattle.records.specs.Rules.{listLimit, isList};
 ghost use Rattle.records.specs.Calls.{Writes, _into_};
 ghost use Rattle.records.specs.Working.Doing.{Does};
 ghost use Rattle.records.specs.Working.Audited.{Ready};
-ghost use Rattle.wordeq.specs.Working.Results.{BothLists};
-ghost use Rattle.wordeq.specs.Working.Stripping.{Readable};
+ghost use Rattle.sides.specs.Working.Results.{BothLists};
+ghost use Rattle.sides.specs.Working.Stripping.{Readable};
 ghost use Rattle.empties.specs.Empties.{unmet, emptied, sides, emptyParts};
 ghost use Rattle.empties.specs.Working.Listing.{Starts, tried};
 ghost use Rattle.empties.specs.Calls.{listed, PublicEmpties};
@@ -20,9 +20,9 @@ use records::LIST_LIMIT;
 use records::Made;
 use records::State;
 use records::make;
+use sides::stripping;
 use wordeq::propagate;
 use wordeq::resolving;
-use wordeq::stripping;
 
 // The answer, with the new counts.
 pub enum Empties {

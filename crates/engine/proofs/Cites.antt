@@ -14,7 +14,7 @@ use Rattle.records.specs.Make.{addReason, withReasons, samePair, isListed, each
 use Rattle.engine.specs.Explain.{givesReason}
 use Rattle.records.proofs.Lists.{every-append, either, both-left, both-right, clash}
 use Rattle.records.proofs.Works.{stop-not}
-use Rattle.records.proofs.Later.{once-none, once-then}
+use Rattle.records.proofs.LaterStores.{once-none, once-then}
 
 -- a store with room for n reasons
 abbrev pub roomed : Store → ℕ → Store

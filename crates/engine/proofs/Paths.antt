@@ -1,17 +1,16 @@
 -- The path between two terms of one tree of the forest.
 use mathlib.Core.Path.{_≡_, refl, sym, ap, _∙_}
 use mathlib.Core.Bool.{Bool, true, false, not}
-use mathlib.Core.List.{List, [], _∷_, _++_, List·Memᴰ, List·Memᴰ·head, List·Memᴰ·tail, List·Memᴰ·cases-cons, List·Memᴰ·not-nil}
+use mathlib.Core.List.{List, [], _∷_, _++_, List·Memᴰ, List·Memᴰ·cases-cons, List·Memᴰ·not-nil}
 use mathlib.Core.Logic.{_⊎_, inl, inr, ⊎-elim}
-use mathlib.Core.Option.{Option, none, some}
-use Prim.Native.Nat.{ℕ, zero, suc, _<_}
-use native.Mathlib.Omega.{arith}
+use mathlib.Core.Option.{some}
+use Prim.Native.Nat.{ℕ}
 use lib.ListN.{length}
 use lib.Dec.{eqb}
 use borrow.Author.Tests.{eqb-true, eqb-false, eq-eqb, ne-eqb}
 pub use Rattle.engine.specs.Working.Walks.{Together}
-use Rattle.records.specs.Lists.{any, firstOf, isIn, upTo, Every, none-left, and}
-use Rattle.records.specs.Store.{Term, Store, term, isTerm, climb, forestUp, top, aboveBy, aboveIn, orNone, nearestIn, pathIn, path, isEdge}
+use Rattle.records.specs.Lists.{firstOf, isIn, upTo, Every, none-left, and}
+use Rattle.records.specs.Store.{Term, Store, term, isTerm, forestUp, top, aboveIn, orNone, nearestIn, pathIn, path, isEdge}
 use Rattle.records.specs.Working.Audited.{Audited}
 use Rattle.records.proofs.Lists.{every-append, every-left, every-right}
 use Rattle.records.proofs.Rises.{is-in, in-is, Rise, ends, goes, rise-by, top-by, first-of, first-below, above-each}

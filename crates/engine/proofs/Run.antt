@@ -3,17 +3,17 @@ use mathlib.Core.Path.{_≡_, refl, ap, _∙_}
 use mathlib.Core.Bool.{Bool, true, false, _||_}
 use mathlib.Core.List.{List, [], _∷_, _++_, List·Memᴰ, List·Memᴰ·head, List·Memᴰ·tail, List·Memᴰ·cases-cons, Memᴰ·append-left, Memᴰ·append-right}
 use mathlib.Core.Logic.{_⊎_, inl, inr, ⊎-elim}
-use Prim.Native.Nat.{ℕ, zero, suc, min, _≤_, _<_}
+use Prim.Native.Nat.{ℕ, zero, suc, _≤_, _<_}
 use native.Mathlib.Omega.{arith}
 use lib.Dec.{eqb}
 use borrow.Author.Tests.{eqb-true}
-use Rattle.records.specs.Lists.{any, Every, none-left, and}
+use Rattle.records.specs.Lists.{Every, none-left, and}
 use Rattle.records.specs.Store.{Store, Out, ok, stop, Work, andThen, _>>=_, give, term, isTerm, chain, path, isEdge}
 use Rattle.records.specs.Rules.{reasonRule}
-use Rattle.records.specs.Make.{addReason, withReasons, ordered, samePair}
+use Rattle.records.specs.Make.{addReason, withReasons, ordered}
 use Rattle.records.specs.Meaning.{IsUnder}
 use Rattle.records.specs.Working.Audited.{Audited, Label, asserted, interface, congruence, definitional}
-use Rattle.records.proofs.Lists.{every-map, every-append, either, both-left, both-right, clash, every-both}
+use Rattle.records.proofs.Lists.{every-map, every-append, either, both-left, every-both}
 use Rattle.engine.specs.Explain.{Seen, wasSeen, each, edge, walk}
 use Rattle.engine.specs.Meaning.{Labels}
 use Rattle.engine.proofs.Paths.{path-edges}

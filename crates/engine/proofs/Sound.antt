@@ -22,7 +22,7 @@ use Rattle.engine.specs.Meaning.{Explains, Labels}
 use Rattle.engine.proofs.Paths.{Together}
 use Rattle.engine.proofs.Fits.{height-fit}
 use Rattle.engine.proofs.Cites.{roomed, cites, cites-given, withAll, gathered, cites-ok, cites-room, cites-stops}
-use Rattle.records.proofs.Later.{Added}
+use Rattle.records.proofs.LaterStores.{Added}
 use Rattle.engine.proofs.Run.{walk-run}
 use Rattle.engine.proofs.Equal.{words-equal}
 

@@ -15,7 +15,7 @@ use Rattle.engine.specs.Explain.{Seen, wasSeen, each, edge, walk, walked
 use Rattle.engine.proofs.Paths.{Together, path-edges}
 use Rattle.engine.proofs.Fits.{Fit, fit-zero, fit-more, fit-height, height-fit, highest-high, pairs-fit}
 use Rattle.engine.proofs.Cites.{citing-same}
-use Rattle.records.proofs.Later.{Added}
+use Rattle.records.proofs.LaterStores.{Added}
 use Rattle.engine.proofs.Run.{Run, EqualOrSeen, Accounted, edge-run, walk-run}
 
 module _ (s : Store) where

@@ -1,6 +1,6 @@
 -- What the public calls of find and explain promise.
 use mathlib.Core.Path.{_≡_}
-use Prim.Native.Nat.{ℕ, _<_}
+use Prim.Native.Nat.{ℕ}
 use Rattle.records.specs.declared.State.{State}
 use Rattle.records.specs.Lists.{Every}
 use Rattle.records.specs.Store.{Store, Out, ok, stop}

@@ -232,83 +232,8 @@ fn expand_edge(
     }
 }
 
-// The table is cleared at each call, so a store of few terms has a small one.
-fn explain_few(
-    terms: &[u32],
-    cells: &[u32],
-    c: State,
-    a: u32,
-    b: u32,
-    reasons: &mut [u32],
-) -> Walked
-    requires { ⌜ (c .terms ≤ 31) × Explainable (now terms) (now cells) (now reasons) (c .terms) (c .cells) a b (c .reasons) ⌝ }
-    ensures { λ r. ⌜ PairExplained terms cells reasons c a b r ⌝ }
-{
-    let mut table: [u32; 49] = [0; 49];
-    explain_rec(
-        terms,
-        cells,
-        c.terms,
-        c.cells,
-        a,
-        b,
-        &mut table,
-        reasons,
-        c.reasons,
-    )
-}
-
-fn explain_some(
-    terms: &[u32],
-    cells: &[u32],
-    c: State,
-    a: u32,
-    b: u32,
-    reasons: &mut [u32],
-) -> Walked
-    requires { ⌜ (c .terms ≤ 127) × Explainable (now terms) (now cells) (now reasons) (c .terms) (c .cells) a b (c .reasons) ⌝ }
-    ensures { λ r. ⌜ PairExplained terms cells reasons c a b r ⌝ }
-{
-    let mut table: [u32; 386] = [0; 386];
-    explain_rec(
-        terms,
-        cells,
-        c.terms,
-        c.cells,
-        a,
-        b,
-        &mut table,
-        reasons,
-        c.reasons,
-    )
-}
-
-fn explain_more(
-    terms: &[u32],
-    cells: &[u32],
-    c: State,
-    a: u32,
-    b: u32,
-    reasons: &mut [u32],
-) -> Walked
-    requires { ⌜ (c .terms ≤ 256) × Explainable (now terms) (now cells) (now reasons) (c .terms) (c .cells) a b (c .reasons) ⌝ }
-    ensures { λ r. ⌜ PairExplained terms cells reasons c a b r ⌝ }
-{
-    let mut table: [u32; 1294] = [0; 1294];
-    explain_rec(
-        terms,
-        cells,
-        c.terms,
-        c.cells,
-        a,
-        b,
-        &mut table,
-        reasons,
-        c.reasons,
-    )
-}
-
-fn explain_many(
+// A walk from no pair seen. The table is cleared at each call, so its size goes by the number of terms.
+fn explain_tabled(
     terms: &[u32],
     cells: &[u32],
     c: State,
@@ -319,18 +244,23 @@ fn explain_many(
     requires { ⌜ (c .terms ≤ 512) × Explainable (now terms) (now cells) (now reasons) (c .terms) (c .cells) a b (c .reasons) ⌝ }
     ensures { λ r. ⌜ PairExplained terms cells reasons c a b r ⌝ }
 {
+    let n = c.terms;
+    let k = c.cells;
+    let count = c.reasons;
+    if n < 32 {
+        let mut table: [u32; 49] = [0; 49];
+        return explain_rec(terms, cells, n, k, a, b, &mut table, reasons, count);
+    }
+    if n < 128 {
+        let mut table: [u32; 386] = [0; 386];
+        return explain_rec(terms, cells, n, k, a, b, &mut table, reasons, count);
+    }
+    if n <= 256 {
+        let mut table: [u32; 1294] = [0; 1294];
+        return explain_rec(terms, cells, n, k, a, b, &mut table, reasons, count);
+    }
     let mut table: [u32; 4634] = [0; 4634];
-    explain_rec(
-        terms,
-        cells,
-        c.terms,
-        c.cells,
-        a,
-        b,
-        &mut table,
-        reasons,
-        c.reasons,
-    )
+    explain_rec(terms, cells, n, k, a, b, &mut table, reasons, count)
 }
 
 // As give, over the counts by value: a path without congruences has them at hand.
@@ -345,22 +275,14 @@ fn give_plain(
     requires { ⌜ c .reasons ≤ reasonRoom (now reasons) ⌝ }
     ensures { λ r. ⌜ Gives (now (reasons .entry)) (now (reasons .exit)) (now (places .entry)) (now (places .exit)) (c .reasons) kind value slot r ⌝ }
 {
-    if listing::is_listed(reasons, c.reasons, places, slot, kind, value) {
-        return Walked {
-            code: 0,
-            count: c.reasons,
-        };
+    let r = give(reasons, c.reasons, kind, value, slot, places);
+    if r.count == c.reasons {
+        return r;
     }
-    if put::push_reason_unchecked(reasons, c.reasons, kind, value) {
-        let d = c.with_reason_unchecked();
-        return Walked {
-            code: 0,
-            count: d.reasons,
-        };
-    }
+    let d = c.with_reason_unchecked();
     Walked {
-        code: 7,
-        count: c.reasons,
+        code: 0,
+        count: d.reasons,
     }
 }
 
@@ -443,19 +365,13 @@ fn explain_pair(
     ensures { λ r. ⌜ PairExplained terms cells reasons c a b r ⌝ }
 {
     if c.terms < 32 {
-        return explain_few(terms, cells, c, a, b, reasons);
+        return explain_tabled(terms, cells, c, a, b, reasons);
     }
     let p = explain_plain(terms, c, a, b, reasons, places);
     if let Plain::Ended(r) = p {
         return r;
     }
-    if c.terms < 128 {
-        return explain_some(terms, cells, c, a, b, reasons);
-    }
-    if c.terms <= 256 {
-        return explain_more(terms, cells, c, a, b, reasons);
-    }
-    explain_many(terms, cells, c, a, b, reasons)
+    explain_tabled(terms, cells, c, a, b, reasons)
 }
 
 // The reasons why a and b, string terms of one class, are equal, after those that are there; one that is there is not added. A loop

@@ -5,8 +5,8 @@ use Prim.Native.Nat.{ℕ}
 use lib.IntN.{ℤ}
 use Rattle.records.specs.Store.{Store, Work, term}
 use Rattle.normalize.specs.Normalize.{deepForm}
-use Rattle.wordeq.specs.Wordeq.{Answer, done, saturated, conflict, propagate, split, resolve}
-use Rattle.wordeq.proofs.FewAtoms.{Always, give-has, next-has, then-has, Few, resolve-few}
+use Rattle.sides.specs.Wordeq.{Answer, done, saturated, conflict, propagate, split, resolve}
+use Rattle.sides.proofs.FewAtoms.{Always, give-has, next-has, then-has, Few, resolve-few}
 use Rattle.equation.specs.Equation.{Stepped, unexpanded, answered, returned, orUnexpanded, step}
 
 module _ (g : ℤ) where

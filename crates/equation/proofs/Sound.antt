@@ -20,13 +20,13 @@ use Rattle.engine.proofs.Sound.{holds-earlier}
 use Rattle.normalize.specs.Normalize.{deepForm}
 use Rattle.records.proofs.ListLaws.{list-every}
 use Rattle.normalize.proofs.Deep.{DeepFormed, Deepened, deep-ends}
-use Rattle.wordeq.specs.Wordeq.{Answer, done, saturated, conflict, propagate, split, resolve}
-use Rattle.wordeq.specs.Meaning.{Worth}
+use Rattle.sides.specs.Wordeq.{Answer, done, saturated, conflict, propagate, split, resolve}
+use Rattle.sides.specs.Meaning.{Worth}
 use Rattle.records.proofs.Outcomes.{ends-give, ends-wider, ends-then}
-use Rattle.wordeq.proofs.Ends.{RefusedAtWork, Ends}
-use Rattle.wordeq.proofs.Good.{worth-back}
-use Rattle.records.proofs.Later.{Later, later-then, later-cut}
-use Rattle.wordeq.proofs.Resolve.{ends-known, Counts, Resolved, resolve-ends}
+use Rattle.sides.proofs.StepOutcomes.{RefusedAtWork, Ends}
+use Rattle.sides.proofs.Good.{worth-back}
+use Rattle.records.proofs.LaterStores.{Later, later-then, later-cut}
+use Rattle.sides.proofs.Resolve.{ends-known, Counts, Resolved, resolve-ends}
 use Rattle.equation.specs.Equation.{Stepped, unexpanded, answered, returned, orUnexpanded, step, stepArguments, GrowsAfterForms, StepSound}
 
 -- THE SIDES

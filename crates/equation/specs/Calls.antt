@@ -8,7 +8,7 @@ use Rattle.records.specs.Store.{Store, Out, ok, andThen, give}
 use Rattle.records.specs.View.{Lent, storeOf}
 use Rattle.records.specs.Make.{EachOnce}
 use Rattle.normalize.specs.Calls.{listCall, PublicList}
-use Rattle.wordeq.specs.Wordeq.{split}
+use Rattle.sides.specs.Wordeq.{split}
 use Rattle.wordeq.specs.Calls.{resolved}
 use Rattle.equation.specs.declared.Outcome.{Outcome}
 use Rattle.equation.specs.declared.Outcome.the-variants.{Answered, Unexpanded}

@@ -9,8 +9,8 @@ use Rattle.records.specs.Store.{Store, ok, Work, _>>=_, give, store, count, ter
 use Rattle.records.specs.Make.{withReasons}
 use Rattle.normalize.specs.Normalize.{deepForm}
 use Rattle.records.specs.Rules.{isList}
-use Rattle.wordeq.specs.Wordeq.{Answer, done, saturated, conflict, propagate, split, resolve, isGuard}
-use Rattle.wordeq.specs.Meaning.{Worth}
+use Rattle.sides.specs.Wordeq.{Answer, done, saturated, conflict, propagate, split, resolve, isGuard}
+use Rattle.sides.specs.Meaning.{Worth}
 
 pub data Stepped : Type 0 where
   unexpanded : Stepped

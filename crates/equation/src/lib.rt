@@ -1,7 +1,6 @@
 // The step over one equation: the deep forms of its two sides, then wordeq over them.
 ghost use mathlib.Core.Path.{_≡_};
 ghost use mathlib.Core.Bool.{true};
-ghost use mathlib.Core.List.{[]};
 ghost use Prim.Native.Nat.{_≤_};
 ghost use lib.ListN.{length};
 ghost use Rattle.records.specs.View.{storeOf, lends, across, termed};
@@ -11,8 +10,8 @@ ghost use Rattle.records.specs.Calls.{Writes, _into_};
 ghost use Rattle.records.specs.Working.Doing.{Does};
 ghost use Rattle.normalize.specs.Normalize.{formArguments};
 ghost use Rattle.normalize.specs.Working.Pushes.{Candidates};
-ghost use Rattle.wordeq.specs.Wordeq.{isGuard};
-ghost use Rattle.wordeq.specs.Working.Results.{BothLists};
+ghost use Rattle.sides.specs.Wordeq.{isGuard};
+ghost use Rattle.sides.specs.Working.Results.{BothLists};
 ghost use Rattle.equation.specs.Equation.{step, stepArguments};
 ghost use Rattle.equation.specs.Calls.{stepped, PublicStep};
 ghost use Rattle.equation.specs.Working.Forms.{incomingOf, resolveForms, rightForm, carried};
@@ -23,7 +22,7 @@ use records::LIST_LIMIT;
 use records::State;
 use records::fields;
 use records::rules;
-use wordeq::StepResult;
+use sides::StepResult;
 use wordeq::resolving::resolve_unchecked;
 
 // wordeq's answer, a refusal among its cases; or Unexpanded, with the new counts.

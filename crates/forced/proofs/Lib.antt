@@ -1,5 +1,5 @@
 mod Sums
 mod Unfit
 mod Refuted
-pub mod Given
+pub mod ForcedLength
 mod Refines

@@ -1,5 +1,5 @@
 -- The quotient and the remainder, or the shortage, add up.
-use mathlib.Core.Path.{_≡_, refl, sym, ap, _∙_}
+use mathlib.Core.Path.{_≡_, refl}
 use mathlib.Core.Bool.{Bool, true, false}
 use Prim.Native.Nat.{ℕ, _+_, _*_, _-_, _/_, _%_, _≤_, _<_}
 use native.Mathlib.Nat.{mod-lt, mod-le, div-add-mod, div-le-self}
@@ -7,7 +7,7 @@ use native.Mathlib.Omega.{arith}
 use lib.Dec.{ltb}
 use borrow.Author.Tests.{ltb-true, ltb-false}
 use Rattle.records.specs.Lists.{if_then_else_}
-use Rattle.forced.specs.Forced.{Span, spans, short, spanOf}
+use Rattle.forced.specs.Forced.{spans, short, spanOf}
 use Rattle.forced.specs.Forces.{Sums, Unfit, letterLimit, FewSpan}
 
 -- the number is its quotient's multiple and its remainder

@@ -1,14 +1,13 @@
 -- Steps 2 to 5 on a side of constants and a side of one variable class, with a remainder or a shortage: the answer is Conflict, unless the
 -- reasons are full.
 use mathlib.Core.Path.{_≡_, refl, sym, ap, subst, _∙_}
-use mathlib.Core.Bool.{Bool, true, false, not, _&&_, _||_}
+use mathlib.Core.Bool.{Bool, true, false, _&&_, _||_}
 use mathlib.Core.List.{List, [], _∷_}
 use mathlib.Core.Option.{Option, none, some}
-use Prim.Native.Nat.{ℕ, suc, _+_, _*_, _-_, _/_, _%_, _≤_, _<_}
+use Prim.Native.Nat.{ℕ, suc, _+_, _*_, _-_, _%_, _≤_, _<_}
 use native.Mathlib.Omega.{arith}
 use lib.ListN.{length}
 use lib.IntN.{ℤ}
-use lib.Dec.{eqb, ltb}
 use borrow.Author.Tests.{eqb-true, lt-ltb, ne-eqb}
 use Rattle.records.specs.Lists.{if_then_else_, all, keep, concatMap}
 use Rattle.records.specs.Store.{Store, Out, ok, stop, andThen, isConstant, isVariable, kind}
@@ -17,11 +16,11 @@ use Rattle.records.specs.Working.Audited.{Audited}
 use Rattle.records.proofs.Lists.{both-left, both-right, both-true, left-false, clash, decide, or-left, or-right}
 use Rattle.records.proofs.Grown.{Strings}
 use Rattle.engine.specs.Explain.{explain}
-use Rattle.wordeq.specs.Wordeq.{Answer, conflict, Tried, answer, pass, settled, _orElse_, same, fixed, lettersOf, letters, variables, occurrence, occursAt, occurs, unequal, short, absent, constants, alias, empties, assigns, forced, fits, explainAll, tileBy, tile, clashes, splits, after, isBare}
-use Rattle.wordeq.proofs.Cited.{Full}
-use Rattle.wordeq.proofs.Occurs.{occurs-full}
-use Rattle.wordeq.proofs.Tile.{tile-full}
-use Rattle.wordeq.proofs.Residual.{fixed-variables, variables-short}
+use Rattle.sides.specs.Wordeq.{Answer, conflict, Tried, answer, pass, settled, same, fixed, lettersOf, letters, variables, occurrence, occursAt, occurs, unequal, short, absent, constants, alias, empties, assigns, forced, fits, explainAll, tileBy, tile, clashes, splits, after, isBare}
+use Rattle.sides.proofs.Cited.{Full}
+use Rattle.sides.proofs.Occurs.{occurs-full}
+use Rattle.sides.proofs.Tile.{tile-full}
+use Rattle.sides.proofs.Residual.{fixed-variables, variables-short}
 use Rattle.forced.specs.Forced.{oneClass, isForced}
 use Rattle.forced.proofs.Sums.{Cause, lacks, leaves, uneven, some-left, two-left}
 

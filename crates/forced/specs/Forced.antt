@@ -1,5 +1,5 @@
 -- Document 02, Note 6: the forced length.
-use mathlib.Core.Bool.{Bool, true, false, _&&_}
+use mathlib.Core.Bool.{Bool, false, _&&_}
 use mathlib.Core.List.{List, [], _∷_}
 use Prim.Native.Nat.{ℕ, _-_, _/_, _%_}
 use lib.ListN.{length}
@@ -7,7 +7,7 @@ use lib.Dec.{ltb}
 use Rattle.records.specs.Lists.{if_then_else_, all}
 use Rattle.records.specs.Store.{Store, Work, _>>=_, give, refuse, store}
 use Rattle.normalize.specs.Normalize.{flatten}
-use Rattle.wordeq.specs.Wordeq.{same, fixed, letters, variables, rest}
+use Rattle.sides.specs.Wordeq.{same, fixed, letters, variables, rest}
 
 -- 'the quotient m and the remainder r'; 'Where l is below c, the shortage c minus l replaces m and r'
 pub data Span : Type 0 where

@@ -1,13 +1,14 @@
--- The definition run on a small store.
+-- The definition of the forced length run on a small store: pairs of lists, each both ways round.
 use mathlib.Core.Bool.{Bool, false, _&&_}
 use mathlib.Core.List.{List, [], _∷_}
 use Prim.Native.Nat.{ℕ}
 use lib.Dec.{eqb, T}
 use Rattle.records.specs.Lists.{all, keep, concatMap, table, sameWord, firsts}
-use Rattle.records.specs.Store.{Term, noTerm, Cell, noCell, Store, Out, ok, stop, termIn, cellIn, within, textIn, chainBy, climb}
+use Rattle.records.specs.Store.{Term, noTerm, noCell, Store, Out, ok, stop, termIn, cellIn, within, textIn, chainBy, climb}
+use Rattle.records.specs.View.{termWords, cellWords}
 use Rattle.records.specs.Make.{own}
 use Rattle.normalize.specs.Normalize.{atomsBy, flatten}
-use Rattle.wordeq.specs.Wordeq.{same, fixed, lettersOf, letters, sameHeads, sameTails, rest}
+use Rattle.sides.specs.Wordeq.{same, fixed, lettersOf, letters, sameHeads, sameTails, rest}
 use Rattle.forced.specs.Forced.{Span, spans, short, Fit, oneClass, sidesFit, residualFit, forcedLength}
 
 -- the characters are "A7-A71". x, y and z, and 7 in the class of x; "A" twice, "A7", "A7-" and ""; 10 is x ++ "A7"; "-", "A7-A71" and "A7-A7"
@@ -62,7 +63,7 @@ labels = record {
   reasons = [];
   keys = [];
   names = 0;
-  room = record { terms = 32; cells = 64; chars = 64; reasons = 8; keys = 8; termsLong = 264; cellsLong = 195; zeroTerm = noTerm; zeroCell = noCell };
+  room = record { terms = 32; cells = 64; chars = 64; reasons = 8; keys = 8; termsLong = termWords 32; cellsLong = cellWords 64; zeroTerm = noTerm; zeroCell = noCell };
 }
 
 -- two lists, and what is to be answered: k, c, l, m and r; k, c, l and the shortage; or the number of a refusal

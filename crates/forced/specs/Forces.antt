@@ -5,7 +5,7 @@ use Prim.Native.Nat.{ℕ, _+_, _*_, _≤_, _<_}
 use lib.IntN.{ℤ}
 use Rattle.records.specs.Lists.{if_then_else_, any}
 use Rattle.records.specs.Store.{Store, Out, ok, stop, isConcat}
-use Rattle.wordeq.specs.Wordeq.{Answer, saturated, conflict, resolve}
+use Rattle.sides.specs.Wordeq.{Answer, saturated, conflict, resolve}
 use Rattle.forced.specs.Forced.{Span, spans, short, Fit}
 
 -- 'l = c + k × m + r and r below k'; the shortage is what l lacks of c

@@ -7,17 +7,17 @@ ghost use Rattle.records.specs.Rules.{isList};
 ghost use Rattle.records.specs.Calls.{Promises};
 ghost use Rattle.records.specs.Working.Doing.{Does};
 ghost use Rattle.records.specs.Working.Audited.{Ready};
-ghost use Rattle.wordeq.specs.Wordeq.{variables};
-ghost use Rattle.wordeq.specs.Working.Results.{BothLists};
-ghost use Rattle.wordeq.specs.Working.Stripping.{Readable};
+ghost use Rattle.sides.specs.Wordeq.{variables};
+ghost use Rattle.sides.specs.Working.Results.{BothLists};
+ghost use Rattle.sides.specs.Working.Stripping.{Readable};
 ghost use Rattle.forced.specs.Forced.{oneClass, isForced, sideFit, sidesFit, residualFit, forcedLength};
 ghost use Rattle.forced.specs.Calls.{fitted, PublicForced};
 use records::LIST_LIMIT;
 use records::State;
+use sides::letters;
+use sides::spans;
+use sides::stripping;
 use wordeq::resolving;
-use wordeq::sides;
-use wordeq::spans;
-use wordeq::stripping;
 
 // k variables and c constant characters on one side, l characters on the other.
 pub enum Forced {
@@ -49,7 +49,7 @@ fn is_forced(terms: &[u32], chars: &[u32], c: State, word: &[u32], side: &[u32])
     requires { ⌜ isList (readIn (now terms) (now chars) c) (now side) ≡ true ⌝ }
     ensures { λ b. ⌜ b ≡ isForced (readIn (now (terms .entry)) (now (chars .entry)) c) (now (word .entry)) (now (side .entry)) ⌝ }
 {
-    if !sides::is_fixed(terms, c, word) {
+    if !letters::is_fixed(terms, c, word) {
         return false;
     }
     has_one_class(terms, chars, c, side)
@@ -65,8 +65,8 @@ fn side_fit(terms: &[u32], chars: &[u32], c: State, word: &[u32], side: &[u32]) 
       ⌜ fitted o s ≡ ok s (sideFit s (now (word .entry)) (now (side .entry))) ⌝ }
 {
     let k = spans::variables_length(terms, c, side);
-    let n = sides::letters_length_unchecked(terms, c, side);
-    let l = sides::letters_length_unchecked(terms, c, word);
+    let n = letters::letters_length_unchecked(terms, c, side);
+    let l = letters::letters_length_unchecked(terms, c, word);
     if l < n {
         return Forced::Shortage(k, n, l, n - l);
     }

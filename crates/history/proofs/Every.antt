@@ -7,7 +7,7 @@ use Prim.Native.Nat.{ℕ}
 use lib.ListN.{length}
 use lib.Dec.{leb}
 use borrow.Author.Tests.{leb-true}
-use Rattle.records.specs.Lists.{if_then_else_, all, oneMore}
+use Rattle.records.specs.Lists.{all, oneMore}
 use Rattle.records.specs.Store.{Store, Out, ok, stop, Work, root, within}
 use Rattle.records.specs.Rules.{reasonRule, listLimit, isList}
 use Rattle.records.specs.Make.{withTerms, withReasons, constantArguments, makeConstant, variableArguments, makeVariable, concatArguments, makeConcat, lengthArguments, makeLength, equationArguments, makeEquation}
@@ -17,23 +17,23 @@ use Rattle.records.proofs.Lists.{both-left, both-right, decide}
 use Rattle.records.proofs.ListLaws.{list-strings}
 use Rattle.records.proofs.Works.{stop-not, branch}
 use Rattle.records.proofs.Beside.{audited-beside}
-use Rattle.records.proofs.Later.{Extended, as-was, others, Later, later-none, later-made, later-added}
+use Rattle.records.proofs.LaterStores.{Extended, as-was, others, Later, later-none, later-made, later-added}
 use Rattle.records.proofs.Doing.{constant-fit, variable-fit, concat-fit, length-fit, equation-fit}
 use Rattle.engine.specs.Explain.{find, findArguments, explain, explainArguments}
 use Rattle.engine.proofs.Sound.{explain-gave}
 use Rattle.normalize.specs.Normalize.{normalForm, deepForm, formArguments}
 use Rattle.normalize.proofs.Formed.{form-kept}
 use Rattle.normalize.proofs.Deep.{deep-kept}
-use Rattle.wordeq.specs.Wordeq.{resolve, resolveArguments, nfExplain, nfArguments, isGuard}
+use Rattle.sides.specs.Wordeq.{resolve, resolveArguments, nfExplain, nfArguments, isGuard}
 use Rattle.wordeq.specs.Calls.{equalArguments, equalLists}
-use Rattle.wordeq.proofs.Resolve.{resolve-gives}
-use Rattle.wordeq.proofs.Equal.{explain-equal-gives}
+use Rattle.sides.proofs.Resolve.{resolve-gives}
+use Rattle.sides.proofs.Equal.{explain-equal-gives}
 use Rattle.equation.specs.Equation.{step, stepArguments}
 use Rattle.equation.proofs.Sound.{step-gives}
 use Rattle.empties.specs.Empties.{emptyParts}
-use Rattle.empties.proofs.Given.{parts-later}
+use Rattle.empties.proofs.EmptyParts.{parts-later}
 use Rattle.forced.specs.Forced.{forcedLength}
-use Rattle.forced.proofs.Given.{forced-gives}
+use Rattle.forced.proofs.ForcedLength.{forced-gives}
 use Rattle.classes.specs.Calls.{Outcome, gives, joinTerms, goBack, before}
 use Rattle.classes.proofs.JoinKept.{join-like}
 use Rattle.classes.proofs.Tracking.{of-tracked, back-goes, Joining, wrong, together, joins, Marking, full, marks, marking}

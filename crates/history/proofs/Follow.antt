@@ -7,7 +7,7 @@ use lib.ListN.{length}
 use lib.Dec.{leb}
 use borrow.Author.Tests.{leb-true}
 use Rattle.records.specs.declared.State.{State}
-use Rattle.records.specs.Lists.{if_then_else_, all}
+use Rattle.records.specs.Lists.{all}
 use Rattle.records.specs.Store.{Store, Out, ok, stop, Work}
 use Rattle.records.specs.View.{Lent, storeOf}
 use Rattle.records.specs.Rules.{audit, reasonRule, listLimit}

@@ -19,7 +19,7 @@ use Rattle.records.proofs.Append
 use Rattle.records.proofs.Append.{grow, More, New, kept-audited}
 use Rattle.records.proofs.Beside.{beside, audited-beside}
 use Rattle.records.proofs.Kept.{names-audited}
-use Rattle.records.proofs.Later.{Extended, as-was, one-term, counter, others}
+use Rattle.records.proofs.LaterStores.{Extended, as-was, one-term, counter, others}
 use Rattle.records.proofs.Extend.{kept-grown}
 use Rattle.classes.specs.Joins.{joinIn}
 use Rattle.history.specs.History.{Generated, itself, pair, turned, linked}

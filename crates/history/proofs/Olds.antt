@@ -7,7 +7,7 @@ use native.Mathlib.Omega.{arith}
 use lib.ListN.{length, length-append, List·getD-append}
 use Rattle.records.specs.Store.{Term, noTerm, Store, termIn, within}
 use Rattle.records.proofs.Lists.{within-low, within-high, within-is}
-use Rattle.records.proofs.Later.{Extended}
+use Rattle.records.proofs.LaterStores.{Extended}
 use Rattle.classes.proofs.Alike.{Like}
 use Rattle.classes.proofs.MarksLater.{since, more-terms}
 use Rattle.history.specs.History.{SameTerm}

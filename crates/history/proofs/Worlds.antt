@@ -10,14 +10,14 @@ use lib.ListN.{length, getD, take, drop, length-append, length-take, List·getD-
 use lib.Seq.{drop-length, drop-append-le, getD-append-seam, getD-take}
 use lib.Dec.{ltb}
 use borrow.Author.Tests.{ltb-true, ltb-false}
-use Rattle.records.specs.Lists.{if_then_else_, oneMore}
+use Rattle.records.specs.Lists.{oneMore}
 use Rattle.records.specs.Store.{Term, Room, Store, within}
 use Rattle.records.specs.View.{termLimit}
 use Rattle.records.specs.Make.{withTerms}
 use Rattle.records.specs.Working.Audited.{Audited}
 use Rattle.records.proofs.Lists.{decide, every-at, within-low, within-high, within-is}
 use Rattle.records.proofs.Grown.{string-term}
-use Rattle.records.proofs.Later.{Extended}
+use Rattle.records.proofs.LaterStores.{Extended}
 use Rattle.classes.specs.Joins.{Trace, joinIn, traceOf, undoIn}
 use Rattle.classes.specs.Marks.{Trail, markLimit, joinLimit, undoAll, tableAt, marksRule}
 use Rattle.classes.specs.Calls.{Outcome, recorded, joinTerms, setMark, joinsAt, before, goBack}

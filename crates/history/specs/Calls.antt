@@ -16,7 +16,7 @@ use Rattle.records.specs.Make.{withReasons, constantArguments, makeConstant, va
 use Rattle.records.specs.Calls.{checked}
 use Rattle.engine.specs.Explain.{find, findArguments, explain, explainArguments}
 use Rattle.normalize.specs.Normalize.{normalForm, deepForm, formArguments}
-use Rattle.wordeq.specs.Wordeq.{resolve, resolveArguments, nfExplain, nfArguments}
+use Rattle.sides.specs.Wordeq.{resolve, resolveArguments, nfExplain, nfArguments}
 use Rattle.wordeq.specs.Calls.{equalArguments, equalLists}
 use Rattle.equation.specs.Equation.{step, stepArguments}
 use Rattle.empties.specs.Empties.{emptyParts}

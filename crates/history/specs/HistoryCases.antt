@@ -8,6 +8,7 @@ use lib.ListN.{length}
 use lib.Dec.{eqb, T}
 use Rattle.records.specs.Lists.{if_then_else_, all, any, firstOf, table, sameWord, isIn, firsts, seconds, upTo, allBelow, firstBelow, oneMore}
 use Rattle.records.specs.Store.{Term, noTerm, noCell, Store, termIn, cellIn, within, count, textIn, chainBy, climb, aboveBy, nearestIn, pathIn, sameClass}
+use Rattle.records.specs.View.{termWords, cellWords}
 use Rattle.records.specs.Rules.{isChar, isNumber, reasonRule, keyRule, cellRule, textRule, named, nameRule, partRule, concatRule, lengthRule, isEquatable, equationRule, termRule, recordsRule, parentsRule, endsRule, alikeRule, aloneRule, edgeLabel, labelRule, classesRule, pairsOf, fallsRule, congruenceRule, congruencesRule}
 use Rattle.records.specs.Make.{own, addReason, isListed, samePair, addText, addChain, chainFrom, addTerm, lookup, lowest, constantOf, concatOf, lengthOf, equationOf, makeConstant, makeVariable, makeConcat, makeLength, makeEquation}
 use Rattle.classes.specs.Joins.{putEdge, putClass, turn, turns, joinIn, Trace, isTrace, undoIn}
@@ -33,7 +34,7 @@ lettered ts w = record {
   reasons = [];
   keys = [];
   names = 0;
-  room = record { terms = 7; cells = 2; chars = 6; reasons = 4; keys = 0; termsLong = 64; cellsLong = 9; zeroTerm = noTerm; zeroCell = noCell };
+  room = record { terms = 7; cells = 2; chars = 6; reasons = 4; keys = 0; termsLong = termWords 7; cellsLong = cellWords 2; zeroTerm = noTerm; zeroCell = noCell };
 }
 
 abbrev pub abcd : List ℕ

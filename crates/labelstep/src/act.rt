@@ -1,5 +1,4 @@
 // What each command does.
-use crate::front::front;
 use crate::say::say_bad;
 use crate::say::say_outcome;
 use crate::say::say_refused;
@@ -10,7 +9,15 @@ use crate::session::with_stamp;
 use crate::session::without_reasons;
 use classes::merge;
 use commands::Parsed;
+use lines::lending::front;
+use records::CELL_SLICE;
+use records::CHAR_LIMIT;
+use records::KEY_SLICE;
+use records::LIST_LIMIT;
 use records::Made;
+use records::REASON_SLICE;
+use records::State;
+use records::TERM_SLICE;
 use records::build::make_concatenation;
 use records::build::make_equation;
 use records::fields::word;
@@ -33,71 +40,30 @@ fn after_making(r: Made, s: Session) -> Session {
     }
 }
 
-// `C text`.
-fn constant(
-    n: usize,
-    list: &[u32; 1024],
-    terms: &mut [u32; 4104],
-    cells: &[u32; 6147],
-    chars: &mut [u32; 16384],
-    reasons: &[u32; 8192],
-    keys: &[u32; 8192],
-    s: Session,
-) -> Session {
-    let c = s.counts;
-    let w = front(list, n);
-    let r = make_constant(terms, cells, chars, reasons, keys, c, w);
-    after_making(r, s)
-}
-
-// `V name`.
-fn variable(
-    n: usize,
-    list: &[u32; 1024],
-    terms: &mut [u32; 4104],
-    cells: &[u32; 6147],
-    chars: &mut [u32; 16384],
-    reasons: &[u32; 8192],
-    keys: &[u32; 8192],
-    s: Session,
-) -> Session {
-    let c = s.counts;
-    let w = front(list, n);
-    let r = make_variable(terms, cells, chars, reasons, keys, c, w);
-    after_making(r, s)
-}
-
-// `P t u ..`.
-fn parts(
-    n: usize,
-    list: &[u32; 1024],
-    terms: &mut [u32; 4104],
-    cells: &mut [u32; 6147],
-    chars: &[u32; 16384],
-    reasons: &[u32; 8192],
-    keys: &[u32; 8192],
-    s: Session,
-) -> Session {
-    let c = s.counts;
-    let w = front(list, n);
-    let r = make_concatenation(terms, cells, chars, reasons, keys, c, w);
-    after_making(r, s)
-}
-
-// `E t u`.
-fn sides(
-    t: u32,
-    u: u32,
-    terms: &mut [u32; 4104],
-    cells: &[u32; 6147],
-    chars: &[u32; 16384],
-    reasons: &[u32; 8192],
-    keys: &[u32; 8192],
-    s: Session,
-) -> Session {
-    let c = s.counts;
-    let r = make_equation(terms, cells, chars, reasons, keys, c, t, u);
-    after_making(r, s)
+// `C text`, `V name`, `P t u ..` and `E t u`. Any other line makes no term.
+fn make(
+    p: Parsed,
+    list: &[u32; LIST_LIMIT],
+    terms: &mut [u32; TERM_SLICE],
+    cells: &mut [u32; CELL_SLICE],
+    chars: &mut [u32; CHAR_LIMIT],
+    reasons: &[u32; REASON_SLICE],
+    keys: &[u32; KEY_SLICE],
+    c: State,
+) -> Made {
+    match p {
+        Parsed::Constant(n) => {
+            make_constant(terms, cells, chars, reasons, keys, c, front(list, n))
+        }
+        Parsed::Variable(n) => {
+            make_variable(terms, cells, chars, reasons, keys, c, front(list, n))
+        }
+        Parsed::Concatenation(n) => {
+            make_concatenation(terms, cells, chars, reasons, keys, c, front(list, n))
+        }
+        Parsed::Equation(t, u) => make_equation(terms, cells, chars, reasons, keys, c, t, u),
+        _ => Made::Refused(0),
+    }
 }
 
 // `M child parent n`.
@@ -105,11 +71,11 @@ fn merge_classes(
     child: u32,
     parent: u32,
     n: u32,
-    terms: &mut [u32; 4104],
-    cells: &[u32; 6147],
-    chars: &[u32; 16384],
-    reasons: &[u32; 8192],
-    keys: &[u32; 8192],
+    terms: &mut [u32; TERM_SLICE],
+    cells: &[u32; CELL_SLICE],
+    chars: &[u32; CHAR_LIMIT],
+    reasons: &[u32; REASON_SLICE],
+    keys: &[u32; KEY_SLICE],
     s: Session,
 ) -> Session {
     let c = s.counts;
@@ -122,9 +88,9 @@ fn merge_classes(
     with_stamp(s)
 }
 
-fn copy(from: &[u32], to: &mut [u32; 1024]) {
+fn copy(from: &[u32], to: &mut [u32; LIST_LIMIT]) {
     let mut i: usize = 0;
-    while i < 1024 {
+    while i < LIST_LIMIT {
         to[i] = word(from, i);
         i += 1;
     }
@@ -132,10 +98,10 @@ fn copy(from: &[u32], to: &mut [u32; 1024]) {
 
 // `K ..`: a list of string terms.
 fn set_known(
-    list: &[u32; 1024],
+    list: &[u32; LIST_LIMIT],
     n: usize,
-    known: &mut [u32; 1024],
-    terms: &[u32; 4104],
+    known: &mut [u32; LIST_LIMIT],
+    terms: &[u32; TERM_SLICE],
     s: Session,
 ) -> Session {
     let c = s.counts;
@@ -152,13 +118,13 @@ fn set_known(
 fn resolve(
     e: u32,
     g: i32,
-    list: &mut [u32; 1024],
-    known: &[u32; 1024],
-    terms: &mut [u32; 4104],
-    cells: &mut [u32; 6147],
-    chars: &mut [u32; 16384],
-    reasons: &mut [u32; 8192],
-    keys: &mut [u32; 8192],
+    list: &mut [u32; LIST_LIMIT],
+    known: &[u32; LIST_LIMIT],
+    terms: &mut [u32; TERM_SLICE],
+    cells: &mut [u32; CELL_SLICE],
+    chars: &mut [u32; CHAR_LIMIT],
+    reasons: &mut [u32; REASON_SLICE],
+    keys: &mut [u32; KEY_SLICE],
     s: Session,
 ) -> Session {
     let c = s.counts;
@@ -170,26 +136,23 @@ fn resolve(
 
 pub(crate) fn act(
     p: Parsed,
-    list: &mut [u32; 1024],
-    known: &mut [u32; 1024],
-    terms: &mut [u32; 4104],
-    cells: &mut [u32; 6147],
-    chars: &mut [u32; 16384],
-    reasons: &mut [u32; 8192],
-    keys: &mut [u32; 8192],
+    list: &mut [u32; LIST_LIMIT],
+    known: &mut [u32; LIST_LIMIT],
+    terms: &mut [u32; TERM_SLICE],
+    cells: &mut [u32; CELL_SLICE],
+    chars: &mut [u32; CHAR_LIMIT],
+    reasons: &mut [u32; REASON_SLICE],
+    keys: &mut [u32; KEY_SLICE],
     s: Session,
 ) -> Session {
     match p {
-        Parsed::Constant(n) => constant(n, list, terms, cells, chars, reasons, keys, s),
-        Parsed::Variable(n) => variable(n, list, terms, cells, chars, reasons, keys, s),
-        Parsed::Concatenation(n) => parts(n, list, terms, cells, chars, reasons, keys, s),
-        Parsed::Equation(t, u) => sides(t, u, terms, cells, chars, reasons, keys, s),
         Parsed::Merge(t, u, n) => merge_classes(t, u, n, terms, cells, chars, reasons, keys, s),
         Parsed::Known(n) => set_known(list, n, known, terms, s),
         Parsed::Resolve(e, g) => resolve(e, g, list, known, terms, cells, chars, reasons, keys, s),
-        Parsed::Bad => {
-            say_bad(s.line);
-            s
+        _ => {
+            let c = s.counts;
+            let r = make(p, list, terms, cells, chars, reasons, keys, c);
+            after_making(r, s)
         }
     }
 }

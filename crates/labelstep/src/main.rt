@@ -10,17 +10,24 @@ use crate::read::take_bytes;
 use crate::read::take_last;
 use crate::session::Session;
 use crate::session::start;
+use commands::LINE_LIMIT;
+use records::CELL_SLICE;
+use records::CHAR_LIMIT;
+use records::KEY_SLICE;
+use records::LIST_LIMIT;
+use records::REASON_SLICE;
+use records::TERM_SLICE;
 
 // Until the input ends. It is read at most as often as a u64 counts.
 fn run(
-    line: &mut [u8; 1024],
-    list: &mut [u32; 1024],
-    known: &mut [u32; 1024],
-    terms: &mut [u32; 4104],
-    cells: &mut [u32; 6147],
-    chars: &mut [u32; 16384],
-    reasons: &mut [u32; 8192],
-    keys: &mut [u32; 8192],
+    line: &mut [u8; LINE_LIMIT],
+    list: &mut [u32; LIST_LIMIT],
+    known: &mut [u32; LIST_LIMIT],
+    terms: &mut [u32; TERM_SLICE],
+    cells: &mut [u32; CELL_SLICE],
+    chars: &mut [u32; CHAR_LIMIT],
+    reasons: &mut [u32; REASON_SLICE],
+    keys: &mut [u32; KEY_SLICE],
     was: Session,
 ) {
     let mut text = io::buffer();
@@ -39,14 +46,14 @@ fn run(
 }
 
 fn main() {
-    let mut line: [u8; 1024] = [0; 1024];
-    let mut list: [u32; 1024] = [0; 1024];
-    let mut known: [u32; 1024] = [0; 1024];
-    let mut terms: [u32; 4104] = [0; 4104];
-    let mut cells: [u32; 6147] = [0; 6147];
-    let mut chars: [u32; 16384] = [0; 16384];
-    let mut reasons: [u32; 8192] = [0; 8192];
-    let mut keys: [u32; 8192] = [0; 8192];
+    let mut line: [u8; LINE_LIMIT] = [0; LINE_LIMIT];
+    let mut list: [u32; LIST_LIMIT] = [0; LIST_LIMIT];
+    let mut known: [u32; LIST_LIMIT] = [0; LIST_LIMIT];
+    let mut terms: [u32; TERM_SLICE] = [0; TERM_SLICE];
+    let mut cells: [u32; CELL_SLICE] = [0; CELL_SLICE];
+    let mut chars: [u32; CHAR_LIMIT] = [0; CHAR_LIMIT];
+    let mut reasons: [u32; REASON_SLICE] = [0; REASON_SLICE];
+    let mut keys: [u32; KEY_SLICE] = [0; KEY_SLICE];
     run(
         &mut line,
         &mut list,

@@ -5,18 +5,25 @@ use crate::say::say_bad;
 use crate::session::Session;
 use crate::session::next_line;
 use crate::session::with_length;
+use commands::LINE_LIMIT;
 use commands::parse::parse;
+use records::CELL_SLICE;
+use records::CHAR_LIMIT;
+use records::KEY_SLICE;
+use records::LIST_LIMIT;
+use records::REASON_SLICE;
+use records::TERM_SLICE;
 
 // A line that is whole.
 fn take_line(
-    line: &[u8; 1024],
-    list: &mut [u32; 1024],
-    known: &mut [u32; 1024],
-    terms: &mut [u32; 4104],
-    cells: &mut [u32; 6147],
-    chars: &mut [u32; 16384],
-    reasons: &mut [u32; 8192],
-    keys: &mut [u32; 8192],
+    line: &[u8; LINE_LIMIT],
+    list: &mut [u32; LIST_LIMIT],
+    known: &mut [u32; LIST_LIMIT],
+    terms: &mut [u32; TERM_SLICE],
+    cells: &mut [u32; CELL_SLICE],
+    chars: &mut [u32; CHAR_LIMIT],
+    reasons: &mut [u32; REASON_SLICE],
+    keys: &mut [u32; KEY_SLICE],
     s: Session,
 ) -> Session {
     if s.over {
@@ -29,9 +36,9 @@ fn take_line(
 }
 
 // One byte more of a line: what a line does not hold is passed over.
-fn keep(line: &mut [u8; 1024], b: u8, s: Session) -> Session {
+fn keep(line: &mut [u8; LINE_LIMIT], b: u8, s: Session) -> Session {
     let n = s.len;
-    if n < 1024 {
+    if n < LINE_LIMIT {
         line[n] = b;
         return with_length(s, n + 1, false);
     }
@@ -40,14 +47,14 @@ fn keep(line: &mut [u8; 1024], b: u8, s: Session) -> Session {
 
 fn take_byte(
     b: u8,
-    line: &mut [u8; 1024],
-    list: &mut [u32; 1024],
-    known: &mut [u32; 1024],
-    terms: &mut [u32; 4104],
-    cells: &mut [u32; 6147],
-    chars: &mut [u32; 16384],
-    reasons: &mut [u32; 8192],
-    keys: &mut [u32; 8192],
+    line: &mut [u8; LINE_LIMIT],
+    list: &mut [u32; LIST_LIMIT],
+    known: &mut [u32; LIST_LIMIT],
+    terms: &mut [u32; TERM_SLICE],
+    cells: &mut [u32; CELL_SLICE],
+    chars: &mut [u32; CHAR_LIMIT],
+    reasons: &mut [u32; REASON_SLICE],
+    keys: &mut [u32; KEY_SLICE],
     s: Session,
 ) -> Session {
     if b == 10 {
@@ -58,14 +65,14 @@ fn take_byte(
 
 pub(crate) fn take_bytes(
     text: &[u8],
-    line: &mut [u8; 1024],
-    list: &mut [u32; 1024],
-    known: &mut [u32; 1024],
-    terms: &mut [u32; 4104],
-    cells: &mut [u32; 6147],
-    chars: &mut [u32; 16384],
-    reasons: &mut [u32; 8192],
-    keys: &mut [u32; 8192],
+    line: &mut [u8; LINE_LIMIT],
+    list: &mut [u32; LIST_LIMIT],
+    known: &mut [u32; LIST_LIMIT],
+    terms: &mut [u32; TERM_SLICE],
+    cells: &mut [u32; CELL_SLICE],
+    chars: &mut [u32; CHAR_LIMIT],
+    reasons: &mut [u32; REASON_SLICE],
+    keys: &mut [u32; KEY_SLICE],
     was: Session,
 ) -> Session {
     let mut s = was;
@@ -80,14 +87,14 @@ pub(crate) fn take_bytes(
 
 // A last line without a line end counts.
 pub(crate) fn take_last(
-    line: &[u8; 1024],
-    list: &mut [u32; 1024],
-    known: &mut [u32; 1024],
-    terms: &mut [u32; 4104],
-    cells: &mut [u32; 6147],
-    chars: &mut [u32; 16384],
-    reasons: &mut [u32; 8192],
-    keys: &mut [u32; 8192],
+    line: &[u8; LINE_LIMIT],
+    list: &mut [u32; LIST_LIMIT],
+    known: &mut [u32; LIST_LIMIT],
+    terms: &mut [u32; TERM_SLICE],
+    cells: &mut [u32; CELL_SLICE],
+    chars: &mut [u32; CHAR_LIMIT],
+    reasons: &mut [u32; REASON_SLICE],
+    keys: &mut [u32; KEY_SLICE],
     s: Session,
 ) {
     if s.len != 0 {

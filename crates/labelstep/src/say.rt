@@ -6,8 +6,8 @@ use commands::print::put_reason;
 use equation::Outcome;
 use records::State;
 use records::fields::word;
+use sides::StepResult;
 use std::num::wrapping_add_usize;
-use wordeq::StepResult;
 
 fn say_name(k: u32) {
     let mut piece = [0u8; 24];

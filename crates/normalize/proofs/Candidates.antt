@@ -9,7 +9,7 @@ use Rattle.records.specs.View.{termLimit}
 use Rattle.records.proofs.Lists.{all-every, every-all, every-map, within-low, within-high}
 use Rattle.records.proofs.Grown.{string-term, string-here, Strings, strings-later}
 use Rattle.records.proofs.Climbs.{root-term}
-use Rattle.records.proofs.Later.{Later}
+use Rattle.records.proofs.LaterStores.{Later}
 use Rattle.normalize.specs.Normalize.{representative}
 use Rattle.normalize.specs.Working.Nodes.{NodeOf, nodeAt}
 use Rattle.normalize.specs.Working.Pushes.{Candidates}

@@ -1,16 +1,15 @@
 -- Part of the way through a call: the slices and counts so far, what their store is to the one at entry, that what was counted at entry
 -- is kept, and that they are what the next working function requires.
-use mathlib.Core.Path.{_≡_, refl, sym, ap, _∙_}
+use mathlib.Core.Path.{refl, ap, _∙_}
 use Rattle.records.specs.declared.State.{State}
 use Rattle.records.specs.Store.{Out, ok, Work, andThen, _>>=_}
 use Rattle.records.specs.View.{Lent, storeOf}
 use Rattle.records.specs.Working.Audited.{Ready}
 use Rattle.records.specs.Calls.{KeepsStore}
 use Rattle.records.specs.Working.Doing.{Working}
-use Rattle.records.proofs.Passed.{ready-as, ready-later}
+use Rattle.records.proofs.Passed.{ready-later}
 use Rattle.records.proofs.Counts.{agree-below}
-use Rattle.records.proofs.Later.{Later, later-none, later-then, later-higher}
-use Rattle.normalize.specs.Working.Deeps.{ReadyFor}
+use Rattle.records.proofs.LaterStores.{Later, later-none, later-then, later-higher}
 
 pub record Carried (m₀ : Lent) (c₀ : State) (m : Lent) (c : State) : Type 0 where
   pub later : Later (storeOf m₀ c₀) (storeOf m c)
@@ -30,10 +29,3 @@ module _ {m₀ m : Lent} {c₀ c : State} (x : Carried m₀ c₀ m c) where
   -- the call goes on from there
   pub carried-on : {A B : Type 0} {w : Work A} (f : A → Work B) {a : A} → Working w m₀ m c₀ (ok (storeOf m c) a) → {m′ : Lent} {o : Out B} → Working (f a) m m′ c o → Working (w >>= f) m₀ m′ c₀ o
   carried-on f w {m′} v = record { says = ap (andThen f) (w .says) ∙ v .says; kept = carried-kept m′ (v .kept); ready = v .ready }
-
--- an answer with the counts d, for which the slices are ready
-pub ready-for : {A : Type 0} {m : Lent} {d : State} {a : A} → Ready m d → ReadyFor m (ok (storeOf m d) a)
-ready-for {m = m} {d = d} r = λ d′ a q. (let p : storeOf m d ≡ storeOf m d′ = cc in ready-as r (sym p))
-
-pub working-left : {A : Type 0} {work : Work A} {m m′ : Lent} {c d : State} {a : A} → Ready m′ d → work (storeOf m c) ≡ ok (storeOf m′ d) a → KeepsStore m m′ c → Working work m m′ c (ok (storeOf m′ d) a)
-working-left r e k = record { says = e; kept = k; ready = ready-for r }

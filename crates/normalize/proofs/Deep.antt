@@ -1,6 +1,6 @@
 -- The deep form over an audited store: a list answered has the term's word, None leaves terms and reasons added by then, and with which
 -- numbers it stops.
-use mathlib.Core.Path.{_≡_, refl, sym, subst, _∙_}
+use mathlib.Core.Path.{_≡_, refl, sym, _∙_}
 use mathlib.Core.Bool.{true}
 use mathlib.Core.List.{List, [], _∷_, _++_, reverse, append-nil, append-assoc}
 use mathlib.Core.Option.{Option, none, some}
@@ -16,10 +16,10 @@ use Rattle.records.proofs.Lists.{both-left, both-right, every-append}
 use Rattle.normalize.specs.Normalize.{formArguments, normalForm, pushAll, deepLimit, opens, Round, expand, settle, afterExpand, rounds, deepForm}
 use Rattle.records.specs.Rules.{isList}
 use Rattle.normalize.specs.Meaning.{DeepForms}
-use Rattle.normalize.proofs.Ends.{Ends}
+use Rattle.normalize.proofs.FormOutcomes.{Ends}
 use Rattle.records.proofs.Outcomes.{Refused, ends-give, ends-if, ends-map, ends-then}
 use Rattle.normalize.proofs.Rewritten.{Rewritten, rewritten-none, rewritten-then, rewritten-after, rewritten-before, rewritten-as}
-use Rattle.records.proofs.Later.{Later, later-none, later-then}
+use Rattle.records.proofs.LaterStores.{Later, later-none, later-then}
 use Rattle.records.proofs.Grown.{OldVariables, Strings, strings-later}
 use Rattle.normalize.proofs.Formed.{all-ends, Formed, form-ends}
 use Rattle.records.proofs.ListLaws.{list-every}

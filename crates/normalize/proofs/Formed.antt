@@ -18,16 +18,16 @@ use Rattle.records.proofs.Lists.{both-left, both-right, both-true, every-map, e
 use Rattle.records.proofs.Paths.{first-has}
 use Rattle.records.proofs.Readings.{text-characters}
 use Rattle.records.proofs.Kept.{made-string, constant-kept, constant-stops}
-use Rattle.records.proofs.Meant.{constant-word}
+use Rattle.records.proofs.MadeWords.{constant-word}
 use Rattle.engine.specs.Explain.{explain}
 use Rattle.engine.proofs.Sound.{explain-gives, explain-stops}
 use Rattle.normalize.specs.Normalize.{flatten, orFirst, representative, substitute, join, push, pushAll, pushForms, normalForm, formArguments}
 use Rattle.normalize.specs.Meaning.{Forms}
 use Rattle.normalize.proofs.Atoms.{Flat, flatten-flat, flatten-atoms, flatten-stops}
-use Rattle.normalize.proofs.Ends.{Ends}
+use Rattle.normalize.proofs.FormOutcomes.{Ends}
 use Rattle.records.proofs.Outcomes.{Refused, ends-give, ends-by, ends-if, ends-map, ends-then}
 use Rattle.normalize.proofs.Rewritten.{Rewritten, rewritten-none, rewritten-then, rewritten-after, rewritten-before, rewritten-explained, rewritten-as}
-use Rattle.records.proofs.Later.{Later, later-none, later-made}
+use Rattle.records.proofs.LaterStores.{Later, later-none, later-made}
 use Rattle.records.proofs.Grown.{OldVariables, Strings, strings-later}
 use Rattle.records.proofs.ListLaws.{list-every}
 

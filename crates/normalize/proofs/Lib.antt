@@ -1,6 +1,6 @@
 mod Represents
 pub mod Atoms
-mod Ends
+mod FormOutcomes
 mod Rewritten
 pub mod Formed
 pub mod Deep

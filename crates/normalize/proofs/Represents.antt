@@ -14,11 +14,11 @@ use Rattle.records.specs.Lists.{if_then_else_, firstOf, Every, none-left, and}
 use Rattle.records.specs.Store.{Store, Term, within, kind, termIn, rootIn, classUp}
 use Rattle.records.specs.View.{termLimit, termsView}
 use Rattle.records.specs.Working.Audited.{Closed}
-use Rattle.records.specs.Working.Ends.{Ends}
+use Rattle.records.specs.Working.ClimbEnds.{Ends}
 use Rattle.records.proofs.Lists.{both-right, left-false, decide, clash, within-high, every-map, every-append, every-both}
 use Rattle.records.proofs.Paths.{first-same, first-has}
 use Rattle.records.proofs.Climbs.{climb-within, view-count}
-use Rattle.records.proofs.Ends.{ends-more}
+use Rattle.records.proofs.ClimbEnds.{ends-more}
 use Rattle.normalize.specs.Normalize.{orFirst, representative}
 use Rattle.normalize.specs.Working.Nodes.{isConstantIn, chosen, NodeOf, rank, withNode, withNodes, nodeAt, Rooting, Keeps}
 

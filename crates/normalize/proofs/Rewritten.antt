@@ -10,7 +10,7 @@ use Rattle.records.specs.Meaning.{Words, Reading, Holds}
 use Rattle.records.specs.Working.Audited.{Audited}
 use Rattle.records.proofs.Lists.{every-append, concatMap-append}
 use Rattle.records.proofs.Grown.{OldVariables, grown-string, Strings, strings-later}
-use Rattle.records.proofs.Later.{Later, later-none, later-then, later-added, variables-added}
+use Rattle.records.proofs.LaterStores.{Later, later-none, later-then, later-added, variables-added}
 use Rattle.engine.proofs.Sound.{Gave, holds-earlier}
 
 -- l of s, rewritten to m of s′

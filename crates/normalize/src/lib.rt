@@ -1,6 +1,5 @@
 // Cited normal forms.
 ghost use mathlib.Core.Path.{_≡_};
-ghost use mathlib.Core.List.{[]};
 ghost use Rattle.records.specs.Calls.{Writes};
 ghost use Rattle.records.specs.View.{across, termed};
 ghost use Rattle.normalize.specs.Normalize.{formArguments};

@@ -6,7 +6,7 @@ ghost use Rattle.records.specs.Lists.{Every};
 ghost use Rattle.records.specs.Store.{within, classUp, rootIn};
 ghost use Rattle.records.specs.View.{termLimit, termsView};
 ghost use Rattle.records.specs.Working.Audited.{Closed};
-ghost use Rattle.records.specs.Working.Ends.{Ends};
+ghost use Rattle.records.specs.Working.ClimbEnds.{Ends};
 ghost use Rattle.normalize.specs.Working.Nodes.{rank, withNode, withNodes, nodeAt, Rooting, Keeps};
 use records::classes;
 use records::roots;

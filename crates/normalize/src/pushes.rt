@@ -30,7 +30,7 @@ fn is_empty(terms: &[u32], n: usize, t: u32) -> bool
 }
 
 // Whether t and the last atom of the list are constants.
-fn joins(terms: &[u32], n: usize, t: u32, list: &[u32], count: usize) -> bool
+fn joins_with_last(terms: &[u32], n: usize, t: u32, list: &[u32], count: usize) -> bool
     requires { ⌜ count ≤ length (now list) ⌝ }
     ensures { λ r. ⌜ r ≡ joinsIn (termsView (now (terms .entry)) n) t (reverse (firstWords (now (list .entry)) count)) ⌝ }
 {
@@ -93,7 +93,7 @@ pub(crate) fn push(
     if is_empty(terms, c.terms, t) {
         return Form::List(count, c);
     }
-    if joins(terms, c.terms, t, list, count) {
+    if joins_with_last(terms, c.terms, t, list, count) {
         return join_last(terms, cells, chars, reasons, keys, c, t, list, count);
     }
     list[count] = t;

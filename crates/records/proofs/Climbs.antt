@@ -105,9 +105,6 @@ module _ (s : Store) (a : Classed s) (t : ℕ) (w : isTerm s t ≡ true) where
   pub root-root : rootIn (s .terms) (rootIn (s .terms) t) ≡ rootIn (s .terms) t
   root-root = climb-stays (classUp (s .terms)) (count s) (rootIn (s .terms) t) (a .classEnds t w)
 
-  pub top-top : topIn (s .terms) (topIn (s .terms) t) ≡ topIn (s .terms) t
-  top-top = climb-stays (forestUp (s .terms)) (count s) (topIn (s .terms) t) (a .forestEnds t w)
-
   pub root-term : isTerm s (rootIn (s .terms) t) ≡ true
   root-term = climb-within (classUp (s .terms)) (count s) (count s) t (classed-roots s a) w
 

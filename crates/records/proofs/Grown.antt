@@ -2,7 +2,7 @@
 -- for the smaller extend to the larger.
 use mathlib.Core.Path.{_≡_, refl, sym, ap, subst, _∙_}
 use mathlib.Core.Bool.{true, not}
-use mathlib.Core.List.{List, _∷_, _++_, List·Memᴰ, Memᴰ·append-left, Memᴰ·append-right}
+use mathlib.Core.List.{List, _∷_, List·Memᴰ}
 use Prim.Native.Nat.{ℕ, zero, suc, _≤_, _<_}
 use native.Mathlib.Omega.{arith}
 use native.Mathlib.Decide.{decLe}
@@ -139,12 +139,6 @@ module _ {s s′ : Store} {w : Words} (g : Grown s s′) where
 -- fewer reasons hold
 pub holds-fewer : {s : Store} {w : Words} {l m : List (ℕ × ℕ)} → ((r : ℕ × ℕ) → List·Memᴰ r l → List·Memᴰ r m) → Holds s m w → Holds s l w
 holds-fewer f h = record { merges = h .merges; reasons = λ t e k. h .reasons t e (record { labelled = k .labelled; listed = f _ (k .listed) }) }
-
-pub holds-left : {s : Store} {w : Words} (l m : List (ℕ × ℕ)) → Holds s (l ++ m) w → Holds s l w
-holds-left l m h = holds-fewer (λ r k. Memᴰ·append-left m k) h
-
-pub holds-right : {s : Store} {w : Words} (l m : List (ℕ × ℕ)) → Holds s (l ++ m) w → Holds s m w
-holds-right l m h = holds-fewer (λ r k. Memᴰ·append-right l k) h
 
 -- LISTS OF STRING TERMS
 

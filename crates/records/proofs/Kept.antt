@@ -11,10 +11,10 @@ use lib.ListN.{length, take, drop, length-append, length-drop}
 use lib.Seq.{take-append-le, drop-append-le, drop-append-seam, take-length}
 use lib.Dec.{eqb, ltb, leb}
 use borrow.Author.Tests.{eqb-true, eq-eqb, ltb-true, leb-true, leb-false, lt-ltb}
-use Rattle.records.specs.Lists.{if_then_else_, all, firsts, firstBelow, oneMore, Every, none-left, and}
+use Rattle.records.specs.Lists.{if_then_else_, all, firsts, firstBelow, Every, none-left, and}
 use Rattle.records.specs.Store.{Term, Cell, Store, Out, ok, stop, Work, andThen, _>>=_, _>>_, give, refuse, put, term, count, kind, within, isTerm, isString, isConstant, isVariable, isConcat, isLength, isEquation, textIn, text, chainIn, parts}
-use Rattle.records.specs.Rules.{isChar, reasonRule, keyRule, named, isEquatable}
-use Rattle.records.specs.Make.{withReasons, withKeys, withChars, withCells, withNames, own, addReason, addKey, addText, addChain, chainFrom, addTerm, lookup, orMake, lowest, constantOf, concatOf, lengthOf, equationOf, makeConstant, makeVariable, makeConcat, makeLength, makeEquation, ordered, strk, decimalBy, nameOf, isSome, isTaken, takeNameBy, nameLimit, takeName}
+use Rattle.records.specs.Rules.{isChar, keyRule, named, isEquatable}
+use Rattle.records.specs.Make.{withKeys, withChars, withCells, withNames, own, addKey, addText, addChain, chainFrom, addTerm, lookup, orMake, lowest, constantOf, concatOf, lengthOf, equationOf, makeConstant, makeVariable, makeConcat, makeLength, makeEquation, ordered, strk, decimalBy, nameOf, isSome, isTaken, takeNameBy, nameLimit, takeName}
 use Rattle.records.specs.Meaning.{Words, Reading}
 use Rattle.records.specs.Working.Audited.{Recorded, Audited}
 use Rattle.records.proofs.Lists.{both-left, both-right, both-true, decide, clash, all-append, all-every, within-low, within-high, word-is, word-same, first-some, first-none}

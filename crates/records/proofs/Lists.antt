@@ -9,7 +9,7 @@ use native.Mathlib.Nat.{le-antisymm, eq-or-lt-of-le, le-of-suc-le-suc, not-suc-l
 use native.Mathlib.Numerals.{add-one}
 use native.Mathlib.Omega.{arith}
 use lib.ListN.{length, take, drop, getD, replicate, length-append, List·getD-append, List·getD-eq-default}
-use lib.Seq.{getD-at}
+use lib.Seq.{getD-at, drop-cons}
 use lib.Dec.{eqb, ltb}
 use borrow.Author.Tests.{not-true, not-false, eqb-true, eq-eqb, ltb-true, leb-true, lt-ltb, le-leb, le-ltb, lt-leb}
 use Rattle.records.specs.Lists.{if_then_else_, all, any, concatMap, table, sameWord, firsts, seconds, allBelow, firstBelow, lastBelow, Every, none-left, and}
@@ -513,3 +513,7 @@ pub seconds-every : {P : ℕ → Type 0} (l : List (ℕ × ℕ)) → Every P (se
 unfolding seconds
 seconds-every [] k = none-left
 seconds-every (p ∷ l) (and h k) = and h (seconds-every l k)
+
+-- from a place on: the element there, and those after it
+pub drop-head : (l : List ℕ) (i : ℕ) → i < length l → drop i l ≡ getD l i 0 ∷ drop (i + 1) l
+drop-head l i h = rw (add-one i) (drop-cons l i 0 h)

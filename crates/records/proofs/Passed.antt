@@ -1,4 +1,4 @@
--- The audit answers 0 exactly where the facts of specs/Audited.antt hold.
+-- The audit answers 0 exactly where the facts of specs/Working/Audited.antt hold.
 use mathlib.Core.Path.{_≡_, refl, sym, ap, subst}
 use mathlib.Core.Bool.{Bool, true, false, not, _&&_, _||_, false≢true}
 use mathlib.Core.List.{List}

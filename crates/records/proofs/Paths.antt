@@ -2,7 +2,7 @@
 use mathlib.Core.Path.{_≡_, refl, sym, ap, _∙_}
 use mathlib.Core.Bool.{Bool, true, false, not, _&&_, _||_, false≢true}
 use mathlib.Core.List.{List, [], _∷_}
-use mathlib.Core.Logic.{_⊎_, ⊎-elim}
+use mathlib.Core.Logic.{⊎-elim}
 use mathlib.Core.Option.{Option, none, some}
 use Prim.Native.Nat.{ℕ, zero, suc, _+_, _-_, _≤_, _<_}
 use native.Mathlib.Omega.{arith}
@@ -377,8 +377,12 @@ pub record Abreast (l : List ℕ) (n a b x y : ℕ) : Type 0 where
 pub abreast-begin : (l : List ℕ) (n a b : ℕ) → within n a ≡ true → within n b ≡ true → Abreast l n a b a b
 abreast-begin l n a b wa wb = record { here = wa; there = wb; even = omega arith }
 
-module _ (l : List ℕ) (n a b x y : ℕ) (h : Pathed l n) (wa : within n a ≡ true) (wb : within n b ≡ true) (m : Abreast l n a b x y) (p : ℕ) (ep : p ≡ termAt l x .forestParent) where
-  -- b has no fewer above it than a
+-- the two sides exchanged
+pub abreast-turned : {l : List ℕ} {n a b x y : ℕ} → Abreast l n a b x y → Abreast l n b a y x
+abreast-turned m = record { here = m .there; there = m .here; even = omega (arith, m .even) }
+
+module _ (l : List ℕ) (n a b x y : ℕ) (h : Pathed l n) (wa : within n a ≡ true) (m : Abreast l n a b x y) (p : ℕ) (ep : p ≡ termAt l x .forestParent) where
+  -- a's side is at its root: b has no fewer above it than a
   module _ (e : p ≡ x) where
     pub abreast-lift : levels (termsView l n) y ≤ levels (termsView l n) b
     abreast-lift = omega (arith, m .even, levels-one l n h x p (m .here) ep e, levels-some (termsView l n) a)
@@ -387,29 +391,18 @@ module _ (l : List ℕ) (n a b x y : ℕ) (h : Pathed l n) (wa : within n a ≡ 
       pub abreast-even : levels (termsView l n) a ≡ levels (termsView l n) z
       abreast-even = omega (arith, m .even, i .many, levels-one l n h x p (m .here) ep e)
 
-      pub abreast-met : (r : ℕ) → r ≡ nearestIn (termsView l n) a z → r ≡ nearestIn (termsView l n) a b
-      abreast-met r j = j ∙ i .right a wa (omega (arith, abreast-even))
+      -- z meets a where b does, whichever of the two is named first
+      pub abreast-met : (r : ℕ)
+          → (r ≡ nearestIn (termsView l n) a z → r ≡ nearestIn (termsView l n) a b) × (r ≡ nearestIn (termsView l n) z a → r ≡ nearestIn (termsView l n) b a)
+      abreast-met r = let k : levels (termsView l n) a ≤ levels (termsView l n) z = omega (arith, abreast-even) in (λ j. j ∙ i .right a wa k, λ j. j ∙ i .left a wa k)
 
-  module _ (q : ℕ) (eq : q ≡ termAt l y .forestParent) where
-    -- a has no fewer above it than b
-    module _ (e : q ≡ y) where
-      pub abreast-lift-2 : levels (termsView l n) x ≤ levels (termsView l n) a
-      abreast-lift-2 = omega (arith, m .even, levels-one l n h y q (m .there) eq e, levels-some (termsView l n) b)
+  module _ (d : p ≡ x → ⊥) where
+    pub abreast-less : levels (termsView l n) p < levels (termsView l n) x
+    abreast-less = omega (arith, levels-up l n h x p (m .here) ep d)
 
-      module _ (z : ℕ) (i : Lifted l n a x z) where
-        pub abreast-even-2 : levels (termsView l n) z ≡ levels (termsView l n) b
-        abreast-even-2 = omega (arith, m .even, i .many, levels-one l n h y q (m .there) eq e)
-
-        pub abreast-met-2 : (r : ℕ) → r ≡ nearestIn (termsView l n) z b → r ≡ nearestIn (termsView l n) a b
-        abreast-met-2 r j = j ∙ i .left b wb (omega (arith, abreast-even-2))
-
-    module _ (d : p ≡ x → ⊥) (u : q ≡ y → ⊥) where
-      pub abreast-less : levels (termsView l n) p < levels (termsView l n) x
-      abreast-less = omega (arith, levels-up l n h x p (m .here) ep d)
-
-      pub abreast-turn : Abreast l n a b p q
-      abreast-turn = record {
-        here = up-here l n h x p (m .here) ep;
-        there = up-here l n h y q (m .there) eq;
-        even = omega (arith, m .even, levels-up l n h x p (m .here) ep d, levels-up l n h y q (m .there) eq u);
-      }
+    pub abreast-turn : (q : ℕ) → q ≡ termAt l y .forestParent → (q ≡ y → ⊥) → Abreast l n a b p q
+    abreast-turn q eq u = record {
+      here = up-here l n h x p (m .here) ep;
+      there = up-here l n h y q (m .there) eq;
+      even = omega (arith, m .even, levels-up l n h x p (m .here) ep d, levels-up l n h y q (m .there) eq u);
+    }

@@ -1,5 +1,5 @@
 -- Working functions in sequence: the second goes on from the slices and counts that the first left, and what was counted at entry is kept.
-use mathlib.Core.Path.{_≡_, sym, ap, subst, _∙_}
+use mathlib.Core.Path.{_≡_, refl, sym, ap, subst, _∙_}
 use mathlib.Core.Bool.{Bool, true, false}
 use mathlib.Core.List.{List, [], _∷_, _++_}
 use mathlib.Core.Option.{Option, none, some}
@@ -10,17 +10,21 @@ use lib.Dec.{ltb, leb}
 use Rattle.records.specs.declared.State.{State}
 use Rattle.records.specs.declared.Made.{Made}
 use Rattle.records.specs.declared.Made.the-variants.{Term, Refused}
+use Rattle.records.specs.declared.Added.{Added}
+use Rattle.records.specs.declared.Added.the-variants.{Counts}
 use Rattle.records.specs.Lists.{if_then_else_}
-use Rattle.records.specs.Store.{Store, Out, ok, stop, Work, andThen, _>>=_, _>>_, give, refuse, put, count}
+use Rattle.records.specs.Store.{Store, Out, ok, stop, Work, andThen, _>>=_, _>>_, give, refuse, put, count, isString}
 use Rattle.records.specs.View.{Lent, storeOf}
 use Rattle.records.specs.Rules.{named}
 use Rattle.records.specs.Make.{withKeys, withChars, withCells, withTerms, own, ordered, addKey, addText, addChain, chainFrom, addTerm, lookup, orMake, lowest, constantOf, concatOf, lengthOf, equationOf, makeConstant, makeVariable, makeConcat, makeLength, makeEquation, takeName}
-use Rattle.records.specs.Calls.{made}
+use Rattle.records.specs.Calls.{made, added}
+use Rattle.records.specs.Working.Audited.{Ready}
 use Rattle.records.specs.Working.Doing.{Working}
 use Rattle.records.proofs.Works.{stop-not, via}
 use Rattle.records.proofs.Kept.{name-taken}
 use Rattle.records.proofs.Doing.{working-stopped, working-at}
 use Rattle.records.proofs.Counts.{Higher, higher-none, higher-then, agree-below}
+use Rattle.records.proofs.ListLaws.{string-stays}
 
 -- WORK THAT TAKES NOTHING AWAY
 
@@ -128,13 +132,30 @@ module _ {A B : Type 0} {w : Work A} (f : A → Work B) {m m₁ : Lent} {c : Sta
   pub working-stop : {k : ℕ} → Working w m m₁ c (stop k) → Working (w >>= f) m m₁ c (stop k)
   working-stop p = working-stopped (ap (andThen f) (p .says)) (p .kept)
 
--- after a make
+module _ {m m₁ : Lent} {c : State} where
+  -- after a reason or a key was added
+  pub added-at : {w : Work (Unit {0})} {x y : Added} → x ≡ y → Working w m m₁ c (added x m₁) → Working w m m₁ c (added y m₁)
+  added-at e w = working-at (ap (λ (z : Added). added z m₁) e) w
+
+  pub added-ready : {w : Work (Unit {0})} {x : Added} {d : State} → x ≡ Counts d → Working w m m₁ c (added x m₁) → Ready m₁ d
+  added-ready {d = d} e w = added-at e w .ready d tt refl
+
+  -- after a term was made
+  pub made-at : {w : Work ℕ} {r r₁ : Made} → r ≡ r₁ → Working w m m₁ c (made r m₁) → Working w m m₁ c (made r₁ m₁)
+  made-at e w = working-at (ap (λ (x : Made). made x m₁) e) w
+
+  pub made-ready : {w : Work ℕ} {r : Made} {t : ℕ} {d : State} → r ≡ Term t d → Working w m m₁ c (made r m₁) → Ready m₁ d
+  made-ready {t = t} {d = d} e w = made-at e w .ready d t refl
+
+  pub made-stays : {w : Work ℕ} {r : Made} {t : ℕ} {d : State} → Grows w → r ≡ Term t d → Working w m m₁ c (made r m₁) → (v : ℕ) → isString (storeOf m c) v ≡ true → isString (storeOf m₁ d) v ≡ true
+  made-stays {t = t} {d = d} g e w = string-stays m m₁ c d (g .higher (storeOf m c) (storeOf m₁ d) t (made-at e w .says)) (w .kept)
+
 module _ {w : Work ℕ} {m m₁ : Lent} {c : State} {r : Made} where
   pub made-is : {t : ℕ} {d : State} → r ≡ Term t d → Working w m m₁ c (made r m₁) → Working w m m₁ c (ok (storeOf m₁ d) t)
-  made-is e p = working-at (ap (λ (x : Made). made x m₁) e) p
+  made-is e p = made-at e p
 
   pub made-stops : {k : ℕ} → r ≡ Refused k → Working w m m₁ c (made r m₁) → Working w m m₁ c (stop k)
-  made-stops e p = working-at (ap (λ (x : Made). made x m₁) e) p
+  made-stops e p = made-at e p
 
 module _ {w : Work ℕ} {B : Type 0} (f : ℕ → Work B) {m m₁ : Lent} {c : State} {r : Made} where
   pub made-then : {t : ℕ} {d : State} → Grows w → r ≡ Term t d → Working w m m₁ c (made r m₁) → {m₂ : Lent} {o : Out B} → Working (f t) m₁ m₂ d o → Working (w >>= f) m m₂ c o

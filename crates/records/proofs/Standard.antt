@@ -1,5 +1,5 @@
 -- The standard's join of words, part by part, and that it is the words one after the other.
-use mathlib.Core.Path.{_≡_, refl, sym, ap, _∙_}
+use mathlib.Core.Path.{_≡_, refl, sym, _∙_}
 use mathlib.Core.List.{List, [], _∷_, _++_, map, append-assoc, append-nil}
 use Prim.Native.Nat.{ℕ}
 use Rattle.records.specs.Lists.{concatMap, oneMore, Every}

@@ -9,10 +9,11 @@ use lib.ListN.{length, getD, take, drop, length-take, length-drop}
 use lib.Seq.{ext-getD, getD-take, getD-drop}
 use Rattle.records.specs.declared.State.{State}
 use Rattle.records.specs.Lists.{table, sameWord}
-use Rattle.records.specs.Store.{Term, Cell, noTerm, noCell, termIn, cellIn, textIn, within, Store}
-use Rattle.records.specs.View.{termAt, cellAt, termsView, cellsView, charsView, pairsView, span, Lent, storeOf, pairAt, zeroTerm, zeroCell}
+use Rattle.records.specs.Store.{Term, Cell, noTerm, noCell, termIn, cellIn, textIn, within, Store, kind, term, text}
+use Rattle.records.specs.View.{termWidth, cellWidth, termPlace, cellPlace, termWords, cellWords, termAt, cellAt, termsView, cellsView, charsView, pairsView, span, Lent, pairAt, zeroTerm, zeroCell, readIn, termed}
 use Rattle.records.specs.Calls.{KeepsStore}
-use Rattle.records.proofs.Lists.{table-at, table-past, table-length, within-low, within-high}
+use Rattle.records.proofs.Lists.{table-at, table-past, table-same, table-length, within-low, within-high}
+use Rattle.records.proofs.Grown.{kind-term}
 
 -- a counted term is read from its words, and no other number names one
 pub term-is : (l : List ℕ) (n t : ℕ) → 0 < t → t ≤ n → termIn (termsView l n) t ≡ termAt l t
@@ -109,7 +110,7 @@ termWord (suc (suc (suc (suc (suc zero))))) r = r .labelKind
 termWord (suc (suc (suc (suc (suc (suc zero)))))) r = r .labelValue
 termWord (suc (suc (suc (suc (suc (suc (suc k))))))) r = r .stamp
 
-termWord-is : (l : List ℕ) (t k : ℕ) → k < 8 → termWord k (termAt l t) ≡ getD l (8 * t + k) 0
+termWord-is : (l : List ℕ) (t k : ℕ) → k < termWidth → termWord k (termAt l t) ≡ getD l (termPlace t k) 0
 unfolding termWord
 termWord-is l t zero h = refl
 termWord-is l t (suc zero) h = refl
@@ -126,7 +127,7 @@ cellWord zero r = r .value
 cellWord (suc zero) r = r .other
 cellWord (suc (suc k)) r = r .next
 
-cellWord-is : (l : List ℕ) (c k : ℕ) → k < 3 → cellWord k (cellAt l c) ≡ getD l (3 * c + k) 0
+cellWord-is : (l : List ℕ) (c k : ℕ) → k < cellWidth → cellWord k (cellAt l c) ≡ getD l (cellPlace c k) 0
 unfolding cellWord
 cellWord-is l c zero h = refl
 cellWord-is l c (suc zero) h = refl
@@ -149,17 +150,68 @@ from-zero f g n z e zero b = z
 from-zero f g n z e (suc t) b = table-is (λ i. f (suc i)) (λ i. g (suc i)) n t e (omega arith)
 
 module _ (l l′ : List ℕ) (n : ℕ) where
-  pub terms-words : termAt l 0 ≡ termAt l′ 0 → termsView l n ≡ termsView l′ n → (i : ℕ) → i < 8 * (n + 1) → getD l i 0 ≡ getD l′ i 0
-  terms-words z e i b = words-same 8 termAt termWord termWord-is l l′ 0 (n + 1) (omega arith) (λ t a. from-zero (termAt l) (termAt l′) n z e t) i (omega arith) b
+  pub terms-words : termAt l 0 ≡ termAt l′ 0 → termsView l n ≡ termsView l′ n → (i : ℕ) → i < termWords n → getD l i 0 ≡ getD l′ i 0
+  terms-words z e i b = words-same termWidth termAt termWord termWord-is l l′ 0 (n + 1) (omega arith) (λ t a. from-zero (termAt l) (termAt l′) n z e t) i (omega arith) b
 
-  pub cells-words : cellAt l 0 ≡ cellAt l′ 0 → cellsView l n ≡ cellsView l′ n → (i : ℕ) → i < 3 * (n + 1) → getD l i 0 ≡ getD l′ i 0
-  cells-words z e i b = words-same 3 cellAt cellWord cellWord-is l l′ 0 (n + 1) (omega arith) (λ t a. from-zero (cellAt l) (cellAt l′) n z e t) i (omega arith) b
+  pub cells-words : cellAt l 0 ≡ cellAt l′ 0 → cellsView l n ≡ cellsView l′ n → (i : ℕ) → i < cellWords n → getD l i 0 ≡ getD l′ i 0
+  cells-words z e i b = words-same cellWidth cellAt cellWord cellWord-is l l′ 0 (n + 1) (omega arith) (λ t a. from-zero (cellAt l) (cellAt l′) n z e t) i (omega arith) b
 
   pub chars-words : charsView l n ≡ charsView l′ n → (i : ℕ) → i < n → getD l i 0 ≡ getD l′ i 0
   chars-words e i h = table-is (λ j. getD l j 0) (λ j. getD l′ j 0) n i e h
 
   pub pairs-words : pairsView l n ≡ pairsView l′ n → (i : ℕ) → i < 2 * n → getD l i 0 ≡ getD l′ i 0
   pairs-words e i h = words-same 2 pairAt pairWord pairWord-is l l′ 0 n (omega arith) (λ t a b. table-is (pairAt l) (pairAt l′) n t e b) i (omega arith) h
+
+-- VIEWS THAT AGREE
+
+-- equal words are equal records
+module _ (l l′ : List ℕ) (t : ℕ) where
+  pub term-same : ((k : ℕ) → k < termWidth → getD l′ (termPlace t k) 0 ≡ getD l (termPlace t k) 0) → termAt l′ t ≡ termAt l t
+  term-same h =
+      let a0 = h 0 (omega arith) in
+      let a1 = h 1 (omega arith) in
+      let a2 = h 2 (omega arith) in
+      let a3 = h 3 (omega arith) in
+      let a4 = h 4 (omega arith) in
+      let a5 = h 5 (omega arith) in
+      let a6 = h 6 (omega arith) in
+      let a7 = h 7 (omega arith) in cc
+
+  cell-same : ((k : ℕ) → k < cellWidth → getD l′ (cellPlace t k) 0 ≡ getD l (cellPlace t k) 0) → cellAt l′ t ≡ cellAt l t
+  cell-same h =
+      let a0 = h 0 (omega arith) in
+      let a1 = h 1 (omega arith) in
+      let a2 = h 2 (omega arith) in cc
+
+-- the words below a record decide the records before it, record 0 too
+module _ (l l′ : List ℕ) (n : ℕ) (h : (j : ℕ) → j < termWords n → getD l′ j 0 ≡ getD l j 0) where
+  term-agrees : (t : ℕ) → t ≤ n → termAt l′ t ≡ termAt l t
+  term-agrees t b = term-same l l′ t (λ k c. h (termPlace t k) (omega arith))
+
+  pub terms-agree : termsView l′ n ≡ termsView l n
+  terms-agree = table-same (λ i. termAt l′ (suc i)) (λ i. termAt l (suc i)) n (λ i b. term-agrees (suc i) (omega arith))
+
+  pub zero-term-agrees : zeroTerm l′ ≡ zeroTerm l
+  unfolding zeroTerm
+  zero-term-agrees = term-agrees 0 (omega arith)
+
+pub pairs-agree : (l l′ : List ℕ) (n : ℕ) → ((j : ℕ) → j < 2 * n → getD l′ j 0 ≡ getD l j 0) → pairsView l′ n ≡ pairsView l n
+pairs-agree l l′ n h = table-same (pairAt l′) (pairAt l) n (λ i b.
+    let a0 = h (2 * i + 0) (omega arith) in
+    let a1 = h (2 * i + 1) (omega arith) in cc)
+
+module _ (l l′ : List ℕ) (n : ℕ) (h : (j : ℕ) → j < cellWords n → getD l′ j 0 ≡ getD l j 0) where
+  cell-agrees : (c : ℕ) → c ≤ n → cellAt l′ c ≡ cellAt l c
+  cell-agrees c b = cell-same l l′ c (λ k d. h (cellPlace c k) (omega arith))
+
+  pub cells-agree : cellsView l′ n ≡ cellsView l n
+  cells-agree = table-same (λ i. cellAt l′ (suc i)) (λ i. cellAt l (suc i)) n (λ i b. cell-agrees (suc i) (omega arith))
+
+  pub zero-cell-agrees : zeroCell l′ ≡ zeroCell l
+  unfolding zeroCell
+  zero-cell-agrees = cell-agrees 0 (omega arith)
+
+-- WHAT IS KEPT
 
 -- slices that keep what is counted keep record 0 of terms and of cells
 pub record SameZero (m m′ : Lent) : Type 0 where
@@ -172,8 +224,8 @@ zero-kept m m′ c e = record { terms = ap (λ (s : Store). s .room .zeroTerm) e
 
 -- and each word of what is counted and of record 0
 pub record SameWords (m m′ : Lent) (c : State) : Type 0 where
-  pub terms : (i : ℕ) → i < 8 * (c .terms + 1) → getD (m′ .terms) i 0 ≡ getD (m .terms) i 0
-  pub cells : (i : ℕ) → i < 3 * (c .cells + 1) → getD (m′ .cells) i 0 ≡ getD (m .cells) i 0
+  pub terms : (i : ℕ) → i < termWords (c .terms) → getD (m′ .terms) i 0 ≡ getD (m .terms) i 0
+  pub cells : (i : ℕ) → i < cellWords (c .cells) → getD (m′ .cells) i 0 ≡ getD (m .cells) i 0
   pub chars : (i : ℕ) → i < c .chars → getD (m′ .chars) i 0 ≡ getD (m .chars) i 0
   pub reasons : (i : ℕ) → i < 2 * c .reasons → getD (m′ .reasons) i 0 ≡ getD (m .reasons) i 0
   pub keys : (i : ℕ) → i < 2 * c .keys → getD (m′ .keys) i 0 ≡ getD (m .keys) i 0
@@ -194,3 +246,16 @@ agree-part l p a n r h e =
     let q : a + n - a ≡ n = omega arith in
     let f = rw (q, part-span l a n h) at e in
     rw (table-length (λ i. getD l (a + i) 0) n) at f
+
+-- a number with a kind names a counted term, and its text stands in the lent characters
+pub term-there : (l : List ℕ) (c : State) (t k : ℕ) → kind (termed l c) t ≡ suc k → term (termed l c) t ≡ termAt l t
+term-there l c t k e =
+    let q = kind-term (termed l c) t k e in
+    let w = rw (table-length (λ i. termAt l (suc i)) (c .terms)) at q in
+    term-is l (c .terms) t (within-low _ t w) (within-high _ t w)
+
+pub text-words : (w h : List ℕ) (c : State) (a k : ℕ) → kind (termed w c) a ≡ suc k → term (termed w c) a .first + term (termed w c) a .second ≤ c .chars
+    → text (readIn w h c) a ≡ span h (termAt w a .first) (termAt w a .second)
+text-words w h c a k e q =
+    text-span h (c .chars) (term (termed w c) a) q
+    ∙ ap (λ (t : Term). span h (t .first) (t .second)) (term-there w c a k e)

@@ -9,6 +9,9 @@ use Rattle.records.specs.Store.{Store, Out, ok, stop, Work, andThen}
 pub stop-not : {A : Type 0} {n : ℕ} {s : Store} {a : A} {X : Type 0} → _≡_ {A = Out A} (stop n) (ok s a) → X
 stop-not e = let z : _≡_ {A = ℕ} 0 1 = cc in absurd (omega arith)
 
+pub one-store : {A : Type 0} {s s′ : Store} {a b : A} → ok s a ≡ ok s′ b → s ≡ s′
+one-store e = cc
+
 pub record Came {A B : Type 0} (f : A → Work B) (o : Out A) (s′ : Store) (b : B) : Type 0 where
   pub mid : Store
   pub value : A

@@ -53,12 +53,19 @@ reasonLimit = 4096
 abbrev pub keyLimit : ℕ
 keyLimit = 4096
 
--- the place of word k of a record: 'Terms, eight words', 'Cells, three words'
+-- the words of a record: 'Terms, eight words', 'Cells, three words'
+abbrev pub termWidth : ℕ
+termWidth = 8
+
+abbrev pub cellWidth : ℕ
+cellWidth = 3
+
+-- the place of word k of a record
 abbrev pub termPlace : ℕ → ℕ → ℕ
-termPlace t k = 8 * t + k
+termPlace t k = termWidth * t + k
 
 abbrev pub cellPlace : ℕ → ℕ → ℕ
-cellPlace c k = 3 * c + k
+cellPlace c k = cellWidth * c + k
 
 -- a record's words: 'Record 0 of terms and of cells is never read'; 'characters, reasons and keys start at place 0'
 abbrev pub termAt : List ℕ → ℕ → Term
@@ -114,17 +121,17 @@ lengths l (t ∷ ts) = termAt l t .second + lengths l ts
 
 -- how many words n records and record 0 take
 abbrev pub termWords : ℕ → ℕ
-termWords n = 8 * (n + 1)
+termWords n = termWidth * (n + 1)
 
 abbrev pub cellWords : ℕ → ℕ
-cellWords n = 3 * (n + 1)
+cellWords n = cellWidth * (n + 1)
 
 -- how many records fit a slice and its limit
 abbrev pub termRoom : List ℕ → ℕ
-termRoom l = min termLimit (length l / 8 - 1)
+termRoom l = min termLimit (length l / termWidth - 1)
 
 abbrev pub cellRoom : List ℕ → ℕ
-cellRoom l = min cellLimit (length l / 3 - 1)
+cellRoom l = min cellLimit (length l / cellWidth - 1)
 
 abbrev pub charRoom : List ℕ → ℕ
 charRoom l = min charLimit (length l)

@@ -1,6 +1,6 @@
 -- Working definitions: what the contracts of working functions cite. No definition that a public contract cites is built on one of them.
 pub mod Leaves
-pub mod Ends
+pub mod ClimbEnds
 pub mod Hashes
 pub mod Puts
 pub mod Standard

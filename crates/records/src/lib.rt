@@ -31,6 +31,15 @@ pub const REASON_LIMIT: usize = 4096;
 
 pub const KEY_LIMIT: usize = 4096;
 
+// The words of a slice that holds as many records as the limit allows; record 0 of terms and of cells takes words too.
+pub const TERM_SLICE: usize = TERM_WIDTH * (TERM_LIMIT + 1);
+
+pub const CELL_SLICE: usize = CELL_WIDTH * (CELL_LIMIT + 1);
+
+pub const REASON_SLICE: usize = 2 * REASON_LIMIT;
+
+pub const KEY_SLICE: usize = 2 * KEY_LIMIT;
+
 pub const LIST_LIMIT: usize = 1024;
 
 pub const NAME_LIMIT: u32 = 4294967295;

@@ -2,7 +2,6 @@
 // the roots that were climbed to are kept by number, and a climb stops at a term whose root is kept.
 ghost use mathlib.Core.Path.{_≡_};
 ghost use mathlib.Core.Bool.{true};
-ghost use mathlib.Core.List.{[]};
 ghost use Prim.Native.Nat.{_≤_, _<_};
 ghost use lib.ListN.{set};
 ghost use Rattle.records.specs.Store.{within, climb, classUp, forestUp, rootIn, topIn};
@@ -10,7 +9,7 @@ ghost use Rattle.records.specs.View.{termLimit, termsView, termed};
 ghost use Rattle.records.specs.Rules.{eachTerm, parentsRule};
 ghost use Rattle.records.specs.Working.Leaves.{classTest, upIn};
 ghost use Rattle.records.specs.Working.Audited.{Closed};
-ghost use Rattle.records.specs.Working.Ends.{Ends, Kept, Tested};
+ghost use Rattle.records.specs.Working.ClimbEnds.{Ends, Kept, Tested};
 use crate::State;
 use crate::classes;
 use crate::fields;

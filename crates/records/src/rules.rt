@@ -8,9 +8,10 @@ ghost use lib.Dec.{leb};
 ghost use Rattle.records.specs.Lists.{all};
 ghost use Rattle.records.specs.Store.{termIn, within, cell, chain};
 ghost use Rattle.records.specs.View.{storeOf, termsView, charsView, pairsView, lends, across, termed, readIn, chained, recordsIn};
-ghost use Rattle.records.specs.View.{termWords, cellWords, termLimit, cellLimit, charLimit, reasonLimit, keyLimit, sizes};
+ghost use Rattle.records.specs.View.{termWords, cellWords, termLimit, cellLimit, charLimit, reasonLimit, sizes};
 ghost use Rattle.records.specs.Rules.{isChar, isNumber, isEquatable, recordsRule, eachTerm, eachCell, isList};
 ghost use Rattle.records.specs.Rules.{reasonRule, keyRule, cellRule, textRule, partRule, concatRule, lengthRule, equationRule, termRule};
+ghost use Rattle.records.specs.Working.Leaves.{pairRule};
 ghost use Rattle.records.specs.Working.Hashes.{Tables, Passing};
 ghost use Rattle.records.specs.Working.Audited.{Sized};
 use crate::CELL_LIMIT;
@@ -153,6 +154,16 @@ fn key_ok(terms: &[u32], c: State, a: u32, b: u32) -> bool
         return false;
     }
     is_string(terms, c.terms, b)
+}
+
+// A reason, or a key.
+fn pair_ok(terms: &[u32], c: State, a: u32, b: u32, key: bool) -> bool
+    ensures { λ r. ⌜ r ≡ pairRule key (termed (now (terms .entry)) c) (a, b) ⌝ }
+{
+    if key {
+        return key_ok(terms, c, a, b);
+    }
+    reason_ok(a, b)
 }
 
 fn cell_ok(cells: &[u32], c: State, i: u32) -> bool
@@ -345,35 +356,16 @@ pub(crate) fn chars_ok(chars: &[u32], n: usize) -> bool
     true
 }
 
-fn reasons_ok(reasons: &[u32], n: usize) -> bool
+// The first n pairs of a slice, as reasons or as keys.
+fn pairs_pass(terms: &[u32], c: State, pairs: &[u32], n: usize, key: bool) -> bool
     requires { ⌜ n ≤ reasonLimit ⌝ }
-    ensures { λ r. ⌜ r ≡ all reasonRule (pairsView (now (reasons .entry)) n) ⌝ }
+    ensures { λ r. ⌜ r ≡ all (pairRule key (termed (now (terms .entry)) c)) (pairsView (now (pairs .entry)) n) ⌝ }
 {
     let mut i: usize = 0;
     while i < n {
-        if !reason_ok(
-            fields::word(reasons, 2 * i + 0),
-            fields::word(reasons, 2 * i + 1),
-        ) {
-            return false;
-        }
-        i += 1;
-    }
-    true
-}
-
-fn keys_ok(terms: &[u32], keys: &[u32], c: State) -> bool
-    requires { ⌜ c .keys ≤ keyLimit ⌝ }
-    ensures { λ r. ⌜ r ≡ all (keyRule (termed (now (terms .entry)) c)) (pairsView (now (keys .entry)) (c .keys)) ⌝ }
-{
-    let mut i: usize = 0;
-    while i < c.keys {
-        if !key_ok(
-            terms,
-            c,
-            fields::word(keys, 2 * i + 0),
-            fields::word(keys, 2 * i + 1),
-        ) {
+        let a = fields::word(pairs, 2 * i + 0);
+        let b = fields::word(pairs, 2 * i + 1);
+        if !pair_ok(terms, c, a, b, key) {
             return false;
         }
         i += 1;
@@ -444,8 +436,8 @@ pub(crate) fn records_ok(
     if !chars_ok(chars, c.chars) {
         return false;
     }
-    if !reasons_ok(reasons, c.reasons) {
+    if !pairs_pass(terms, c, reasons, c.reasons, false) {
         return false;
     }
-    keys_ok(terms, keys, c)
+    pairs_pass(terms, c, keys, c.keys, true)
 }

@@ -1,43 +1,18 @@
 // The calls, each on the slices as they are lent.
 use crate::Lens;
 use crate::Setup;
-use crate::counting::with_counts;
+use crate::keeping::OLD_WORDS;
 use crate::keeping::kept;
 use crate::keeping::save;
-use crate::least;
-use crate::part;
 use crate::saying::refusal;
-use crate::saying::say;
-use crate::saying::say_kept;
+use crate::saying::say_named;
 use crate::saying::tell;
+use lines::lending::front;
+use lines::lending::part;
+use lines::reading::numbers;
 use records::Made;
 use records::State;
 use records::fields::word;
-use std::num::wrapping_add_usize;
-
-fn audit_of(
-    terms: &[u32],
-    cells: &[u32],
-    chars: &[u32],
-    reasons: &[u32],
-    keys: &[u32],
-    z: Lens,
-    c: State,
-) -> u32 {
-    let t = part(z.terms, terms);
-    let e = part(z.cells, cells);
-    let h = part(z.chars, chars);
-    let r = part(z.reasons, reasons);
-    let k = part(z.keys, keys);
-    records::audit(
-        &terms[..t],
-        &cells[..e],
-        &chars[..h],
-        &reasons[..r],
-        &keys[..k],
-        c,
-    )
-}
 
 pub(crate) fn ask_audit(
     name: &[u8],
@@ -50,7 +25,15 @@ pub(crate) fn ask_audit(
 ) {
     let c = s.counts;
     let z = s.lens;
-    say(name, audit_of(terms, cells, chars, reasons, keys, z, c));
+    let k = records::audit(
+        front(terms, z.terms),
+        front(cells, z.cells),
+        front(chars, z.chars),
+        front(reasons, z.reasons),
+        front(keys, z.keys),
+        c,
+    );
+    say_named(name, k);
     io::write_all(1, b"\n");
 }
 
@@ -101,28 +84,17 @@ fn make_of(
     let t = part(z.terms, terms);
     let e = part(z.cells, cells);
     let h = part(z.chars, chars);
-    let r = part(z.reasons, reasons);
-    let k = part(z.keys, keys);
     make(
         l,
         n,
         &mut terms[..t],
         &mut cells[..e],
         &mut chars[..h],
-        &reasons[..r],
-        &keys[..k],
+        front(reasons, z.reasons),
+        front(keys, z.keys),
         c,
         w,
     )
-}
-
-// The lent list: number 0 of a line is its letter.
-fn lent_list(list: &[u32], n: usize) -> &[u32] {
-    let e = least(wrapping_add_usize(n, 1), list.len());
-    if e < 1 {
-        return list;
-    }
-    &list[1..e]
 }
 
 pub(crate) fn ask_make(
@@ -135,16 +107,14 @@ pub(crate) fn ask_make(
     reasons: &[u32],
     keys: &[u32],
     list: &[u32],
-    old: &mut [u32],
     s: Setup,
 ) -> Setup {
     let c = s.counts;
     let z = s.lens;
-    let w = lent_list(list, s.list);
-    save(terms, cells, chars, old);
+    let w = numbers(list, s.list);
+    let mut old: [u32; OLD_WORDS] = [0; OLD_WORDS];
+    save(terms, cells, chars, &mut old);
     let r = make_of(l, n, terms, cells, chars, reasons, keys, z, c, w);
-    let same = kept(refusal(r), c, terms, cells, chars, old);
-    let d = tell(name, r, c);
-    say_kept(same);
-    with_counts(s, d)
+    let same = kept(refusal(r), c, terms, cells, chars, &old);
+    tell(name, r, same, s)
 }

@@ -1,113 +1,116 @@
 // The commands that change words.
+use lines::put;
+use lines::put_all;
 use records::CELL_WIDTH;
 use records::TERM_WIDTH;
 use records::fields::word;
 use std::num::wrapping_add_u32;
 use std::num::wrapping_add_usize;
 
-pub(crate) fn put(s: &mut [u32], i: usize, x: u32) {
-    if i < s.len() {
-        s[i] = x;
-    }
-}
+// The good store. Variables x and y, merged by a7.
+const GOOD_VARIABLES: [u32; 16] = [2, 0, 1, 1, 1, 0, 0, 0, 2, 1, 1, 1, 1, 1, 7, 1];
 
-fn fill(s: &mut [u32], from: usize, n: usize, apart: usize, x: u32, more: u32) {
-    let mut at = from;
-    let mut y = x;
-    let mut i: usize = 0;
-    while i < n {
-        put(s, at, y);
-        at = wrapping_add_usize(at, apart);
-        y = wrapping_add_u32(y, more);
-        i += 1;
-    }
-}
-
-// The words of a slice, from word `at` of another on.
-pub(crate) fn copy(from: &[u32], to: &mut [u32], at: usize) {
-    let mut i: usize = 0;
-    while i < from.len() {
-        put(to, wrapping_add_usize(at, i), from[i]);
-        i += 1;
-    }
-}
-
-fn put_three(s: &mut [u32], at: usize, x: u32, y: u32, z: u32) {
-    put(s, at, x);
-    put(s, wrapping_add_usize(at, 1), y);
-    put(s, wrapping_add_usize(at, 2), z);
-}
-
-fn put_two(s: &mut [u32], x: u32, y: u32) {
-    put(s, 0, x);
-    put(s, 1, y);
-}
-
-fn put_term(
-    terms: &mut [u32],
-    at: usize,
-    kind: u32,
-    first: u32,
-    second: u32,
-    class: u32,
-    forest: u32,
-    label: u32,
-    value: u32,
-    stamp: u32,
-) {
-    put_three(terms, at, kind, first, second);
-    put_three(terms, wrapping_add_usize(at, 3), class, forest, label);
-    put(terms, wrapping_add_usize(at, 6), value);
-    put(terms, wrapping_add_usize(at, 7), stamp);
-}
-
-// Variables x and y, merged by a7; x ++ y and y ++ x, joined by congruence.
-fn good_strings(terms: &mut [u32]) {
-    put_term(terms, 0, 0, 0, 0, 0, 0, 0, 0, 0);
-    put_term(terms, 8, 2, 0, 1, 1, 1, 0, 0, 0);
-    put_term(terms, 16, 2, 1, 1, 1, 1, 1, 7, 1);
-    put_term(terms, 24, 3, 1, 0, 4, 3, 0, 0, 0);
-    put_term(terms, 32, 3, 3, 0, 4, 3, 3, 5, 2);
-}
+// x ++ y and y ++ x, joined by congruence.
+const GOOD_CONCATENATIONS: [u32; 16] = [3, 1, 0, 4, 3, 0, 0, 0, 3, 3, 0, 4, 3, 3, 5, 2];
 
 // The length of x; x = y.
-fn good_others(terms: &mut [u32]) {
-    put_term(terms, 40, 4, 1, 0, 5, 5, 0, 0, 0);
-    put_term(terms, 48, 5, 1, 2, 6, 6, 0, 0, 0);
+const GOOD_OTHERS: [u32; 16] = [4, 1, 0, 5, 5, 0, 0, 0, 5, 1, 2, 6, 6, 0, 0, 0];
+
+// The parts x, y; the parts y, x.
+const GOOD_PARTS: [u32; 12] = [1, 0, 2, 2, 0, 0, 2, 0, 4, 1, 0, 0];
+
+// The pairs (y, x), (x, y).
+const GOOD_PAIRS: [u32; 6] = [2, 1, 6, 1, 2, 0];
+
+const GOOD_CHARS: [u32; 2] = [120, 121];
+
+const GOOD_REASONS: [u32; 2] = [1, 5];
+
+const GOOD_KEYS: [u32; 2] = [1, 2];
+
+fn good_terms(terms: &mut [u32]) {
+    put_all(terms, 0, &[0; TERM_WIDTH]);
+    put_all(terms, TERM_WIDTH, &GOOD_VARIABLES);
+    put_all(terms, 3 * TERM_WIDTH, &GOOD_CONCATENATIONS);
+    put_all(terms, 5 * TERM_WIDTH, &GOOD_OTHERS);
 }
 
-// The parts x, y; the parts y, x; the pairs (y, x), (x, y).
 fn good_cells(cells: &mut [u32]) {
-    put_three(cells, 0, 0, 0, 0);
-    put_three(cells, 3, 1, 0, 2);
-    put_three(cells, 6, 2, 0, 0);
-    put_three(cells, 9, 2, 0, 4);
-    put_three(cells, 12, 1, 0, 0);
-    put_three(cells, 15, 2, 1, 6);
-    put_three(cells, 18, 1, 2, 0);
+    put_all(cells, 0, &[0; CELL_WIDTH]);
+    put_all(cells, CELL_WIDTH, &GOOD_PARTS);
+    put_all(cells, 5 * CELL_WIDTH, &GOOD_PAIRS);
 }
 
-fn fill_one(
-    n: &[u32],
+fn good(
     terms: &mut [u32],
     cells: &mut [u32],
     chars: &mut [u32],
     reasons: &mut [u32],
     keys: &mut [u32],
-    list: &mut [u32],
 ) {
-    let from = word(n, 2) as usize;
-    let many = word(n, 3) as usize;
-    let apart = word(n, 4) as usize;
-    let x = word(n, 5);
-    let more = word(n, 6);
-    match word(n, 1) {
-        1 => fill(terms, from, many, apart, x, more),
-        2 => fill(cells, from, many, apart, x, more),
-        3 => fill(chars, from, many, apart, x, more),
-        4 => fill(reasons, from, many, apart, x, more),
-        5 => fill(keys, from, many, apart, x, more),
-        _ => fill(list, from, many, apart, x, more),
+    good_terms(terms);
+    good_cells(cells);
+    put_all(chars, 0, &GOOD_CHARS);
+    put_all(reasons, 0, &GOOD_REASONS);
+    put_all(keys, 0, &GOOD_KEYS);
+}
+
+// Words of one slice, by the slice's number: `many` from `from` on, `apart` places apart, the first x, each `more` above the one before.
+struct Filling {
+    slice: u32,
+    from: usize,
+    many: u32,
+    apart: usize,
+    x: u32,
+    more: u32,
+}
+
+fn fill(s: &mut [u32], f: Filling) {
+    let mut at = f.from;
+    let mut y = f.x;
+    let mut i: u32 = 0;
+    while i < f.many {
+        put(s, at, y);
+        at = wrapping_add_usize(at, f.apart);
+        y = wrapping_add_u32(y, f.more);
+        i += 1;
+    }
+}
+
+fn one(slice: u32, at: usize, x: u32) -> Filling {
+    Filling {
+        slice: slice,
+        from: at,
+        many: 1,
+        apart: 0,
+        x: x,
+        more: 0,
+    }
+}
+
+fn many(n: &[u32]) -> Filling {
+    Filling {
+        slice: word(n, 1),
+        from: word(n, 2) as usize,
+        many: word(n, 3),
+        apart: word(n, 4) as usize,
+        x: word(n, 5),
+        more: word(n, 6),
+    }
+}
+
+// The words that a command changes; no slice has the number 0.
+fn words_of(l: u8, n: &[u32]) -> Filling {
+    let a = word(n, 1) as usize;
+    let b = word(n, 2) as usize;
+    match l {
+        84 => one(1, TERM_WIDTH * a + b, word(n, 3)),
+        69 => one(2, CELL_WIDTH * a + b, word(n, 3)),
+        72 => one(3, a, word(n, 2)),
+        82 => one(4, a, word(n, 2)),
+        75 => one(5, a, word(n, 2)),
+        70 => many(n),
+        _ => one(0, 0, 0),
     }
 }
 
@@ -121,24 +124,23 @@ pub(crate) fn change(
     keys: &mut [u32],
     list: &mut [u32],
 ) {
-    let a = word(n, 1) as usize;
-    let b = word(n, 2) as usize;
-    match l {
-        71 => {
-            good_strings(terms);
-            good_others(terms);
-            good_cells(cells);
-            put_two(chars, 120, 121);
-            put_two(reasons, 1, 5);
-            put_two(keys, 1, 2);
-        }
-        84 => put(terms, TERM_WIDTH * a + b, word(n, 3)),
-        69 => put(cells, CELL_WIDTH * a + b, word(n, 3)),
-        72 => put(chars, a, word(n, 2)),
-        82 => put(reasons, a, word(n, 2)),
-        75 => put(keys, a, word(n, 2)),
-        70 => fill_one(n, terms, cells, chars, reasons, keys, list),
-        87 => copy(n, list, 0),
+    if l == 71 {
+        good(terms, cells, chars, reasons, keys);
+        return;
+    }
+    if l == 87 {
+        put_all(list, 0, n);
+        return;
+    }
+    let f = words_of(l, n);
+    let slice = f.slice;
+    match slice {
+        1 => fill(terms, f),
+        2 => fill(cells, f),
+        3 => fill(chars, f),
+        4 => fill(reasons, f),
+        5 => fill(keys, f),
+        6 => fill(list, f),
         _ => {}
     }
 }

@@ -1,6 +1,11 @@
 // The commands that change counts and lengths.
+use crate::CELL_WORDS;
+use crate::CHAR_WORDS;
+use crate::KEY_WORDS;
 use crate::Lens;
+use crate::REASON_WORDS;
 use crate::Setup;
+use crate::TERM_WORDS;
 use records::State;
 use records::fields::word;
 
@@ -22,6 +27,17 @@ pub(crate) fn lens_of(t: u32, e: u32, h: u32, r: u32, k: u32) -> Lens {
         chars: h as usize,
         reasons: r as usize,
         keys: k as usize,
+    }
+}
+
+// Each slice whole.
+fn whole() -> Lens {
+    Lens {
+        terms: TERM_WORDS,
+        cells: CELL_WORDS,
+        chars: CHAR_WORDS,
+        reasons: REASON_WORDS,
+        keys: KEY_WORDS,
     }
 }
 
@@ -64,10 +80,7 @@ pub(crate) fn recount(l: u8, n: &[u32], count: usize, was: Setup) -> Setup {
             with_counts(was, counts_of(6, 6, 2, 1, 1, 0)),
             lens_of(56, 21, 2, 2, 2),
         ),
-        79 => with_lens(
-            with_counts(was, counts_of(0, 0, 0, 0, 0, 0)),
-            lens_of(4112, 6150, 16392, 8194, 8194),
-        ),
+        79 => with_lens(with_counts(was, counts_of(0, 0, 0, 0, 0, 0)), whole()),
         78 => with_counts(was, counts_of(a, b, c, d, e, word(n, 6))),
         76 => with_lens(was, lens_of(a, b, c, d, e)),
         87 => with_list(was, count),

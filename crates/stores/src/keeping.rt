@@ -1,20 +1,28 @@
 // Whether a call left the words as they were that it has to leave so.
-use crate::changing::copy;
+use crate::CELL_WORDS;
+use crate::CHAR_WORDS;
+use crate::TERM_WORDS;
+use lines::lending::least;
+use lines::put_all;
+use records::CELL_LIMIT;
 use records::CELL_WIDTH;
 use records::State;
+use records::TERM_LIMIT;
 use records::TERM_WIDTH;
 use records::fields::word;
 use std::num::wrapping_add_usize;
 
 // The words before a call stand in one slice: terms, then cells, then characters.
-const OLD_CELLS: usize = 4112;
+const OLD_CELLS: usize = TERM_WORDS;
 
-const OLD_CHARS: usize = 10262;
+const OLD_CHARS: usize = OLD_CELLS + CELL_WORDS;
+
+pub(crate) const OLD_WORDS: usize = OLD_CHARS + CHAR_WORDS;
 
 pub(crate) fn save(terms: &[u32], cells: &[u32], chars: &[u32], old: &mut [u32]) {
-    copy(terms, old, 0);
-    copy(cells, old, OLD_CELLS);
-    copy(chars, old, OLD_CHARS);
+    put_all(old, 0, terms);
+    put_all(old, OLD_CELLS, cells);
+    put_all(old, OLD_CHARS, chars);
 }
 
 // Whether n words are those of b from word `at` on.
@@ -30,17 +38,11 @@ fn agree(a: &[u32], b: &[u32], at: usize, n: usize) -> bool {
 }
 
 fn term_words(n: usize) -> usize {
-    if 512 < n {
-        return 4104;
-    }
-    TERM_WIDTH * (n + 1)
+    TERM_WIDTH * (least(n, TERM_LIMIT) + 1)
 }
 
 fn cell_words(n: usize) -> usize {
-    if 2048 < n {
-        return 6147;
-    }
-    CELL_WIDTH * (n + 1)
+    CELL_WIDTH * (least(n, CELL_LIMIT) + 1)
 }
 
 // The words that have to be as they were: all of them after refusals 1 to 5, else those of the records counted.

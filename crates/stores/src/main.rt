@@ -13,14 +13,10 @@
 //   l t · e t u            make a length, an equation
 //
 // Another line is a remark.
-ghost use Prim.Native.Nat.{_≤_};
-ghost use Rattle.io.specs.Counts.{Counts};
-
 mod asking;
 mod changing;
 mod counting;
 mod keeping;
-mod reading;
 mod saying;
 
 use crate::asking::ask_audit;
@@ -29,10 +25,31 @@ use crate::changing::change;
 use crate::counting::counts_of;
 use crate::counting::lens_of;
 use crate::counting::recount;
-use crate::reading::letter;
-use crate::reading::line_end;
-use crate::reading::read_line;
+use lines::reading::letter;
+use lines::reading::line_end;
+use lines::reading::read_line;
+use records::CELL_LIMIT;
+use records::CELL_WIDTH;
+use records::CHAR_LIMIT;
+use records::KEY_LIMIT;
+use records::REASON_LIMIT;
 use records::State;
+use records::TERM_LIMIT;
+use records::TERM_WIDTH;
+
+// The words of each slice: room for one record more than each limit.
+pub(crate) const TERM_WORDS: usize = TERM_WIDTH * (TERM_LIMIT + 2);
+
+pub(crate) const CELL_WORDS: usize = CELL_WIDTH * (CELL_LIMIT + 2);
+
+pub(crate) const CHAR_WORDS: usize = CHAR_LIMIT + 8;
+
+pub(crate) const REASON_WORDS: usize = 2 * (REASON_LIMIT + 1);
+
+pub(crate) const KEY_WORDS: usize = 2 * (KEY_LIMIT + 1);
+
+// The numbers of a line, its letter before them.
+const NUMBERS: usize = 64;
 
 // How many words of each slice are lent.
 pub(crate) struct Lens {
@@ -50,22 +67,6 @@ pub(crate) struct Setup {
     pub list: usize,
 }
 
-pub(crate) fn least(a: usize, b: usize) -> usize
-    ensures { λ r. ⌜ r ≤ b ⌝ }
-{
-    if a < b {
-        return a;
-    }
-    b
-}
-
-// n, or the length of a shorter slice.
-pub(crate) fn part(n: usize, s: &[u32]) -> usize
-    ensures { λ r. ⌜ Counts r (now (s .entry)) ⌝ }
-{
-    least(n, s.len())
-}
-
 fn is_making(l: u8) -> bool {
     match l {
         99 | 118 | 112 | 108 | 101 => true,
@@ -75,54 +76,38 @@ fn is_making(l: u8) -> bool {
 
 fn step(
     line: &[u8],
-    n: &mut [u32],
     terms: &mut [u32],
     cells: &mut [u32],
     chars: &mut [u32],
     reasons: &mut [u32],
     keys: &mut [u32],
     list: &mut [u32],
-    old: &mut [u32],
     was: Setup,
 ) -> Setup {
+    let mut n: [u32; NUMBERS] = [0; NUMBERS];
     let l = letter(line);
-    let p = read_line(line, n);
-    let count = p.count;
+    let p = read_line(line, &mut n);
     let at = p.at;
     let name = &line[at..];
     if is_making(l) {
-        return ask_make(
-            l,
-            n,
-            name,
-            terms,
-            cells,
-            chars,
-            reasons,
-            keys,
-            list,
-            old,
-            was,
-        );
+        return ask_make(l, &n, name, terms, cells, chars, reasons, keys, list, was);
     }
     if l == 65 {
         ask_audit(name, terms, cells, chars, reasons, keys, was);
         return was;
     }
-    change(l, n, terms, cells, chars, reasons, keys, list);
-    recount(l, n, count, was)
+    change(l, &n, terms, cells, chars, reasons, keys, list);
+    recount(l, &n, p.count, was)
 }
 
 fn run(
     text: &[u8],
-    n: &mut [u32],
     terms: &mut [u32],
     cells: &mut [u32],
     chars: &mut [u32],
     reasons: &mut [u32],
     keys: &mut [u32],
     list: &mut [u32],
-    old: &mut [u32],
 ) {
     let mut s = Setup {
         counts: counts_of(0, 0, 0, 0, 0, 0),
@@ -132,43 +117,27 @@ fn run(
     let mut at: usize = 0;
     while at < text.len() {
         let e = line_end(text, at);
-        s = step(
-            &text[at..e],
-            n,
-            terms,
-            cells,
-            chars,
-            reasons,
-            keys,
-            list,
-            old,
-            s,
-        );
+        s = step(&text[at..e], terms, cells, chars, reasons, keys, list, s);
         at = e + 1;
     }
 }
 
-// Room for one record more than each limit.
 fn main() {
     let mut text = io::large_buffer();
     let len = io::read_full(0, &mut text);
-    let mut n: [u32; 64] = [0; 64];
-    let mut terms: [u32; 4112] = [0; 4112];
-    let mut cells: [u32; 6150] = [0; 6150];
-    let mut chars: [u32; 16392] = [0; 16392];
-    let mut reasons: [u32; 8194] = [0; 8194];
-    let mut keys: [u32; 8194] = [0; 8194];
-    let mut list: [u32; 16392] = [0; 16392];
-    let mut old: [u32; 26654] = [0; 26654];
+    let mut terms: [u32; TERM_WORDS] = [0; TERM_WORDS];
+    let mut cells: [u32; CELL_WORDS] = [0; CELL_WORDS];
+    let mut chars: [u32; CHAR_WORDS] = [0; CHAR_WORDS];
+    let mut reasons: [u32; REASON_WORDS] = [0; REASON_WORDS];
+    let mut keys: [u32; KEY_WORDS] = [0; KEY_WORDS];
+    let mut list: [u32; CHAR_WORDS] = [0; CHAR_WORDS];
     run(
         &text[..len],
-        &mut n,
         &mut terms,
         &mut cells,
         &mut chars,
         &mut reasons,
         &mut keys,
         &mut list,
-        &mut old,
     );
 }

@@ -1,29 +1,25 @@
 // Printing what a call answered.
+use crate::Setup;
+use crate::counting::with_counts;
+use lines::saying::say;
+use lines::saying::say_count;
 use records::Made;
 use records::State;
 
-pub(crate) fn say(name: &[u8], x: u32) {
+pub(crate) fn say_named(name: &[u8], x: u32) {
     io::write_all(1, name);
-    io::write_all(1, b" ");
-    io::print_decimal(1, x as u64);
-}
-
-fn say_count(n: usize) {
-    io::write_all(1, b" ");
-    io::print_decimal(1, n as u64);
+    say(b" ", x);
 }
 
 fn say_term(name: &[u8], t: u32, c: State) {
-    say(name, 0);
-    io::write_all(1, b" term ");
-    io::print_decimal(1, t as u64);
-    io::write_all(1, b" counts");
-    say_count(c.terms);
-    say_count(c.cells);
-    say_count(c.chars);
+    say_named(name, 0);
+    say(b" term ", t);
+    say_count(b" counts ", c.terms);
+    say_count(b" ", c.cells);
+    say_count(b" ", c.chars);
 }
 
-pub(crate) fn say_kept(kept: bool) {
+fn say_kept(kept: bool) {
     if kept {
         io::write_all(1, b" kept\n");
         return;
@@ -38,16 +34,18 @@ pub(crate) fn refusal(r: Made) -> u32 {
     }
 }
 
-// Says what a making call answered, and gives the counts from here on.
-pub(crate) fn tell(name: &[u8], r: Made, c: State) -> State {
+// Says what a making call answered, and whether the words are kept. Gives what lasts from here on.
+pub(crate) fn tell(name: &[u8], r: Made, kept: bool, s: Setup) -> Setup {
     match r {
         Made::Term(t, d) => {
             say_term(name, t, d);
-            d
+            say_kept(kept);
+            with_counts(s, d)
         }
         Made::Refused(k) => {
-            say(name, k);
-            c
+            say_named(name, k);
+            say_kept(kept);
+            s
         }
     }
 }

@@ -3,7 +3,7 @@ use mathlib.Core.Path.{_≡_}
 use mathlib.Core.Bool.{Bool, _&&_}
 use mathlib.Core.List.{List}
 use lib.ListN.{take}
-use Prim.Native.Nat.{ℕ, _+_, _<_}
+use Prim.Native.Nat.{ℕ, _+_}
 use lib.IntN.{ℤ}
 use Rattle.records.specs.declared.State.{State}
 use Rattle.records.specs.Store.{Store, Out, ok, stop, Work, count}
@@ -14,11 +14,11 @@ use Rattle.records.specs.Calls.{Public, call, fullAlone}
 use Rattle.normalize.specs.Calls.{listCall, PublicList}
 use Rattle.wordeq.specs.declared.Equality.{Equality}
 use Rattle.wordeq.specs.declared.Equality.the-variants as equality
-use Rattle.wordeq.specs.declared.StepResult.{StepResult}
-use Rattle.wordeq.specs.declared.StepResult.the-variants as step
-use Rattle.wordeq.specs.Wordeq.{Answer, done, saturated, conflict, propagate, split, resolve, resolveArguments, nfEqual, nfExplain, nfArguments}
-use Rattle.wordeq.specs.Meaning.{Sound, ExplainsEqual}
-use Rattle.wordeq.specs.Repeated.{Repeated, Worked, Decides}
+use Rattle.sides.specs.declared.StepResult.{StepResult}
+use Rattle.sides.specs.declared.StepResult.the-variants as step
+use Rattle.sides.specs.Wordeq.{Answer, done, saturated, conflict, propagate, split, resolve, resolveArguments, nfEqual, nfExplain, nfArguments}
+use Rattle.sides.specs.Meaning.{Sound, ExplainsEqual}
+use Rattle.sides.specs.Repeated.{Repeated, Worked, Decides}
 
 -- NF_EQUAL
 

@@ -1,6 +1,2 @@
-pub mod Wordeq
-pub mod Meaning
-pub mod Repeated
-pub mod RepeatedCases
 pub mod Calls
 pub mod Working

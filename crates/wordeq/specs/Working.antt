@@ -1,12 +1,5 @@
 -- Working definitions: what the contracts of working functions cite. No definition that a public contract cites is built on one of them.
-pub mod Stripping
-pub mod Sides
 pub mod Splits
-pub mod Explaining
-pub mod Results
 pub mod Resolving
 pub mod Propagates
-pub mod Occurring
-pub mod Lacking
-pub mod Spans
 pub mod Heads

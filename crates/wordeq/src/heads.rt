@@ -11,21 +11,20 @@ ghost use Rattle.records.specs.Rules.{listLimit};
 ghost use Rattle.records.specs.Working.Audited.{Ready};
 ghost use Rattle.records.specs.Calls.{_into_};
 ghost use Rattle.records.specs.Working.Doing.{Does};
-ghost use Rattle.wordeq.specs.Wordeq.{_orElse_, isFull, clashes, splits, isGuard};
-ghost use Rattle.wordeq.specs.Working.Results.{BothLists, tried};
-ghost use Rattle.wordeq.specs.Working.Sides.{Texts, Spelled};
+ghost use Rattle.sides.specs.Wordeq.{_orElse_, isFull, clashes, splits, isGuard};
+ghost use Rattle.sides.specs.Working.Results.{BothLists, tried};
+ghost use Rattle.sides.specs.Working.Sides.{Spelled};
 ghost use Rattle.wordeq.specs.Working.Splits.{listed};
 ghost use Rattle.wordeq.specs.Working.Heads.{HeadsApart, HeadPair, atomsOf, splitNew};
-use crate::StepResult;
-use crate::sides;
 use crate::splits;
-use crate::stripping;
 use normalize::Form;
 use records::Added;
 use records::State;
 use records::fields;
 use records::put;
-use records::rules;
+use sides::StepResult;
+use sides::letters;
+use sides::stripping;
 
 // The guard negated: the lowest i32, which has no opposite, is no guard.
 fn negated(guard: i32) -> i32
@@ -33,18 +32,6 @@ fn negated(guard: i32) -> i32
     ensures { λ r. ⌜ r ≡ negℤ guard ⌝ }
 {
     -guard
-}
-
-// A constant with at least one character.
-fn is_full(terms: &[u32], c: State, a: u32) -> bool
-    requires { ⌜ Texts (now terms) c ⌝ }
-    ensures { λ r. ⌜ r ≡ isFull (termed (now (terms .entry)) c) a ⌝ }
-{
-    if rules::kind_of(terms, c.terms, a) != 1 {
-        return false;
-    }
-    let n = fields::second(terms, a);
-    0 < n
 }
 
 fn first_letter(terms: &[u32], chars: &[u32], c: State, a: u32) -> u32
@@ -74,11 +61,11 @@ fn put_atoms(
     requires { ⌜ 3 ≤ length (now list) ⌝ }
     ensures { λ r. ⌜ Does (atomsOf a b) (across terms cells chars reasons keys) c (listed r into list) ⌝ }
 {
-    if is_full(terms, c, b) {
+    if letters::is_full_unchecked(terms, c, b) {
         let x = first_letter(terms, chars, c, b);
         return splits::split_character_unchecked(terms, cells, chars, reasons, keys, c, a, x, list);
     }
-    if is_full(terms, c, a) {
+    if letters::is_full_unchecked(terms, c, a) {
         let y = first_letter(terms, chars, c, a);
         return splits::split_character_unchecked(terms, cells, chars, reasons, keys, c, b, y, list);
     }
@@ -154,7 +141,7 @@ pub(crate) fn split_unchecked(
     }
     let a = lhs[0];
     let b = rhs[0];
-    if sides::constants_differ(terms, chars, c, a, b) {
+    if letters::constants_differ_unchecked(terms, chars, c, a, b) {
         return StepResult::Conflict(c);
     }
     if stripping::both_constant(terms, c.terms, a, b) {

@@ -1,52 +1,21 @@
-// Word equations, steps 1 to 8.
+// Word equations, steps 1 to 8: the public calls.
 ghost use mathlib.Core.Path.{_≡_};
-ghost use mathlib.Core.List.{[]};
 ghost use Rattle.records.specs.View.{across, termed};
 ghost use Rattle.records.specs.Calls.{added, Answers, Promises, Writes};
-ghost use Rattle.wordeq.specs.Wordeq.{isGuard, resolveArguments, nfArguments};
+ghost use Rattle.sides.specs.Wordeq.{isGuard, resolveArguments, nfArguments};
 ghost use Rattle.wordeq.specs.Calls.{equalArguments, equalLists, compared, PublicEqualExplain, PublicResolve, resolved};
 use records::Added;
 use records::LIST_LIMIT;
 use records::State;
 use records::rules;
+use sides::StepResult;
+use sides::equal_lists;
 
-pub mod equal_lists;
-pub mod explaining;
 mod heads;
-mod lacking;
-mod occurring;
 pub mod propagate;
 pub mod resolving;
-pub mod sides;
-pub mod spans;
 pub mod splits;
 mod stepping;
-pub mod stripping;
-
-// The answer, with the new counts. A single step that finds nothing says Done, and the next one is tried.
-pub enum StepResult {
-    Done(records::State),
-    Saturated(records::State),
-    Conflict(records::State),
-    // the variable, its word, the link flag
-    Propagate(records::State, u32, u32, bool),
-    // how many atoms are listed, the guard negated, how many terms were made
-    Split(records::State, usize, i32, u32),
-    Refused(u32),
-}
-
-// The places of what step 1 leaves: where both parts begin, and where the left and the right one end.
-pub struct Rest {
-    pub from: usize,
-    pub lhs: usize,
-    pub rhs: usize,
-}
-
-// What step 1 leaves: the counts, these places, and whether a match that it stripped needs a reason; or the refusal.
-pub enum Stripped {
-    Parts(records::State, usize, usize, usize, bool),
-    Refused(u32),
-}
 
 // Whether two lists are equal, or the refusal.
 pub enum Equality {

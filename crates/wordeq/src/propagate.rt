@@ -12,18 +12,18 @@ ghost use Rattle.records.specs.Make.{makeConstant};
 ghost use Rattle.records.specs.Working.Audited.{Ready};
 ghost use Rattle.records.specs.Calls.{made};
 ghost use Rattle.records.specs.Working.Doing.{Does};
-ghost use Rattle.wordeq.specs.Wordeq.{same, fixed, letters, alias, empties, assigns, _orElse_};
-ghost use Rattle.wordeq.specs.Working.Results.{BothLists, Tries};
-ghost use Rattle.wordeq.specs.Working.Sides.{Spelled};
-ghost use Rattle.wordeq.specs.Working.Stripping.{Readable, Pair};
+ghost use Rattle.sides.specs.Wordeq.{same, fixed, letters, alias, empties, assigns, _orElse_};
+ghost use Rattle.sides.specs.Working.Results.{BothLists, Tries};
+ghost use Rattle.sides.specs.Working.Sides.{Spelled};
+ghost use Rattle.sides.specs.Working.Stripping.{Readable, Pair};
 ghost use Rattle.wordeq.specs.Working.Propagates.{aliased, emptied, assigned, linked};
-use crate::StepResult;
-use crate::sides;
-use crate::stripping;
 use records::Made;
 use records::State;
 use records::make;
 use records::rules;
+use sides::StepResult;
+use sides::letters;
+use sides::stripping;
 
 // The constant of a constant side, "" for none.
 pub(crate) fn side_word_unchecked(
@@ -54,24 +54,17 @@ fn is_alias(terms: &[u32], chars: &[u32], c: State, l: &[u32], r: &[u32]) -> boo
     if r.len() != 1 {
         return false;
     }
-    if !sides::is_plain(terms, chars, c, l[0]) {
+    if !letters::is_plain_unchecked(terms, chars, c, l[0]) {
         return false;
     }
-    sides::is_plain(terms, chars, c, r[0])
+    letters::is_plain_unchecked(terms, chars, c, r[0])
 }
 
 // Whether all atoms are variables.
 fn are_variables(terms: &[u32], c: State, l: &[u32]) -> bool
     ensures { λ r. ⌜ r ≡ all (isVariable (termed (now (terms .entry)) c)) (now (l .entry)) ⌝ }
 {
-    let mut i: usize = 0;
-    while i < l.len() {
-        if rules::kind_of(terms, c.terms, l[i]) != 2 {
-            return false;
-        }
-        i += 1;
-    }
-    true
+    letters::first_of_kind_unchecked(terms, c, l, 2, false) == l.len()
 }
 
 // An empty side against two or more variables.
@@ -97,7 +90,7 @@ fn is_assigned(terms: &[u32], c: State, l: &[u32], r: &[u32]) -> bool
     if rules::kind_of(terms, c.terms, l[0]) != 2 {
         return false;
     }
-    sides::is_fixed(terms, c, r)
+    letters::is_fixed(terms, c, r)
 }
 
 // The first variable that is not the same as the word is propagated to it.

@@ -13,29 +13,22 @@ ghost use Rattle.records.specs.Working.Doing.{Does};
 ghost use Rattle.records.specs.Rules.{listLimit};
 ghost use Rattle.normalize.specs.Normalize.{atoms};
 ghost use Rattle.normalize.specs.Working.Flat.{bare, Nested, Appended};
-ghost use Rattle.wordeq.specs.Wordeq.{resolve, isGuard};
-ghost use Rattle.wordeq.specs.Working.Results.{BothLists};
+ghost use Rattle.sides.specs.Wordeq.{resolve, isGuard};
+ghost use Rattle.sides.specs.Working.Results.{BothLists};
 ghost use Rattle.wordeq.specs.Calls.{resolved};
 ghost use Rattle.wordeq.specs.Working.Resolving.{soft, closing, flatSteps, ran};
-use crate::StepResult;
 use crate::stepping;
 use normalize::flat;
 use records::LIST_LIMIT;
 use records::State;
-use records::rules;
+use sides::StepResult;
+use sides::letters;
 
 // Whether some atom is a concatenation.
 fn has_concat(terms: &[u32], c: State, l: &[u32]) -> bool
     ensures { λ r. ⌜ r ≡ any (isConcat (termed (now (terms .entry)) c)) (now (l .entry)) ⌝ }
 {
-    let mut i: usize = 0;
-    while i < l.len() {
-        if rules::kind_of(terms, c.terms, l[i]) == 3 {
-            return true;
-        }
-        i += 1;
-    }
-    false
+    letters::first_of_kind_unchecked(terms, c, l, 3, true) < l.len()
 }
 
 fn either_concat(terms: &[u32], c: State, lhs: &[u32], rhs: &[u32]) -> bool

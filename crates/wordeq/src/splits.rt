@@ -11,7 +11,7 @@ ghost use Rattle.records.specs.Make.{lookup, makeVariable, variableArguments};
 ghost use Rattle.records.specs.Working.Audited.{Ready};
 ghost use Rattle.records.specs.Calls.{made, _into_};
 ghost use Rattle.records.specs.Working.Doing.{Does};
-ghost use Rattle.wordeq.specs.Wordeq.{freshVariable};
+ghost use Rattle.sides.specs.Wordeq.{freshVariable};
 ghost use Rattle.wordeq.specs.Working.Splits.{listed, prefixAtom, emptyAtom, characterAtom, lengthsAtom, characterAtoms, prefixAtoms, headAtoms};
 use held::taking;
 use normalize::Form;

@@ -8,19 +8,19 @@ ghost use Rattle.records.specs.Rules.{listLimit};
 ghost use Rattle.records.specs.Working.Audited.{Ready};
 ghost use Rattle.records.specs.Calls.{_into_};
 ghost use Rattle.records.specs.Working.Doing.{Does};
-ghost use Rattle.wordeq.specs.Wordeq.{_orElse_, occurs, constants, after, isBare, steps, isGuard};
-ghost use Rattle.wordeq.specs.Working.Results.{BothLists, tried, Tries};
+ghost use Rattle.sides.specs.Wordeq.{_orElse_, occurs, constants, after, isBare, steps, isGuard};
+ghost use Rattle.sides.specs.Working.Results.{BothLists, tried, Tries};
 ghost use Rattle.wordeq.specs.Calls.{resolved};
 ghost use Rattle.wordeq.specs.Working.Heads.{HeadsApart};
-use crate::StepResult;
-use crate::Stripped;
 use crate::heads;
-use crate::lacking;
-use crate::occurring;
 use crate::propagate;
-use crate::spans;
-use crate::stripping;
 use records::State;
+use sides::StepResult;
+use sides::Stripped;
+use sides::lacking;
+use sides::occurring;
+use sides::spans;
+use sides::stripping;
 
 // Steps 2 and 3, which can find a conflict and nothing else.
 fn conflicts_unchecked<'a>(
@@ -44,7 +44,7 @@ fn conflicts_unchecked<'a>(
     let StepResult::Done(d) = o else {
         return o;
     };
-    if lacking::constants(terms, chars, d, lhs, rhs) {
+    if lacking::constants_unchecked(terms, chars, d, lhs, rhs) {
         return StepResult::Conflict(d);
     }
     StepResult::Done(d)

@@ -1,8 +1,7 @@
-use mathlib.Core.Path.{sym, _∙_}
-use borrow.Author.Tests.{not-true, not-false}
 use Rattle.capi.proofs.Exports.{untold}
 use Rattle.capi.proofs.Engines.{find-told, find-untold}
-use Rattle.capi.proofs.Words.{roomy-answer}
+use borrow.Author.Tests.{not-true, not-false}
+use mathlib.Core.Path.{sym, _∙_}
 use native.Mathlib.Omega.{arith}
 use borrow.Author.Needs.{needs}
 use Rattle.capi.proofs.labels_find.Statement.{statement}
@@ -24,23 +23,26 @@ labels-find-spec =
     (λ c κs. search needs)
     -- enum-known-found
     (λ c. search needs)
-    -- slice-write-answer
-    (λ c.
-    let at-if1 = c .before .before .before .before .before in
+    -- slice-aggregate-tell-still
+    (λ c. search needs)
+    -- tell-still-requires
+    (λ c κs.
+    let at-if1 = c .before .before .before .before .before .before .before in
     let at-is-roomy = at-if1 .before in
-    let h = roomy-answer _ _ (sym (at-is-roomy .is-roomy .ensures) ∙ not-false _ (at-if1 .if1 .left)) in omega arith)
+    (sym (at-is-roomy .is-roomy .ensures) ∙ not-false _ (at-if1 .if1 .left), omega arith))
     -- enum-known-found-2
     (λ c. search needs)
     -- same-length-2
     (λ c. search needs)
     -- returns-2
     (λ c.
-    let at-find = c .before .before .before in
+    let at-found = c .before .before .before .before .before .before in
+    let at-find = at-found .before .before in
     let at-state-of = at-find .before in
     let at-if1 = at-state-of .before in
     let at-is-roomy = at-if1 .before in
-    find-told _ _ _ _ (at-find .find .ensures) _ _ (sym (at-is-roomy .is-roomy .ensures) ∙ not-false _ (at-if1 .if1 .left)) (at-state-of .state-of .ensures) _
-    (c .before .found .given .1))
+    find-told _ _ _ _ (at-find .find .ensures) _ _ (sym (at-is-roomy .is-roomy .ensures) ∙ not-false _ (at-if1 .if1 .left)) (at-state-of .state-of .ensures) (at-found .found .given .1)
+    (c .before .before .tell-still .ensures .is))
     -- same-length-3
     (λ c. search needs)
     -- returns-3

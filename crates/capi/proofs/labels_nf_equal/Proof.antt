@@ -1,5 +1,4 @@
 use Rattle.capi.proofs.EqualExports.{equal-short, equal-told, equal-untold}
-use Rattle.capi.proofs.Words.{roomy-answer}
 use borrow.Author.Tests.{not-true, not-false}
 use mathlib.Core.Path.{sym, _∙_}
 use native.Mathlib.Omega.{arith}
@@ -25,23 +24,27 @@ labels-nf-equal-spec =
     (λ c. search needs)
     -- flag-of-requires
     (λ c κs. search needs)
-    -- slice-write-answer
-    (λ c.
-    let at-if1 = c .before .before .before .before .before .before in
+    -- slice-aggregate-tell-still
+    (λ c. search needs)
+    -- tell-still-requires
+    (λ c κs.
+    let at-if1 = c .before .before .before .before .before .before .before .before in
     let at-is-roomy = at-if1 .before in
-    let h = roomy-answer _ _ (sym (at-is-roomy .is-roomy .ensures) ∙ not-false _ (at-if1 .if1 .left)) in omega arith)
+    (sym (at-is-roomy .is-roomy .ensures) ∙ not-false _ (at-if1 .if1 .left), omega arith))
     -- enum-known-compared-2
     (λ c. search needs)
     -- same-length-2
     (λ c. search needs)
     -- returns-2
     (λ c.
-    let at-nf-equal = c .before .before .before .before in
+    let at-flag-of = c .before .before .before .before in
+    let at-compared = at-flag-of .before .before .before in
+    let at-nf-equal = at-compared .before .before in
     let at-state-of = at-nf-equal .before in
     let at-if1 = at-state-of .before in
     let at-is-roomy = at-if1 .before in
-    equal-told _ _ _ _ _ (at-nf-equal .nf-equal .ensures) _ _ (sym (at-is-roomy .is-roomy .ensures) ∙ not-false _ (at-if1 .if1 .left)) (at-state-of .state-of .ensures) _
-    (c .before .before .compared .given .1) _ (c .flag-of .ensures))
+    equal-told _ _ _ _ _ (at-nf-equal .nf-equal .ensures) _ _ (sym (at-is-roomy .is-roomy .ensures) ∙ not-false _ (at-if1 .if1 .left)) (at-state-of .state-of .ensures) (at-compared .compared .given .1)
+    (at-flag-of .flag-of .ensures) (c .before .before .tell-still .ensures .is))
     -- same-length-3
     (λ c. search needs)
     -- returns-3

@@ -8,7 +8,7 @@ use Rattle.forced.specs.declared.Forced.the-variants as forced
 use Rattle.capi.specs.Working.Leaves.{Telling, tells, refuses}
 
 -- the counts are as they were
-abbrev pub forcedTelling : State → Forced → Telling
+abbrev pub forcedTelling : State → Forced → Telling State
 forcedTelling s (forced.Spans k c l m r) = tells s (0 ∷ k ∷ c ∷ l ∷ m ∷ r ∷ [])
 forcedTelling s (forced.Shortage k c l d) = tells s (1 ∷ k ∷ c ∷ l ∷ d ∷ 0 ∷ [])
 forcedTelling s (forced.Refused j) = refuses j

@@ -9,7 +9,7 @@ use Rattle.empties.specs.declared.Empties.the-variants as empties
 use Rattle.capi.specs.Equations.{flag}
 use Rattle.capi.specs.Working.Leaves.{Telling, tells, refuses, NarrowList}
 
-abbrev pub partsTelling : Empties → Telling
+abbrev pub partsTelling : Empties → Telling State
 partsTelling (empties.Parts c e n f) = tells c (n ∷ e ∷ flag f ∷ [])
 partsTelling (empties.Refused k) = refuses k
 

@@ -1,11 +1,12 @@
 -- Definitions that only private contracts cite: how an answer of joining, setting a mark or going back is put into words.
 use mathlib.Core.Path.{_≡_}
-use mathlib.Core.List.{List}
+use mathlib.Core.List.{List, [], _∷_}
 use Prim.Native.Nat.{ℕ, _<_}
 use lib.ListN.{set}
 use Rattle.classes.specs.declared.Standing.{Standing}
 use Rattle.classes.specs.declared.Answer.{Answer}
 use Rattle.classes.specs.declared.Answer.the-variants.{Given, Refused}
+use Rattle.capi.specs.Working.Leaves.{Telling, tells, refuses}
 
 -- the state's words 6 and 7 written back
 abbrev pub standingIn : Standing → List ℕ → List ℕ
@@ -19,22 +20,14 @@ pub record NarrowStanding (e : Standing) : Type 0 where
 pub record NarrowGiven (r : Answer) : Type 0 where
   pub counts : (n : ℕ) (e : Standing) → r ≡ Given n e → NarrowStanding e
 
-abbrev pub codeOf : Answer → ℕ
-codeOf (Given n e) = 0
-codeOf (Refused k) = k
+-- the counts, and words of the number
+abbrev pub givenTelling : (ℕ → List ℕ) → Answer → Telling Standing
+givenTelling words (Given n e) = tells e (words n)
+givenTelling words (Refused k) = refuses k
 
-abbrev pub stateAfter : Answer → List ℕ → List ℕ
-stateAfter (Given n e) w = standingIn e w
-stateAfter (Refused k) w = w
+-- the number in one word; none of it
+abbrev pub numberTelling : Answer → Telling Standing
+numberTelling r = givenTelling (λ n. n ∷ []) r
 
-abbrev pub answerAfter : Answer → List ℕ → List ℕ
-answerAfter (Given n e) a = set a 0 n
-answerAfter (Refused k) a = a
-
-pub record ToldStanding (r : Answer) (w w′ : List ℕ) (k : ℕ) : Type 0 where
-  pub code : k ≡ codeOf r
-  pub state : w′ ≡ stateAfter r w
-
-pub record ToldAnswer (r : Answer) (w w′ a a′ : List ℕ) (k : ℕ) : Type 0 where
-  pub is : ToldStanding r w w′ k
-  pub answer : a′ ≡ answerAfter r a
+abbrev pub standingTelling : Answer → Telling Standing
+standingTelling r = givenTelling (λ n. []) r

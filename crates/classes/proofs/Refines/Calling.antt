@@ -23,7 +23,7 @@ use Rattle.classes.specs.declared.Standing.{Standing}
 use Rattle.classes.specs.Joins.{trace, traceOf, joinIn, Linked}
 use Rattle.classes.specs.Marks.{Trail, markLimit, joinLimit, traceAt, trailOf, undoAll, tableAt}
 use Rattle.classes.specs.Calls.{Outcome, gives, joinArguments, recorded, joinTerms, setMark, joinsAt, before, goBack, Leaves}
-use Rattle.classes.specs.Working.Carries.{Becomes, Tabled, Linkable, Undoes, undone, no-table, TrailSized, Trailed}
+use Rattle.classes.specs.Working.Carries.{TermsBecome, Tabled, Linkable, Undoes, undone, no-table, TrailSized, Trailed}
 use Rattle.classes.specs.Working.Doing.{ReadyMarks, WorkingMarks, WorkingJoin}
 use Rattle.classes.proofs.JoinKept.{join-linked}
 use Rattle.classes.proofs.Enough.{joins-fit}
@@ -44,7 +44,7 @@ module _ (work : Store → Trail → Outcome) {t e h r ks t′ l l′ : List ℕ
       record { says = is; leaves = leaves; ready = record { ready = ready-after (p .ready) (leaves .termsLong) refl (k .audited); trail = sized; marked = k .marked } }
 
 -- the store with another table
-store-becomes : (t e h r ks t′ : List ℕ) (c : State) (us : List Term) → Becomes t t′ (c .terms) us → storeOf (lent t′ e h r ks) c ≡ withTerms (storeOf (lent t e h r ks) c) us
+store-becomes : (t e h r ks t′ : List ℕ) (c : State) (us : List Term) → TermsBecome t t′ (c .terms) us → storeOf (lent t′ e h r ks) c ≡ withTerms (storeOf (lent t e h r ks) c) us
 unfolding zeroTerm within
 store-becomes t e h r ks t′ c us b = let p = b .is in let q = b .long in let z = b .away 0 refl in cc
 
@@ -129,7 +129,7 @@ module _ {t e h r ks l : List ℕ} {c : State} {d : Standing} (p : ReadyMarks (l
       unfolding joinTerms
       of-classes = rw (fit, ne-eqb (root s a) (root s b) apart)
 
-      module _ {t′ l′ : List ℕ} {f : Standing} {old : ℕ} (et : old ≡ topIn ts a) (g : Trailed l l′ (recorded (trace a old under) (trailOf l d)) f) (i : Becomes t t′ (c .terms) (joinIn ts a b k v)) where
+      module _ {t′ l′ : List ℕ} {f : Standing} {old : ℕ} (et : old ≡ topIn ts a) (g : Trailed l l′ (recorded (trace a old under) (trailOf l d)) f) (i : TermsBecome t t′ (c .terms) (joinIn ts a b k v)) where
         read : old ≡ topIn ts a → under ≡ rootIn ts a → recorded (trace a old under) (trailOf l d) ≡ recorded (traceOf ts a) (trailOf l d)
         read x y = cc
 
@@ -226,7 +226,7 @@ module _ {t e h r ks l : List ℕ} {c : State} {d : Standing} (p : ReadyMarks (l
   table-is : tableAt (joinsAt i xg) xg (termsView t (c .terms)) ≡ table-of
   table-is = ap (λ (j : ℕ). tableAt j xg (termsView t (c .terms))) joins-are
 
-  back-to : {t′ : List ℕ} {us : List Term} → table-of ≡ some us → Becomes t t′ (c .terms) us → WorkingMarks (goBack i) mg (lent t′ e h r ks) l l c d i left-over
+  back-to : {t′ : List ℕ} {us : List Term} → table-of ≡ some us → TermsBecome t t′ (c .terms) us → WorkingMarks (goBack i) mg (lent t′ e h r ks) l l c d i left-over
   back-to {t′} {us} q w = works (goBack i) p (back-tracked (storeOf mg c) xg (marks-tracked p) i) cut-sized
       (back-goes i (storeOf mg c) xg us stands-there (table-is ∙ q) ∙ sym (ap (λ (s : Store). gives s (trailOf l left-over) i) (store-becomes t e h r ks t′ c us w) ∙ ap (λ (y : Trail). gives (withTerms (storeOf mg c) us) y i) trail-is))
       (record { terms = w .away; termsLong = w .long; words = λ j k. refl; long = refl })

@@ -13,7 +13,7 @@ use Rattle.records.specs.Working.Puts.{TermSet}
 use Rattle.records.proofs.Lists.{clash, within-high}
 use Rattle.records.proofs.Climbs.{view-term, view-count}
 use Rattle.classes.specs.Joins.{Edge, edge, turned, bearing, putEdge, putClass}
-use Rattle.classes.specs.Working.Carries.{carryBy, Becomes, Carriable}
+use Rattle.classes.specs.Working.Carries.{carryBy, TermsBecome, Carriable}
 use Rattle.classes.proofs.MovedClimbs.{closed-put}
 use Rattle.classes.proofs.Tables.{edge-here, edge-away}
 use Rattle.classes.proofs.Refines.Carrying.{carry-root, carry-turn}
@@ -21,19 +21,19 @@ use Rattle.classes.proofs.Refines.Carrying.{carry-root, carry-turn}
 -- ONE RECORD
 
 module _ {l l′ : List ℕ} {t : ℕ} {x : Term} (p : TermSet l l′ t x) (n : ℕ) (w : within n t ≡ true) where
-  set-becomes : Becomes l l′ n (set (termsView l n) (t - 1) x)
+  set-becomes : TermsBecome l l′ n (set (termsView l n) (t - 1) x)
   set-becomes = record { long = p .long; away = λ u h. p .away u (λ e. clash w (ap (within n) (sym e) ∙ h)); is = p .terms n w }
 
 module _ {l l′ : List ℕ} {t : ℕ} (n : ℕ) (w : within n t ≡ true) where
-  pub edge-becomes : (e : Edge) → TermSet l l′ t (bearing (termAt l t) e) → Becomes l l′ n (putEdge (termsView l n) t e)
+  pub edge-becomes : (e : Edge) → TermSet l l′ t (bearing (termAt l t) e) → TermsBecome l l′ n (putEdge (termsView l n) t e)
   unfolding putEdge
-  edge-becomes e p = subst (λ (x : Term). Becomes l l′ n (set (termsView l n) (t - 1) (bearing x e))) (sym (view-term l n t w)) (set-becomes p n w)
+  edge-becomes e p = subst (λ (x : Term). TermsBecome l l′ n (set (termsView l n) (t - 1) (bearing x e))) (sym (view-term l n t w)) (set-becomes p n w)
 
-  pub class-becomes : (q : ℕ) → TermSet l l′ t (withClass (termAt l t) q) → Becomes l l′ n (putClass (termsView l n) t q)
+  pub class-becomes : (q : ℕ) → TermSet l l′ t (withClass (termAt l t) q) → TermsBecome l l′ n (putClass (termsView l n) t q)
   unfolding putClass
-  class-becomes q p = subst (λ (x : Term). Becomes l l′ n (set (termsView l n) (t - 1) (withClass x q))) (sym (view-term l n t w)) (set-becomes p n w)
+  class-becomes q p = subst (λ (x : Term). TermsBecome l l′ n (set (termsView l n) (t - 1) (withClass x q))) (sym (view-term l n t w)) (set-becomes p n w)
 
-pub becomes-then : {l l₁ l₂ : List ℕ} {n : ℕ} {ts us : List Term} → Becomes l l₁ n ts → Becomes l₁ l₂ n us → Becomes l l₂ n us
+pub becomes-then : {l l₁ l₂ : List ℕ} {n : ℕ} {ts us : List Term} → TermsBecome l l₁ n ts → TermsBecome l₁ l₂ n us → TermsBecome l l₂ n us
 becomes-then p q = record { long = q .long ∙ p .long; away = λ t h. q .away t h ∙ p .away t h; is = q .is }
 
 -- THE LOOP
@@ -44,7 +44,7 @@ pub record Carrying (l₀ l : List ℕ) (n x : ℕ) (e : Edge) (at below k v m i
   pub here : within n at ≡ true
   pub over : within n below ≡ true
   pub closed : Closed (forestUp (termsView l n)) n
-  pub until : Becomes l₀ l n (termsView l n)
+  pub until : TermsBecome l₀ l n (termsView l n)
   pub left : carryBy (suc n - i) (termsView l n) at (edge below k v m) ≡ carryBy (suc n) (termsView l₀ n) x e
 
 pub carrying-begin : (l : List ℕ) (n x p k v m : ℕ) → Carriable l n x p → Carrying l l n x (edge p k v m) x p k v m 0
@@ -61,12 +61,12 @@ module _ {l₀ l : List ℕ} {n x : ℕ} {e : Edge} {at below k v m i : ℕ} (c 
   pub carrying-room : termWords n ≤ length l₀ → termWords at ≤ length l
   carrying-room r = let h = within-high n at (c .here) in let q = c .until .long in omega arith
 
-  pub carrying-out : n < i → Becomes l₀ l n (carryBy (suc n) (termsView l₀ n) x e)
+  pub carrying-out : n < i → TermsBecome l₀ l n (carryBy (suc n) (termsView l₀ n) x e)
   unfolding carryBy
-  carrying-out h = subst (Becomes l₀ l n) (let q : suc n - i ≡ 0 = omega arith in rw q at (c .left)) (c .until)
+  carrying-out h = subst (TermsBecome l₀ l n) (let q : suc n - i ≡ 0 = omega arith in rw q at (c .left)) (c .until)
 
   module _ {l′ : List ℕ} (h : i ≤ n) (s : TermSet l l′ at (bearing (termAt l at) (edge below k v m))) (above : ℕ) (a : above ≡ termAt l at .forestParent) where
-    p : Becomes l l′ n (putEdge (termsView l n) at (edge below k v m))
+    p : TermsBecome l l′ n (putEdge (termsView l n) at (edge below k v m))
     p = edge-becomes n (c .here) (edge below k v m) s
 
     one-left : suc n - i ≡ suc (suc n - (i + 1))
@@ -78,9 +78,9 @@ module _ {l₀ l : List ℕ} {n x : ℕ} {e : Edge} {at below k v m i : ℕ} (c 
     up-is : forestUp (termsView l n) at ≡ above
     up-is = ap (λ (y : Term). y .forestParent) now ∙ sym a
 
-    pub carrying-end : above ≡ at → Becomes l₀ l′ n (carryBy (suc n) (termsView l₀ n) x e)
+    pub carrying-end : above ≡ at → TermsBecome l₀ l′ n (carryBy (suc n) (termsView l₀ n) x e)
     carrying-end q =
-        subst (Becomes l₀ l′ n) (sym (carry-root (suc n - (i + 1)) (termsView l n) at (edge below k v m) (up-is ∙ q)) ∙ ap (λ (j : ℕ). carryBy j (termsView l n) at (edge below k v m)) (sym one-left) ∙ c .left)
+        subst (TermsBecome l₀ l′ n) (sym (carry-root (suc n - (i + 1)) (termsView l n) at (edge below k v m) (up-is ∙ q)) ∙ ap (λ (j : ℕ). carryBy j (termsView l n) at (edge below k v m)) (sym one-left) ∙ c .left)
         (becomes-then (c .until) p)
 
     pub carrying-turn : (k₁ v₁ m₁ : ℕ) → (above ≡ at → ⊥) → k₁ ≡ termAt l at .labelKind → v₁ ≡ termAt l at .labelValue → m₁ ≡ termAt l at .stamp → Carrying l₀ l′ n x e above at k₁ v₁ m₁ (i + 1)
@@ -91,7 +91,7 @@ module _ {l₀ l : List ℕ} {n x : ℕ} {e : Edge} {at below k v m i : ℕ} (c 
           here = subst (λ (z : ℕ). within n z ≡ true) up-is (c .closed .stays at (c .here));
           over = c .here;
           closed = subst (λ (ts : List Term). Closed (forestUp ts) n) (sym (p .is)) (closed-put (c .closed) (c .over) (ap (λ (y : Term). y .forestParent) (edge-here (termsView l n) at _ wl)) (λ t z. ap (λ (y : Term). y .forestParent) (edge-away (termsView l n) at _ wl t z)));
-          until = subst (Becomes l₀ l′ n) (sym (p .is)) (becomes-then (c .until) p);
+          until = subst (TermsBecome l₀ l′ n) (sym (p .is)) (becomes-then (c .until) p);
           left = ap (λ (ts : List Term). carryBy (suc n - (i + 1)) ts above (edge at k₁ v₁ m₁)) (p .is)
               ∙ ap (λ (z : ℕ). carryBy (suc n - (i + 1)) (putEdge (termsView l n) at (edge below k v m)) z (edge at k₁ v₁ m₁)) (sym up-is)
               ∙ ap (carryBy (suc n - (i + 1)) (putEdge (termsView l n) at (edge below k v m)) (forestUp (termsView l n) at)) (sym its)

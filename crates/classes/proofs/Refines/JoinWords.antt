@@ -1,14 +1,14 @@
 -- Joining and undoing over words: what each call asks, and what the last one leaves.
 use mathlib.Core.Path.{_≡_, refl, sym, ap, subst, _∙_}
-use mathlib.Core.Bool.{Bool, true, false, not, _&&_}
+use mathlib.Core.Bool.{Bool, true, false, not}
 use mathlib.Core.List.{List}
-use mathlib.Core.Option.{Option, some, none}
-use Prim.Native.Nat.{ℕ, suc, _+_, _*_, _≤_, _<_}
+use mathlib.Core.Option.{Option, none}
+use Prim.Native.Nat.{ℕ, suc, _≤_}
 use native.Mathlib.Omega.{arith}
 use lib.ListN.{length}
 use lib.Dec.{eqb}
 use borrow.Author.Tests.{eq-eqb, ne-eqb, not-true, not-false}
-use Rattle.records.specs.Store.{Term, termIn, within, climb, classUp, forestUp, rootIn}
+use Rattle.records.specs.Store.{Term, within, climb, classUp, forestUp, rootIn}
 use Rattle.records.specs.View.{termAt, termsView, termWords}
 use Rattle.records.specs.Make.{withClass}
 use Rattle.records.specs.Working.Audited.{Closed}
@@ -16,7 +16,7 @@ use Rattle.records.specs.Working.Puts.{TermSet}
 use Rattle.records.proofs.Lists.{within-high, failed, passed, five-1, five-2, five-3, five-4, five-last}
 use Rattle.records.proofs.Climbs.{climb-within, view-count, view-class, view-forest}
 use Rattle.classes.specs.Joins.{Trace, cutIn, edge, noEdge, bearing, putEdge, putClass, rerootIn, linkIn, joinIn, trace, isTrace, undoIn}
-use Rattle.classes.specs.Working.Carries.{Forest, carryBy, Becomes, Carriable, Tabled, Linkable, Cuttable, Undoes, undone, no-table}
+use Rattle.classes.specs.Working.Carries.{Forest, carryBy, TermsBecome, Carriable, Tabled, Linkable, Cuttable, Undoes, undone, no-table}
 use Rattle.classes.proofs.Undoing.{class-forest}
 use Rattle.classes.proofs.Cutting.{Traced, trace-says, undo-is, cut-forest, cut-kept, cut-stays}
 use Rattle.classes.proofs.Refines.Carrying.{carry-link, carry-reroot}
@@ -45,7 +45,7 @@ module _ (l : List ℕ) (n a b under over : ℕ) (h : Linkable l n a b under ove
   under-room = tabled-room l n under (h .tabled) under-within
 
   module _ (l₁ : List ℕ) (s : TermSet l l₁ under (withClass (termAt l under) over)) where
-    put : Becomes l l₁ n (putClass (termsView l n) under over)
+    put : TermsBecome l l₁ n (putClass (termsView l n) under over)
     put = class-becomes n under-within over s
 
     forest₁ : Forest (termsView l₁ n)
@@ -60,10 +60,10 @@ module _ (l : List ℕ) (n a b under over : ℕ) (h : Linkable l n a b under ove
       closed = counted (termsView l₁ n) n (view-count l₁ n) (forest₁ .closed);
     }
 
-    pub link-leaves : (l₂ : List ℕ) (k v : ℕ) → Becomes l₁ l₂ n (carryBy (suc n) (termsView l₁ n) a (edge b k v 0)) → Becomes l l₂ n (joinIn (termsView l n) a b k v)
+    pub link-leaves : (l₂ : List ℕ) (k v : ℕ) → TermsBecome l₁ l₂ n (carryBy (suc n) (termsView l₁ n) a (edge b k v 0)) → TermsBecome l l₂ n (joinIn (termsView l n) a b k v)
     unfolding joinIn
     link-leaves l₂ k v q =
-        subst (Becomes l l₂ n)
+        subst (TermsBecome l l₂ n)
         (ap (λ (m : ℕ). carryBy (suc m) (termsView l₁ n) a (edge b k v 0)) (sym (view-count l₁ n)) ∙ carry-link (termsView l₁ n) forest₁ a (in-view l₁ n a (h .one)) b k v
         ∙ ap (λ (ts : List Term). linkIn ts a b k v) (put .is) ∙ ap (λ (z : ℕ). linkIn (putClass (termsView l n) z over) a b k v) (h .under-is)
         ∙ ap (λ (z : ℕ). linkIn (putClass (termsView l n) (rootIn (termsView l n) a) z) a b k v) (h .over-is))
@@ -76,7 +76,7 @@ module _ (l : List ℕ) (n c r u : ℕ) (h : Cuttable l n (trace c r u)) where
   edge-room = tabled-room l n c (h .tabled) (h .child)
 
   module _ (l₁ : List ℕ) (s : TermSet l l₁ c (bearing (termAt l c) (noEdge c))) where
-    cut : Becomes l l₁ n (putEdge (termsView l n) c (noEdge c))
+    cut : TermsBecome l l₁ n (putEdge (termsView l n) c (noEdge c))
     cut = edge-becomes n (h .child) (noEdge c) s
 
     cut-is : Forest (termsView l₁ n)
@@ -91,13 +91,13 @@ module _ (l : List ℕ) (n c r u : ℕ) (h : Cuttable l n (trace c r u)) where
       closed = counted (termsView l₁ n) n (view-count l₁ n) (cut-is .closed);
     }
 
-    module _ (l₂ : List ℕ) (q : Becomes l₁ l₂ n (carryBy (suc n) (termsView l₁ n) r (noEdge r))) where
+    module _ (l₂ : List ℕ) (q : TermsBecome l₁ l₂ n (carryBy (suc n) (termsView l₁ n) r (noEdge r))) where
       pub class-asked : termWords u ≤ length l₂
       class-asked = let w = within-high n u (h .under) in let x = h .tabled .room in let y = cut .long in let z = q .long in omega arith
 
-      pub cut-leaves : (l₃ : List ℕ) → TermSet l₂ l₃ u (withClass (termAt l₂ u) u) → Becomes l l₃ n (cutIn (termsView l n) (trace c r u))
+      pub cut-leaves : (l₃ : List ℕ) → TermSet l₂ l₃ u (withClass (termAt l₂ u) u) → TermsBecome l l₃ n (cutIn (termsView l n) (trace c r u))
       cut-leaves l₃ k =
-          subst (Becomes l l₃ n)
+          subst (TermsBecome l l₃ n)
           (ap (λ (ts : List Term). putClass ts u u)
           (q .is ∙ ap (λ (m : ℕ). carryBy (suc m) (termsView l₁ n) r (noEdge r)) (sym (view-count l₁ n)) ∙ carry-reroot (termsView l₁ n) cut-is r (in-view l₁ n r (h .oldRoot)) ∙ ap (λ (ts : List Term). rerootIn ts r) (cut .is)))
           (becomes-then cut (becomes-then q (class-becomes n (h .under) u k)))
@@ -174,7 +174,7 @@ module _ (l : List ℕ) (n child old under : ℕ) where
       pub undo-asked : Cuttable l n x
       undo-asked = record { tabled = d; child = uncounted child (traced .child); oldRoot = uncounted old (traced .oldRoot); under = uncounted under (traced .under) }
 
-      pub undo-done : (l′ : List ℕ) → Becomes l l′ n (cutIn ts x) → Undoes l l′ n (undoIn ts x) true
+      pub undo-done : (l′ : List ℕ) → TermsBecome l l′ n (cutIn ts x) → Undoes l l′ n (undoIn ts x) true
       undo-done l′ q = subst (λ (o : Option (List Term)). Undoes l l′ n o true) (sym (undo-is ts (cutIn ts x) x record { traced = traced; is = refl })) (undone q record {
         few = d .few;
         room = (let z = q .long in let r = d .room in omega arith);

@@ -4,7 +4,7 @@ use mathlib.Core.Bool.{Bool, true, false, not, _&&_}
 use mathlib.Core.List.{List, [], _∷_, _++_}
 use mathlib.Core.Logic.{_⊎_, inl, inr}
 use mathlib.Core.Option.{Option, none, some}
-use Prim.Native.Nat.{ℕ, suc, _+_, _-_, _*_, _<_, _≤_}
+use Prim.Native.Nat.{ℕ, suc, _+_, _-_, _<_, _≤_}
 use native.Mathlib.Omega.{arith}
 use native.Mathlib.Nat.{eq-or-lt-of-le}
 use lib.ListN.{length, getD, set, drop, length-set}
@@ -13,10 +13,11 @@ use borrow.Author.Tests.{not-true, not-false}
 use Rattle.records.specs.declared.State.{State}
 use Rattle.records.specs.Lists.{all, table, firsts, Every}
 use Rattle.records.specs.Store.{Term, Store, termIn, term, kind, chain, within, classUp}
-use Rattle.records.specs.View.{Lent, storeOf, termAt, termsView, termWords, termLimit, chained, termed}
+use Rattle.records.specs.View.{Lent, storeOf, termsView, termWords, termLimit, chained, termed}
 use Rattle.records.specs.Rules.{classesRule, congruencesRule}
 use Rattle.records.specs.Working.Audited.{Closed, Classed, Congruable}
-use Rattle.records.proofs.Lists.{and-stop, and-next, right-false, right-true, failed, passed, all-append, table-same, table-length, table-suc, table-add}
+use Rattle.records.proofs.Lists.{and-stop, and-next, right-false, right-true, failed, passed, all-append, table-length, table-suc, table-add}
+use Rattle.records.proofs.Views.{terms-agree}
 use Rattle.records.proofs.Climbs.{view-count}
 use Rattle.records.proofs.Passed.{classed-of}
 use Rattle.classes.specs.declared.Standing.{Standing}
@@ -59,18 +60,7 @@ module _ {l k₀ k : List ℕ} {n i : ℕ} (c : Copying l k₀ k n i) where
 
 -- the terms are those of the words copied
 copied-terms : {l k₀ k : List ℕ} {n : ℕ} → Copied l k₀ k n → termsView k n ≡ termsView l n
-copied-terms {l} {k₀} {k} {n} c = table-same (λ t. termAt k (suc t)) (λ t. termAt l (suc t)) n record-same
-  where
-    record-same : (t : ℕ) → t < n → termAt k (suc t) ≡ termAt l (suc t)
-    record-same t p =
-        let a0 = c .words (8 * suc t + 0) (omega arith) in
-        let a1 = c .words (8 * suc t + 1) (omega arith) in
-        let a2 = c .words (8 * suc t + 2) (omega arith) in
-        let a3 = c .words (8 * suc t + 3) (omega arith) in
-        let a4 = c .words (8 * suc t + 4) (omega arith) in
-        let a5 = c .words (8 * suc t + 5) (omega arith) in
-        let a6 = c .words (8 * suc t + 6) (omega arith) in
-        let a7 = c .words (8 * suc t + 7) (omega arith) in cc
+copied-terms {l} {k₀} {k} {n} c = terms-agree l k n (c .words)
 
 -- ONE TABLE
 

@@ -1,9 +1,9 @@
 -- The words lent for marks: their sizes, a join or a mark recorded, and joins undone one after the other.
 use mathlib.Core.Path.{_≡_, refl, sym, ap, subst, _∙_}
-use mathlib.Core.Bool.{Bool, true, false, not, _&&_, _||_}
-use mathlib.Core.List.{List, [], _∷_, _++_}
+use mathlib.Core.Bool.{Bool, true, false, not, _&&_}
+use mathlib.Core.List.{List, [], _∷_}
 use mathlib.Core.Option.{Option, none, some}
-use Prim.Native.Nat.{ℕ, zero, suc, _+_, _-_, _*_, _<_, _≤_}
+use Prim.Native.Nat.{ℕ, suc, _+_, _-_, _*_, _<_, _≤_}
 use native.Mathlib.Omega.{arith}
 use lib.ListN.{length, getD, set, drop, length-set}
 use lib.Seq.{getD-set-same, getD-set-other, drop-append-le, drop-length}
@@ -17,7 +17,7 @@ use Rattle.classes.specs.declared.Standing.{Standing}
 use Rattle.classes.specs.Joins.{Trace, trace, undoIn}
 use Rattle.classes.specs.Marks.{Trail, tracePlace, traceAt, trailOf, trailSizes, undoAll, markLimit, joinLimit}
 use Rattle.classes.specs.Calls.{recorded, isCounted}
-use Rattle.classes.specs.Working.Carries.{Becomes, Tabled, Undoes, undone, no-table, TrailSized, Trailed}
+use Rattle.classes.specs.Working.Carries.{TermsBecome, Tabled, Undoes, undone, no-table, TrailSized, Trailed}
 use Rattle.classes.proofs.Undone.{undo-append, undo-stops}
 use Rattle.classes.proofs.Refines.CarryWords.{becomes-then}
 
@@ -55,12 +55,6 @@ pub above-joins : (d : Standing) (i : ℕ) → isCounted d i ≡ false → markL
 above-joins d i h k =
     decide (ltb i (tracePlace (d .joins) 0)) (λ t. clash (or-right (ltb i (d .marks)) _ (both-true _ _ (le-leb markLimit i k) t)) h)
     (λ t. let q = ltb-false i (tracePlace (d .joins) 0) t in omega arith)
-
--- the marks and the joins read alike in two slices
-pub trail-same : (l l′ : List ℕ) (d : Standing) → ((i : ℕ) → i < d .marks → getD l′ i 0 ≡ getD l i 0) → ((j : ℕ) → j < d .joins → traceAt l′ j ≡ traceAt l j) → trailOf l′ d ≡ trailOf l d
-trail-same l l′ d f g =
-    let p = table-same (λ i. getD l′ i 0) (λ i. getD l i 0) (d .marks) f in
-    let q = table-same (traceAt l′) (traceAt l) (d .joins) g in cc
 
 module _ (l : List ℕ) (d : Standing) (s : TrailSized l d) where
   abbrev none-more : Trail
@@ -177,7 +171,7 @@ module _ (l : List ℕ) (d : Standing) (s : TrailSized l d) where
 pub record Came (l l′ : List ℕ) (n : ℕ) (o : Option (List Term)) : Type 0 where
   pub table-is : List Term
   pub is : o ≡ some table-is
-  pub becomes : Becomes l l′ n table-is
+  pub becomes : TermsBecome l l′ n table-is
   pub tabled : Tabled l′ n
 
 pub undoes-none : {l l′ : List ℕ} {n : ℕ} {o : Option (List Term)} → Undoes l l′ n o false → o ≡ none
@@ -187,9 +181,9 @@ pub undoes-some : {l l′ : List ℕ} {n : ℕ} {o : Option (List Term)} → Und
 undoes-some (undone {ts = ts} b t) = record { table-is = ts; is = refl; becomes = b; tabled = t }
 
 -- whatever the answer, the terms are a table
-undoes-tabled : {l l′ : List ℕ} {n : ℕ} {o : Option (List Term)} {r : Bool} → Undoes l l′ n o r → Becomes l l′ n (termsView l′ n) × Tabled l′ n
-undoes-tabled {l} {l′} {n} (undone b t) = (subst (Becomes l l′ n) (sym (b .is)) b, t)
-undoes-tabled {l} {l′} {n} (no-table b t) = (subst (Becomes l l′ n) (sym (b .is)) b, t)
+undoes-tabled : {l l′ : List ℕ} {n : ℕ} {o : Option (List Term)} {r : Bool} → Undoes l l′ n o r → TermsBecome l l′ n (termsView l′ n) × Tabled l′ n
+undoes-tabled {l} {l′} {n} (undone b t) = (subst (TermsBecome l l′ n) (sym (b .is)) b, t)
+undoes-tabled {l} {l′} {n} (no-table b t) = (subst (TermsBecome l l′ n) (sym (b .is)) b, t)
 
 pub undoes-is : {l l′ : List ℕ} {n : ℕ} {o p : Option (List Term)} {r : Bool} → o ≡ p → Undoes l l′ n p r → Undoes l l′ n o r
 undoes-is {l} {l′} {n} {r = r} e u = subst (λ (x : Option (List Term)). Undoes l l′ n x r) (sym e) u
@@ -206,7 +200,7 @@ undoes-read {l} {n = n} marks j child old under p q k u = undoes-is (ap (undoIn 
 pub record Backward (l₀ l : List ℕ) (n : ℕ) (marks : List ℕ) (joins first j : ℕ) : Type 0 where
   pub low : first ≤ j
   pub high : j ≤ joins
-  pub until : Becomes l₀ l n (termsView l n)
+  pub until : TermsBecome l₀ l n (termsView l n)
   pub tabled : Tabled l n
   pub left : undoAll (drop first (table (traceAt marks) joins)) (termsView l₀ n) ≡ undoAll (drop first (table (traceAt marks) j)) (termsView l n)
 
@@ -241,7 +235,7 @@ module _ {l₀ l : List ℕ} {n : ℕ} {marks : List ℕ} {joins first j : ℕ} 
         record {
           low = omega arith;
           high = (let k = b .high in omega arith);
-          until = subst (Becomes l₀ l′ n) (sym (c .becomes .is)) (becomes-then (b .until) (c .becomes));
+          until = subst (TermsBecome l₀ l′ n) (sym (c .becomes .is)) (becomes-then (b .until) (c .becomes));
           tabled = c .tabled;
           left = b .left ∙ ap (λ (k : List Trace). undoAll k (termsView l n)) last-first ∙ undo-append (drop first (table (traceAt marks) i)) (traceAt marks i ∷ []) (termsView l n) (c .table-is) (c .is)
               ∙ ap (undoAll (drop first (table (traceAt marks) i))) (sym (c .becomes .is));

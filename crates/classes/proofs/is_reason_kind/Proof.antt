@@ -1,5 +1,4 @@
 use Rattle.classes.proofs.Refines.PublicCalls.{kind-one, kind-two}
-use borrow.Author.Needs.{needs}
 use Rattle.classes.proofs.is_reason_kind.Statement.{statement}
 use Rattle.classes.proofs.is_reason_kind.Tie as tie
 

@@ -28,7 +28,7 @@ carryBy zero ts x e = ts
 carryBy (suc n) ts x e = elim (eqb (forestUp ts x) x) [ true ↦ putEdge ts x e | false ↦ carryBy n (putEdge ts x e) (forestUp ts x) (turned x (termIn ts x)) ]
 
 -- the n terms are now these; every other record, record 0 too, stays
-pub record Becomes (l l′ : List ℕ) (n : ℕ) (ts : List Term) : Type 0 where
+pub record TermsBecome (l l′ : List ℕ) (n : ℕ) (ts : List Term) : Type 0 where
   pub long : length l′ ≡ length l
   pub away : (t : ℕ) → within n t ≡ false → termAt l′ t ≡ termAt l t
   pub is : termsView l′ n ≡ ts
@@ -64,8 +64,8 @@ pub record Cuttable (l : List ℕ) (n : ℕ) (x : Trace) : Type 0 where
 
 -- whether there is a table, and that the terms are it; where there is none, they are a table still. Every other record stays
 pub data Undoes (l l′ : List ℕ) (n : ℕ) : Option (List Term) → Bool → Type 0 where
-  undone : {ts : List Term} → Becomes l l′ n ts → Tabled l′ n → Undoes l l′ n (some ts) true
-  no-table : {ts : List Term} → Becomes l l′ n ts → Tabled l′ n → Undoes l l′ n none false
+  undone : {ts : List Term} → TermsBecome l l′ n ts → Tabled l′ n → Undoes l l′ n (some ts) true
+  no-table : {ts : List Term} → TermsBecome l l′ n ts → Tabled l′ n → Undoes l l′ n none false
 
 -- terms that the audit of a mark may start from: their parts are terms
 pub record Markable (l e : List ℕ) (c : State) : Type 0 where

@@ -1,17 +1,16 @@
 -- The loops that list the variables: each is compared with those listed, and one more is tried.
 use mathlib.Core.Path.{_≡_, refl, sym, ap, _∙_}
-use mathlib.Core.Bool.{Bool, true, false, not, _||_}
+use mathlib.Core.Bool.{Bool, true, false, _||_}
 use mathlib.Core.List.{List, [], _∷_, _++_, append-nil, append-assoc}
-use Prim.Native.Nat.{ℕ, suc, _+_, _≤_, _<_}
+use Prim.Native.Nat.{ℕ, _+_, _≤_, _<_}
 use native.Mathlib.Numerals.{add-one}
 use native.Mathlib.Omega.{arith}
-use lib.ListN.{length, take, drop, getD, set, length-take, length-append, length-set, drop-of-length-le}
+use lib.ListN.{length, take, drop, getD, set, length-append, length-set, drop-of-length-le}
 use lib.Seq.{drop-cons, take-suc-set, length-take-le}
-use Rattle.records.specs.Lists.{if_then_else_, all, any, oneMore, Every, none-left, and}
+use Rattle.records.specs.Lists.{all, any, oneMore}
 use Rattle.records.specs.Store.{Store, isString, sameClass}
-use Rattle.records.proofs.Lists.{decide, or-left, or-none, both-left, both-right, both-true, all-append, all-every, every-at}
-use Rattle.records.proofs.Loops.{any-stop, any-turn, any-done}
-use Rattle.wordeq.specs.Working.Stripping.{Pair}
+use Rattle.records.proofs.Lists.{or-left, both-left, both-right, both-true, all-append, all-every, every-at}
+use Rattle.sides.specs.Working.Stripping.{Pair}
 use Rattle.empties.specs.Empties.{unmet}
 use Rattle.empties.specs.Working.Listing.{tried, Starts}
 use Rattle.empties.proofs.Unmet.{unmet-none, unmet-met, unmet-new}

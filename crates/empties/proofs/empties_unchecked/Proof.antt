@@ -1,4 +1,4 @@
-use Rattle.empties.proofs.Refines.Ways.{empties-able, empties-strings, empties-done, empties-stop}
+use Rattle.empties.proofs.Refines.EmptyPartsCalls.{empties-able, empties-strings, empties-done, empties-stop}
 use Rattle.records.specs.Lists.{all}
 use Rattle.records.specs.View.{lent, storeOf}
 use Rattle.records.proofs.ListLaws.{list-short}

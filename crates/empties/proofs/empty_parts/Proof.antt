@@ -1,6 +1,5 @@
-use Rattle.empties.proofs.Refines.Ways.{parts-short, parts-unready, parts-unfit, parts-ready, parts-lists, parts-called}
+use Rattle.empties.proofs.Refines.EmptyPartsCalls.{parts-short, parts-unready, parts-unfit, parts-ready, parts-lists, parts-called}
 use Rattle.records.specs.View.{lent}
-use native.Mathlib.Omega.{arith}
 use borrow.Author.Needs.{needs}
 use Rattle.empties.proofs.empty_parts.Statement.{statement}
 use Rattle.empties.proofs.empty_parts.Tie as tie

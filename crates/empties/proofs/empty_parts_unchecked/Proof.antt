@@ -1,5 +1,5 @@
 use Rattle.wordeq.proofs.Flattened.{list-passes, list-says, list-flat}
-use Rattle.empties.proofs.Refines.Ways.{left-passes, right-passes, flat-done}
+use Rattle.empties.proofs.Refines.EmptyPartsCalls.{left-passes, right-passes, flat-done}
 use Rattle.normalize.proofs.FormReady.{ready-nested}
 use Rattle.records.specs.View.{lent}
 use lib.ListN.{take}

@@ -1,5 +1,5 @@
 -- Each way through `find` and `explain`.
-use mathlib.Core.Path.{_≡_, refl, sym, ap, _∙_}
+use mathlib.Core.Path.{_≡_, sym, ap, _∙_}
 use mathlib.Core.Bool.{Bool, true, false, not, _&&_}
 use Prim.Native.Nat.{ℕ}
 use native.Mathlib.Omega.{arith}
@@ -15,7 +15,7 @@ use Rattle.records.specs.Calls.{Public, call}
 use Rattle.records.specs.Working.Doing.{Working}
 use lib.Seq.{drop-append-seam}
 use Rattle.records.proofs.Lists.{both-left, both-right, left-false, right-false}
-use Rattle.records.proofs.Later.{added-once}
+use Rattle.records.proofs.LaterStores.{added-once}
 use Rattle.records.proofs.Passed.{ready-of}
 use Rattle.records.proofs.Doing.{working-same}
 use Rattle.records.proofs.Public.{call-unready, call-unfit, call-works, audit-low}

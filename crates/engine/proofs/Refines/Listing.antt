@@ -6,9 +6,7 @@ use Prim.Native.Nat.{ℕ, _+_, _-_, _≤_, _<_}
 use native.Mathlib.Omega.{arith}
 use lib.ListN.{set}
 use lib.Seq.{getD-set-other}
-use lib.Dec.{ltb}
 use borrow.Author.Tests.{lt-ltb}
-use Rattle.records.specs.Lists.{any}
 use Rattle.records.specs.View.{pairAt, pairsView}
 use Rattle.records.specs.Make.{samePair, isListed}
 use Rattle.records.proofs.Lists.{clash, any-zero, any-turn, any-stays, any-stop, any-done}

@@ -1,16 +1,16 @@
 -- Each way through `expand_edge`: an edge by its label, and the pairs of a congruence edge in turn.
-use mathlib.Core.Path.{_≡_, refl, sym, ap, _∙_}
+use mathlib.Core.Path.{_≡_, refl, sym, ap, subst, _∙_}
 use mathlib.Core.Bool.{Bool, true, false}
-use mathlib.Core.List.{List, [], _∷_, _++_}
+use mathlib.Core.List.{List, [], _∷_}
 use mathlib.Core.Logic.{_⊎_, inl, inr, ⊎-elim}
 use Prim.Native.Nat.{ℕ, suc, _+_, _*_, _-_, _/_, _%_, _≤_, _<_, min}
 use native.Mathlib.Omega.{arith}
-use lib.ListN.{length}
+use lib.ListN.{length, length-append}
 use lib.Dec.{ltb}
-use borrow.Author.Tests.{ltb-true}
+use borrow.Author.Tests.{ltb-true, lt-ltb}
 use Rattle.records.specs.Lists.{firsts, oneMore, Every, and}
 use Rattle.records.specs.Store.{Term, Cell, Store, Out, ok, stop, Work, andThen, store, term, cell, count, isTerm, isEdge, within, kind, parts, chain, chainIn, pathIn, termIn, cellIn}
-use Rattle.records.specs.View.{termAt, cellAt, termsView, cellsView, pairsView, reasonRoom, reasonLimit}
+use Rattle.records.specs.View.{termAt, cellAt, pairAt, termsView, cellsView, pairsView, reasonRoom, reasonLimit}
 use Rattle.records.specs.Make.{withReasons, isListed, addReason}
 use Rattle.records.specs.Working.Audited.{Audited, Label, asserted, interface, congruence, definitional, Next, last, later}
 use Rattle.records.specs.Working.Puts.{Pushed}
@@ -77,10 +77,6 @@ gives-listed l places places′ n kind value slot b i z = record {
   elsewhere = i .elsewhere;
 }
 
--- one that fitted found the count below the limit
-pub pushed-low : {l l′ : List ℕ} {n kind value : ℕ} {r : Bool} → Pushed l l′ n kind value r → r ≡ true → n < reasonLimit
-pushed-low {l} {n = n} p e = let h = ltb-true n (reasonRoom l) (sym (p .fits) ∙ e) in omega arith
-
 module _ (l l′ places places′ : List ℕ) (n kind value slot : ℕ) (b : Bool) (i : Looked l places places′ n kind value slot b) (z : b ≡ false) (r : Bool) (p : Pushed l l′ n kind value r) where
   lacked : {X : Type 0} → isListed (kind, value) (pairsView l n) ≡ true → X
   lacked y = clash y (sym (i .is) ∙ z)
@@ -108,6 +104,26 @@ module _ (l l′ places places′ : List ℕ) (n kind value slot : ℕ) (b : Boo
     full = λ x h. refl;
     elsewhere = i .elsewhere;
   }
+
+-- another count is one more, and below the limit before
+module _ {l l′ places places′ : List ℕ} {n kind value slot : ℕ} {r : Walked} (g : Gives l l′ places places′ n kind value slot r) (room : n ≤ reasonRoom l) (other : r .count ≡ n → ⊥) where
+  risen : n < reasonRoom l
+  risen = let h = g .more in let k = g .fits room in omega arith
+
+  pub gives-low : n < reasonLimit
+  gives-low = let h = risen in omega arith
+
+  gives-one-more : r ≡ record { code = 0; count = n + 1 }
+  gives-one-more = decide (isListed (kind, value) (pairsView l n))
+      (λ e. absurd (other (sym (table-length (pairAt l′) (r .count)) ∙ ap length (g .listed e .1) ∙ table-length (pairAt l) n)))
+      (λ e.
+      let p = g .given e (lt-ltb n (reasonRoom l) risen) in
+      let c : r .count ≡ n + 1 = sym (table-length (pairAt l′) (r .count)) ∙ ap length (p .1) ∙ length-append (pairsView l n) ((kind, value) ∷ []) ∙ ap (λ (x : ℕ). x + 1) (table-length (pairAt l) n) in
+      let f : ℕ → Walked = λ x. record { code = x; count = r .count } in
+      let h : ℕ → Walked = λ x. record { code = 0; count = x } in ap f (p .0) ∙ ap h c)
+
+  pub gives-counted : (m : ℕ) → m ≡ n + 1 → Gives l l′ places places′ n kind value slot (record { code = 0; count = m })
+  gives-counted m e = rw e (subst (λ (x : Walked). Gives l l′ places places′ n kind value slot x) gives-one-more g)
 
 -- AN EDGE BY ITS LABEL
 

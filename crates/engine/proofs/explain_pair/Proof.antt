@@ -1,5 +1,4 @@
 use Rattle.engine.proofs.Refines.Plainly.{explainable-on, explained-anew}
-use native.Mathlib.Omega.{arith}
 use borrow.Author.Needs.{needs}
 use Rattle.engine.proofs.explain_pair.Statement.{statement}
 use Rattle.engine.proofs.explain_pair.Tie as tie
@@ -8,7 +7,7 @@ pub explain-pair-spec : {M : Type 1} → statement M
 explain-pair-spec =
     tie.close
     (tie.spec
-    -- explain-few-requires
+    -- explain-tabled-requires
     (λ c κs. search needs)
     -- same-length
     (λ c. search needs)
@@ -28,45 +27,17 @@ explain-pair-spec =
     at-explain-plain .explain-plain .ensures .done _ (c .before .p .given .1) _ _)
     -- enum-told
     (λ c. search needs)
-    -- explain-some-requires
+    -- explain-tabled-requires-2
     (λ c κs.
-    let at-explain-plain = c .before .before .before .before .before .before .before .before .before in
+    let at-explain-plain = c .before .before .before .before .before .before .before in
     let at-start = at-explain-plain .before .before .before .before .before .before .before .before .before in
-    (omega arith, explainable-on _ _ _ _ _ _ _ _ _ (at-explain-plain .explain-plain .kept .1 .1 .1 .1 .0) (at-start .pre .1)))
+    (at-start .pre .0, explainable-on _ _ _ _ _ _ _ _ _ (at-explain-plain .explain-plain .kept .1 .1 .1 .1 .0) (at-start .pre .1)))
     -- same-length-4
     (λ c. search needs)
     -- same-length-5
     (λ c. search needs)
     -- returns-3
     (λ c.
-    let at-explain-plain = c .before .before .before .before .before .before .before .before .before .before .before .before in
+    let at-explain-plain = c .before .before .before .before .before .before .before .before .before .before in
     explained-anew _ _ _ _ _ _ _ _ _ (at-explain-plain .explain-plain .kept .1 .1 .1 .1 .0) (at-explain-plain .explain-plain .ensures .kept) _ _
-    (c .before .before .explain-some .ensures))
-    -- explain-more-requires
-    (λ c κs.
-    let at-explain-plain = c .before .before .before .before .before .before .before .before .before .before .before in
-    let at-start = at-explain-plain .before .before .before .before .before .before .before .before .before in
-    (omega arith, explainable-on _ _ _ _ _ _ _ _ _ (at-explain-plain .explain-plain .kept .1 .1 .1 .1 .0) (at-start .pre .1)))
-    -- same-length-6
-    (λ c. search needs)
-    -- same-length-7
-    (λ c. search needs)
-    -- returns-4
-    (λ c.
-    let at-explain-plain = c .before .before .before .before .before .before .before .before .before .before .before .before .before .before in
-    explained-anew _ _ _ _ _ _ _ _ _ (at-explain-plain .explain-plain .kept .1 .1 .1 .1 .0) (at-explain-plain .explain-plain .ensures .kept) _ _
-    (c .before .before .explain-more .ensures))
-    -- explain-many-requires
-    (λ c κs.
-    let at-explain-plain = c .before .before .before .before .before .before .before .before .before .before .before in
-    let at-start = at-explain-plain .before .before .before .before .before .before .before .before .before in
-    (at-start .pre .0, explainable-on _ _ _ _ _ _ _ _ _ (at-explain-plain .explain-plain .kept .1 .1 .1 .1 .0) (at-start .pre .1)))
-    -- same-length-8
-    (λ c. search needs)
-    -- same-length-9
-    (λ c. search needs)
-    -- returns-5
-    (λ c.
-    let at-explain-plain = c .before .before .before .before .before .before .before .before .before .before .before .before .before .before in
-    explained-anew _ _ _ _ _ _ _ _ _ (at-explain-plain .explain-plain .kept .1 .1 .1 .1 .0) (at-explain-plain .explain-plain .ensures .kept) _ _
-    (c .before .before .explain-many .ensures)))
+    (c .before .before .explain-tabled2 .ensures)))

@@ -1,8 +1,8 @@
 use mir.ValLaws.{toZ-ofZ}
 use mir.Syntax.{w32}
-use Rattle.wordeq.specs.Wordeq.{isGuard}
+use Rattle.sides.specs.Wordeq.{isGuard}
 use mathlib.Core.Path.{ap, _∙_}
-use Rattle.equation.proofs.Refines.Ways.{steps-no-list, steps-no-equation, steps-no-string, steps-last}
+use Rattle.equation.proofs.Refines.StepCalls.{steps-no-list, steps-no-equation, steps-no-string, steps-last}
 use borrow.Author.Needs.{needs}
 use Rattle.equation.proofs.can_step.Statement.{statement}
 use Rattle.equation.proofs.can_step.Tie as tie

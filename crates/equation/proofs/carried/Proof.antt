@@ -1,4 +1,4 @@
-use Rattle.equation.proofs.Refines.Ways.{carried-done, carried-same}
+use Rattle.equation.proofs.Refines.StepCalls.{carried-done, carried-same}
 use borrow.Author.Needs.{needs}
 use Rattle.equation.proofs.carried.Statement.{statement}
 use Rattle.equation.proofs.carried.Tie as tie

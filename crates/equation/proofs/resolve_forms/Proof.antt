@@ -1,9 +1,9 @@
 use mir.Val.{toZ, ofZ}
 use mir.ValLaws.{toZ-ofZ}
 use mir.Syntax.{w32}
-use Rattle.wordeq.specs.Wordeq.{isGuard}
+use Rattle.sides.specs.Wordeq.{isGuard}
 use mathlib.Core.Path.{ap, _∙_}
-use Rattle.equation.proofs.Refines.Ways.{forms-resolved}
+use Rattle.equation.proofs.Refines.StepCalls.{forms-resolved}
 use borrow.Author.Needs.{needs}
 use Rattle.equation.proofs.resolve_forms.Statement.{statement}
 use Rattle.equation.proofs.resolve_forms.Tie as tie

@@ -1,8 +1,8 @@
 use lib.Seq.{length-take-le}
-use Rattle.equation.proofs.Refines.Ways.{form-ready, form-incoming, form-short, form-list, form-keeps, first-part, right-stop, right-none, right-some}
+use Rattle.equation.proofs.Refines.StepCalls.{form-ready, form-incoming, form-short, form-list, form-keeps, first-part, right-stop, right-none, right-some}
 use Rattle.normalize.proofs.FormReady.{term-string}
-use mathlib.Core.Path.{refl, sym, ap, _∙_}
-use Rattle.wordeq.specs.Wordeq.{isGuard}
+use mathlib.Core.Path.{sym, ap, _∙_}
+use Rattle.sides.specs.Wordeq.{isGuard}
 use mir.Syntax.{w32}
 use mir.ValLaws.{toZ-ofZ}
 use native.Mathlib.Omega.{arith}

@@ -1,6 +1,6 @@
 use mir.ValLaws.{toZ-ofZ}
 use mir.Syntax.{w32}
-use Rattle.equation.proofs.Refines.Ways.{call-short, call-unready, call-unfit, call-ready, call-fit, call-steps}
+use Rattle.equation.proofs.Refines.StepCalls.{call-short, call-unready, call-unfit, call-ready, call-fit, call-steps}
 use borrow.Author.Needs.{needs}
 use Rattle.equation.proofs.step.Statement.{statement}
 use Rattle.equation.proofs.step.Tie as tie

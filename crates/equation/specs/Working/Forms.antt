@@ -6,9 +6,9 @@ use denote.Ref.{now}
 use Rattle.records.specs.Store.{Work, _>>=_}
 use Rattle.records.specs.View.{Slice, pairsView, reasonsAt}
 use Rattle.normalize.specs.Normalize.{deepForm}
-use Rattle.wordeq.specs.declared.StepResult.{StepResult}
-use Rattle.wordeq.specs.declared.StepResult.the-variants.{Done, Saturated, Conflict, Propagate, Split, Refused}
-use Rattle.wordeq.specs.Wordeq.{resolve}
+use Rattle.sides.specs.declared.StepResult.{StepResult}
+use Rattle.sides.specs.declared.StepResult.the-variants.{Done, Saturated, Conflict, Propagate, Split, Refused}
+use Rattle.sides.specs.Wordeq.{resolve}
 use Rattle.equation.specs.Equation.{Stepped, returned, orUnexpanded}
 
 -- the first n reasons of a slice as it is lent

@@ -1,6 +1,5 @@
-use Rattle.forced.proofs.Refines.Ways.{forced-unready, forced-unfit, forced-ready, forced-lists, forced-called}
+use Rattle.forced.proofs.Refines.ForcedLengthCalls.{forced-unready, forced-unfit, forced-ready, forced-lists, forced-called}
 use Rattle.records.specs.View.{lent}
-use native.Mathlib.Omega.{arith}
 use borrow.Author.Needs.{needs}
 use Rattle.forced.proofs.forced_length.Statement.{statement}
 use Rattle.forced.proofs.forced_length.Tie as tie

@@ -1,5 +1,5 @@
 use Rattle.records.specs.View.{readIn}
-use Rattle.forced.proofs.Refines.Ways.{list-string, after-strings, class-none, class-is}
+use Rattle.forced.proofs.Refines.ForcedLengthCalls.{list-string, after-strings, class-none, class-is}
 use borrow.Author.Needs.{needs}
 use Rattle.forced.proofs.has_one_class.Statement.{statement}
 use Rattle.forced.proofs.has_one_class.Tie as tie

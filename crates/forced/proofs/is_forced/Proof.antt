@@ -1,4 +1,4 @@
-use Rattle.forced.proofs.Refines.Ways.{form-not, form-is}
+use Rattle.forced.proofs.Refines.ForcedLengthCalls.{form-not, form-is}
 use borrow.Author.Needs.{needs}
 use Rattle.forced.proofs.is_forced.Statement.{statement}
 use Rattle.forced.proofs.is_forced.Tie as tie

@@ -1,7 +1,5 @@
-use Rattle.forced.proofs.Refines.Ways.{read-strings, place-fits, parts-lists, stripped}
+use Rattle.forced.proofs.Refines.ForcedLengthCalls.{read-strings, place-fits, parts-lists, stripped}
 use Rattle.records.specs.View.{lent}
-use native.Mathlib.Omega.{arith}
-use borrow.Author.Needs.{needs}
 use Rattle.forced.proofs.residual_fit.Statement.{statement}
 use Rattle.forced.proofs.residual_fit.Tie as tie
 

@@ -1,7 +1,7 @@
 use Rattle.records.specs.View.{readIn}
 use Rattle.records.proofs.ListLaws.{list-short}
-use Rattle.wordeq.proofs.Residual.{texts-read}
-use Rattle.forced.proofs.Refines.Ways.{fit-short, fit-spans, some-counted}
+use Rattle.sides.proofs.Residual.{texts-read}
+use Rattle.forced.proofs.Refines.ForcedLengthCalls.{fit-short, fit-spans, some-counted}
 use native.Mathlib.Omega.{arith}
 use borrow.Author.Needs.{needs}
 use Rattle.forced.proofs.side_fit.Statement.{statement}

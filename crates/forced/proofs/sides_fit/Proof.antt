@@ -1,7 +1,6 @@
-use Rattle.forced.proofs.Refines.Ways.{sides-left, sides-right, sides-none}
+use Rattle.forced.proofs.Refines.ForcedLengthCalls.{sides-left, sides-right, sides-none}
 use Rattle.records.specs.View.{lent}
 use mathlib.Core.Path.{sym, _∙_}
-use borrow.Author.Needs.{needs}
 use Rattle.forced.proofs.sides_fit.Statement.{statement}
 use Rattle.forced.proofs.sides_fit.Tie as tie
 

@@ -23,7 +23,7 @@ use Rattle.records.proofs.Lists.{decide, left-false, all-every, every-all, ever
 use Rattle.records.proofs.Works.{via}
 use Rattle.records.proofs.Grown.{string-term, Strings, strings-later}
 use Rattle.records.proofs.Climbs.{view-count}
-use Rattle.records.proofs.Doing.{working-at}
+use Rattle.records.proofs.Doing.{working-at, ready-for, working-left}
 use Rattle.records.proofs.Sequence.{working-stop}
 use Rattle.normalize.specs.declared.Form.{Form}
 use Rattle.normalize.specs.declared.Form.the-variants as form
@@ -38,7 +38,7 @@ use Rattle.normalize.specs.Working.Deeps.{opensIn, Met, RoundOf, expandA
 use Rattle.normalize.proofs.Rewritten.{Rewritten}
 use Rattle.normalize.proofs.Formed.{form-ends}
 use Rattle.normalize.proofs.Deep.{expand-ends}
-use Rattle.normalize.proofs.Carried.{Carried, carried-none, carried-kept, carried-then, ready-for, working-left}
+use Rattle.normalize.proofs.Carried.{Carried, carried-none, carried-kept, carried-then}
 use Rattle.normalize.proofs.Candidates.{candidates-later}
 use Rattle.normalize.proofs.Refines.Words.{words-length, words-none, words-put}
 

@@ -1,24 +1,22 @@
 -- Each way through the public calls of the normal forms.
-use mathlib.Core.Path.{_≡_, refl, sym, _∙_}
+use mathlib.Core.Path.{_≡_, sym, _∙_}
 use mathlib.Core.Bool.{Bool, true, false, not}
 use mathlib.Core.List.{List}
 use mathlib.Core.Option.{Option}
 use Prim.Native.Nat.{ℕ, _≤_, _<_}
-use native.Mathlib.Omega.{arith}
 use lib.ListN.{length}
-use borrow.Author.Tests.{le-leb, lt-leb, not-true, not-false}
+use borrow.Author.Tests.{not-true, not-false}
 use Rattle.records.specs.declared.State.{State}
-use Rattle.records.specs.Store.{Store, Out, stop, Work, isString}
+use Rattle.records.specs.Store.{Store, Out, stop, isString}
 use Rattle.records.specs.View.{Lent, storeOf}
 use Rattle.records.specs.Rules.{audit, listLimit, isList}
 use Rattle.records.specs.Working.Audited.{Ready}
-use Rattle.records.specs.Calls.{Public, call}
 use Rattle.records.specs.Working.Doing.{Working}
 use Rattle.records.proofs.Lists.{left-false, and-next}
-use Rattle.records.proofs.Public.{call-unready, call-unfit, call-works, passed-ready}
+use Rattle.records.proofs.Public.{passed-ready}
 use Rattle.records.proofs.Works.{stop-not}
 use Rattle.normalize.specs.Normalize.{normalForm, deepForm, formArguments}
-use Rattle.normalize.specs.Calls.{listCall, PublicList, PublicForm, PublicDeepForm}
+use Rattle.normalize.specs.Calls.{PublicForm, PublicDeepForm}
 use Rattle.normalize.proofs.ListCalls.{listed-short, listed-unready, listed-unfit, listed-works}
 use Rattle.normalize.proofs.Formed.{form-stops, form-sound, form-kept}
 use Rattle.normalize.proofs.Deep.{deep-stops, deep-sound, deep-kept}

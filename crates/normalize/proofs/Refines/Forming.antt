@@ -16,7 +16,7 @@ use Rattle.records.specs.Working.Doing.{Working}
 use Rattle.records.proofs.Lists.{both-right, both-true, all-append, all-every, every-all, every-map, within-low, within-high}
 use Rattle.records.proofs.Grown.{string-term}
 use Rattle.records.proofs.Climbs.{root-term, view-count, term-within, ready-roots}
-use Rattle.records.proofs.Doing.{working-stopped, working-is}
+use Rattle.records.proofs.Doing.{working-stopped, working-is, working-left}
 use Rattle.records.proofs.Sequence.{working-stop}
 use Rattle.normalize.specs.declared.Form.{Form}
 use Rattle.normalize.specs.declared.Form.the-variants as form
@@ -27,7 +27,6 @@ use Rattle.normalize.specs.Working.Nodes.{NodeOf, withNodes, Rooting}
 use Rattle.normalize.specs.Working.Pushes.{pushed, Candidates}
 use Rattle.normalize.specs.Calls.{firstWords, formed}
 use Rattle.normalize.proofs.Atoms.{same-atoms, atoms-plain, atoms-strings, flatten-fits, flatten-full}
-use Rattle.normalize.proofs.Carried.{working-left}
 use Rattle.normalize.proofs.FormReady.{known-list}
 use Rattle.normalize.proofs.Represents.{nodes-more, nodes-none}
 

@@ -10,15 +10,15 @@ use Rattle.records.specs.Store.{ok, stop, Work, andThen}
 use Rattle.records.specs.View.{Lent, storeOf}
 use Rattle.records.specs.Working.Audited.{Ready}
 use Rattle.records.specs.Working.Doing.{Working}
-use Rattle.records.proofs.Doing.{working-stopped}
+use Rattle.records.proofs.Doing.{working-stopped, working-left}
 use Rattle.records.proofs.Grown.{Strings}
 use Rattle.normalize.specs.declared.Form.{Form}
 use Rattle.normalize.specs.declared.Form.the-variants as form
 use Rattle.normalize.specs.Working.Pushes.{pushed}
 use Rattle.normalize.specs.Calls.{firstWords}
-use Rattle.normalize.proofs.Ends.{Ends}
+use Rattle.normalize.proofs.FormOutcomes.{Ends}
 use Rattle.normalize.proofs.Formed.{Pushed}
-use Rattle.normalize.proofs.Carried.{Carried, carried-none, carried-kept, carried-then, working-left}
+use Rattle.normalize.proofs.Carried.{Carried, carried-none, carried-kept, carried-then}
 use Rattle.normalize.proofs.Refines.Words.{words-length}
 
 -- the work that is left after i turns and a list, which stands last atom first

@@ -21,13 +21,12 @@ use Rattle.records.specs.Working.Doing.{Working}
 use Rattle.records.proofs.Lists.{both-left, both-right, both-true, left-false, clash, decide, table-length, table-suc}
 use Rattle.records.proofs.Views.{second-at, text-span}
 use Rattle.records.proofs.Grown.{kind-term}
-use Rattle.records.proofs.Doing.{working-same, working-stopped, working-is}
+use Rattle.records.proofs.Doing.{working-same, working-stopped, working-is, working-left}
 use Rattle.records.proofs.Sequence.{made-is, made-stops}
 use Rattle.normalize.specs.Normalize.{join, push}
 use Rattle.normalize.specs.Working.Flat.{bare}
 use Rattle.normalize.specs.Working.Pushes.{isEmptyIn, joinsIn}
 use Rattle.normalize.specs.Calls.{firstWords}
-use Rattle.normalize.proofs.Carried.{working-left}
 use Rattle.normalize.proofs.Refines.Words.{words-put}
 
 -- THE LIST IN THE SLICE, LAST ATOM FIRST

@@ -31,7 +31,7 @@ use Rattle.normalize.specs.Working.Nodes.{nodeAt}
 use Rattle.normalize.specs.Working.Pushes.{pushed, Candidates, cite, pushFor}
 use Rattle.normalize.specs.Calls.{firstWords}
 use Rattle.normalize.proofs.Candidates.{later-strings, later-rep}
-use Rattle.normalize.proofs.Ends.{Ends}
+use Rattle.normalize.proofs.FormOutcomes.{Ends}
 use Rattle.normalize.proofs.Formed.{Stands, representative-stands, replace-ends, atom-ends, Pushed}
 use Rattle.normalize.proofs.Carried.{Carried, carried-none, carried-then, carried-on}
 use Rattle.normalize.proofs.Refines.Heaping.{Heaping, heaping-end, heaping-turn, heaping-stopped}

@@ -19,7 +19,7 @@ use Rattle.records.specs.Lists.{if_then_else_, all, any, table, sameWord}
 use Rattle.records.specs.Store.{Store, Out, ok, stop, Work, andThen, give, isString}
 use Rattle.records.specs.View.{Lent, storeOf}
 use Rattle.records.specs.Working.Audited.{Ready}
-use Rattle.records.specs.Working.Doing.{Working}
+use Rattle.records.specs.Working.Doing.{ReadyFor, Working}
 use Rattle.records.proofs.Lists.{all-every, every-all, every-at, table-at, word-is}
 use Rattle.normalize.specs.declared.Form.{Form}
 use Rattle.normalize.specs.declared.Form.the-variants as form
@@ -31,15 +31,15 @@ use Rattle.normalize.specs.declared.Turn.the-variants as turn
 use Rattle.normalize.specs.Normalize.{deepLimit, normalForm, push, pushAll, expand, settle, afterExpand, rounds, deepForm}
 use Rattle.normalize.specs.Working.Pushes.{pushed, Candidates}
 use Rattle.normalize.specs.Calls.{firstWords, formed, deepened}
-use Rattle.normalize.specs.Working.Deeps.{opensIn, Met, MetTable, expanded, ReadyFor, Expands, settled, turned, settling, Settles, roundThen, TurnedTo, Turns}
+use Rattle.normalize.specs.Working.Deeps.{opensIn, Met, MetTable, expanded, Expands, settled, turned, settling, Settles, roundThen, TurnedTo, Turns}
 use Rattle.records.proofs.Works.{stop-not}
-use Rattle.records.proofs.Doing.{working-is, working-at}
+use Rattle.records.proofs.Doing.{working-is, working-at, ready-for, working-left}
 use Rattle.records.proofs.Sequence.{working-stop}
 use Rattle.records.proofs.Grown.{strings-later}
-use Rattle.normalize.proofs.Ends.{Ends}
+use Rattle.normalize.proofs.FormOutcomes.{Ends}
 use Rattle.normalize.proofs.Formed.{Pushed, push-ends, Formed, form-ends}
 use Rattle.normalize.proofs.Deep.{Answers, rounds-end}
-use Rattle.normalize.proofs.Carried.{Carried, carried-none, carried-kept, carried-then, carried-on, ready-for, working-left}
+use Rattle.normalize.proofs.Carried.{Carried, carried-none, carried-kept, carried-then, carried-on}
 use Rattle.normalize.proofs.Candidates.{candidates-later}
 use Rattle.normalize.proofs.Refines.Words.{words-length, words-none}
 use Rattle.normalize.proofs.Refines.Heaping.{Heaping, heaping-end, heaping-turn, heaping-stopped}

@@ -11,7 +11,7 @@ use Rattle.records.specs.Lists.{if_then_else_, all, any, isIn}
 use Rattle.records.specs.Store.{Term, Store, Out, ok, stop, Work, _>>=_, give, store, termIn, isString}
 use Rattle.records.specs.View.{Lent, storeOf, termLimit}
 use Rattle.records.specs.Calls.{KeepsStore}
-use Rattle.records.specs.Working.Audited.{Ready}
+use Rattle.records.specs.Working.Doing.{ReadyFor}
 use Rattle.normalize.specs.Normalize.{normalForm, pushAll, deepLimit, opens, Round, expand, settle, afterExpand}
 use Rattle.normalize.specs.Calls.{firstWords, deepened}
 use Rattle.normalize.specs.declared.DeepForm.{DeepForm}
@@ -58,10 +58,6 @@ pub record ExpandedTo (o : Out (Option Round)) (m : Lent) (next table : List ℕ
   pub met : List ℕ
   pub is : o ≡ expanded x met m next
   pub tells : (n : ℕ) (c : State) → x ≡ deep.List n c → Met table met
-
--- the slices are ready for the counts of the answer: what the next working function requires
-abbrev pub ReadyFor : {A : Type 0} → Lent → Out A → Type 0
-ReadyFor {A} m r = (d : State) (a : A) → r ≡ ok (storeOf m d) a → Ready m d
 
 -- the atoms l expanded after the first k words of a slice
 pub record Expands (known : List ℕ) (t : ℕ) (l next : List ℕ) (k : ℕ) (table : List ℕ) (m m′ : Lent) (c : State) (next′ table′ : List ℕ) (x : DeepForm) : Type 0 where

@@ -9,7 +9,7 @@ use Rattle.records.specs.Lists.{if_then_else_, firstOf}
 use Rattle.records.specs.Store.{Term, termIn, rootIn, classUp, within}
 use Rattle.records.specs.View.{termLimit}
 use Rattle.records.specs.Working.Audited.{Closed}
-use Rattle.records.specs.Working.Ends.{Ends}
+use Rattle.records.specs.Working.ClimbEnds.{Ends}
 use Rattle.normalize.specs.Normalize.{orFirst}
 
 abbrev pub isConstantIn : List Term → ℕ → Bool

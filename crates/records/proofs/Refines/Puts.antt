@@ -9,11 +9,12 @@ use native.Mathlib.Omega.{arith}
 use lib.ListN.{length, getD, set, take, drop, drop-of-length-le, length-set, List·getD-append}
 use lib.Dec.{ltb}
 use lib.Seq.{sets, sets-eq, getD-append-add, length-take-le, drop-cons, length-sets, getD-set-same, getD-set-other, ext-getD}
-use Rattle.records.specs.View.{reasonRoom, termAt, cellAt, pairAt, termsView, cellsView, pairsView, zeroTerm, zeroCell, termWords, cellWords}
+use Rattle.records.specs.View.{reasonRoom, termWidth, cellWidth, termPlace, cellPlace, termAt, cellAt, pairAt, termsView, cellsView, pairsView, zeroCell, termWords, cellWords}
 use Rattle.records.specs.Store.{Term, noTerm, within}
 use Rattle.records.specs.Make.{own, chainFrom, withClass, withEdge}
 use Rattle.records.specs.Working.Puts.{TermPut, TermSet, CellPut, ChainPut, PairPut, Pushed}
-use Rattle.records.proofs.Lists.{table-same, table-suc, table-length, table-at, within-low, within-high, clash}
+use Rattle.records.proofs.Lists.{table-suc, table-length, table-at, within-low, within-high, clash}
+use Rattle.records.proofs.Views.{term-same, terms-agree, zero-term-agrees, pairs-agree, cells-agree, zero-cell-agrees}
 
 -- A RUN OF STORES
 
@@ -32,67 +33,26 @@ module _ (l : List ℕ) (i : ℕ) (vs : List ℕ) (fits : i + length vs ≤ leng
       = getD-append-add (take i l) (vs ++ drop (i + length vs) l) k 0 in
       rw (sets-eq vs l i fits, append-assoc) ((rw n at e) ∙ List·getD-append vs (drop (i + length vs) l) 0 k h)
 
--- VIEWS THAT AGREE
-
--- the words below a record decide the records before it, record 0 too
-module _ (l l′ : List ℕ) (n : ℕ) (h : (j : ℕ) → j < termWords n → getD l′ j 0 ≡ getD l j 0) where
-  term-agrees : (t : ℕ) → t ≤ n → termAt l′ t ≡ termAt l t
-  term-agrees t b =
-      let a0 = h (8 * t + 0) (omega arith) in
-      let a1 = h (8 * t + 1) (omega arith) in
-      let a2 = h (8 * t + 2) (omega arith) in
-      let a3 = h (8 * t + 3) (omega arith) in
-      let a4 = h (8 * t + 4) (omega arith) in
-      let a5 = h (8 * t + 5) (omega arith) in
-      let a6 = h (8 * t + 6) (omega arith) in
-      let a7 = h (8 * t + 7) (omega arith) in cc
-
-  pub terms-agree : termsView l′ n ≡ termsView l n
-  terms-agree = table-same (λ i. termAt l′ (suc i)) (λ i. termAt l (suc i)) n (λ i b. term-agrees (suc i) (omega arith))
-
-  pub zero-term-agrees : zeroTerm l′ ≡ zeroTerm l
-  unfolding zeroTerm
-  zero-term-agrees = term-agrees 0 (omega arith)
-
-pub pairs-agree : (l l′ : List ℕ) (n : ℕ) → ((j : ℕ) → j < 2 * n → getD l′ j 0 ≡ getD l j 0) → pairsView l′ n ≡ pairsView l n
-pairs-agree l l′ n h = table-same (pairAt l′) (pairAt l) n (λ i b.
-    let a0 = h (2 * i + 0) (omega arith) in
-    let a1 = h (2 * i + 1) (omega arith) in cc)
-
-module _ (l l′ : List ℕ) (n : ℕ) (h : (j : ℕ) → j < cellWords n → getD l′ j 0 ≡ getD l j 0) where
-  cell-agrees : (c : ℕ) → c ≤ n → cellAt l′ c ≡ cellAt l c
-  cell-agrees c b =
-      let a0 = h (3 * c + 0) (omega arith) in
-      let a1 = h (3 * c + 1) (omega arith) in
-      let a2 = h (3 * c + 2) (omega arith) in cc
-
-  pub cells-agree : cellsView l′ n ≡ cellsView l n
-  cells-agree = table-same (λ i. cellAt l′ (suc i)) (λ i. cellAt l (suc i)) n (λ i b. cell-agrees (suc i) (omega arith))
-
-  pub zero-cell-agrees : zeroCell l′ ≡ zeroCell l
-  unfolding zeroCell
-  zero-cell-agrees = cell-agrees 0 (omega arith)
-
 -- ONE TERM
 
 module _ (l : List ℕ) (n k a b : ℕ) (room : termWords (n + 1) ≤ length l) where
-  term-put-sets : TermPut l (sets l (8 * (n + 1)) (k ∷ a ∷ b ∷ (n + 1) ∷ (n + 1) ∷ 0 ∷ 0 ∷ 0 ∷ [])) n k a b
-  term-put-sets = record { grown = table-suc _ n ∙ (let p = kept-is in let q = last-is in cc); kept = kept-is; zero = zero-term-agrees l l′ n (sets-below l (8 * (n + 1)) vs fits) }
+  term-put-sets : TermPut l (sets l (termWords n) (k ∷ a ∷ b ∷ (n + 1) ∷ (n + 1) ∷ 0 ∷ 0 ∷ 0 ∷ [])) n k a b
+  term-put-sets = record { grown = table-suc _ n ∙ (let p = kept-is in let q = last-is in cc); kept = kept-is; zero = zero-term-agrees l l′ n (sets-below l (termWords n) vs fits) }
     where
       vs : List ℕ
       vs = k ∷ a ∷ b ∷ (n + 1) ∷ (n + 1) ∷ 0 ∷ 0 ∷ 0 ∷ []
 
       l′ : List ℕ
-      l′ = sets l (8 * (n + 1)) vs
+      l′ = sets l (termWords n) vs
 
-      fits : 8 * (n + 1) + length vs ≤ length l
+      fits : termWords n + length vs ≤ length l
       fits = omega arith
 
       kept-is : termsView l′ n ≡ termsView l n
-      kept-is = terms-agree l l′ n (sets-below l (8 * (n + 1)) vs fits)
+      kept-is = terms-agree l l′ n (sets-below l (termWords n) vs fits)
 
-      at : (j v : ℕ) → j < 8 → getD vs j 0 ≡ v → getD l′ (8 * suc n + j) 0 ≡ v
-      at j v h e = ap (λ (i : ℕ). getD l′ (8 * i + j) 0) (sym (add-one n)) ∙ sets-at l (8 * (n + 1)) vs fits j h ∙ e
+      at : (j v : ℕ) → j < termWidth → getD vs j 0 ≡ v → getD l′ (termPlace (suc n) j) 0 ≡ v
+      at j v h e = ap (λ (i : ℕ). getD l′ (termPlace i j) 0) (sym (add-one n)) ∙ sets-at l (termWords n) vs fits j h ∙ e
 
       last-is : termAt l′ (suc n) ≡ own (suc n) k a b
       last-is =
@@ -105,15 +65,15 @@ module _ (l : List ℕ) (n k a b : ℕ) (room : termWords (n + 1) ≤ length l) 
           let a6 = at 6 0 (omega arith) refl in
           let a7 = at 7 0 (omega arith) refl in cc
 
-  pub term-put : TermPut l (set (set (set (set (set (set (set (set l (8 * (n + 1)) k) (8 * (n + 1) + 1) a) (8 * (n + 1) + 2) b) (8 * (n + 1) + 3) (n + 1)) (8 * (n + 1) + 4) (n + 1)) (8 * (n + 1) + 5) 0) (8 * (n + 1) + 6) 0) (8 * (n + 1) + 7) 0) n k a b
+  pub term-put : TermPut l (set (set (set (set (set (set (set (set l (termWords n) k) (termWords n + 1) a) (termWords n + 2) b) (termWords n + 3) (n + 1)) (termWords n + 4) (n + 1)) (termWords n + 5) 0) (termWords n + 6) 0) (termWords n + 7) 0) n k a b
   term-put =
-      let e1 : 8 * (n + 1) + 1 ≡ suc (8 * (n + 1)) = omega arith in
-      let e2 : 8 * (n + 1) + 2 ≡ suc (suc (8 * (n + 1))) = omega arith in
-      let e3 : 8 * (n + 1) + 3 ≡ suc (suc (suc (8 * (n + 1)))) = omega arith in
-      let e4 : 8 * (n + 1) + 4 ≡ suc (suc (suc (suc (8 * (n + 1))))) = omega arith in
-      let e5 : 8 * (n + 1) + 5 ≡ suc (suc (suc (suc (suc (8 * (n + 1)))))) = omega arith in
-      let e6 : 8 * (n + 1) + 6 ≡ suc (suc (suc (suc (suc (suc (8 * (n + 1))))))) = omega arith in
-      let e7 : 8 * (n + 1) + 7 ≡ suc (suc (suc (suc (suc (suc (suc (8 * (n + 1)))))))) = omega arith in
+      let e1 : termWords n + 1 ≡ suc (termWords n) = omega arith in
+      let e2 : termWords n + 2 ≡ suc (suc (termWords n)) = omega arith in
+      let e3 : termWords n + 3 ≡ suc (suc (suc (termWords n))) = omega arith in
+      let e4 : termWords n + 4 ≡ suc (suc (suc (suc (termWords n)))) = omega arith in
+      let e5 : termWords n + 5 ≡ suc (suc (suc (suc (suc (termWords n))))) = omega arith in
+      let e6 : termWords n + 6 ≡ suc (suc (suc (suc (suc (suc (termWords n)))))) = omega arith in
+      let e7 : termWords n + 7 ≡ suc (suc (suc (suc (suc (suc (suc (termWords n))))))) = omega arith in
       rw (e1, e2, e3, e4, e5, e6, e7) term-put-sets
 
 -- A TERM'S RECORD CHANGED
@@ -141,42 +101,33 @@ module _ (l l′ : List ℕ) (t : ℕ) (x : Term) (long : length l′ ≡ length
   term-set = record { long = long; here = here; away = away; terms = view-set }
 
 -- words written within record t, from its word k on
-module _ (l : List ℕ) (t k : ℕ) (vs : List ℕ) (fits : k + length vs ≤ 8) where
-  record-away : (u : ℕ) → (u ≡ t → ⊥) → termAt (sets l (8 * t + k) vs) u ≡ termAt l u
-  record-away u z =
-      let q : (j : ℕ) → j < 8 → getD (sets l (8 * t + k) vs) (8 * u + j) 0 ≡ getD l (8 * u + j) 0 = λ j h. sets-away vs l (8 * t + k) (8 * u + j) (λ a b. z (omega arith)) in
-      let a0 = q 0 (omega arith) in
-      let a1 = q 1 (omega arith) in
-      let a2 = q 2 (omega arith) in
-      let a3 = q 3 (omega arith) in
-      let a4 = q 4 (omega arith) in
-      let a5 = q 5 (omega arith) in
-      let a6 = q 6 (omega arith) in
-      let a7 = q 7 (omega arith) in cc
+module _ (l : List ℕ) (t k : ℕ) (vs : List ℕ) (fits : k + length vs ≤ termWidth) where
+  record-away : (u : ℕ) → (u ≡ t → ⊥) → termAt (sets l (termPlace t k) vs) u ≡ termAt l u
+  record-away u z = term-same l (sets l (termPlace t k) vs) u (λ j h. sets-away vs l (termPlace t k) (termPlace u j) (λ a b. z (omega arith)))
 
-  words-set : (x : Term) → termAt (sets l (8 * t + k) vs) t ≡ x → TermSet l (sets l (8 * t + k) vs) t x
-  words-set x e = term-set l (sets l (8 * t + k) vs) t x (length-sets l (8 * t + k) vs) e record-away
+  words-set : (x : Term) → termAt (sets l (termPlace t k) vs) t ≡ x → TermSet l (sets l (termPlace t k) vs) t x
+  words-set x e = term-set l (sets l (termPlace t k) vs) t x (length-sets l (termPlace t k) vs) e record-away
 
 module _ (l : List ℕ) (t p : ℕ) (room : termWords t ≤ length l) where
-  pub class-set : TermSet l (set l (8 * t + 3) p) t (withClass (termAt l t) p)
+  pub class-set : TermSet l (set l (termPlace t 3) p) t (withClass (termAt l t) p)
   class-set = words-set l t 3 (p ∷ []) (omega arith) (withClass (termAt l t) p) here-is
     where
-      away : (j : ℕ) → (j ≡ 3 → ⊥) → getD (set l (8 * t + 3) p) (8 * t + j) 0 ≡ getD l (8 * t + j) 0
-      away j z = getD-set-other l (8 * t + 3) (8 * t + j) p 0 (λ e. z (omega arith))
+      away : (j : ℕ) → (j ≡ 3 → ⊥) → getD (set l (termPlace t 3) p) (termPlace t j) 0 ≡ getD l (termPlace t j) 0
+      away j z = getD-set-other l (termPlace t 3) (termPlace t j) p 0 (λ e. z (omega arith))
 
-      here-is : termAt (set l (8 * t + 3) p) t ≡ withClass (termAt l t) p
+      here-is : termAt (set l (termPlace t 3) p) t ≡ withClass (termAt l t) p
       here-is =
           let a0 = away 0 (λ e. omega arith) in
           let a1 = away 1 (λ e. omega arith) in
           let a2 = away 2 (λ e. omega arith) in
-          let a3 = getD-set-same l (8 * t + 3) p 0 (omega arith) in
+          let a3 = getD-set-same l (termPlace t 3) p 0 (omega arith) in
           let a4 = away 4 (λ e. omega arith) in
           let a5 = away 5 (λ e. omega arith) in
           let a6 = away 6 (λ e. omega arith) in
           let a7 = away 7 (λ e. omega arith) in cc
 
-edge-words : (l l′ : List ℕ) (t p k v s : ℕ) → ((j : ℕ) → j < 4 → getD l′ (8 * t + j) 0 ≡ getD l (8 * t + j) 0)
-    → getD l′ (8 * t + 4) 0 ≡ p → getD l′ (8 * t + 5) 0 ≡ k → getD l′ (8 * t + 6) 0 ≡ v → getD l′ (8 * t + 7) 0 ≡ s → termAt l′ t ≡ withEdge (termAt l t) p k v s
+edge-words : (l l′ : List ℕ) (t p k v s : ℕ) → ((j : ℕ) → j < 4 → getD l′ (termPlace t j) 0 ≡ getD l (termPlace t j) 0)
+    → getD l′ (termPlace t 4) 0 ≡ p → getD l′ (termPlace t 5) 0 ≡ k → getD l′ (termPlace t 6) 0 ≡ v → getD l′ (termPlace t 7) 0 ≡ s → termAt l′ t ≡ withEdge (termAt l t) p k v s
 edge-words l l′ t p k v s h a4 a5 a6 a7 =
     let a0 = h 0 (omega arith) in
     let a1 = h 1 (omega arith) in
@@ -184,27 +135,27 @@ edge-words l l′ t p k v s h a4 a5 a6 a7 =
     let a3 = h 3 (omega arith) in cc
 
 module _ (l : List ℕ) (t p k v s : ℕ) (room : termWords t ≤ length l) where
-  edge-set-sets : TermSet l (sets l (8 * t + 4) (p ∷ k ∷ v ∷ s ∷ [])) t (withEdge (termAt l t) p k v s)
+  edge-set-sets : TermSet l (sets l (termPlace t 4) (p ∷ k ∷ v ∷ s ∷ [])) t (withEdge (termAt l t) p k v s)
   edge-set-sets = words-set l t 4 vs (omega arith) (withEdge (termAt l t) p k v s) here-is
     where
       vs : List ℕ
       vs = p ∷ k ∷ v ∷ s ∷ []
 
-      away : (j : ℕ) → j < 4 → getD (sets l (8 * t + 4) vs) (8 * t + j) 0 ≡ getD l (8 * t + j) 0
-      away j h = sets-away vs l (8 * t + 4) (8 * t + j) (λ a b. omega arith)
+      away : (j : ℕ) → j < 4 → getD (sets l (termPlace t 4) vs) (termPlace t j) 0 ≡ getD l (termPlace t j) 0
+      away j h = sets-away vs l (termPlace t 4) (termPlace t j) (λ a b. omega arith)
 
-      at : (j w i : ℕ) → j < 4 → i ≡ 8 * t + 4 + j → getD vs j 0 ≡ w → getD (sets l (8 * t + 4) vs) i 0 ≡ w
-      at j w i h q e = ap (λ (i : ℕ). getD (sets l (8 * t + 4) vs) i 0) q ∙ sets-at l (8 * t + 4) vs (omega arith) j h ∙ e
+      at : (j w i : ℕ) → j < 4 → i ≡ termPlace t 4 + j → getD vs j 0 ≡ w → getD (sets l (termPlace t 4) vs) i 0 ≡ w
+      at j w i h q e = ap (λ (i : ℕ). getD (sets l (termPlace t 4) vs) i 0) q ∙ sets-at l (termPlace t 4) vs (omega arith) j h ∙ e
 
-      here-is : termAt (sets l (8 * t + 4) vs) t ≡ withEdge (termAt l t) p k v s
-      here-is = edge-words l (sets l (8 * t + 4) vs) t p k v s away (at 0 p (8 * t + 4) (omega arith) (omega arith) refl) (at 1 k (8 * t + 5) (omega arith) (omega arith) refl)
-          (at 2 v (8 * t + 6) (omega arith) (omega arith) refl) (at 3 s (8 * t + 7) (omega arith) (omega arith) refl)
+      here-is : termAt (sets l (termPlace t 4) vs) t ≡ withEdge (termAt l t) p k v s
+      here-is = edge-words l (sets l (termPlace t 4) vs) t p k v s away (at 0 p (termPlace t 4) (omega arith) (omega arith) refl) (at 1 k (termPlace t 5) (omega arith) (omega arith) refl)
+          (at 2 v (termPlace t 6) (omega arith) (omega arith) refl) (at 3 s (termPlace t 7) (omega arith) (omega arith) refl)
 
-  pub edge-set : TermSet l (set (set (set (set l (8 * t + 4) p) (8 * t + 5) k) (8 * t + 6) v) (8 * t + 7) s) t (withEdge (termAt l t) p k v s)
+  pub edge-set : TermSet l (set (set (set (set l (termPlace t 4) p) (termPlace t 5) k) (termPlace t 6) v) (termPlace t 7) s) t (withEdge (termAt l t) p k v s)
   edge-set =
-      let e5 : 8 * t + 5 ≡ suc (8 * t + 4) = omega arith in
-      let e6 : 8 * t + 6 ≡ suc (suc (8 * t + 4)) = omega arith in
-      let e7 : 8 * t + 7 ≡ suc (suc (suc (8 * t + 4))) = omega arith in
+      let e5 : termPlace t 5 ≡ suc (termPlace t 4) = omega arith in
+      let e6 : termPlace t 6 ≡ suc (suc (termPlace t 4)) = omega arith in
+      let e7 : termPlace t 7 ≡ suc (suc (suc (termPlace t 4))) = omega arith in
       rw (e5, e6, e7) edge-set-sets
 
 -- ONE PAIR
@@ -241,31 +192,31 @@ module _ (l l′ : List ℕ) (n k v : ℕ) (r : Bool) (e : r ≡ ltb n (reasonRo
 -- ONE CELL, AND A CHAIN OF THEM
 
 module _ (l : List ℕ) (n v x : ℕ) where
-  pub cell-put : cellWords (n + 1) ≤ length l → CellPut l (set (set (set l (3 * (n + 1)) v) (3 * (n + 1) + 1) 0) (3 * (n + 1) + 2) x) n v x
+  pub cell-put : cellWords (n + 1) ≤ length l → CellPut l (set (set (set l (cellWords n) v) (cellWords n + 1) 0) (cellWords n + 2) x) n v x
   cell-put room = record { grown = table-suc _ n ∙ (let p = kept-is n (omega arith) in let q = last-is in cc); kept = kept-is; zero = zero-is }
     where
       vs : List ℕ
       vs = v ∷ 0 ∷ x ∷ []
 
       l′ : List ℕ
-      l′ = set (set (set l (3 * (n + 1)) v) (3 * (n + 1) + 1) 0) (3 * (n + 1) + 2) x
+      l′ = set (set (set l (cellWords n) v) (cellWords n + 1) 0) (cellWords n + 2) x
 
-      same : l′ ≡ sets l (3 * (n + 1)) vs
+      same : l′ ≡ sets l (cellWords n) vs
       same =
-          let e : 3 * (n + 1) + 1 ≡ suc (3 * (n + 1)) = omega arith in
-          let f : 3 * (n + 1) + 2 ≡ suc (suc (3 * (n + 1))) = omega arith in rw (e, f)
+          let e : cellWords n + 1 ≡ suc (cellWords n) = omega arith in
+          let f : cellWords n + 2 ≡ suc (suc (cellWords n)) = omega arith in rw (e, f)
 
-      fits : 3 * (n + 1) + length vs ≤ length l
+      fits : cellWords n + length vs ≤ length l
       fits = omega arith
 
       kept-is : (i : ℕ) → i ≤ n → cellsView l′ i ≡ cellsView l i
-      kept-is i h = rw same (cells-agree l (sets l (3 * (n + 1)) vs) i (λ j k. sets-below l (3 * (n + 1)) vs fits j (omega arith)))
+      kept-is i h = rw same (cells-agree l (sets l (cellWords n) vs) i (λ j k. sets-below l (cellWords n) vs fits j (omega arith)))
 
       zero-is : zeroCell l′ ≡ zeroCell l
-      zero-is = rw same (zero-cell-agrees l (sets l (3 * (n + 1)) vs) n (sets-below l (3 * (n + 1)) vs fits))
+      zero-is = rw same (zero-cell-agrees l (sets l (cellWords n) vs) n (sets-below l (cellWords n) vs fits))
 
-      at : (j w : ℕ) → j < 3 → getD vs j 0 ≡ w → getD l′ (3 * suc n + j) 0 ≡ w
-      at j w h e = ap (λ (i : ℕ). getD l′ (3 * i + j) 0) (sym (add-one n)) ∙ rw same (sets-at l (3 * (n + 1)) vs fits j h ∙ e)
+      at : (j w : ℕ) → j < cellWidth → getD vs j 0 ≡ w → getD l′ (cellPlace (suc n) j) 0 ≡ w
+      at j w h e = ap (λ (i : ℕ). getD l′ (cellPlace i j) 0) (sym (add-one n)) ∙ rw same (sets-at l (cellWords n) vs fits j h ∙ e)
 
       last-is : cellAt l′ (suc n) ≡ record { value = v; other = 0; next = x }
       last-is = let a0 = at 0 v (omega arith) refl in let a1 = at 1 0 (omega arith) refl in let a2 = at 2 x (omega arith) refl in cc

@@ -11,6 +11,7 @@ use Rattle.records.specs.Lists.{all}
 use Rattle.records.specs.Store.{Store, termIn, within, term, cell, chain, chainBy, isString}
 use Rattle.records.specs.View.{Lent, lent, storeOf, cellAt, pairAt, termsView, termWords, cellWords, sizes, termLimit, cellLimit, charLimit, reasonLimit, keyLimit, termAt}
 use Rattle.records.specs.declared.State.{State}
+use Rattle.records.specs.Working.Leaves.{pairRule}
 use Rattle.records.specs.Working.Audited.{Sized}
 use Rattle.records.specs.Rules.{isNumber, reasonRule, keyRule, cellRule, textRule, partRule, concatRule, lengthRule, isEquatable, equationRule}
 use Rattle.records.proofs.Lists.{within-zero, within-high, and-stop, and-next, or-stop, failed, passed, right-false, right-true, or-none, three-1, three-2, three-3, three-first, three-last, five-1, five-2, five-3, five-4, five-last, decide, table-length, both-left, both-right, both-true}
@@ -59,6 +60,14 @@ reason-low k v h = rw (ne-eqb k 1 (λ e. omega arith), ne-eqb k 2 (λ e. omega a
 pub reason-high : (k v : ℕ) → 2 < k → false ≡ reasonRule (k, v)
 unfolding reasonRule
 reason-high k v h = rw (ne-eqb k 1 (λ e. omega arith), ne-eqb k 2 (λ e. omega arith))
+
+-- as a key, and as a reason
+module _ (s : Store) (p : ℕ × ℕ) (key r : Bool) where
+  pub pair-key : key ≡ true → r ≡ keyRule s p → r ≡ pairRule key s p
+  pair-key h e = rw h e
+
+  pub pair-reason : key ≡ false → r ≡ reasonRule p → r ≡ pairRule key s p
+  pair-reason h e = rw h e
 
 -- a rule of the pair at a place
 pub pair-test : (p : ℕ × ℕ → Bool) (l : List ℕ) (i x y : ℕ) (b : Bool) → b ≡ p (x, y) → x ≡ getD l (2 * i + 0) 0 → y ≡ getD l (2 * i + 1) 0 → b ≡ p (pairAt l i)

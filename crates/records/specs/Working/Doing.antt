@@ -1,6 +1,6 @@
 -- What every working function promises: one shape for all of them, and a smaller one for the parts of a make.
 use mathlib.Core.Path.{_≡_}
-use mathlib.Core.Bool.{true, false}
+use mathlib.Core.Bool.{false}
 use mathlib.Core.List.{List}
 use Prim.Native.Nat.{ℕ, _≤_}
 use lib.ListN.{take}
@@ -16,12 +16,16 @@ use Rattle.records.specs.Calls.{KeepsStore}
 use Rattle.records.specs.Working.Audited.{Ready}
 
 module _ {A : Type 0} where
+  -- the slices are ready for the counts of the answer: what the next working function requires
+  abbrev pub ReadyFor : Lent → Out A → Type 0
+  ReadyFor m r = (d : State) (a : A) → r ≡ ok (storeOf m d) a → Ready m d
+
   -- a working function does what its definition says, keeps what was counted, and leaves what the next working function requires: the
   -- slices are ready for the counts that it answers
   pub record Working (work : Work A) (m m′ : Lent) (c : State) (r : Out A) : Type 0 where
     pub says : work (storeOf m c) ≡ r
     pub kept : KeepsStore m m′ c
-    pub ready : (d : State) (a : A) → r ≡ ok (storeOf m′ d) a → Ready m′ d
+    pub ready : ReadyFor m′ r
 
   -- a part of a make, which is asked nothing of what is made, so that no more can be said of what it leaves
   pub record Building (work : Work A) (m m′ : Lent) (c : State) (r : Out A) : Type 0 where

@@ -9,7 +9,7 @@ use lib.Dec.{eqb}
 use Rattle.records.specs.Lists.{sameWord, firsts, seconds, firstBelow}
 use Rattle.records.specs.Store.{Cell, Store, ok, stop, Work, _>>=_, term, kind, isString, within, cellIn, chainIn, text, root, top, Term, termIn, aboveIn, nearestIn}
 use Rattle.records.specs.View.{termAt, textAt, termsView}
-use Rattle.records.specs.Rules.{endsRule, labelRule}
+use Rattle.records.specs.Rules.{reasonRule, keyRule, endsRule, labelRule}
 use Rattle.records.specs.Make.{withNames, addText, addChain, addTerm, lowest, nameOf, nameLimit, takeName}
 
 -- CLIMBS
@@ -54,6 +54,13 @@ pairWords l p q = sameWord (firsts l) (firsts p) && sameWord (seconds l) (firsts
 unfoldable pub pairMeets : List Cell → ℕ → ℕ → ℕ → Bool
 pairMeets cs x y z =
     within (length cs) y && within (length cs) z && eqb (cellIn cs x .value) (cellIn cs y .value) && eqb (cellIn cs x .other) (cellIn cs z .value)
+
+-- RECORDS OF TWO WORDS
+
+-- the rule of a key, or of a reason
+abbrev pub pairRule : Bool → Store → ℕ × ℕ → Bool
+pairRule true s = keyRule s
+pairRule false s = reasonRule
 
 -- MAKING
 

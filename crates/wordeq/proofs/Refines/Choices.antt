@@ -16,12 +16,12 @@ use Rattle.records.specs.Make.{makeConstant}
 use Rattle.records.specs.Working.Audited.{Ready}
 use Rattle.records.proofs.Lists.{both-left, both-right, both-true}
 use Rattle.records.proofs.Doing.{working-same, working-is}
-use Rattle.wordeq.specs.declared.StepResult.{StepResult}
-use Rattle.wordeq.specs.declared.StepResult.the-variants as step
-use Rattle.wordeq.specs.Wordeq.{propagate, Tried, answer, fixed, letters, isPlain, alias, empties, assigns, _orElse_}
-use Rattle.wordeq.specs.Working.Results.{Tries}
+use Rattle.sides.specs.declared.StepResult.{StepResult}
+use Rattle.sides.specs.declared.StepResult.the-variants as step
+use Rattle.sides.specs.Wordeq.{propagate, Tried, answer, fixed, letters, isPlain, alias, empties, assigns, _orElse_}
+use Rattle.sides.specs.Working.Results.{Tries}
 use Rattle.wordeq.specs.Working.Propagates.{aliased, emptied, assigned}
-use Rattle.wordeq.proofs.Refines.Orelse.{else-after, else-answer, else-made, else-none}
+use Rattle.sides.proofs.Orelse.{else-after, else-answer, else-made, else-none}
 use Rattle.wordeq.proofs.Refines.Propagate.{emptied-parts}
 
 -- WHAT THE TESTS SAY OF THE LISTS

@@ -21,11 +21,11 @@ use Rattle.records.proofs.Doing.{working-same}
 use Rattle.records.proofs.Public.{call-unready, call-unfit, call-works, audit-low}
 use Rattle.records.proofs.Works.{stop-not}
 use Rattle.records.proofs.ListLaws.{list-strings}
-use Rattle.wordeq.specs.Wordeq.{same, nfEqual, nfExplain, nfArguments}
-use Rattle.wordeq.specs.Working.Stripping.{Readable}
+use Rattle.sides.specs.Wordeq.{same, nfEqual, nfExplain, nfArguments}
+use Rattle.sides.specs.Working.Stripping.{Readable}
 use Rattle.wordeq.specs.Calls.{equalArguments, equalLists, PublicEqualExplain}
-use Rattle.wordeq.proofs.Equal.{explain-equal-gives, explain-equal-sound, explain-equal-stops}
-use Rattle.records.proofs.Later.{added-once}
+use Rattle.sides.proofs.Equal.{explain-equal-gives, explain-equal-sound, explain-equal-stops}
+use Rattle.records.proofs.LaterStores.{added-once}
 
 -- ARGUMENTS
 

@@ -15,17 +15,16 @@ use Rattle.records.specs.Store.{Store, Out, ok, stop, andThen, _>>=_, give, isC
 use Rattle.records.specs.View.{Lent, storeOf}
 use Rattle.records.specs.Rules.{listLimit}
 use Rattle.records.specs.Working.Doing.{Working}
-use Rattle.records.proofs.Lists.{any-append}
-use Rattle.records.proofs.Doing.{working-stopped, working-at, working-is}
+use Rattle.records.proofs.Lists.{any-append, drop-head}
+use Rattle.records.proofs.Doing.{working-stopped, working-at, working-is, working-answer}
+use Rattle.records.proofs.Works.{one-store}
 use Rattle.normalize.specs.Normalize.{atoms, flatten}
 use Rattle.normalize.specs.Working.Flat.{Appended}
-use Rattle.wordeq.specs.declared.StepResult.{StepResult}
-use Rattle.wordeq.specs.declared.StepResult.the-variants as step
-use Rattle.wordeq.specs.Wordeq.{Answer, steps, softened, isGuard}
+use Rattle.sides.specs.declared.StepResult.{StepResult}
+use Rattle.sides.specs.declared.StepResult.the-variants as step
+use Rattle.sides.specs.Wordeq.{Answer, steps, softened, isGuard}
 use Rattle.wordeq.specs.Calls.{resolved}
 use Rattle.wordeq.specs.Working.Resolving.{soft, flatSteps, ran}
-use Rattle.wordeq.proofs.Refines.Leaving.{one-store, working-answer}
-use Rattle.wordeq.proofs.Refines.Stripping.{drop-head}
 
 -- SOME ATOM IS A CONCATENATION
 
@@ -43,9 +42,6 @@ module _ (s : Store) (l out₀ : List ℕ) where
   pub record Flattening (out : List ℕ) (i n : ℕ) : Type 0 where
     pub from : n ≤ listLimit
     pub words : take n out ++ concatMap (λ x. atoms s x) (drop i l) ≡ concatMap (λ x. atoms s x) l
-
-  pub flattening-none : Flattening out₀ 0 0
-  flattening-none = record { from = omega arith; words = refl }
 
   module _ {out : List ℕ} {i n : ℕ} (g : Flattening out i n) where
     empty : (k : List ℕ) → length k ≡ 0 → concatMap (λ x. atoms s x) k ≡ []

@@ -14,7 +14,7 @@ use lib.Dec.{ltb, leb}
 use mir.Syntax.{w32}
 use mir.Val.{SFits, toZ, ofZ}
 use mir.ValLaws.{toZ-ofZ}
-use borrow.Author.Tests.{eq-eqb, ne-eqb, eqb-true, eqb-false, ltb-true, lt-ltb, not-true}
+use borrow.Author.Tests.{eqb-true, eqb-false, ltb-true, lt-ltb, not-true}
 use Rattle.records.specs.declared.State.{State}
 use Rattle.records.specs.declared.Added.{Added}
 use Rattle.records.specs.declared.Added.the-variants as adding
@@ -26,25 +26,26 @@ use Rattle.records.specs.Make.{withKeys, ordered, samePair, addKey, isKey}
 use Rattle.records.specs.Working.Audited.{Audited, Ready}
 use Rattle.records.specs.Calls.{added}
 use Rattle.records.specs.Working.Doing.{Working}
-use Rattle.records.proofs.Lists.{both-left, both-right, left-false, and-stop, and-next, clash, decide, table-at, table-length}
+use Rattle.records.proofs.Lists.{both-left, both-right, clash, table-at, table-length}
 use Rattle.records.proofs.Readings.{text-characters}
 use Rattle.records.proofs.Kept.{key-kept}
-use Rattle.records.proofs.Doing.{working-same, working-at, working-is}
+use Rattle.records.proofs.Doing.{working-same, working-at, working-is, working-answer}
 use Rattle.normalize.specs.declared.Form.{Form}
 use Rattle.normalize.specs.declared.Form.the-variants as form
-use Rattle.wordeq.specs.Wordeq.{Answer, saturated, conflict, split, Tried, _orElse_, isFull, differ, clashes, splitHeads, splitBy, splits, isGuard}
-use Rattle.wordeq.specs.Working.Results.{BothLists}
-use Rattle.wordeq.specs.Working.Sides.{Texts, Spelled}
+use Rattle.records.proofs.Views.{text-words}
+use Rattle.sides.specs.Wordeq.{Answer, saturated, conflict, split, Tried, _orElse_, isFull, differ, clashes, splitHeads, splitBy, splits, isGuard}
+use Rattle.sides.specs.Working.Results.{BothLists}
+use Rattle.sides.specs.Working.Sides.{Texts, Spelled}
 use Rattle.wordeq.specs.Working.Splits.{listed, characterAtoms, headAtoms}
-use Rattle.wordeq.specs.Working.Heads.{HeadsApart, HeadPair, atomsBy, atomsOf, splitFrom, splitNew}
+use Rattle.wordeq.specs.Working.Heads.{HeadsApart, HeadPair, atomsBy, atomsOf, splitNew}
+use Rattle.sides.specs.Working.Counting.{splitFrom}
 use Rattle.records.proofs.Counts.{higher-below}
-use Rattle.records.proofs.Sequence.{grows-key, working-then, working-stop}
-use Rattle.wordeq.proofs.Strip.{Apart}
-use Rattle.wordeq.proofs.Refines.Leaving.{one-store, working-answer, added-at}
-use Rattle.wordeq.proofs.Refines.SideTexts.{text-words}
-use Rattle.wordeq.proofs.Refines.SideReady.{ready-readIn}
-use Rattle.wordeq.proofs.Counted.{then-same, character-counted, heads-counted}
-use Rattle.wordeq.proofs.FewAtoms.{chosen-few}
+use Rattle.records.proofs.Sequence.{grows-key, working-then, working-stop, added-at}
+use Rattle.records.proofs.Works.{one-store}
+use Rattle.sides.proofs.Strip.{Apart}
+use Rattle.sides.proofs.SideReady.{ready-readIn, full-whole}
+use Rattle.sides.proofs.Counted.{then-same, character-counted, heads-counted}
+use Rattle.sides.proofs.FewAtoms.{chosen-few}
 use Rattle.wordeq.proofs.Refines.SplitAtoms.{characters-then, heads-then, grows-atoms}
 
 -- THE GUARD
@@ -91,24 +92,8 @@ module _ (w h : List ℕ) (c : State) (a : ℕ) (x : Texts w c) where
   text-size : kind (termed w c) a ≡ 1 → length (text (readIn w h c) a) ≡ termAt w a .second
   text-size o = ap length (text-words w h c a 0 o (x .constants a o)) ∙ table-length (λ i. getD h (termAt w a .first + i) 0) (termAt w a .second)
 
-pub full-none : (w : List ℕ) (c : State) (a k : ℕ) → k ≡ kind (termed w c) a → (k ≡ 1 → ⊥) → false ≡ isFull (termed w c) a
-unfolding isFull
-full-none w c a k e n = and-stop _ _ (ne-eqb _ 1 (λ z. n (e ∙ z)))
-
-pub full-some : (w : List ℕ) (c : State) (a k n : ℕ) (r : Bool) → Texts w c → k ≡ kind (termed w c) a → k ≡ 1 → n ≡ termAt w a .second → r ≡ ltb 0 n → r ≡ isFull (termed w c) a
-unfolding isFull
-full-some w c a k n r x e o f g = and-next _ _ r (eq-eqb _ 1 (sym e ∙ o)) (g ∙ ap (ltb 0) (f ∙ sym (text-size w [] c a x (sym e ∙ o))))
-
--- it does not depend on what the characters are
-full-whole : (m : Lent) (c : State) (a : ℕ) → Texts (m .terms) c → isFull (termed (m .terms) c) a ≡ isFull (storeOf m c) a
-unfolding isFull
-full-whole m c a x =
-    decide (isConstant (termed (m .terms) c) a)
-    (λ e. ap (λ (n : ℕ). isConstant (termed (m .terms) c) a && ltb 0 n) (text-size (m .terms) [] c a x (eqb-true _ 1 e) ∙ sym (text-size (m .terms) (m .chars) c a x (eqb-true _ 1 e))))
-    (λ e. left-false _ _ e ∙ sym (left-false _ _ e))
-
 pub full-at : {m : Lent} {c : State} (a : ℕ) {r x : Bool} → Ready m c → r ≡ isFull (termed (m .terms) c) a → r ≡ x → isFull (storeOf m c) a ≡ x
-full-at {m} {c} a ready e f = sym (full-whole m c a (texts-of ready)) ∙ sym e ∙ f
+full-at {m} {c} a ready e f = sym (full-whole m c (texts-of ready) a) ∙ sym e ∙ f
 
 pub letter-first : (w h : List ℕ) (c : State) (a f p r : ℕ) → Spelled w h c → isFull (termed w c) a ≡ true → f ≡ termAt w a .first → p ≡ f → r ≡ getD h p 0
     → text (readIn w h c) a ≡ r ∷ drop 1 (text (readIn w h c) a)

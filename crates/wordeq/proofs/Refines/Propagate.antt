@@ -18,18 +18,18 @@ use Rattle.records.specs.Make.{makeConstant}
 use Rattle.records.specs.Working.Audited.{Ready}
 use Rattle.records.specs.Calls.{made}
 use Rattle.records.specs.Working.Doing.{Working}
-use Rattle.records.proofs.Lists.{both-left, both-right, failed, passed, every-map, all-every}
+use Rattle.records.proofs.Lists.{both-left, both-right, failed, passed, every-map, all-every, drop-head}
 use Rattle.records.proofs.Grown.{grown-string}
 use Rattle.records.proofs.Kept.{made-string}
-use Rattle.records.proofs.Doing.{working-at, working-is, constant-fit}
-use Rattle.wordeq.specs.declared.StepResult.{StepResult}
-use Rattle.wordeq.specs.declared.StepResult.the-variants as step
-use Rattle.wordeq.specs.Wordeq.{Answer, Tried, same, fixed, letters, isPlain, empties, emptiesAt, assigns}
-use Rattle.wordeq.specs.Working.Results.{tried, Tries}
-use Rattle.wordeq.specs.Working.Stripping.{Pair}
+use Rattle.records.proofs.Doing.{working-at, working-is, constant-fit, working-answer}
+use Rattle.records.proofs.Works.{one-store}
+use Rattle.records.proofs.Sequence.{made-at}
+use Rattle.sides.specs.declared.StepResult.{StepResult}
+use Rattle.sides.specs.declared.StepResult.the-variants as step
+use Rattle.sides.specs.Wordeq.{Answer, Tried, same, fixed, letters, isPlain, empties, emptiesAt, assigns}
+use Rattle.sides.specs.Working.Results.{tried, Tries}
+use Rattle.sides.specs.Working.Stripping.{Pair}
 use Rattle.wordeq.specs.Working.Propagates.{aliased, emptied, assigned, linked}
-use Rattle.wordeq.proofs.Refines.Stripping.{drop-head}
-use Rattle.wordeq.proofs.Refines.Leaving.{one-store, working-answer, made-at}
 use Rattle.wordeq.proofs.Refines.SplitAtoms.{no-characters}
 use Rattle.wordeq.proofs.Refines.PropagateMakes.{assigns-made}
 

@@ -12,9 +12,10 @@ use Rattle.records.specs.Make.{makeConstant}
 use Rattle.records.specs.Calls.{made}
 use Rattle.records.specs.Working.Doing.{Working}
 use Rattle.records.proofs.Lists.{all-every, every-map, concatMap-same}
-use Rattle.wordeq.specs.Wordeq.{propagate, answer, fixed, lettersOf, letters, assigns}
-use Rattle.records.proofs.Doing.{working-is}
-use Rattle.wordeq.proofs.Refines.Leaving.{one-store, working-answer, made-at}
+use Rattle.sides.specs.Wordeq.{propagate, answer, fixed, lettersOf, letters, assigns}
+use Rattle.records.proofs.Doing.{working-is, working-answer}
+use Rattle.records.proofs.Works.{one-store}
+use Rattle.records.proofs.Sequence.{made-at}
 
 -- a side of constants: its constant characters are its characters
 pub letters-fixed : (s : Store) (l : List ℕ) → fixed s l ≡ true → letters s l ≡ concatMap (text s) l

@@ -23,16 +23,16 @@ use Rattle.records.proofs.Doing.{works}
 use Rattle.records.proofs.Public.{audit-low, passed-ready}
 use Rattle.records.proofs.Works.{stop-not}
 use Rattle.normalize.proofs.ListCalls.{listed-short, listed-unready, listed-unfit, listed-works}
-use Rattle.wordeq.specs.declared.StepResult.{StepResult}
-use Rattle.wordeq.specs.declared.StepResult.the-variants as step
-use Rattle.wordeq.specs.Wordeq.{Answer, done, saturated, split, closed, resolve, resolveArguments, isGuard}
-use Rattle.wordeq.specs.Working.Results.{BothLists}
+use Rattle.sides.specs.declared.StepResult.{StepResult}
+use Rattle.sides.specs.declared.StepResult.the-variants as step
+use Rattle.sides.specs.Wordeq.{Answer, done, saturated, split, closed, resolve, resolveArguments, isGuard}
+use Rattle.sides.specs.Working.Results.{BothLists}
 use Rattle.wordeq.specs.Working.Resolving.{closing, flatSteps, ran}
-use Rattle.wordeq.specs.Repeated.{Decides}
+use Rattle.sides.specs.Repeated.{Decides}
 use Rattle.wordeq.specs.Calls.{equalArguments, PublicResolve, resolved}
 use Rattle.records.proofs.ListLaws.{list-strings}
-use Rattle.wordeq.proofs.Resolve.{resolve-gives, resolve-grows, resolve-kept, resolve-sound, resolve-stops}
-use Rattle.wordeq.proofs.Decided.{resolve-decides}
+use Rattle.sides.proofs.Resolve.{resolve-gives, resolve-grows, resolve-kept, resolve-sound, resolve-stops}
+use Rattle.sides.proofs.Decided.{resolve-decides}
 
 -- CLOSED
 

@@ -23,14 +23,12 @@ use Rattle.records.proofs.Lists.{both-true}
 use Rattle.records.proofs.Works.{branch}
 use Rattle.records.proofs.Grown.{grown-string, grown-kind}
 use Rattle.records.proofs.Kept.{made-string, name-characters, name-filled, NameTaken, name-taken, fresh-kept}
-use Rattle.records.proofs.Doing.{working-same, working-stopped, constant-fit, concat-fit, length-fit}
-use Rattle.wordeq.specs.Wordeq.{Tried, freshVariable}
+use Rattle.records.proofs.Doing.{working-same, working-stopped, constant-fit, concat-fit, length-fit, working-left}
+use Rattle.sides.specs.Wordeq.{Tried, freshVariable}
 use Rattle.wordeq.specs.Working.Splits.{prefixAtom, emptyAtom, characterAtom, lengthsAtom, characterAtoms, prefixAtoms, headAtoms}
 use Rattle.wordeq.specs.Working.Heads.{atomsBy, atomsOf}
-use Rattle.wordeq.proofs.Counted.{equatable-strings, equatable-lengths, characterThen, headsThen}
-use Rattle.records.proofs.Sequence.{Grows, grows-then, grows-constant, grows-variable, grows-concat, grows-length, grows-equation, grows-give, grows-name, working-then, working-stop, made-is, made-then, made-stop}
-use Rattle.normalize.proofs.Carried.{working-left}
-use Rattle.wordeq.proofs.Refines.Leaving.{made-ready, made-stays}
+use Rattle.sides.proofs.Counted.{equatable-strings, equatable-lengths, characterThen, headsThen}
+use Rattle.records.proofs.Sequence.{Grows, grows-then, grows-constant, grows-variable, grows-concat, grows-length, grows-equation, grows-give, grows-name, working-then, working-stop, made-is, made-then, made-stop, made-ready, made-stays}
 
 -- A FRESH VARIABLE
 

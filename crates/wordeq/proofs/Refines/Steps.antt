@@ -17,28 +17,27 @@ use Rattle.records.specs.Rules.{listLimit}
 use Rattle.records.specs.Working.Audited.{Ready}
 use Rattle.records.specs.Working.Doing.{Working}
 use Rattle.records.proofs.Lists.{both-right, both-true, every-all}
-use Rattle.records.proofs.Doing.{working-stopped, working-at}
-use Rattle.records.proofs.Later.{Added}
-use Rattle.wordeq.specs.declared.StepResult.{StepResult}
-use Rattle.wordeq.specs.declared.StepResult.the-variants as step
-use Rattle.wordeq.specs.declared.Stripped.{Stripped}
-use Rattle.wordeq.specs.declared.Stripped.the-variants.{Parts, Refused}
-use Rattle.wordeq.specs.Wordeq.{Answer, done, Tried, answer, _orElse_, clashes, splits, after, isBare, orDone, matches, needsReason, strip, steps}
-use Rattle.wordeq.specs.Working.Results.{tried, Tries}
+use Rattle.records.proofs.Doing.{working-stopped, working-at, working-answer, working-left}
+use Rattle.records.proofs.LaterStores.{Added}
+use Rattle.sides.specs.declared.StepResult.{StepResult}
+use Rattle.sides.specs.declared.StepResult.the-variants as step
+use Rattle.sides.specs.declared.Stripped.{Stripped}
+use Rattle.sides.specs.declared.Stripped.the-variants.{Parts, Refused}
+use Rattle.sides.specs.Wordeq.{Answer, done, Tried, answer, _orElse_, clashes, splits, after, isBare, orDone, matches, needsReason, strip, steps}
+use Rattle.sides.specs.Working.Results.{tried, Tries}
 use Rattle.wordeq.specs.Calls.{resolved}
-use Rattle.wordeq.specs.Working.Sides.{Spelled}
+use Rattle.sides.specs.Working.Sides.{Spelled}
 use Rattle.wordeq.specs.Working.Heads.{HeadsApart}
-use Rattle.wordeq.specs.Working.Stripping.{part, stripped, Inside, Needed, Strips}
-use Rattle.normalize.proofs.Carried.{working-left}
-use Rattle.wordeq.proofs.Refines.Leaving.{one-store, working-answer}
-use Rattle.wordeq.proofs.Refines.LackingTries.{constants-need, constants-conflict, constants-pass}
-use Rattle.wordeq.proofs.Strip.{strip-ends}
-use Rattle.wordeq.proofs.Strip as strip
+use Rattle.sides.specs.Working.Stripping.{part, stripped, Inside, Needed, Strips}
+use Rattle.sides.proofs.Strip.{strip-ends}
+use Rattle.sides.proofs.Strip as strip
 use Rattle.wordeq.proofs.Refines.Heads.{heads-apart}
 use Rattle.records.proofs.Counts.{Higher, agree-below}
-use Rattle.wordeq.proofs.Refines.Trying.{Lined, Last, occursBoth, conflicts, propagates, tiles, grouped, both-rises, conflicts-rises, propagates-rises, tiles-rises, after-groups, passed-ready, else-works, else-tries, else-last}
+use Rattle.sides.proofs.ConstantSides.{constants-need, constants-conflict, constants-pass}
+use Rattle.sides.proofs.Trying.{Lined, Last, occursBoth, conflicts, propagates, tiles, grouped, both-rises, conflicts-rises, propagates-rises, tiles-rises, after-groups, passed-ready, else-works, else-tries, else-last}
 use Rattle.records.proofs.ListLaws.{list-short, list-every}
-use Rattle.wordeq.specs.Working.Lacking.{conflicts as lacks}
+use Rattle.records.proofs.Works.{one-store}
+use Rattle.sides.specs.Working.Lacking.{conflicts as lacks}
 
 -- STEPS 2 AND 3
 

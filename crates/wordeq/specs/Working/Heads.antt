@@ -2,13 +2,14 @@
 use mathlib.Core.Path.{_≡_}
 use mathlib.Core.Bool.{true, false, _&&_}
 use mathlib.Core.List.{List, [], _∷_}
-use Prim.Native.Nat.{ℕ, _-_, _<_}
+use Prim.Native.Nat.{ℕ, _<_}
 use lib.ListN.{length, getD}
-use lib.IntN.{ℤ, negℤ}
+use lib.IntN.{ℤ}
 use Rattle.records.specs.Lists.{if_then_else_}
 use Rattle.records.specs.Store.{Store, Work, _>>=_, _>>_, store, count, isConstant, isString, text}
 use Rattle.records.specs.Make.{addKey}
-use Rattle.wordeq.specs.Wordeq.{split, Tried, answer}
+use Rattle.sides.specs.Wordeq.{Tried}
+use Rattle.sides.specs.Working.Counting.{splitFrom}
 use Rattle.wordeq.specs.Working.Splits.{characterAtoms, headAtoms}
 
 -- what step 1 leaves: two heads are different terms. A key is 'two different string terms'
@@ -34,12 +35,6 @@ atomsOf a b = do
   if isConstant s b then atomsBy a (text s b) (headAtoms a b)
       else if isConstant s a then atomsBy b (text s a) (headAtoms a b)
       else headAtoms a b
-
--- a Split that says how many terms the store has more than n
-unfoldable pub splitFrom : ℤ → ℕ → List ℕ → Tried
-splitFrom g n l = do
-  s ← store
-  answer (split l (negℤ g) (count s - n))
 
 -- 'add the key and Split'
 unfoldable pub splitNew : ℤ → ℕ → ℕ → Tried

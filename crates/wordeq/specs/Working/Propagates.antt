@@ -8,9 +8,9 @@ use lib.Dec.{eqb, leb}
 use Rattle.records.specs.declared.State.{State}
 use Rattle.records.specs.Lists.{all}
 use Rattle.records.specs.Store.{Store, isVariable}
-use Rattle.wordeq.specs.declared.StepResult.{StepResult}
-use Rattle.wordeq.specs.declared.StepResult.the-variants as step
-use Rattle.wordeq.specs.Wordeq.{fixed, isPlain}
+use Rattle.sides.specs.declared.StepResult.{StepResult}
+use Rattle.sides.specs.declared.StepResult.the-variants as step
+use Rattle.sides.specs.Wordeq.{fixed, isPlain}
 
 -- 'Two lone variables, neither name beginning `!strk`'
 abbrev pub aliased : Store → List ℕ → List ℕ → Bool

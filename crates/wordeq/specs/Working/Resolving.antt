@@ -6,9 +6,9 @@ use Rattle.records.specs.Lists.{if_then_else_, any}
 use Rattle.records.specs.Store.{Work, _>>=_, give, store, isConcat}
 use Rattle.records.specs.View.{reasonsAt}
 use Rattle.normalize.specs.Normalize.{flatten}
-use Rattle.wordeq.specs.declared.StepResult.{StepResult}
-use Rattle.wordeq.specs.declared.StepResult.the-variants as step
-use Rattle.wordeq.specs.Wordeq.{Answer, steps, softened}
+use Rattle.sides.specs.declared.StepResult.{StepResult}
+use Rattle.sides.specs.declared.StepResult.the-variants as step
+use Rattle.sides.specs.Wordeq.{Answer, steps, softened}
 
 -- 'Flatten both lists, left first, ..; then any Conflict becomes Saturated.'
 unfoldable pub flatSteps : List ℕ → List ℕ → ℤ → Work Answer

@@ -7,7 +7,7 @@ use Rattle.records.specs.View.{Lent, storeOf}
 use Rattle.normalize.specs.declared.Form.{Form}
 use Rattle.normalize.specs.declared.Form.the-variants as form
 use Rattle.records.specs.Make.{makeConstant, makeConcat, makeLength, makeEquation}
-use Rattle.wordeq.specs.Wordeq.{freshVariable}
+use Rattle.sides.specs.Wordeq.{freshVariable}
 
 -- the atoms answered, from the start of the list
 abbrev pub listed : Form → Lent → List ℕ → Out (List ℕ)

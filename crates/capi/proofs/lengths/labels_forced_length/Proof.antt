@@ -1,7 +1,6 @@
 use Rattle.capi.proofs.LengthExports.{forced-untold, forced-tellable, forced-exported}
 use borrow.Author.Tests.{not-true, not-false}
 use mathlib.Core.Path.{sym, _∙_}
-use native.Mathlib.Omega.{arith}
 use borrow.Author.Needs.{needs}
 use Rattle.capi.proofs.lengths.labels_forced_length.Statement.{statement}
 use Rattle.capi.proofs.lengths.labels_forced_length.Tie as tie

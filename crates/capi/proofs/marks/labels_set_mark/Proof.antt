@@ -9,7 +9,7 @@ pub labels-set-mark-spec : {M : Type 1} → statement M
 labels-set-mark-spec =
     tie.close
     (tie.spec
-    -- is-spacious-requires
+    -- is-roomy-requires
     (λ c κs. search needs)
     -- same-length
     (λ c. search needs)
@@ -17,8 +17,8 @@ labels-set-mark-spec =
     (λ c. search needs)
     -- returns
     (λ c.
-    let at-is-spacious = c .before in
-    marks-short _ _ _ _ _ (sym (at-is-spacious .is-spacious .ensures) ∙ not-true _ (c .if1 .taken)))
+    let at-is-roomy = c .before in
+    marks-short _ _ _ _ _ (sym (at-is-roomy .is-roomy .ensures) ∙ not-true _ (c .if1 .taken)))
     -- state-of-requires
     (λ c κs. search needs)
     -- standing-of-requires
@@ -29,8 +29,8 @@ labels-set-mark-spec =
     (λ c κs.
     let at-set-mark = c .before .before .before .before in
     let at-if1 = at-set-mark .before .before .before .before .before .before in
-    let at-is-spacious = at-if1 .before in
-    (sym (at-is-spacious .is-spacious .ensures) ∙ not-false _ (at-if1 .if1 .left), tracks-narrow (at-set-mark .set-mark .ensures)))
+    let at-is-roomy = at-if1 .before in
+    (sym (at-is-roomy .is-roomy .ensures) ∙ not-false _ (at-if1 .if1 .left), tracks-narrow (at-set-mark .set-mark .ensures)))
     -- same-length-3
     (λ c. search needs)
     -- same-length-4
@@ -44,6 +44,6 @@ labels-set-mark-spec =
     let at-standing-of = at-set-mark .before .before in
     let at-state-of = at-standing-of .before .before in
     let at-if1 = at-state-of .before .before in
-    let at-is-spacious = at-if1 .before in
+    let at-is-roomy = at-if1 .before in
     mark-exported (at-state-of .state-of .ensures) (at-standing-of .standing-of .ensures) (at-set-mark .set-mark .ensures)
-    (sym (at-is-spacious .is-spacious .ensures) ∙ not-false _ (at-if1 .if1 .left)) (at-tell-number .tell-number .ensures)))
+    (sym (at-is-roomy .is-roomy .ensures) ∙ not-false _ (at-if1 .if1 .left)) (at-tell-number .tell-number .ensures)))

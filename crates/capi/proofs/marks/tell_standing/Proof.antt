@@ -1,4 +1,6 @@
-use Rattle.capi.proofs.Standings.{standing-told}
+use Rattle.capi.proofs.Words.{told-by}
+use Rattle.capi.specs.Working.Standings.{standingTelling}
+use mathlib.Core.Path.{refl, ap}
 use borrow.Author.Needs.{needs}
 use Rattle.capi.proofs.marks.tell_standing.Statement.{statement}
 use Rattle.capi.proofs.marks.tell_standing.Tie as tie
@@ -22,6 +24,6 @@ tell-standing-spec =
     (λ c.
     let at-write-standing = c .before .before in
     let at-told = at-write-standing .before .before .before in
-    standing-told (at-told .told .given .1) (at-write-standing .write-standing .ensures))
+    told-by (ap standingTelling (at-told .told .given .1)) (record { code = refl; state = at-write-standing .write-standing .ensures; answer = refl }))
     -- returns-2
     (λ c. search needs))

@@ -1,6 +1,7 @@
 use Rattle.capi.proofs.Words.{told-by}
 use Rattle.capi.specs.Working.Leaves.{madeTelling}
 use mathlib.Core.Path.{ap}
+use native.Mathlib.Omega.{arith}
 use borrow.Author.Needs.{needs}
 use Rattle.capi.proofs.telling.tell.Statement.{statement}
 use Rattle.capi.proofs.telling.tell.Tie as tie
@@ -11,11 +12,13 @@ tell-spec =
     (tie.spec
     -- enum-known-made
     (λ c. search needs)
-    -- tell-one-requires
+    -- slice-aggregate-tell-words
+    (λ c. search needs)
+    -- tell-words-requires
     (λ c κs.
-    let at-made = c .before .before .before in
+    let at-made = c .before .before .before .before in
     let at-start = at-made .before .before .before .before in
-    (at-start .pre .0, at-start .pre .1 _ _ (at-made .made .given .1)))
+    (at-start .pre .0, at-start .pre .1 _ _ (at-made .made .given .1), omega arith))
     -- enum-known-made-2
     (λ c. search needs)
     -- same-length
@@ -24,8 +27,8 @@ tell-spec =
     (λ c. search needs)
     -- returns
     (λ c.
-    let at-tell-one = c .before .before .before .before in
-    let at-made = at-tell-one .before .before .before .before in
-    told-by (ap madeTelling (at-made .made .given .1)) (at-tell-one .tell-one .ensures))
+    let at-tell-words = c .before .before .before .before in
+    let at-made = at-tell-words .before .before .before .before .before in
+    told-by (ap madeTelling (at-made .made .given .1)) (at-tell-words .tell-words .ensures .is))
     -- returns-2
     (λ c. search needs))

@@ -1,6 +1,7 @@
 use Rattle.capi.proofs.Words.{told-by}
 use Rattle.capi.specs.Working.Leaves.{deepTelling}
 use mathlib.Core.Path.{ap}
+use native.Mathlib.Omega.{arith}
 use borrow.Author.Needs.{needs}
 use Rattle.capi.proofs.telling.tell_deep_form.Statement.{statement}
 use Rattle.capi.proofs.telling.tell_deep_form.Tie as tie
@@ -11,23 +12,27 @@ tell-deep-form-spec =
     (tie.spec
     -- enum-known-made
     (λ c. search needs)
-    -- cast-tell-two
+    -- cast-t15
     (λ c.
     let at-made = c .before .before .before in
     let at-start = at-made .before .before .before .before in
     record { fits = at-start .pre .1 _ _ (at-made .made .given .1) .list })
-    -- tell-two-requires
+    -- slice-aggregate-tell-words
+    (λ c. search needs)
+    -- tell-words-requires
     (λ c κs.
-    let at-made = c .before .before .before in
+    let at-made = c .before .before .before .before in
     let at-start = at-made .before .before .before .before in
-    (at-start .pre .0, at-start .pre .1 _ _ (at-made .made .given .1) .counts))
+    (at-start .pre .0, at-start .pre .1 _ _ (at-made .made .given .1) .counts, omega arith))
     -- enum-known-made-2
     (λ c. search needs)
-    -- tell-two-requires-2
+    -- slice-aggregate-tell-words-2
+    (λ c. search needs)
+    -- tell-words-requires-2
     (λ c κs.
-    let at-made2 = c .before .before .before in
+    let at-made2 = c .before .before .before .before in
     let at-start = at-made2 .before .before .before .before in
-    (at-start .pre .0, at-start .pre .2 _ (at-made2 .made2 .given .1)))
+    (at-start .pre .0, at-start .pre .2 _ (at-made2 .made2 .given .1), omega arith))
     -- enum-known-made-3
     (λ c. search needs)
     -- same-length
@@ -36,17 +41,17 @@ tell-deep-form-spec =
     (λ c. search needs)
     -- returns
     (λ c.
-    let at-tell-two = c .before .before .before .before in
-    let at-made = at-tell-two .before .before .before .before in
-    told-by (ap deepTelling (at-made .made .given .1)) (at-tell-two .tell-two .ensures))
+    let at-tell-words = c .before .before .before .before in
+    let at-made = at-tell-words .before .before .before .before .before in
+    told-by (ap deepTelling (at-made .made .given .1)) (at-tell-words .tell-words .ensures .is))
     -- same-length-3
     (λ c. search needs)
     -- same-length-4
     (λ c. search needs)
     -- returns-2
     (λ c.
-    let at-tell-two2 = c .before .before .before .before in
-    let at-made2 = at-tell-two2 .before .before .before .before in
-    told-by (ap deepTelling (at-made2 .made2 .given .1)) (at-tell-two2 .tell-two2 .ensures))
+    let at-tell-words2 = c .before .before .before .before in
+    let at-made2 = at-tell-words2 .before .before .before .before .before in
+    told-by (ap deepTelling (at-made2 .made2 .given .1)) (at-tell-words2 .tell-words2 .ensures .is))
     -- returns-3
     (λ c. search needs))

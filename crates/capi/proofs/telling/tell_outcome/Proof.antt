@@ -1,6 +1,7 @@
 use Rattle.capi.proofs.Words.{told-by}
 use Rattle.capi.specs.Working.Leaves.{outcomeTelling, NarrowOutcome}
 use mathlib.Core.Path.{ap, subst}
+use native.Mathlib.Omega.{arith}
 use borrow.Author.Needs.{needs}
 use Rattle.capi.proofs.telling.tell_outcome.Statement.{statement}
 use Rattle.capi.proofs.telling.tell_outcome.Tie as tie
@@ -18,11 +19,13 @@ tell-outcome-spec =
     (at-start .pre .0, subst NarrowOutcome (at-made .made .given .1) (at-start .pre .1)))
     -- enum-known-made-2
     (λ c. search needs)
-    -- tell-one-requires
+    -- slice-aggregate-tell-words
+    (λ c. search needs)
+    -- tell-words-requires
     (λ c κs.
-    let at-made2 = c .before .before .before in
+    let at-made2 = c .before .before .before .before in
     let at-start = at-made2 .before .before .before .before in
-    (at-start .pre .0, subst NarrowOutcome (at-made2 .made2 .given .1) (at-start .pre .1)))
+    (at-start .pre .0, subst NarrowOutcome (at-made2 .made2 .given .1) (at-start .pre .1), omega arith))
     -- same-length
     (λ c. search needs)
     -- same-length-2
@@ -38,6 +41,6 @@ tell-outcome-spec =
     (λ c. search needs)
     -- returns-2
     (λ c.
-    let at-tell-one = c .before .before .before .before in
-    let at-made2 = at-tell-one .before .before .before .before in
-    told-by (ap outcomeTelling (at-made2 .made2 .given .1)) (at-tell-one .tell-one .ensures)))
+    let at-tell-words = c .before .before .before .before in
+    let at-made2 = at-tell-words .before .before .before .before .before in
+    told-by (ap outcomeTelling (at-made2 .made2 .given .1)) (at-tell-words .tell-words .ensures .is)))

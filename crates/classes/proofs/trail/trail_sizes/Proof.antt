@@ -1,5 +1,4 @@
 use Rattle.classes.proofs.Refines.Trails.{sizes-marks, sizes-joins, sizes-last}
-use borrow.Author.Needs.{needs}
 use Rattle.classes.proofs.trail.trail_sizes.Statement.{statement}
 use Rattle.classes.proofs.trail.trail_sizes.Tie as tie
 

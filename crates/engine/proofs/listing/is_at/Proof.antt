@@ -1,5 +1,4 @@
 use Rattle.engine.proofs.Refines.Listing.{stands-not, stands-by}
-use native.Mathlib.Omega.{arith}
 use borrow.Author.Needs.{needs}
 use Rattle.engine.proofs.listing.is_at.Statement.{statement}
 use Rattle.engine.proofs.listing.is_at.Tie as tie

@@ -4,8 +4,8 @@ use mathlib.Core.Path.{_≡_, refl}
 use Rattle.normalize.specs.Working.Nodes.{withNodes}
 use Rattle.records.specs.View.{termsView}
 use Rattle.records.specs.Store.{classUp}
-use Rattle.records.specs.Working.Ends.{Ends}
-use Rattle.records.proofs.Ends.{ends-none}
+use Rattle.records.specs.Working.ClimbEnds.{Ends}
+use Rattle.records.proofs.ClimbEnds.{ends-none}
 use Rattle.records.proofs.Lists.{every-at}
 use Rattle.normalize.proofs.Represents.{nodes-turn, nodes-done}
 use native.Mathlib.Omega.{arith}

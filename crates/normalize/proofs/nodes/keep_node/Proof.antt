@@ -1,5 +1,5 @@
 use Rattle.normalize.proofs.Represents.{root-place, keeps-more}
-use Rattle.records.proofs.Ends.{term-place}
+use Rattle.records.proofs.ClimbEnds.{term-place}
 use borrow.Author.Needs.{needs}
 use Rattle.normalize.proofs.nodes.keep_node.Statement.{statement}
 use Rattle.normalize.proofs.nodes.keep_node.Tie as tie

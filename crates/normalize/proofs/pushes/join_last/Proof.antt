@@ -1,4 +1,3 @@
-use Prim.Native.Nat.{_-_}
 use Rattle.normalize.proofs.Refines.Pushing.{pair-constants, join-made, join-stopped}
 use native.Mathlib.Omega.{arith}
 use borrow.Author.Needs.{needs}

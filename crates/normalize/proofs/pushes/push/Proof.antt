@@ -17,17 +17,17 @@ push-spec =
     (λ c.
     let at-start = c .before .before .before .before .before .before .before .before .before in
     push-empty (at-start .pre .0) _ _ _ (c .before .is-empty .ensures) (c .if1 .taken))
-    -- joins-requires
+    -- joins-with-last-requires
     (λ c κs. search needs)
     -- join-last-requires
     (λ c κs.
     let at-if2 = c .before .before .before in
-    let at-joins = at-if2 .before in
-    let at-start = at-joins .before .before .before .before .before .before .before .before .before .before .before .before in (
+    let at-joins-with-last = at-if2 .before in
+    let at-start = at-joins-with-last .before .before .before .before .before .before .before .before .before .before .before .before in (
       at-start .pre .0,
       (
-        sym (at-joins .joins .ensures) ∙ at-if2 .if2 .taken,
-        (joins-some _ _ (at-start .args .list .now) _ (sym (at-joins .joins .ensures) ∙ at-if2 .if2 .taken), (let h = at-start .pre .1 in omega arith)),
+        sym (at-joins-with-last .joins-with-last .ensures) ∙ at-if2 .if2 .taken,
+        (joins-some _ _ (at-start .args .list .now) _ (sym (at-joins-with-last .joins-with-last .ensures) ∙ at-if2 .if2 .taken), (let h = at-start .pre .1 in omega arith)),
       ),
     ))
     -- same-length-2
@@ -59,4 +59,4 @@ push-spec =
     let at-is-empty = at-if1 .before in
     let at-start = at-is-empty .before .before .before .before .before .before .before .before in
     push-plain (at-start .pre .0) _ _ _ (at-is-empty .is-empty .ensures) (at-if1 .if1 .left) (at-start .args .list .now) (at-start .args .count) refl
-    (let h = at-start .pre .1 in omega arith) _ (c .before .joins .ensures) (c .if2 .left)))
+    (let h = at-start .pre .1 in omega arith) _ (c .before .joins-with-last .ensures) (c .if2 .left)))

@@ -1,7 +1,7 @@
 use mathlib.Core.Bool.{true, false}
 use Rattle.records.proofs.Refines.ClassLaws.{seen-up, seen-rooted, root-here, top-here}
 use Rattle.records.proofs.Lists.{failed, passed}
-use Rattle.records.proofs.Ends.{term-place, tested-more}
+use Rattle.records.proofs.ClimbEnds.{term-place, tested-more}
 use mathlib.Core.Path.{sym}
 use Rattle.records.proofs.roots.class_kept_ok.Statement.{statement}
 use Rattle.records.proofs.roots.class_kept_ok.Tie as tie

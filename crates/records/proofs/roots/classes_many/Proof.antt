@@ -3,8 +3,8 @@ use mathlib.Core.Path.{_≡_}
 use Prim.Native.Nat.{suc, _-_, _≤_}
 use Rattle.records.specs.Lists.{allBelow}
 use Rattle.records.specs.Working.Leaves.{classTest}
-use Rattle.records.specs.Working.Ends.{Kept}
-use Rattle.records.proofs.Ends.{kept-none}
+use Rattle.records.specs.Working.ClimbEnds.{Kept}
+use Rattle.records.proofs.ClimbEnds.{kept-none}
 use Rattle.records.specs.View.{termAt, termed}
 use Rattle.records.proofs.Lists.{each-stop, each-turn, each-done, below-zero, within-is}
 use native.Mathlib.Omega.{arith}

@@ -1,5 +1,5 @@
 use Rattle.records.proofs.Climbs.{Climbing, climbing-begin, climbing-turn, climbing-here, climbing-done, view-up}
-use Rattle.records.proofs.Ends.{term-place, climbing-kept}
+use Rattle.records.proofs.ClimbEnds.{term-place, climbing-kept}
 use Rattle.records.specs.View.{termsView}
 use Rattle.records.specs.Working.Leaves.{upIn}
 use Prim.Native.Nat.{_-_}

@@ -29,17 +29,17 @@ returns-3 c =
     let at-start = c .before .before .before .before .before .before .before .before .before .before .before in
     let a = at-start .args in records-chars (a .terms .now) (a .cells .now) (a .chars .now) (a .reasons .now) (a .keys .now) (a .c) _ (c .before .chars-ok .ensures) (c .if3 .taken)
 
-reasons-ok-requires : tie.Need-reasons-ok-requires
-reasons-ok-requires c κs = search needs
+pairs-pass-requires : tie.Need-pairs-pass-requires
+pairs-pass-requires c κs = search needs
 
 returns-4 : tie.Need-returns-4
 returns-4 c =
     let at-start = c .before .before .before .before .before .before .before .before .before .before .before .before .before in
     let a = at-start .args in
-    records-reasons (a .terms .now) (a .cells .now) (a .chars .now) (a .reasons .now) (a .keys .now) (a .c) _ (c .before .reasons-ok .ensures) (c .if4 .taken)
+    records-reasons (a .terms .now) (a .cells .now) (a .chars .now) (a .reasons .now) (a .keys .now) (a .c) _ (c .before .pairs-pass .ensures) (c .if4 .taken)
 
-keys-ok-requires : tie.Need-keys-ok-requires
-keys-ok-requires c κs = search needs
+pairs-pass-requires-2 : tie.Need-pairs-pass-requires-2
+pairs-pass-requires-2 c κs = search needs
 
 returns-5 : tie.Need-returns-5
 returns-5 c =
@@ -51,7 +51,7 @@ returns-5 c =
     let at-terms-ok = at-if1 .before in
     let at-start = at-terms-ok .before .before .before .before .before .before in
     let a = at-start .args in
-    records-is (a .terms .now) (a .cells .now) (a .chars .now) (a .reasons .now) (a .keys .now) (a .c) _ (at-terms-ok .terms-ok .ensures) _ (at-cells-ok .cells-ok .ensures) _ _ _ (at-if1 .if1 .left) (at-if2 .if2 .left) (at-chars-ok .chars-ok .ensures) (at-if3 .if3 .left) (c .before .before .reasons-ok .ensures) (c .before .if4 .left) (c .keys-ok .ensures)
+    records-is (a .terms .now) (a .cells .now) (a .chars .now) (a .reasons .now) (a .keys .now) (a .c) _ (at-terms-ok .terms-ok .ensures) _ (at-cells-ok .cells-ok .ensures) _ _ _ (at-if1 .if1 .left) (at-if2 .if2 .left) (at-chars-ok .chars-ok .ensures) (at-if3 .if3 .left) (c .before .before .pairs-pass .ensures) (c .before .if4 .left) (c .pairs-pass2 .ensures)
 
 pub records-ok-spec : {M : Type 1} → statement M
 records-ok-spec =
@@ -63,7 +63,7 @@ records-ok-spec =
     returns-2
     chars-ok-requires
     returns-3
-    reasons-ok-requires
+    pairs-pass-requires
     returns-4
-    keys-ok-requires
+    pairs-pass-requires-2
     returns-5)

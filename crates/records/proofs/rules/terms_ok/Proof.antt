@@ -1,10 +1,6 @@
-use native.Mathlib.Omega.{arith}
 use borrow.Author.Needs.{needs}
 use Rattle.records.proofs.rules.terms_ok.Statement.{statement}
 use Rattle.records.proofs.rules.terms_ok.Tie as tie
-use Rattle.records.proofs.rules.terms_ok.Reads as reads
-use Rattle.records.proofs.rules.terms_ok.Lts as lts
-use Rattle.records.proofs.rules.terms_pass.Reads as terms-pass-reads
 
 -- src/rules.rt:420:51
 slice-aggregate-terms-pass : tie.Need-slice-aggregate-terms-pass

@@ -6,10 +6,10 @@ use Rattle.stores.proofs.changing.fill.Statement.{statement}
 use Rattle.stores.proofs.changing.fill.Tie as tie
 
 abbrev Inv-loop : tie.InvT-loop
-Inv-loop s₀ from n apart x more at₀ y₀ i₀ s at y i = length s ≡ length s₀
+Inv-loop s₀ f at₀ y₀ i₀ s at y i = length s ≡ length s₀
 
 abbrev μ-loop : tie.MeasureT-loop
-μ-loop s₀ from n apart x more at₀ y₀ i₀ s at y i = n - i
+μ-loop s₀ f at₀ y₀ i₀ s at y i = f .many - i
 
 pub fill-spec : {M : Type 1} → statement M
 fill-spec =

@@ -5,14 +5,14 @@ use borrow.Author.Needs.{needs}
 use Rattle.wordeq.proofs.heads.put_atoms.Statement.{statement}
 use Rattle.wordeq.proofs.heads.put_atoms.Tie as tie
 
-is-full-requires : tie.Need-is-full-requires
-is-full-requires c κs = let at-start = c .before .before .before .before .before .before .before in texts-of (at-start .pre .0)
+is-full-unchecked-requires : tie.Need-is-full-unchecked-requires
+is-full-unchecked-requires c κs = let at-start = c .before .before .before .before .before .before .before in texts-of (at-start .pre .0)
 
 first-letter-requires : tie.Need-first-letter-requires
 first-letter-requires c κs =
-    let at-is-full = c .before .before .before in
-    let at-start = at-is-full .before .before .before .before .before .before .before .before in
-    (readIn-of (at-start .pre .0), sym (at-is-full .is-full .ensures) ∙ c .before .before .if1 .taken)
+    let at-is-full-unchecked = c .before .before .before in
+    let at-start = at-is-full-unchecked .before .before .before .before .before .before .before .before in
+    (readIn-of (at-start .pre .0), sym (at-is-full-unchecked .is-full-unchecked .ensures) ∙ c .before .before .if1 .taken)
 
 split-character-unchecked-requires : tie.Need-split-character-unchecked-requires
 split-character-unchecked-requires c κs =
@@ -39,19 +39,19 @@ returns c =
     let at-split-character-unchecked = c .before .before .before .before .before .before .before .before in
     let at-first-letter = at-split-character-unchecked .before .before .before .before .before in
     let at-if1 = at-first-letter .before .before .before in
-    let at-is-full = at-if1 .before in
-    let at-start = at-is-full .before .before .before .before .before .before .before .before in
-    atoms-right (at-start .args .a) (at-start .args .b) _ _ (full-at (at-start .args .b) (at-start .pre .0) (at-is-full .is-full .ensures) (at-if1 .if1 .taken))
+    let at-is-full-unchecked = at-if1 .before in
+    let at-start = at-is-full-unchecked .before .before .before .before .before .before .before .before in
+    atoms-right (at-start .args .a) (at-start .args .b) _ _ (full-at (at-start .args .b) (at-start .pre .0) (at-is-full-unchecked .is-full-unchecked .ensures) (at-if1 .if1 .taken))
     (at-first-letter .first-letter .ensures) (at-split-character-unchecked .split-character-unchecked .ensures)
 
-is-full-requires-2 : tie.Need-is-full-requires-2
-is-full-requires-2 c κs = let at-start = c .before .before .before .before .before .before .before .before .before .before in texts-of (at-start .pre .0)
+is-full-unchecked-requires-2 : tie.Need-is-full-unchecked-requires-2
+is-full-unchecked-requires-2 c κs = let at-start = c .before .before .before .before .before .before .before .before .before .before in texts-of (at-start .pre .0)
 
 first-letter-requires-2 : tie.Need-first-letter-requires-2
 first-letter-requires-2 c κs =
-    let at-is-full2 = c .before .before .before in
-    let at-start = at-is-full2 .before .before .before .before .before .before .before .before .before .before .before in
-    (readIn-of (at-start .pre .0), sym (at-is-full2 .is-full2 .ensures) ∙ c .before .before .if2 .taken)
+    let at-is-full-unchecked2 = c .before .before .before in
+    let at-start = at-is-full-unchecked2 .before .before .before .before .before .before .before .before .before .before .before in
+    (readIn-of (at-start .pre .0), sym (at-is-full-unchecked2 .is-full-unchecked2 .ensures) ∙ c .before .before .if2 .taken)
 
 split-character-unchecked-requires-2 : tie.Need-split-character-unchecked-requires-2
 split-character-unchecked-requires-2 c κs =
@@ -78,10 +78,10 @@ returns-2 c =
     let at-split-character-unchecked2 = c .before .before .before .before .before .before .before .before in
     let at-first-letter2 = at-split-character-unchecked2 .before .before .before .before .before in
     let at-if2 = at-first-letter2 .before .before .before in
-    let at-is-full2 = at-if2 .before in
-    let at-start = at-is-full2 .before .before .before .before .before .before .before .before .before .before .before in
+    let at-is-full-unchecked2 = at-if2 .before in
+    let at-start = at-is-full-unchecked2 .before .before .before .before .before .before .before .before .before .before .before in
     atoms-left (at-start .args .a) (at-start .args .b) (at-start .pre .1 .0) _ _
-    (full-at (at-start .args .a) (at-start .pre .0) (at-is-full2 .is-full2 .ensures) (at-if2 .if2 .taken)) (at-first-letter2 .first-letter2 .ensures)
+    (full-at (at-start .args .a) (at-start .pre .0) (at-is-full-unchecked2 .is-full-unchecked2 .ensures) (at-if2 .if2 .taken)) (at-first-letter2 .first-letter2 .ensures)
     (at-split-character-unchecked2 .split-character-unchecked2 .ensures)
 
 split-heads-unchecked-requires : tie.Need-split-heads-unchecked-requires
@@ -105,18 +105,18 @@ returns-3 : tie.Need-returns-3
 returns-3 c =
     let at-split-heads-unchecked = c .before .before .before .before .before .before .before .before in
     let at-if2 = at-split-heads-unchecked .before .before .before .before .before in
-    let at-is-full2 = at-if2 .before in
-    let at-if1 = at-is-full2 .before .before in
-    let at-is-full = at-if1 .before in
-    let at-start = at-is-full .before .before .before .before .before .before .before .before in
-    atoms-heads (at-start .args .a) (at-start .args .b) (full-at (at-start .args .b) (at-start .pre .0) (at-is-full .is-full .ensures) (at-if1 .if1 .left))
-    (full-at (at-start .args .a) (at-start .pre .0) (at-is-full2 .is-full2 .ensures) (at-if2 .if2 .left)) (at-split-heads-unchecked .split-heads-unchecked .ensures)
+    let at-is-full-unchecked2 = at-if2 .before in
+    let at-if1 = at-is-full-unchecked2 .before .before in
+    let at-is-full-unchecked = at-if1 .before in
+    let at-start = at-is-full-unchecked .before .before .before .before .before .before .before .before in
+    atoms-heads (at-start .args .a) (at-start .args .b) (full-at (at-start .args .b) (at-start .pre .0) (at-is-full-unchecked .is-full-unchecked .ensures) (at-if1 .if1 .left))
+    (full-at (at-start .args .a) (at-start .pre .0) (at-is-full-unchecked2 .is-full-unchecked2 .ensures) (at-if2 .if2 .left)) (at-split-heads-unchecked .split-heads-unchecked .ensures)
 
 pub put-atoms-spec : {M : Type 1} → statement M
 put-atoms-spec =
     tie.close
     (tie.spec
-    is-full-requires
+    is-full-unchecked-requires
     first-letter-requires
     split-character-unchecked-requires
     same-length
@@ -124,7 +124,7 @@ put-atoms-spec =
     same-length-3
     same-length-4
     returns
-    is-full-requires-2
+    is-full-unchecked-requires-2
     first-letter-requires-2
     split-character-unchecked-requires-2
     same-length-5

@@ -1,6 +1,6 @@
 use mathlib.Core.Path.{refl}
 use Rattle.records.proofs.Kept.{key-rule}
-use Rattle.wordeq.proofs.Refines.Leaving.{added-ready}
+use Rattle.records.proofs.Sequence.{added-ready}
 use Rattle.wordeq.proofs.Refines.Heads.{opposite-kept, new-pair, new-below, new-small, new-done, new-stop, new-stop-2}
 use native.Mathlib.Omega.{arith}
 use borrow.Author.Needs.{needs}

@@ -2,7 +2,7 @@ use lib.ListN.{getD}
 use mathlib.Core.Path.{sym, ap, _∙_}
 use mir.ValLaws.{toZ-ofZ}
 use mir.Syntax.{w32}
-use Rattle.wordeq.specs.Wordeq.{isGuard}
+use Rattle.sides.specs.Wordeq.{isGuard}
 use Rattle.records.proofs.Lists.{or-left}
 use Rattle.records.specs.View.{lent}
 use Rattle.wordeq.proofs.Refines.Heads.{readIn-of, left-none, right-none, heads-clash, heads-constant, heads-saturated, heads-new, pair-of, key-read}
@@ -27,8 +27,8 @@ shared-slice-read-a c = search needs
 shared-slice-read-b : tie.Need-shared-slice-read-b
 shared-slice-read-b c = search needs
 
-constants-differ-requires : tie.Need-constants-differ-requires
-constants-differ-requires c κs =
+constants-differ-unchecked-requires : tie.Need-constants-differ-unchecked-requires
+constants-differ-unchecked-requires c κs =
     let at-start = c .before .before .before .before .before .before .before .before .before .before .before .before .before .before in
     readIn-of (at-start .pre .0)
 
@@ -44,7 +44,7 @@ returns-3 c =
     let at-if1 = at-if2 .before in
     let at-start = at-if1 .before .before .before .before .before .before .before .before .before in
     heads-clash (at-start .pre .0) (at-start .args .guard) (at-start .args .needed) (at-start .args .lhs .now) (at-start .args .rhs .now) (at-if1 .if1 .left) (at-if2 .if2 .left)
-    (sym (c .before .constants-differ .ensures) ∙ c .if3 .taken)
+    (sym (c .before .constants-differ-unchecked .ensures) ∙ c .if3 .taken)
 
 both-constant-requires : tie.Need-both-constant-requires
 both-constant-requires c κs = search needs
@@ -58,12 +58,12 @@ same-length-4 c = search needs
 returns-4 : tie.Need-returns-4
 returns-4 c =
     let at-if3 = c .before .before .before in
-    let at-constants-differ = at-if3 .before in
-    let at-if2 = at-constants-differ .before .before .before .before .before in
+    let at-constants-differ-unchecked = at-if3 .before in
+    let at-if2 = at-constants-differ-unchecked .before .before .before .before .before in
     let at-if1 = at-if2 .before in
     let at-start = at-if1 .before .before .before .before .before .before .before .before .before in
     heads-constant (at-start .pre .0) (at-start .args .guard) (at-start .args .needed) (at-start .args .lhs .now) (at-start .args .rhs .now) (at-if1 .if1 .left) (at-if2 .if2 .left)
-    (sym (at-constants-differ .constants-differ .ensures) ∙ at-if3 .if3 .left) (sym (c .before .both-constant .ensures) ∙ c .if4 .taken)
+    (sym (at-constants-differ-unchecked .constants-differ-unchecked .ensures) ∙ at-if3 .if3 .left) (sym (c .before .both-constant .ensures) ∙ c .if4 .taken)
 
 same-length-5 : tie.Need-same-length-5
 same-length-5 c = search needs
@@ -74,12 +74,12 @@ same-length-6 c = search needs
 returns-5 : tie.Need-returns-5
 returns-5 c =
     let at-if3 = c .before .before .before .before in
-    let at-constants-differ = at-if3 .before in
-    let at-if2 = at-constants-differ .before .before .before .before .before in
+    let at-constants-differ-unchecked = at-if3 .before in
+    let at-if2 = at-constants-differ-unchecked .before .before .before .before .before in
     let at-if1 = at-if2 .before in
     let at-start = at-if1 .before .before .before .before .before .before .before .before .before in
     heads-saturated (at-start .pre .0) (at-start .args .guard) (at-start .args .needed) (at-start .args .lhs .now) (at-start .args .rhs .now) (at-if1 .if1 .left) (at-if2 .if2 .left)
-    (sym (at-constants-differ .constants-differ .ensures) ∙ at-if3 .if3 .left) (sym (c .before .before .both-constant .ensures) ∙ c .before .if4 .left)
+    (sym (at-constants-differ-unchecked .constants-differ-unchecked .ensures) ∙ at-if3 .if3 .left) (sym (c .before .before .both-constant .ensures) ∙ c .before .if4 .left)
     (or-left _ _ (c .if5 .taken))
 
 is-key-unchecked-requires : tie.Need-is-key-unchecked-requires
@@ -100,12 +100,12 @@ returns-6 c =
     let at-if4 = at-if5 .before in
     let at-both-constant = at-if4 .before in
     let at-if3 = at-both-constant .before .before in
-    let at-constants-differ = at-if3 .before in
-    let at-if2 = at-constants-differ .before .before .before .before .before in
+    let at-constants-differ-unchecked = at-if3 .before in
+    let at-if2 = at-constants-differ-unchecked .before .before .before .before .before in
     let at-if1 = at-if2 .before in
     let at-start = at-if1 .before .before .before .before .before .before .before .before .before in
     heads-saturated (at-start .pre .0) (at-start .args .guard) (at-start .args .needed) (at-start .args .lhs .now) (at-start .args .rhs .now) (at-if1 .if1 .left) (at-if2 .if2 .left)
-    (sym (at-constants-differ .constants-differ .ensures) ∙ at-if3 .if3 .left) (sym (at-both-constant .both-constant .ensures) ∙ at-if4 .if4 .left)
+    (sym (at-constants-differ-unchecked .constants-differ-unchecked .ensures) ∙ at-if3 .if3 .left) (sym (at-both-constant .both-constant .ensures) ∙ at-if4 .if4 .left)
     (key-read (lent (at-start .args .terms .now) (at-start .args .cells .now) (at-start .args .chars .now) (at-start .args .reasons .now) (at-start .args .keys .now))
     (at-start .args .c) (getD (at-start .args .lhs .now) 0 0) (getD (at-start .args .rhs .now) 0 0) (c .before .is-key-unchecked .ensures) (at-if5 .if5 .left) (c .if6 .taken))
 
@@ -147,13 +147,13 @@ returns-7 c =
     let at-if4 = at-if5 .before in
     let at-both-constant = at-if4 .before in
     let at-if3 = at-both-constant .before .before in
-    let at-constants-differ = at-if3 .before in
-    let at-if2 = at-constants-differ .before .before .before .before .before in
+    let at-constants-differ-unchecked = at-if3 .before in
+    let at-if2 = at-constants-differ-unchecked .before .before .before .before .before in
     let at-if1 = at-if2 .before in
     let at-start = at-if1 .before .before .before .before .before .before .before .before .before in
     heads-new {m = (lent (at-start .args .terms .now) (at-start .args .cells .now) (at-start .args .chars .now) (at-start .args .reasons .now) (at-start .args .keys .now))}
     {c = at-start .args .c} (at-start .pre .0) (at-start .args .guard) (at-start .args .needed) (at-start .args .lhs .now) (at-start .args .rhs .now) (at-if1 .if1 .left) (at-if2 .if2 .left)
-    (sym (at-constants-differ .constants-differ .ensures) ∙ at-if3 .if3 .left) (sym (at-both-constant .both-constant .ensures) ∙ at-if4 .if4 .left)
+    (sym (at-constants-differ-unchecked .constants-differ-unchecked .ensures) ∙ at-if3 .if3 .left) (sym (at-both-constant .both-constant .ensures) ∙ at-if4 .if4 .left)
     (pair-of _ _ _ (at-start .pre .1 .0) (at-start .pre .1 .1 .0) (at-if1 .if1 .left) (at-if2 .if2 .left) (sym (at-both-constant .both-constant .ensures) ∙ at-if4 .if4 .left))
     (key-read (lent (at-start .args .terms .now) (at-start .args .cells .now) (at-start .args .chars .now) (at-start .args .reasons .now) (at-start .args .keys .now))
     (at-start .args .c) (getD (at-start .args .lhs .now) 0 0) (getD (at-start .args .rhs .now) 0 0) (at-is-key-unchecked .is-key-unchecked .ensures) (at-if5 .if5 .left)
@@ -168,7 +168,7 @@ split-unchecked-spec =
     returns-2
     shared-slice-read-a
     shared-slice-read-b
-    constants-differ-requires
+    constants-differ-unchecked-requires
     same-length
     same-length-2
     returns-3

@@ -1,6 +1,6 @@
+use Rattle.records.proofs.Sequence.{made-ready}
 use Rattle.wordeq.proofs.Refines.Propagate.{empties-pairs, empties-done, empties-stop}
-use Rattle.wordeq.proofs.Refines.Leaving.{made-ready}
-use Rattle.wordeq.proofs.Refines.Pairs.{ready-readable}
+use Rattle.sides.proofs.SideReady.{ready-readable}
 use Rattle.wordeq.proofs.Refines.SplitAtoms.{no-characters}
 use borrow.Author.Needs.{needs}
 use Rattle.wordeq.proofs.propagate.empties_unchecked.Statement.{statement}

@@ -17,9 +17,9 @@ is-alias-spec =
     let at-start = c .before .before .before .before .before .before in
     aliased-right (readIn (at-start .args .terms .now) (at-start .args .chars .now) (at-start .args .c)) (at-start .args .l .now) (at-start .args .r .now)
     (c .before .if1 .left) (c .if2 .taken))
-    -- shared-slice-read-is-plain
+    -- shared-slice-read-is-plain-unchecked
     (λ c. search needs)
-    -- is-plain-requires
+    -- is-plain-unchecked-requires
     (λ c κs. search needs)
     -- returns-3
     (λ c.
@@ -27,16 +27,16 @@ is-alias-spec =
     let at-if1 = at-if2 .before in
     let at-start = at-if1 .before .before .before .before .before in
     aliased-first (readIn (at-start .args .terms .now) (at-start .args .chars .now) (at-start .args .c)) (at-start .args .l .now) (at-start .args .r .now) (at-if1 .if1 .left)
-    (at-if2 .if2 .left) _ (c .before .is-plain .ensures) (c .if3 .taken))
-    -- shared-slice-read-is-plain-2
+    (at-if2 .if2 .left) _ (c .before .is-plain-unchecked .ensures) (c .if3 .taken))
+    -- shared-slice-read-is-plain-unchecked-2
     (λ c. search needs)
-    -- is-plain-requires-2
+    -- is-plain-unchecked-requires-2
     (λ c κs. search needs)
     -- returns-4
     (λ c.
-    let at-is-plain = c .before .before .before in
-    let at-if2 = at-is-plain .before .before in
+    let at-is-plain-unchecked = c .before .before .before in
+    let at-if2 = at-is-plain-unchecked .before .before in
     let at-if1 = at-if2 .before in
     let at-start = at-if1 .before .before .before .before .before in
     aliased-last (readIn (at-start .args .terms .now) (at-start .args .chars .now) (at-start .args .c)) (at-start .args .l .now) (at-start .args .r .now) (at-if1 .if1 .left)
-    (at-if2 .if2 .left) _ (at-is-plain .is-plain .ensures) (c .before .before .if3 .left) _ (c .is-plain2 .ensures)))
+    (at-if2 .if2 .left) _ (at-is-plain-unchecked .is-plain-unchecked .ensures) (c .before .before .if3 .left) _ (c .is-plain-unchecked2 .ensures)))

@@ -1,6 +1,6 @@
 use Rattle.records.specs.View.{readIn}
 use Rattle.wordeq.proofs.Refines.Propagate.{linked-first, linked-turn, linked-none}
-use Rattle.wordeq.specs.Wordeq.{same}
+use Rattle.sides.specs.Wordeq.{same}
 use Rattle.records.proofs.Lists.{every-at}
 use Rattle.records.specs.Lists.{firstOf}
 use lib.ListN.{length, drop}

@@ -1,6 +1,6 @@
 use Rattle.wordeq.proofs.Refines.Choices.{aliased-lengths, emptied-bare, assigned-length, assigned-both, choice-alias, choice-left, choice-right, choice-first, choice-last, choice-none}
 use Rattle.records.proofs.ListLaws.{list-short}
-use Rattle.wordeq.proofs.Refines.SideReady.{ready-readIn}
+use Rattle.sides.proofs.SideReady.{ready-readIn}
 use Rattle.records.specs.View.{lent, storeOf, readIn, termed}
 use native.Mathlib.Omega.{arith}
 use borrow.Author.Needs.{needs}

@@ -1,7 +1,7 @@
 use Rattle.wordeq.specs.Working.Resolving.{closing}
 use Rattle.wordeq.proofs.Refines.ResolveCalls.{split-same}
-use Rattle.wordeq.specs.declared.StepResult.the-variants as step
-use Rattle.wordeq.specs.declared.StepResult.{StepResult}
+use Rattle.sides.specs.declared.StepResult.the-variants as step
+use Rattle.sides.specs.declared.StepResult.{StepResult}
 use Rattle.records.specs.declared.State.{State}
 use mir.ValLaws.{toZ-ofZ}
 use mir.Syntax.{w32}

@@ -1,6 +1,6 @@
 use Rattle.wordeq.specs.Working.Resolving.{soft}
 use Rattle.wordeq.proofs.Refines.ResolveCalls.{split-same}
-use Rattle.wordeq.specs.declared.StepResult.{StepResult}
+use Rattle.sides.specs.declared.StepResult.{StepResult}
 use mathlib.Core.Path.{refl}
 use mir.ValLaws.{toZ-ofZ}
 use mir.Syntax.{w32}

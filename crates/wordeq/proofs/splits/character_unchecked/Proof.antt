@@ -1,5 +1,4 @@
-use Rattle.records.proofs.Sequence.{grows-constant}
-use Rattle.wordeq.proofs.Refines.Leaving.{made-ready, made-stays}
+use Rattle.records.proofs.Sequence.{grows-constant, made-ready, made-stays}
 use Rattle.wordeq.proofs.Refines.SplitAtoms.{one-character, character-string, character-done, character-stop}
 use borrow.Author.Needs.{needs}
 use Rattle.wordeq.proofs.splits.character_unchecked.Statement.{statement}

@@ -1,4 +1,4 @@
-use Rattle.wordeq.proofs.Refines.Leaving.{made-ready}
+use Rattle.records.proofs.Sequence.{made-ready}
 use Rattle.wordeq.proofs.Refines.SplitAtoms.{no-characters, empty-sides, empty-done, empty-stop}
 use borrow.Author.Needs.{needs}
 use Rattle.wordeq.proofs.splits.empty_unchecked.Statement.{statement}

@@ -1,5 +1,4 @@
-use Rattle.records.proofs.Sequence.{grows-length}
-use Rattle.wordeq.proofs.Refines.Leaving.{made-ready, made-stays}
+use Rattle.records.proofs.Sequence.{grows-length, made-ready, made-stays}
 use Rattle.wordeq.proofs.Refines.SplitAtoms.{lengths-sides, lengths-done, lengths-stop, lengths-stop-2}
 use borrow.Author.Needs.{needs}
 use Rattle.wordeq.proofs.splits.lengths_unchecked.Statement.{statement}

@@ -1,4 +1,4 @@
-use Rattle.wordeq.proofs.Refines.Leaving.{made-ready}
+use Rattle.records.proofs.Sequence.{made-ready}
 use Rattle.wordeq.proofs.Refines.SplitAtoms.{prefix-parts, prefix-sides, prefix-done, prefix-stop, prefix-stop-2}
 use mathlib.Core.Path.{_∙_}
 use borrow.Author.Needs.{needs}

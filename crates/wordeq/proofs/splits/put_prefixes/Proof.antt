@@ -1,4 +1,4 @@
-use Rattle.wordeq.proofs.Refines.Leaving.{made-ready, made-stays}
+use Rattle.records.proofs.Sequence.{made-ready, made-stays}
 use Rattle.wordeq.proofs.Refines.SplitAtoms.{grows-prefix, prefixes-done, prefixes-stop, prefixes-stop-2}
 use lib.ListN.{length-set}
 use native.Mathlib.Omega.{arith}

@@ -1,4 +1,4 @@
-use Rattle.wordeq.proofs.Refines.Leaving.{made-ready, made-stays}
+use Rattle.records.proofs.Sequence.{made-ready, made-stays}
 use Rattle.wordeq.proofs.Refines.SplitAtoms.{grows-lengths, heads-done, heads-stop}
 use borrow.Author.Needs.{needs}
 use Rattle.wordeq.proofs.splits.split_heads_unchecked.Statement.{statement}

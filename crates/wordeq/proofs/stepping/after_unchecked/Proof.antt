@@ -1,8 +1,8 @@
 use mathlib.Core.Path.{ap, _∙_}
-use Rattle.wordeq.specs.Wordeq.{isGuard}
+use Rattle.sides.specs.Wordeq.{isGuard}
 use mir.Facts.{toZ-ofZ}
 use Rattle.wordeq.proofs.Refines.Steps.{after-early, after-known, after-tiled, after-split}
-use Rattle.wordeq.proofs.Refines.Trying.{passed-on, conflicts-rises, propagates-rises, tiles-rises, last-of}
+use Rattle.sides.proofs.Trying.{passed-on, conflicts-rises, propagates-rises, tiles-rises, last-of}
 use borrow.Author.Needs.{needs}
 use Rattle.wordeq.proofs.stepping.after_unchecked.Statement.{statement}
 use Rattle.wordeq.proofs.stepping.after_unchecked.Tie as tie

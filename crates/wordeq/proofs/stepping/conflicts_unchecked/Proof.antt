@@ -1,6 +1,6 @@
 use Rattle.wordeq.proofs.Refines.Steps.{lined-readIn, conflicts-found, conflicts-none}
-use Rattle.wordeq.proofs.Refines.Trying.{passed-on, both-rises, last-of, else-last}
-use Rattle.wordeq.specs.Wordeq.{constants}
+use Rattle.sides.proofs.Trying.{passed-on, both-rises, last-of, else-last}
+use Rattle.sides.specs.Wordeq.{constants}
 use borrow.Author.Needs.{needs}
 use Rattle.wordeq.proofs.stepping.conflicts_unchecked.Statement.{statement}
 use Rattle.wordeq.proofs.stepping.conflicts_unchecked.Tie as tie
@@ -21,7 +21,7 @@ conflicts-unchecked-spec =
     let at-start = at-occurs-unchecked .before .before .before .before .before .before .before .before .before in
     else-last (constants (at-start .args .lhs .now) (at-start .args .rhs .now)) (last-of (at-occurs-unchecked .occurs-unchecked .result) (c .match .keys2))
     (at-occurs-unchecked .occurs-unchecked .ensures))
-    -- constants-requires
+    -- constants-unchecked-requires
     (λ c κs.
     let at-occurs-unchecked = c .before .before .before .before .before in
     let at-start = at-occurs-unchecked .before .before .before .before .before .before .before .before .before in
@@ -35,8 +35,8 @@ conflicts-unchecked-spec =
     let at-o = c .before .before .before in
     let at-occurs-unchecked = at-o .before .before .before .before in
     let at-start = at-occurs-unchecked .before .before .before .before .before .before .before .before .before in
-    conflicts-found (at-start .args .lhs .now) (at-start .args .rhs .now) (at-occurs-unchecked .occurs-unchecked .ensures) (at-o .o .given .1) (c .before .constants .result)
-    (c .before .constants .ensures) (c .if1 .taken))
+    conflicts-found (at-start .args .lhs .now) (at-start .args .rhs .now) (at-occurs-unchecked .occurs-unchecked .ensures) (at-o .o .given .1) (c .before .constants-unchecked .result)
+    (c .before .constants-unchecked .ensures) (c .if1 .taken))
     -- same-length-3
     (λ c. search needs)
     -- returns-3
@@ -44,5 +44,5 @@ conflicts-unchecked-spec =
     let at-o = c .before .before .before in
     let at-occurs-unchecked = at-o .before .before .before .before in
     let at-start = at-occurs-unchecked .before .before .before .before .before .before .before .before .before in
-    conflicts-none (at-start .args .lhs .now) (at-start .args .rhs .now) (at-occurs-unchecked .occurs-unchecked .ensures) (at-o .o .given .1) (c .before .constants .result)
-    (c .before .constants .ensures) (c .if1 .left)))
+    conflicts-none (at-start .args .lhs .now) (at-start .args .rhs .now) (at-occurs-unchecked .occurs-unchecked .ensures) (at-o .o .given .1) (c .before .constants-unchecked .result)
+    (c .before .constants-unchecked .ensures) (c .if1 .left)))

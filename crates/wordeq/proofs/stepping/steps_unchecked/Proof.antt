@@ -1,8 +1,8 @@
 use mathlib.Core.Path.{ap, _∙_}
-use Rattle.wordeq.specs.Wordeq.{isGuard}
+use Rattle.sides.specs.Wordeq.{isGuard}
 use mir.Facts.{toZ-ofZ}
 use Rattle.wordeq.proofs.Refines.Steps.{lined-strings, parts-inside, parts-fit, parts-lined, parts-apart, steps-refused, steps-bare, steps-after}
-use Rattle.wordeq.proofs.Refines.Trying.{lined}
+use Rattle.sides.proofs.Trying.{lined}
 use borrow.Author.Needs.{needs}
 use Rattle.wordeq.proofs.stepping.steps_unchecked.Statement.{statement}
 use Rattle.wordeq.proofs.stepping.steps_unchecked.Tie as tie

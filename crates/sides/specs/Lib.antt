@@ -1,0 +1,5 @@
+pub mod Wordeq
+pub mod Meaning
+pub mod Repeated
+pub mod RepeatedCases
+pub mod Working
