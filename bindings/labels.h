@@ -6,6 +6,13 @@
  * marks and going back ask for a state of eight words; the other calls look at six and leave the rest alone. Each call audits the store first,
  * and after result 0 the store passes, and marks that passed pass still: calls can be made one after the other, with no labels_audit between.
  *
+ * THE INDEX. Words 0 to 63 of the terms' slice are the heads of 64 buckets; the record of term t comes at 64 + 9 t, and its ninth word is the
+ * next term of its bucket. 0 ends a chain, and each chain ascends. The bucket of a term is the remainder by 64 of its kind plus all its
+ * characters or all its parts' numbers. A store of no terms has 64 heads of 0 (`labels_clear_heads`). The calls keep the index: a new term
+ * goes to the end of its chain, and a call that is refused while it works takes its terms out again. Heads or ninth words that are not those
+ * of the counted terms are refused (12). So the count of terms cannot be put back to undo a call: heads and chains would name terms that are
+ * not counted any more. A refused call leaves nothing to undo; to take back the terms that an answered call appended is not offered yet.
+ *
  * A STORE. `labels_store` keeps all of that together, and each plain call has a `labels_store_..` beside it that takes the store and its own
  * arguments alone. They are written in C below and only pass words on; what is proved is the plain call behind each.
  *
@@ -31,10 +38,10 @@ extern "C" {
 #endif
 
 /* The version of this header, of the Rust crate and of CHANGELOG.md. */
-#define LABELS_VERSION "0.9.1"
+#define LABELS_VERSION "0.10.0"
 #define LABELS_VERSION_MAJOR 0
-#define LABELS_VERSION_MINOR 9
-#define LABELS_VERSION_PATCH 1
+#define LABELS_VERSION_MINOR 10
+#define LABELS_VERSION_PATCH 0
 
 /* The limits of the counts. */
 #define LABELS_MAX_TERMS 512
@@ -50,13 +57,19 @@ extern "C" {
 #define LABELS_MAX_CHARACTER 0x2FFFF
 
 /* The words of a term, of a cell, and of a pair: a reason or a key. A character has one. */
-#define LABELS_TERM_WIDTH 8
+#define LABELS_TERM_WIDTH 9
 #define LABELS_CELL_WIDTH 3
 #define LABELS_PAIR_WIDTH 2
 
+/* The heads of the index, which stand in the terms' slice before record 0. */
+#define LABELS_BUCKETS 64
+
+/* Where a word of term t stands in the terms' slice, the word by its number in the record. */
+#define LABELS_TERM_PLACE(t, word) ((size_t)LABELS_BUCKETS + (size_t)LABELS_TERM_WIDTH * (size_t)(t) + (size_t)(word))
+
 /* The words of each slice at its limit; a shorter slice has less room, and a longer one no more. Terms and cells have a record 0 that takes
  * room and is never read or written. */
-#define LABELS_TERM_WORDS (LABELS_TERM_WIDTH * (LABELS_MAX_TERMS + 1))
+#define LABELS_TERM_WORDS (LABELS_BUCKETS + LABELS_TERM_WIDTH * (LABELS_MAX_TERMS + 1))
 #define LABELS_CELL_WORDS (LABELS_CELL_WIDTH * (LABELS_MAX_CELLS + 1))
 #define LABELS_CHAR_WORDS LABELS_MAX_CHARS
 #define LABELS_REASON_WORDS (LABELS_PAIR_WIDTH * LABELS_MAX_REASONS)
@@ -83,6 +96,19 @@ enum labels_count {
     LABELS_COUNT_NAMES = 5, /* the name counter */
     LABELS_COUNT_MARKS = 6,
     LABELS_COUNT_JOINS = 7
+};
+
+/* The words of a term's record. */
+enum labels_term_word {
+    LABELS_TERM_KIND = 0,
+    LABELS_TERM_FIRST = 1,
+    LABELS_TERM_SECOND = 2,
+    LABELS_TERM_CLASS_PARENT = 3,
+    LABELS_TERM_FOREST_PARENT = 4,
+    LABELS_TERM_LABEL_KIND = 5,
+    LABELS_TERM_LABEL_VALUE = 6,
+    LABELS_TERM_STAMP = 7,
+    LABELS_TERM_NEXT = 8 /* the next term of its bucket, or 0 */
 };
 
 /* The kinds of a reason, the first of its two words; the second is its number, below 2^31. */
@@ -128,8 +154,8 @@ enum labels_fit_word {
 /* Its cases: m and r, or a shortage. */
 enum labels_fit_case { LABELS_FIT_SPANS = 0, LABELS_FIT_SHORT = 1 };
 
-/* Why a call was refused. After the first five and the last two no word of any slice is written; after the others the counts and every counted
- * record are as they were. */
+/* Why a call was refused. After 1 to 5 and from 10 on no word of any slice is written; after the others the counts, every counted record and
+ * the heads are as they were. 12 is due after 4 and before 5. */
 enum labels_refusal {
     LABELS_ACCEPTED = 0,
     LABELS_REFUSED_SIZES = 1,
@@ -142,7 +168,8 @@ enum labels_refusal {
     LABELS_REFUSED_ROOM = 8,
     LABELS_REFUSED_NAMES = 9,
     LABELS_REFUSED_MARK = 10,
-    LABELS_REFUSED_FORM = 11
+    LABELS_REFUSED_FORM = 11,
+    LABELS_REFUSED_INDEX = 12
 };
 
 /* A refusal's text, never null. */
@@ -172,6 +199,8 @@ static inline const char *labels_refusal_text(uint32_t refusal) {
         return "a mark that is not standing, or a 65th";
     case LABELS_REFUSED_FORM:
         return "no side of constants against one variable class";
+    case LABELS_REFUSED_INDEX:
+        return "a head or a chain of the index that the terms do not give";
     default:
         return "a refusal that no call gives";
     }
@@ -284,10 +313,10 @@ uint32_t labels_nf_equal_explain(LABELS_WORDS(state), LABELS_READ(terms), LABELS
  * The state has eight words here: word 6 counts the marks that stand, at most 64, and word 7 the joins recorded since the first of them.
  * Both are 0 at the start. `marks` has 1,597 words or more, which the caller keeps between the calls and does not write: words 0 to 63 are
  * the marks', then three words for each join recorded. What they hold above the two counts is free. A state or an answer under eight words,
- * a shorter `marks`, a count above 64 or 511 is refusal 1. Store and marks are audited first: refusals 2 to 4 are the store's, and 3 is also
- * that going back to a standing mark would give classes that fail, and that counts and words are such as no call leaves: joins counted while
- * no mark stands (words 6 and 7 are 0 and 1), a word other than 0 for the first mark, marks' words that fall or pass the count of joins. After
- * a refusal no word of any slice is written. */
+ * a shorter `marks`, a count above 64 or 511 is refusal 1. Store and marks are audited first: refusals 2 to 4 and 12 are the store's, and 3
+ * is also that going back to a standing mark would give classes that fail, and that counts and words are such as no call leaves: joins counted
+ * while no mark stands (words 6 and 7 are 0 and 1), a word other than 0 for the first mark, marks' words that fall or pass the count of joins.
+ * After a refusal no word of any slice is written. */
 
 /* Joins the classes of two string terms under a reason, kind 1 asserted or 2 interface and its number below 2^31: one forest edge between a
  * and b with that kind, number and stamp 0; every other edge keeps its ends, kind, value and stamp. Word 0 of the answer is 1, or 0 where the
@@ -301,10 +330,10 @@ uint32_t labels_join(LABELS_WORDS(state), LABELS_WORDS(terms), LABELS_READ(cells
 uint32_t labels_set_mark(LABELS_WORDS(state), LABELS_READ(terms), LABELS_READ(cells), LABELS_READ(chars), LABELS_READ(reasons),
                          LABELS_READ(keys), LABELS_WORDS(marks), LABELS_WORDS(answer));
 
-/* Goes back to a mark, which uses up that mark and later ones: the joins since it are undone, so that each term counted at the mark has the
- * words that it had then, and terms appended since stay, each alone in its class, whatever calls were made between. Writes the class words of
- * counted terms and words 6 and 7 of the state; the other counts, reasons, keys and the name counter stay. A mark that is not standing, 0 too:
- * refusal 10. */
+/* Goes back to a mark, which uses up that mark and later ones: the joins since it are undone, so that each term counted at the mark has its
+ * first eight words as they were then, and terms appended since stay, each alone in its class, whatever calls were made between. Writes the
+ * class words of counted terms and words 6 and 7 of the state; the other counts, reasons, keys, the name counter and the index stay. A mark
+ * that is not standing, 0 too: refusal 10. */
 uint32_t labels_go_back(LABELS_WORDS(state), LABELS_WORDS(terms), LABELS_READ(cells), LABELS_READ(chars), LABELS_READ(reasons),
                         LABELS_READ(keys), LABELS_READ(marks), uint32_t mark);
 
@@ -319,15 +348,24 @@ typedef struct labels_store {
     uint32_t answer[LABELS_ANSWER_WORDS];
 } labels_store;
 
-/* Words for a store with room up to every limit, 182,560 bytes: better static than on the stack. */
+/* Words for a store with room up to every limit, 184,868 bytes: better static than on the stack. */
 typedef struct labels_memory {
     uint32_t terms[LABELS_TERM_WORDS], cells[LABELS_CELL_WORDS], chars[LABELS_CHAR_WORDS], reasons[LABELS_REASON_WORDS];
     uint32_t keys[LABELS_KEY_WORDS], marks[LABELS_MARK_WORDS], list[LABELS_LIST_WORDS];
 } labels_memory;
 
-/* Makes an empty store over the memory. What stands in the memory does not matter, and it is not written. */
+/* Writes the heads of a slice of 64 words or more in which no term is counted: all of them are 0. */
+static inline void labels_clear_heads(uint32_t *terms) {
+    size_t b;
+    for (b = 0; b < LABELS_BUCKETS; b++)
+        terms[b] = 0;
+}
+
+/* Makes an empty store over the memory. What stands in the memory does not matter, and nothing of it is written but the 64 heads. Who lends
+ * another slice of terms afterwards clears its heads too. */
 static inline void labels_store_over(labels_store *s, labels_memory *memory) {
     size_t i;
+    labels_clear_heads(memory->terms);
     for (i = 0; i < LABELS_STATE_WORDS; i++)
         s->state[i] = 0;
     for (i = 0; i < LABELS_ANSWER_WORDS; i++)

@@ -15,12 +15,13 @@ static void must(uint32_t refusal) {
     }
 }
 
-/* Prints the characters of a constant or the name of a variable; both have the place of their characters and their count in words 1 and 2. */
+/* Prints the characters of a constant or the name of a variable; both have the place of their characters and their count as first and second
+ * word. */
 static void print_text(uint32_t term) {
-    const uint32_t *record = store.terms + LABELS_TERM_WIDTH * (size_t)term;
+    const uint32_t *record = store.terms + LABELS_TERM_PLACE(term, 0);
     uint32_t i;
-    for (i = 0; i < record[2]; i++)
-        putchar((int)store.chars[record[1] + i]);
+    for (i = 0; i < record[LABELS_TERM_SECOND]; i++)
+        putchar((int)store.chars[record[LABELS_TERM_FIRST] + i]);
 }
 
 /* Asks the equation, and prints the answer with the reasons that it rests on. */

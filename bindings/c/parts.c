@@ -19,10 +19,10 @@ static void print_listed(void) {
     uint32_t i, k;
     printf("%u:", (unsigned)store.answer[LABELS_PARTS_COUNT]);
     for (i = 0; i < store.answer[LABELS_PARTS_COUNT]; i++) {
-        const uint32_t *record = store.terms + LABELS_TERM_WIDTH * (size_t)store.list[i];
+        const uint32_t *record = store.terms + LABELS_TERM_PLACE(store.list[i], 0);
         putchar(' ');
-        for (k = 0; k < record[2]; k++)
-            putchar((int)store.chars[record[1] + k]);
+        for (k = 0; k < record[LABELS_TERM_SECOND]; k++)
+            putchar((int)store.chars[record[LABELS_TERM_FIRST] + k]);
     }
     printf("\n");
 }

@@ -37,7 +37,7 @@ static void making(void) {
     HOLD(labels_store_constant(&s, "", NULL) == 0 && labels_store_variable(&s, "", &again) == LABELS_REFUSED_ARGUMENT);
     HOLD(labels_store_constant(&s, "\xCE\xBB", &again) == LABELS_REFUSED_ARGUMENT);
     memset(big, 'z', LABELS_LIST_WORDS);
-    HOLD(labels_store_constant(&s, big, &long_text) == 0 && s.terms[LABELS_TERM_WIDTH * long_text + 2] == LABELS_LIST_WORDS);
+    HOLD(labels_store_constant(&s, big, &long_text) == 0 && s.terms[LABELS_TERM_PLACE(long_text, LABELS_TERM_SECOND)] == LABELS_LIST_WORDS);
     big[LABELS_LIST_WORDS] = 'z';
     HOLD(labels_store_constant(&s, big, &again) == LABELS_REFUSED_ARGUMENT && again == 77);
     HOLD(labels_store_audit(&s) == LABELS_ACCEPTED);
@@ -54,7 +54,7 @@ static void alphabet(void) {
     HOLD(a == 6 && v == 7 && labels_store_audit(&s) == LABELS_ACCEPTED);
     HOLD(labels_store_make_constant(&s, LABELS_LEND(above), &x) == LABELS_REFUSED_ARGUMENT);
     HOLD(labels_store_make_variable(&s, LABELS_LEND(above), &x) == LABELS_REFUSED_ARGUMENT);
-    s.chars[s.terms[LABELS_TERM_WIDTH * v + 1]] = LABELS_MAX_CHARACTER + 1;
+    s.chars[s.terms[LABELS_TERM_PLACE(v, LABELS_TERM_FIRST)]] = LABELS_MAX_CHARACTER + 1;
     HOLD(labels_store_audit(&s) == LABELS_REFUSED_RECORDS && labels_store_find(&s, a, &x) == LABELS_REFUSED_RECORDS);
 }
 
@@ -193,11 +193,56 @@ static void fitting(void) {
     HOLD(memcmp(before, s.state, sizeof before) == 0 && labels_store_audit(&s) == LABELS_ACCEPTED);
 }
 
+/* The index of four terms, two of them in one bucket: x ++ x (3 + 1 + 1) and the length of x (4 + 1). A store whose memory is not clear begins
+ * with heads of 0; what the calls leave is the index of the terms, and another is refused before a wrong argument. */
+static void indexing(void) {
+    uint32_t twice[2], x = 0, xx = 0, n = 0, e = 0, again = 0, kept, b;
+    memset(&memory, 0xAB, sizeof memory);
+    labels_store_over(&s, &memory);
+    HOLD(labels_store_audit(&s) == LABELS_ACCEPTED && memory.terms[LABELS_BUCKETS] == 0xABABABABu);
+    HOLD(labels_store_variable(&s, "x", &x) == 0 && x == 1);
+    twice[0] = twice[1] = x;
+    HOLD(labels_store_make_concatenation(&s, LABELS_LEND(twice), &xx) == 0 && labels_store_make_length(&s, x, &n) == 0);
+    HOLD(labels_store_make_equation(&s, x, xx, &e) == 0 && e == 4);
+    /* 2 + 120 for x, 5 + 1 + 2 for x = x ++ x */
+    for (b = 0; b < LABELS_BUCKETS; b++)
+        HOLD(s.terms[b] == (b == 58 ? x : b == 5 ? xx : b == 8 ? e : 0));
+    HOLD(s.terms[LABELS_TERM_PLACE(xx, LABELS_TERM_NEXT)] == n && s.terms[LABELS_TERM_PLACE(n, LABELS_TERM_NEXT)] == 0);
+    HOLD(labels_store_make_concatenation(&s, LABELS_LEND(twice), &again) == 0 && again == xx);
+    HOLD(labels_store_make_length(&s, x, &again) == 0 && again == n);
+    for (b = 0; b < LABELS_BUCKETS; b++) {
+        kept = s.terms[b];
+        s.terms[b] = kept == e ? x : e;
+        HOLD(labels_store_audit(&s) == LABELS_REFUSED_INDEX && labels_store_find(&s, 9, &again) == LABELS_REFUSED_INDEX);
+        s.terms[b] = kept;
+    }
+    /* the count put back: the chain of x ++ x goes on to a length that is not counted */
+    s.state[LABELS_COUNT_TERMS] = 2;
+    HOLD(labels_store_audit(&s) == LABELS_REFUSED_INDEX);
+    s.state[LABELS_COUNT_TERMS] = 4;
+    HOLD(labels_store_audit(&s) == LABELS_ACCEPTED);
+}
+
+/* "@", x and y with room for four terms, [x, y] = ["@"]: "" goes behind "@" into bucket 1 and takes the room, the Split is refused, and the
+ * chain is as it was. */
+static void refused(void) {
+    uint32_t at = 0, l[2], few[LABELS_TERM_PLACE(5, 0)], i;
+    labels_store_over(&s, &memory);
+    s.terms = few, s.terms_len = sizeof few / sizeof *few;
+    for (i = 0; i < s.terms_len; i++)
+        few[i] = 0;
+    HOLD(labels_store_constant(&s, "@", &at) == 0 && labels_store_variable(&s, "x", &l[0]) == 0 && labels_store_variable(&s, "y", &l[1]) == 0);
+    HOLD(few[1] == at && few[LABELS_TERM_PLACE(at, LABELS_TERM_NEXT)] == 0);
+    HOLD(labels_store_resolve_equation(&s, LABELS_LEND(l), &at, 1, 1) == LABELS_REFUSED_ROOM && s.state[LABELS_COUNT_TERMS] == 3);
+    HOLD(few[1] == at && few[LABELS_TERM_PLACE(at, LABELS_TERM_NEXT)] == 0 && labels_store_audit(&s) == LABELS_ACCEPTED);
+}
+
 /* A store keeps its words to itself, and may be small. */
 static void small(void) {
-    uint32_t few[LABELS_TERM_WIDTH * 2], cell[LABELS_CELL_WIDTH], characters[1], x = 0;
+    uint32_t few[LABELS_TERM_PLACE(2, 0)], cell[LABELS_CELL_WIDTH], characters[1], x = 0;
     labels_store_over(&t, &other);
-    t.terms = few, t.terms_len = 16, t.cells = cell, t.cells_len = 3, t.chars = characters, t.chars_len = 1;
+    t.terms = few, t.terms_len = sizeof few / sizeof *few, t.cells = cell, t.cells_len = 3, t.chars = characters, t.chars_len = 1;
+    labels_clear_heads(t.terms);
     t.reasons = t.keys = NULL;
     t.reasons_len = t.keys_len = 0;
     HOLD(labels_store_variable(&t, "x", &x) == 0 && x == 1 && labels_store_audit(&t) == 0);
@@ -213,8 +258,10 @@ int main(void) {
     splitting();
     emptying();
     fitting();
+    indexing();
+    refused();
     small();
-    for (i = 0; i <= 12; i++)
+    for (i = 0; i <= 13; i++)
         for (k = 0; k < i; k++)
             HOLD(strcmp(labels_refusal_text(i), labels_refusal_text(k)) != 0);
     HOLD(strcmp(labels_case_text(LABELS_UNEXPANDED), "unexpanded") == 0 && strcmp(labels_case_text(6), labels_case_text(7)) == 0);

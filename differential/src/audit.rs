@@ -1,6 +1,6 @@
-//! The audit, written from document 01 and document 02's Note 7 alone: 0, or the first of refusals 1 to 4 that is due.
+//! The audit, written from document 01 and document 02's Notes 7 and 9 alone: 0, or the first of refusals 1 to 4 and 12 that is due.
 
-use crate::lent::*;
+use crate::{index::bucket, lent::*};
 use std::collections::HashSet;
 
 /// 'characters 0 to 196,607, including 0xD800 to 0xDFFF, and none above'
@@ -22,9 +22,16 @@ pub fn audit(s: &Lent) -> u32 {
         3
     } else if !congruences(s) {
         4
+    } else if !chained(s) {
+        12
     } else {
         0
     }
+}
+
+/// What 1 and 2 ask: each record can be read.
+pub fn readable(s: &Lent) -> bool {
+    sizes(s) && records(s)
 }
 
 /// What 3 and 4 ask of the table alone.
@@ -32,20 +39,20 @@ pub fn table_passes(s: &Lent) -> bool {
     classes(s) && congruences(s)
 }
 
-// 1: 'a count above its limit, or a slice too short for it'; record 0 of terms and of cells has its room too
+// 1: 'a count above its limit, or a slice too short for it'; record 0 of terms and of cells has its room too, and so have the heads
 fn sizes(s: &Lent) -> bool {
     if s.state.len() < 6 {
         return false;
     }
-    let fits = |i: usize, limit: usize, width: usize, zero: usize, slice: &[u32]| {
+    let fits = |i: usize, limit: usize, words: &dyn Fn(usize) -> usize, slice: &[u32]| {
         let n = s.state[i] as usize;
-        n <= limit && width * (n + zero) <= slice.len()
+        n <= limit && words(n) <= slice.len()
     };
-    fits(0, TERMS, 8, 1, &s.terms)
-        && fits(1, CELLS, 3, 1, &s.cells)
-        && fits(2, CHARS, 1, 0, &s.chars)
-        && fits(3, REASONS, 2, 0, &s.reasons)
-        && fits(4, KEYS, 2, 0, &s.keys)
+    fits(0, TERMS, &|n| BUCKETS + TERM_WIDTH * (n + 1), &s.terms)
+        && fits(1, CELLS, &|n| CELL_WIDTH * (n + 1), &s.cells)
+        && fits(2, CHARS, &|n| n, &s.chars)
+        && fits(3, REASONS, &|n| 2 * n, &s.reasons)
+        && fits(4, KEYS, &|n| 2 * n, &s.keys)
 }
 
 // 2: 'first three words of terms; cell, character, reason and key records'
@@ -160,4 +167,22 @@ fn congruence(s: &Lent, t: u32) -> bool {
     };
     let ways = zip(t, u).is_some_and(|p| p == pairs) || zip(u, t).is_some_and(|p| p == pairs);
     ways && pairs.iter().all(|&(a, b)| s.path(a, b).is_some_and(|path| path.iter().all(|&e| s.term(e).stamp < r.stamp)))
+}
+
+// 12: each chain, from its bucket's head on by ninth words, is of terms and ascends, 'zero ends a chain'; 'every term is in its bucket's chain and
+// in no other'
+fn chained(s: &Lent) -> bool {
+    let mut met = vec![false; s.count() as usize];
+    let whole = (0..BUCKETS).all(|b| {
+        let (mut last, mut t) = (0, s.terms[b]);
+        while t != 0 {
+            if !s.is_term(t) || t <= last || bucket(s, t) != b {
+                return false;
+            }
+            met[t as usize - 1] = true;
+            (last, t) = (t, s.terms[term_place(t, NEXT)]);
+        }
+        true
+    });
+    whole && met.into_iter().all(|m| m)
 }

@@ -1,12 +1,17 @@
-//! Two outcomes of one call, compared as far as document 01 says what they are.
+//! Two outcomes of one call, compared as far as the documents say what they are.
 
 use crate::{
     call::{Outcome, Request},
+    index,
     lent::Lent,
 };
 
-/// What differs, if anything.
+/// What differs, if anything; at last the index that was left, from that of the records.
 pub fn difference(entry: &Lent, request: &Request, expected: &Outcome, got: &Outcome) -> Option<String> {
+    outcomes(entry, request, expected, got).or_else(|| index::amiss(entry, got.code, &got.exit))
+}
+
+fn outcomes(entry: &Lent, request: &Request, expected: &Outcome, got: &Outcome) -> Option<String> {
     if expected.code != got.code {
         return Some(format!("result {} expected, {} given", expected.code, got.code));
     }
@@ -38,7 +43,7 @@ fn answered(request: &Request, expected: &Outcome, got: &Outcome) -> Option<Stri
     if expected.exit.state != got.exit.state {
         return Some(format!("state {:?} expected, {:?} given", expected.exit.state, got.exit.state));
     }
-    let names = ["state", "terms", "cells", "characters", "reasons", "keys"];
+    let names = ["state", "terms", "cells", "characters", "reasons", "keys", "heads"];
     let (a, b) = (expected.exit.counted(), got.exit.counted());
-    (0..6).find(|&i| a[i] != b[i]).map(|i| format!("{} differ: {:?} expected, {:?} given", names[i], a[i], b[i]))
+    (0..names.len()).find(|&i| a[i] != b[i]).map(|i| format!("{} differ: {:?} expected, {:?} given", names[i], a[i], b[i]))
 }

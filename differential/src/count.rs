@@ -76,12 +76,12 @@ fn of_case(samples: &[Sample], cases: &[Vec<usize>], case: usize) -> Vec<Sample>
     samples.iter().zip(cases).map(|(s, cs)| Sample { store: s.store.clone(), calls: kept(s, cs) }).collect()
 }
 
-fn port(stores: &mut [Lent], samples: &[Sample], audit: bool) {
+// each call on a store of its own, so that nothing has to be taken back
+fn port(stores: &mut [Vec<Lent>], samples: &[Sample], audit: bool) {
     let (mut list, mut answer) = ([0; 1024], [0; 8]);
-    for (store, s) in stores.iter_mut().zip(samples) {
-        for c in &s.calls {
+    for (stores, s) in stores.iter_mut().zip(samples) {
+        for (store, c) in stores.iter_mut().zip(&s.calls) {
             call(&mut Lending { store, list: &mut list, answer: &mut answer }, if audit { &Call::Audit } else { c });
-            store.state.copy_from_slice(&s.store.state);
         }
     }
 }
@@ -114,7 +114,7 @@ pub fn table(seed: u64, kinds: &[usize], file: &str) {
                     continue;
                 }
                 let mut worlds: Vec<World> = some.iter().map(|s| World::load(&s.store)).collect();
-                let mut stores: Vec<Lent> = some.iter().map(|s| s.store.clone()).collect();
+                let mut stores: Vec<Vec<Lent>> = some.iter().map(|s| vec![s.store.clone(); s.calls.len()]).collect();
                 let by_rust = counter.count(|| rust(&mut worlds, &some)) / n;
                 let audit = counter.count(|| port(&mut stores, &some, true)) / n;
                 let whole = counter.count(|| port(&mut stores, &some, false)) / n;

@@ -1,6 +1,6 @@
 //! Stores that fail the audit: each rule broken singly, and random words.
 
-use crate::{audit::audit, lent::*, random::Random};
+use crate::{audit::audit, index, lent::*, random::Random};
 
 /// A way to break a rule: its name, the refusal it is due, and how; `false` where the store has nothing to break so.
 pub struct Rule {
@@ -21,7 +21,7 @@ fn set(s: &mut Lent, random: &mut Random, of: impl Fn(&Term) -> bool, word: usiz
     }
     let t = *random.pick(&list);
     let v = value(t, s);
-    s.terms[TERM_WIDTH * t as usize + word] = v;
+    s.terms[term_place(t, word)] = v;
     true
 }
 
@@ -57,8 +57,7 @@ fn root(s: &mut Lent, random: &mut Random, word: usize) -> bool {
     if list.is_empty() {
         return false;
     }
-    let t = *random.pick(&list) as usize;
-    s.terms[TERM_WIDTH * t + word] = 1;
+    s.terms[term_place(*random.pick(&list), word)] = 1;
     true
 }
 
@@ -67,8 +66,29 @@ fn edge(s: &mut Lent, random: &mut Random, label: u32, word: usize, value: u32) 
     if list.is_empty() {
         return false;
     }
-    let t = *random.pick(&list) as usize;
-    s.terms[TERM_WIDTH * t + word] = value;
+    s.terms[term_place(*random.pick(&list), word)] = value;
+    true
+}
+
+// the head of a bucket that has a term
+fn head(s: &mut Lent, random: &mut Random, value: impl Fn(u32, &Lent) -> u32) -> bool {
+    let list: Vec<usize> = (0..BUCKETS).filter(|&b| s.terms[b] != 0).collect();
+    if list.is_empty() {
+        return false;
+    }
+    let b = *random.pick(&list);
+    s.terms[b] = value(s.terms[b], s);
+    true
+}
+
+// the ninth word of a term, where another follows in its chain or of any
+fn next(s: &mut Lent, random: &mut Random, followed: bool, value: impl Fn(u32, &Lent) -> u32) -> bool {
+    let list: Vec<u32> = (1..=s.count()).filter(|&t| !followed || s.terms[term_place(t, NEXT)] != 0).collect();
+    if list.is_empty() {
+        return false;
+    }
+    let t = *random.pick(&list);
+    s.terms[term_place(t, NEXT)] = value(t, s);
     true
 }
 
@@ -88,7 +108,7 @@ fn pair(s: &mut Lent, random: &mut Random, keys: bool, value: Pair) -> bool {
 }
 
 fn long(s: &mut Lent, i: usize, count: u32) -> bool {
-    let n = TERM_WIDTH * (count as usize + 2);
+    let n = term_place(count + 1, 0);
     for slice in [&mut s.terms, &mut s.cells, &mut s.chars, &mut s.reasons, &mut s.keys] {
         if slice.len() < n {
             slice.resize(n, 0);
@@ -126,7 +146,7 @@ pub fn rules() -> Vec<Rule> {
         1 "4,097 reasons" |s, _| long(s, 3, 4097);
         1 "4,097 keys" |s, _| long(s, 4, 4097);
         1 "a count of 2^32 - 1" |s, r| { let i = r.below(5); s.state[i] = u32::MAX; true };
-        1 "terms too short by a word" |s, _| { s.terms.truncate(TERM_WIDTH * (s.state[0] as usize + 1) - 1); true };
+        1 "terms too short by a word" |s, _| { s.terms.truncate(term_place(s.state[0] + 1, 0) - 1); true };
         1 "cells too short by a word" |s, _| { s.cells.truncate(CELL_WIDTH * (s.state[1] as usize + 1) - 1); true };
         1 "characters too short by a word" |s, _| { let n = s.state[2] as usize; n > 0 && { s.chars.truncate(n - 1); true } };
         1 "reasons too short by a word" |s, _| { let n = 2 * s.state[3] as usize; n > 0 && { s.reasons.truncate(n - 1); true } };
@@ -142,8 +162,8 @@ pub fn rules() -> Vec<Rule> {
         2 "a name twice" |s, r| {
             let v = terms(s, is(VARIABLE));
             v.len() >= 2 && {
-                let (a, b) = (v[r.below(v.len() - 1)] as usize, v[v.len() - 1] as usize);
-                s.terms.copy_within(TERM_WIDTH * a + 1..TERM_WIDTH * a + 3, TERM_WIDTH * b + 1);
+                let (a, b) = (v[r.below(v.len() - 1)], v[v.len() - 1]);
+                s.terms.copy_within(term_place(a, 1)..term_place(a, 3), term_place(b, 1));
                 true
             }
         };
@@ -193,21 +213,20 @@ pub fn rules() -> Vec<Rule> {
         3 "forest parent above the terms" |s, r| set(s, r, any, 4, |_, s| s.count() + 1);
         3 "class parents in a ring" |s, r| {
             let l: Vec<u32> = (1..=s.count()).filter(|&t| s.term(t).class_parent != t).collect();
-            !l.is_empty() && { let t = *r.pick(&l); let root = s.class_root(t); s.terms[TERM_WIDTH * root as usize + 3] = t; true }
+            !l.is_empty() && { let t = *r.pick(&l); let root = s.class_root(t); s.set_class_parent(root, t); true }
         };
         3 "forest parents in a ring" |s, r| {
             let l: Vec<u32> = (1..=s.count()).filter(|&t| s.is_edge(t)).collect();
-            !l.is_empty() && { let t = *r.pick(&l); let top = *s.ancestors(t).last().unwrap(); s.terms[TERM_WIDTH * top as usize + 4] = t; true }
+            !l.is_empty() && { let t = *r.pick(&l); let top = *s.ancestors(t).last().unwrap(); s.class_words(top)[1] = t; true }
         };
         3 "one class of two trees" |s, r| match apart(s, r) {
-            Some((a, b)) => { let root = s.class_root(a); s.terms[TERM_WIDTH * root as usize + 3] = b; true }
+            Some((a, b)) => { let root = s.class_root(a); s.set_class_parent(root, b); true }
             None => false,
         };
         3 "two classes of one tree" |s, r| match apart(s, r) {
             Some((a, b)) => {
-                let top = *s.ancestors(a).last().unwrap() as usize;
-                s.terms[TERM_WIDTH * top + 4] = b;
-                s.terms[TERM_WIDTH * top + 5] = 1;
+                let top = *s.ancestors(a).last().unwrap();
+                s.class_words(top)[1..3].copy_from_slice(&[b, 1]);
                 true
             }
             None => false,
@@ -216,9 +235,7 @@ pub fn rules() -> Vec<Rule> {
             Some(t) => {
                 let l = strings(s);
                 let a = *r.pick(&l);
-                s.terms[TERM_WIDTH * t as usize + 3] = a;
-                s.terms[TERM_WIDTH * t as usize + 4] = a;
-                s.terms[TERM_WIDTH * t as usize + 5] = 1;
+                s.class_words(t)[..3].copy_from_slice(&[a, a, 1]);
                 true
             }
             None => false,
@@ -234,10 +251,8 @@ pub fn rules() -> Vec<Rule> {
         4 "a congruence of other terms" |s, r| {
             let l: Vec<u32> = (1..=s.count()).filter(|&t| s.is_edge(t) && (s.kind(t) != 3 || s.kind(s.term(t).forest_parent) != 3)).collect();
             !l.is_empty() && s.state[1] > 0 && {
-                let t = *r.pick(&l) as usize;
-                s.terms[TERM_WIDTH * t + 5] = 3;
-                s.terms[TERM_WIDTH * t + 6] = 1 + r.below(s.state[1] as usize) as u32;
-                s.terms[TERM_WIDTH * t + 7] = u32::MAX;
+                let cell = 1 + r.below(s.state[1] as usize) as u32;
+                s.class_words(*r.pick(&l))[2..].copy_from_slice(&[3, cell, u32::MAX]);
                 true
             }
         };
@@ -256,6 +271,41 @@ pub fn rules() -> Vec<Rule> {
                 true
             }
         };
+        12 "a head 0 whose bucket has a term" |s, r| head(s, r, |_, _| 0);
+        12 "a head that is not the lowest" |s, r| head(s, r, |t, s| s.terms[term_place(t, NEXT)]);
+        12 "a head above the terms" |s, r| head(s, r, |_, s| s.count() + 1);
+        12 "a head of 2^32 - 1" |s, r| head(s, r, |_, _| u32::MAX);
+        12 "a head of another bucket" |s, r| s.count() > 0 && { let t = 1 + r.below(s.count() as usize) as u32; head(s, r, move |_, _| t) };
+        12 "a head whose bucket has no term" |s, r| {
+            let l: Vec<usize> = (0..BUCKETS).filter(|&b| s.terms[b] == 0).collect();
+            s.count() > 0 && !l.is_empty() && { s.terms[*r.pick(&l)] = 1 + r.below(s.count() as usize) as u32; true }
+        };
+        12 "two heads exchanged" |s, r| { let (a, b) = (r.below(BUCKETS), r.below(BUCKETS)); s.terms.swap(a, b); true };
+        12 "a chain cut short" |s, r| next(s, r, true, |_, _| 0);
+        12 "a chain that leaves a term out" |s, r| next(s, r, true, |t, s| { let u = s.terms[term_place(t, NEXT)]; s.terms[term_place(u, NEXT)] });
+        12 "a term that comes after itself" |s, r| next(s, r, false, |t, _| t);
+        12 "a chain that goes back to its head" |s, r| next(s, r, false, |t, s| s.terms[index::bucket(s, t)]);
+        12 "a chain that goes on above the terms" |s, r| next(s, r, false, |_, s| s.count() + 1);
+        12 "a chain that goes on to 2^32 - 1" |s, r| next(s, r, false, |_, _| u32::MAX);
+        12 "a chain that goes on in another" |s, r| s.count() > 0 && { let u = 1 + r.below(s.count() as usize) as u32; next(s, r, false, move |_, _| u) };
+        12 "two terms of a chain exchanged" |s, r| {
+            let l: Vec<u32> = (1..=s.count()).filter(|&t| s.terms[term_place(t, NEXT)] != 0 && s.terms[index::bucket(s, t)] == t).collect();
+            !l.is_empty() && {
+                let t = *r.pick(&l);
+                let u = s.terms[term_place(t, NEXT)];
+                let b = index::bucket(s, t);
+                s.terms[b] = u;
+                s.terms[term_place(t, NEXT)] = s.terms[term_place(u, NEXT)];
+                s.terms[term_place(u, NEXT)] = t;
+                true
+            }
+        };
+        12 "another character" |s, r| {
+            let l = terms(s, |t| t.kind < 3 && t.second > 0);
+            !l.is_empty() && { let at = s.term(*r.pick(&l)).first as usize; s.chars[at] = (s.chars[at] + 1) % 0x30000; true }
+        };
+        12 "a term taken away" |s, _| s.state[0] > 0 && { s.state[0] -= 1; true };
+        12 "no term counted, and heads" |s, _| s.state[0] > 0 && { s.state[..].fill(0); true };
     }
 }
 
@@ -265,7 +315,7 @@ pub fn broken(s: &Lent, rule: &Rule, random: &mut Random) -> Option<Lent> {
     ((rule.damage)(&mut d, random) && audit(&d) == rule.refusal).then_some(d)
 }
 
-/// A few counted words, or counts, exchanged for others.
+/// A few counted words, heads or counts exchanged for others. In every second store whose records can still be read the index is theirs.
 pub fn scrambled(s: &Lent, random: &mut Random) -> Lent {
     let mut d = s.clone();
     let n: Vec<usize> = s.state.iter().map(|&x| x as usize).collect();
@@ -277,7 +327,7 @@ pub fn scrambled(s: &Lent, random: &mut Random) -> Lent {
             3 => u32::MAX - random.below(3) as u32,
             _ => *random.pick(&[0, 1, 0x8000_0000, 0xD800, 0xDFFF, 0x2FFFF, 0x30000, 0x110000]),
         };
-        match random.below(12) {
+        match random.below(13) {
             0 => {
                 let i = random.below(6);
                 d.state[i] = value;
@@ -290,9 +340,13 @@ pub fn scrambled(s: &Lent, random: &mut Random) -> Lent {
             3 if n[3] > 0 => put(&mut d.reasons, random.below(2 * n[3]), value),
             4 if n[4] > 0 => put(&mut d.keys, random.below(2 * n[4]), value),
             5..=7 if n[1] > 0 => put(&mut d.cells, CELL_WIDTH + random.below(CELL_WIDTH * n[1]), value),
-            _ if n[0] > 0 => put(&mut d.terms, TERM_WIDTH + random.below(TERM_WIDTH * n[0]), value),
+            8 => put(&mut d.terms, random.below(BUCKETS), value),
+            _ if n[0] > 0 => put(&mut d.terms, term_place(1, 0) + random.below(TERM_WIDTH * n[0]), value),
             _ => {}
         }
+    }
+    if random.one_in(2) {
+        index::put(&mut d);
     }
     d
 }
@@ -308,5 +362,5 @@ pub fn noise(random: &mut Random) -> Lent {
     let small = random.one_in(2);
     let mut words =
         |n: usize| -> Vec<u32> { (0..n).map(|_| if small { random.below(6) as u32 } else { random.word() >> random.below(32) }).collect() };
-    Lent { state: words(6), terms: words(64), cells: words(30), chars: words(20), reasons: words(8), keys: words(8) }
+    Lent { state: words(6), terms: words(term_place(7, 0)), cells: words(30), chars: words(20), reasons: words(8), keys: words(8) }
 }

@@ -1,8 +1,8 @@
 //! A store as one would tell it: terms, merges, reasons and keys. `lay_out` writes it into slices, with what document 01 leaves open
 //! chosen by a seed: where characters and cells lie and which are shared, the roots, the class trees, and all words that are not
-//! counted.
+//! counted. The index is that of the records.
 
-use crate::{lent::*, random::Random};
+use crate::{index, lent::*, random::Random};
 
 #[derive(Clone, PartialEq, Eq, Debug)]
 pub enum Spec {
@@ -304,11 +304,11 @@ pub fn lay_out(d: &Draft) -> Lent {
 
     // into the slices
     let counts = [n, cells.written.len(), chars.len(), d.reasons.len(), d.keys.len()];
-    let widths = [8, 3, 1, 2, 2];
+    let widths = [TERM_WIDTH, CELL_WIDTH, 1, 2, 2];
+    let before = [BUCKETS + TERM_WIDTH, CELL_WIDTH, 0, 0, 0];
     let mut slice = |i: usize| -> Vec<u32> {
-        let zero = if i < 2 { 1 } else { 0 };
         let odd = if widths[i] > 1 && random.one_in(4) { random.below(widths[i]) } else { 0 };
-        (0..widths[i] * (counts[i] + zero + d.spare[i]) + odd).map(|_| random.word()).collect()
+        (0..before[i] + widths[i] * (counts[i] + d.spare[i]) + odd).map(|_| random.word()).collect()
     };
     let mut s = Lent { state: vec![], terms: slice(0), cells: slice(1), chars: slice(2), reasons: slice(3), keys: slice(4) };
     s.state = counts.iter().map(|&c| c as u32).chain([d.names]).collect();
@@ -341,8 +341,9 @@ pub fn lay_out(d: &Draft) -> Lent {
             },
         };
         let words = [kind, first, second, parents[t] as u32, forest[t] as u32, label, value, stamp];
-        s.terms[TERM_WIDTH * t..TERM_WIDTH * t + TERM_WIDTH].copy_from_slice(&words);
+        s.terms[term_place(t as u32, 0)..term_place(t as u32, NEXT)].copy_from_slice(&words);
     }
+    index::put(&mut s);
     s
 }
 

@@ -9,7 +9,7 @@ use crate::{
     compare::difference,
     damage,
     draft::*,
-    generate,
+    generate, index,
     lent::*,
     lists::{blank_marks, Answering},
     marks::{Act, Marked},
@@ -27,7 +27,7 @@ pub struct Tally {
     pub listed_calls: u64,
     pub calls: u64,
     /// by result
-    pub codes: [u64; 10],
+    pub codes: [u64; 16],
     /// answered calls on lists of the form, those that list none, and entries
     pub labels: u64,
     pub none: u64,
@@ -100,8 +100,8 @@ impl Tally {
         );
         let c = &self.codes;
         println!(
-            "{} calls compared, {} that the port lacks; answered {}, refused 1 to 5: {} {} {} {} {}, 6: {}, 8: {}; {} differences",
-            self.calls, self.absent, c[0], c[1], c[2], c[3], c[4], c[5], c[6], c[8], self.differences
+            "{} calls compared, {} that the port lacks; answered {}, refused 1 to 5: {} {} {} {} {}, 6: {}, 8: {}, 12: {}; {} differences",
+            self.calls, self.absent, c[0], c[1], c[2], c[3], c[4], c[5], c[6], c[8], c[12], self.differences
         );
     }
 
@@ -162,7 +162,7 @@ fn beside(by: &Answering, s: &Lent, r: &Request) -> Option<Result<Outcome, Strin
 }
 
 // words that the call has no business with: those of the answer that are not named, all of cells, characters, reasons and keys, and of terms
-// and state but for one record more
+// and state but for one record more and the word of the index that names it
 fn written(s: &Lent, got: &Outcome) -> Option<String> {
     let named = if got.code == 0 { 3 } else { 0 };
     if got.answer.iter().skip(named).any(|&w| w != BLANK) {
@@ -181,6 +181,9 @@ fn written(s: &Lent, got: &Outcome) -> Option<String> {
 
 fn act(by: &Answering, m: &mut Marked, act: Act) -> Result<u32, String> {
     let told = (by.act)(m, &act, 8).ok_or("a call that the port lacks")?;
+    if let Some(what) = index::amiss(&m.store, told.code, &told.exit.store) {
+        return Err(format!("{act:?}: {what}\n{m}"));
+    }
     if told.code != 0 {
         return Err(format!("{act:?} is refused under {}\n{m}", told.code));
     }
@@ -203,6 +206,9 @@ fn by_own_calls(random: &mut Random, by: &Answering, s: &Lent, lhs: &[u32], rhs:
     loop {
         calls += 1;
         let o = (by.call)(&m.store, &r).ok_or("a call that the port lacks")?;
+        if let Some(what) = index::amiss(&m.store, o.code, &o.exit) {
+            return Err(format!("{r:?}: {what}\n{m}"));
+        }
         if o.code != 0 {
             return Ok(Repeated { propagated: Err(o.code), calls, store: m.store });
         }
@@ -255,7 +261,7 @@ pub fn one(random: &mut Random, by: &Answering, s: &Lent, r: &Request, tally: &m
     let got = got?;
     tally.met(s, lhs, rhs, &got);
     // of other lists an ordinary call may say anything
-    if got.code > 5 || got.code == 0 && got.answer[1] > 0 {
+    if (6..=9).contains(&got.code) || got.code == 0 && got.answer[1] > 0 {
         repeats(random, by, s, r, &got, tally)?;
     }
     Ok(())
@@ -459,7 +465,7 @@ fn smallest(by: &Answering, d: &Draft, r: &Request) -> Option<String> {
     failing(&d, &call)
 }
 
-// a rule broken, or a few words exchanged: refusals 1 to 4, and nothing written
+// a rule broken, or a few words exchanged: refusals 1 to 4 and 12, and nothing written
 fn damaged(random: &mut Random, by: &Answering, s: &Lent, tally: &mut Tally) -> Result<(), String> {
     let rules = damage::rules();
     let mut bad: Vec<Lent> = (0..4).filter_map(|_| damage::broken(s, random.pick(&rules), random)).collect();

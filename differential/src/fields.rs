@@ -2,7 +2,7 @@
 //! variable, which is alone in its class. Every word that could matter is tried for the variable: Conflict is due exactly where none makes
 //! the sides equal, and refusals 6 to 9 only where one does.
 
-use crate::{call::*, draft::*, lent::Lent};
+use crate::{call::*, draft::*, index, lent::Lent};
 
 /// What was met.
 #[derive(Clone, Default)]
@@ -155,6 +155,9 @@ pub fn round(
             tally.conflicts += word.is_none() as u64;
             if got.code == 0 {
                 tally.cases[got.answer[0] as usize] += 1;
+            }
+            if let Some(what) = index::amiss(&shelf.store, got.code, &got.exit) {
+                return Err(format!("{}: {what}\n{r:?}\n{}\ngiven {got}", shelf.about, shelf.store));
             }
             if conflict != word.is_none() || (1..=5).contains(&got.code) {
                 return Err(format!("{}: {word:?}\n{r:?}\n{}\ngiven {got}", shelf.about, shelf.store));

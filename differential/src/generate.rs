@@ -450,6 +450,12 @@ pub fn worst() -> Vec<(&'static str, Lent, Call)> {
     }
     list.push(("the audit: 511 names of 8,001 shared characters", s, Call::Audit));
     list.push(("the audit: 510 names of 15,300 shared characters and one hash", one_hash(510, 15_300), Call::Audit));
+    let mut s = lay_out(&Draft { layout: 0, ..Draft::default() });
+    s.add_text(&vec!['a' as u32; CHARS]);
+    for _ in 0..TERMS {
+        s.add_term(CONSTANT, 0, CHARS as u32);
+    }
+    list.push(("the audit: 512 constants of the same 16,384 characters, all in one bucket", s, Call::Audit));
     list.push(("the audit: 256 congruences of 682 pairs with paths of 254 edges", long_pairs(127, 682), Call::Audit));
 
     let mut random = Random::new(1);
@@ -473,7 +479,7 @@ pub fn worst() -> Vec<(&'static str, Lent, Call)> {
     let mut s = lay_out(&d);
     // a class tree as deep as the forest
     for pair in [&[z][..], &ws].concat().windows(2) {
-        s.terms[TERM_WIDTH * pair[1] as usize + 3] = pair[0];
+        s.set_class_parent(pair[1], pair[0]);
     }
     let concats: Vec<u32> = (1..t).filter(|&c| s.kind(c) == CONCATENATION).collect();
     let known = [concats, vec![ws[249]; 1024 - 120]].concat();
@@ -517,7 +523,7 @@ fn repeating(number: impl Fn(u32) -> u32, incoming: usize) -> (Lent, Call) {
     let mut s = lay_out(&d);
     // a class tree as deep as the forest
     for pair in chain.windows(2) {
-        s.terms[TERM_WIDTH * pair[1] as usize + 3] = pair[0];
+        s.set_class_parent(pair[1], pair[0]);
     }
     let known = [vec![empty], concats].concat();
     (s, Call::Step { known, equation, guard: 1 })
@@ -859,8 +865,7 @@ pub(crate) fn long_pairs(depth: u32, pairs: usize) -> Lent {
     let mut s = lay_out(&Draft { layout: 0, ..Draft::default() });
     let place = s.add_text(&(0..2 * depth + 1).map(|i| 'a' as u32 + i).collect::<Vec<u32>>());
     let join = |s: &mut Lent, t: u32, root: u32, parent: u32, label: [u32; 3]| {
-        s.terms[TERM_WIDTH * t as usize + 3..TERM_WIDTH * t as usize + TERM_WIDTH]
-            .copy_from_slice(&[root, parent, label[0], label[1], label[2]]);
+        s.class_words(t).copy_from_slice(&[root, parent, label[0], label[1], label[2]]);
     };
     let root = s.add_term(VARIABLE, place, 1);
     let mut ends = [root; 2];

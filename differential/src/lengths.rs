@@ -9,7 +9,7 @@ use crate::{
     compare::difference,
     draft::*,
     empties::{divisions, words},
-    generate,
+    generate, index,
     lent::*,
     oracle::{self, Mode},
     random::Random,
@@ -25,7 +25,7 @@ pub struct Tally {
     pub listed_calls: u64,
     pub calls: u64,
     /// by result
-    pub codes: [u64; 12],
+    pub codes: [u64; 16],
     /// answered calls: nothing left over, a remainder, a shortage
     pub spans: [u64; 3],
     /// of the last two: Conflict, Saturated, reasons full
@@ -89,6 +89,9 @@ pub fn one(call: Calling, s: &Lent, r: &Request, tally: &mut Tally) -> Result<()
     let resolve = Request::new(Call::ResolveEquation { lhs: lhs.clone(), rhs: rhs.clone(), guard: 3 });
     let flattened = lhs.iter().chain(rhs).any(|&t| s.kind(t) == CONCATENATION);
     let own = call(s, &resolve).ok_or("a call that the port lacks")?;
+    if let Some(what) = index::amiss(s, own.code, &own.exit) {
+        return Err(format!("{what}\n{resolve:?}\n{s}\ngiven {own}"));
+    }
     for o in [oracle::run(s, &resolve, Mode::Departing).outcome, own] {
         let due = o.code == 7 || o.code == 0 && o.answer[0] == if flattened { SATURATED } else { CONFLICT };
         if !due {

@@ -1,5 +1,6 @@
-//! A lent store: the state's six words and five slices, laid out as document 01's 'The records' says.
+//! A lent store: the state's six words and five slices, laid out as document 01's 'The records' and document 02's Note 9 say.
 
+use crate::index;
 use std::fmt;
 
 pub const TERMS: usize = 512;
@@ -9,9 +10,21 @@ pub const REASONS: usize = 4096;
 pub const KEYS: usize = 4096;
 pub const LIST: usize = 1024;
 
-/// How many words a term and a cell have.
-pub const TERM_WIDTH: usize = 8;
+/// How many words a term and a cell have; a term's last is the next term of its bucket.
+pub const TERM_WIDTH: usize = 9;
 pub const CELL_WIDTH: usize = 3;
+
+/// The heads of the index, which stand before record 0 of terms.
+pub const BUCKETS: usize = 64;
+
+/// The numbers of the words of a term that a class changes, and of the one that is the next term of its bucket.
+pub const CLASS_WORDS: std::ops::Range<usize> = 3..8;
+pub const NEXT: usize = 8;
+
+/// Where a word of term t stands, the word by its number in the record. n terms take the words below that of term n + 1.
+pub fn term_place(t: u32, word: usize) -> usize {
+    BUCKETS + TERM_WIDTH * t as usize + word
+}
 
 pub const CONSTANT: u32 = 1;
 pub const VARIABLE: u32 = 2;
@@ -55,7 +68,7 @@ impl Lent {
     }
 
     pub fn term(&self, t: u32) -> Term {
-        let w = &self.terms[TERM_WIDTH * t as usize..TERM_WIDTH * t as usize + TERM_WIDTH];
+        let w = self.words(t);
         Term {
             kind: w[0],
             first: w[1],
@@ -66,6 +79,20 @@ impl Lent {
             label_value: w[6],
             stamp: w[7],
         }
+    }
+
+    /// The eight words of a term that document 01 has.
+    pub fn words(&self, t: u32) -> &[u32] {
+        &self.terms[term_place(t, 0)..term_place(t, NEXT)]
+    }
+
+    /// Class parent, forest parent, label kind, label value and stamp of a term.
+    pub fn class_words(&mut self, t: u32) -> &mut [u32] {
+        &mut self.terms[term_place(t, CLASS_WORDS.start)..term_place(t, CLASS_WORDS.end)]
+    }
+
+    pub fn set_class_parent(&mut self, t: u32, parent: u32) {
+        self.class_words(t)[0] = parent;
     }
 
     pub fn kind(&self, t: u32) -> u32 {
@@ -154,24 +181,25 @@ impl Lent {
     /// How many records each slice and its limit hold, in the state's order.
     pub fn room(&self) -> [usize; 5] {
         [
-            TERMS.min((self.terms.len() / 8).saturating_sub(1)),
-            CELLS.min((self.cells.len() / 3).saturating_sub(1)),
+            TERMS.min((self.terms.len().saturating_sub(BUCKETS) / TERM_WIDTH).saturating_sub(1)),
+            CELLS.min((self.cells.len() / CELL_WIDTH).saturating_sub(1)),
             CHARS.min(self.chars.len()),
             REASONS.min(self.reasons.len() / 2),
             KEYS.min(self.keys.len() / 2),
         ]
     }
 
-    /// What is counted, words above the counts and record 0 left out.
-    pub fn counted(&self) -> [&[u32]; 6] {
+    /// What is counted, words above the counts and record 0 left out; the last are the heads.
+    pub fn counted(&self) -> [&[u32]; 7] {
         let n: Vec<usize> = self.state.iter().map(|&x| x as usize).collect();
         [
             &self.state,
-            &self.terms[TERM_WIDTH..TERM_WIDTH * (n[0] + 1)],
+            &self.terms[term_place(1, 0)..term_place(self.state[0] + 1, 0)],
             &self.cells[CELL_WIDTH..CELL_WIDTH * (n[1] + 1)],
             &self.chars[..n[2]],
             &self.reasons[..2 * n[3]],
             &self.keys[..2 * n[4]],
+            &self.terms[..BUCKETS],
         ]
     }
 
@@ -184,11 +212,12 @@ impl Lent {
 
     // -- appending, with no look at the room --
 
-    /// A term of its own class.
+    /// A term of its own class, at the end of its bucket's chain.
     pub fn add_term(&mut self, kind: u32, first: u32, second: u32) -> u32 {
         self.state[0] += 1;
         let t = self.state[0];
-        Lent::put(&mut self.terms, TERM_WIDTH * t as usize, &[kind, first, second, t, t, 0, 0, 0]);
+        Lent::put(&mut self.terms, term_place(t, 0), &[kind, first, second, t, t, 0, 0, 0, 0]);
+        index::link(self, t);
         t
     }
 
@@ -248,8 +277,10 @@ impl fmt::Display for Lent {
             } else if r.label_kind != 0 {
                 write!(f, " label {} {}", r.label_kind, r.label_value)?;
             }
-            writeln!(f, " stamp {}", r.stamp)?;
+            writeln!(f, " stamp {} next {}", r.stamp, self.terms[term_place(t, NEXT)])?;
         }
+        let heads = (0..BUCKETS).filter(|&b| self.terms[b] != 0).map(|b| format!("{b}: {}", self.terms[b]));
+        writeln!(f, "heads {}", heads.collect::<Vec<_>>().join(", "))?;
         write!(f, "reasons {:?} keys {:?}", self.reason_list(), self.key_list())
     }
 }

@@ -11,6 +11,8 @@ pub mod draft;
 pub mod empties;
 pub mod fields;
 pub mod generate;
+pub mod index;
+pub mod indexes;
 pub mod lengths;
 pub mod lent;
 pub mod lists;

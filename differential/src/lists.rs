@@ -8,6 +8,7 @@ use crate::{
     compare::difference,
     draft::{join, lay_out, Draft},
     generate,
+    index::{self, Index},
     lent::*,
     marks::{self, Act, Marked, Told, ACTS, STANDING, STATE, WORDS},
     oracle::{self, Mode},
@@ -36,7 +37,7 @@ pub struct Tally {
     pub explained: u64,
     pub audits: u64,
     /// by result
-    pub codes: [u64; 11],
+    pub codes: [u64; 16],
     pub in_one_class: u64,
     pub most_marks: u32,
     pub most_joins: u32,
@@ -109,8 +110,8 @@ impl Tally {
 /// What a list has done so far.
 struct Run {
     s: Marked,
-    // all words of the terms counted at each standing mark
-    snapshots: Vec<Vec<u32>>,
+    // the eight words of each term counted at each standing mark
+    snapshots: Vec<Vec<Vec<u32>>>,
     // the classes at the start; the joins left standing, and how many there were at each standing mark
     start: Vec<u32>,
     joins: Vec<Pair>,
@@ -173,23 +174,27 @@ impl Run {
                 if answer[0] as usize != self.snapshots.len() + 1 {
                     return Err(format!("mark {}, and {} stood", answer[0], self.snapshots.len()));
                 }
-                self.snapshots.push(store.counted()[1].to_vec());
+                self.snapshots.push(records(store));
                 self.cuts.push(self.joins.len());
             }
             Act::GoBack { mark } => {
                 let at = mark as usize - 1;
                 let snapshot = &self.snapshots[at];
-                let now = store.counted()[1];
+                let now = records(store);
                 if now.len() < snapshot.len() || now[..snapshot.len()] != snapshot[..] {
                     return Err("words of a term counted at the mark are not those of then".into());
                 }
-                tally.restored += snapshot.len() as u64 / 8;
-                for t in snapshot.len() as u32 / 8 + 1..=store.count() {
-                    let w = &store.terms[TERM_WIDTH * t as usize..TERM_WIDTH * t as usize + TERM_WIDTH];
-                    if w[..3] != before.store.terms[TERM_WIDTH * t as usize..TERM_WIDTH * t as usize + 3] || w[3..] != [t, t, 0, 0, 0] {
+                tally.restored += snapshot.len() as u64;
+                for t in snapshot.len() as u32 + 1..=store.count() {
+                    let w = store.words(t);
+                    if w[..3] != before.store.words(t)[..3] || w[3..] != [t, t, 0, 0, 0] {
                         return Err(format!("term {t}, appended since the mark, is not alone"));
                     }
                     tally.later += 1;
+                }
+                // 'Going back leaves heads and ninth words as they are'
+                if Index::standing(store, store.count()) != Index::standing(&before.store, store.count()) {
+                    return Err("heads or ninth words changed by going back".into());
                 }
                 self.joins.truncate(self.cuts[at]);
                 self.snapshots.truncate(at);
@@ -238,6 +243,11 @@ impl Run {
         }
         Ok(())
     }
+}
+
+// the words of each counted term, that of the index left out
+fn records(s: &Lent) -> Vec<Vec<u32>> {
+    (1..=s.count()).map(|t| s.words(t).to_vec()).collect()
 }
 
 // for each term the first of its class
@@ -375,7 +385,7 @@ fn shortened(random: &mut Random, s: &Marked) -> (Marked, usize) {
         0 => short.store.state.truncate(*random.pick(&[0, 5, 6, 7])),
         1 => short.marks.truncate(*random.pick(&[0, 64, WORDS - 1])),
         2 => room = *random.pick(&[0, 7]),
-        _ => short.store.terms.truncate(TERM_WIDTH * (s.store.count() as usize + 1) - 1),
+        _ => short.store.terms.truncate(*random.pick(&[0, BUCKETS, term_place(s.store.count() + 1, 0) - 1])),
     }
     (short, room)
 }
@@ -422,11 +432,11 @@ fn told_difference(expected: &Told, got: &Told) -> Option<String> {
     Some(format!("word {at} of {name}: {} expected, {} given", x[at], y[at]))
 }
 
-/// A call held to the words that `marks.rs` leaves: what differs, or what was told.
+/// A call held to the words that `marks.rs` leaves, and the index to that of the records: what differs, or what was told.
 pub fn held(by: &Answering, s: &Marked, act: &Act, room: usize) -> Option<Result<Told, String>> {
     let got = (by.act)(s, act, room)?;
     let expected = marks::run(s, act, room);
-    Some(match told_difference(&expected, &got) {
+    Some(match told_difference(&expected, &got).or_else(|| index::amiss(&s.store, got.code, &got.exit.store)) {
         Some(what) => Err(described(&what, s, act, &Shown(&expected), &Shown(&got))),
         None => Ok(got),
     })

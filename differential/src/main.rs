@@ -7,9 +7,9 @@ use differential::{
     compare::difference,
     damage,
     draft::{lay_out, Draft},
-    empties, fields, generate,
+    empties, fields, generate, index, indexes, lengths,
     lent::Lent,
-    lengths, lists,
+    lists,
     marks::{self, Act, Marked, Told},
     model,
     oracle::{self, Answer, Mode},
@@ -66,7 +66,7 @@ struct Options {
 
 fn usage() -> ! {
     eprintln!(
-        "differential compare|renamed|damaged|claims|fields|lists|trails|empties|lengths|faults|vectors|speed|count|pace|pace-count|worst|stack [--seed S] [--count N] [--from ROUND] [--threads T] [--kinds A,B] [--of port|model|rust] [--out FOLDER]"
+        "differential compare|renamed|damaged|indexes|claims|fields|lists|trails|empties|lengths|faults|vectors|speed|count|pace|pace-count|worst|stack [--seed S] [--count N] [--from ROUND] [--threads T] [--kinds A,B] [--of port|model|rust] [--out FOLDER]"
     );
     exit(2);
 }
@@ -113,7 +113,7 @@ struct Tally {
     calls: [u64; NAMES.len()],
     absent: [u64; NAMES.len()],
     /// by result
-    codes: [u64; 12],
+    codes: [u64; 16],
     /// by case of wordeq and of the step
     cases: [u64; 6],
     none: u64,
@@ -398,7 +398,7 @@ fn damaged(o: &Options) -> Tally {
     tally.print_calls();
     let c = &tally.codes;
     println!(
-        "{} calls on damaged stores compared, {} that the port lacks; answers 0 to 5: {} {} {} {} {} {}; {} differences",
+        "{} calls on damaged stores compared, {} that the port lacks; answers 0 to 5: {} {} {} {} {} {}, 12: {}; {} differences",
         tally.calls.iter().sum::<u64>(),
         tally.absent.iter().sum::<u64>(),
         c[0],
@@ -407,8 +407,27 @@ fn damaged(o: &Options) -> Tally {
         c[3],
         c[4],
         c[5],
+        c[12],
         tally.differences
     );
+    tally
+}
+
+// damaged heads and ninth words, first on the small stores that are listed without gaps
+fn damaged_indexes(o: &Options) -> indexes::Tally {
+    let of = o.of;
+    let by = lists::Answering { call: &move |s, r| of.run(s, r), act: &move |s, a, n| of.act(s, a, n) };
+    let small = indexes::small();
+    println!("{} small stores to list without gaps", small.len());
+    let tally = rounds(o, indexes::Tally::add, |i, random, tally| {
+        if let Err(what) = indexes::round(i, &small, random, &by, tally) {
+            tally.differences += 1;
+            if tally.differences <= PRINTED {
+                println!("round {i}: {what}");
+            }
+        }
+    });
+    tally.print();
     tally
 }
 
@@ -430,6 +449,13 @@ fn claims(o: &Options) -> Tally {
                 continue;
             };
             tally.met(&r.call, &got);
+            if let Some(what) = index::amiss(&s, got.code, &got.exit) {
+                tally.differences += 1;
+                if tally.differences <= PRINTED {
+                    println!("round {i}: {what}\n{r:?}\n{s}\ngiven {got}");
+                }
+                continue;
+            }
             let Some(a) = answered(&s, &r.call, &got) else { continue };
             match try_out(&a) {
                 Tried::Stands(0) => tally.untried += 1,
@@ -612,6 +638,10 @@ fn main() {
             t.differences + t.absent
         }
         "damaged" => damaged(&o).differences,
+        "indexes" => {
+            let t = damaged_indexes(&o);
+            t.differences + t.absent
+        }
         "claims" => claims(&o).differences,
         // nothing is compared where a call is not there
         "fields" => {

@@ -88,10 +88,8 @@ impl Marked {
     }
 }
 
-fn hang(s: &mut Lent, t: u32, parent: u32, label: [u32; 3]) {
-    let at = TERM_WIDTH * t as usize;
-    s.terms[at + 4] = parent;
-    s.terms[at + 5..at + 8].copy_from_slice(&label);
+fn hang(s: &mut Lent, t: u32, parent: u32, [kind, value, stamp]: [u32; 3]) {
+    s.class_words(t)[1..].copy_from_slice(&[parent, kind, value, stamp]);
 }
 
 fn label(s: &Lent, t: u32) -> [u32; 3] {
@@ -118,11 +116,11 @@ fn undo(s: &mut Lent, [child, old_root, class_root]: [u32; 3]) -> bool {
     }
     hang(s, child, child, [0; 3]);
     reroot(s, old_root);
-    s.terms[TERM_WIDTH * class_root as usize + 3] = class_root;
+    s.set_class_parent(class_root, class_root);
     true
 }
 
-/// The audit of store and marks: 0, or the first of refusals 1 to 4 that is due.
+/// The audit of store and marks: 0, or the first of refusals 1 to 4 and 12 that is due.
 pub fn audit_marked(s: &Marked) -> u32 {
     let sizes = s.store.state.len() >= STATE && s.standing() <= STANDING && s.joins() <= JOINS && s.marks.len() >= WORDS;
     match audit(&s.store) {
@@ -180,7 +178,7 @@ pub fn run(s: &Marked, act: &Act, answer_room: usize) -> Told {
             let old_root = *store.ancestors(a).last().unwrap();
             reroot(store, a);
             hang(store, a, b, [kind, number, 0]);
-            store.terms[TERM_WIDTH * under as usize + 3] = over;
+            store.set_class_parent(under, over);
             if store.state[6] > 0 {
                 let at = 64 + 3 * store.state[7] as usize;
                 exit.marks[at..at + 3].copy_from_slice(&[a, old_root, under]);

@@ -88,7 +88,7 @@ pub fn nf_equal_explain(s: &Lent, lhs: &[u32], rhs: &[u32]) -> Answer {
     run(s, &Request::new(Call::NfEqualExplain { lhs: lhs.to_vec(), rhs: rhs.to_vec() }), Mode::Departing)
 }
 
-/// The refusal of 1 to 5 that is due before any work, or 0.
+/// The refusal of 1 to 5 or 12 that is due before any work, or 0.
 pub fn refused_at_entry(s: &Lent, request: &Request) -> u32 {
     let call = &request.call;
     if call.answers_a_list() && request.list_room < LIST || call.has_answer_words() && request.answer_room < 8 {

@@ -7,6 +7,7 @@ use crate::{
     audit::is_char,
     call::*,
     compare::difference,
+    index,
     lent::Lent,
     lists::Answering,
     marks::{Act, Marked},
@@ -21,7 +22,7 @@ use std::collections::{HashMap, HashSet};
 pub struct Tally {
     pub calls: [u64; NAMES.len()],
     /// by result
-    pub codes: [u64; 12],
+    pub codes: [u64; 16],
     pub acts: u64,
     /// characters renamed to a surrogate, to one above 0xFFFF, to another
     pub images: [u64; 3],
@@ -48,7 +49,7 @@ impl Tally {
         }
         let (i, c) = (&self.images, &self.codes);
         println!(
-            "{} calls on renamed stores compared, and {} of joining, marks and going back; {} that the port lacks; characters renamed to surrogates {}, to others above FFFF {}, below {}; results 0 to 11: {c:?}, {} for a character outside both alphabets; {} differences",
+            "{} calls on renamed stores compared, and {} of joining, marks and going back; {} that the port lacks; characters renamed to surrogates {}, to others above FFFF {}, below {}; results 0 to 15: {c:?}, {} for a character outside both alphabets; {} differences",
             self.calls.iter().sum::<u64>(),
             self.acts,
             self.absent,
@@ -100,8 +101,11 @@ impl Renaming {
         text.iter().map(|c| self.0.get(c).copied().unwrap_or(*c)).collect()
     }
 
+    /// The store with other characters, and with the index of the terms that they make.
     pub fn store(&self, s: &Lent) -> Lent {
-        Lent { chars: self.text(&s.chars), ..s.clone() }
+        let mut renamed = Lent { chars: self.text(&s.chars), ..s.clone() };
+        index::put(&mut renamed);
+        renamed
     }
 
     pub fn request(&self, r: &Request) -> Request {
@@ -172,6 +176,11 @@ pub fn acts(random: &mut Random, by: &Answering, s: &Lent, tally: &mut Tally) ->
             return Ok(());
         };
         tally.acts += 1;
+        for (entry, told) in [(&plain, &a), (&other, &b)] {
+            if let Some(what) = index::amiss(&entry.store, told.code, &told.exit.store) {
+                return Err(format!("{act:?}: {what}\n{entry}"));
+            }
+        }
         let renamed = Marked { store: renaming.store(&a.exit.store), ..a.exit.clone() };
         if (a.code, &a.answer, &renamed) != (b.code, &b.answer, &b.exit) {
             return Err(format!("{act:?}: results {} and {} renamed, or other words\n{plain}\nrenamed {renaming:?}", a.code, b.code));

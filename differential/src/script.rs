@@ -21,7 +21,7 @@ impl Script {
     /// No record counted, the slices as long as `answers` lends them.
     fn new() -> Self {
         let slice = |n: usize| vec![0; n];
-        let [terms, cells, chars] = [TERM_WIDTH * (TERMS + 1), CELL_WIDTH * (CELLS + 1), CHARS + 2].map(slice);
+        let [terms, cells, chars] = [term_place(TERMS as u32 + 1, 0), CELL_WIDTH * (CELLS + 1), CHARS + 2].map(slice);
         let [reasons, keys] = [REASONS, KEYS].map(|n| slice(2 * (n + 1)));
         let store = Lent { state: vec![0, 0, NAMED as u32, 0, 0, 0], terms, cells, chars, reasons, keys };
         Script { commands: "N\n".into(), printed: String::new(), store, list: vec![] }
@@ -122,7 +122,7 @@ impl Script {
             self.line('C', &[t, r.class_parent]);
         }
         let words = [r.class_parent, p, r.label_kind, r.label_value, r.stamp];
-        self.store.terms[TERM_WIDTH * t as usize + 3..TERM_WIDTH * t as usize + TERM_WIDTH].copy_from_slice(&words);
+        self.store.class_words(t).copy_from_slice(&words);
     }
 
     pub fn keys(&mut self, n: u32, a: u32, b: u32) {

@@ -134,7 +134,10 @@ fn worst_port(_: &Lent, _: &crate::call::Request, _: &crate::call::Outcome) {
 // seconds that the calls on one store take: the Rust, the port, and the port's audit as often, which the Rust does not have
 #[cfg(feature = "port")]
 fn times(s: &Sample) -> [f64; 3] {
-    use crate::port::{call, Lending};
+    use crate::{
+        index,
+        port::{call, Lending},
+    };
     let (mut world, mut list, mut answer) = (World::load(&s.store), [0; 1024], [0; 8]);
     let mut stores = [s.store.clone(), s.store.clone()];
     let [store, audited] = &mut stores;
@@ -142,7 +145,12 @@ fn times(s: &Sample) -> [f64; 3] {
     let mut port = || {
         for c in &s.calls {
             call(&mut Lending { store, list: &mut list, answer: &mut answer }, c);
+            let grown = store.count() > s.store.count();
             store.state.copy_from_slice(&s.store.state);
+            // as the Rust forgets what a call made
+            if grown {
+                index::cut(store);
+            }
         }
     };
     let mut audit = || {
@@ -150,7 +158,9 @@ fn times(s: &Sample) -> [f64; 3] {
             call(&mut Lending { store: audited, list: &mut [], answer: &mut [] }, &Call::Audit);
         }
     };
-    least([&mut rust, &mut port, &mut audit])
+    let seconds = least([&mut rust, &mut port, &mut audit]);
+    assert_eq!(call(&mut Lending { store: &mut stores[0], list: &mut [], answer: &mut [] }, &Call::Audit), 0, "taken back");
+    seconds
 }
 
 #[cfg(not(feature = "port"))]

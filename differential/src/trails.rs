@@ -1,10 +1,11 @@
-//! Damaged trails. On stores of three to five terms with up to three marks and four joins, every word of the trail, each count and each
-//! class word is set to other values, one after another; what going back to mark 0 answers is held to the audit in `marks.rs`, and where
-//! store and marks still pass, so are going back to each mark, joining and setting a mark.
+//! Damaged trails. On stores of three to five terms with up to three marks and four joins, every word of the trail, each count, each class word
+//! and each ninth word and head of a counted term's bucket is set to other values, one after another; what going back to mark 0 answers is held
+//! to the audit in `marks.rs`, and where store and marks still pass, so are going back to each mark, joining and setting a mark.
 
 use crate::{
     draft::{lay_out, Draft, Edge, Label},
-    lent::{Lent, TERM_WIDTH},
+    index::bucket,
+    lent::{term_place, Lent, CLASS_WORDS, NEXT},
     lists::{blank_marks, held, Answering},
     marks::{self, Act, Marked, STATE, WORDS},
     random::Random,
@@ -18,7 +19,7 @@ pub struct Tally {
     pub listed: u64,
     pub damaged: u64,
     /// by result of going back to 0
-    pub codes: [u64; 11],
+    pub codes: [u64; 16],
     /// calls on damaged trails that pass
     pub followed: u64,
     pub absent: u64,
@@ -42,7 +43,8 @@ impl Tally {
             "{} trails, {} of them listed without gaps; {} damaged ones audited by go_back to 0, {} calls on those that pass, {} that the port lacks",
             self.trails, self.listed, self.damaged, self.followed, self.absent
         );
-        println!("answers 1: {}, 2: {}, 3: {}, 4: {}, 10: {}; {} differences", c[1], c[2], c[3], c[4], c[10], self.differences);
+        let [one, two, three, four, ten, twelve] = [1, 2, 3, 4, 10, 12].map(|k| c[k]);
+        println!("answers 1: {one}, 2: {two}, 3: {three}, 4: {four}, 10: {ten}, 12: {twelve}; {} differences", self.differences);
     }
 }
 
@@ -204,10 +206,14 @@ fn damages(s: &Marked, twice: bool) -> Vec<Damage> {
     for &place in &words {
         list.extend(values.iter().map(|&v| vec![(place, v)]));
     }
-    for t in 1..=s.store.count() as usize {
-        for word in 3..8 {
-            list.extend(values.iter().map(|&v| vec![(Place::Term(TERM_WIDTH * t + word), v)]));
-        }
+    let terms = 1..=s.store.count();
+    let of_classes = terms.clone().flat_map(|t| CLASS_WORDS.map(move |word| term_place(t, word)));
+    // each ninth word, that of record 0 too, the heads of the buckets that have a term, and the first head that has none
+    let heads: Vec<usize> = terms.clone().map(|t| bucket(&s.store, t)).collect();
+    let empty = (0..).find(|b| !heads.contains(b));
+    let of_index = (0..=s.store.count()).map(|t| term_place(t, NEXT)).chain(heads.iter().copied()).chain(empty);
+    for place in of_classes.chain(of_index) {
+        list.extend(values.iter().map(|&v| vec![(Place::Term(place), v)]));
     }
     let (marks, joins) = (s.standing(), s.joins());
     for m in (0..=marks + 2).chain([63, 64, 65, u32::MAX]) {

@@ -5,7 +5,7 @@ use differential::{
     call::*,
     draft::*,
     empties,
-    lent::{Lent, TERMS, TERM_WIDTH, VARIABLE},
+    lent::{Lent, TERMS, VARIABLE},
     lists::Answering,
     marks, model,
     oracle::{self, Mode},
@@ -201,7 +201,7 @@ fn planted_faults_are_found() {
     assert!(finds(|s, _, o| {
         if let (true, Some(&v)) = (o.exit.count() > s.count(), listed(o).first()) {
             let e = o.exit.count();
-            o.exit.terms[TERM_WIDTH * v as usize + 3] = e;
+            o.exit.set_class_parent(v, e);
         }
     }));
     assert!(finds(|s, _, o| {

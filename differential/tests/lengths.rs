@@ -4,7 +4,7 @@ use differential::{
     call::*,
     draft::*,
     lengths::{one, round, small, Tally},
-    lent::{Lent, TERM_WIDTH},
+    lent::Lent,
     model,
     oracle::{self, Mode},
     random::Random,
@@ -90,7 +90,7 @@ fn planted_faults() {
     let apart = |s: &Lent, r: &Request| {
         let mut t = s.clone();
         for i in 1..=t.count() {
-            t.terms[TERM_WIDTH * i as usize + 3..TERM_WIDTH * i as usize + TERM_WIDTH].copy_from_slice(&[i, i, 4, 0, 0]);
+            t.class_words(i).copy_from_slice(&[i, i, 4, 0, 0]);
         }
         let mut got = model::run(if r.call.number() == 15 { &t } else { s }, r);
         if r.call.number() == 15 {

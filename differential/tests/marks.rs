@@ -3,7 +3,7 @@
 use differential::{
     audit::{audit, table_passes},
     draft::*,
-    lent::{Lent, TERM_WIDTH},
+    lent::Lent,
     lists::{self, Answering},
     marks::{audit_marked, run, Act, Marked, Told, STANDING, WORDS},
     model,
@@ -54,8 +54,8 @@ fn going_back_restores_words() {
     let s = variables(&["x", "y", "z"]);
     let marked = after(&s, &[join(1, 2), Act::SetMark]);
     let joined = after(&marked, &[join(1, 3)]);
-    assert_eq!(&joined.store.terms[8 + 3..16], &[2, 3, 1, 5, 0]);
-    assert_eq!(&joined.store.terms[16 + 3..24], &[3, 1, 1, 5, 0]);
+    assert_eq!(&joined.store.words(1)[3..], &[2, 3, 1, 5, 0]);
+    assert_eq!(&joined.store.words(2)[3..], &[3, 1, 1, 5, 0]);
     assert_eq!((joined.record(0), joined.joins(), joined.marks[0]), ([1, 2, 2], 1, 0));
     let gone = after(&joined, &[back(1)]);
     assert_eq!(gone.store, Lent { state: s.store.state.clone(), ..marked.store });
@@ -132,7 +132,7 @@ fn the_audit_of_marks_goes_by_number() {
     // the congruence's stamp falls to that of its pairs' path: 4 of the table, but 3 while a mark's table has it too
     let stamped = |s: &mut Marked| {
         let xx = if s.store.is_edge(3) { 3 } else { 4 };
-        s.store.terms[TERM_WIDTH * xx + 7] = 0;
+        s.store.class_words(xx)[4] = 0;
     };
     assert_eq!(due(&stamped), 3);
     let mut bare = congruent();
@@ -188,7 +188,7 @@ fn planted_faults_are_found() {
         let mut t = run(s, a, n);
         if matches!(a, Act::GoBack { .. }) && t.code == 0 && s.joins() > 0 {
             let under = s.record(s.joins() - 1)[2];
-            t.exit.store.terms[TERM_WIDTH * under as usize + 3] = s.store.term(under).class_parent;
+            t.exit.store.set_class_parent(under, s.store.term(under).class_parent);
         }
         t
     };
@@ -197,9 +197,8 @@ fn planted_faults_are_found() {
     let turned: Calls = |s, a, n| {
         let mut t = run(s, a, n);
         if matches!(a, Act::GoBack { .. }) && t.code == 0 && s.joins() > 0 {
-            let old = s.record(s.joins() - 1)[1] as usize;
-            t.exit.store.terms[TERM_WIDTH * old + 4..TERM_WIDTH * old + TERM_WIDTH]
-                .copy_from_slice(&s.store.terms[TERM_WIDTH * old + 4..TERM_WIDTH * old + TERM_WIDTH]);
+            let old = s.record(s.joins() - 1)[1];
+            t.exit.store.class_words(old)[1..].copy_from_slice(&s.store.words(old)[4..]);
         }
         t
     };
@@ -208,7 +207,8 @@ fn planted_faults_are_found() {
     let shorter: Calls = |s, a, n| {
         let mut t = run(s, a, n);
         if let (0, Act::Join { a, .. }) = (t.code, a) {
-            t.exit.store.terms[TERM_WIDTH * *a as usize + 3] = t.exit.store.class_root(*a);
+            let root = t.exit.store.class_root(*a);
+            t.exit.store.set_class_parent(*a, root);
         }
         t
     };

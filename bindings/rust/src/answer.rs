@@ -3,8 +3,8 @@
 use crate::{Term, ANSWER};
 use std::fmt;
 
-/// Why a call was refused. After the first five, and after `Mark` and `Form`, the call has changed no word of the store; a question has set
-/// the count of its reasons to those that were handed in.
+/// Why a call was refused. After the first five, and after `Mark`, `Form` and `Index`, the call has changed no word of the store; a question has
+/// set the count of its reasons to those that were handed in. After the others what was counted is as it was, and so is the index.
 ///
 /// ```
 /// use labels::{Refusal, Store};
@@ -39,6 +39,8 @@ pub enum Refusal {
     Mark,
     /// no side of constants against one variable class
     Form,
+    /// a head or a chain of the index that the terms do not give; due after `Congruences` and before `Argument`
+    Index,
     /// a refusal's number that no call gives: the library is not the one that this crate was written for
     Other(u32),
     /// an answer's number that no call gives, for the same cause
@@ -65,6 +67,7 @@ impl Refusal {
             Refusal::Names => 9,
             Refusal::Mark => 10,
             Refusal::Form => 11,
+            Refusal::Index => 12,
             Refusal::Other(n) => n,
             Refusal::UnknownAnswer(_) => return None,
         })
@@ -85,6 +88,7 @@ impl fmt::Display for Refusal {
             Refusal::Names => "no name left",
             Refusal::Mark => "a mark that is not standing, or a 65th",
             Refusal::Form => "no side of constants against one variable class",
+            Refusal::Index => "a head or a chain of the index that the terms do not give",
             Refusal::Other(n) => return write!(f, "a refusal that no call gives: {n}"),
             Refusal::UnknownAnswer(n) => return write!(f, "an answer that no call gives: {n}"),
         })
@@ -108,6 +112,7 @@ pub(crate) fn outcome(code: u32) -> Result<(), Refusal> {
         9 => Refusal::Names,
         10 => Refusal::Mark,
         11 => Refusal::Form,
+        12 => Refusal::Index,
         n => Refusal::Other(n),
     })
 }
@@ -421,7 +426,7 @@ mod tests {
         assert_eq!(Form::of(&[2, 0, 0, 0, 0, 0, 0, 0], &[], vec![]), Err(Refusal::UnknownAnswer(2)));
         assert_eq!(Form::of(&[1, 1, 0, 0, 0, 0, 0, 0], &[], vec![]), Err(Refusal::UnknownAnswer(1)));
         assert_eq!((flag(0), flag(1), flag(2)), (Ok(false), Ok(true), Err(Refusal::UnknownAnswer(2))));
-        assert_eq!(outcome(12), Err(Refusal::Other(12)));
+        assert_eq!(outcome(13), Err(Refusal::Other(13)));
     }
 
     #[test]
@@ -447,11 +452,11 @@ mod tests {
     #[test]
     fn numbers_and_refusals_go_together() {
         assert_eq!(outcome(0), Ok(()));
-        for n in 1..=12 {
+        for n in 1..=13 {
             assert_eq!(outcome(n).unwrap_err().number(), Some(n));
         }
         assert_eq!(Refusal::UnknownAnswer(6).number(), None);
         assert_eq!(Refusal::UnknownAnswer(6).to_string(), "an answer that no call gives: 6");
-        assert_eq!(Refusal::Other(12).to_string(), "a refusal that no call gives: 12");
+        assert_eq!(Refusal::Other(13).to_string(), "a refusal that no call gives: 13");
     }
 }

@@ -1,6 +1,6 @@
 //! A term as text.
 
-use crate::{Store, Term, CELL_WIDTH, MAX_CHARACTER, TERM_WIDTH};
+use crate::{term_place, Store, Term, CELL_WIDTH, MAX_CHARACTER};
 use std::fmt::{self, Write};
 
 /// How many terms are printed before the rest is left out: a term that has another twice may be longer than all memory.
@@ -43,7 +43,7 @@ impl Store {
 
     /// A counted term's kind, first and second words.
     fn record(&self, t: Term) -> Option<[u32; 3]> {
-        let words = self.terms.chunks_exact(TERM_WIDTH).nth(t as usize)?;
+        let words = self.terms.get(term_place(t, 0)..term_place(t, 3))?;
         (t != 0 && t <= self.state[0]).then(|| [words[0], words[1], words[2]])
     }
 

@@ -53,20 +53,40 @@ use std::fmt;
 /// The version of this crate, of `labels.h` and of the changelog.
 ///
 /// ```
-/// assert_eq!(labels::VERSION, "0.9.1");
+/// assert_eq!(labels::VERSION, "0.10.0");
 /// ```
 pub const VERSION: &str = env!("CARGO_PKG_VERSION");
 
-/// How many words a term has.
+/// How many words a term has: the last is the next term of its bucket.
+///
+/// ```
+/// assert_eq!(labels::term_place(2, 0) - labels::term_place(1, 0), labels::TERM_WIDTH);
+/// ```
+pub const TERM_WIDTH: usize = 9;
+
+/// How many buckets the index has. Their heads are the first words of [`Store::terms`].
+///
+/// ```
+/// let mut store = labels::Store::new();
+/// let x = store.variable("x")?;
+/// // the bucket of x: its kind, 2, plus its one character
+/// assert_eq!(store.terms[(2 + 'x' as usize) % labels::BUCKETS], x);
+/// # Ok::<(), labels::Refusal>(())
+/// ```
+pub const BUCKETS: usize = 64;
+
+/// Where a word of a term stands in [`Store::terms`], the word by its number in the record.
 ///
 /// ```
 /// let mut store = labels::Store::new();
 /// let t = store.variable("x")?;
 /// // the first word of its record is the kind: 2, a variable
-/// assert_eq!(store.terms[labels::TERM_WIDTH * t as usize], 2);
+/// assert_eq!(store.terms[labels::term_place(t, 0)], 2);
 /// # Ok::<(), labels::Refusal>(())
 /// ```
-pub const TERM_WIDTH: usize = 8;
+pub const fn term_place(t: Term, word: usize) -> usize {
+    BUCKETS + TERM_WIDTH * t as usize + word
+}
 
 /// How many words a cell of a chain has.
 ///
@@ -75,7 +95,7 @@ pub const TERM_WIDTH: usize = 8;
 /// let (x, y) = (store.variable("x")?, store.variable("y")?);
 /// let xy = store.concatenation(&[x, y])?;
 /// // the second word of its record is the first cell, whose first word is the first part
-/// let cell = store.terms[labels::TERM_WIDTH * xy as usize + 1];
+/// let cell = store.terms[labels::term_place(xy, 1)];
 /// assert_eq!(store.cells[labels::CELL_WIDTH * cell as usize], x);
 /// # Ok::<(), labels::Refusal>(())
 /// ```
@@ -89,10 +109,10 @@ pub const CELL_WIDTH: usize = 3;
 /// ```
 pub const PAIR_WIDTH: usize = 2;
 
-/// How many terms a store counts at most. A record 0 that is never used stands before the first.
+/// How many terms a store counts at most. The heads of the index and a record 0 that is never used stand before the first.
 ///
 /// ```
-/// assert_eq!(labels::Store::new().terms.len(), labels::TERM_WIDTH * (labels::TERMS + 1));
+/// assert_eq!(labels::Store::new().terms.len(), labels::term_place(labels::TERMS as u32 + 1, 0));
 /// ```
 pub const TERMS: usize = 512;
 
@@ -186,14 +206,19 @@ const ANSWER: usize = 8;
 /// Where the reasons' count stands in the state.
 const REASON_COUNT: usize = 3;
 
-/// A store in memory of its own, with room up to every limit. The words are the caller's to change: a call refuses what breaks a rule.
+/// A store in memory of its own, with room up to every limit. The words are the caller's to change: a call refuses what breaks a rule. The count
+/// of terms is not put back to undo a call: the index would still name the terms that are not counted any more. What a call appended stays;
+/// who wants it gone asks a clone.
 ///
 /// ```
 /// let mut store = labels::Store::new();
 /// store.variable("x")?;
 /// assert_eq!(store.state, [1, 0, 1, 0, 0, 0, 0, 0]);
+/// let mut other = store.clone();
+/// other.state[0] = 0;
+/// assert_eq!(other.audit(), Err(labels::Refusal::Index));
 /// // a term of no kind
-/// store.terms[labels::TERM_WIDTH] = 6;
+/// store.terms[labels::term_place(1, 0)] = 6;
 /// assert_eq!(store.audit(), Err(labels::Refusal::Records));
 /// # Ok::<(), labels::Refusal>(())
 /// ```
@@ -201,7 +226,8 @@ const REASON_COUNT: usize = 3;
 pub struct Store {
     /// counts of terms, cells, characters, reasons and keys, the name counter, counts of marks and of recorded joins
     pub state: [u32; STATE],
-    /// eight words a term: kind, first, second, class parent, forest parent, label kind, label value, stamp
+    /// the 64 heads of the index, then nine words a term: kind, first, second, class parent, forest parent, label kind, label value, stamp, the
+    /// next term of its bucket ([`term_place`])
     pub terms: Vec<u32>,
     /// three words a cell: value, second value, next
     pub cells: Vec<u32>,
@@ -219,7 +245,8 @@ impl Default for Store {
     fn default() -> Self {
         Store {
             state: [0; STATE],
-            terms: vec![0; TERM_WIDTH * (TERMS + 1)],
+            // no head names a term
+            terms: vec![0; term_place(TERMS as u32 + 1, 0)],
             cells: vec![0; CELL_WIDTH * (CELLS + 1)],
             chars: vec![0; CHARS],
             reasons: vec![0; PAIR_WIDTH * REASONS],
@@ -414,7 +441,8 @@ impl Store {
     }
 
     /// Goes back to a mark, which uses up that mark and later ones. The joins since it are undone, whatever calls were made between: each term
-    /// counted then has the words that it had, and terms made since stay, each alone in its class. Reasons and keys stay too.
+    /// counted then has its first eight words as they were, and terms made since stay, each alone in its class. Reasons, keys and the index stay
+    /// too.
     ///
     /// ```
     /// let mut store = labels::Store::new();

@@ -1,4 +1,4 @@
-use labels::{Answer, Form, Reason, Refusal, Store, Term, CELL_WIDTH, REASONS, TERM_WIDTH};
+use labels::{term_place, Answer, Form, Reason, Refusal, Store, Term, CELL_WIDTH, REASONS};
 use std::collections::HashSet;
 
 /// x ++ "a" = y ++ "b" with x and y of one class by a7, and the string terms.
@@ -158,14 +158,14 @@ fn printing_ends() {
     assert_eq!(shown.matches("..").count(), 1);
     assert!(shown.len() < 8 * 1024, "{}", shown.len());
     // the last concatenation's first part is itself, then a chain that does not end
-    let cell = s.terms[TERM_WIDTH * t as usize + 1] as usize;
+    let cell = s.terms[term_place(t, 1)] as usize;
     s.cells[CELL_WIDTH * cell] = t;
     assert!(s.display(t).to_string().starts_with("? ++ "));
     s.cells[CELL_WIDTH * cell + 2] = cell as u32;
     assert_eq!(s.display(t).to_string(), "?");
     s.terms.fill(u32::MAX);
     assert_eq!(s.display(t).to_string(), "?");
-    s.terms[TERM_WIDTH..TERM_WIDTH + 3].copy_from_slice(&[1, u32::MAX, u32::MAX]);
+    s.terms[term_place(1, 0)..term_place(1, 3)].copy_from_slice(&[1, u32::MAX, u32::MAX]);
     assert_eq!(s.display(1).to_string(), "?");
     s.terms.clear();
     assert_eq!(s.display(1).to_string(), "?");

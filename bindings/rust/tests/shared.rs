@@ -1,8 +1,8 @@
 //! What the crate shares with `labels.h` and the changelog: the version, the sizes and the texts of refusals.
 
 use labels::{
-    Refusal, CELLS, CELL_WIDTH, CHARS, KEYS, LIST, MARKS, MAX_CHARACTER, PAIR_WIDTH, REASONS, SPLIT_TERMS, STATE, TERMS, TERM_WIDTH,
-    VERSION,
+    term_place, Refusal, BUCKETS, CELLS, CELL_WIDTH, CHARS, KEYS, LIST, MARKS, MAX_CHARACTER, PAIR_WIDTH, REASONS, SPLIT_TERMS, STATE,
+    TERMS, TERM_WIDTH, VERSION,
 };
 use std::fs;
 
@@ -27,10 +27,12 @@ fn the_same_sizes() {
     let header = file("../labels.h");
     let sizes = [("MAX_TERMS", TERMS), ("MAX_CELLS", CELLS), ("MAX_CHARS", CHARS), ("MAX_REASONS", REASONS), ("MAX_KEYS", KEYS)];
     let words = [("STATE_WORDS", STATE), ("LIST_WORDS", LIST), ("MARK_WORDS", MARKS)];
-    let widths = [("TERM_WIDTH", TERM_WIDTH), ("CELL_WIDTH", CELL_WIDTH), ("PAIR_WIDTH", PAIR_WIDTH)];
+    let widths = [("TERM_WIDTH", TERM_WIDTH), ("CELL_WIDTH", CELL_WIDTH), ("PAIR_WIDTH", PAIR_WIDTH), ("BUCKETS", BUCKETS)];
     for (name, size) in sizes.into_iter().chain(words).chain(widths).chain([("MAX_SPLIT_TERMS", SPLIT_TERMS)]) {
         assert!(header.contains(&format!("#define LABELS_{name} {size}\n")), "{name}");
     }
+    assert!(header.contains("((size_t)LABELS_BUCKETS + (size_t)LABELS_TERM_WIDTH * (size_t)(t) + (size_t)(word))\n"));
+    assert_eq!((term_place(0, 0), term_place(1, 8)), (BUCKETS, BUCKETS + 2 * TERM_WIDTH - 1));
     assert!(header.contains(&format!("#define LABELS_MAX_CHARACTER {MAX_CHARACTER:#X}\n")));
 }
 
@@ -49,6 +51,7 @@ fn the_same_texts() {
         ("NAMES", Refusal::Names),
         ("MARK", Refusal::Mark),
         ("FORM", Refusal::Form),
+        ("INDEX", Refusal::Index),
     ];
     for (name, refusal) in refusals {
         assert!(header.contains(&format!("LABELS_REFUSED_{name} = {}", refusal.number().unwrap())), "{name}");

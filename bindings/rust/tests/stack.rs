@@ -1,6 +1,6 @@
 //! The calls do with 192 KiB of stack on the stores that take most of it, a tower of congruences above all, each explained by the one below it.
 
-use labels::{Answer, Fit, Reason, Span, Store, Term, CELL_WIDTH, LIST, TERMS, TERM_WIDTH};
+use labels::{term_place, Answer, Fit, Reason, Span, Store, Term, CELL_WIDTH, LIST, TERMS};
 use std::thread;
 
 /// What the header asks for. A thread's own words are within it, so a call has less.
@@ -14,8 +14,7 @@ fn under_a_tower() -> (Store, [Term; 3]) {
     let (x, z) = (s.variable("x").unwrap(), s.variable("z").unwrap());
     let (mut below, mut top) = (x, s.concatenation(&[x, z]).unwrap());
     let edge = |s: &mut Store, child: Term, parent, kind, value, stamp| {
-        let at = TERM_WIDTH * child as usize;
-        s.terms[at + 3..at + 8].copy_from_slice(&[parent, parent, kind, value, stamp]);
+        s.terms[term_place(child, 3)..term_place(child, 8)].copy_from_slice(&[parent, parent, kind, value, stamp]);
     };
     edge(&mut s, top, below, 1, 1, 1);
     let mut stamp = 1;

@@ -1,9 +1,8 @@
-use labels::{Answer, EmptyParts, Form, Reason, Refusal, Store, Term, TERM_WIDTH};
+use labels::{term_place, Answer, EmptyParts, Form, Reason, Refusal, Store, Term};
 
 /// A root joins the class of another root by an asserted equality.
 fn merge(s: &mut Store, child: Term, parent: Term, number: u32) {
-    let at = TERM_WIDTH * child as usize;
-    s.terms[at + 3..at + 8].copy_from_slice(&[parent, parent, 1, number, 1]);
+    s.terms[term_place(child, 3)..term_place(child, 8)].copy_from_slice(&[parent, parent, 1, number, 1]);
 }
 
 #[test]
@@ -30,7 +29,7 @@ fn refusals_leave_the_store_alone() {
     assert_eq!(s.constant("a"), Err(Refusal::Sizes));
     assert_eq!(s.state, [1, 0, 16385, 0, 0, 0, 0, 0]);
     s.state[2] = 1;
-    s.terms[TERM_WIDTH] = 6;
+    s.terms[term_place(1, 0)] = 6;
     assert_eq!(s.audit(), Err(Refusal::Records));
     s.reasons.clear();
     s.state[3] = u32::MAX;
@@ -137,7 +136,7 @@ fn empty_parts() {
     merge(&mut s, label[1], label[0], 1);
     s.explain(label[0], label[1]).unwrap();
     // another form: none, and nothing is made
-    let before = s.state;
+    let (full, before) = (s.clone(), s.state);
     assert_eq!(s.empty_parts(&[], &label[..1]).unwrap(), EmptyParts { variables: vec![], empty: None, link: false });
     assert_eq!(s.empty_parts(&[], &[whole, 10]), Err(Refusal::Argument));
     assert_eq!(s.state, before);
@@ -146,8 +145,8 @@ fn empty_parts() {
     assert_eq!((&parts.variables[..2], parts.variables.len()), (&[label[0], label[2]][..], 7));
     assert_eq!((parts.empty, parts.link, s.reason_list()), (Some(10), true, vec![Reason::Asserted(1)]));
     // no room for ""
-    s.state = before;
-    s.terms.truncate(TERM_WIDTH * 10);
+    s = full;
+    s.terms.truncate(term_place(10, 0));
     assert_eq!(s.empty_parts(&[], &label), Err(Refusal::Room));
     assert_eq!(s.state, before);
 }

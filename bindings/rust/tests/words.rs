@@ -1,13 +1,13 @@
 //! Merges that a caller writes into the records itself, by the manual's rules ('Where the caller writes the records itself').
 
-use labels::{Answer, Reason, Refusal, Store, Term, CELL_WIDTH, TERM_WIDTH};
+use labels::{term_place, Answer, Reason, Refusal, Store, Term, BUCKETS, CELL_WIDTH};
 
 const ASSERTED: u32 = 1;
 const CONGRUENCE: u32 = 3;
 const DEFINITIONAL: u32 = 4;
 
 fn word(s: &mut Store, t: Term, field: usize) -> &mut u32 {
-    &mut s.terms[TERM_WIDTH * t as usize + field]
+    &mut s.terms[term_place(t, field)]
 }
 
 /// The terms from t up to its root, by class parents (field 3) or forest parents (field 4).
@@ -103,8 +103,8 @@ fn definitional() {
     let kept = s.terms.clone();
     merge(&mut s, x, a, DEFINITIONAL, 0, 0);
     assert_eq!(s.step(&[x, a, b], e, 1), Ok(Answer::Conflict { reasons: vec![] }));
-    for t in 1..=s.state[0] as usize {
-        let links = TERM_WIDTH * t + 3..TERM_WIDTH * t + 8;
+    for t in 1..=s.state[0] {
+        let links = term_place(t, 3)..term_place(t, 8);
         s.terms[links.clone()].copy_from_slice(&kept[links]);
     }
     assert_eq!(s.step(&[x, a, b], e, 1), Ok(Answer::Propagate { variable: x, word: b, link: false, reasons: vec![] }));
@@ -113,24 +113,104 @@ fn definitional() {
     assert_eq!(s.audit(), Err(Refusal::Classes));
 }
 
-/// The state's words kept and put back undo all that a call made, its key among it; after a join, go back to a mark first.
+/// The count of terms put back breaks the index, and a caller that cuts it itself, as a refused call does, has the store of before; after a join,
+/// go back to a mark first. A key can be put back alone.
 #[test]
 fn the_state_put_back() {
     let mut s = Store::new();
     let (x, y) = (s.variable("x").unwrap(), s.variable("y").unwrap());
-    let kept = s.state;
+    let before = s.clone();
     let mark = s.set_mark().unwrap();
     let split = s.resolve_equation(&[x, y], &[y, x], 1).unwrap();
     assert!(matches!(&split, Answer::Split { terms_made: 9, .. }));
     assert_eq!(s.resolve_equation(&[x, y], &[y, x], 1), Ok(Answer::Saturated { reasons: vec![] }));
     let late = s.state[0];
-    let late = (1..=late).rev().find(|&t| s.terms[TERM_WIDTH * t as usize] <= 3).unwrap();
+    let late = (1..=late).rev().find(|&t| *word(&mut s, t, 0) <= 3).unwrap();
     s.join(x, late, Reason::Asserted(1)).unwrap();
     let joined = s.clone();
-    s.state = kept;
+    s.state = before.state;
     assert_eq!(s.audit(), Err(Refusal::Classes));
     s = joined;
     s.go_back(mark).unwrap();
-    s.state = kept;
+    let mut again = s.clone();
+    again.state[4] = before.state[4];
+    assert!(matches!(again.resolve_equation(&[x, y], &[y, x], 1), Ok(Answer::Split { terms_made: 6, .. })));
+    s.state = before.state;
+    assert_eq!(s.audit(), Err(Refusal::Index));
+    cut(&mut s);
+    assert_eq!(s.terms[..term_place(3, 0)], before.terms[..term_place(3, 0)]);
     assert_eq!(s.resolve_equation(&[x, y], &[y, x], 1), Ok(split));
+}
+
+/// Heads and ninth words of counted terms that name a term above the count become 0.
+fn cut(s: &mut Store) {
+    let n = s.state[0];
+    for place in (0..BUCKETS).chain((1..=n).map(|t| term_place(t, 8))) {
+        if s.terms[place] > n {
+            s.terms[place] = 0;
+        }
+    }
+}
+
+/// The bucket of each term by the manual's rule, and from them the heads and the ninth words: what the calls leave, also those that were refused
+/// while they worked, and the audit of each word changed.
+#[test]
+fn the_index() {
+    let mut s = Store::new();
+    let [x, y] = ["x", "y"].map(|name| s.variable(name).unwrap());
+    let at = s.constant("@").unwrap();
+    let xx = s.concatenation(&[x, x]).unwrap();
+    let n = s.length(x).unwrap();
+    s.equation(xx, at).unwrap();
+    assert_eq!(*word(&mut s, xx, 8), n, "x ++ x and the length of x are in one bucket: 3 + 1 + 1 and 4 + 1");
+    assert_eq!(index(&s), determined(&s));
+    assert!(matches!(s.resolve_equation(&[x, y], &[at, x], 1), Ok(Answer::Split { .. })));
+    assert_eq!(index(&s), determined(&s));
+    // room for one term more: "" is made behind "@", in bucket 1, and the call is refused at the next term
+    let mut full = Store::new();
+    let at = full.constant("@").unwrap();
+    let [x, y] = ["x", "y"].map(|name| full.variable(name).unwrap());
+    full.terms.truncate(term_place(5, 0));
+    let entry = index(&full);
+    assert_eq!(full.resolve_equation(&[x, y], &[at], 1), Err(Refusal::Room));
+    assert_eq!((index(&full), *word(&mut full, at, 8)), (entry, 0));
+    // another number in one word
+    let count = s.state[0];
+    for place in (0..BUCKETS).chain((1..=count).map(|t| term_place(t, 8))) {
+        for value in (0..=count + 1).chain([u32::MAX]).filter(|&value| value != s.terms[place]) {
+            let mut bad = s.clone();
+            bad.terms[place] = value;
+            assert_eq!((bad.audit(), bad.find(0)), (Err(Refusal::Index), Err(Refusal::Index)), "{place} {value}");
+        }
+    }
+}
+
+/// The heads and the ninth words of the counted terms.
+fn index(s: &Store) -> (Vec<u32>, Vec<u32>) {
+    (s.terms[..BUCKETS].to_vec(), (1..=s.state[0]).map(|t| s.terms[term_place(t, 8)]).collect())
+}
+
+/// The same from the records alone: the lowest term of each bucket, and the next higher one of a term's bucket.
+fn determined(s: &Store) -> (Vec<u32>, Vec<u32>) {
+    let all = || 1..=s.state[0];
+    let next = |above: Term, b: usize| all().find(|&t| t > above && bucket(s, t) == b).unwrap_or(0);
+    ((0..BUCKETS).map(|b| next(0, b)).collect(), all().map(|t| next(t, bucket(s, t))).collect())
+}
+
+/// The remainder by 64 of a term's kind plus all its characters or all its parts' numbers.
+fn bucket(s: &Store, t: Term) -> usize {
+    let [kind, first, second] = [0, 1, 2].map(|field| s.terms[term_place(t, field)] as usize);
+    let numbers: Vec<u32> = match kind {
+        1 | 2 => s.chars[first..first + second].to_vec(),
+        3 => {
+            let (mut parts, mut c) = (vec![], first);
+            while c != 0 {
+                parts.push(s.cells[CELL_WIDTH * c]);
+                c = s.cells[CELL_WIDTH * c + 2] as usize;
+            }
+            parts
+        }
+        _ => vec![first as u32, second as u32],
+    };
+    (kind + numbers.iter().map(|&x| x as usize).sum::<usize>()) % BUCKETS
 }

@@ -6,6 +6,8 @@ use crate::solving::ask_empty_parts;
 use crate::solving::solve;
 use building::Counts;
 use building::adding::reasoned;
+use building::adding::uncount;
+use building::words::narrow;
 use engine::Found;
 use forced::Forced;
 use lines::lending::front;
@@ -181,6 +183,15 @@ fn say_form(f: DeepForm, terms: &[u32], chars: &[u32], reasons: &[u32], list: &[
     }
 }
 
+// How many terms are counted after the call.
+fn terms_after(f: DeepForm, c: Counts) -> u32 {
+    match f {
+        DeepForm::List(n, d) => narrow(d.terms),
+        DeepForm::None(d) => narrow(d.terms),
+        DeepForm::Refused(k) => c.terms,
+    }
+}
+
 // Answers what is counted from here on.
 pub fn ask(
     l: u8,
@@ -209,7 +220,7 @@ pub fn ask(
         110 | 100 => {
             let f = form(l, a, terms, cells, chars, reasons, keys, known, list, s);
             say_form(f, terms, chars, reasons, list, c);
-            c
+            uncount(terms, cells, chars, terms_after(f, c), c)
         }
         97 => ask_empty_parts(a, terms, cells, chars, reasons, keys, known, list, c),
         _ => solve(l, a, b, terms, cells, chars, reasons, keys, known, list, c),

@@ -26,6 +26,7 @@
 //   M n             n terms are counted
 //   c n             n cells are counted
 //   T t i x         word i of term t becomes x
+//   x i v           word i of the slice of terms becomes v, the heads of the index being words 0 to 63
 //   D c i x         word i of cell c becomes x
 //   L t u ..        the list: the known list, or two sides
 //   J n t           n times t more in the list
@@ -51,7 +52,8 @@
 //   t               the words lent for marks, as far as they are counted
 //   #               a remark, which is printed
 //
-// What is asked is printed with its answer: the root, or the refusal; the count of reasons and the reasons, with a3-5 for a3 a4 a5; for
+// The index of the terms is put anew by the commands that write records of terms or change their count, and where a call made terms that are not
+// counted from then on; else it is what the calls leave. What is asked is printed with its answer: the root, or the refusal; the count of reasons and the reasons, with a3-5 for a3 a4 a5; for
 // the forms the count of atoms and the atoms, with 7*3 for 7 7 7, or none; then the reasons, how many terms and characters are counted
 // after the call, and the texts of the constants made. What a form made is not counted from then on. For resolve_equation and the step: the
 // case with its values (the variable, the word and the link flag; the count of atoms, the atoms and the guard), the reasons, the counts
@@ -68,6 +70,7 @@ use building::Counts;
 use building::adding::apply;
 use building::none;
 use lending::words_of;
+use lines::indexing::put_index;
 use lines::lending::front;
 use lines::lending::part;
 use lines::reading::letter;
@@ -160,7 +163,12 @@ fn step(
     let mut n: [u32; NUMBERS] = [0; NUMBERS];
     let last = read(l, line, &mut n);
     if is_mark(l) {
-        return mark(l, line, &n, terms, cells, chars, reasons, keys, marks, c);
+        let d = mark(l, line, &n, terms, cells, chars, reasons, keys, marks, c);
+        if l != 78 {
+            return d;
+        }
+        put_index(terms, cells, chars, d.terms);
+        return d;
     }
     if is_ask(l) {
         return ask_line(l, line, &n, terms, cells, chars, reasons, keys, known, c);

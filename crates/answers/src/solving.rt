@@ -3,6 +3,7 @@ use crate::asking::state;
 use crate::saying::say_list;
 use crate::stating::say_store;
 use building::Counts;
+use building::adding::uncount;
 use commands::numbers::guard_of_word;
 use commands::print::put_guard;
 use empties::Empties;
@@ -126,7 +127,7 @@ pub fn solve(
     if l == 66 {
         return d;
     }
-    c
+    uncount(terms, cells, chars, d.terms, c)
 }
 
 // The variables listed, the number of "", the link flag, and the store. Answers what is counted after the call.

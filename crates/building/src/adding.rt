@@ -14,9 +14,10 @@ use crate::words::put_term;
 use crate::words::put_tower;
 use crate::words::put_variables;
 use crate::words::put_words;
+use lines::indexing::put_index;
+use lines::indexing::term_place;
 use lines::put;
 use records::CELL_WIDTH;
-use records::TERM_WIDTH;
 use records::fields::word;
 use std::num::wrapping_add_u32;
 use std::num::wrapping_add_usize;
@@ -261,10 +262,45 @@ fn change(l: u8, n: &[u32], terms: &mut [u32], cells: &mut [u32]) {
         }
         70 => edge(terms, n),
         67 => put_class(terms, a, b),
-        84 => put(terms, TERM_WIDTH * (a as usize) + at, word(n, 3)),
+        84 => put(terms, term_place(a, at), word(n, 3)),
         68 => put(cells, CELL_WIDTH * (a as usize) + at, word(n, 3)),
+        120 => put(terms, a as usize, b),
         _ => {}
     }
+}
+
+// What was made is not counted from here on: the index is put anew where there was something.
+pub fn uncount(terms: &mut [u32], cells: &[u32], chars: &[u32], made: u32, c: Counts) -> Counts {
+    if made != c.terms {
+        put_index(terms, cells, chars, c.terms);
+    }
+    c
+}
+
+// The commands that change records of terms, their parts or their count, after which the index is put anew.
+fn is_record(l: u8) -> bool {
+    match l {
+        86 | 72 | 75 | 83 | 73 | 79 | 80 | 88 | 85 | 89 | 84 | 68 | 77 => true,
+        _ => false,
+    }
+}
+
+// The words and counts that a command changes.
+fn build(
+    l: u8,
+    n: &[u32],
+    last: usize,
+    terms: &mut [u32],
+    cells: &mut [u32],
+    chars: &mut [u32],
+    reasons: &mut [u32],
+    keys: &mut [u32],
+    known: &mut [u32],
+    c: Counts,
+) -> Counts {
+    change(l, n, terms, cells);
+    let d = add(l, n, last, terms, cells, chars, c);
+    set(l, n, last, reasons, keys, known, d)
 }
 
 // A command that asks nothing.
@@ -280,7 +316,10 @@ pub fn apply(
     known: &mut [u32],
     c: Counts,
 ) -> Counts {
-    change(l, n, terms, cells);
-    let d = add(l, n, last, terms, cells, chars, c);
-    set(l, n, last, reasons, keys, known, d)
+    let d = build(l, n, last, terms, cells, chars, reasons, keys, known, c);
+    if !is_record(l) {
+        return d;
+    }
+    put_index(terms, cells, chars, d.terms);
+    d
 }

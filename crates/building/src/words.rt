@@ -1,8 +1,8 @@
 // The words of a store written for a case: terms, edges, chains of cells, reasons.
+use lines::indexing::term_place;
 use lines::put;
 use lines::put_all;
 use records::CELL_WIDTH;
-use records::TERM_WIDTH;
 use records::fields::word;
 use std::num::wrapping_add_u32;
 use std::num::wrapping_add_usize;
@@ -19,16 +19,16 @@ pub fn narrow(x: usize) -> u32 {
 // Alone in its class.
 pub fn put_term(terms: &mut [u32], t: u32, kind: u32, first: u32, second: u32) {
     let words = [kind, first, second, t, t, 0, 0, 0];
-    put_all(terms, TERM_WIDTH * (t as usize), &words);
+    put_all(terms, term_place(t, 0), &words);
 }
 
 pub fn put_class(terms: &mut [u32], t: u32, p: u32) {
-    put(terms, TERM_WIDTH * (t as usize) + 3, p);
+    put(terms, term_place(t, 3), p);
 }
 
 pub fn put_edge(terms: &mut [u32], t: u32, p: u32, kind: u32, value: u32, stamp: u32) {
     let words = [p, kind, value, stamp];
-    put_all(terms, TERM_WIDTH * (t as usize) + 4, &words);
+    put_all(terms, term_place(t, 4), &words);
 }
 
 fn put_cell(cells: &mut [u32], e: u32, value: u32, other: u32, next: u32) {

@@ -2,7 +2,7 @@
 use mathlib.Core.Path.{_≡_, refl, sym, ap, subst, _∙_}
 use mathlib.Core.Bool.{Bool, true, false, _&&_}
 use mathlib.Core.List.{List, [], _∷_}
-use mathlib.Core.Logic.{⊎-elim}
+use mathlib.Core.Logic.{inl, ⊎-elim}
 use Prim.Native.Nat.{ℕ, zero, suc, _+_, _≤_, _<_}
 use native.Mathlib.Omega.{arith}
 use native.Mathlib.Decide.{decLe}
@@ -127,7 +127,7 @@ answer-shows (step.Refused n) m′ k′ i = refl
 -- RESOLVE_EQUATION
 
 pub resolve-untold : (l r : List ℕ) (g : ℤ) (m : Lent) (k w a : List ℕ) → roomy stateRoom w a ≡ false → ExportedResolve l r g m m k k w w a a 1
-resolve-untold l r g m k w a e = record { is = untold-list _ answerWords m k w a _ e; worth = λ z. absurd (omega arith); once = λ z. absurd (omega arith); grows = λ z y. absurd (omega arith); decides = λ v f i. absurd (i 1 refl (omega arith)) }
+resolve-untold l r g m k w a e = record { is = untold-list _ answerWords m k w a _ e; worth = λ z. absurd (omega arith); once = λ z. absurd (omega arith); grows = λ z y. absurd (omega arith); decides = λ v f i. absurd (i 1 refl (inl (omega arith))) }
 
 -- the terms counted are those of the state
 pub counted : (m : Lent) (w : List ℕ) → count (storeOf m (stateOf w)) ≡ getD w 0 0

@@ -2,6 +2,7 @@
 use mathlib.Core.Path.{_≡_, refl, sym, ap, subst, _∙_}
 use mathlib.Core.Bool.{Bool}
 use mathlib.Core.List.{List, []}
+use mathlib.Core.Logic.{inl}
 use Prim.Native.Nat.{ℕ, _≤_}
 use native.Mathlib.Omega.{arith}
 use lib.ListN.{length}
@@ -50,4 +51,4 @@ module _ {fit : Store → Bool} {work : Work (Unit {0})} (can : Tells fit work) 
 
     -- what holds of every stop's number holds of the result, where it is a refusal
     pub counts-full : ((j : ℕ) → added r m′ ≡ stop j → fullAlone j) → fullAlone k
-    counts-full f h = f k (told-stop 0 noWords noRead m′ (added r m′) (addedTelling r) (added-shows r m′) stops (t .is) (λ z. omega arith)) h
+    counts-full f h = f k (told-stop 0 noWords noRead m′ (added r m′) (addedTelling r) (added-shows r m′) stops (t .is) (λ z. h (inl (omega arith)))) h

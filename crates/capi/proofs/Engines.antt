@@ -2,6 +2,7 @@
 use mathlib.Core.Path.{_≡_, refl, ap, subst}
 use mathlib.Core.Bool.{true, _&&_}
 use mathlib.Core.List.{List, [], _∷_}
+use mathlib.Core.Logic.{inl}
 use Prim.Native.Nat.{ℕ, _≤_, _<_}
 use native.Mathlib.Omega.{arith}
 use lib.ListN.{length, getD}
@@ -76,7 +77,7 @@ explain-tells a b = record {
     three s f = both-right (isString s a && isString s b) _ f
 
 pub explain-short : (a b : ℕ) (m : Lent) (w : List ℕ) → length w < stateRoom → ExportedExplain a b m m w w 1
-explain-short a b m w h = record { is = untold _ m w 0 [] tt (lt-leb stateRoom (length w) h); worth = λ e. absurd (omega arith); once = λ e. absurd (omega arith); edges = λ e. absurd (omega arith); full = λ e. absurd (omega arith) }
+explain-short a b m w h = record { is = untold _ m w 0 [] tt (lt-leb stateRoom (length w) h); worth = λ e. absurd (omega arith); once = λ e. absurd (omega arith); edges = λ e. absurd (omega arith); full = λ e. absurd (e (inl (omega arith))) }
 
 module _ {a b : ℕ} {m m′ : Lent} {c : State} {r : Added} (called : PublicExplain a b m m′ c (added r m′)) where
   pub explain-tellable : (d : State) → r ≡ adding.Counts d → Narrow d

@@ -2,6 +2,7 @@
 use mathlib.Core.Path.{_≡_, refl, ap, subst}
 use mathlib.Core.Bool.{Bool, true, false}
 use mathlib.Core.List.{List, [], _∷_}
+use mathlib.Core.Logic.{inl}
 use Prim.Native.Nat.{ℕ, _≤_, _<_}
 use native.Mathlib.Omega.{arith}
 use lib.ListN.{length}
@@ -69,7 +70,7 @@ pairs-tells l r = record {
 }
 
 pub pairs-short : (l r : List ℕ) (m : Lent) (w : List ℕ) → length w < stateRoom → ExportedEqualExplain l r m m w w 1
-pairs-short l r m w h = record { is = untold _ m w 0 [] tt (lt-leb stateRoom (length w) h); worth = λ e. absurd (omega arith); once = λ e. absurd (omega arith); full = λ e. absurd (omega arith) }
+pairs-short l r m w h = record { is = untold _ m w 0 [] tt (lt-leb stateRoom (length w) h); worth = λ e. absurd (omega arith); once = λ e. absurd (omega arith); full = λ e. absurd (e (inl (omega arith))) }
 
 module _ {l r : List ℕ} {m m′ : Lent} {c : State} {x : Added} (called : PublicEqualExplain l r m m′ c (added x m′)) where
   pub pairs-tellable : (d : State) → x ≡ adding.Counts d → Narrow d

@@ -14,6 +14,7 @@ use Rattle.records.specs.View.{Lent, storeOf}
 use Rattle.records.specs.Rules.{audit}
 use Rattle.records.specs.Working.Audited.{Audited}
 use Rattle.records.specs.Calls.{call, checked, unless, Public, made}
+use Rattle.records.proofs.IndexLaws.{same-none}
 use Rattle.records.proofs.Lists.{table-length}
 use Rattle.records.proofs.Works.{stop-not}
 use Rattle.records.proofs.Passed.{ready-of}
@@ -64,7 +65,7 @@ module _ {A : Type 0} {fit : Store → Bool} {work : Work A} (can : Tells fit wo
 -- a state or an answer too short
 pub untold : {A : Type 0} {b : Bool} (o : Out A) (m : Lent) (w : List ℕ) (n : ℕ) (a : List ℕ) (x : A) → b ≡ false → Exported (over b o) m m w w n a a x 1
 untold o m w n a x e = record {
-  public = record { says = rw e; idle = λ k z l. refl; kept = refl; passes = λ d y q. stop-not q };
+  public = record { says = rw e; idle = λ k z l. refl; kept = refl; back = λ k z. same-none _ _; passes = λ d y q. stop-not q };
   state = beyond-same stateRoom w;
   answer = beyond-same n a;
   state-idle = λ z. refl;
@@ -73,7 +74,7 @@ untold o m w n a x e = record {
 
 -- an outcome that is told is the public one
 pub told-public : {A : Type 0} {o : Out A} {b : Bool} {m m′ : Lent} {c : State} {r r′ : Out A} → b ≡ true → r′ ≡ r → Public o m m′ c r → Public (over b o) m m′ c r′
-told-public e f p = rw e record { says = f ∙ p .says; idle = λ k z l. p .idle k (sym f ∙ z) l; kept = p .kept; passes = λ d y z. p .passes d y (sym f ∙ z) }
+told-public e f p = rw e record { says = f ∙ p .says; idle = λ k z l. p .idle k (sym f ∙ z) l; kept = p .kept; back = λ k z. p .back k (sym f ∙ z); passes = λ d y z. p .passes d y (sym f ∙ z) }
 
 -- A TELLING OF AN OUTCOME
 

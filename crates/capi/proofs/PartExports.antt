@@ -2,6 +2,7 @@
 use mathlib.Core.Path.{_≡_, refl, sym, ap, subst, _∙_}
 use mathlib.Core.Bool.{Bool, true, false}
 use mathlib.Core.List.{List, [], _∷_}
+use mathlib.Core.Logic.{inl}
 use Prim.Native.Nat.{ℕ, _≤_}
 use native.Mathlib.Omega.{arith}
 use lib.ListN.{length, getD}
@@ -45,7 +46,7 @@ parts-shows (empties.Parts c e n f) m′ k′ = record {
 parts-shows (empties.Refused k) m′ k′ = refl
 
 pub parts-untold : (l r : List ℕ) (m : Lent) (k w a : List ℕ) → roomy stateRoom w a ≡ false → ExportedParts l r m m k k w w a a 1
-parts-untold l r m k w a e = record { is = untold-list _ partsWords m k w a _ e; repeats = λ f. absurd (f 1 refl (omega arith)); worth = λ z. absurd (omega arith) }
+parts-untold l r m k w a e = record { is = untold-list _ partsWords m k w a _ e; repeats = λ f. absurd (f 1 refl (inl (omega arith))); worth = λ z. absurd (omega arith) }
 
 module _ {l r : List ℕ} {m m′ : Lent} {k k′ : List ℕ} {c : State} {o : Empties} (called : PublicEmpties l r m m′ k k′ c (listed o m′ k′)) where
   pub parts-tellable : NarrowParts o

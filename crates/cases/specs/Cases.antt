@@ -28,7 +28,7 @@ empty = record {
   reasons = [];
   keys = [];
   names = 0;
-  room = record { terms = 512; cells = 2048; chars = 16384; reasons = 4096; keys = 4096; termsLong = termWords 512; cellsLong = cellWords 2048; zeroTerm = noTerm; zeroCell = noCell };
+  room = record { terms = 512; cells = 2048; chars = 16384; reasons = 4096; keys = 4096; termsLong = termWords 512; cellsLong = cellWords 2048; zeroTerm = (noTerm, 0); zeroCell = noCell };
 }
 
 unfoldable pub codes : String → List ℕ

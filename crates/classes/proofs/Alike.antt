@@ -6,12 +6,14 @@ use mathlib.Core.List.{List}
 use Prim.Native.Nat.{ℕ, _≤_, _<_}
 use native.Mathlib.Omega.{arith}
 use lib.ListN.{length}
-use Rattle.records.specs.Lists.{Every}
-use Rattle.records.specs.Store.{Term, Store, termIn, term, kind, within, isTerm, isString, textIn, text, chain}
+use Rattle.records.specs.Lists.{Every, firsts}
+use Rattle.records.specs.Store.{Term, Store, termIn, term, kind, within, isTerm, isString, textIn, text, chainIn, chain}
+use Rattle.records.specs.Index.{bucket}
 use Rattle.records.specs.Rules.{keyRule, isEquatable}
 use Rattle.records.specs.Make.{withTerms, withClass}
 use Rattle.records.specs.Working.Audited.{Part, Recorded, Roomy}
 use Rattle.records.proofs.Lists.{every-map, all-every, every-all}
+use Rattle.records.proofs.IndexStores.{bucket-words}
 use Rattle.classes.specs.Joins.{Edge, bearing, putEdge, putClass}
 use Rattle.classes.proofs.Tables.{edge-long, edge-words, class-long, class-words}
 
@@ -60,6 +62,11 @@ module _ (s : Store) (us : List Term) (l : Like (s .terms) us) where
   pub text-like : (t : ℕ) → text s′ t ≡ text s t
   unfolding textIn
   text-like t = rw (first-like t, second-like t)
+
+  -- document 02, Note 9: the bucket of a record reads kind, first and second alone
+  pub bucket-like : (t : ℕ) → bucket s′ t ≡ bucket s t
+  bucket-like t =
+      bucket-words s s′ t (kind-like t) (first-like t) (second-like t) (text-like t) (ap (λ (f : ℕ). firsts (chainIn (s .cells) f)) (first-like t))
 
   pub equatable-like : (x y : ℕ) → isEquatable s′ x y ≡ isEquatable s x y
   unfolding isEquatable

@@ -16,7 +16,8 @@ use Rattle.records.proofs.Climbs.{root-self, above-root}
 use Rattle.records.proofs.Grown.{string-term}
 use Rattle.classes.specs.Merge.{isRootIn, canMerge, mergeIn}
 use Rattle.classes.specs.Joins.{edge, bearing, putEdge, putClass, turns, rerootIn}
-use Rattle.classes.proofs.Tables.{class-here, class-words, turn-root}
+use Rattle.classes.proofs.Tables.{class-here, class-words, turn-root, class-long}
+use Rattle.classes.proofs.Alike.{Like, like-then, like-edge, like-class}
 use Rattle.classes.proofs.Attaching.{attachIn, attached-audited}
 
 -- what the test of merging says
@@ -60,6 +61,12 @@ merge-attaches ts t p n m w r e =
     ap (λ (x : ℕ). putEdge (rerootIn (putClass ts x p) t) t (edge p 1 n m)) r
     ∙ ap (λ (us : List Term). putEdge us t (edge p 1 n m)) (reroot-root (putClass ts t p) t (class-words ts t p w (λ x. x .forestParent) (λ x. refl) t ∙ e))
     ∙ put-both ts t p n m w
+
+-- kind, first and second stay
+pub merge-like : (ts : List Term) (t p n m : ℕ) → within (length ts) t ≡ true → Like ts (mergeIn ts t p n m)
+merge-like ts t p n m w =
+    subst (Like ts) (put-both ts t p n m w)
+    (like-then (like-class ts t p w) (like-edge (putClass ts t p) t (edge p 1 n m) (ap (λ (k : ℕ). within k t) (class-long ts t p) ∙ w)))
 
 pub merge-kept : (s : Store) (child parent n stamp : ℕ) → Audited s → canMerge child parent n s ≡ true → Audited (withTerms s (mergeIn (s .terms) child parent n stamp))
 merge-kept s child parent n stamp a can =

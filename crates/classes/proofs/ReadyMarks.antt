@@ -7,9 +7,10 @@ use native.Mathlib.Omega.{arith}
 use Rattle.records.specs.declared.State.{State}
 use Rattle.records.specs.Lists.{if_then_else_}
 use Rattle.records.specs.View.{Lent, storeOf, sizes}
-use Rattle.records.specs.Rules.{recordsRule, classesRule, congruencesRule, auditStore, audit}
+use Rattle.records.specs.Rules.{recordsRule, classesRule, congruencesRule, auditStore, auditIndex, firstDue, audit}
+use Rattle.records.specs.Index.{indexRule}
 use Rattle.records.specs.Working.Audited.{Ready}
-use Rattle.records.proofs.Passed.{ready-of, audit-of}
+use Rattle.records.proofs.Passed.{ready-of, audit-of, index-passes}
 use Rattle.records.proofs.LaterStores.{Extended}
 use Rattle.classes.specs.declared.Standing.{Standing}
 use Rattle.classes.specs.Marks.{trailOf, trailSizes, marksRule, auditTrail, auditMarks}
@@ -21,9 +22,9 @@ use Rattle.classes.proofs.Refines.AuditMarks.{all-pass}
 
 module _ {m : Lent} {l : List ℕ} {c : State} {d : Standing} where
   pub marks-ready : auditMarks m l c d ≡ 0 → ReadyMarks m l c d
-  unfolding auditMarks auditTrail audit auditStore
+  unfolding auditMarks auditTrail audit auditStore auditIndex
   marks-ready e =
-      let q = all-pass (sizes m c) (trailSizes l d) (recordsRule (storeOf m c)) (classesRule (storeOf m c)) (marksRule (storeOf m c) (trailOf l d)) (congruencesRule (storeOf m c)) e in
+      let q = all-pass (sizes m c) (trailSizes l d) (recordsRule (storeOf m c)) (classesRule (storeOf m c)) (marksRule (storeOf m c) (trailOf l d)) (congruencesRule (storeOf m c)) (indexRule (m .terms) (storeOf m c)) e in
       record { ready = ready-of m c (q .0); trail = sized-trail l d (q .1); marked = q .2 }
 
   pub marks-tracked : ReadyMarks m l c d → Tracked (storeOf m c) (trailOf l d)
@@ -31,9 +32,9 @@ module _ {m : Lent} {l : List ℕ} {c : State} {d : Standing} where
 
   pub marks-pass : ReadyMarks m l c d → auditMarks m l c d ≡ 0
   unfolding auditMarks audit
-  marks-pass p = rw (fit (sizes m c) (audit-of m c (p .ready)), trail-sized l d (p .trail)) (of-tracked (storeOf m c) (trailOf l d) (marks-tracked p))
+  marks-pass p = rw (fit (sizes m c) (audit-of m c (p .ready)), trail-sized l d (p .trail), of-tracked (storeOf m c) (trailOf l d) (marks-tracked p)) (index-passes (m .terms) (storeOf m c) (p .ready .indexed))
     where
-      fit : (z : Bool) → (if z then auditStore (storeOf m c) else 1) ≡ 0 → z ≡ true
+      fit : (z : Bool) → (if z then firstDue (auditStore (storeOf m c)) (auditIndex (m .terms) (storeOf m c)) else 1) ≡ 0 → z ≡ true
       fit true h = refl
       fit false h = absurd (omega arith)
 

@@ -12,6 +12,7 @@ use Rattle.records.specs.Store.{Term, Store, within, isString, sameClass}
 use denote.Ref.{now}
 use denote.Triple.Both.{Both}
 use Rattle.records.specs.View.{Lent, Slice, storeOf, termAt}
+use Rattle.records.specs.Index.{SameIndex}
 use Rattle.records.specs.Rules.{isReasonKind, isNumber}
 use Rattle.records.specs.Make.{withTerms}
 use Rattle.classes.specs.declared.Standing.{Standing}
@@ -70,7 +71,7 @@ abbrev pub unless : ℕ → Outcome → Outcome
 unless zero o = o
 unless (suc k) o = refuses (suc k)
 
--- a public call: refusals 1 to 4 by the audit of store and marks, else its work
+-- a public call: refusals 1 to 4 and 12 by the audit of store and marks, else its work
 unfoldable pub tracked : (Store → Trail → Outcome) → Lent → List ℕ → State → Standing → Outcome
 tracked work m l c d = unless (auditMarks m l c d) (work (storeOf m c) (trailOf l d))
 
@@ -83,10 +84,12 @@ answered (Refused k) m l c = refuses k
 abbrev pub isCounted : Standing → ℕ → Bool
 isCounted d i = ltb i (d .marks) || (leb markLimit i && ltb i (tracePlace (d .joins) 0))
 
--- terms and words that are not counted stay as they are
+-- terms and words that are not counted stay as they are, and so do heads and ninth words: document 02, Note 9, 'Going back leaves heads and
+-- ninth words as they are'
 pub record Leaves (m m′ : Lent) (l l′ : List ℕ) (c : State) (e : Standing) : Type 0 where
   pub terms : (t : ℕ) → within (c .terms) t ≡ false → termAt (m′ .terms) t ≡ termAt (m .terms) t
   pub termsLong : length (m′ .terms) ≡ length (m .terms)
+  pub index : (n : ℕ) → SameIndex (m .terms) (m′ .terms) n
   pub words : (i : ℕ) → isCounted e i ≡ false → getD l′ i 0 ≡ getD l i 0
   pub long : length l′ ≡ length l
 

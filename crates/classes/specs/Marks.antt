@@ -9,7 +9,7 @@ use Rattle.records.specs.declared.State.{State}
 use Rattle.records.specs.Lists.{if_then_else_, all, table}
 use Rattle.records.specs.Store.{Term, Store}
 use Rattle.records.specs.View.{Lent, storeOf, sizes}
-use Rattle.records.specs.Rules.{recordsRule, classesRule, congruencesRule}
+use Rattle.records.specs.Rules.{recordsRule, classesRule, congruencesRule, auditIndex, firstDue}
 use Rattle.records.specs.Make.{withTerms}
 use Rattle.classes.specs.declared.Standing.{Standing}
 use Rattle.classes.specs.Joins.{Trace, trace, undoIn}
@@ -77,9 +77,9 @@ passes s (some ts) = classesRule (withTerms s ts) && congruencesRule (withTerms 
 unfoldable pub marksRule : Store → Trail → Bool
 marksRule s x = countsRule (x .marks) (length (x .joins)) && all (λ n. passes s (tableAt n x (s .terms))) (x .marks)
 
--- 'Words lent for marks are audited': 0, or the first refusal of 1 to 4 that is due; 3 is the table's or the marks', before 4
+-- 'Words lent for marks are audited': 0, or the first refusal of 1 to 4 and 12 that is due; 3 is the table's or the marks', before 4
 unfoldable pub auditTrail : Store → Trail → ℕ
 auditTrail s x = if recordsRule s then (if classesRule s && marksRule s x then (if congruencesRule s then 0 else 4) else 3) else 2
 
 unfoldable pub auditMarks : Lent → List ℕ → State → Standing → ℕ
-auditMarks m l c d = if sizes m c && trailSizes l d then auditTrail (storeOf m c) (trailOf l d) else 1
+auditMarks m l c d = if sizes m c && trailSizes l d then firstDue (auditTrail (storeOf m c) (trailOf l d)) (auditIndex (m .terms) (storeOf m c)) else 1

@@ -8,6 +8,7 @@ use lib.Dec.{eqb}
 use Rattle.records.specs.declared.State.{State}
 use Rattle.records.specs.Store.{Term, Store, Out, ok, stop, Work, termIn, isString, sameClass}
 use Rattle.records.specs.View.{Lent, storeOf, termAt}
+use Rattle.records.specs.Index.{SameIndex}
 use Rattle.records.specs.Rules.{isNumber, audit}
 use Rattle.records.specs.Make.{withTerms}
 use Rattle.records.specs.Calls.{call}
@@ -44,9 +45,11 @@ abbrev pub merged : ℕ → Lent → State → Out (Unit {0})
 merged zero m c = ok (storeOf m c) tt
 merged (suc k) m c = stop (suc k)
 
--- merging is the call's outcome, a refusal changes nothing, no record but the child's changes, and what is merged passes the audit again
+-- merging is the call's outcome, a refusal changes nothing, no record but the child's changes, heads and ninth words stay, and what is merged
+-- passes the audit again
 pub record PublicMerge (m m′ : Lent) (c : State) (child parent n stamp r : ℕ) : Type 0 where
   pub says : merged r m′ c ≡ call (canMerge child parent n) (mergeClasses child parent n stamp) m c
   pub idle : (r ≡ 0 → ⊥) → m′ ≡ m
   pub others : (t : ℕ) → (t ≡ child → ⊥) → termAt (m′ .terms) t ≡ termAt (m .terms) t
+  pub index : (n : ℕ) → SameIndex (m .terms) (m′ .terms) n
   pub kept : r ≡ 0 → audit m′ c ≡ 0

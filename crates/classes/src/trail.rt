@@ -12,6 +12,7 @@ ghost use Rattle.classes.specs.Calls.{recorded};
 ghost use Rattle.classes.specs.Working.Carries.{Tabled, Undoes, Markable, Copied, TrailSized, Trailed};
 use crate::Standing;
 use crate::links::undo_unchecked;
+use records::BUCKETS;
 use records::State;
 use records::TERM_SLICE;
 use records::TERM_WIDTH;
@@ -156,7 +157,7 @@ fn copy_terms_unchecked(terms: &[u32], n: usize, table: &mut [u32; TERM_SLICE])
     requires { ⌜ n ≤ termLimit ⌝ ∗ ⌜ termWords n ≤ length (now terms) ⌝ ∗ ⌜ length (now table) ≡ termWords termLimit ⌝ }
     ensures { λ _. ⌜ Copied (now (terms .entry)) (now (table .entry)) (now (table .exit)) n ⌝ }
 {
-    let words = TERM_WIDTH * (n + 1);
+    let words = BUCKETS + TERM_WIDTH * (n + 1);
     let mut i: usize = 0;
     while i < words {
         table[i] = terms[i];

@@ -10,6 +10,7 @@ use Rattle.records.specs.Store.{Store, Out, ok, stop, andThen, _>>=_, give}
 use Rattle.records.specs.Rules.{listLimit}
 use Rattle.records.specs.Make.{makeConstant}
 use Rattle.records.specs.Working.Audited.{Audited}
+use Rattle.records.proofs.Outcomes.{Refused, refused-by}
 use Rattle.records.proofs.Works.{via, branch}
 use Rattle.records.proofs.Kept.{constant-kept, constant-stops}
 use Rattle.records.proofs.LaterStores.{Later, later-none, later-made}
@@ -63,26 +64,26 @@ parts-few l r s s′ x e = parts-give l r s s′ x e .few
 
 -- it is refused with 6 or 8
 
-pub parts-stops : (l r : List ℕ) (s : Store) (k : ℕ) → emptyParts l r s ≡ stop k → 6 ≤ k
+pub parts-stops : (l r : List ℕ) (s : Store) (k : ℕ) → emptyParts l r s ≡ stop k → Refused 9 k
 unfolding emptyParts sides emptied
 parts-stops l r s k e = from (flatten l s) refl e
   where
-    sided : (l₁ r₁ : List ℕ) (s₂ : Store) → sides l₁ r₁ s₂ ≡ stop k → 6 ≤ k
+    sided : (l₁ r₁ : List ℕ) (s₂ : Store) → sides l₁ r₁ s₂ ≡ stop k → Refused 9 k
     sided l₁ r₁ s₂ d = go (emptyAgainst s₂ l₁ r₁) (emptyAgainst s₂ r₁ l₁) d
       where
-        made-stop : (p : List ℕ) (o : Out ℕ) → makeConstant [] s₂ ≡ o → andThen (λ x s₃. ok s₃ (partsOf x (unmet s₃ (x ∷ []) p))) o ≡ stop k → 6 ≤ k
+        made-stop : (p : List ℕ) (o : Out ℕ) → makeConstant [] s₂ ≡ o → andThen (λ x s₃. ok s₃ (partsOf x (unmet s₃ (x ∷ []) p))) o ≡ stop k → Refused 9 k
         made-stop p (ok s₃ y) c f = let z : _≡_ {A = ℕ} 0 1 = cc in absurd (omega arith)
-        made-stop p (stop j) c f = let z : j ≡ k = cc in let y = constant-stops [] s₂ j c in omega arith
+        made-stop p (stop j) c f = let z : j ≡ k = cc in refused-by 8 (omega arith) (omega arith) (sym z ∙ constant-stops [] s₂ j c)
 
-        go : (a b : Bool) → (if a then emptied r₁ else if b then emptied l₁ else give (partsOf 0 [])) s₂ ≡ stop k → 6 ≤ k
+        go : (a b : Bool) → (if a then emptied r₁ else if b then emptied l₁ else give (partsOf 0 [])) s₂ ≡ stop k → Refused 9 k
         go true b f = made-stop r₁ (makeConstant [] s₂) refl f
         go false true f = made-stop l₁ (makeConstant [] s₂) refl f
         go false false f = let z : _≡_ {A = ℕ} 0 1 = cc in absurd (omega arith)
 
-    right : (l₁ : List ℕ) (s₁ : Store) (o : Out (List ℕ)) → flatten r s₁ ≡ o → andThen (λ r₁. sides l₁ r₁) o ≡ stop k → 6 ≤ k
+    right : (l₁ : List ℕ) (s₁ : Store) (o : Out (List ℕ)) → flatten r s₁ ≡ o → andThen (λ r₁. sides l₁ r₁) o ≡ stop k → Refused 9 k
     right l₁ s₁ (ok s₂ r₁) c d = sided l₁ r₁ s₂ d
-    right l₁ s₁ (stop j) c d = let z : j ≡ k = cc in let y = flatten-stops r s₁ j c .0 in omega arith
+    right l₁ s₁ (stop j) c d = let z : j ≡ k = cc in refused-by 6 (omega arith) (omega arith) (sym z ∙ flatten-stops r s₁ j c .0)
 
-    from : (o : Out (List ℕ)) → flatten l s ≡ o → andThen (λ l₁. flatten r >>= (λ r₁. sides l₁ r₁)) o ≡ stop k → 6 ≤ k
+    from : (o : Out (List ℕ)) → flatten l s ≡ o → andThen (λ l₁. flatten r >>= (λ r₁. sides l₁ r₁)) o ≡ stop k → Refused 9 k
     from (ok s₁ l₁) c d = right l₁ s₁ (flatten r s₁) refl d
-    from (stop j) c d = let z : j ≡ k = cc in let y = flatten-stops l s j c .0 in omega arith
+    from (stop j) c d = let z : j ≡ k = cc in refused-by 6 (omega arith) (omega arith) (sym z ∙ flatten-stops l s j c .0)

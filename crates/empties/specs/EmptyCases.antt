@@ -42,7 +42,7 @@ storing n ts cs = record {
   reasons = [];
   keys = [];
   names = 0;
-  room = record { terms = n; cells = 64; chars = 64; reasons = 8; keys = 8; termsLong = termWords 32; cellsLong = cellWords 64; zeroTerm = noTerm; zeroCell = noCell };
+  room = record { terms = n; cells = 64; chars = 64; reasons = 8; keys = 8; termsLong = termWords 32; cellsLong = cellWords 64; zeroTerm = (noTerm, 0); zeroCell = noCell };
 }
 
 -- eight variables, each alone; with "" after them; with 2 in the class of 1, and 3 in that of ""; with a second "", whose class has 1

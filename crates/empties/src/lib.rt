@@ -6,19 +6,21 @@ ghost use Prim.Native.Nat.{_≤_, _<_};
 ghost use lib.ListN.{length, take};
 ghost use Rattle.records.specs.Lists.{all, any};
 ghost use Rattle.records.specs.Store.{isString, sameClass};
-ghost use Rattle.records.specs.View.{storeOf, lends, across, readIn};
+ghost use Rattle.records.specs.View.{storeOf, lends, across, readIn, termLimit, termWords};
 ghost use Rattle.records.specs.Rules.{listLimit, isList};
 ghost use Rattle.records.specs.Calls.{Writes, _into_};
-ghost use Rattle.records.specs.Working.Doing.{Does};
+ghost use Rattle.records.specs.Working.Doing.{Does, CutRefused};
 ghost use Rattle.records.specs.Working.Audited.{Ready};
 ghost use Rattle.sides.specs.Working.Results.{BothLists};
 ghost use Rattle.sides.specs.Working.Stripping.{Readable};
 ghost use Rattle.empties.specs.Empties.{unmet, emptied, sides, emptyParts};
 ghost use Rattle.empties.specs.Working.Listing.{Starts, tried};
+ghost use Rattle.empties.specs.Working.Cuts.{unlisted};
 ghost use Rattle.empties.specs.Calls.{listed, PublicEmpties};
 use records::LIST_LIMIT;
 use records::Made;
 use records::State;
+use records::index::cut_unchecked;
 use records::make;
 use sides::stripping;
 use wordeq::propagate;
@@ -212,5 +214,20 @@ pub fn empty_parts(
     if !wordeq::are_lists(terms, c, lhs, rhs) {
         return Empties::Refused(5);
     }
-    empty_parts_unchecked(terms, cells, chars, reasons, keys, c, lhs, rhs, list)
+    let o = empty_parts_unchecked(terms, cells, chars, reasons, keys, c, lhs, rhs, list);
+    cut_unlisted(terms, c.terms, o)
+}
+
+// After a refusal the index names no term that was made on the way.
+fn cut_unlisted(terms: &mut [u32], n: usize, o: Empties) -> Empties
+    requires { ⌜ n ≤ termLimit ⌝ ∗ ⌜ termWords n ≤ length (now terms) ⌝ }
+    ensures { λ r. ⌜ CutRefused unlisted (now (terms .entry)) (now (terms .exit)) n o r ⌝ }
+{
+    match o {
+        Empties::Parts(d, t, k, f) => Empties::Parts(d, t, k, f),
+        Empties::Refused(k) => {
+            cut_unchecked(terms, n);
+            Empties::Refused(k)
+        }
+    }
 }

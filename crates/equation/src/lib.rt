@@ -3,17 +3,18 @@ ghost use mathlib.Core.Path.{_≡_};
 ghost use mathlib.Core.Bool.{true};
 ghost use Prim.Native.Nat.{_≤_};
 ghost use lib.ListN.{length};
-ghost use Rattle.records.specs.View.{storeOf, lends, across, termed};
+ghost use Rattle.records.specs.View.{storeOf, lends, across, termed, termLimit, termWords};
 ghost use Rattle.records.specs.Rules.{listLimit, isList};
 ghost use Rattle.records.specs.Working.Audited.{Ready};
 ghost use Rattle.records.specs.Calls.{Writes, _into_};
-ghost use Rattle.records.specs.Working.Doing.{Does};
+ghost use Rattle.records.specs.Working.Doing.{Does, CutRefused};
 ghost use Rattle.normalize.specs.Normalize.{formArguments};
 ghost use Rattle.normalize.specs.Working.Pushes.{Candidates};
 ghost use Rattle.sides.specs.Wordeq.{isGuard};
 ghost use Rattle.sides.specs.Working.Results.{BothLists};
 ghost use Rattle.equation.specs.Equation.{step, stepArguments};
 ghost use Rattle.equation.specs.Calls.{stepped, PublicStep};
+ghost use Rattle.equation.specs.Working.Cuts.{unstepped};
 ghost use Rattle.equation.specs.Working.Forms.{incomingOf, resolveForms, rightForm, carried};
 use normalize::DeepForm;
 use normalize::deeper::deep_form_by_unchecked;
@@ -23,6 +24,7 @@ use records::State;
 use records::fields;
 use records::rules;
 use sides::StepResult;
+use wordeq::cut_unresolved_unchecked;
 use wordeq::resolving::resolve_unchecked;
 
 // wordeq's answer, a refusal among its cases; or Unexpanded, with the new counts.
@@ -214,5 +216,17 @@ pub fn step(
     if !can_step(terms, c, known, e, guard) {
         return Outcome::Answered(StepResult::Refused(5));
     }
-    step_unchecked(terms, cells, chars, reasons, keys, c, known, e, guard, list)
+    let o = step_unchecked(terms, cells, chars, reasons, keys, c, known, e, guard, list);
+    cut_unstepped(terms, c.terms, o)
+}
+
+// After a refusal the index names no term that was made on the way.
+fn cut_unstepped(terms: &mut [u32], n: usize, o: Outcome) -> Outcome
+    requires { ⌜ n ≤ termLimit ⌝ ∗ ⌜ termWords n ≤ length (now terms) ⌝ }
+    ensures { λ r. ⌜ CutRefused unstepped (now (terms .entry)) (now (terms .exit)) n o r ⌝ }
+{
+    match o {
+        Outcome::Answered(r) => Outcome::Answered(cut_unresolved_unchecked(terms, n, r)),
+        Outcome::Unexpanded(d) => Outcome::Unexpanded(d),
+    }
 }

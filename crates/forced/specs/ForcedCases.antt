@@ -63,7 +63,7 @@ labels = record {
   reasons = [];
   keys = [];
   names = 0;
-  room = record { terms = 32; cells = 64; chars = 64; reasons = 8; keys = 8; termsLong = termWords 32; cellsLong = cellWords 64; zeroTerm = noTerm; zeroCell = noCell };
+  room = record { terms = 32; cells = 64; chars = 64; reasons = 8; keys = 8; termsLong = termWords 32; cellsLong = cellWords 64; zeroTerm = (noTerm, 0); zeroCell = noCell };
 }
 
 -- two lists, and what is to be answered: k, c, l, m and r; k, c, l and the shortage; or the number of a refusal

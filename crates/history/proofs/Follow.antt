@@ -15,6 +15,9 @@ use Rattle.records.specs.Make.{withReasons}
 use Rattle.records.specs.Calls.{Public, call, checked}
 use Rattle.records.proofs.Lists.{decide, both-left, both-right}
 use Rattle.records.specs.Working.Audited.{Audited, Ready}
+use Rattle.records.specs.Index.{SameIndex}
+use Rattle.records.proofs.Climbs.{view-count}
+use Rattle.records.proofs.IndexStores.{records-beside, indexed-records}
 use Rattle.records.proofs.Passed.{ready-of, ready-after, audit-of, audit-kept}
 use Rattle.records.proofs.Beside.{audited-beside}
 use Rattle.normalize.specs.Calls.{listCall}
@@ -74,7 +77,7 @@ module _ (x y : Memory) (w : World) (r : Reads x w) (ok-here : passes x) (marks 
         let q : out ≡ stop k = sym is ∙ e in
         subst (λ (v : Out A). Came y (worked w v)) (sym q) (record {
           reads = record { store = ap (storeOf m′) c ∙ p .kept ∙ r .store; trail = trails };
-          audits = subst (λ (d : State). audit m′ d ≡ 0) (sym c) (audit-kept m m′ (x .counts) (p .kept) z);
+          audits = subst (λ (d : State). audit m′ d ≡ 0) (sym c) (audit-kept m m′ (x .counts) (p .kept) (p .back k e) z);
           sizes = sized;
         })
 
@@ -140,6 +143,7 @@ asks rs x y w r ok-here h a =
         (subst Audited (sym (a .is ∙ ap (λ (s : Store). withReasons s rs) (r .store)))
         (audited-beside (w .store) rs (w .store .keys) (w .store .names) (h .audited) (both-left (all reasonRule rs) _ e) (h .audited .recorded .keys)
         (leb-true (length rs) (w .store .room .reasons) (both-right (all reasonRule rs) _ e)) (h .audited .roomy .keys)))
+        (indexed-records (records-beside refl (a .is)) (subst (λ (n : ℕ). SameIndex (x .slices .terms) (y .slices .terms) n) (sym (view-count (x .slices .terms) (x .counts .terms))) (a .index)) (marks-ready ok-here .ready .indexed))
 
 -- ONE CALL, AND ALL
 

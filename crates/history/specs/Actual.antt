@@ -9,6 +9,7 @@ use Rattle.records.specs.declared.State.{State}
 use Rattle.records.specs.Lists.{all}
 use Rattle.records.specs.Store.{Out, ok, stop}
 use Rattle.records.specs.View.{Lent, storeOf}
+use Rattle.records.specs.Index.{SameIndex}
 use Rattle.records.specs.Rules.{reasonRule}
 use Rattle.records.specs.Make.{withReasons, constantArguments, makeConstant, variableArguments, makeVariable, concatArguments, makeConcat, lengthArguments, makeLength, equationArguments, makeEquation}
 use Rattle.records.specs.Calls.{Public, call}
@@ -67,6 +68,7 @@ pub record CalledMarks (P : Lent → Lent → List ℕ → List ℕ → State �
 pub record Asked (rs : List (ℕ × ℕ)) (x y : Memory) : Type 0 where
   pub fits : (all reasonRule rs && leb (length rs) (storeOf (x .slices) (x .counts) .room .reasons)) ≡ true
   pub is : storeOf (y .slices) (y .counts) ≡ withReasons (storeOf (x .slices) (x .counts)) rs
+  pub index : SameIndex (x .slices .terms) (y .slices .terms) (x .counts .terms)
   pub marks : y .marks ≡ x .marks
   pub standing : y .standing ≡ x .standing
 

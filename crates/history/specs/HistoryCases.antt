@@ -34,7 +34,7 @@ lettered ts w = record {
   reasons = [];
   keys = [];
   names = 0;
-  room = record { terms = 7; cells = 2; chars = 6; reasons = 4; keys = 0; termsLong = termWords 7; cellsLong = cellWords 2; zeroTerm = noTerm; zeroCell = noCell };
+  room = record { terms = 7; cells = 2; chars = 6; reasons = 4; keys = 0; termsLong = termWords 7; cellsLong = cellWords 2; zeroTerm = (noTerm, 0); zeroCell = noCell };
 }
 
 abbrev pub abcd : List ℕ

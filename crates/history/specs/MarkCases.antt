@@ -7,9 +7,10 @@ use lib.Dec.{eqb, T}
 use Rattle.records.specs.Lists.{all, any, firstOf, table, sameWord, isIn, firsts, seconds, upTo, allBelow, firstBelow}
 use Rattle.records.specs.Store.{Term, Store, termIn, cellIn, within, textIn, chainBy, climb, aboveBy, nearestIn, pathIn}
 use Rattle.records.specs.View.{sizes}
-use Rattle.records.specs.Rules.{isChar, isNumber, reasonRule, keyRule, cellRule, textRule, named, nameRule, partRule, concatRule, lengthRule, isEquatable, equationRule, termRule, recordsRule, parentsRule, endsRule, alikeRule, aloneRule, edgeLabel, labelRule, classesRule, pairsOf, fallsRule, congruenceRule, congruencesRule}
+use Rattle.records.specs.Index.{numbers, sum, bucketOf, nextIn, indexRule}
+use Rattle.records.specs.Rules.{isChar, isNumber, reasonRule, keyRule, cellRule, textRule, named, nameRule, partRule, concatRule, lengthRule, isEquatable, equationRule, termRule, recordsRule, parentsRule, endsRule, alikeRule, aloneRule, edgeLabel, labelRule, classesRule, pairsOf, fallsRule, congruenceRule, congruencesRule, auditIndex}
 use Rattle.records.specs.Make.{withClass, withEdge, addText, addTerm, lookup, lowest, makeVariable}
-use Rattle.records.specs.AuditCases.{good, goodTerms, goodCells, goodCounts}
+use Rattle.records.specs.AuditCases.{good, goodHeads, goodTerms, goodCells, goodCounts}
 use Rattle.classes.specs.declared.Standing.{Standing}
 use Rattle.classes.specs.Joins.{putEdge, putClass, turn, turns, joinIn, Trace, trace, isTrace, undoIn}
 use Rattle.classes.specs.Marks.{Trail, trailSizes, undoAll, rises, countsRule, marksRule, auditTrail, auditMarks}
@@ -104,5 +105,5 @@ words n m j = auditMarks good (replicate n 0) goodCounts (standing m j)
 
 -- 1 where a count is above its limit or the slice is too short for all that it may hold, though no mark stands
 pub sizes-audited : T (eqb (words 1597 0 0) 0 && eqb (words 1597 64 0) 0 && eqb (words 1596 0 0) 1 && eqb (words 1597 65 0) 1 && eqb (words 1597 1 512) 1 && eqb (words 1597 0 1) 3 && eqb (words 1597 1 511) 3)
-unfolding words auditMarks trailSizes sizes goodTerms goodCells undoAll rises countsRule marksRule auditTrail putEdge putClass turn turns isTrace undoIn recordsRule classesRule congruencesRule termRule cellRule textRule nameRule named concatRule partRule lengthRule equationRule isEquatable isChar isNumber reasonRule keyRule parentsRule endsRule alikeRule aloneRule edgeLabel labelRule congruenceRule pairsOf fallsRule all any firstOf table sameWord isIn firsts seconds upTo allBelow termIn cellIn within textIn chainBy climb aboveBy nearestIn pathIn
+unfolding words auditMarks auditIndex indexRule numbers sum bucketOf nextIn firstBelow trailSizes sizes goodHeads goodTerms goodCells undoAll rises countsRule marksRule auditTrail putEdge putClass turn turns isTrace undoIn recordsRule classesRule congruencesRule termRule cellRule textRule nameRule named concatRule partRule lengthRule equationRule isEquatable isChar isNumber reasonRule keyRule parentsRule endsRule alikeRule aloneRule edgeLabel labelRule congruenceRule pairsOf fallsRule all any firstOf table sameWord isIn firsts seconds upTo allBelow termIn cellIn within textIn chainBy climb aboveBy nearestIn pathIn
 sizes-audited = tt

@@ -1,4 +1,6 @@
-// Lines of the test programs: a letter and its numbers are read, words are put where there is room, numbers are printed.
+// Lines of the test programs: a letter and its numbers are read, words are put where there is room, numbers are printed; and the index of a store
+// that was written by hand.
+pub mod indexing;
 pub mod lending;
 pub mod reading;
 pub mod saying;

@@ -1,13 +1,18 @@
 // Cited normal forms.
 ghost use mathlib.Core.Path.{_≡_};
+ghost use Prim.Native.Nat.{_≤_};
+ghost use lib.ListN.{length};
 ghost use Rattle.records.specs.Calls.{Writes};
-ghost use Rattle.records.specs.View.{across, termed};
+ghost use Rattle.records.specs.View.{across, termed, termLimit, termWords};
+ghost use Rattle.records.specs.Working.Doing.{CutRefused};
 ghost use Rattle.normalize.specs.Normalize.{formArguments};
 ghost use Rattle.normalize.specs.Calls.{formed, deepened, PublicForm, PublicDeepForm};
+ghost use Rattle.normalize.specs.Working.Cuts.{unformed, undeepened};
 use deeper::deep_normal_form_cited_unchecked;
 use normal::normal_form_cited_unchecked;
 use records::LIST_LIMIT;
 use records::State;
+use records::index::cut_unchecked;
 use records::rules;
 
 pub mod deeper;
@@ -49,6 +54,34 @@ fn can_form(terms: &[u32], c: State, known: &[u32], t: u32) -> bool
     rules::is_string(terms, c.terms, t)
 }
 
+// After a refusal the index names no term that was made on the way.
+fn cut_unformed(terms: &mut [u32], n: usize, x: Form) -> Form
+    requires { ⌜ n ≤ termLimit ⌝ ∗ ⌜ termWords n ≤ length (now terms) ⌝ }
+    ensures { λ o. ⌜ CutRefused unformed (now (terms .entry)) (now (terms .exit)) n x o ⌝ }
+{
+    match x {
+        Form::List(k, d) => Form::List(k, d),
+        Form::Refused(k) => {
+            cut_unchecked(terms, n);
+            Form::Refused(k)
+        }
+    }
+}
+
+fn cut_undeepened(terms: &mut [u32], n: usize, x: DeepForm) -> DeepForm
+    requires { ⌜ n ≤ termLimit ⌝ ∗ ⌜ termWords n ≤ length (now terms) ⌝ }
+    ensures { λ o. ⌜ CutRefused undeepened (now (terms .entry)) (now (terms .exit)) n x o ⌝ }
+{
+    match x {
+        DeepForm::List(k, d) => DeepForm::List(k, d),
+        DeepForm::None(d) => DeepForm::None(d),
+        DeepForm::Refused(k) => {
+            cut_unchecked(terms, n);
+            DeepForm::Refused(k)
+        }
+    }
+}
+
 // The normal form of t over the known list, in the first words of `list`.
 pub fn normal_form_cited(
     terms: &mut [u32],
@@ -73,7 +106,8 @@ pub fn normal_form_cited(
     if !can_form(terms, c, known, t) {
         return Form::Refused(5);
     }
-    normal_form_cited_unchecked(terms, cells, chars, reasons, keys, c, known, t, list)
+    let x = normal_form_cited_unchecked(terms, cells, chars, reasons, keys, c, known, t, list);
+    cut_unformed(terms, c.terms, x)
 }
 
 // The deep form of t over the known list, in the first words of `list`, or None.
@@ -100,5 +134,6 @@ pub fn deep_normal_form_cited(
     if !can_form(terms, c, known, t) {
         return DeepForm::Refused(5);
     }
-    deep_normal_form_cited_unchecked(terms, cells, chars, reasons, keys, c, known, t, list)
+    let x = deep_normal_form_cited_unchecked(terms, cells, chars, reasons, keys, c, known, t, list);
+    cut_undeepened(terms, c.terms, x)
 }

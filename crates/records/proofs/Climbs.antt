@@ -14,7 +14,7 @@ use Rattle.records.specs.Store.{Term, Store, term, termIn, count, isTerm
 use Rattle.records.specs.View.{Lent, termAt, termsView, storeOf}
 use Rattle.records.specs.Rules.{parentsRule, eachTerm}
 use Rattle.records.specs.Working.Audited.{Closed, Classed}
-use Rattle.records.proofs.Lists.{both-left, both-right, clash, below-at, below-all, within-is, within-low, within-high, within-zero, table-length}
+use Rattle.records.proofs.Lists.{both-left, both-right, upto-at, upto-all, within-low, within-high, table-length}
 use Rattle.records.proofs.Views.{term-is}
 use Rattle.records.proofs.Grown.{string-term}
 use Rattle.records.specs.Working.Leaves.{parentOf, upIn}
@@ -89,11 +89,10 @@ abbrev pub classed-tops : (s : Store) → Classed s → Closed (forestUp (s .ter
 classed-tops s a = classed-up s a true
 
 pub rule-at : (s : Store) (rule : ℕ → Bool) → eachTerm s rule ≡ true → (t : ℕ) → isTerm s t ≡ true → rule t ≡ true
-rule-at s rule h zero w = clash w (within-zero (count s) 0 refl)
-rule-at s rule h (suc t) w = below-at (λ i. rule (suc i)) (count s) h t (within-high (count s) (suc t) w)
+rule-at s rule = upto-at rule (count s)
 
 pub rule-all : (s : Store) (rule : ℕ → Bool) → ((t : ℕ) → isTerm s t ≡ true → rule t ≡ true) → eachTerm s rule ≡ true
-rule-all s rule f = below-all (λ i. rule (suc i)) (count s) (λ k l. f (suc k) (within-is (count s) (suc k) (omega arith) l))
+rule-all s rule = upto-all rule (count s)
 
 pub parents-up : (s : Store) → eachTerm s (parentsRule s) ≡ true → (forest : Bool) → Closed (upIn forest (s .terms)) (count s)
 unfolding parentsRule

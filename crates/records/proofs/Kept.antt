@@ -179,7 +179,7 @@ text-more s w r good = record {
   characters = all-append isChar (s .chars) w ∙ both-true _ _ (r .characters) good;
 }
 
-text-read : (s : Store) (k : ℕ) (w : List ℕ) → textIn (s .chars ++ w) (own (suc (count s)) k (length (s .chars)) (length w)) ≡ w
+pub text-read : (s : Store) (k : ℕ) (w : List ℕ) → textIn (s .chars ++ w) (own (suc (count s)) k (length (s .chars)) (length w)) ≡ w
 unfolding textIn
 text-read s k w = ap (take (length w)) (drop-append-seam (s .chars) w) ∙ take-length w
 

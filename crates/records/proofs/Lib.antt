@@ -1,4 +1,11 @@
 pub mod Lists
+pub mod IndexNexts
+pub mod IndexChains
+pub mod IndexSays
+pub mod IndexFinds
+pub mod IndexGrows
+pub mod IndexLaws
+pub mod IndexLinks
 pub mod Views
 pub mod Climbs
 pub mod Repeats
@@ -19,6 +26,7 @@ pub mod MadeWords
 pub mod Naming
 pub mod Outcomes
 pub mod Counts
+pub mod IndexStores
 pub mod Sequence
 pub mod LaterStores
 pub mod Loops

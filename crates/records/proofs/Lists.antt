@@ -174,6 +174,14 @@ below-false p zero k l h = absurd (not-suc-le-zero l)
 below-false p (suc n) k l h =
     ⊎-elim (λ e. right-false (allBelow p n) _ (ap p (sym e) ∙ h)) (λ lt. left-false _ (p n) (below-false p n k lt h)) (eq-or-lt-of-le (le-of-suc-le-suc l))
 
+-- each number from 1 to n
+pub upto-at : (p : ℕ → Bool) (n : ℕ) → allBelow (λ i. p (suc i)) n ≡ true → (t : ℕ) → within n t ≡ true → p t ≡ true
+upto-at p n h zero w = let z = within-low n 0 w in absurd (omega arith)
+upto-at p n h (suc t) w = below-at (λ i. p (suc i)) n h t (within-high n (suc t) w)
+
+pub upto-all : (p : ℕ → Bool) (n : ℕ) → ((t : ℕ) → within n t ≡ true → p t ≡ true) → allBelow (λ i. p (suc i)) n ≡ true
+upto-all p n f = below-all (λ i. p (suc i)) n (λ k l. f (suc k) (within-is n (suc k) (omega arith) l))
+
 -- the loop `while i < n { if !test(.., i) { return false; } i += 1; } true`
 pub below-stop : (p : ℕ → Bool) (n i : ℕ) (b : Bool) → b ≡ p i → not b ≡ true → i < n → false ≡ allBelow p n
 below-stop p n i b e h l = sym (below-false p n i l (sym e ∙ not-true b h))
@@ -268,6 +276,13 @@ last-low p (suc (suc n)) h =
 pub last-passes : (p : ℕ → Bool) (n : ℕ) → (lastBelow p n ≡ 0 → ⊥) → p (lastBelow p n) ≡ true
 last-passes p zero h = absurd (h (last-none p))
 last-passes p (suc n) h = decide (p n) (λ e. rw (last-hit p n e) e) (λ e. rw (last-pass p n e) (last-passes p n (λ z. h (last-pass p n e ∙ z))))
+
+-- none above the highest passes
+pub last-above : (p : ℕ → Bool) (n k : ℕ) → lastBelow p n < k → k < n → p k ≡ false
+last-above p zero k h l = absurd (omega arith)
+last-above p (suc n) k h l = decide (p n)
+    (λ e. let i = last-hit p n e in absurd (omega arith))
+    (λ e. let i = last-pass p n e in ⊎-elim (λ q. ap p q ∙ e) (λ q. last-above p n k (omega arith) q) (eq-or-lt-of-le (le-of-suc-le-suc l)))
 
 -- what holds wherever p fails is left to be tested only up to the highest
 pub last-all : (p q : ℕ → Bool) (n : ℕ) → q 0 ≡ true → ((k : ℕ) → k < n → p k ≡ false → q k ≡ true) → allBelow q (suc (lastBelow p n)) ≡ allBelow q n

@@ -17,8 +17,8 @@ use Rattle.records.specs.Lists.{firstBelow}
 use Rattle.records.specs.Store.{Store, ok, count, within}
 use Rattle.records.specs.View.{lent, storeOf, namesAt}
 use Rattle.records.specs.Rules.{named}
-use Rattle.records.specs.Make.{strk, decimalBy, nameOf, isTaken, withNames, nameLimit, takeNameBy, takeName, lookup, isSome}
-use Rattle.records.specs.Working.Leaves.{numberOf, textOf, hasText}
+use Rattle.records.specs.Make.{strk, decimalBy, nameOf, isTaken, withNames, nameLimit, takeNameBy, takeName, numberOf, lookup, isSome}
+use Rattle.records.specs.Working.Leaves.{textOf, hasText}
 use Rattle.records.specs.Working.Audited.{Ready}
 use Rattle.records.specs.Working.Doing.{Taken}
 use Rattle.records.specs.Working.Leaves.{Free}

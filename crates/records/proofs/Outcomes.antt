@@ -12,6 +12,13 @@ pub record Refused (last n : ℕ) : Type 0 where
   pub from : 6 ≤ n
   pub to : n ≤ last
 
+-- one number, and among more refusals
+pub refused-by : {last n : ℕ} (k : ℕ) → 6 ≤ k → k ≤ last → n ≡ k → Refused last n
+refused-by k p q e = record { from = omega arith; to = omega arith }
+
+pub refused-wider : {last more n : ℕ} → last ≤ more → Refused last n → Refused more n
+refused-wider h k = let i = k .to in record { from = k .from; to = omega arith }
+
 module _ {A : Type 0} where
   pub record EndsBy (last : ℕ) (P : Store → A → Type 0) (o : Out A) : Type 0 where
     pub given : (s : Store) (a : A) → o ≡ ok s a → P s a

@@ -11,12 +11,16 @@ use borrow.Author.Tests.{not-true, eqb-true, eq-eqb, ltb-true, ltb-false, lt-ltb
 use Rattle.records.specs.declared.State.{State}
 use Rattle.records.specs.Lists.{if_then_else_, all, allBelow}
 use Rattle.records.specs.Store.{Store, term, cell, count, kind, within, isTerm, isString, text, chain, root, sameClass, isEdge}
-use Rattle.records.specs.View.{Lent, storeOf, sizes}
-use Rattle.records.specs.Rules.{eachTerm, isNumber, cellRule, textRule, named, nameRule, partRule, concatRule, lengthRule, isEquatable, equationRule, termRule, recordsRule, parentsRule, endsRule, alikeRule, aloneRule, edgeLabel, labelRule, classesRule, pairsOf, fallsRule, congruenceRule, isCongruence, congruencesRule, auditStore, audit}
-use Rattle.records.specs.Working.Audited.{Part, Next, last, later, Label, asserted, interface, congruence, definitional, Unlabelled, Falls, Pairs, Congruent, Recorded, Classed, Congruences, Roomy, Audited, Sized, Ready, Verdict, ready, short, unrecorded, unclassed, incongruent}
+use Rattle.records.specs.View.{Lent, storeOf, termAt, sizes}
+use Rattle.records.specs.Index.{Indexed, indexRule, SameIndex}
+use Rattle.records.specs.Rules.{eachTerm, isNumber, cellRule, textRule, named, nameRule, partRule, concatRule, lengthRule, isEquatable, equationRule, termRule, recordsRule, parentsRule, endsRule, alikeRule, aloneRule, edgeLabel, labelRule, classesRule, pairsOf, fallsRule, congruenceRule, isCongruence, congruencesRule, auditStore, auditIndex, firstDue, audit}
+use Rattle.records.specs.Working.Audited.{Part, Next, last, later, Label, asserted, interface, congruence, definitional, Unlabelled, Falls, Pairs, Congruent, Recorded, Classed, Congruences, Roomy, Audited, Sized, Ready, Verdict, ready, short, unrecorded, unclassed, incongruent, unindexed}
 use Rattle.records.proofs.Lists.{both-left, both-right, both-true, either, or-left, or-right, clash, decide, within-low, within-high, within-is, below-at, below-all, table-length, word-is, word-same, every-map, all-every, every-all}
 use Rattle.records.proofs.Refines.RuleLaws.{sized-of, sizes-of}
 use Rattle.records.proofs.Grown.{used, kind-term}
+use Rattle.records.proofs.IndexSays.{says}
+use Rattle.records.proofs.IndexLaws.{same-none}
+use Rattle.records.proofs.IndexStores.{SameRecords, records-same, indexed-records}
 
 -- TESTS
 
@@ -344,35 +348,64 @@ pub passes : (s : Store) → Audited s → auditStore s ≡ 0
 unfolding auditStore
 passes s a = rw (records-of s (a .recorded), classes-of s (a .classed), congruent-of s (a .congruences))
 
+-- of two refusals neither is due
+due-none : (j k : ℕ) → firstDue j k ≡ 0 → (j ≡ 0) × (k ≡ 0)
+due-none zero k e = (refl, e)
+due-none (suc j) k e = absurd (omega arith)
+
+index-passed : (l : List ℕ) (s : Store) → auditIndex l s ≡ 0 → Indexed l s
+unfolding auditIndex
+index-passed l s e = decide (indexRule l s) (says .passed s l) (λ z. let w = rw z at e in absurd (omega arith))
+
+pub index-passes : (l : List ℕ) (s : Store) → Indexed l s → auditIndex l s ≡ 0
+unfolding auditIndex
+index-passes l s i = rw (says .passes s l i)
+
 pub ready-of : (m : Lent) (c : State) → audit m c ≡ 0 → Ready m c
 unfolding audit
-ready-of m c e = decide (sizes m c) (λ z. record { sized = sized-of m c z; audited = passed (storeOf m c) (rw z at e) (roomy-of m c (sized-of m c z)) })
+ready-of m c e = decide (sizes m c)
+    (λ z. let d = due-none (auditStore (storeOf m c)) (auditIndex (m .terms) (storeOf m c)) (rw z at e) in
+    record { sized = sized-of m c z; audited = passed (storeOf m c) (d .0) (roomy-of m c (sized-of m c z)); indexed = index-passed (m .terms) (storeOf m c) (d .1) })
     (λ z. let w = rw z at e in absurd (omega arith))
 
--- slices that keep their lengths are ready for new counts where the store is audited
-pub ready-after : {m m′ : Lent} {c c′ : State} → Ready m c → length (m′ .terms) ≡ length (m .terms) → length (m′ .cells) ≡ length (m .cells) → Audited (storeOf m′ c′) → Ready m′ c′
-ready-after {m} {m′} {c} {c′} r e f a = record { sized = sized-after m m′ c c′ (r .sized) e f (a .roomy); audited = a }
+-- slices that keep their lengths are ready for new counts where the store is audited and indexed
+pub ready-after : {m m′ : Lent} {c c′ : State} → Ready m c → length (m′ .terms) ≡ length (m .terms) → length (m′ .cells) ≡ length (m .cells) → Audited (storeOf m′ c′) → Indexed (m′ .terms) (storeOf m′ c′) → Ready m′ c′
+ready-after {m} {m′} {c} {c′} r e f a i = record { sized = sized-after m m′ c c′ (r .sized) e f (a .roomy); audited = a; indexed = i }
 
 -- and those that keep what was counted keep their lengths
-pub ready-later : {m m′ : Lent} {c c′ : State} → Ready m c → storeOf m′ c ≡ storeOf m c → Audited (storeOf m′ c′) → Ready m′ c′
-ready-later r e a = ready-after r (ap (λ (s : Store). s .room .termsLong) e) (ap (λ (s : Store). s .room .cellsLong) e) a
+pub ready-later : {m m′ : Lent} {c c′ : State} → Ready m c → storeOf m′ c ≡ storeOf m c → Audited (storeOf m′ c′) → Indexed (m′ .terms) (storeOf m′ c′) → Ready m′ c′
+ready-later r e a i = ready-after r (ap (λ (s : Store). s .room .termsLong) e) (ap (λ (s : Store). s .room .cellsLong) e) a i
 
-pub ready-as : {m m′ : Lent} {c c′ : State} → Ready m c → storeOf m′ c′ ≡ storeOf m c → Ready m′ c′
-ready-as r e = ready-after r (ap (λ (s : Store). s .room .termsLong) e) (ap (λ (s : Store). s .room .cellsLong) e) (subst Audited (sym e) (r .audited))
+-- the same store, heads and ninth words
+pub ready-same : {m m′ : Lent} {c c′ : State} → Ready m c → storeOf m′ c′ ≡ storeOf m c → SameIndex (m .terms) (m′ .terms) (c .terms) → Ready m′ c′
+ready-same {m} {m′} {c} {c′} r e i =
+    let n : count (storeOf m c) ≡ c .terms = table-length (λ j. termAt (m .terms) (suc j)) (c .terms) in
+    ready-after r (ap (λ (s : Store). s .room .termsLong) e) (ap (λ (s : Store). s .room .cellsLong) e) (subst Audited (sym e) (r .audited))
+    (indexed-records (records-same e) (subst (λ (k : ℕ). SameIndex (m .terms) (m′ .terms) k) (sym n) i) (r .indexed))
+
+-- the same words, and counts that give the same store
+pub ready-as : {m : Lent} {c c′ : State} → Ready m c → storeOf m c′ ≡ storeOf m c → Ready m c′
+ready-as {m} {c} r e = ready-same r e (same-none (m .terms) (c .terms))
+
+-- slices of which no word of terms was written, and counts of which reasons, keys and names alone are others
+pub ready-beside : {m m′ : Lent} {c c′ : State} → Ready m c → storeOf m′ c ≡ storeOf m c → m′ .terms ≡ m .terms → Audited (storeOf m′ c′) → SameRecords (storeOf m c) (storeOf m′ c′) → Ready m′ c′
+ready-beside {m} {m′} {c} {c′} r e t a s =
+    ready-later r e a (subst (λ (l : List ℕ). Indexed l (storeOf m′ c′)) (sym t) (indexed-records s (same-none (m .terms) (count (storeOf m c))) (r .indexed)))
 
 pub audit-of : (m : Lent) (c : State) → Ready m c → audit m c ≡ 0
 unfolding audit
-audit-of m c r = rw (sizes-of m c (r .sized)) (passes (storeOf m c) (r .audited))
+audit-of m c r = rw (sizes-of m c (r .sized), passes (storeOf m c) (r .audited)) (index-passes (m .terms) (storeOf m c) (r .indexed))
 
--- a refusal leaves what the audit says: what was counted, and lengths
-pub audit-kept : (m m′ : Lent) (c : State) → storeOf m′ c ≡ storeOf m c → audit m c ≡ 0 → audit m′ c ≡ 0
-audit-kept m m′ c e z = audit-of m′ c (ready-as (ready-of m c z) e)
+-- a refusal leaves what the audit says: what was counted, lengths, heads and ninth words
+pub audit-kept : (m m′ : Lent) (c : State) → storeOf m′ c ≡ storeOf m c → SameIndex (m .terms) (m′ .terms) (c .terms) → audit m c ≡ 0 → audit m′ c ≡ 0
+audit-kept m m′ c e i z = audit-of m′ c (ready-same (ready-of m c z) e i)
 
 -- the answer is the first place whose facts do not hold, and no other
 pub verdict : (m : Lent) (c : State) → Verdict m c (audit m c)
-unfolding audit auditStore
+unfolding audit auditStore auditIndex
 verdict m c = decide (sizes m c) (λ z. decide (recordsRule s) (λ p. decide (classesRule s) (λ q. decide (congruencesRule s)
-    (λ e. rw (z, p, q, e) (ready (ready-of m c (audit-zero z p q e))))
+    (λ e. decide (indexRule (m .terms) s) (λ i. rw (z, p, q, e, i) (ready (ready-of m c (audit-zero z p q e i))))
+    (λ i. rw (z, p, q, e, i) (unindexed (sized-of m c z) (stored z p q e) (λ h. clash (says .passes s (m .terms) h) i))))
     (λ e. rw (z, p, q, e) (incongruent (sized-of m c z) (recorded-of s p) (classed-of s q) (λ h. clash (congruent-of s h) e))))
     (λ q. rw (z, p, q) (unclassed (sized-of m c z) (recorded-of s p) (λ h. clash (classes-of s h) q))))
     (λ p. rw (z, p) (unrecorded (sized-of m c z) (λ h. clash (records-of s h) p))))
@@ -381,13 +414,18 @@ verdict m c = decide (sizes m c) (λ z. decide (recordsRule s) (λ p. decide (cl
     s : Store
     s = storeOf m c
 
-    audit-zero : sizes m c ≡ true → recordsRule s ≡ true → classesRule s ≡ true → congruencesRule s ≡ true → audit m c ≡ 0
-    audit-zero z p q e = rw (z, p, q, e)
+    audit-zero : sizes m c ≡ true → recordsRule s ≡ true → classesRule s ≡ true → congruencesRule s ≡ true → indexRule (m .terms) s ≡ true → audit m c ≡ 0
+    audit-zero z p q e i = rw (z, p, q, e, i)
+
+    stored : sizes m c ≡ true → recordsRule s ≡ true → classesRule s ≡ true → congruencesRule s ≡ true → Audited s
+    stored z p q e = record { roomy = roomy-of m c (sized-of m c z); recorded = recorded-of s p; classed = classed-of s q; congruences = congruences-of s e }
 
 pub verdict-is : (m : Lent) (c : State) {k : ℕ} → Verdict m c k → audit m c ≡ k
-unfolding audit auditStore
+unfolding audit auditStore auditIndex
 verdict-is m c (ready r) = audit-of m c r
 verdict-is m c (short f) = rw (refuted (sizes m c) (sized-of m c) f)
 verdict-is m c (unrecorded z f) = rw (sizes-of m c z, refuted (recordsRule (storeOf m c)) (recorded-of _) f)
 verdict-is m c (unclassed z r f) = rw (sizes-of m c z, records-of _ r, refuted (classesRule (storeOf m c)) (classed-of _) f)
 verdict-is m c (incongruent z r q f) = rw (sizes-of m c z, records-of _ r, classes-of _ q, refuted (congruencesRule (storeOf m c)) (congruences-of _) f)
+verdict-is m c (unindexed z a f) =
+    rw (sizes-of m c z, passes (storeOf m c) a, refuted (indexRule (m .terms) (storeOf m c)) (says .passed (storeOf m c) (m .terms)) f)

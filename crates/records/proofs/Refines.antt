@@ -1,5 +1,9 @@
 -- That the code meets its definitions: each way through a function, and the invariants of its loops. No other crate cites these.
 pub mod RuleLaws
+pub mod IndexWalks
+pub mod IndexBuckets
+pub mod IndexCuts
+pub mod IndexReads
 pub mod NameLaws
 pub mod TermLaws
 pub mod Rooms

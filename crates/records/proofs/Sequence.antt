@@ -23,7 +23,8 @@ use Rattle.records.specs.Working.Doing.{Working}
 use Rattle.records.proofs.Works.{stop-not, via}
 use Rattle.records.proofs.Kept.{name-taken}
 use Rattle.records.proofs.Doing.{working-stopped, working-at}
-use Rattle.records.proofs.Counts.{Higher, higher-none, higher-then, agree-below}
+use Rattle.records.proofs.Counts.{Higher, higher-none, higher-then}
+use Rattle.records.proofs.IndexStores.{keeps-then}
 use Rattle.records.proofs.ListLaws.{string-stays}
 
 -- WORK THAT TAKES NOTHING AWAY
@@ -125,7 +126,7 @@ module _ {A B : Type 0} {w : Work A} (f : A → Work B) {m m₁ : Lent} {c : Sta
   pub working-then : (c₁ : State) (a : A) → Grows w → Working w m m₁ c (ok (storeOf m₁ c₁) a) → {m₂ : Lent} {o : Out B} → Working (f a) m₁ m₂ c₁ o → Working (w >>= f) m m₂ c o
   working-then c₁ a g p {m₂} q = record {
     says = ap (andThen f) (p .says) ∙ q .says;
-    kept = agree-below m m₁ m₂ c c₁ (g .higher (storeOf m c) (storeOf m₁ c₁) a (p .says)) (q .kept) ∙ p .kept;
+    kept = keeps-then (g .higher (storeOf m c) (storeOf m₁ c₁) a (p .says)) (p .kept) (q .kept);
     ready = q .ready;
   }
 
@@ -148,7 +149,7 @@ module _ {m m₁ : Lent} {c : State} where
   made-ready {t = t} {d = d} e w = made-at e w .ready d t refl
 
   pub made-stays : {w : Work ℕ} {r : Made} {t : ℕ} {d : State} → Grows w → r ≡ Term t d → Working w m m₁ c (made r m₁) → (v : ℕ) → isString (storeOf m c) v ≡ true → isString (storeOf m₁ d) v ≡ true
-  made-stays {t = t} {d = d} g e w = string-stays m m₁ c d (g .higher (storeOf m c) (storeOf m₁ d) t (made-at e w .says)) (w .kept)
+  made-stays {t = t} {d = d} g e w = string-stays m m₁ c d (g .higher (storeOf m c) (storeOf m₁ d) t (made-at e w .says)) (w .kept .store)
 
 module _ {w : Work ℕ} {m m₁ : Lent} {c : State} {r : Made} where
   pub made-is : {t : ℕ} {d : State} → r ≡ Term t d → Working w m m₁ c (made r m₁) → Working w m m₁ c (ok (storeOf m₁ d) t)

@@ -10,7 +10,7 @@ use lib.Seq.{ext-getD, getD-take, getD-drop}
 use Rattle.records.specs.declared.State.{State}
 use Rattle.records.specs.Lists.{table, sameWord}
 use Rattle.records.specs.Store.{Term, Cell, noTerm, noCell, termIn, cellIn, textIn, within, Store, kind, term, text}
-use Rattle.records.specs.View.{termWidth, cellWidth, termPlace, cellPlace, termWords, cellWords, termAt, cellAt, termsView, cellsView, charsView, pairsView, span, Lent, pairAt, zeroTerm, zeroCell, readIn, termed}
+use Rattle.records.specs.View.{cellWidth, termPlace, cellPlace, termWords, cellWords, termAt, nextAt, cellAt, termsView, cellsView, charsView, pairsView, span, Lent, pairAt, zeroTerm, zeroCell, readIn, termed}
 use Rattle.records.specs.Calls.{KeepsStore}
 use Rattle.records.proofs.Lists.{table-at, table-past, table-same, table-length, within-low, within-high}
 use Rattle.records.proofs.Grown.{kind-term}
@@ -83,7 +83,8 @@ text-span l n t h =
     getD-take (t .second) (drop (t .first) (charsView l n)) i 0 r ∙ getD-drop (t .first) (charsView l n) i 0
     ∙ table-at (λ j. getD l j 0) n (t .first + i) 0 (omega arith) ∙ sym (table-at (λ j. getD l (t .first + j) 0) (t .second) i 0 r))
 
--- FAITHFUL: equal views are equal words up to the counts
+-- FAITHFUL: equal views are equal words up to the counts; of terms, the eight words of each record. Heads and ninth words are in no view, but that of
+-- record 0, which stands with it in the room
 
 module _ {A : Type 0} where
   pub table-is : (f g : ℕ → A) (n i : ℕ) → table f n ≡ table g n → i < n → f i ≡ g i
@@ -110,7 +111,7 @@ termWord (suc (suc (suc (suc (suc zero))))) r = r .labelKind
 termWord (suc (suc (suc (suc (suc (suc zero)))))) r = r .labelValue
 termWord (suc (suc (suc (suc (suc (suc (suc k))))))) r = r .stamp
 
-termWord-is : (l : List ℕ) (t k : ℕ) → k < termWidth → termWord k (termAt l t) ≡ getD l (termPlace t k) 0
+termWord-is : (l : List ℕ) (t k : ℕ) → k < 8 → termWord k (termAt l t) ≡ getD l (termPlace t k) 0
 unfolding termWord
 termWord-is l t zero h = refl
 termWord-is l t (suc zero) h = refl
@@ -150,8 +151,8 @@ from-zero f g n z e zero b = z
 from-zero f g n z e (suc t) b = table-is (λ i. f (suc i)) (λ i. g (suc i)) n t e (omega arith)
 
 module _ (l l′ : List ℕ) (n : ℕ) where
-  pub terms-words : termAt l 0 ≡ termAt l′ 0 → termsView l n ≡ termsView l′ n → (i : ℕ) → i < termWords n → getD l i 0 ≡ getD l′ i 0
-  terms-words z e i b = words-same termWidth termAt termWord termWord-is l l′ 0 (n + 1) (omega arith) (λ t a. from-zero (termAt l) (termAt l′) n z e t) i (omega arith) b
+  pub terms-words : termAt l 0 ≡ termAt l′ 0 → termsView l n ≡ termsView l′ n → (t k : ℕ) → t ≤ n → k < 8 → getD l (termPlace t k) 0 ≡ getD l′ (termPlace t k) 0
+  terms-words z e t k b h = sym (termWord-is l t k h) ∙ ap (termWord k) (from-zero (termAt l) (termAt l′) n z e t (omega arith)) ∙ termWord-is l′ t k h
 
   pub cells-words : cellAt l 0 ≡ cellAt l′ 0 → cellsView l n ≡ cellsView l′ n → (i : ℕ) → i < cellWords n → getD l i 0 ≡ getD l′ i 0
   cells-words z e i b = words-same cellWidth cellAt cellWord cellWord-is l l′ 0 (n + 1) (omega arith) (λ t a. from-zero (cellAt l) (cellAt l′) n z e t) i (omega arith) b
@@ -164,9 +165,9 @@ module _ (l l′ : List ℕ) (n : ℕ) where
 
 -- VIEWS THAT AGREE
 
--- equal words are equal records
+-- equal words are equal records: of a term, the eight words that are its record
 module _ (l l′ : List ℕ) (t : ℕ) where
-  pub term-same : ((k : ℕ) → k < termWidth → getD l′ (termPlace t k) 0 ≡ getD l (termPlace t k) 0) → termAt l′ t ≡ termAt l t
+  pub term-same : ((k : ℕ) → k < 8 → getD l′ (termPlace t k) 0 ≡ getD l (termPlace t k) 0) → termAt l′ t ≡ termAt l t
   term-same h =
       let a0 = h 0 (omega arith) in
       let a1 = h 1 (omega arith) in
@@ -183,6 +184,11 @@ module _ (l l′ : List ℕ) (t : ℕ) where
       let a1 = h 1 (omega arith) in
       let a2 = h 2 (omega arith) in cc
 
+-- record 0 of terms is known from its record and its ninth word
+pub zero-term-same : (l l′ : List ℕ) → termAt l′ 0 ≡ termAt l 0 → nextAt l′ 0 ≡ nextAt l 0 → zeroTerm l′ ≡ zeroTerm l
+unfolding zeroTerm
+zero-term-same l l′ a b = cc
+
 -- the words below a record decide the records before it, record 0 too
 module _ (l l′ : List ℕ) (n : ℕ) (h : (j : ℕ) → j < termWords n → getD l′ j 0 ≡ getD l j 0) where
   term-agrees : (t : ℕ) → t ≤ n → termAt l′ t ≡ termAt l t
@@ -192,8 +198,7 @@ module _ (l l′ : List ℕ) (n : ℕ) (h : (j : ℕ) → j < termWords n → ge
   terms-agree = table-same (λ i. termAt l′ (suc i)) (λ i. termAt l (suc i)) n (λ i b. term-agrees (suc i) (omega arith))
 
   pub zero-term-agrees : zeroTerm l′ ≡ zeroTerm l
-  unfolding zeroTerm
-  zero-term-agrees = term-agrees 0 (omega arith)
+  zero-term-agrees = zero-term-same l l′ (term-agrees 0 (omega arith)) (h (termPlace 0 8) (omega arith))
 
 pub pairs-agree : (l l′ : List ℕ) (n : ℕ) → ((j : ℕ) → j < 2 * n → getD l′ j 0 ≡ getD l j 0) → pairsView l′ n ≡ pairsView l n
 pairs-agree l l′ n h = table-same (pairAt l′) (pairAt l) n (λ i b.
@@ -213,18 +218,24 @@ module _ (l l′ : List ℕ) (n : ℕ) (h : (j : ℕ) → j < cellWords n → ge
 
 -- WHAT IS KEPT
 
--- slices that keep what is counted keep record 0 of terms and of cells
+-- slices that keep what is counted keep record 0 of terms, its ninth word too, and of cells
 pub record SameZero (m m′ : Lent) : Type 0 where
   pub terms : termAt (m′ .terms) 0 ≡ termAt (m .terms) 0
+  pub ninth : nextAt (m′ .terms) 0 ≡ nextAt (m .terms) 0
   pub cells : cellAt (m′ .cells) 0 ≡ cellAt (m .cells) 0
 
 pub zero-kept : (m m′ : Lent) (c : State) → KeepsStore m m′ c → SameZero m m′
 unfolding zeroTerm zeroCell
-zero-kept m m′ c e = record { terms = ap (λ (s : Store). s .room .zeroTerm) e; cells = ap (λ (s : Store). s .room .zeroCell) e }
+zero-kept m m′ c e = record {
+  terms = ap (λ (s : Store). s .room .zeroTerm .0) e;
+  ninth = ap (λ (s : Store). s .room .zeroTerm .1) e;
+  cells = ap (λ (s : Store). s .room .zeroCell) e;
+}
 
--- and each word of what is counted and of record 0
+-- and each word of what is counted and of record 0; of counted terms the eight words of the record, since the index is no part of the store
 pub record SameWords (m m′ : Lent) (c : State) : Type 0 where
-  pub terms : (i : ℕ) → i < termWords (c .terms) → getD (m′ .terms) i 0 ≡ getD (m .terms) i 0
+  pub terms : (t k : ℕ) → t ≤ c .terms → k < 8 → getD (m′ .terms) (termPlace t k) 0 ≡ getD (m .terms) (termPlace t k) 0
+  pub ninth : nextAt (m′ .terms) 0 ≡ nextAt (m .terms) 0
   pub cells : (i : ℕ) → i < cellWords (c .cells) → getD (m′ .cells) i 0 ≡ getD (m .cells) i 0
   pub chars : (i : ℕ) → i < c .chars → getD (m′ .chars) i 0 ≡ getD (m .chars) i 0
   pub reasons : (i : ℕ) → i < 2 * c .reasons → getD (m′ .reasons) i 0 ≡ getD (m .reasons) i 0
@@ -233,6 +244,7 @@ pub record SameWords (m m′ : Lent) (c : State) : Type 0 where
 pub view-faithful : (m m′ : Lent) (c : State) → KeepsStore m m′ c → SameWords m m′ c
 view-faithful m m′ c e = record {
   terms = terms-words (m′ .terms) (m .terms) (c .terms) (zero-kept m m′ c e .terms) (ap (λ (s : Store). s .terms) e);
+  ninth = zero-kept m m′ c e .ninth;
   cells = cells-words (m′ .cells) (m .cells) (c .cells) (zero-kept m m′ c e .cells) (ap (λ (s : Store). s .cells) e);
   chars = chars-words (m′ .chars) (m .chars) (c .chars) (ap (λ (s : Store). s .chars) e);
   reasons = pairs-words (m′ .reasons) (m .reasons) (c .reasons) (ap (λ (s : Store). s .reasons) e);

@@ -2,7 +2,8 @@
 use mathlib.Core.Path.{_≡_}
 use mathlib.Core.Bool.{Bool}
 use mathlib.Core.List.{List}
-use Prim.Native.Nat.{ℕ, zero, suc, _≤_, _<_}
+use mathlib.Core.Logic.{_⊎_}
+use Prim.Native.Nat.{ℕ, zero, suc, _≤_}
 use denote.Ref.{now}
 use denote.Triple.Both.{Both}
 use Rattle.records.specs.declared.State.{State}
@@ -14,21 +15,22 @@ use Rattle.records.specs.Lists.{if_then_else_}
 use Rattle.records.specs.Store.{Store, Out, ok, stop, Work}
 use Rattle.records.specs.View.{Lent, storeOf}
 use Rattle.records.specs.View.{Slice}
+use Rattle.records.specs.Index.{SameIndex}
 use Rattle.records.specs.Rules.{audit}
 
 -- what was counted is as it was: 'records below those counts keep their contents'
 abbrev pub KeepsStore : Lent → Lent → State → Type 0
 KeepsStore m m′ c = storeOf m′ c ≡ storeOf m c
 
--- 'Refusals 1 to 5 write nothing'
+-- 'Refusals 1 to 5 write nothing', and document 02's 'added from here on write nothing': those are 10 and above
 abbrev pub writesNothing : ℕ → Type 0
-writesNothing k = k ≤ 5
+writesNothing k = (k ≤ 5) ⊎ (10 ≤ k)
 
 -- once the arguments pass, refusal 7 alone is given
 abbrev pub fullAlone : ℕ → Type 0
-fullAlone k = 5 < k → k ≡ 7
+fullAlone k = (writesNothing k → ⊥) → k ≡ 7
 
--- what a public call answers: refusals 1 to 4 by the audit, 5 where an argument is wrong, else its work
+-- what a public call answers: refusals 1 to 4 and 12 by the audit, 5 where an argument is wrong, else its work
 module _ {A : Type 0} where
   abbrev pub unless : ℕ → Out A → Out A
   unless zero o = o
@@ -40,12 +42,13 @@ module _ {A : Type 0} where
   unfoldable pub call : (Store → Bool) → Work A → Lent → State → Out A
   call fit work m c = unless (audit m c) (checked (fit (storeOf m c)) work (storeOf m c))
 
-  -- what a public call promises: its answer, when it writes nothing, what it keeps, and that what it leaves passes the audit: the words
-  -- at exit with the counts d that it answers
+  -- what a public call promises: its answer, when it writes nothing, what it keeps, that after a refusal heads and counted ninth words are
+  -- those of entry, and that what it leaves passes the audit: the words at exit with the counts d that it answers
   pub record Public (o : Out A) (m m′ : Lent) (c : State) (r : Out A) : Type 0 where
     pub says : r ≡ o
     pub idle : (k : ℕ) → r ≡ stop k → writesNothing k → m′ ≡ m
     pub kept : KeepsStore m m′ c
+    pub back : (k : ℕ) → r ≡ stop k → SameIndex (m .terms) (m′ .terms) (c .terms)
     pub passes : (d : State) (a : A) → r ≡ ok (storeOf m′ d) a → audit m′ d ≡ 0
 
   -- THE WORDS OF CONTRACTS. Slices are passed by their names (View.antt, `across`), and an answer is read in the words at exit

@@ -1,9 +1,12 @@
 pub mod Lists
 pub mod Store
 pub mod View
+pub mod Index
 pub mod Rules
 pub mod Make
+pub mod Chained
 pub mod Meaning
 pub mod Calls
 pub mod AuditCases
+pub mod IndexCases
 pub mod Working

@@ -131,6 +131,11 @@ addTerm k a b = do
   if ltb (count s) (s .room .terms) then put (withTerms s (s .terms ++ (own n k a b ∷ []))) else refuse 8
   give n
 
+-- the number of the record found; 0, which names none, where there is none
+abbrev pub numberOf : Option ℕ → ℕ
+numberOf none = 0
+numberOf (some i) = suc i
+
 abbrev pub isSome : Option ℕ → Bool
 isSome none = false
 isSome (some i) = true

@@ -1,13 +1,14 @@
--- Document 01, 'The records': each rule as a test, and the audit in the order of 'Where each refusal is checked'.
+-- Document 01, 'The records': each rule as a test, and the audit in the order of 'Where each refusal is checked', with document 02's 12.
 use mathlib.Core.Bool.{Bool, not, _&&_, _||_}
 use mathlib.Core.List.{List}
-use Prim.Native.Nat.{ℕ, suc, _+_}
+use Prim.Native.Nat.{ℕ, zero, suc, _+_}
 use lib.ListN.{length}
 use lib.Dec.{eqb, ltb, leb}
 use Rattle.records.specs.declared.State.{State}
 use Rattle.records.specs.Lists.{if_then_else_, all, sameWord, firsts, seconds, allBelow}
 use Rattle.records.specs.Store.{Term, Store, termIn, term, cell, count, isTerm, isConstant, isVariable, isConcat, isLength, isEquation, isString, text, chain, parts, root, top, sameClass, sameTree, path, isEdge}
 use Rattle.records.specs.View.{Lent, storeOf, sizes}
+use Rattle.records.specs.Index.{indexRule}
 
 -- a rule of every term, of every cell
 abbrev pub eachTerm : Store → (ℕ → Bool) → Bool
@@ -156,10 +157,19 @@ listLimit = 1024
 abbrev pub isList : Store → List ℕ → Bool
 isList s l = leb (length l) listLimit && all (isString s) l
 
--- THE AUDIT: 0, or the first refusal of 1 to 4 that is due
+-- THE AUDIT: 0, or the first refusal of 1 to 4 and 12 that is due
 
 unfoldable pub auditStore : Store → ℕ
 auditStore s = if recordsRule s then (if classesRule s then (if congruencesRule s then 0 else 4) else 3) else 2
 
+-- document 02, Note 9: 'Answers: 12, after 4, where heads or chains break these conditions'
+unfoldable pub auditIndex : List ℕ → Store → ℕ
+auditIndex l s = if indexRule l s then 0 else 12
+
+-- a refusal, or else the next
+abbrev pub firstDue : ℕ → ℕ → ℕ
+firstDue zero k = k
+firstDue (suc j) k = suc j
+
 unfoldable pub audit : Lent → State → ℕ
-audit m c = if sizes m c then auditStore (storeOf m c) else 1
+audit m c = if sizes m c then firstDue (auditStore (storeOf m c)) (auditIndex (m .terms) (storeOf m c)) else 1

@@ -25,8 +25,8 @@ pub record Cell : Type 0 where
   pub next : ℕ
 
 -- what a slice has beside its counted records: how many records it and its limit hold, record 0 of terms and of cells left out; and, of
--- terms and cells, the words of the slice and record 0, which 'is never read': no definition names these, and a store that keeps its room
--- keeps them
+-- terms and cells, the words of the slice and record 0 (of terms with its ninth word), which 'is never read': no definition names these, and
+-- a store that keeps its room keeps them
 pub record Room : Type 0 where
   pub terms : ℕ
   pub cells : ℕ
@@ -35,7 +35,7 @@ pub record Room : Type 0 where
   pub keys : ℕ
   pub termsLong : ℕ
   pub cellsLong : ℕ
-  pub zeroTerm : Term
+  pub zeroTerm : Term × ℕ
   pub zeroCell : Cell
 
 -- the records up to the counts, terms and cells from record 1 on; the name counter; the room

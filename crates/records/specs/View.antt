@@ -53,16 +53,20 @@ reasonLimit = 4096
 abbrev pub keyLimit : ℕ
 keyLimit = 4096
 
--- the words of a record: 'Terms, eight words', 'Cells, three words'
+-- document 02, Note 9: 'Keep 64 bucket heads beside the term records': before record 0
+abbrev pub buckets : ℕ
+buckets = 64
+
+-- the words of a record: 'Terms, eight words', and Note 9's 'ninth word'; 'Cells, three words'
 abbrev pub termWidth : ℕ
-termWidth = 8
+termWidth = 9
 
 abbrev pub cellWidth : ℕ
 cellWidth = 3
 
 -- the place of word k of a record
 abbrev pub termPlace : ℕ → ℕ → ℕ
-termPlace t k = termWidth * t + k
+termPlace t k = buckets + termWidth * t + k
 
 abbrev pub cellPlace : ℕ → ℕ → ℕ
 cellPlace c k = cellWidth * c + k
@@ -80,6 +84,13 @@ termAt l t = record {
   stamp = getD l (termPlace t 7) 0;
 }
 
+-- Note 9: the head of a bucket, and 'a ninth word, the next term in its bucket'
+abbrev pub headAt : List ℕ → ℕ → ℕ
+headAt l b = getD l b 0
+
+abbrev pub nextAt : List ℕ → ℕ → ℕ
+nextAt l t = getD l (termPlace t 8) 0
+
 abbrev pub cellAt : List ℕ → ℕ → Cell
 cellAt l c = record { value = getD l (cellPlace c 0) 0; other = getD l (cellPlace c 1) 0; next = getD l (cellPlace c 2) 0 }
 
@@ -87,8 +98,8 @@ abbrev pub pairAt : List ℕ → ℕ → ℕ × ℕ
 pairAt l i = (getD l (2 * i + 0) 0, getD l (2 * i + 1) 0)
 
 -- record 0 of terms and of cells: part of the room, so that a call which keeps the room keeps it
-unfoldable pub zeroTerm : List ℕ → Term
-zeroTerm l = termAt l 0
+unfoldable pub zeroTerm : List ℕ → Term × ℕ
+zeroTerm l = (termAt l 0, nextAt l 0)
 
 unfoldable pub zeroCell : List ℕ → Cell
 zeroCell l = cellAt l 0
@@ -119,16 +130,16 @@ unfoldable pub lengths : List ℕ → List ℕ → ℕ
 lengths l [] = 0
 lengths l (t ∷ ts) = termAt l t .second + lengths l ts
 
--- how many words n records and record 0 take
+-- how many words n records and record 0 take, the heads before them too
 abbrev pub termWords : ℕ → ℕ
-termWords n = termWidth * (n + 1)
+termWords n = buckets + termWidth * (n + 1)
 
 abbrev pub cellWords : ℕ → ℕ
 cellWords n = cellWidth * (n + 1)
 
 -- how many records fit a slice and its limit
 abbrev pub termRoom : List ℕ → ℕ
-termRoom l = min termLimit (length l / termWidth - 1)
+termRoom l = min termLimit ((length l - buckets) / termWidth - 1)
 
 abbrev pub cellRoom : List ℕ → ℕ
 cellRoom l = min cellLimit (length l / cellWidth - 1)

@@ -1,4 +1,5 @@
 -- Working definitions: what the contracts of working functions cite. No definition that a public contract cites is built on one of them.
+pub mod Indexing
 pub mod Leaves
 pub mod ClimbEnds
 pub mod Hashes

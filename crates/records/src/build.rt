@@ -2,14 +2,15 @@
 ghost use mathlib.Core.Bool.{true};
 ghost use mathlib.Core.Path.{_≡_};
 ghost use mathlib.Core.Logic.{_⊎_};
-ghost use Prim.Native.Nat.{suc, _-_, _≤_, min};
-ghost use lib.ListN.{length, getD};
+ghost use Prim.Native.Nat.{suc};
 ghost use Rattle.records.specs.Lists.{sameWord, firsts, firstBelow};
 ghost use Rattle.records.specs.Store.{chainIn};
-ghost use Rattle.records.specs.View.{termLimit, cellsView, storeOf, lends, across};
-ghost use Rattle.records.specs.Make.{makeConcat, makeLength, makeEquation, concatArguments, lengthArguments, equationArguments};
-ghost use Rattle.records.specs.Working.Leaves.{numberOf, Passed, appendParts, hasParts, hasSides, makeSides};
-ghost use Rattle.records.specs.Working.Audited.{Ready, Sized, Ascends};
+ghost use Rattle.records.specs.View.{cellsView, storeOf, lends, across};
+ghost use Rattle.records.specs.Index.{bucketOf};
+ghost use Rattle.records.specs.Make.{numberOf, makeConcat, makeLength, makeEquation, concatArguments, lengthArguments, equationArguments};
+ghost use Rattle.records.specs.Working.Indexing.{Walkable, Searchable, FirstIn};
+ghost use Rattle.records.specs.Working.Leaves.{appendParts, hasParts, hasSides, makeSides};
+ghost use Rattle.records.specs.Working.Audited.{Ready, Ascends};
 ghost use Rattle.records.specs.Calls.{made, Answers};
 ghost use Rattle.records.specs.Working.Doing.{Does, Builds};
 use crate::Made;
@@ -19,9 +20,12 @@ use crate::fields::kind;
 use crate::fields::next;
 use crate::fields::second;
 use crate::fields::value;
-use crate::fields::wide;
+use crate::index::bucket_of;
+use crate::index::bucket_of_sides;
+use crate::index::head;
+use crate::index::next_term;
+use crate::make::cut_refused;
 use crate::put::cells_fit;
-use crate::put::higher;
 use crate::put::put_chain_unchecked;
 use crate::put::put_term_unchecked;
 use crate::put::term_fits;
@@ -61,44 +65,28 @@ fn has_parts(terms: &[u32], cells: &[u32], n: usize, t: u32, l: &[u32]) -> bool
     chain_is(cells, n, first(terms, t), l)
 }
 
-// Where to look for a whole among n terms: parts have lower numbers than the whole, so it is none of the terms up to its part x.
-fn up_to_part(n: usize, x: u32) -> u32
-    requires { ⌜ n ≤ termLimit ⌝ }
-    ensures { λ r. ⌜ r ≡ min n x ⌝ }
+// The first term of the chain of bucket b, of n terms, that is a concatenation of l, of k cells; 0 where there is none.
+fn walk_parts(terms: &[u32], cells: &[u32], n: usize, k: usize, b: usize, l: &[u32]) -> u32
+    requires { ⌜ Ascends (cellsView (now cells) k) ⌝ ∗ ⌜ Walkable (now terms) n b ⌝ }
+    ensures { λ r. ⌜ FirstIn (now (terms .entry)) b (hasParts (now (terms .entry)) (cellsView (now (cells .entry)) k) (now (l .entry))) r ⌝ }
 {
-    if wide(x) < n {
-        return x;
-    }
-    n as u32
-}
-
-// The same for a concatenation of l, by its last part.
-fn up_to_last(n: usize, l: &[u32]) -> u32
-    requires { ⌜ n ≤ termLimit ⌝ }
-    ensures { λ r. ⌜ r ≡ min n (getD (now (l .entry)) (length (now (l .entry)) - 1) 0) ⌝ }
-{
-    if l.len() == 0 {
-        return 0;
-    }
-    let last = l.len() - 1;
-    up_to_part(n, l[last])
-}
-
-// The lowest-numbered of n terms that is a concatenation of l, which none up to `from` is; 0 where there is none.
-fn find_parts(terms: &[u32], cells: &[u32], n: usize, k: usize, from: u32, l: &[u32]) -> u32
-    requires { ⌜ n ≤ termLimit ⌝ }
-    requires { ⌜ Ascends (cellsView (now cells) k) ⌝ }
-    requires { ⌜ Passed (hasParts (now terms) (cellsView (now cells) k) (now l)) n from ⌝ }
-    ensures { λ r. ⌜ r ≡ numberOf (firstBelow (λ i. hasParts (now (terms .entry)) (cellsView (now (cells .entry)) k) (now (l .entry)) (suc i)) n) ⌝ }
-{
-    let mut t = from;
-    while (t as usize) < n {
-        t += 1;
+    let mut t = head(terms, b);
+    while t != 0 {
         if has_parts(terms, cells, k, t, l) {
             return t;
         }
+        t = next_term(terms, t);
     }
     0
+}
+
+// The lowest-numbered of n terms that is a concatenation of l; 0 where there is none.
+fn find_parts(terms: &[u32], cells: &[u32], n: usize, k: usize, l: &[u32]) -> u32
+    requires { ⌜ Ascends (cellsView (now cells) k) ⌝ }
+    requires { ⌜ Searchable (now terms) n (bucketOf 3 (now l)) (hasParts (now terms) (cellsView (now cells) k) (now l)) ⌝ }
+    ensures { λ r. ⌜ r ≡ numberOf (firstBelow (λ i. hasParts (now (terms .entry)) (cellsView (now (cells .entry)) k) (now (l .entry)) (suc i)) n) ⌝ }
+{
+    walk_parts(terms, cells, n, k, bucket_of(3, l), l)
 }
 
 // A new concatenation of l. Both rooms are tested before a word is written.
@@ -111,7 +99,7 @@ fn append_parts(
     c: State,
     l: &[u32],
 ) -> Made
-    requires { ⌜ Sized (lends terms cells chars reasons keys) c ⌝ }
+    requires { ⌜ Ready (lends terms cells chars reasons keys) c ⌝ }
     ensures { λ r. ⌜ Builds (appendParts (now (l .entry))) (across terms cells chars reasons keys) c (made r) ⌝ }
 {
     let n = c.terms;
@@ -123,7 +111,7 @@ fn append_parts(
         return Made::Refused(8);
     }
     put_chain_unchecked(cells, k, l);
-    put_term_unchecked(terms, n, 3, (k + 1) as u32, 0);
+    put_term_unchecked(terms, n, 3, (k + 1) as u32, 0, bucket_of(3, l));
     Made::Term((n + 1) as u32, c.with_cells(l.len()).with_term())
 }
 
@@ -140,8 +128,7 @@ pub fn make_concatenation_unchecked(
     requires { ⌜ concatArguments (now l) (storeOf (lends terms cells chars reasons keys) c) ≡ true ⌝ }
     ensures { λ r. ⌜ Does (makeConcat (now (l .entry))) (across terms cells chars reasons keys) c (made r) ⌝ }
 {
-    let from = up_to_last(c.terms, l);
-    let t = find_parts(terms, cells, c.terms, c.cells, from, l);
+    let t = find_parts(terms, cells, c.terms, c.cells, l);
     if t != 0 {
         return Made::Term(t, c);
     }
@@ -161,19 +148,27 @@ fn has_sides(terms: &[u32], t: u32, k: u32, a: u32, b: u32) -> bool
     second(terms, t) == b
 }
 
-// The lowest-numbered of n terms that is of kind k and has these two words, which none up to `from` is; 0 where there is none.
-fn find_sides(terms: &[u32], n: usize, from: u32, k: u32, a: u32, b: u32) -> u32
-    requires { ⌜ n ≤ termLimit ⌝ ∗ ⌜ Passed (hasSides (now terms) k a b) n from ⌝ }
-    ensures { λ r. ⌜ r ≡ numberOf (firstBelow (λ i. hasSides (now (terms .entry)) k a b (suc i)) n) ⌝ }
+// The first term of the chain of bucket at, of n terms, that is of kind k and has these two words; 0 where there is none.
+fn walk_sides(terms: &[u32], n: usize, at: usize, k: u32, a: u32, b: u32) -> u32
+    requires { ⌜ Walkable (now terms) n at ⌝ }
+    ensures { λ r. ⌜ FirstIn (now (terms .entry)) at (hasSides (now (terms .entry)) k a b) r ⌝ }
 {
-    let mut t = from;
-    while (t as usize) < n {
-        t += 1;
+    let mut t = head(terms, at);
+    while t != 0 {
         if has_sides(terms, t, k, a, b) {
             return t;
         }
+        t = next_term(terms, t);
     }
     0
+}
+
+// The lowest-numbered of n terms that is of kind k and has these two words, which lies in bucket at; 0 where there is none.
+fn find_sides(terms: &[u32], n: usize, at: usize, k: u32, a: u32, b: u32) -> u32
+    requires { ⌜ Searchable (now terms) n at (hasSides (now terms) k a b) ⌝ }
+    ensures { λ r. ⌜ r ≡ numberOf (firstBelow (λ i. hasSides (now (terms .entry)) k a b (suc i)) n) ⌝ }
+{
+    walk_sides(terms, n, at, k, a, b)
 }
 
 // The length (kind 4) of a, its second word 0, or the equation (kind 5) of a and b.
@@ -188,17 +183,17 @@ fn make_sides(
     a: u32,
     b: u32,
 ) -> Made
-    requires { ⌜ Ready (lends terms cells chars reasons keys) c ⌝ ∗ ⌜ (k ≡ 4) ⊎ (k ≡ 5) ⌝ }
+    requires { ⌜ Ready (lends terms cells chars reasons keys) c ⌝ ∗ ⌜ ((k ≡ 4) × (b ≡ 0)) ⊎ (k ≡ 5) ⌝ }
     ensures { λ r. ⌜ Builds (makeSides k a b) (across terms cells chars reasons keys) c (made r) ⌝ }
 {
-    let from = up_to_part(c.terms, higher(a, b));
-    let t = find_sides(terms, c.terms, from, k, a, b);
+    let at = bucket_of_sides(k, a, b);
+    let t = find_sides(terms, c.terms, at, k, a, b);
     if t != 0 {
         return Made::Term(t, c);
     }
     let n = c.terms;
     if term_fits(terms, n) {
-        put_term_unchecked(terms, n, k, a, b);
+        put_term_unchecked(terms, n, k, a, b, at);
         return Made::Term((n + 1) as u32, c.with_term());
     }
     Made::Refused(8)
@@ -258,7 +253,8 @@ pub fn make_concatenation(
         return Made::Refused(5);
     }
     if is_list(terms, c, l) {
-        return make_concatenation_unchecked(terms, cells, chars, reasons, keys, c, l);
+        let r = make_concatenation_unchecked(terms, cells, chars, reasons, keys, c, l);
+        return cut_refused(terms, c.terms, r);
     }
     Made::Refused(5)
 }
@@ -279,7 +275,8 @@ pub fn make_length(
         return Made::Refused(k);
     }
     if is_string(terms, c.terms, t) {
-        return make_length_unchecked(terms, cells, chars, reasons, keys, c, t);
+        let r = make_length_unchecked(terms, cells, chars, reasons, keys, c, t);
+        return cut_refused(terms, c.terms, r);
     }
     Made::Refused(5)
 }
@@ -301,7 +298,8 @@ pub fn make_equation(
         return Made::Refused(k);
     }
     if is_equatable(terms, c, a, b) {
-        return make_equation_unchecked(terms, cells, chars, reasons, keys, c, a, b);
+        let r = make_equation_unchecked(terms, cells, chars, reasons, keys, c, a, b);
+        return cut_refused(terms, c.terms, r);
     }
     Made::Refused(5)
 }

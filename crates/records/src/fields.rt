@@ -4,6 +4,7 @@ ghost use Prim.Native.Nat.{_≤_};
 ghost use lib.ListN.{length, getD};
 ghost use Rattle.records.specs.View.{termAt, termWords, cellAt};
 ghost use Rattle.records.specs.Working.Leaves.{parentOf};
+use crate::BUCKETS;
 use crate::CELL_WIDTH;
 use crate::TERM_WIDTH;
 
@@ -26,31 +27,31 @@ pub fn word(s: &[u32], i: usize) -> u32
 pub fn kind(terms: &[u32], t: u32) -> u32
     ensures { λ r. ⌜ r ≡ termAt (now (terms .entry)) t .kind ⌝ }
 {
-    word(terms, TERM_WIDTH * (t as usize) + 0)
+    word(terms, BUCKETS + TERM_WIDTH * (t as usize) + 0)
 }
 
 pub fn first(terms: &[u32], t: u32) -> u32
     ensures { λ r. ⌜ r ≡ termAt (now (terms .entry)) t .first ⌝ }
 {
-    word(terms, TERM_WIDTH * (t as usize) + 1)
+    word(terms, BUCKETS + TERM_WIDTH * (t as usize) + 1)
 }
 
 pub fn second(terms: &[u32], t: u32) -> u32
     ensures { λ r. ⌜ r ≡ termAt (now (terms .entry)) t .second ⌝ }
 {
-    word(terms, TERM_WIDTH * (t as usize) + 2)
+    word(terms, BUCKETS + TERM_WIDTH * (t as usize) + 2)
 }
 
 pub fn class_parent(terms: &[u32], t: u32) -> u32
     ensures { λ r. ⌜ r ≡ termAt (now (terms .entry)) t .classParent ⌝ }
 {
-    word(terms, TERM_WIDTH * (t as usize) + 3)
+    word(terms, BUCKETS + TERM_WIDTH * (t as usize) + 3)
 }
 
 pub fn forest_parent(terms: &[u32], t: u32) -> u32
     ensures { λ r. ⌜ r ≡ termAt (now (terms .entry)) t .forestParent ⌝ }
 {
-    word(terms, TERM_WIDTH * (t as usize) + 4)
+    word(terms, BUCKETS + TERM_WIDTH * (t as usize) + 4)
 }
 
 // The same of a record that the slice has: a climb reads one for each step.
@@ -58,7 +59,7 @@ pub fn forest_parent_unchecked(terms: &[u32], t: u32) -> u32
     requires { ⌜ termWords t ≤ length (now terms) ⌝ }
     ensures { λ r. ⌜ r ≡ termAt (now (terms .entry)) t .forestParent ⌝ }
 {
-    terms[TERM_WIDTH * (t as usize) + 4]
+    terms[BUCKETS + TERM_WIDTH * (t as usize) + 4]
 }
 
 // The parent in the forest, or in the class.
@@ -74,19 +75,19 @@ pub(crate) fn parent(terms: &[u32], t: u32, forest: bool) -> u32
 pub fn label_kind(terms: &[u32], t: u32) -> u32
     ensures { λ r. ⌜ r ≡ termAt (now (terms .entry)) t .labelKind ⌝ }
 {
-    word(terms, TERM_WIDTH * (t as usize) + 5)
+    word(terms, BUCKETS + TERM_WIDTH * (t as usize) + 5)
 }
 
 pub fn label_value(terms: &[u32], t: u32) -> u32
     ensures { λ r. ⌜ r ≡ termAt (now (terms .entry)) t .labelValue ⌝ }
 {
-    word(terms, TERM_WIDTH * (t as usize) + 6)
+    word(terms, BUCKETS + TERM_WIDTH * (t as usize) + 6)
 }
 
 pub fn stamp(terms: &[u32], t: u32) -> u32
     ensures { λ r. ⌜ r ≡ termAt (now (terms .entry)) t .stamp ⌝ }
 {
-    word(terms, TERM_WIDTH * (t as usize) + 7)
+    word(terms, BUCKETS + TERM_WIDTH * (t as usize) + 7)
 }
 
 pub fn value(cells: &[u32], c: u32) -> u32

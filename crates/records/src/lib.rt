@@ -8,6 +8,7 @@ pub mod build;
 pub mod classes;
 pub mod fields;
 mod heights;
+pub mod index;
 pub mod make;
 pub mod names;
 pub mod put;
@@ -16,8 +17,11 @@ pub mod rules;
 pub mod text;
 mod unique;
 
-// The words of a term and of a cell.
-pub const TERM_WIDTH: usize = 8;
+// The heads of the index, which stand before record 0 of terms.
+pub const BUCKETS: usize = 64;
+
+// The words of a term, the next term of its bucket with them, and of a cell.
+pub const TERM_WIDTH: usize = 9;
 
 pub const CELL_WIDTH: usize = 3;
 
@@ -32,7 +36,7 @@ pub const REASON_LIMIT: usize = 4096;
 pub const KEY_LIMIT: usize = 4096;
 
 // The words of a slice that holds as many records as the limit allows; record 0 of terms and of cells takes words too.
-pub const TERM_SLICE: usize = TERM_WIDTH * (TERM_LIMIT + 1);
+pub const TERM_SLICE: usize = BUCKETS + TERM_WIDTH * (TERM_LIMIT + 1);
 
 pub const CELL_SLICE: usize = CELL_WIDTH * (CELL_LIMIT + 1);
 
@@ -44,7 +48,7 @@ pub const LIST_LIMIT: usize = 1024;
 
 pub const NAME_LIMIT: u32 = 4294967295;
 
-// The audit: 0, or the first refusal of 1 to 4 that is due. Nothing is asked of the slices or of the counts.
+// The audit: 0, or the first refusal of 1 to 4 and 12 that is due. Nothing is asked of the slices or of the counts.
 pub fn audit(
     terms: &[u32],
     cells: &[u32],
@@ -66,6 +70,9 @@ pub fn audit(
     }
     if !classes::congruences_ok_unchecked(terms, cells, c) {
         return 4;
+    }
+    if !index::index_ok(terms, cells, chars, c) {
+        return 12;
     }
     0
 }

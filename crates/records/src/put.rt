@@ -5,32 +5,51 @@ ghost use Prim.Native.Nat.{_+_, _*_, _/_, _<_, _≤_, min, max};
 ghost use lib.Dec.{ltb, leb};
 ghost use lib.ListN.{length};
 ghost use Rattle.records.specs.Lists.{any};
-ghost use Rattle.records.specs.View.{termLimit, cellLimit, termAt, termWords, cellWords, termRoom, cellRoom, pairAt, pairsView, storeOf, lends, across};
+ghost use Rattle.records.specs.View.{buckets, termLimit, cellLimit, termAt, termWords, cellWords, termRoom, cellRoom, pairAt, pairsView, storeOf, lends, across};
 ghost use Rattle.records.specs.Rules.{keyRule};
 ghost use Rattle.records.specs.Make.{withClass, withEdge, addKey, ordered, samePair};
-ghost use Rattle.records.specs.Working.Puts.{TermPut, TermSet, CellPut, ChainPut, PairPut, Pushed};
+ghost use Rattle.records.specs.Working.Indexing.{Walkable};
+ghost use Rattle.records.specs.Working.Puts.{WordsPut, TermPut, TermSet, CellPut, ChainPut, PairPut, Pushed};
 ghost use Rattle.records.specs.Calls.{added};
 ghost use Rattle.records.specs.Working.Audited.{Ready};
 ghost use Rattle.records.specs.Working.Doing.{Does};
+use crate::BUCKETS;
 use crate::CELL_WIDTH;
 use crate::TERM_WIDTH;
+use crate::index::link;
 
 // One term more fits.
 pub(crate) fn term_fits(terms: &[u32], n: usize) -> bool
     ensures { λ r. ⌜ r ≡ ltb n (termRoom (now (terms .entry))) ⌝ }
 {
     if n < crate::TERM_LIMIT {
-        return TERM_WIDTH * (n + 2) <= terms.len();
+        return BUCKETS + TERM_WIDTH * (n + 2) <= terms.len();
     }
     false
 }
 
-// Record n + 1, which is its own class: the words above the count are free, so all eight are written.
-pub(crate) fn put_term_unchecked(terms: &mut [u32], n: usize, kind: u32, first: u32, second: u32)
-    requires { ⌜ n < termLimit ⌝ ∗ ⌜ termWords (n + 1) ≤ length (now terms) ⌝ }
-    ensures { λ _. ⌜ TermPut (now (terms .entry)) (now (terms .exit)) n kind first second ⌝ }
+// Record n + 1, which is its own class, at the end of the chain of bucket b: the words above the count are free, so all nine are written.
+pub(crate) fn put_term_unchecked(
+    terms: &mut [u32],
+    n: usize,
+    kind: u32,
+    first: u32,
+    second: u32,
+    b: usize,
+)
+    requires { ⌜ n < termLimit ⌝ ∗ ⌜ termWords (n + 1) ≤ length (now terms) ⌝ ∗ ⌜ b < buckets ⌝ ∗ ⌜ Walkable (now terms) n b ⌝ }
+    ensures { λ _. ⌜ TermPut (now (terms .entry)) (now (terms .exit)) n kind first second b ⌝ }
 {
-    let at = TERM_WIDTH * (n + 1);
+    link(terms, n, b);
+    put_words(terms, n, kind, first, second);
+}
+
+// The words of record n + 1; no term comes after it yet.
+fn put_words(terms: &mut [u32], n: usize, kind: u32, first: u32, second: u32)
+    requires { ⌜ n < termLimit ⌝ ∗ ⌜ termWords (n + 1) ≤ length (now terms) ⌝ }
+    ensures { λ _. ⌜ WordsPut (now (terms .entry)) (now (terms .exit)) n kind first second ⌝ }
+{
+    let at = BUCKETS + TERM_WIDTH * (n + 1);
     let own = (n + 1) as u32;
     terms[at] = kind;
     terms[at + 1] = first;
@@ -40,6 +59,7 @@ pub(crate) fn put_term_unchecked(terms: &mut [u32], n: usize, kind: u32, first: 
     terms[at + 5] = 0;
     terms[at + 6] = 0;
     terms[at + 7] = 0;
+    terms[at + 8] = 0;
 }
 
 // A term's parent in its class.
@@ -47,7 +67,7 @@ pub fn put_class_parent_unchecked(terms: &mut [u32], t: u32, parent: u32)
     requires { ⌜ termWords t ≤ length (now terms) ⌝ }
     ensures { λ _. ⌜ TermSet (now (terms .entry)) (now (terms .exit)) t (withClass (termAt (now (terms .entry)) t) parent) ⌝ }
 {
-    terms[TERM_WIDTH * (t as usize) + 3] = parent;
+    terms[BUCKETS + TERM_WIDTH * (t as usize) + 3] = parent;
 }
 
 // A term's edge to its parent in the forest, with its label and stamp.
@@ -55,7 +75,7 @@ pub fn put_edge_unchecked(terms: &mut [u32], t: u32, parent: u32, kind: u32, val
     requires { ⌜ termWords t ≤ length (now terms) ⌝ }
     ensures { λ _. ⌜ TermSet (now (terms .entry)) (now (terms .exit)) t (withEdge (termAt (now (terms .entry)) t) parent kind value stamp) ⌝ }
 {
-    let at = TERM_WIDTH * (t as usize);
+    let at = BUCKETS + TERM_WIDTH * (t as usize);
     terms[at + 4] = parent;
     terms[at + 5] = kind;
     terms[at + 6] = value;

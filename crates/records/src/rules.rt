@@ -14,6 +14,7 @@ ghost use Rattle.records.specs.Rules.{reasonRule, keyRule, cellRule, tex
 ghost use Rattle.records.specs.Working.Leaves.{pairRule};
 ghost use Rattle.records.specs.Working.Hashes.{Tables, Passing};
 ghost use Rattle.records.specs.Working.Audited.{Sized};
+use crate::BUCKETS;
 use crate::CELL_LIMIT;
 use crate::CELL_WIDTH;
 use crate::CHAR_LIMIT;
@@ -77,7 +78,7 @@ fn terms_fit(terms: &[u32], n: usize) -> bool
     if TERM_LIMIT < n {
         return false;
     }
-    TERM_WIDTH * (n + 1) <= terms.len()
+    BUCKETS + TERM_WIDTH * (n + 1) <= terms.len()
 }
 
 fn cells_fit(cells: &[u32], n: usize) -> bool

@@ -27,7 +27,8 @@ use Rattle.sides.specs.Wordeq.{Answer, conflict, propagate, Tried, answe
 use Rattle.sides.specs.Working.Results.{BothLists, tried, Tries}
 use Rattle.sides.proofs.StepResult.{the-type}
 use Rattle.sides.proofs.Orelse.{else-assoc}
-use Rattle.records.proofs.Counts.{Higher, agree-below, higher-none, higher-then}
+use Rattle.records.proofs.Counts.{Higher, higher-none, higher-then}
+use Rattle.records.proofs.IndexStores.{keeps-then}
 use Rattle.records.proofs.Sequence.{grows-constant}
 use Rattle.records.proofs.ListLaws.{list-stays}
 
@@ -81,14 +82,14 @@ module _ {a : Tried} (g : Rises a) {m m₁ : Lent} {c d : State} {o : StepResult
   pub passed-on : {l r : List ℕ} → BothLists (storeOf m c) l r → Lined l r m₁ d
   passed-on {l} {r} x = record {
     ready = passed-ready;
-    lists = record { left = list-stays m m₁ c d risen (passed .kept) l (x .left); right = list-stays m m₁ c d risen (passed .kept) r (x .right) };
+    lists = record { left = list-stays m m₁ c d risen (passed .kept .store) l (x .left); right = list-stays m m₁ c d risen (passed .kept .store) r (x .right) };
   }
 
   -- the next step's answer
   pub else-works : {b : Tried} {m₂ : Lent} {o₂ : Out (Option Answer)} → Working b m₁ m₂ d o₂ → Working (a orElse b) m m₂ c o₂
   else-works {b} {m₂} v = record {
     says = ap (andThen (settled b)) (passed .says) ∙ v .says;
-    kept = agree-below m m₁ m₂ c d risen (v .kept) ∙ passed .kept;
+    kept = keeps-then risen (passed .kept) (v .kept);
     ready = v .ready;
   }
 

@@ -31,7 +31,7 @@ storing n ts keys = record {
   reasons = [];
   keys = keys;
   names = 0;
-  room = record { terms = n; cells = 0; chars = 7; reasons = 0; keys = 1; termsLong = termWords 7; cellsLong = cellWords 0; zeroTerm = noTerm; zeroCell = noCell };
+  room = record { terms = n; cells = 0; chars = 7; reasons = 0; keys = 1; termsLong = termWords 7; cellsLong = cellWords 0; zeroTerm = (noTerm, 0); zeroCell = noCell };
 }
 
 -- a store, a side of constants and a label, and a word for the field, or that there is none

@@ -1,4 +1,5 @@
 // The commands that change words.
+use lines::indexing::term_place;
 use lines::put;
 use lines::put_all;
 use records::CELL_WIDTH;
@@ -8,13 +9,13 @@ use std::num::wrapping_add_u32;
 use std::num::wrapping_add_usize;
 
 // The good store. Variables x and y, merged by a7.
-const GOOD_VARIABLES: [u32; 16] = [2, 0, 1, 1, 1, 0, 0, 0, 2, 1, 1, 1, 1, 1, 7, 1];
+const GOOD_VARIABLES: [u32; 18] = [2, 0, 1, 1, 1, 0, 0, 0, 0, 2, 1, 1, 1, 1, 1, 7, 1, 0];
 
-// x ++ y and y ++ x, joined by congruence.
-const GOOD_CONCATENATIONS: [u32; 16] = [3, 1, 0, 4, 3, 0, 0, 0, 3, 3, 0, 4, 3, 3, 5, 2];
+// x ++ y and y ++ x, joined by congruence, and of one bucket.
+const GOOD_CONCATENATIONS: [u32; 18] = [3, 1, 0, 4, 3, 0, 0, 0, 4, 3, 3, 0, 4, 3, 3, 5, 2, 0];
 
 // The length of x; x = y.
-const GOOD_OTHERS: [u32; 16] = [4, 1, 0, 5, 5, 0, 0, 0, 5, 1, 2, 6, 6, 0, 0, 0];
+const GOOD_OTHERS: [u32; 18] = [4, 1, 0, 5, 5, 0, 0, 0, 0, 5, 1, 2, 6, 6, 0, 0, 0, 0];
 
 // The parts x, y; the parts y, x.
 const GOOD_PARTS: [u32; 12] = [1, 0, 2, 2, 0, 0, 2, 0, 4, 1, 0, 0];
@@ -29,10 +30,10 @@ const GOOD_REASONS: [u32; 2] = [1, 5];
 const GOOD_KEYS: [u32; 2] = [1, 2];
 
 fn good_terms(terms: &mut [u32]) {
-    put_all(terms, 0, &[0; TERM_WIDTH]);
-    put_all(terms, TERM_WIDTH, &GOOD_VARIABLES);
-    put_all(terms, 3 * TERM_WIDTH, &GOOD_CONCATENATIONS);
-    put_all(terms, 5 * TERM_WIDTH, &GOOD_OTHERS);
+    put_all(terms, term_place(0, 0), &[0; TERM_WIDTH]);
+    put_all(terms, term_place(1, 0), &GOOD_VARIABLES);
+    put_all(terms, term_place(3, 0), &GOOD_CONCATENATIONS);
+    put_all(terms, term_place(5, 0), &GOOD_OTHERS);
 }
 
 fn good_cells(cells: &mut [u32]) {
@@ -104,7 +105,8 @@ fn words_of(l: u8, n: &[u32]) -> Filling {
     let a = word(n, 1) as usize;
     let b = word(n, 2) as usize;
     match l {
-        84 => one(1, TERM_WIDTH * a + b, word(n, 3)),
+        84 => one(1, term_place(word(n, 1), b), word(n, 3)),
+        73 => one(1, a, word(n, 2)),
         69 => one(2, CELL_WIDTH * a + b, word(n, 3)),
         72 => one(3, a, word(n, 2)),
         82 => one(4, a, word(n, 2)),

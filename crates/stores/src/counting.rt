@@ -78,7 +78,7 @@ pub(crate) fn recount(l: u8, n: &[u32], count: usize, was: Setup) -> Setup {
     match l {
         71 => with_lens(
             with_counts(was, counts_of(6, 6, 2, 1, 1, 0)),
-            lens_of(56, 21, 2, 2, 2),
+            lens_of(127, 21, 2, 2, 2),
         ),
         79 => with_lens(with_counts(was, counts_of(0, 0, 0, 0, 0, 0)), whole()),
         78 => with_counts(was, counts_of(a, b, c, d, e, word(n, 6))),

@@ -2,7 +2,9 @@
 use crate::CELL_WORDS;
 use crate::CHAR_WORDS;
 use crate::TERM_WORDS;
+use lines::indexing::term_place;
 use lines::lending::least;
+use lines::lending::rest;
 use lines::put_all;
 use records::CELL_LIMIT;
 use records::CELL_WIDTH;
@@ -37,15 +39,36 @@ fn agree(a: &[u32], b: &[u32], at: usize, n: usize) -> bool {
     true
 }
 
-fn term_words(n: usize) -> usize {
-    TERM_WIDTH * (least(n, TERM_LIMIT) + 1)
+// Whether n words from word `at` on are those of before.
+fn stays(terms: &[u32], old: &[u32], at: usize, n: usize) -> bool {
+    agree(rest(terms, at), old, at, n)
+}
+
+// How many terms are counted, or more than there can be.
+fn terms_of(c: State) -> u32 {
+    least(c.terms, TERM_LIMIT) as u32
+}
+
+// Whether record 0 of terms and the first eight words of n others are as they were.
+fn records_stay(terms: &[u32], old: &[u32], n: u32) -> bool {
+    if !stays(terms, old, term_place(0, 0), TERM_WIDTH) {
+        return false;
+    }
+    let mut t: u32 = 0;
+    while t < n {
+        t += 1;
+        if !stays(terms, old, term_place(t, 0), 8) {
+            return false;
+        }
+    }
+    true
 }
 
 fn cell_words(n: usize) -> usize {
     CELL_WIDTH * (least(n, CELL_LIMIT) + 1)
 }
 
-// The words that have to be as they were: all of them after refusals 1 to 5, else those of the records counted.
+// The words that have to be as they were: all of them after refusals 1 to 5 and from 10 on, else those of the records counted.
 fn held(k: u32, counted: usize, len: usize) -> usize {
     if k == 0 {
         return counted;
@@ -53,7 +76,23 @@ fn held(k: u32, counted: usize, len: usize) -> usize {
     if k <= 5 {
         return len;
     }
+    if 10 <= k {
+        return len;
+    }
     counted
+}
+
+// Of terms: after an answer the records without their ninth words, after refusals 6 to 9 these and the heads too.
+fn terms_kept(k: u32, n: u32, terms: &[u32], old: &[u32]) -> bool {
+    if k == 0 {
+        return records_stay(terms, old, n);
+    }
+    agree(
+        terms,
+        old,
+        0,
+        held(k, term_place(n, TERM_WIDTH), terms.len()),
+    )
 }
 
 pub(crate) fn kept(
@@ -64,7 +103,7 @@ pub(crate) fn kept(
     chars: &[u32],
     old: &[u32],
 ) -> bool {
-    if !agree(terms, old, 0, held(k, term_words(c.terms), terms.len())) {
+    if !terms_kept(k, terms_of(c), terms, old) {
         return false;
     }
     if !agree(

@@ -6,13 +6,14 @@
 //   N t e h r k n          the counts of terms, cells, characters, reasons and keys, and the name counter
 //   L t e h r k            how many words of each slice are lent
 //   T t i x · E c i x      word i of term t, of cell c, becomes x
+//   I i x                  word i of the slice of terms becomes x, the heads of the index being words 0 to 63
 //   H i x · R i x · K i x  word i of characters, reasons, keys becomes x
 //   F s i n d x y          n words of slice s (1 to 5, and 6 the list) from i on, d apart, become x, x + y, x + 2y ..
 //   W x ..                 the list lent to a call · Z n: its length
 //   A · c · v · p          the audit; make a constant, variable, concatenation of the list
 //   l t · e t u            make a length, an equation
 //
-// Another line is a remark.
+// Another line is a remark. G, O, N, T, E, H and F put the index of the counted terms anew; a call leaves its own.
 mod asking;
 mod changing;
 mod counting;
@@ -25,6 +26,7 @@ use crate::changing::change;
 use crate::counting::counts_of;
 use crate::counting::lens_of;
 use crate::counting::recount;
+use lines::indexing::put_index;
 use lines::reading::letter;
 use lines::reading::line_end;
 use lines::reading::read_line;
@@ -34,11 +36,11 @@ use records::CHAR_LIMIT;
 use records::KEY_LIMIT;
 use records::REASON_LIMIT;
 use records::State;
-use records::TERM_LIMIT;
+use records::TERM_SLICE;
 use records::TERM_WIDTH;
 
 // The words of each slice: room for one record more than each limit.
-pub(crate) const TERM_WORDS: usize = TERM_WIDTH * (TERM_LIMIT + 2);
+pub(crate) const TERM_WORDS: usize = TERM_SLICE + TERM_WIDTH;
 
 pub(crate) const CELL_WORDS: usize = CELL_WIDTH * (CELL_LIMIT + 2);
 
@@ -65,6 +67,22 @@ pub(crate) struct Setup {
     pub counts: State,
     pub lens: Lens,
     pub list: usize,
+}
+
+// A count as a word.
+fn narrow(x: usize) -> u32 {
+    if x < 65536 {
+        return x as u32;
+    }
+    65535
+}
+
+// The commands after which the index is put anew.
+fn is_record(l: u8) -> bool {
+    match l {
+        71 | 79 | 78 | 84 | 69 | 72 | 70 => true,
+        _ => false,
+    }
 }
 
 fn is_making(l: u8) -> bool {
@@ -97,7 +115,13 @@ fn step(
         return was;
     }
     change(l, &n, terms, cells, chars, reasons, keys, list);
-    recount(l, &n, p.count, was)
+    let s = recount(l, &n, p.count, was);
+    let c = s.counts;
+    if !is_record(l) {
+        return s;
+    }
+    put_index(terms, cells, chars, narrow(c.terms));
+    s
 }
 
 fn run(

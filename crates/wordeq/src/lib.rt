@@ -1,12 +1,17 @@
 // Word equations, steps 1 to 8: the public calls.
 ghost use mathlib.Core.Path.{_≡_};
-ghost use Rattle.records.specs.View.{across, termed};
+ghost use Prim.Native.Nat.{_≤_};
+ghost use lib.ListN.{length};
+ghost use Rattle.records.specs.View.{across, termed, termLimit, termWords};
+ghost use Rattle.records.specs.Working.Doing.{CutRefused};
 ghost use Rattle.records.specs.Calls.{added, Answers, Promises, Writes};
 ghost use Rattle.sides.specs.Wordeq.{isGuard, resolveArguments, nfArguments};
 ghost use Rattle.wordeq.specs.Calls.{equalArguments, equalLists, compared, PublicEqualExplain, PublicResolve, resolved};
+ghost use Rattle.wordeq.specs.Working.Cuts.{unresolved};
 use records::Added;
 use records::LIST_LIMIT;
 use records::State;
+use records::index::cut_unchecked;
 use records::rules;
 use sides::StepResult;
 use sides::equal_lists;
@@ -140,5 +145,31 @@ pub fn resolve_equation<'a>(
     if !can_resolve(terms, c, lhs, rhs, guard) {
         return StepResult::Refused(5);
     }
-    resolving::resolve_unchecked(terms, cells, chars, reasons, keys, c, lhs, rhs, guard, list)
+    let o = resolving::resolve_unchecked(
+        terms,
+        cells,
+        chars,
+        reasons,
+        keys,
+        c,
+        lhs,
+        rhs,
+        guard,
+        list,
+    );
+    cut_unresolved_unchecked(terms, c.terms, o)
+}
+
+// After a refusal the index names no term that was made on the way.
+pub fn cut_unresolved_unchecked(terms: &mut [u32], n: usize, o: StepResult) -> StepResult
+    requires { ⌜ n ≤ termLimit ⌝ ∗ ⌜ termWords n ≤ length (now terms) ⌝ }
+    ensures { λ r. ⌜ CutRefused unresolved (now (terms .entry)) (now (terms .exit)) n o r ⌝ }
+{
+    match o {
+        StepResult::Refused(k) => {
+            cut_unchecked(terms, n);
+            StepResult::Refused(k)
+        }
+        _ => o,
+    }
 }

@@ -9,8 +9,9 @@ use Rattle.records.specs.declared.State.{State}
 use Rattle.records.specs.Lists.{if_then_else_}
 use Rattle.records.specs.Store.{within}
 use Rattle.records.specs.View.{Lent, storeOf, sizes, chained}
-use Rattle.records.specs.Rules.{recordsRule, classesRule, congruencesRule, auditStore, audit}
-use Rattle.records.specs.Working.Audited.{Sized, Recorded, Classed, Verdict, ready, short, unrecorded, unclassed, incongruent}
+use Rattle.records.specs.Rules.{recordsRule, classesRule, congruencesRule, auditStore, audit, auditIndex, firstDue}
+use Rattle.records.specs.Index.{indexRule}
+use Rattle.records.specs.Working.Audited.{Sized, Recorded, Classed, Verdict, ready, short, unrecorded, unclassed, incongruent, unindexed}
 use Rattle.records.proofs.Lists.{every-map, right-false}
 use Rattle.records.proofs.Climbs.{ready-roots, term-within}
 use Rattle.records.proofs.Grown.{string-term}
@@ -25,52 +26,54 @@ use Rattle.classes.proofs.Refines.MarkTables.{rule-alone}
 
 -- THE ORDER OF REFUSALS
 
-abbrev tableSays : Bool → Bool → Bool → Bool → ℕ
-tableSays z p q r = if z then (if p then (if q then (if r then 0 else 4) else 3) else 2) else 1
+abbrev tableSays : Bool → Bool → Bool → Bool → Bool → ℕ
+tableSays z p q r x = if z then firstDue (if p then (if q then (if r then 0 else 4) else 3) else 2) (if x then 0 else 12) else 1
 
-abbrev marksSay : Bool → Bool → Bool → Bool → Bool → Bool → ℕ
-marksSay z t p q g r = if z && t then (if p then (if q && g then (if r then 0 else 4) else 3) else 2) else 1
+abbrev marksSay : Bool → Bool → Bool → Bool → Bool → Bool → Bool → ℕ
+marksSay z t p q g r x = if z && t then firstDue (if p then (if q && g then (if r then 0 else 4) else 3) else 2) (if x then 0 else 12) else 1
 
 -- refusals 1 to 3 of the table come first
-table-first : (z t p q g r : Bool) → t ≡ true → within 3 (tableSays z p q r) ≡ true → tableSays z p q r ≡ marksSay z t p q g r
+table-first : (z t p q g r x : Bool) → t ≡ true → within 3 (tableSays z p q r x) ≡ true → tableSays z p q r x ≡ marksSay z t p q g r x
 unfolding within
-table-first false t p q g r e h = refl
-table-first true false p q g r e h = absurd (false≢true e)
-table-first true true false q g r e h = refl
-table-first true true true false g r e h = refl
-table-first true true true true g true e h = absurd (false≢true h)
-table-first true true true true g false e h = absurd (false≢true h)
+table-first false t p q g r x e h = refl
+table-first true false p q g r x e h = absurd (false≢true e)
+table-first true true false q g r x e h = refl
+table-first true true true false g r x e h = refl
+table-first true true true true g true true e h = absurd (false≢true h)
+table-first true true true true g true false e h = absurd (false≢true h)
+table-first true true true true g false x e h = absurd (false≢true h)
 
 -- then the marks'
-marks-next : (z t p q g r : Bool) → t ≡ true → within 3 (tableSays z p q r) ≡ false → g ≡ false → 3 ≡ marksSay z t p q g r
+marks-next : (z t p q g r x : Bool) → t ≡ true → within 3 (tableSays z p q r x) ≡ false → g ≡ false → 3 ≡ marksSay z t p q g r x
 unfolding within
-marks-next false t p q g r e h k = absurd (false≢true (sym h))
-marks-next true false p q g r e h k = absurd (false≢true e)
-marks-next true true false q g r e h k = absurd (false≢true (sym h))
-marks-next true true true false g r e h k = absurd (false≢true (sym h))
-marks-next true true true true true r e h k = absurd (false≢true (sym k))
-marks-next true true true true false r e h k = refl
+marks-next false t p q g r x e h k = absurd (false≢true (sym h))
+marks-next true false p q g r x e h k = absurd (false≢true e)
+marks-next true true false q g r x e h k = absurd (false≢true (sym h))
+marks-next true true true false g r x e h k = absurd (false≢true (sym h))
+marks-next true true true true true r x e h k = absurd (false≢true (sym k))
+marks-next true true true true false r x e h k = refl
 
--- and 4, or none
-table-last : (z t p q g r : Bool) → t ≡ true → within 3 (tableSays z p q r) ≡ false → g ≡ true → tableSays z p q r ≡ marksSay z t p q g r
+-- and 4 or 12, or none
+table-last : (z t p q g r x : Bool) → t ≡ true → within 3 (tableSays z p q r x) ≡ false → g ≡ true → tableSays z p q r x ≡ marksSay z t p q g r x
 unfolding within
-table-last false t p q g r e h k = absurd (false≢true (sym h))
-table-last true false p q g r e h k = absurd (false≢true e)
-table-last true true false q g r e h k = absurd (false≢true (sym h))
-table-last true true true false g r e h k = absurd (false≢true (sym h))
-table-last true true true true false r e h k = absurd (false≢true k)
-table-last true true true true true true e h k = refl
-table-last true true true true true false e h k = refl
+table-last false t p q g r x e h k = absurd (false≢true (sym h))
+table-last true false p q g r x e h k = absurd (false≢true e)
+table-last true true false q g r x e h k = absurd (false≢true (sym h))
+table-last true true true false g r x e h k = absurd (false≢true (sym h))
+table-last true true true true false r x e h k = absurd (false≢true k)
+table-last true true true true true true x e h k = refl
+table-last true true true true true false x e h k = refl
 
 -- what passes: the table, the sizes of the trail, and its rule
-pub all-pass : (z t p q g r : Bool) → marksSay z t p q g r ≡ 0 → (tableSays z p q r ≡ 0) × (t ≡ true) × (g ≡ true)
-all-pass false t p q g r h = absurd (omega arith)
-all-pass true false p q g r h = absurd (omega arith)
-all-pass true true false q g r h = absurd (omega arith)
-all-pass true true true false g r h = absurd (omega arith)
-all-pass true true true true false r h = absurd (omega arith)
-all-pass true true true true true true h = (refl, refl, refl)
-all-pass true true true true true false h = absurd (omega arith)
+pub all-pass : (z t p q g r x : Bool) → marksSay z t p q g r x ≡ 0 → (tableSays z p q r x ≡ 0) × (t ≡ true) × (g ≡ true)
+all-pass false t p q g r x h = absurd (omega arith)
+all-pass true false p q g r x h = absurd (omega arith)
+all-pass true true false q g r x h = absurd (omega arith)
+all-pass true true true false g r x h = absurd (omega arith)
+all-pass true true true true false r x h = absurd (omega arith)
+all-pass true true true true true true true h = (refl, refl, refl)
+all-pass true true true true true true false h = absurd (omega arith)
+all-pass true true true true true false x h = absurd (omega arith)
 
 -- terms whose classes pass are a table
 pub tabled-of : (m : Lent) (c : State) → Sized m c → Classed (storeOf m c) → Tabled (m .terms) (c .terms)
@@ -94,8 +97,8 @@ module _ (m : Lent) (l : List ℕ) (c : State) (d : Standing) (b : Bool) (q : b 
     found = sym (y ∙ ap (within 3) e)
 
     pub audit-first : w ≡ true → k ≡ auditMarks m l c d
-    unfolding audit auditStore auditMarks auditTrail
-    audit-first h = e ∙ table-first (sizes m c) (trailSizes l d) (recordsRule (storeOf m c)) (classesRule (storeOf m c)) (marksRule (storeOf m c) (trailOf l d)) (congruencesRule (storeOf m c)) fits (found ∙ h)
+    unfolding audit auditStore auditIndex auditMarks auditTrail
+    audit-first h = e ∙ table-first (sizes m c) (trailSizes l d) (recordsRule (storeOf m c)) (classesRule (storeOf m c)) (marksRule (storeOf m c) (trailOf l d)) (congruencesRule (storeOf m c)) (indexRule (m .terms) (storeOf m c)) fits (found ∙ h)
 
     module _ (h : w ≡ false) where
       pub audit-asks : Markable (m .terms) (m .cells) c
@@ -114,15 +117,16 @@ module _ (m : Lent) (l : List ℕ) (c : State) (d : Standing) (b : Bool) (q : b 
           go (unrecorded s f) n = absurd (false≢true (sym n))
           go (unclassed s r f) n = absurd (false≢true (sym n))
           go (incongruent s r a f) n = facts s r a
+          go (unindexed s a f) n = facts s (a .recorded) (a .classed)
 
       module _ (g : Bool) (f : g ≡ marksRule (chained (m .terms) (m .cells) c) (trailOf l d)) where
         marks-are : marksRule (storeOf m c) (trailOf l d) ≡ g
         marks-are = rule-alone m c (trailOf l d) ∙ sym f
 
         pub audit-marks : not g ≡ true → 3 ≡ auditMarks m l c d
-        unfolding audit auditStore auditMarks auditTrail
-        audit-marks n = marks-next (sizes m c) (trailSizes l d) (recordsRule (storeOf m c)) (classesRule (storeOf m c)) (marksRule (storeOf m c) (trailOf l d)) (congruencesRule (storeOf m c)) fits (found ∙ h) (marks-are ∙ not-true g n)
+        unfolding audit auditStore auditIndex auditMarks auditTrail
+        audit-marks n = marks-next (sizes m c) (trailSizes l d) (recordsRule (storeOf m c)) (classesRule (storeOf m c)) (marksRule (storeOf m c) (trailOf l d)) (congruencesRule (storeOf m c)) (indexRule (m .terms) (storeOf m c)) fits (found ∙ h) (marks-are ∙ not-true g n)
 
         pub audit-last : not g ≡ false → k ≡ auditMarks m l c d
-        unfolding audit auditStore auditMarks auditTrail
-        audit-last n = e ∙ table-last (sizes m c) (trailSizes l d) (recordsRule (storeOf m c)) (classesRule (storeOf m c)) (marksRule (storeOf m c) (trailOf l d)) (congruencesRule (storeOf m c)) fits (found ∙ h) (marks-are ∙ not-false g n)
+        unfolding audit auditStore auditIndex auditMarks auditTrail
+        audit-last n = e ∙ table-last (sizes m c) (trailSizes l d) (recordsRule (storeOf m c)) (classesRule (storeOf m c)) (marksRule (storeOf m c) (trailOf l d)) (congruencesRule (storeOf m c)) (indexRule (m .terms) (storeOf m c)) fits (found ∙ h) (marks-are ∙ not-false g n)

@@ -12,12 +12,14 @@ use Rattle.records.specs.declared.State.{State}
 use Rattle.records.specs.Lists.{if_then_else_, table, oneMore}
 use Rattle.records.specs.Store.{Term, Store, count, within, isString, root, rootIn, topIn, classUp, forestUp}
 use Rattle.records.specs.View.{Lent, lent, storeOf, termsView, zeroTerm}
+use Rattle.records.specs.Index.{bucket}
 use Rattle.records.specs.Rules.{isReasonKind, isNumber}
 use Rattle.records.specs.Make.{withTerms}
 use Rattle.records.specs.Working.Audited.{Closed}
 use Rattle.records.proofs.Lists.{both-left, both-right, within-low, within-high, table-length, table-at}
 use Rattle.records.proofs.Climbs.{view-count, term-within}
 use Rattle.records.proofs.Grown.{string-term}
+use Rattle.records.proofs.IndexStores.{left-none, left-same, indexed-like}
 use Rattle.records.proofs.Passed.{ready-after}
 use Rattle.classes.specs.declared.Standing.{Standing}
 use Rattle.classes.specs.Joins.{trace, traceOf, joinIn, Linked}
@@ -25,7 +27,10 @@ use Rattle.classes.specs.Marks.{Trail, markLimit, joinLimit, traceAt, tr
 use Rattle.classes.specs.Calls.{Outcome, gives, joinArguments, recorded, joinTerms, setMark, joinsAt, before, goBack, Leaves}
 use Rattle.classes.specs.Working.Carries.{TermsBecome, Tabled, Linkable, Undoes, undone, no-table, TrailSized, Trailed}
 use Rattle.classes.specs.Working.Doing.{ReadyMarks, WorkingMarks, WorkingJoin}
-use Rattle.classes.proofs.JoinKept.{join-linked}
+use Rattle.classes.proofs.Alike.{Like, bucket-like}
+use Rattle.classes.proofs.Undoing.{classed-forest}
+use Rattle.classes.proofs.Undone.{undone-stays}
+use Rattle.classes.proofs.JoinKept.{join-like, join-linked}
 use Rattle.classes.proofs.Enough.{joins-fit}
 use Rattle.classes.proofs.Marking.{n-low, rule-back}
 use Rattle.classes.proofs.Tracking.{joinable-of, Keeps, join-tracked, mark-tracked, back-tracked, back-goes}
@@ -38,15 +43,23 @@ use Rattle.classes.proofs.Refines.Counting.{take-table}
 -- store and marks pass again, by the definition's law
 module _ (work : Store → Trail → Outcome) {t e h r ks t′ l l′ : List ℕ} {c : State} {d : Standing} (p : ReadyMarks (lent t e h r ks) l c d) {n : ℕ} {f : Standing} where
   works : Keeps (work (storeOf (lent t e h r ks) c) (trailOf l d)) → TrailSized l′ f → work (storeOf (lent t e h r ks) c) (trailOf l d) ≡ gives (storeOf (lent t′ e h r ks) c) (trailOf l′ f) n
-      → Leaves (lent t e h r ks) (lent t′ e h r ks) l l′ c f → WorkingMarks work (lent t e h r ks) (lent t′ e h r ks) l l′ c d n f
-  works kept sized is leaves =
+      → ((u : ℕ) → bucket (storeOf (lent t′ e h r ks) c) u ≡ bucket (storeOf (lent t e h r ks) c) u) → Leaves (lent t e h r ks) (lent t′ e h r ks) l l′ c f → WorkingMarks work (lent t e h r ks) (lent t′ e h r ks) l l′ c d n f
+  works kept sized is same leaves =
       let k = kept .tracked _ _ n is in
-      record { says = is; leaves = leaves; ready = record { ready = ready-after (p .ready) (leaves .termsLong) refl (k .audited); trail = sized; marked = k .marked } }
+      let s₀ = storeOf (lent t e h r ks) c in
+      let s₁ = storeOf (lent t′ e h r ks) c in
+      let i = indexed-like s₀ s₁ t t′ (view-count t′ (c .terms) ∙ sym (view-count t (c .terms))) same (leaves .index (count s₀)) (p .ready .indexed) in
+      record { says = is; leaves = leaves; ready = record { ready = ready-after (p .ready) (leaves .termsLong) refl (k .audited) i; trail = sized; marked = k .marked } }
 
 -- the store with another table
 store-becomes : (t e h r ks t′ : List ℕ) (c : State) (us : List Term) → TermsBecome t t′ (c .terms) us → storeOf (lent t′ e h r ks) c ≡ withTerms (storeOf (lent t e h r ks) c) us
 unfolding zeroTerm within
-store-becomes t e h r ks t′ c us b = let p = b .is in let q = b .long in let z = b .away 0 refl in cc
+store-becomes t e h r ks t′ c us b = let p = b .is in let q = b .long in let z = b .away 0 refl in let y = b .index .nexts 0 in cc
+
+becomes-like : (t e h r ks : List ℕ) (c : State) {t′ : List ℕ} {us : List Term} → TermsBecome t t′ (c .terms) us → Like (termsView t (c .terms)) us
+    → (u : ℕ) → bucket (storeOf (lent t′ e h r ks) c) u ≡ bucket (storeOf (lent t e h r ks) c) u
+becomes-like t e h r ks c {t′} {us} b l u =
+    ap (λ (s : Store). bucket s u) (store-becomes t e h r ks t′ c us b) ∙ bucket-like (storeOf (lent t e h r ks) c) us l u
 
 -- counts of a trail that is read off
 trailed-sized : {l l′ : List ℕ} {d f : Standing} {x : Trail} → TrailSized l d → trailOf l′ f ≡ x → length l′ ≡ length l → length (x .marks) ≤ markLimit → length (x .joins) ≤ joinLimit → TrailSized l′ f
@@ -100,7 +113,7 @@ module _ {t e h r ks l : List ℕ} {c : State} {d : Standing} (p : ReadyMarks (l
     -- nothing changes
     pub join-same : under ≡ over → WorkingJoin a b k v m m l l c d 0 d
     join-same z = record {
-      works = works (joinTerms a b k v) p (join-tracked s (trailOf l d) (marks-tracked p) a b k v) (p .trail) (in-class z) (record { terms = λ u g. refl; termsLong = refl; words = λ i g. refl; long = refl });
+      works = works (joinTerms a b k v) p (join-tracked s (trailOf l d) (marks-tracked p) a b k v) (p .trail) (in-class z) (λ u. refl) (record { terms = λ u g. refl; termsLong = refl; index = λ n. left-same left-none n; words = λ i g. refl; long = refl });
       same = λ q. (refl, refl);
       linked = λ q. absurd (omega arith);
     }
@@ -152,7 +165,7 @@ module _ {t e h r ks l : List ℕ} {c : State} {d : Standing} (p : ReadyMarks (l
 
         pub join-two : WorkingJoin a b k v m (lent t′ e h r ks) l l′ c d 1 f
         join-two = record {
-          works = works (joinTerms a b k v) p (join-tracked s (trailOf l d) (marks-tracked p) a b k v) more-sized joined (record { terms = i .away; termsLong = i .long; words = j .rest; long = j .long });
+          works = works (joinTerms a b k v) p (join-tracked s (trailOf l d) (marks-tracked p) a b k v) more-sized joined (becomes-like t e h r ks c i (join-like s a b k v (p .ready .audited) (joinable-of a b k v s fit (ne-eqb _ _ apart)))) (record { terms = i .away; termsLong = i .long; index = λ n. left-same (i .index) n; words = j .rest; long = j .long });
           same = λ q. absurd (omega arith);
           linked = λ q. subst (λ (us : List Term). Linked (s .terms) us a b k v) (sym (i .is)) (join-linked s a b k v (p .ready .audited) (joinable-of a b k v s fit (ne-eqb _ _ apart)));
         }
@@ -181,7 +194,7 @@ module _ {t e h r ks l : List ℕ} {c : State} {d : Standing} (p : ReadyMarks (l
     pub mark-done : WorkingMarks setMark (lent t e h r ks) (lent t e h r ks) l l′ c d (f .marks) f
     mark-done = works setMark p (mark-tracked (storeOf (lent t e h r ks) c) x (marks-tracked p))
         (trailed-sized (p .trail) (j .is) (j .long) (let q = stand in let w = length-append (x .marks) (length (x .joins) ∷ []) in omega arith) (let q = table-length (traceAt l) (d .joins) in let w = p .trail .fewJoins in omega arith))
-        set (record { terms = λ u w. refl; termsLong = refl; words = j .rest; long = j .long })
+        set (λ u. refl) (record { terms = λ u w. refl; termsLong = refl; index = λ n. left-same left-none n; words = j .rest; long = j .long })
 
 -- GOING BACK
 
@@ -229,7 +242,8 @@ module _ {t e h r ks l : List ℕ} {c : State} {d : Standing} (p : ReadyMarks (l
   back-to : {t′ : List ℕ} {us : List Term} → table-of ≡ some us → TermsBecome t t′ (c .terms) us → WorkingMarks (goBack i) mg (lent t′ e h r ks) l l c d i left-over
   back-to {t′} {us} q w = works (goBack i) p (back-tracked (storeOf mg c) xg (marks-tracked p) i) cut-sized
       (back-goes i (storeOf mg c) xg us stands-there (table-is ∙ q) ∙ sym (ap (λ (s : Store). gives s (trailOf l left-over) i) (store-becomes t e h r ks t′ c us w) ∙ ap (λ (y : Trail). gives (withTerms (storeOf mg c) us) y i) trail-is))
-      (record { terms = w .away; termsLong = w .long; words = λ j k. refl; long = refl })
+      (becomes-like t e h r ks c w (undone-stays (drop joins (table (traceAt l) (d .joins))) (termsView t (c .terms)) us (classed-forest (storeOf mg c) (p .ready .audited .classed)) q .like))
+      (record { terms = w .away; termsLong = w .long; index = λ n. left-same (w .index) n; words = λ j k. refl; long = refl })
 
   -- the rule of marks says that there is a table
   pub back-done : {t′ : List ℕ} {b : Bool} → Undoes t t′ (c .terms) table-of b → WorkingMarks (goBack i) mg (lent t′ e h r ks) l l c d i left-over

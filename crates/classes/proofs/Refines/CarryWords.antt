@@ -11,6 +11,7 @@ use Rattle.records.specs.Make.{withClass}
 use Rattle.records.specs.Working.Audited.{Closed}
 use Rattle.records.specs.Working.Puts.{TermSet}
 use Rattle.records.proofs.Lists.{clash, within-high}
+use Rattle.records.proofs.IndexStores.{left-none, left-then}
 use Rattle.records.proofs.Climbs.{view-term, view-count}
 use Rattle.classes.specs.Joins.{Edge, edge, turned, bearing, putEdge, putClass}
 use Rattle.classes.specs.Working.Carries.{carryBy, TermsBecome, Carriable}
@@ -22,7 +23,7 @@ use Rattle.classes.proofs.Refines.Carrying.{carry-root, carry-turn}
 
 module _ {l l′ : List ℕ} {t : ℕ} {x : Term} (p : TermSet l l′ t x) (n : ℕ) (w : within n t ≡ true) where
   set-becomes : TermsBecome l l′ n (set (termsView l n) (t - 1) x)
-  set-becomes = record { long = p .long; away = λ u h. p .away u (λ e. clash w (ap (within n) (sym e) ∙ h)); is = p .terms n w }
+  set-becomes = record { long = p .long; away = λ u h. p .away u (λ e. clash w (ap (within n) (sym e) ∙ h)); is = p .terms n w; index = p .index }
 
 module _ {l l′ : List ℕ} {t : ℕ} (n : ℕ) (w : within n t ≡ true) where
   pub edge-becomes : (e : Edge) → TermSet l l′ t (bearing (termAt l t) e) → TermsBecome l l′ n (putEdge (termsView l n) t e)
@@ -34,7 +35,7 @@ module _ {l l′ : List ℕ} {t : ℕ} (n : ℕ) (w : within n t ≡ true) where
   class-becomes q p = subst (λ (x : Term). TermsBecome l l′ n (set (termsView l n) (t - 1) (withClass x q))) (sym (view-term l n t w)) (set-becomes p n w)
 
 pub becomes-then : {l l₁ l₂ : List ℕ} {n : ℕ} {ts us : List Term} → TermsBecome l l₁ n ts → TermsBecome l₁ l₂ n us → TermsBecome l l₂ n us
-becomes-then p q = record { long = q .long ∙ p .long; away = λ t h. q .away t h ∙ p .away t h; is = q .is }
+becomes-then p q = record { long = q .long ∙ p .long; away = λ t h. q .away t h ∙ p .away t h; is = q .is; index = left-then (p .index) (q .index) }
 
 -- THE LOOP
 
@@ -53,7 +54,7 @@ carrying-begin l n x p k v m c = record {
   here = c .here;
   over = c .over;
   closed = c .closed;
-  until = record { long = refl; away = λ t h. refl; is = refl };
+  until = record { long = refl; away = λ t h. refl; is = refl; index = left-none };
   left = (let e : suc n - 0 ≡ suc n = omega arith in rw e);
 }
 

@@ -14,6 +14,7 @@ use Rattle.records.specs.Make.{withClass}
 use Rattle.records.specs.Working.Audited.{Closed}
 use Rattle.records.specs.Working.Puts.{TermSet}
 use Rattle.records.proofs.Lists.{within-high, failed, passed, five-1, five-2, five-3, five-4, five-last}
+use Rattle.records.proofs.IndexStores.{left-none}
 use Rattle.records.proofs.Climbs.{climb-within, view-count, view-class, view-forest}
 use Rattle.classes.specs.Joins.{Trace, cutIn, edge, noEdge, bearing, putEdge, putClass, rerootIn, linkIn, joinIn, trace, isTrace, undoIn}
 use Rattle.classes.specs.Working.Carries.{Forest, carryBy, TermsBecome, Carriable, Tabled, Linkable, Cuttable, Undoes, undone, no-table}
@@ -162,7 +163,7 @@ module _ (l : List ℕ) (n child old under : ℕ) where
     none-is h = rw (sym e ∙ not-true b h)
 
     pub undo-not : not b ≡ true → Tabled l n → Undoes l l n (undoIn ts x) false
-    undo-not h d = subst (λ (o : Option (List Term)). Undoes l l n o false) (sym (none-is h)) (no-table (record { long = refl; away = λ t w. refl; is = refl }) d)
+    undo-not h d = subst (λ (o : Option (List Term)). Undoes l l n o false) (sym (none-is h)) (no-table (record { long = refl; away = λ t w. refl; is = refl; index = left-none }) d)
 
     module _ (h : not b ≡ false) (d : Tabled l n) where
       traced : Traced ts x

@@ -9,20 +9,23 @@ use lib.Seq.{set-set}
 use lib.Dec.{eqb}
 use borrow.Author.Tests.{eq-eqb, ne-eqb, not-true, not-false}
 use Rattle.records.specs.declared.State.{State}
-use Rattle.records.specs.Store.{Term, ok, stop, within, isString, sameClass, rootIn, classUp, forestUp}
+use Rattle.records.specs.Store.{Term, Store, ok, stop, count, within, isString, sameClass, rootIn, classUp, forestUp}
 use Rattle.records.specs.View.{Lent, lent, storeOf, termAt, termsView, termWords, zeroTerm}
 use Rattle.records.specs.Working.Puts.{TermSet}
+use Rattle.records.specs.Index.{bucket}
 use Rattle.records.specs.Rules.{audit, isNumber}
 use Rattle.records.specs.Make.{withTerms, withClass, withEdge}
 use Rattle.records.specs.Working.Audited.{Ready, Closed, Audited}
 use Rattle.records.specs.Calls.{call}
 use Rattle.records.proofs.Lists.{failed, passed, and-stop, and-next, five-1, five-2, five-3, five-4, five-last, within-low, within-high}
+use Rattle.records.proofs.IndexStores.{left-none, left-then, left-same, indexed-like}
 use Rattle.records.proofs.Passed.{ready-of, ready-after, audit-of}
 use Rattle.records.proofs.Public.{call-unready, call-unfit}
 use Rattle.records.proofs.Grown.{string-term}
-use Rattle.records.proofs.Climbs.{view-term, view-class, view-forest, term-within, ready-roots}
+use Rattle.records.proofs.Climbs.{view-term, view-count, view-class, view-forest, term-within, ready-roots}
 use Rattle.classes.specs.Merge.{isRootIn, canMerge, under, mergeIn, mergeClasses, merged, PublicMerge}
-use Rattle.classes.proofs.MergeKept.{mergeable, merge-kept}
+use Rattle.classes.proofs.Alike.{bucket-like}
+use Rattle.classes.proofs.MergeKept.{mergeable, merge-like, merge-kept}
 
 -- A ROOT
 
@@ -95,6 +98,7 @@ set-twice {l} {l₁} {l₂} {t} {x} {y} a b = record {
   long = b .long ∙ a .long;
   here = b .here;
   away = λ u z. b .away u z ∙ a .away u z;
+  index = left-then (a .index) (b .index);
   terms = λ n h. b .terms n h ∙ ap (λ (ts : List Term). set ts (t - 1) y) (a .terms n h) ∙ set-set (termsView l n) (t - 1) x y;
 }
 
@@ -112,7 +116,7 @@ child-within m c child parent n g = term-within m c child (string-term (storeOf 
 
 module _ (m : Lent) (c : State) (child parent n stamp k : ℕ) (v : k ≡ audit m c) where
   pub merge-unready : (k ≡ 0 → ⊥) → PublicMerge m m c child parent n stamp k
-  merge-unready z = record { says = go k z ∙ call-unready (canMerge child parent n) (mergeClasses child parent n stamp) m c k v z .says; idle = λ e. refl; others = λ t d. refl; kept = λ e. absurd (z e) }
+  merge-unready z = record { says = go k z ∙ call-unready (canMerge child parent n) (mergeClasses child parent n stamp) m c k v z .says; idle = λ e. refl; others = λ t d. refl; index = λ n. left-same left-none n; kept = λ e. absurd (z e) }
     where
       go : (j : ℕ) → (j ≡ 0 → ⊥) → merged j m c ≡ stop j
       go zero q = absurd (q refl)
@@ -120,7 +124,7 @@ module _ (m : Lent) (c : State) (child parent n stamp k : ℕ) (v : k ≡ audit 
 
   module _ (z : k ≡ 0) (b : Bool) (e : b ≡ canMerge child parent n (storeOf m c)) where
     pub merge-unfit : not b ≡ true → PublicMerge m m c child parent n stamp 5
-    merge-unfit h = record { says = call-unfit (canMerge child parent n) (mergeClasses child parent n stamp) m c k v z b e (not-true b h) .says; idle = λ q. refl; others = λ t d. refl; kept = λ q. absurd (omega arith) }
+    merge-unfit h = record { says = call-unfit (canMerge child parent n) (mergeClasses child parent n stamp) m c k v z b e (not-true b h) .says; idle = λ q. refl; others = λ t d. refl; index = λ n. left-same left-none n; kept = λ q. absurd (omega arith) }
 
     -- the child's record is within the slice
     pub merge-room : not b ≡ false → termWords child ≤ length (m .terms)
@@ -132,7 +136,7 @@ module _ (m : Lent) (c : State) (child parent n stamp k : ℕ) (v : k ≡ audit 
 -- record 0 is another record
 zero-away : {l l′ : List ℕ} {t : ℕ} {x : Term} → TermSet l l′ t x → 0 < t → zeroTerm l′ ≡ zeroTerm l
 unfolding zeroTerm
-zero-away a h = a .away 0 (λ e. omega arith)
+zero-away a h = let p = a .away 0 (λ e. omega arith) in let q = a .index .nexts 0 in cc
 
 module _ (t e h r ks t′ : List ℕ) (c : State) (child parent n stamp k : ℕ) (v : k ≡ audit (lent t e h r ks) c) (z : k ≡ 0)
     (b : Bool) (f : b ≡ canMerge child parent n (storeOf (lent t e h r ks) c)) (y : not b ≡ false) where
@@ -153,7 +157,10 @@ module _ (t e h r ks t′ : List ℕ) (c : State) (child parent n stamp k : ℕ)
         says = stored p q y₀ ∙ sym (rw (a, g));
         idle = λ o. absurd (o refl);
         others = j .away;
-        kept = λ o. audit-of (lent t′ e h r ks) c (ready-after d q refl (subst Audited (sym k) (merge-kept (storeOf m c) child parent n stamp (d .audited) g)));
+        index = λ n. left-same (j .index) n;
+        kept = λ o. audit-of (lent t′ e h r ks) c (ready-after d q refl (subst Audited (sym k) (merge-kept (storeOf m c) child parent n stamp (d .audited) g))
+            (indexed-like (storeOf m c) (storeOf (lent t′ e h r ks) c) t t′ (view-count t′ (c .terms) ∙ sym (view-count t (c .terms)))
+            (λ u. ap (λ (s : Store). bucket s u) k ∙ bucket-like (storeOf m c) _ (merge-like (termsView t (c .terms)) child parent n stamp (ap (λ (i : ℕ). within i child) (view-count t (c .terms)) ∙ w)) u) (left-same (j .index) (count (storeOf m c))) (d .indexed)));
       }
     where
       merged-store : termsView t′ (c .terms) ≡ mergeIn (termsView t (c .terms)) child parent n stamp → length t′ ≡ length t → zeroTerm t′ ≡ zeroTerm t

@@ -12,6 +12,7 @@ use borrow.Author.Tests.{not-true, not-false, eqb-true, eqb-false, le-leb, lt-le
 use Rattle.records.specs.Lists.{table, oneMore}
 use Rattle.records.specs.Store.{Term}
 use Rattle.records.specs.View.{termsView}
+use Rattle.records.proofs.IndexStores.{left-none}
 use Rattle.records.proofs.Lists.{and-stop, and-next, both-left, both-right, both-true, left-false, or-left, or-right, decide, clash, table-same, table-length, table-suc}
 use Rattle.classes.specs.declared.Standing.{Standing}
 use Rattle.classes.specs.Joins.{Trace, trace, undoIn}
@@ -205,7 +206,7 @@ pub record Backward (l₀ l : List ℕ) (n : ℕ) (marks : List ℕ) (joins firs
   pub left : undoAll (drop first (table (traceAt marks) joins)) (termsView l₀ n) ≡ undoAll (drop first (table (traceAt marks) j)) (termsView l n)
 
 pub backward-begin : (l : List ℕ) (n : ℕ) (marks : List ℕ) (joins first : ℕ) → Tabled l n → first ≤ joins → Backward l l n marks joins first joins
-backward-begin l n marks joins first t h = record { low = h; high = omega arith; until = record { long = refl; away = λ u k. refl; is = refl }; tabled = t; left = refl }
+backward-begin l n marks joins first t h = record { low = h; high = omega arith; until = record { long = refl; away = λ u k. refl; is = refl; index = left-none }; tabled = t; left = refl }
 
 module _ {l₀ l : List ℕ} {n : ℕ} {marks : List ℕ} {joins first j : ℕ} (b : Backward l₀ l n marks joins first j) where
   pub backward-done : j ≤ first → Undoes l₀ l n (undoAll (drop first (table (traceAt marks) joins)) (termsView l₀ n)) true

@@ -11,6 +11,7 @@ use Rattle.records.specs.Lists.{Every}
 use Rattle.records.specs.Store.{Term, kind, parts, termIn, within, classUp, forestUp, rootIn, topIn}
 use Rattle.records.specs.View.{termAt, termsView, termWords, termLimit, chained}
 use Rattle.records.specs.Working.Audited.{Closed}
+use Rattle.records.specs.Working.Puts.{IndexLeft}
 use Rattle.classes.specs.declared.Standing.{Standing}
 use Rattle.classes.specs.Joins.{Edge, noEdge, edgeOf, putEdge, turned, Trace}
 use Rattle.classes.specs.Marks.{Trail, trailOf, tracePlace, joinLimit, markLimit}
@@ -27,11 +28,12 @@ unfoldable pub carryBy : ℕ → List Term → ℕ → Edge → List Term
 carryBy zero ts x e = ts
 carryBy (suc n) ts x e = elim (eqb (forestUp ts x) x) [ true ↦ putEdge ts x e | false ↦ carryBy n (putEdge ts x e) (forestUp ts x) (turned x (termIn ts x)) ]
 
--- the n terms are now these; every other record, record 0 too, stays
+-- the n terms are now these; every other record, record 0 too, stays, and so do heads and ninth words
 pub record TermsBecome (l l′ : List ℕ) (n : ℕ) (ts : List Term) : Type 0 where
   pub long : length l′ ≡ length l
   pub away : (t : ℕ) → within n t ≡ false → termAt l′ t ≡ termAt l t
   pub is : termsView l′ n ≡ ts
+  pub index : IndexLeft l l′
 
 -- n terms whose forest parents are terms, x and the parent that it gets among them
 pub record Carriable (l : List ℕ) (n x parent : ℕ) : Type 0 where

@@ -2,6 +2,7 @@
 use mathlib.Core.Path.{_≡_, refl, sym, ap, subst, _∙_}
 use mathlib.Core.Bool.{Bool, true, false, not}
 use mathlib.Core.List.{List, [], _∷_, _++_}
+use mathlib.Core.Logic.{inl}
 use Prim.Native.Nat.{ℕ, zero, suc, _≤_, _<_}
 use native.Mathlib.Omega.{arith}
 use lib.ListN.{length, take, getD}
@@ -12,14 +13,15 @@ use Rattle.records.specs.declared.Made.{Made}
 use Rattle.records.specs.declared.Made.the-variants.{Term, Refused}
 use Rattle.records.specs.Lists.{all, table}
 use Rattle.records.specs.Store.{Store, Out, ok, stop, andThen, _>>=_, within, isString}
-use Rattle.records.specs.View.{Lent, storeOf, readIn, termed}
+use Rattle.records.specs.View.{Lent, lent, storeOf, readIn, termed}
 use Rattle.records.specs.Rules.{audit, listLimit, isList}
 use Rattle.records.specs.Make.{makeConstant}
 use Rattle.records.specs.Working.Audited.{Ready}
 use Rattle.records.specs.Calls.{made, writesNothing}
-use Rattle.records.specs.Working.Doing.{Working}
+use Rattle.records.specs.Working.Doing.{Working, CutRefused}
 use Rattle.records.proofs.Lists.{table-length, both-left, both-right, both-true, every-all, every-map, all-every}
-use Rattle.records.proofs.Public.{passed-ready, audit-low}
+use Rattle.records.proofs.Public.{Undone, given, cut, undone-is, passed-ready, audit-idle}
+use Rattle.records.proofs.IndexStores.{keeps-same}
 use Rattle.records.proofs.Doing.{working-same, working-stopped, working-is, working-left}
 use Rattle.records.proofs.Grown.{grown-string}
 use Rattle.records.proofs.Kept.{MadeIn, made-string, constant-kept}
@@ -34,7 +36,10 @@ use Rattle.sides.specs.Working.Results.{BothLists}
 use Rattle.sides.specs.Working.Stripping.{Readable}
 use Rattle.empties.specs.Empties.{emptyAgainst, unmet, Parts, linked, partsOf, emptied, sides, emptyParts}
 use Rattle.empties.specs.Repeats.{Repeats}
-use Rattle.empties.specs.Calls.{PublicEmpties}
+use Rattle.empties.specs.declared.Empties.{Empties}
+use Rattle.empties.specs.declared.Empties.the-variants as empties
+use Rattle.empties.specs.Calls.{listed, PublicEmpties}
+use Rattle.empties.specs.Working.Cuts.{unlisted}
 use Rattle.empties.specs.Working.Listing.{Starts}
 use Rattle.normalize.proofs.Atoms.{every-of}
 use Rattle.empties.proofs.Unmet.{unmet-agree}
@@ -110,12 +115,12 @@ module _ (m : Lent) (c : State) (l r : List ℕ) where
 
   pub left-passes : flatten l (storeOf m c) ≡ stop 6 → Working (emptyParts l r) m m c (stop 6)
   unfolding emptyParts
-  left-passes e = working-stopped (ap (andThen then) e) refl
+  left-passes e = working-stopped (ap (andThen then) e) keeps-same
 
   module _ (l₁ : List ℕ) (e : flatten l (storeOf m c) ≡ ok (storeOf m c) l₁) where
     pub right-passes : flatten r (storeOf m c) ≡ stop 6 → Working (emptyParts l r) m m c (stop 6)
     unfolding emptyParts
-    right-passes f = working-stopped (ap (andThen then) e ∙ ap (andThen (λ r₁. sides l₁ r₁)) f) refl
+    right-passes f = working-stopped (ap (andThen then) e ∙ ap (andThen (λ r₁. sides l₁ r₁)) f) keeps-same
 
     pub flat-done : (r₁ : List ℕ) → flatten r (storeOf m c) ≡ ok (storeOf m c) r₁ → {m′ : Lent} {o : Out Parts} → Working (sides l₁ r₁) m m′ c o → Working (emptyParts l r) m m′ c o
     unfolding emptyParts
@@ -123,21 +128,26 @@ module _ (m : Lent) (c : State) (l r : List ℕ) where
 
 -- THE CALL
 
+-- an answer handed on: after a refusal the index is cut
+pub undone-listed : {t t′ : List ℕ} (e h r ks : List ℕ) {n : ℕ} (l : List ℕ) (x : Empties) {o : Empties} → CutRefused unlisted t t′ n x o → Undone (lent t e h r ks) (lent t′ e h r ks) n (listed x (lent t e h r ks) l) (listed o (lent t′ e h r ks) l)
+undone-listed e h r ks l (empties.Parts d u k f) p = given _ _ refl (rw (p .same, p .given refl)) (ap (λ (w : List ℕ). lent w e h r ks) (p .given refl))
+undone-listed e h r ks l (empties.Refused j) p = cut j refl (rw (p .same)) (p .refused refl) (record { cells = refl; chars = refl; reasons = refl; keys = refl })
+
 module _ (l r : List ℕ) (m : Lent) (c : State) (k : List ℕ) where
-  -- a refusal under 1 to 5 is worth nothing
-  idle : {j : ℕ} {X : Type 0} → j ≤ 5 → ((i : ℕ) → _≡_ {A = Out Parts} (stop j) (stop i) → writesNothing i → ⊥) → X
+  -- a refusal that writes nothing is worth nothing
+  idle : {j : ℕ} {X : Type 0} → writesNothing j → ((i : ℕ) → _≡_ {A = Out Parts} (stop j) (stop i) → writesNothing i → ⊥) → X
   idle h f = absurd (f _ refl h)
 
   pub parts-short : length k < listLimit → PublicEmpties l r m m k k c (stop 1)
-  parts-short h = record { is = listed-short (equalArguments l r) (emptyParts l r) m c k h; repeats = λ f. idle (omega arith) f; worth = λ s′ x e. stop-not e }
+  parts-short h = record { is = listed-short (equalArguments l r) (emptyParts l r) m c k h; repeats = λ f. idle (inl (omega arith)) f; worth = λ s′ x e. stop-not e }
 
   module _ (h : listLimit ≤ length k) (j : ℕ) (v : j ≡ audit m c) where
     pub parts-unready : (j ≡ 0 → ⊥) → PublicEmpties l r m m k k c (stop j)
-    parts-unready d = record { is = listed-unready (equalArguments l r) (emptyParts l r) m c k h j v d; repeats = λ f. idle (let a = audit-low m c in omega arith) f; worth = λ s′ x e. stop-not e }
+    parts-unready d = record { is = listed-unready (equalArguments l r) (emptyParts l r) m c k h j v d; repeats = λ f. idle (audit-idle m c j v) f; worth = λ s′ x e. stop-not e }
 
     module _ (z : j ≡ 0) (b : Bool) (i : b ≡ equalArguments l r (storeOf m c)) where
       pub parts-unfit : not b ≡ true → PublicEmpties l r m m k k c (stop 5)
-      parts-unfit f = record { is = listed-unfit (equalArguments l r) (emptyParts l r) m c k h j v z b i f; repeats = λ g. idle (omega arith) g; worth = λ s′ x e. stop-not e }
+      parts-unfit f = record { is = listed-unfit (equalArguments l r) (emptyParts l r) m c k h j v z b i f; repeats = λ g. idle (inl (omega arith)) g; worth = λ s′ x e. stop-not e }
 
       module _ (f : not b ≡ false) where
         fit : equalArguments l r (storeOf m c) ≡ true
@@ -149,9 +159,9 @@ module _ (l r : List ℕ) (m : Lent) (c : State) (k : List ℕ) where
         pub parts-lists : BothLists (storeOf m c) l r
         parts-lists = record { left = both-left (isList (storeOf m c) l) _ fit; right = both-right (isList (storeOf m c) l) _ fit }
 
-        pub parts-called : {m′ : Lent} {k′ : List ℕ} {o : Out Parts} → Working (emptyParts l r) m m′ c o → PublicEmpties l r m m′ k k′ c o
-        parts-called w = record {
-          is = listed-works (equalArguments l r) (emptyParts l r) m c k h j v z b i f (parts-stops l r (storeOf m c)) w;
-          repeats = λ q. subst (Repeats (storeOf m c) l r) (w .says) (repeats l r (storeOf m c) (parts-ready .audited) (parts-lists .left) (parts-lists .right));
-          worth = λ s′ x e. listed-worth l r (storeOf m c) s′ x (parts-ready .audited) (w .says ∙ e);
+        pub parts-called : {m₁ m′ : Lent} {k′ : List ℕ} {o₁ o : Out Parts} → Working (emptyParts l r) m m₁ c o₁ → Undone m₁ m′ (c .terms) o₁ o → PublicEmpties l r m m′ k k′ c o
+        parts-called w u = record {
+          is = listed-works (equalArguments l r) (emptyParts l r) m c k h j v z b i f (parts-stops l r (storeOf m c)) w u;
+          repeats = λ q. subst (Repeats (storeOf m c) l r) (w .says ∙ sym (undone-is u)) (repeats l r (storeOf m c) (parts-ready .audited) (parts-lists .left) (parts-lists .right));
+          worth = λ s′ x e. listed-worth l r (storeOf m c) s′ x (parts-ready .audited) (w .says ∙ sym (undone-is u) ∙ e);
         }

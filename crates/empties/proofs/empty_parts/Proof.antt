@@ -1,4 +1,5 @@
-use Rattle.empties.proofs.Refines.EmptyPartsCalls.{parts-short, parts-unready, parts-unfit, parts-ready, parts-lists, parts-called}
+use Rattle.records.proofs.Public.{cut-asked, passed-ready}
+use Rattle.empties.proofs.Refines.EmptyPartsCalls.{parts-short, parts-unready, parts-unfit, parts-ready, parts-lists, parts-called, undone-listed}
 use Rattle.records.specs.View.{lent}
 use borrow.Author.Needs.{needs}
 use Rattle.empties.proofs.empty_parts.Statement.{statement}
@@ -57,6 +58,12 @@ empty-parts-spec =
         at-if1 .if1 .left,
       ),
     ))
+    -- cut-unlisted-requires
+    (λ c κs.
+    let at-empty-parts-unchecked = c .before .before .before .before .before .before .before in
+    let at-if2 = at-empty-parts-unchecked .before .before .before .before .before .before .before in
+    let at-audit = at-if2 .before in
+    cut-asked (passed-ready _ _ _ (at-audit .audit .ensures) (at-if2 .if2 .left)) (at-empty-parts-unchecked .empty-parts-unchecked .kept .0))
     -- same-length-5
     (λ c. search needs)
     -- same-length-6
@@ -65,7 +72,7 @@ empty-parts-spec =
     (λ c. search needs)
     -- returns-4
     (λ c.
-    let at-empty-parts-unchecked = c .before .before .before .before .before .before in
+    let at-empty-parts-unchecked = c .before .before .before .before .before .before .before .before .before .before in
     let at-if3 = at-empty-parts-unchecked .before .before .before .before in
     let at-are-lists = at-if3 .before in
     let at-if2 = at-are-lists .before .before in
@@ -73,4 +80,5 @@ empty-parts-spec =
     let at-if1 = at-audit .before .before .before in
     let at-start = at-if1 .before .before .before .before .before .before .before .before .before in
     parts-called (at-start .args .lhs .now) (at-start .args .rhs .now) _ _ (at-start .args .list .now) (at-if1 .if1 .left) _ (at-audit .audit .ensures) (at-if2 .if2 .left) _
-    (at-are-lists .are-lists .ensures) (at-if3 .if3 .left) (at-empty-parts-unchecked .empty-parts-unchecked .ensures)))
+    (at-are-lists .are-lists .ensures) (at-if3 .if3 .left) (at-empty-parts-unchecked .empty-parts-unchecked .ensures)
+    (undone-listed _ _ _ _ _ _ (c .before .before .cut-unlisted .ensures))))

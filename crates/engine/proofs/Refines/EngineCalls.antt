@@ -1,5 +1,6 @@
 -- Each way through `find` and `explain`.
-use mathlib.Core.Path.{_≡_, sym, ap, _∙_}
+use mathlib.Core.Path.{_≡_, sym, ap, subst, _∙_}
+use mathlib.Core.Logic.{inl}
 use mathlib.Core.Bool.{Bool, true, false, not, _&&_}
 use Prim.Native.Nat.{ℕ}
 use native.Mathlib.Omega.{arith}
@@ -11,14 +12,15 @@ use Rattle.records.specs.View.{Lent, storeOf, termsView}
 use Rattle.records.specs.Lists.{Every}
 use Rattle.records.specs.Rules.{audit}
 use Rattle.records.specs.Working.Audited.{Audited, Ready, Closed}
-use Rattle.records.specs.Calls.{Public, call}
+use Rattle.records.specs.Calls.{Public, writesNothing, call}
 use Rattle.records.specs.Working.Doing.{Working}
 use lib.Seq.{drop-append-seam}
 use Rattle.records.proofs.Lists.{both-left, both-right, left-false, right-false}
 use Rattle.records.proofs.LaterStores.{added-once}
 use Rattle.records.proofs.Passed.{ready-of}
 use Rattle.records.proofs.Doing.{working-same}
-use Rattle.records.proofs.Public.{call-unready, call-unfit, call-works, audit-low}
+use Rattle.records.proofs.Outcomes.{refused-by}
+use Rattle.records.proofs.Public.{call-unready, call-unfit, call-still, call-works, audit-idle}
 use Rattle.records.proofs.Grown.{string-term}
 use Rattle.records.proofs.Climbs.{term-within, ready-roots}
 use Rattle.engine.specs.Explain.{find, findArguments, explain, explainArguments}
@@ -44,7 +46,7 @@ module _ (m : Lent) (c : State) (t k : ℕ) (v : k ≡ audit m c) where
     pub find-gives : not b ≡ false → (r : ℕ) → r ≡ rootIn (termsView (m .terms) (c .terms)) t → Public (call (findArguments t) (find t) m c) m m c (ok (storeOf m c) r)
     unfolding find
     find-gives h r q =
-        call-works (findArguments t) (find t) m c k v z b e (not-false b h) (λ j n. let y : _≡_ {A = ℕ} 0 1 = cc in absurd (omega arith))
+        call-still (findArguments t) (find t) m c k v z b e (not-false b h)
         (working-same (ready-of m c (sym v ∙ z)) (ap (ok (storeOf m c)) (sym q)))
 
 -- EXPLAIN
@@ -79,7 +81,7 @@ module _ (m : Lent) (c : State) (a b k : ℕ) (v : k ≡ audit m c) where
     worth = λ s′ e. let y : _≡_ {A = ℕ} 0 1 = cc in absurd (omega arith);
     once = λ s′ e. let y : _≡_ {A = ℕ} 0 1 = cc in absurd (omega arith);
     edges = λ s′ e. let y : _≡_ {A = ℕ} 0 1 = cc in absurd (omega arith);
-    full = λ j e h. let y : k ≡ j = cc in let l = audit-low m c in absurd (omega arith);
+    full = λ j e h. let y : k ≡ j = cc in absurd (h (subst writesNothing y (audit-idle m c k v)));
   }
 
   module _ (z : k ≡ 0) (x : Bool) (e : x ≡ explainArguments a b (storeOf m c)) where
@@ -89,15 +91,15 @@ module _ (m : Lent) (c : State) (a b k : ℕ) (v : k ≡ audit m c) where
       worth = λ s′ i. let y : _≡_ {A = ℕ} 0 1 = cc in absurd (omega arith);
       once = λ s′ i. let y : _≡_ {A = ℕ} 0 1 = cc in absurd (omega arith);
       edges = λ s′ i. let y : _≡_ {A = ℕ} 0 1 = cc in absurd (omega arith);
-      full = λ j i l. let y : 5 ≡ j = cc in absurd (omega arith);
+      full = λ j i l. let y : 5 ≡ j = cc in absurd (l (inl (omega arith)));
     }
 
     pub explain-fit : not x ≡ false → (Ready m c) × (explainArguments a b (storeOf m c) ≡ true)
     explain-fit h = (ready-of m c (sym v ∙ z), sym e ∙ not-false x h)
 
-    pub explain-called : not x ≡ false → (m′ : Lent) (r : Out (Unit {0})) → Working (explain a b) m m′ c r → PublicExplain a b m m′ c r
-    explain-called h m′ r w = record {
-      is = call-works (explainArguments a b) (explain a b) m c k v z x e (not-false x h) (λ j n. let q = explain-stops s audited a b one two three j n in omega arith) w;
+    pub explain-called : not x ≡ false → (m′ : Lent) (r : Out (Unit {0})) → m′ .terms ≡ m .terms → Working (explain a b) m m′ c r → PublicExplain a b m m′ c r
+    explain-called h m′ r same w = record {
+      is = call-works (explainArguments a b) (explain a b) m c k v z x e (not-false x h) (λ j n. refused-by 7 (omega arith) (omega arith) (explain-stops s audited a b one two three j n)) same w;
       worth = λ s′ i. explain-sound s audited a b one two three s′ tt (w .says ∙ i);
       once = λ s′ i. added-once (explain-gives s audited a b one two three s′ tt (w .says ∙ i) .added);
       edges = λ s′ i. labelled s s′ (explain-gives s audited a b one two three s′ tt (w .says ∙ i));

@@ -18,7 +18,10 @@ use Rattle.records.specs.Make.{withReasons}
 use Rattle.records.specs.Working.Audited.{Ready}
 use Rattle.records.proofs.Lists.{both-left, both-right, table-length, all-zero}
 use Rattle.records.proofs.Beside.{audited-within}
-use Rattle.records.proofs.Passed.{ready-later}
+use Rattle.records.proofs.Works.{one-store}
+use Rattle.records.proofs.IndexLaws.{same-none}
+use Rattle.records.proofs.IndexStores.{keeps-terms, records-beside, indexed-records}
+use Rattle.records.proofs.Passed.{ready-beside}
 use Rattle.records.proofs.Doing.{working-stopped}
 use Rattle.engine.specs.declared.Walked.{Walked}
 use Rattle.engine.specs.Explain.{wasSeen, walked, explain, explainArguments, emptied, givesReason, isReasoned}
@@ -84,7 +87,13 @@ module _ (m : Lent) (c : State) where
         (added (Counts e) (lent (m .terms) (m .cells) (m .chars) reasons′ (m .keys)))
     explain-came z e q =
         let says = go (x .comes (standing-of d) (explainable-of a b d h .together)) in
-        rw q (record { says = says; kept = still; ready = λ f u i. ready-later d still (explain-gave (storeOf m c) (d .audited) a b h _ u (says ∙ i) .audited) })
+        rw q (record {
+          says = says;
+          kept = keeps-terms still refl;
+          ready = λ f u i.
+              let g = explain-gave (storeOf m c) (d .audited) a b h _ u (says ∙ i) in
+              ready-beside d still refl (g .audited) (records-beside (one-store i) (store-after (r .count)));
+        })
       where
         go : Comes (storeOf m c) reasons′ r (explain a b (storeOf m c)) → explain a b (storeOf m c) ≡ ok (storeOf (lent (m .terms) (m .cells) (m .chars) reasons′ (m .keys)) (reasonsAt c (r .count))) tt
         go (explained i e) = e ∙ ap (λ (s : Store). ok s tt) (sym (store-after (r .count)))
@@ -92,7 +101,7 @@ module _ (m : Lent) (c : State) where
 
     pub explain-refused : (r .code ≡ 0 → ⊥) → Working (explain a b) m (lent (m .terms) (m .cells) (m .chars) reasons′ (m .keys)) c
         (added (Refused (r .code)) (lent (m .terms) (m .cells) (m .chars) reasons′ (m .keys)))
-    explain-refused z = working-stopped (go (x .comes (standing-of d) (explainable-of a b d h .together))) still
+    explain-refused z = working-stopped (go (x .comes (standing-of d) (explainable-of a b d h .together))) (keeps-terms still refl)
       where
         go : Comes (storeOf m c) reasons′ r (explain a b (storeOf m c)) → explain a b (storeOf m c) ≡ stop (r .code)
         go (explained i e) = absurd (z i)
@@ -128,6 +137,7 @@ module _ (m : Lent) (c : State) (a b : ℕ) where
     };
     audited = audited-within (storeOf m c) [] (storeOf m c .keys) (c .names) (emptied (storeOf m c) .room) (d .audited) refl (d .audited .recorded .keys)
         (record { terms = d .audited .roomy .terms; cells = d .audited .roomy .cells; chars = d .audited .roomy .chars; reasons = omega arith; keys = d .audited .roomy .keys });
+    indexed = indexed-records (record { terms = refl; cells = refl; chars = refl }) (same-none (m .terms) _) (d .indexed);
   })
 
   module _ (e : State) (q : e ≡ reasonsAt c 0) (l : List ℕ) (r : Added) (w : Working (explain a b) own (ownly l) e (added r (ownly l))) where

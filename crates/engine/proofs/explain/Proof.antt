@@ -1,4 +1,4 @@
-use mathlib.Core.Path.{sym, _∙_}
+use mathlib.Core.Path.{refl, sym, _∙_}
 use Rattle.records.proofs.Passed.{ready-of}
 use Rattle.engine.proofs.Refines.EngineCalls.{explain-unready, explain-unfit, explain-fit, explain-called}
 use borrow.Author.Needs.{needs}
@@ -41,5 +41,5 @@ explain-spec =
     let at-can-explain = at-if2 .before in
     let at-if1 = at-can-explain .before .before in
     let at-audit = at-if1 .before in
-    explain-called _ _ _ _ _ (at-audit .audit .ensures) (at-if1 .if1 .left) _ (at-can-explain .can-explain .ensures) (at-if2 .if2 .left) _ _
+    explain-called _ _ _ _ _ (at-audit .audit .ensures) (at-if1 .if1 .left) _ (at-can-explain .can-explain .ensures) (at-if2 .if2 .left) _ _ refl
     (at-explain-unchecked .explain-unchecked .ensures)))

@@ -19,17 +19,19 @@ use Rattle.records.specs.View.{Lent, lent, storeOf, termAt, pairAt, pairsView, 
 use Rattle.records.specs.Rules.{audit, reasonRule, listLimit, isList}
 use Rattle.records.specs.Make.{withReasons}
 use Rattle.records.specs.Working.Audited.{Audited, Ready}
-use Rattle.records.specs.Working.Doing.{Working}
+use Rattle.records.specs.Working.Doing.{ReadyFor, Working, CutRefused}
 use Rattle.records.proofs.Lists.{both-left, both-right, both-true, left-false, right-false, and-next, all-every, every-all, table-same, table-length, table-at, all-table, below-at, below-all}
-use Rattle.records.proofs.Works.{stop-not, via}
+use Rattle.records.proofs.Works.{stop-not, one-store, via}
 use Rattle.records.proofs.Beside.{audited-beside}
-use Rattle.records.proofs.Passed.{ready-later}
-use Rattle.records.proofs.Doing.{working-stopped, working-is, works, working-left}
+use Rattle.records.proofs.IndexStores.{records-same-but}
+use Rattle.records.proofs.Passed.{ready-as, ready-beside}
+use Rattle.records.proofs.Doing.{working-stopped, working-is, working-left}
 use Rattle.records.proofs.ListLaws.{list-strings}
 use Rattle.records.proofs.Views.{table-is}
 use Rattle.records.proofs.Climbs.{view-term, term-within}
 use Rattle.records.proofs.Grown.{kind-term, grown-string, strings-later}
-use Rattle.records.proofs.Public.{passed-ready}
+use Rattle.records.proofs.Outcomes.{refused-wider}
+use Rattle.records.proofs.Public.{Undone, given, cut, undone-is, passed-ready}
 use Rattle.normalize.specs.declared.DeepForm.{DeepForm}
 use Rattle.normalize.specs.declared.DeepForm.the-variants as deep
 use Rattle.normalize.specs.Normalize.{deepForm, formArguments}
@@ -47,9 +49,12 @@ use Rattle.sides.specs.Wordeq.{Answer, done, saturated, conflict, propagate, sp
 use Rattle.sides.specs.Working.Results.{BothLists}
 use Rattle.sides.proofs.Resolve.{resolve-gives}
 use Rattle.wordeq.specs.Calls.{resolved}
-use Rattle.equation.specs.declared.Outcome.the-variants.{Answered}
+use Rattle.equation.specs.declared.Outcome.{Outcome}
+use Rattle.equation.specs.declared.Outcome.the-variants.{Answered, Unexpanded}
 use Rattle.equation.specs.Equation.{Stepped, unexpanded, answered, returned, orUnexpanded, step, stepArguments}
 use Rattle.equation.specs.Calls.{stepped, PublicStep}
+use Rattle.wordeq.specs.Working.Cuts.{unresolved}
+use Rattle.equation.specs.Working.Cuts.{unstepped}
 use Rattle.equation.specs.Working.Forms.{resolveForms, rightForm, carried}
 use Rattle.equation.proofs.Sound.{second-string, step-gives, step-sound, step-stops}
 
@@ -106,17 +111,30 @@ forms-audited m c ready l r g lists n h s′ x e =
     go s₁ (propagate v w f) k j = let q : s₁ ≡ s′ = cc in subst Audited q (k .audited)
     go s₁ (split atoms z i) k j = let q : s₁ ≡ s′ = cc in subst Audited q (k .audited)
 
+-- another count of reasons leaves the slices ready, where the store is audited
+forms-ready : (m : Lent) (k : List ℕ) (n : ℕ) (o : StepResult) {d : State} {a : Stepped} → ReadyFor m (resolved o m k) → Audited (storeOf m d) → stepped (Answered (carried n o)) m k ≡ ok (storeOf m d) a → Ready m d
+forms-ready m k n (Done e) r a q = ready-beside (r e _ refl) refl refl a (records-same-but (one-store q) refl refl refl)
+forms-ready m k n (Saturated e) r a q = ready-as (r e _ refl) (sym (one-store q))
+forms-ready m k n (Conflict e) r a q = ready-as (r e _ refl) (sym (one-store q))
+forms-ready m k n (Propagate e v w f) r a q = ready-as (r e _ refl) (sym (one-store q))
+forms-ready m k n (Split e j g i) r a q = ready-as (r e _ refl) (sym (one-store q))
+forms-ready m k n (Refused j) r a q = stop-not q
+
 pub forms-resolved : {m m′ : Lent} {c : State} (l r k : List ℕ) (g z : ℤ) (n : ℕ) (o x : StepResult) → Ready m c → BothLists (storeOf m c) l r → n ≤ c .reasons → z ≡ g → Working (resolve l r z) m m′ c (resolved o m′ k) → x ≡ carried n o
     → Working (resolveForms l r g (pairsView (m .reasons) n)) m m′ c (stepped (Answered x) m′ k)
 unfolding resolveForms
-forms-resolved {m} {m′} {c} l r k g z n o x ready lists h i w e = works ready (forms-audited m c ready l r g lists n h) (record {
-  says =
-      ap (andThen (returned (pairsView (m .reasons) n))) (ap (λ (y : ℤ). resolve l r y (storeOf m c)) (sym i) ∙ w .says)
-      ∙ ap (λ (rs : List (ℕ × ℕ)). andThen (returned rs) (resolved o m′ k)) (sym (reasons-kept m m′ c (w .kept) n h))
-      ∙ returned-is o m′ k n
-      ∙ ap (λ (y : StepResult). stepped (Answered y) m′ k) (sym e);
+forms-resolved {m} {m′} {c} l r k g z n o x ready lists h i w e = record {
+  says = said;
   kept = w .kept;
-})
+  ready = λ d a q. forms-ready m′ k n o (w .ready) (forms-audited m c ready l r g lists n h (storeOf m′ d) a (said ∙ q)) (sym (ap (λ (y : StepResult). stepped (Answered y) m′ k) e) ∙ q);
+}
+  where
+    said : resolveForms l r g (pairsView (m .reasons) n) (storeOf m c) ≡ stepped (Answered x) m′ k
+    said =
+        ap (andThen (returned (pairsView (m .reasons) n))) (ap (λ (y : ℤ). resolve l r y (storeOf m c)) (sym i) ∙ w .says)
+        ∙ ap (λ (rs : List (ℕ × ℕ)). andThen (returned rs) (resolved o m′ k)) (sym (reasons-kept m m′ c (w .kept .store) n h))
+        ∙ returned-is o m′ k n
+        ∙ ap (λ (y : StepResult). stepped (Answered y) m′ k) (sym e)
 
 pub carried-done : (o : StepResult) (n : ℕ) {x : StepResult} (c : State) → o ≡ Done c → x ≡ carried n (Done c) → x ≡ carried n o
 carried-done o n c e q = q ∙ ap (carried n) (sym e)
@@ -144,9 +162,11 @@ module _ {m m₁ : Lent} {c : State} (list known : List ℕ) (t : ℕ) (x : Deep
 
   form-none : {d : State} (n : ℕ) (f : List ℕ → Work Stepped) → n ≤ c .reasons → x ≡ deep.None d → Working (formThen known t (pairsView (m .reasons) n) f) m m₁ c (ok (storeOf m₁ (reasonsAt d n)) unexpanded)
   form-none {d} n f h e =
-      let r = reasons-kept m m₁ c (w .kept) n h in
+      let r = reasons-kept m m₁ c (w .kept .store) n h in
       let k = deep-kept known t (storeOf m c) (ready .audited) fit (storeOf m₁ d) none (form-is e) in
-      working-left (ready-later ready (w .kept) (subst (λ (rs : List (ℕ × ℕ)). Audited (withReasons (storeOf m₁ d) rs)) (sym r) (cut-audited m c ready n h k)))
+      let a = subst (λ (rs : List (ℕ × ℕ)). Audited (withReasons (storeOf m₁ d) rs)) (sym r) (cut-audited m c ready n h k) in
+      let left = w .ready d none (ap (λ (y : DeepForm). deepened y m₁ list) e) in
+      working-left (ready-beside left refl refl a (record { terms = refl; cells = refl; chars = refl }))
       (ap (andThen (orUnexpanded (pairsView (m .reasons) n) f)) (form-is e) ∙ ap (λ (rs : List (ℕ × ℕ)). orUnexpanded rs f none (storeOf m₁ d)) (sym r)) (w .kept)
 
   module _ {j : ℕ} {d : State} (e : x ≡ deep.List j d) where
@@ -154,7 +174,7 @@ module _ {m m₁ : Lent} {c : State} (list known : List ℕ) (t : ℕ) (x : Deep
     form-later = deep-kept known t (storeOf m c) (ready .audited) fit (storeOf m₁ d) (some (firstWords list j)) (form-is e)
 
     form-carried : Carried m c m₁ d
-    form-carried = carried-then (carried-none ready) m₁ d (w .kept) form-later
+    form-carried = carried-then (carried-none ready) m₁ d (w .kept) form-later (w .ready d (some (firstWords list j)) (ap (λ (y : DeepForm). deepened y m₁ list) e))
 
     pub form-ready : Ready m₁ d
     form-ready = w .ready d (some (firstWords list j)) (ap (λ (y : DeepForm). deepened y m₁ list) e)
@@ -210,7 +230,7 @@ module _ {m m₁ : Lent} {c : State} (list known : List ℕ) (t n : ℕ) (x : De
   unfolding rightForm
   right-some {j} {d} {m₂} {r} {o} e i z u v =
       form-some list known t x ready fit w e (pairsView (m .reasons) n) (λ r. resolveForms l r g (pairsView (m .reasons) n))
-      (subst (λ (rs : List (ℕ × ℕ)). Working (resolveForms l (firstWords list j) g rs) m₁ m₂ d o) (reasons-kept m m₁ c (w .kept) n h)
+      (subst (λ (rs : List (ℕ × ℕ)). Working (resolveForms l (firstWords list j) g rs) m₁ m₂ d o) (reasons-kept m m₁ c (w .kept .store) n h)
       (subst (λ (y : List ℕ). Working (resolveForms l y g (pairsView (m₁ .reasons) n)) m₁ m₂ d o) i (subst (λ (y : ℤ). Working (resolveForms l r y (pairsView (m₁ .reasons) n)) m₁ m₂ d o) u v)))
 
 -- THE WHOLE STEP
@@ -270,10 +290,24 @@ module _ (known : List ℕ) (e : ℕ) (g : ℤ) (m : Lent) (c : State) (ready : 
       pub left-some : {m₂ : Lent} {l : List ℕ} {o : Out Stepped} → l ≡ firstWords list n → (y : ℤ) → y ≡ g → Working (rightForm known b y l (pairsView (m₁ .reasons) (c .reasons))) m₁ m₂ d o → Working (step known e g) m m₂ c o
       left-some {m₂} {l} {o} z y u v =
           from (form-some list known a x ready (left-fits a i) w q (pairsView (m .reasons) (c .reasons)) (λ l. rightForm known b g l (pairsView (m .reasons) (c .reasons)))
-          (subst (λ (rs : List (ℕ × ℕ)). Working (rightForm known b g (firstWords list n) rs) m₁ m₂ d o) (reasons-kept m m₁ c (w .kept) (c .reasons) (omega arith))
+          (subst (λ (rs : List (ℕ × ℕ)). Working (rightForm known b g (firstWords list n) rs) m₁ m₂ d o) (reasons-kept m m₁ c (w .kept .store) (c .reasons) (omega arith))
           (subst (λ (h : List ℕ). Working (rightForm known b g h (pairsView (m₁ .reasons) (c .reasons))) m₁ m₂ d o) z (subst (λ (h : ℤ). Working (rightForm known b h l (pairsView (m₁ .reasons) (c .reasons))) m₁ m₂ d o) u v))))
 
 -- THE PUBLIC CALL
+
+-- wordeq's answer handed on is the step's
+pub stepped-cut : {l l′ : List ℕ} {n : ℕ} (o : Outcome) {r r′ : StepResult} → o ≡ Answered r → CutRefused unresolved l l′ n r r′ → CutRefused unstepped l l′ n o (Answered r′)
+stepped-cut o e p = record { same = ap Answered (p .same) ∙ sym e; given = λ q. p .given (sym (ap unstepped e) ∙ q); refused = λ q. p .refused (sym (ap unstepped e) ∙ q) }
+
+-- an answer handed on: after a refusal the index is cut
+pub undone-stepped : {t t′ : List ℕ} (e h r ks : List ℕ) {n : ℕ} (l : List ℕ) (x : Outcome) {o : Outcome} → CutRefused unstepped t t′ n x o → Undone (lent t e h r ks) (lent t′ e h r ks) n (stepped x (lent t e h r ks) l) (stepped o (lent t′ e h r ks) l)
+undone-stepped e h r ks l (Answered (Done d)) p = given _ _ refl (rw (p .same, p .given refl)) (ap (λ (w : List ℕ). lent w e h r ks) (p .given refl))
+undone-stepped e h r ks l (Answered (Saturated d)) p = given _ _ refl (rw (p .same, p .given refl)) (ap (λ (w : List ℕ). lent w e h r ks) (p .given refl))
+undone-stepped e h r ks l (Answered (Conflict d)) p = given _ _ refl (rw (p .same, p .given refl)) (ap (λ (w : List ℕ). lent w e h r ks) (p .given refl))
+undone-stepped e h r ks l (Answered (Propagate d v u f)) p = given _ _ refl (rw (p .same, p .given refl)) (ap (λ (w : List ℕ). lent w e h r ks) (p .given refl))
+undone-stepped e h r ks l (Answered (Split d k g i)) p = given _ _ refl (rw (p .same, p .given refl)) (ap (λ (w : List ℕ). lent w e h r ks) (p .given refl))
+undone-stepped e h r ks l (Answered (Refused j)) p = cut j refl (rw (p .same)) (p .refused refl) (record { cells = refl; chars = refl; reasons = refl; keys = refl })
+undone-stepped e h r ks l (Unexpanded d) p = given _ _ refl (rw (p .same, p .given refl)) (ap (λ (w : List ℕ). lent w e h r ks) (p .given refl))
 
 module _ (known : List ℕ) (e : ℕ) (g : ℤ) (m : Lent) (c : State) (l : List ℕ) where
   pub call-short : length l < listLimit → PublicStep known e g m m l l c (stop 1)
@@ -300,12 +334,12 @@ module _ (known : List ℕ) (e : ℕ) (g : ℤ) (m : Lent) (c : State) (l : List
         pub call-fit : stepArguments known e f (storeOf m c) ≡ true
         call-fit = sym q ∙ not-false b n
 
-        pub call-steps : {m′ : Lent} {l′ : List ℕ} {o : Out Stepped} → Working (step known e f) m m′ c o → PublicStep known e g m m′ l l′ c o
-        call-steps {m′} {l′} {o} y = let w = subst (λ (h : ℤ). Working (step known e h) m m′ c o) u y in record {
-          is = listed-works (stepArguments known e g) (step known e g) m c l h k v z b i n (λ j q. step-stops known e g (storeOf m c) (call-ready .audited) fit j q .from) w;
-          worth = λ s′ x q. step-sound known e g (storeOf m c) (call-ready .audited) fit s′ x (w .says ∙ q);
-          once = λ s′ x q. step-gives known e g (storeOf m c) (call-ready .audited) fit s′ x (w .says ∙ q) .later .reasons;
-          grows = λ s′ atoms z j q. step-gives known e g (storeOf m c) (call-ready .audited) fit s′ (answered (split atoms z j)) (w .says ∙ q) .grows;
+        pub call-steps : {m₁ m′ : Lent} {l′ : List ℕ} {o₁ o : Out Stepped} → Working (step known e f) m m₁ c o₁ → Undone m₁ m′ (c .terms) o₁ o → PublicStep known e g m m′ l l′ c o
+        call-steps {m₁} {m′} {l′} {o₁} {o} y n₁ = let w = subst (λ (h : ℤ). Working (step known e h) m m₁ c o₁) u y in record {
+          is = listed-works (stepArguments known e g) (step known e g) m c l h k v z b i n (λ j q. refused-wider (omega arith) (step-stops known e g (storeOf m c) (call-ready .audited) fit j q)) w n₁;
+          worth = λ s′ x q. step-sound known e g (storeOf m c) (call-ready .audited) fit s′ x (w .says ∙ sym (undone-is n₁) ∙ q);
+          once = λ s′ x q. step-gives known e g (storeOf m c) (call-ready .audited) fit s′ x (w .says ∙ sym (undone-is n₁) ∙ q) .later .reasons;
+          grows = λ s′ atoms z j q. step-gives known e g (storeOf m c) (call-ready .audited) fit s′ (answered (split atoms z j)) (w .says ∙ sym (undone-is n₁) ∙ q) .grows;
         }
 
 -- THE ARGUMENTS

@@ -1,6 +1,7 @@
+use Rattle.records.proofs.Public.{cut-asked, passed-ready}
 use mir.ValLaws.{toZ-ofZ}
 use mir.Syntax.{w32}
-use Rattle.equation.proofs.Refines.StepCalls.{call-short, call-unready, call-unfit, call-ready, call-fit, call-steps}
+use Rattle.equation.proofs.Refines.StepCalls.{call-short, call-unready, call-unfit, call-ready, call-fit, call-steps, undone-stepped}
 use borrow.Author.Needs.{needs}
 use Rattle.equation.proofs.step.Statement.{statement}
 use Rattle.equation.proofs.step.Tie as tie
@@ -67,6 +68,12 @@ step-spec =
         at-if1 .if1 .left,
       ),
     ))
+    -- cut-unstepped-requires
+    (λ c κs.
+    let at-step-unchecked = c .before .before .before .before .before .before .before .before .before .before .before .before .before in
+    let at-if2 = at-step-unchecked .before .before .before .before .before .before .before .before .before .before in
+    let at-audit = at-if2 .before in
+    cut-asked (passed-ready _ _ _ (at-audit .audit .ensures) (at-if2 .if2 .left)) (at-step-unchecked .step-unchecked .kept .0))
     -- same-length-11
     (λ c. search needs)
     -- same-length-12
@@ -81,7 +88,7 @@ step-spec =
     (λ c. search needs)
     -- returns-4
     (λ c.
-    let at-step-unchecked = c .before .before .before .before .before .before .before .before .before .before .before .before in
+    let at-step-unchecked = c .before .before .before .before .before .before .before .before .before .before .before .before .before .before .before .before in
     let at-if3 = at-step-unchecked .before .before .before .before .before .before .before in
     let at-can-step = at-if3 .before in
     let at-if2 = at-can-step .before .before in
@@ -90,4 +97,4 @@ step-spec =
     let at-start = at-if1 .before .before .before .before .before .before .before .before in
     call-steps (at-start .args .known .now) (at-start .args .e) (at-start .args .guard) _ _ (at-start .args .list .now) (at-if1 .if1 .left) _ (at-audit .audit .ensures)
     (at-if2 .if2 .left) _ (toZ-ofZ w32 (at-start .args .guard) (at-start .fits .guard)) _ (at-can-step .can-step .ensures) (at-if3 .if3 .left)
-    (at-step-unchecked .step-unchecked .ensures)))
+    (at-step-unchecked .step-unchecked .ensures) (undone-stepped _ _ _ _ _ _ (c .before .before .cut-unstepped .ensures))))

@@ -18,8 +18,9 @@ use Rattle.records.specs.Working.Doing.{Working}
 use Rattle.records.specs.Working.Audited.{Ready}
 use Rattle.records.proofs.Lists.{table-length, both-left, both-right, both-true, and-stop, and-next, failed, passed, every-at, all-take, all-drop}
 use Rattle.records.proofs.ListLaws.{list-short, list-strings, list-every}
-use Rattle.records.proofs.Public.{call-unready, call-unfit, call-works, passed-ready}
+use Rattle.records.proofs.Public.{call-unready, call-unfit, call-still, passed-ready}
 use Rattle.records.proofs.Works.{stop-not}
+use Rattle.records.proofs.IndexStores.{keeps-same}
 use Rattle.records.proofs.Doing.{working-same, working-stopped, working-at, working-is}
 use Rattle.normalize.specs.Normalize.{flatten}
 use Rattle.sides.specs.declared.Rest.{Rest}
@@ -34,7 +35,7 @@ use Rattle.forced.specs.declared.Forced.the-variants as forced
 use Rattle.forced.specs.Forced.{spans, short, Fit, fitOf, oneClass, isForced, sideFit, sidesFit, residualFit, forcedLength}
 use Rattle.forced.specs.Calls.{fitted, PublicForced}
 use Rattle.forced.proofs.Unfit.{some-variable}
-use Rattle.forced.proofs.ForcedLength.{forced-stops, forces, forced-few}
+use Rattle.forced.proofs.ForcedLength.{forces, forced-few}
 
 -- ONE CLASS
 
@@ -150,7 +151,7 @@ module _ (m : Lent) (c : State) where
 
       pub sides-none : x ≡ false → Working (sidesFit l r) m m c (stop 11)
       unfolding sidesFit
-      sides-none q = working-stopped (rw (sym (form-read l r) ∙ sym i ∙ h, sym (form-read r l) ∙ sym j ∙ q)) refl
+      sides-none q = working-stopped (rw (sym (form-read l r) ∙ sym i ∙ h, sym (form-read r l) ∙ sym j ∙ q)) keeps-same
 
   -- STRIPPED
 
@@ -184,12 +185,12 @@ module _ (m : Lent) (c : State) where
 
     pub left-passes : flatten l whole ≡ stop 6 → Working (forcedLength l r) m m c (stop 6)
     unfolding forcedLength
-    left-passes e = working-stopped (ap (andThen onward) e) refl
+    left-passes e = working-stopped (ap (andThen onward) e) keeps-same
 
     module _ (l₁ : List ℕ) (e : flatten l whole ≡ ok whole l₁) where
       pub right-passes : flatten r whole ≡ stop 6 → Working (forcedLength l r) m m c (stop 6)
       unfolding forcedLength
-      right-passes f = working-stopped (ap (andThen onward) e ∙ ap (andThen (λ r₁. residualFit l₁ r₁)) f) refl
+      right-passes f = working-stopped (ap (andThen onward) e ∙ ap (andThen (λ r₁. residualFit l₁ r₁)) f) keeps-same
 
       pub flat-done : (r₁ : List ℕ) → flatten r whole ≡ ok whole r₁ → {o : Out Fit} → Working (residualFit l₁ r₁) m m c o → Working (forcedLength l r) m m c o
       unfolding forcedLength
@@ -217,7 +218,7 @@ module _ (l r : List ℕ) (m : Lent) (c : State) (j : ℕ) (v : j ≡ audit m c)
 
       pub forced-called : {o : Out Fit} → Working (forcedLength l r) m m c o → PublicForced l r m m c o
       forced-called w = record {
-        is = call-works (equalArguments l r) (forcedLength l r) m c j v z b i (not-false b f) (forced-stops l r (storeOf m c)) w;
+        is = call-still (equalArguments l r) (forcedLength l r) m c j v z b i (not-false b f) w;
         still = refl;
         worth = λ s′ x e. forces l r (storeOf m c) (forced-ready .audited) (list-strings (storeOf m c) l (forced-lists .left)) (list-strings (storeOf m c) r (forced-lists .right)) s′ x (w .says ∙ e);
         few = λ s′ x e. forced-few (storeOf m c) chars-few l r s′ x (w .says ∙ e);

@@ -23,6 +23,7 @@ use Rattle.records.proofs.Lists.{decide, left-false, all-every, every-all, ever
 use Rattle.records.proofs.Works.{via}
 use Rattle.records.proofs.Grown.{string-term, Strings, strings-later}
 use Rattle.records.proofs.Climbs.{view-count}
+use Rattle.records.proofs.IndexStores.{keeps-same}
 use Rattle.records.proofs.Doing.{working-at, ready-for, working-left}
 use Rattle.records.proofs.Sequence.{working-stop}
 use Rattle.normalize.specs.declared.Form.{Form}
@@ -166,7 +167,7 @@ module _ {m : Lent} {c : State} (ready : Ready m c) (known : List ℕ) (t a : �
 
   pub one-plain : not b ≡ true → k < length next → Expands known t (a ∷ []) next k table m m c (set next k a) table (deep.List (k + 1) c)
   one-plain h l = record {
-    kept = refl;
+    kept = keeps-same;
     ready = ready-for ready;
     is = λ met q. record {
       met = met;
@@ -185,7 +186,7 @@ module _ {m : Lent} {c : State} (ready : Ready m c) (known : List ℕ) (t a : �
 
     pub one-again : getD table a 0 ≡ 1 → Expands known t (a ∷ []) next k table m m c next table (deep.None c)
     one-again d = record {
-      kept = refl;
+      kept = keeps-same;
       ready = ready-for ready;
       is = λ met q. record {
         met = [];
@@ -338,7 +339,7 @@ module _ (list : List ℕ) (count′ : ℕ) {known : List ℕ} {t : ℕ} {next�
 
       pub walking-turn : Walking known t (firstWords list count′) next₀ table₀ m₀ c m′ d′ next′ n table′ (i + 1)
       walking-turn = record {
-        carried = carried-then (g .carried) m′ d′ (w .kept) (rewritten .later);
+        carried = carried-then (g .carried) m′ d′ (w .kept) (rewritten .later) (w .ready d′ (some (firstWords next′ n)) (ap (λ (u : DeepForm). deepened u m′ next′) e));
         out = rewritten .strings;
         low = (let l = expand-short known t at (record { list = firstWords next k; met = g .rest (o .told .met) (o .told .is) .now }) sw (storeOf m′ d′) (record { list = firstWords next′ n; met = one (o .told .met) (o .told .is) .met }) (deepLimit + i) first-says (let y = words-length next k in let z = g .low in omega arith) (omega arith) in
             let y = words-length next′ n in omega arith);
@@ -386,7 +387,7 @@ module _ {m m′ : Lent} {c : State} (ready : Ready m c) (known nodes : List ℕ
       (all-every (isString (storeOf m c)) _ (o .strings)) (subst (Strings (storeOf m c)) (sym (words-none next)) none-left) .given (storeOf m′ d) (some (record { list = firstWords next′ k; met = witness .met })) says
 
   pub round-carried : Carried m c m′ d
-  round-carried = carried-then (carried-none ready) m′ d (w .kept) (list-ends .later)
+  round-carried = carried-then (carried-none ready) m′ d (w .kept) (list-ends .later) (expanded-ready w e)
 
   pub round-strings : all (isString (storeOf m′ d)) (firstWords next′ k) ≡ true
   round-strings = every-all (list-ends .strings)

@@ -16,6 +16,7 @@ use Rattle.records.specs.Working.Doing.{Working}
 use Rattle.records.proofs.Lists.{both-right, both-true, all-append, all-every, every-all, every-map, within-low, within-high}
 use Rattle.records.proofs.Grown.{string-term}
 use Rattle.records.proofs.Climbs.{root-term, view-count, term-within, ready-roots}
+use Rattle.records.proofs.IndexStores.{keeps-same}
 use Rattle.records.proofs.Doing.{working-stopped, working-is, working-left}
 use Rattle.records.proofs.Sequence.{working-stop}
 use Rattle.normalize.specs.declared.Form.{Form}
@@ -97,7 +98,7 @@ module _ {m : Lent} {c : State} (ready : Ready m c) where
     form-passes h known =
         let e = ap length atoms-are in
         let p = a .passes h in
-        working-stopped (ap (andThen (λ flat. pushForms (known ++ flat) flat [] >>= (λ out. give (reverse out)))) (flatten-full (t ∷ []) s (omega arith))) refl
+        working-stopped (ap (andThen (λ flat. pushForms (known ++ flat) flat [] >>= (λ out. give (reverse out)))) (flatten-full (t ∷ []) s (omega arith))) keeps-same
 
     module _ (h : n ≤ listLimit) where
       flat-is : concatMap (atoms s) (t ∷ []) ≡ take n l′

@@ -60,7 +60,7 @@ module _ (left : ℕ → List ℕ → Work (List ℕ)) where
           let v′ = words-length out k in
           let b = g .low in
           record {
-            carried = carried-then (g .carried) m′ d′ (w .kept) (f .list .later);
+            carried = carried-then (g .carried) m′ d′ (w .kept) (f .list .later) (w .ready d′ (reverse (firstWords out′ j)) (ap (λ (v : Form). pushed v m′ out′) e));
             strings = f .list .strings;
             rest = rest-is (form.List j d′) e;
             low = omega arith;

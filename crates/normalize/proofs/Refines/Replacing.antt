@@ -59,7 +59,7 @@ module _ {m m′ : Lent} {c : State} (ready : Ready m c) (a r : ℕ) (x : Added)
       let b = both-left (isString s a && isString s r) _ args in
       let st : Stands s a r = record { string = both-right (isString s a) _ b; class = both-right (isString s a && isString s r) _ args } in
       let h = replace-ends a r s (ready .audited) (both-left (isString s a) _ b) st .given (storeOf m′ d) tt (cited (Counts d) e .says) in
-      carried-then (carried-none ready) m′ d (w .kept) (h .later)
+      carried-then (carried-none ready) m′ d (w .kept) (h .later) (cited (Counts d) e .ready d tt refl)
 
   pub cited-ready : (d : State) → x ≡ Counts d → Ready m′ d
   cited-ready d e = cited (Counts d) e .ready d tt refl

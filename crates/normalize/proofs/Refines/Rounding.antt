@@ -33,6 +33,7 @@ use Rattle.normalize.specs.Working.Pushes.{pushed, Candidates}
 use Rattle.normalize.specs.Calls.{firstWords, formed, deepened}
 use Rattle.normalize.specs.Working.Deeps.{opensIn, Met, MetTable, expanded, Expands, settled, turned, settling, Settles, roundThen, TurnedTo, Turns}
 use Rattle.records.proofs.Works.{stop-not}
+use Rattle.records.proofs.IndexStores.{keeps-same}
 use Rattle.records.proofs.Doing.{working-is, working-at, ready-for, working-left}
 use Rattle.records.proofs.Sequence.{working-stop}
 use Rattle.records.proofs.Grown.{strings-later}
@@ -132,7 +133,7 @@ module _ {m : Lent} {c : State} (known : List ℕ) (t : ℕ) (list : List ℕ) (
   pub round-stands : Ready m c → not b ≡ true → Turns known t (firstWords list n) table m m c list table (turn.Ends (deep.List n c))
   unfolding roundThen
   round-stands ready h = record {
-    kept = refl;
+    kept = keeps-same;
     ready = ready-for ready;
     is = λ met q. record { met = met; is = λ more. rw (sym e ∙ not-true b h); tells = λ k f z. q };
   }
@@ -224,7 +225,7 @@ module _ {known : List ℕ} {t : ℕ} {l : List ℕ} {m₀ m : Lent} {c d : Stat
     rounding-turn k f e =
         let a = answers k f e in
         record {
-          carried = carried-then (g .carried) m′ f (w .kept) (a .0 .later);
+          carried = carried-then (g .carried) m′ f (w .kept) (a .0 .later) (w .ready f (some (firstWords list′ k)) (ap (λ (y : Turn). turned y m′ list′) e));
           strings = every-all (a .0 .strings);
           short = (let z = words-length list′ k in let y = a .1 in omega arith);
           rest = record { met = now-turned .met; tells = now-turned .tells k f e; is = turn-rest (turn.Again k f) e };
@@ -262,7 +263,7 @@ module _ {m m′ : Lent} {c : State} (ready : Ready m c) (known nodes : List ℕ
     given = form-ends known t (storeOf m c) (ready .audited) (all-every (isString (storeOf m c)) known (cs .strings)) i .given (storeOf m′ d) (firstWords list n) (made .says)
 
     deep-carried : Carried m c m′ d
-    deep-carried = carried-then (carried-none ready) m′ d (w .kept) (given .later)
+    deep-carried = carried-then (carried-none ready) m′ d (w .kept) (given .later) deep-ready
 
     pub deep-strings : all (isString (storeOf m′ d)) (firstWords list n) ≡ true
     deep-strings = every-all (given .strings)

@@ -1,4 +1,5 @@
-use Rattle.normalize.proofs.Refines.FormCalls.{deep-short, deep-unready, deep-unfit, form-ready, form-fit, deep-called}
+use Rattle.records.proofs.Public.{cut-asked, passed-ready}
+use Rattle.normalize.proofs.Refines.FormCalls.{deep-short, deep-unready, deep-unfit, form-ready, form-fit, deep-called, undone-deep}
 use borrow.Author.Needs.{needs}
 use Rattle.normalize.proofs.deep_normal_form_cited.Statement.{statement}
 use Rattle.normalize.proofs.deep_normal_form_cited.Tie as tie
@@ -55,6 +56,12 @@ deep-normal-form-cited-spec =
         at-if1 .if1 .left,
       ),
     ))
+    -- cut-undeepened-requires
+    (λ c κs.
+    let at-deep-normal-form-cited-unchecked = c .before .before .before .before .before .before .before .before .before in
+    let at-if2 = at-deep-normal-form-cited-unchecked .before .before .before .before .before .before .before .before in
+    let at-audit = at-if2 .before in
+    cut-asked (passed-ready _ _ _ (at-audit .audit .ensures) (at-if2 .if2 .left)) (at-deep-normal-form-cited-unchecked .deep-normal-form-cited-unchecked .kept .0))
     -- same-length-7
     (λ c. search needs)
     -- same-length-8
@@ -65,7 +72,7 @@ deep-normal-form-cited-spec =
     (λ c. search needs)
     -- returns-4
     (λ c.
-    let at-deep-normal-form-cited-unchecked = c .before .before .before .before .before .before .before .before in
+    let at-deep-normal-form-cited-unchecked = c .before .before .before .before .before .before .before .before .before .before .before .before in
     let at-if3 = at-deep-normal-form-cited-unchecked .before .before .before .before .before in
     let at-can-form = at-if3 .before in
     let at-if2 = at-can-form .before .before in
@@ -73,4 +80,4 @@ deep-normal-form-cited-spec =
     let at-if1 = at-audit .before .before .before .before in
     let at-start = at-if1 .before .before .before .before .before .before .before .before in
     deep-called _ _ _ _ (at-start .args .list .now) (at-if1 .if1 .left) _ (at-audit .audit .ensures) (at-if2 .if2 .left) _ (at-can-form .can-form .ensures) (at-if3 .if3 .left)
-    (at-deep-normal-form-cited-unchecked .deep-normal-form-cited-unchecked .ensures)))
+    (at-deep-normal-form-cited-unchecked .deep-normal-form-cited-unchecked .ensures) (undone-deep _ _ _ _ _ _ (c .before .before .cut-undeepened .ensures))))

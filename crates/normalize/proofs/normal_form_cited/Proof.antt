@@ -1,4 +1,5 @@
-use Rattle.normalize.proofs.Refines.FormCalls.{form-short, form-unready, form-unfit, form-ready, form-fit, form-called}
+use Rattle.records.proofs.Public.{cut-asked, passed-ready}
+use Rattle.normalize.proofs.Refines.FormCalls.{form-short, form-unready, form-unfit, form-ready, form-fit, form-called, undone-form}
 use borrow.Author.Needs.{needs}
 use Rattle.normalize.proofs.normal_form_cited.Statement.{statement}
 use Rattle.normalize.proofs.normal_form_cited.Tie as tie
@@ -55,6 +56,12 @@ normal-form-cited-spec =
         at-if1 .if1 .left,
       ),
     ))
+    -- cut-unformed-requires
+    (λ c κs.
+    let at-normal-form-cited-unchecked = c .before .before .before .before .before .before .before .before .before in
+    let at-if2 = at-normal-form-cited-unchecked .before .before .before .before .before .before .before .before in
+    let at-audit = at-if2 .before in
+    cut-asked (passed-ready _ _ _ (at-audit .audit .ensures) (at-if2 .if2 .left)) (at-normal-form-cited-unchecked .normal-form-cited-unchecked .kept .0))
     -- same-length-7
     (λ c. search needs)
     -- same-length-8
@@ -65,7 +72,7 @@ normal-form-cited-spec =
     (λ c. search needs)
     -- returns-4
     (λ c.
-    let at-normal-form-cited-unchecked = c .before .before .before .before .before .before .before .before in
+    let at-normal-form-cited-unchecked = c .before .before .before .before .before .before .before .before .before .before .before .before in
     let at-if3 = at-normal-form-cited-unchecked .before .before .before .before .before in
     let at-can-form = at-if3 .before in
     let at-if2 = at-can-form .before .before in
@@ -73,4 +80,4 @@ normal-form-cited-spec =
     let at-if1 = at-audit .before .before .before .before in
     let at-start = at-if1 .before .before .before .before .before .before .before .before in
     form-called _ _ _ _ (at-start .args .list .now) (at-if1 .if1 .left) _ (at-audit .audit .ensures) (at-if2 .if2 .left) _ (at-can-form .can-form .ensures) (at-if3 .if3 .left)
-    (at-normal-form-cited-unchecked .normal-form-cited-unchecked .ensures)))
+    (at-normal-form-cited-unchecked .normal-form-cited-unchecked .ensures) (undone-form _ _ _ _ _ _ (c .before .before .cut-unformed .ensures))))

@@ -10,8 +10,7 @@ use Rattle.records.specs.declared.State.{State}
 use Rattle.records.specs.Lists.{if_then_else_, all, any, isIn}
 use Rattle.records.specs.Store.{Term, Store, Out, ok, stop, Work, _>>=_, give, store, termIn, isString}
 use Rattle.records.specs.View.{Lent, storeOf, termLimit}
-use Rattle.records.specs.Calls.{KeepsStore}
-use Rattle.records.specs.Working.Doing.{ReadyFor}
+use Rattle.records.specs.Working.Doing.{Keeps, ReadyFor}
 use Rattle.normalize.specs.Normalize.{normalForm, pushAll, deepLimit, opens, Round, expand, settle, afterExpand}
 use Rattle.normalize.specs.Calls.{firstWords, deepened}
 use Rattle.normalize.specs.declared.DeepForm.{DeepForm}
@@ -61,7 +60,7 @@ pub record ExpandedTo (o : Out (Option Round)) (m : Lent) (next table : List ℕ
 
 -- the atoms l expanded after the first k words of a slice
 pub record Expands (known : List ℕ) (t : ℕ) (l next : List ℕ) (k : ℕ) (table : List ℕ) (m m′ : Lent) (c : State) (next′ table′ : List ℕ) (x : DeepForm) : Type 0 where
-  pub kept : KeepsStore m m′ c
+  pub kept : Keeps m m′ c
   pub ready : ReadyFor m′ (deepened x m′ next′)
   pub is : (met : List ℕ) → Met table met → ExpandedTo (expand known t l (record { list = firstWords next k; met = met }) (storeOf m c)) m′ next′ table′ x
 
@@ -79,7 +78,7 @@ abbrev pub settling : List ℕ → List ℕ → (List ℕ → Work (Option (List
 settling before list more = pushAll list [] >>= (λ out. settle before more (reverse out))
 
 pub record Settles (before list : List ℕ) (m m′ : Lent) (c : State) (l : List ℕ) (x : Turn) : Type 0 where
-  pub kept : KeepsStore m m′ c
+  pub kept : Keeps m m′ c
   pub ready : ReadyFor m′ (turned x m′ l)
   pub is : (more : List ℕ → Work (Option (List ℕ))) → settling before list more (storeOf m c) ≡ settled x more m′ l
 
@@ -95,6 +94,6 @@ pub record TurnedTo (o : (List ℕ → List ℕ → Work (Option (List ℕ))) �
   pub tells : (n : ℕ) (c : State) → x ≡ turn.Again n c → Met table met
 
 pub record Turns (known : List ℕ) (t : ℕ) (l table : List ℕ) (m m′ : Lent) (c : State) (l′ table′ : List ℕ) (x : Turn) : Type 0 where
-  pub kept : KeepsStore m m′ c
+  pub kept : Keeps m m′ c
   pub ready : ReadyFor m′ (turned x m′ l′)
   pub is : (met : List ℕ) → Met table met → TurnedTo (λ more. roundThen known t met l more (storeOf m c)) m′ l′ table′ x

@@ -19,7 +19,9 @@ use Rattle.records.specs.Working.Puts.{PairPut}
 use Rattle.records.specs.Working.Doing.{Working}
 use Rattle.records.proofs.Lists.{table-length}
 use Rattle.records.proofs.Kept.{key-audited}
-use Rattle.records.proofs.Doing.{works, working-stopped}
+use Rattle.records.proofs.IndexStores.{keeps-same, keeps-terms}
+use Rattle.records.proofs.Passed.{ready-beside}
+use Rattle.records.proofs.Doing.{working-left, working-stopped}
 
 -- KEYS
 
@@ -29,12 +31,14 @@ module _ (t e h r k : List ℕ) (c : State) (ready : Ready (lent t e h r k) c) (
   unfolding addKey
   key-added k′ x y d o u w n f q =
       let g : pairsView k′ (c .keys + 1) ≡ oneMore (pairsView k (c .keys)) (x, y) = rw add-one (w .grown) in
-      works ready (λ s z i. key-audited a b (storeOf (lent t e h r k) c) s (ready .audited) good i)
-      (record { says = rw (table-length (pairAt k) (c .keys), ← p, f, q, n, g, o, u); kept = rw (w .kept, n) })
+      let e₁ : storeOf (lent t e h r k′) c ≡ storeOf (lent t e h r k) c = rw (w .kept, n) in
+      let says : addKey a b (storeOf (lent t e h r k) c) ≡ ok (storeOf (lent t e h r k′) d) tt = rw (table-length (pairAt k) (c .keys), ← p, f, q, n, g, o, u) in
+      working-left (ready-beside ready e₁ refl (key-audited a b (storeOf (lent t e h r k) c) (storeOf (lent t e h r k′) d) (ready .audited) good says) (rw q (record { terms = refl; cells = refl; chars = refl })))
+      says (keeps-terms e₁ refl)
 
   pub key-refused : fits ≡ false → Working (addKey a b) (lent t e h r k) (lent t e h r k) c (stop 8)
   unfolding addKey
-  key-refused f = working-stopped (rw (table-length (pairAt k) (c .keys), ← p, f)) refl
+  key-refused f = working-stopped (rw (table-length (pairAt k) (c .keys), ← p, f)) keeps-same
 
 -- the pair that is looked for, by its two numbers in order
 pub key-known : (l : List ℕ) (n a b x y : ℕ) (r : Bool) → x ≡ min a b → y ≡ max a b → r ≡ any (samePair (x, y)) (pairsView l n) → r ≡ any (samePair (ordered a b)) (pairsView l n)

@@ -16,9 +16,9 @@ use Rattle.records.specs.Make.{makeConcat, makeLength, makeEquation, con
 use Rattle.records.specs.Calls.{call, Public}
 use Rattle.records.specs.Working.Doing.{Working}
 use Rattle.records.proofs.Lists.{left-false, both-true, all-table, below-stop, below-done}
-use Rattle.records.proofs.Refines.MakeCalls.{whole-word}
+use Rattle.records.proofs.Refines.MakeCalls.{whole-word, full-stops}
 use Rattle.records.proofs.Kept.{concat-stops, length-stops, equation-stops}
-use Rattle.records.proofs.Public.{call-unfit, call-works}
+use Rattle.records.proofs.Public.{Undone, call-unfit, call-undone}
 
 -- LISTS OF STRING TERMS
 
@@ -62,21 +62,21 @@ module _ (t e h r ks : List ℕ) (c : State) (k : ℕ) (verdict : k ≡ audit (l
       pub concat-unfit : b ≡ false → Public (call (concatArguments l) (makeConcat l) (lent t e h r ks) c) (lent t e h r ks) (lent t e h r ks) c (stop 5)
       concat-unfit f = call-unfit (concatArguments l) (makeConcat l) (lent t e h r ks) c k verdict ready b fit-is f
 
-      pub concat-called : b ≡ true → (m′ : Lent) (o : Out ℕ) → Working (makeConcat l) (lent t e h r ks) m′ c o
+      pub concat-called : b ≡ true → {m₁ m′ : Lent} {o₁ o : Out ℕ} → Working (makeConcat l) (lent t e h r ks) m₁ c o₁ → Undone m₁ m′ (c .terms) o₁ o
           → Public (call (concatArguments l) (makeConcat l) (lent t e h r ks) c) (lent t e h r ks) m′ c o
-      concat-called f m′ o w =
-          call-works (concatArguments l) (makeConcat l) (lent t e h r ks) c k verdict ready b fit-is f
-          (λ j q. let z = concat-stops l (storeOf (lent t e h r ks) c) j q in omega arith) w
+      concat-called f =
+          call-undone (concatArguments l) (makeConcat l) (lent t e h r ks) c k verdict ready b fit-is f
+          (λ j q. full-stops (concat-stops l (storeOf (lent t e h r ks) c) j q))
 
   module _ (a : ℕ) (b : Bool) (test : b ≡ isString (termed t c) a) where
     pub length-unfit : b ≡ false → Public (call (lengthArguments a) (makeLength a) (lent t e h r ks) c) (lent t e h r ks) (lent t e h r ks) c (stop 5)
     length-unfit f = call-unfit (lengthArguments a) (makeLength a) (lent t e h r ks) c k verdict ready b test f
 
-    pub length-called : b ≡ true → (m′ : Lent) (o : Out ℕ) → Working (makeLength a) (lent t e h r ks) m′ c o
+    pub length-called : b ≡ true → {m₁ m′ : Lent} {o₁ o : Out ℕ} → Working (makeLength a) (lent t e h r ks) m₁ c o₁ → Undone m₁ m′ (c .terms) o₁ o
         → Public (call (lengthArguments a) (makeLength a) (lent t e h r ks) c) (lent t e h r ks) m′ c o
-    length-called f m′ o w =
-        call-works (lengthArguments a) (makeLength a) (lent t e h r ks) c k verdict ready b test f
-        (λ j q. let z = length-stops a (storeOf (lent t e h r ks) c) j q in omega arith) w
+    length-called f =
+        call-undone (lengthArguments a) (makeLength a) (lent t e h r ks) c k verdict ready b test f
+        (λ j q. full-stops (length-stops a (storeOf (lent t e h r ks) c) j q))
 
   module _ (x y : ℕ) (b : Bool) (test : b ≡ isEquatable (termed t c) x y) where
     sides-fit : b ≡ isEquatable (storeOf (lent t e h r ks) c) x y
@@ -86,8 +86,8 @@ module _ (t e h r ks : List ℕ) (c : State) (k : ℕ) (verdict : k ≡ audit (l
     pub equation-unfit : b ≡ false → Public (call (equationArguments x y) (makeEquation x y) (lent t e h r ks) c) (lent t e h r ks) (lent t e h r ks) c (stop 5)
     equation-unfit f = call-unfit (equationArguments x y) (makeEquation x y) (lent t e h r ks) c k verdict ready b sides-fit f
 
-    pub equation-called : b ≡ true → (m′ : Lent) (o : Out ℕ) → Working (makeEquation x y) (lent t e h r ks) m′ c o
+    pub equation-called : b ≡ true → {m₁ m′ : Lent} {o₁ o : Out ℕ} → Working (makeEquation x y) (lent t e h r ks) m₁ c o₁ → Undone m₁ m′ (c .terms) o₁ o
         → Public (call (equationArguments x y) (makeEquation x y) (lent t e h r ks) c) (lent t e h r ks) m′ c o
-    equation-called f m′ o w =
-        call-works (equationArguments x y) (makeEquation x y) (lent t e h r ks) c k verdict ready b sides-fit f
-        (λ j q. let z = equation-stops x y (storeOf (lent t e h r ks) c) j q in omega arith) w
+    equation-called f =
+        call-undone (equationArguments x y) (makeEquation x y) (lent t e h r ks) c k verdict ready b sides-fit f
+        (λ j q. full-stops (equation-stops x y (storeOf (lent t e h r ks) c) j q))

@@ -1,7 +1,7 @@
 -- Making concatenations, lengths and equations.
 use mathlib.Core.Path.{_≡_, refl, sym, ap, subst, _∙_}
 use mathlib.Core.Bool.{Bool, true, false, not, _&&_}
-use mathlib.Core.List.{List, [], _∷_}
+use mathlib.Core.List.{List, [], _∷_, _++_}
 use mathlib.Core.Logic.{_⊎_, inl, inr}
 use Prim.Native.Nat.{ℕ, suc, _+_, _-_, _<_, _≤_, min, max}
 use native.Mathlib.Numerals.{add-one}
@@ -14,18 +14,24 @@ use Rattle.records.specs.Lists.{sameWord, firsts, firstBelow, Every}
 use Rattle.records.specs.declared.State.{State}
 use Rattle.records.specs.declared.Made.the-variants.{Term, Refused}
 use Rattle.records.specs.Store.{Term as Record, Cell, Store, Out, ok, stop, Work, term, kind, count, within, chainIn}
-use Rattle.records.specs.View.{Lent, lent, storeOf, termWords, cellWords, termLimit, cellLimit, termRoom, cellRoom, termAt, cellAt, cellsView, oneTerm, moreCells}
-use Rattle.records.specs.Make.{lookup, lowest, addChain, addTerm, concatOf, makeConcat, lengthOf, equationOf, makeLength, makeEquation, concatArguments, lengthArguments, equationArguments}
-use Rattle.records.specs.Working.Leaves.{numberOf, Passed, appendParts, hasParts, sidesOf, hasSides, makeSides}
+use Rattle.records.specs.View.{Lent, lent, storeOf, termWords, cellWords, termLimit, cellLimit, termRoom, cellRoom, termAt, cellAt, cellsView, charsView, oneTerm, moreCells}
+use Rattle.records.specs.Index.{bucketOf, bucket}
+use Rattle.records.specs.Make.{numberOf, lookup, lowest, addChain, chainFrom, addTerm, concatOf, makeConcat, lengthOf, equationOf, makeLength, makeEquation, concatArguments, lengthArguments, equationArguments}
+use Rattle.records.specs.Working.Indexing.{Searchable}
+use Rattle.records.specs.Working.Leaves.{appendParts, hasParts, sidesOf, hasSides, makeSides}
 use Rattle.records.specs.Working.Puts.{TermPut, ChainPut}
 use Rattle.records.specs.Working.Audited.{Ready, Sized, Recorded, Ascends}
 use Rattle.records.specs.Calls.{made}
 use Rattle.records.specs.Working.Doing.{Working, Building}
 use Rattle.records.proofs.Lists.{left-false, right-false, both-left, both-right, decide, within-low, within-high, table-length, first-same, word-is, every-at, firsts-length, every-firsts}
-use Rattle.records.proofs.Doing.{working-same, works, building-is, concat-fit, length-fit, equation-fit}
+use Rattle.records.proofs.Works.{one-store}
+use Rattle.records.proofs.Append.{grow}
+use Rattle.records.proofs.IndexSays.{bucket-small}
+use Rattle.records.proofs.IndexStores.{bucket-parts, bucket-length, bucket-equation}
+use Rattle.records.proofs.Doing.{working-same, works, building-is, building-stopped, building-found, ready-index, indexed-made, made-parts, made-sides, made-good, concat-fit, length-fit, equation-fit}
 use Rattle.records.proofs.Views.{term-is, cell-is}
 use Rattle.records.proofs.Chains.{chain-none, chain-is}
-use Rattle.records.proofs.Refines.Making.{passed-up-to, lowest-old, lowest-new}
+use Rattle.records.proofs.Refines.Making.{lowest-old, lowest-new}
 use Rattle.records.proofs.Refines.Rooms.{term-limit, term-room, cells-limit, cells-room}
 
 -- ONE TERM MORE
@@ -41,8 +47,13 @@ module _ (t : List ℕ) (n : ℕ) (g : Bool) (term-here : g ≡ ltb n (termRoom 
   pub one-later : (c d : State) (k : ℕ) → d ≡ moreCells c k → c .terms ≡ n → d .terms < termLimit
   one-later c d k e f = let h = one-limit in let q : d .terms ≡ c .terms = ap (λ (x : State). x .terms) e in omega arith
 
+-- the store with a term put is the one grown by it
+term-grown : (t e h r ks : List ℕ) (c : State) (k a b : ℕ) (d : State) (t′ : List ℕ) {x : ℕ} → TermPut t t′ (c .terms) k a b x → length t′ ≡ length t → d ≡ oneTerm c
+    → storeOf (lent t′ e h r ks) d ≡ grow (storeOf (lent t e h r ks) c) (cellsView e (c .cells)) (charsView h (c .chars)) k a b
+term-grown t e h r ks c k a b d t′ p n q = rw (q, add-one (c .terms), p .grown, p .zero, n, table-length (λ i. termAt t (suc i)) (c .terms))
+
 module _ (t e h r ks : List ℕ) (c : State) (k a b : ℕ) (fits : Bool) (room : fits ≡ ltb (c .terms) (termRoom t)) where
-  pub term-added : (t′ : List ℕ) → TermPut t t′ (c .terms) k a b → length t′ ≡ length t → fits ≡ true
+  pub term-added : (t′ : List ℕ) {x : ℕ} → TermPut t t′ (c .terms) k a b x → length t′ ≡ length t → fits ≡ true
       → addTerm k a b (storeOf (lent t e h r ks) c) ≡ ok (storeOf (lent t′ e h r ks) (oneTerm c)) (c .terms + 1)
   unfolding addTerm
   term-added t′ p n f =
@@ -79,49 +90,48 @@ module _ (m : Lent) (c : State) where
       (first-same (λ i. hasSides (m .terms) k a b (suc i)) (λ i. sidesOf k a b (storeOf m c) (suc i)) (c .terms) (λ i h.
       ap (λ (y : Record). eqb (y .kind) k && eqb (y .first) a && eqb (y .second) b) (sym (term-is (m .terms) (c .terms) (suc i) (omega arith) h))))
 
--- a length's or an equation's sides are below it
-sides-lower : (s : Store) → Recorded s → (k t : ℕ) → (k ≡ 4) ⊎ (k ≡ 5) → kind s t ≡ k → (term s t .first < t) × (term s t .second < t)
-sides-lower s good k t (inl e) q = let f = good .lengthLower t (q ∙ e) in let z = good .lengthSecond t (q ∙ e) in (f, omega arith)
-sides-lower s good k t (inr e) q = (good .equationFirst t (q ∙ e), good .equationSecond t (q ∙ e))
-
-pub sides-from : (m : Lent) (c : State) (k a b x r : ℕ) → Ready m c → (k ≡ 4) ⊎ (k ≡ 5) → x ≡ max a b → r ≡ min (c .terms) x → Passed (hasSides (m .terms) k a b) (c .terms) r
+-- a length or an equation that has these words lies in their bucket: a length's second word is 0
+pub sides-searchable : (m : Lent) (c : State) (k a b x : ℕ) → Ready m c → ((k ≡ 4) × (b ≡ 0)) ⊎ (k ≡ 5) → x ≡ bucketOf k (a ∷ b ∷ []) → Searchable (m .terms) (c .terms) x (hasSides (m .terms) k a b)
 unfolding hasSides
-sides-from m c k a b x r good two e f = passed-up-to (hasSides (m .terms) k a b) (c .terms) x r f (λ i h l q.
-    let is = term-is (m .terms) (c .terms) (suc i) (omega arith) h in
-    let y = both-left _ _ q in
-    let low = sides-lower (storeOf m c) (good .audited .recorded) k (suc i) two (ap (λ (z : Record). z .kind) is ∙ eqb-true _ _ (both-left _ _ y)) in
-    let p : term (storeOf m c) (suc i) .first ≡ a = ap (λ (z : Record). z .first) is ∙ eqb-true _ _ (both-right (eqb (termAt (m .terms) (suc i) .kind) k) _ y) in
-    let g : term (storeOf m c) (suc i) .second ≡ b = ap (λ (z : Record). z .second) is ∙ eqb-true _ _ (both-right (eqb (termAt (m .terms) (suc i) .kind) k && eqb (termAt (m .terms) (suc i) .first) a) _ q) in
-    let n₁ = low .0 in
-    let n₂ = low .1 in
-    omega arith)
+sides-searchable m c k a b x ready two e = record { f = bucket (storeOf m c); indexed = ready-index ready; small = rw e (bucket-small k (a ∷ b ∷ [])); lies = λ t w q. lies t w q two ∙ sym e }
+  where
+    lies : (t : ℕ) → within (c .terms) t ≡ true → hasSides (m .terms) k a b t ≡ true → ((k ≡ 4) × (b ≡ 0)) ⊎ (k ≡ 5) → bucket (storeOf m c) t ≡ bucketOf k (a ∷ b ∷ [])
+    lies t w q z =
+        let is = term-is (m .terms) (c .terms) t (within-low (c .terms) t w) (within-high (c .terms) t w) in
+        let y = both-left _ _ q in
+        let i : kind (storeOf m c) t ≡ k = ap (λ (z : Record). z .kind) is ∙ eqb-true _ _ (both-left _ _ y) in
+        let p : term (storeOf m c) t .first ≡ a = ap (λ (z : Record). z .first) is ∙ eqb-true _ _ (both-right (eqb (termAt (m .terms) t .kind) k) _ y) in
+        let g : term (storeOf m c) t .second ≡ b = ap (λ (z : Record). z .second) is ∙ eqb-true _ _ (both-right (eqb (termAt (m .terms) t .kind) k && eqb (termAt (m .terms) t .first) a) _ q) in
+        go i p g z
+      where
+        go : kind (storeOf m c) t ≡ k → term (storeOf m c) t .first ≡ a → term (storeOf m c) t .second ≡ b → ((k ≡ 4) × (b ≡ 0)) ⊎ (k ≡ 5) → bucket (storeOf m c) t ≡ bucketOf k (a ∷ b ∷ [])
+        go i p g (inl o) = rw (o .0, o .1) (bucket-length (storeOf m c) t a (i ∙ o .0) p)
+        go i p g (inr o) = rw o (bucket-equation (storeOf m c) t a b (i ∙ o) p g)
 
-module _ (t e h r ks : List ℕ) (c : State) (k a b : ℕ) (u : ℕ) (look : u ≡ numberOf (firstBelow (λ i. hasSides t k a b (suc i)) (c .terms))) where
+module _ (t e h r ks : List ℕ) (c : State) (ready : Ready (lent t e h r ks) c) (k a b : ℕ) (u : ℕ) (look : u ≡ numberOf (firstBelow (λ i. hasSides t k a b (suc i)) (c .terms))) where
   looked : u ≡ numberOf (lookup (sidesOf k a b) (storeOf (lent t e h r ks) c))
   looked = look ∙ ap numberOf (sides-found (lent t e h r ks) c k a b)
 
   pub sides-old : (u ≡ 0 → ⊥) → Building (makeSides k a b) (lent t e h r ks) (lent t e h r ks) c (made (Term u c) (lent t e h r ks))
   unfolding makeSides
-  sides-old d = record { says = lowest-old (sidesOf k a b) (addTerm k a b) (storeOf (lent t e h r ks) c) u looked d; kept = refl }
+  sides-old d = building-found ready (lowest-old (sidesOf k a b) (addTerm k a b) (storeOf (lent t e h r ks) c) u looked d)
 
   module _ (z : u ≡ 0) (fits : Bool) (room : fits ≡ ltb (c .terms) (termRoom t)) where
     pub sides-full : fits ≡ false → Building (makeSides k a b) (lent t e h r ks) (lent t e h r ks) c (made (Refused 8) (lent t e h r ks))
     unfolding makeSides
     sides-full f =
-        record {
-          says = lowest-new (sidesOf k a b) (addTerm k a b) (storeOf (lent t e h r ks) c) u looked z ∙ term-refused t e h r ks c k a b fits room f;
-          kept = refl;
-        }
+        building-stopped (lowest-new (sidesOf k a b) (addTerm k a b) (storeOf (lent t e h r ks) c) u looked z ∙ term-refused t e h r ks c k a b fits room f)
 
-    pub sides-made : (t′ : List ℕ) (d : State) → fits ≡ true → TermPut t t′ (c .terms) k a b → length t′ ≡ length t → d ≡ oneTerm c
+    pub sides-made : (t′ : List ℕ) (d : State) (x : ℕ) → fits ≡ true → ((k ≡ 4) × (b ≡ 0)) ⊎ (k ≡ 5) → x ≡ bucketOf k (a ∷ b ∷ []) → TermPut t t′ (c .terms) k a b x → length t′ ≡ length t → d ≡ oneTerm c
         → Building (makeSides k a b) (lent t e h r ks) (lent t′ e h r ks) c (made (Term (c .terms + 1) d) (lent t′ e h r ks))
     unfolding makeSides
-    sides-made t′ d f p n q =
+    sides-made t′ d x f two i p n q =
         record {
           says =
               lowest-new (sidesOf k a b) (addTerm k a b) (storeOf (lent t e h r ks) c) u looked z
               ∙ rw q (term-added t e h r ks c k a b fits room t′ p n f);
-          kept = rw (p .kept, n, p .zero);
+          kept = record { store = rw (p .kept, n, p .zero); index = p .linked .kept };
+          indexed = λ g y o same. indexed-made (lent t e h r ks) c t′ x (cellsView e (c .cells)) (charsView h (c .chars)) k a b (storeOf (lent t′ e h r ks) d) (storeOf (lent t′ e h r ks) g) ready (p .linked) (one-store o) (term-grown t e h r ks c k a b d t′ p n q) same (λ s j. made-sides k a b (storeOf (lent t e h r ks) c) s two j ∙ sym i);
         }
 
 -- another test that agrees on every term finds the same
@@ -145,10 +155,10 @@ equation-is s a b = lowest-same (equationOf a b) (sidesOf 5 a b) (addTerm 5 a b)
 
 module _ (m m′ : Lent) (c : State) (o : Out ℕ) (ready : Ready m c) where
   pub length-made : (a : ℕ) → lengthArguments a (storeOf m c) ≡ true → Building (makeSides 4 a 0) m m′ c o → Working (makeLength a) m m′ c o
-  length-made a good b = works ready (λ s t e. length-fit (storeOf m c) s t (ready .audited) a good e .audited) (building-is (length-is (storeOf m c) a (ready .audited .recorded)) b)
+  length-made a good b = works ready (λ s t e. made-good (length-fit (storeOf m c) s t (ready .audited) a good e)) (building-is (length-is (storeOf m c) a (ready .audited .recorded)) b)
 
   pub equation-made : (a b : ℕ) → equationArguments a b (storeOf m c) ≡ true → Building (makeSides 5 a b) m m′ c o → Working (makeEquation a b) m m′ c o
-  equation-made x y good b = works ready (λ s t e. equation-fit (storeOf m c) s t (ready .audited) x y good e .audited) (building-is (equation-is (storeOf m c) x y) b)
+  equation-made x y good b = works ready (λ s t e. made-good (equation-fit (storeOf m c) s t (ready .audited) x y good e)) (building-is (equation-is (storeOf m c) x y) b)
 
 -- CHAINS: `Walked` says that i values are passed, and what is left of the chain decides
 
@@ -200,11 +210,6 @@ module _ (e : List ℕ) (n : ℕ) (w : List ℕ) (c at i : ℕ) (up : Ascends (c
 
 -- CONCATENATIONS
 
--- no part is the last of none
-pub last-none : (w : List ℕ) (n : ℕ) → length w ≡ 0 → 0 ≡ min n (getD w (length w - 1) 0)
-last-none [] n e = omega arith
-last-none (x ∷ w) n e = absurd (omega arith)
-
 module _ (l : List ℕ) (cs : List Cell) (w : List ℕ) (t x : ℕ) (ex : x ≡ termAt l t .kind) where
   pub parts-kind : (x ≡ 3 → ⊥) → false ≡ hasParts l cs w t
   unfolding hasParts
@@ -225,24 +230,21 @@ module _ (m : Lent) (c : State) (w : List ℕ) where
       ap (λ (y : Record). eqb (y .kind) 3 && sameWord (firsts (chainIn (cellsView (m .cells) (c .cells)) (y .first))) w)
       (sym (term-is (m .terms) (c .terms) (suc i) (omega arith) h))))
 
-pub parts-from : (m : Lent) (c : State) (w : List ℕ) (r : ℕ) → Ready m c → r ≡ min (c .terms) (getD w (length w - 1) 0)
-    → Passed (hasParts (m .terms) (cellsView (m .cells) (c .cells)) w) (c .terms) r
+-- a concatenation of these parts lies in their bucket
+pub parts-searchable : (m : Lent) (c : State) (w : List ℕ) → Ready m c → Searchable (m .terms) (c .terms) (bucketOf 3 w) (hasParts (m .terms) (cellsView (m .cells) (c .cells)) w)
 unfolding hasParts
-parts-from m c w r good e = passed-up-to (hasParts (m .terms) (cellsView (m .cells) (c .cells)) w) (c .terms) (getD w (length w - 1) 0) r e (λ i h l q.
-    let is = term-is (m .terms) (c .terms) (suc i) (omega arith) h in
-    let k : kind (storeOf m c) (suc i) ≡ 3 = ap (λ (z : Record). z .kind) is ∙ eqb-true _ _ (both-left _ _ q) in
-    let p : firsts (chainIn (cellsView (m .cells) (c .cells)) (termAt (m .terms) (suc i) .first)) ≡ w = word-is _ w (both-right (eqb (termAt (m .terms) (suc i) .kind) 3) _ q) in
-    let two = rw is at (good .audited .recorded .twoParts (suc i) k) in
-    let low : Every (λ x. x < suc i) w = subst (Every (λ x. x < suc i)) p (every-firsts (λ x a. a .lower) (rw is at (good .audited .recorded .partsGood (suc i) k))) in
-    let n = firsts-length (chainIn (cellsView (m .cells) (c .cells)) (termAt (m .terms) (suc i) .first)) in
-    let j = ap length p in
-    let v = every-at w (length w - 1) 0 low (omega arith) in
-    omega arith)
+parts-searchable m c w ready = record { f = bucket (storeOf m c); indexed = ready-index ready; small = bucket-small 3 w; lies = lies }
+  where
+    lies : (t : ℕ) → within (c .terms) t ≡ true → hasParts (m .terms) (cellsView (m .cells) (c .cells)) w t ≡ true → bucket (storeOf m c) t ≡ bucketOf 3 w
+    lies t v q =
+        let is = term-is (m .terms) (c .terms) t (within-low (c .terms) t v) (within-high (c .terms) t v) in
+        bucket-parts (storeOf m c) t w (ap (λ (z : Record). z .kind) is ∙ eqb-true _ _ (both-left _ _ q))
+        (ap (λ (z : Record). firsts (chainIn (cellsView (m .cells) (c .cells)) (z .first))) is ∙ word-is _ w (both-right (eqb (termAt (m .terms) t .kind) 3) _ q))
 
 module _ (t e h r ks : List ℕ) (c : State) (w : List ℕ) (f : Bool) (cells-here : f ≡ leb (c .cells + length w) (cellRoom e)) where
   pub append-long : not f ≡ true → Building (appendParts w) (lent t e h r ks) (lent t e h r ks) c (made (Refused 8) (lent t e h r ks))
   unfolding addChain
-  append-long q = record { says = rw (table-length (λ i. cellAt e (suc i)) (c .cells), ← cells-here, not-true f q); kept = refl }
+  append-long q = building-stopped (rw (table-length (λ i. cellAt e (suc i)) (c .cells), ← cells-here, not-true f q))
 
   -- what a test of cells that passed says
   pub append-limit : Sized (lent t e h r ks) c → not f ≡ false → c .cells + length w ≤ cellLimit
@@ -254,18 +256,26 @@ module _ (t e h r ks : List ℕ) (c : State) (w : List ℕ) (f : Bool) (cells-he
   module _ (q : not f ≡ false) (g : Bool) (term-here : g ≡ ltb (c .terms) (termRoom t)) where
     pub append-full : not g ≡ true → Building (appendParts w) (lent t e h r ks) (lent t e h r ks) c (made (Refused 8) (lent t e h r ks))
     unfolding addChain addTerm
-    append-full p = record {
-      says =
-          rw (table-length (λ i. cellAt e (suc i)) (c .cells), ← cells-here, not-false f q, table-length (λ i. termAt t (suc i)) (c .terms), ← term-here, not-true g p);
-      kept = refl;
-    }
+    append-full p =
+        building-stopped
+        (rw (table-length (λ i. cellAt e (suc i)) (c .cells), ← cells-here, not-false f q, table-length (λ i. termAt t (suc i)) (c .terms), ← term-here, not-true g p))
 
-    pub append-made : (t′ e′ : List ℕ) (d d′ : State) → not g ≡ false → ChainPut e e′ (c .cells) w → length e′ ≡ length e
-        → TermPut t t′ (c .terms) 3 (c .cells + 1) 0 → length t′ ≡ length t → d ≡ moreCells c (length w) → d′ ≡ oneTerm d
+    pub append-made : Ready (lent t e h r ks) c → (t′ e′ : List ℕ) (d d′ : State) (x : ℕ) → not g ≡ false → x ≡ bucketOf 3 w → ChainPut e e′ (c .cells) w → length e′ ≡ length e
+        → TermPut t t′ (c .terms) 3 (c .cells + 1) 0 x → length t′ ≡ length t → d ≡ moreCells c (length w) → d′ ≡ oneTerm d
         → Building (appendParts w) (lent t e h r ks) (lent t′ e′ h r ks) c (made (Term (c .terms + 1) d′) (lent t′ e′ h r ks))
     unfolding addChain
-    append-made t′ e′ d d′ p a la b lb x y = record { says = chained ∙ termed; kept = rw (a .kept, b .kept, la, lb, a .zero, b .zero) }
+    append-made ready t′ e′ d d′ z p i a la b lb x y = record {
+      says = chained ∙ termed;
+      kept = record { store = rw (a .kept, b .kept, la, lb, a .zero, b .zero); index = b .linked .kept };
+      indexed = λ v o j same. indexed-made (lent t e h r ks) c t′ z (cellsView e (c .cells) ++ chainFrom (suc (length (cellsView e (c .cells)))) w) (charsView h (c .chars)) 3 (suc (length (cellsView e (c .cells)))) 0
+          (storeOf (lent t′ e′ h r ks) d′) (storeOf (lent t′ e′ h r ks) v) ready (b .linked) (one-store j) grown same (λ s u. made-parts w (storeOf (lent t e h r ks) c) s u ∙ sym i);
+    }
       where
+        grown : storeOf (lent t′ e′ h r ks) d′
+            ≡ grow (storeOf (lent t e h r ks) c) (cellsView e (c .cells) ++ chainFrom (suc (length (cellsView e (c .cells)))) w) (charsView h (c .chars)) 3 (suc (length (cellsView e (c .cells)))) 0
+        grown =
+            rw (y, x, add-one (c .terms), b .grown, a .grown, la, lb, a .zero, b .zero, table-length (λ i. termAt t (suc i)) (c .terms), table-length (λ i. cellAt e (suc i)) (c .cells), add-one (c .cells))
+
         chained : appendParts w (storeOf (lent t e h r ks) c) ≡ addTerm 3 (c .cells + 1) 0 (storeOf (lent t e′ h r ks) (moreCells c (length w)))
         chained =
             rw (table-length (λ i. cellAt e (suc i)) (c .cells), ← cells-here, not-false f q, add-one (c .cells), a .grown, la, a .zero)
@@ -291,4 +301,4 @@ module _ (t e h r ks : List ℕ) (c : State) (w : List ℕ) (u : ℕ)
     concat-old d = working-same ready (found d)
 
     pub concat-new : (m′ : Lent) (o : Out ℕ) → concatArguments w (storeOf (lent t e h r ks) c) ≡ true → u ≡ 0 → Building (appendParts w) (lent t e h r ks) m′ c o → Working (makeConcat w) (lent t e h r ks) m′ c o
-    concat-new m′ o good z b = works ready (λ s i q. concat-fit (storeOf (lent t e h r ks) c) s i (ready .audited) w good q .audited) (building-is (absent z) b)
+    concat-new m′ o good z b = works ready (λ s i q. made-good (concat-fit (storeOf (lent t e h r ks) c) s i (ready .audited) w good q)) (building-is (absent z) b)

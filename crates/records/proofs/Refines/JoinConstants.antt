@@ -1,5 +1,5 @@
 -- Making the constant of a list of constants.
-use mathlib.Core.Path.{_≡_, sym, ap, _∙_}
+use mathlib.Core.Path.{_≡_, refl, sym, ap, subst, _∙_}
 use mathlib.Core.Bool.{Bool, true, false, not}
 use mathlib.Core.List.{List}
 use Prim.Native.Nat.{ℕ, suc, _+_, _≤_}
@@ -9,10 +9,12 @@ use lib.Dec.{leb}
 use borrow.Author.Tests.{eqb-true}
 use Rattle.records.specs.declared.State.{State}
 use Rattle.records.specs.Lists.{all, concatMap, sameWord, Every}
-use Rattle.records.specs.Store.{Out, isConstant, kind, termIn, textIn, text}
+use Rattle.records.specs.Store.{Out, within, isConstant, kind, termIn, textIn, text}
 use Rattle.records.specs.View.{lent, Lent, storeOf, charRoom, termAt, textAt, termsView, charsView, span, lengths}
 use Rattle.records.specs.Rules.{isChar}
 use Rattle.records.specs.Make.{makeConstant}
+use Rattle.records.specs.Index.{bucketOf}
+use Rattle.records.specs.Working.Indexing.{Searchable}
 use Rattle.records.specs.Working.Leaves.{hasText, makeText}
 use Rattle.records.specs.Working.Puts.{TextsWithin}
 use Rattle.records.specs.Working.Audited.{Ready}
@@ -23,7 +25,7 @@ use Rattle.records.proofs.Grown.{kind-term}
 use Rattle.records.proofs.Readings.{text-characters}
 use Rattle.records.proofs.Doing.{working-is}
 use Rattle.records.proofs.Refines.JoinedTexts.{lengths-concatMap}
-use Rattle.records.proofs.Refines.Making.{other-length, same-kind, constant-made, long-room}
+use Rattle.records.proofs.Refines.Making.{other-length, same-kind, text-searchable, constant-made, long-room}
 
 -- WHETHER A TERM HAS THE JOINED TEXT
 
@@ -69,6 +71,11 @@ module _ {t e h r ks : List ℕ} {c : State} (ready : Ready (lent t e h r ks) c)
 
     pub texts-there : TextsWithin t (length h) ts
     texts-there = every-map (λ x a. let w = a .within in let s = ready .sized .charRoom in omega arith) each
+
+    -- the constant of the joined texts is looked for in its bucket
+    pub joined-searchable : (b : ℕ) → b ≡ bucketOf 1 (concatMap (textAt t h) ts) → Searchable t (c .terms) b (hasText t h 1 (concatMap (textAt t h) ts))
+    unfolding within
+    joined-searchable b q = subst (λ (x : ℕ). Searchable t (c .terms) x (hasText t h 1 (concatMap (textAt t h) ts))) (sym q) (text-searchable (lent t e h r ks) c 1 (concatMap (textAt t h) ts) ready refl)
 
     pub joined-made : {m : Lent} {o : Out ℕ} → Building (makeText 1 (concatMap (textAt t h) ts)) (lent t e h r ks) m c o
         → Working (λ s. makeConstant (concatMap (text s) ts) s) (lent t e h r ks) m c o

@@ -9,16 +9,20 @@ use lib.Seq.{ext-getD}
 use lib.Dec.{leb}
 use borrow.Author.Tests.{not-true, not-false, le-leb, lt-leb}
 use Rattle.records.specs.declared.State.{State}
+use Rattle.records.specs.declared.Made.{Made}
+use Rattle.records.specs.declared.Made.the-variants.{Term, Refused}
 use Rattle.records.specs.Lists.{all}
 use Rattle.records.specs.Store.{Out, stop}
-use Rattle.records.specs.View.{Lent, storeOf, charsView}
+use Rattle.records.specs.View.{Lent, lent, storeOf, charsView}
 use Rattle.records.specs.Rules.{isChar, audit}
 use Rattle.records.specs.Make.{makeConstant, makeVariable, constantArguments, variableArguments}
-use Rattle.records.specs.Calls.{call, Public}
-use Rattle.records.specs.Working.Doing.{Working}
+use Rattle.records.specs.Calls.{call, made, Public}
+use Rattle.records.specs.Working.Doing.{Working, CutRefused, unmade}
 use Rattle.records.proofs.Lists.{table-at, table-length, left-false, both-true, and-next}
 use Rattle.records.proofs.Kept.{constant-stops, variable-stops}
-use Rattle.records.proofs.Public.{call-unready, call-unfit, call-works}
+use Rattle.records.proofs.Outcomes
+use Rattle.records.proofs.Outcomes.{refused-by}
+use Rattle.records.proofs.Public.{Undone, given, cut, call-unready, call-unfit, call-undone}
 
 -- the whole of a word
 pub whole-word : (w : List ℕ) → charsView w (length w) ≡ w
@@ -36,6 +40,16 @@ module _ (w : List ℕ) (b : Bool) (test : b ≡ all isChar (charsView w (length
   pub right-name : (length w ≡ 0 → ⊥) → not b ≡ false → (leb 1 (length w) && all isChar w) ≡ true
   right-name long d = both-true (leb 1 (length w)) (all isChar w) (le-leb 1 (length w) (omega arith)) (right d)
 
+-- the answer of a make, handed on: after a refusal the index is cut
+pub undone-made : {t t′ : List ℕ} (e h r ks : List ℕ) {n : ℕ} (x : Made) {o : Made} → CutRefused unmade t t′ n x o → Undone (lent t e h r ks) (lent t′ e h r ks) n (made x (lent t e h r ks)) (made o (lent t′ e h r ks))
+undone-made {t} e h r ks (Term u d) p =
+    given (storeOf (lent t e h r ks) d) u refl (rw (p .same, p .given refl)) (ap (λ (l : List ℕ). lent l e h r ks) (p .given refl))
+undone-made e h r ks (Refused k) p = cut k refl (rw (p .same)) (p .refused refl) (record { cells = refl; chars = refl; reasons = refl; keys = refl })
+
+-- a make is refused under 8
+pub full-stops : {j : ℕ} → j ≡ 8 → Outcomes.Refused 9 j
+full-stops e = refused-by 8 (omega arith) (omega arith) e
+
 module _ (w : List ℕ) (m : Lent) (c : State) (k : ℕ) (verdict : k ≡ audit m c) where
   pub constant-unready : (k ≡ 0 → ⊥) → Public (call (constantArguments w) (makeConstant w) m c) m m c (stop k)
   constant-unready = call-unready (constantArguments w) (makeConstant w) m c k verdict
@@ -52,11 +66,11 @@ module _ (w : List ℕ) (m : Lent) (c : State) (k : ℕ) (verdict : k ≡ audit 
       pub constant-unfit : not b ≡ true → Public (call (constantArguments w) (makeConstant w) m c) m m c (stop 5)
       constant-unfit d = call-unfit (constantArguments w) (makeConstant w) m c k verdict zero-is _ refl (wrong w b test d)
 
-      pub constant-called : not b ≡ false → {m′ : Lent} {r : Out ℕ} → Working (makeConstant w) m m′ c r
+      pub constant-called : not b ≡ false → {m₁ m′ : Lent} {r₁ r : Out ℕ} → Working (makeConstant w) m m₁ c r₁ → Undone m₁ m′ (c .terms) r₁ r
           → Public (call (constantArguments w) (makeConstant w) m c) m m′ c r
-      constant-called d v =
-          call-works (constantArguments w) (makeConstant w) m c k verdict zero-is _ refl (right w b test d)
-          (λ j e. let q = constant-stops w (storeOf m c) j e in omega arith) v
+      constant-called d =
+          call-undone (constantArguments w) (makeConstant w) m c k verdict zero-is _ refl (right w b test d)
+          (λ j e. full-stops (constant-stops w (storeOf m c) j e))
 
       module _ (long : length w ≡ 0 → ⊥) where
         filled : leb 1 (length w) ≡ true
@@ -67,9 +81,9 @@ module _ (w : List ℕ) (m : Lent) (c : State) (k : ℕ) (verdict : k ≡ audit 
             call-unfit (variableArguments w) (makeVariable w) m c k verdict zero-is _ refl
             (sym (and-next (leb 1 (length w)) (all isChar w) false filled (sym (wrong w b test d))))
 
-        pub variable-called : not b ≡ false → {m′ : Lent} {r : Out ℕ} → Working (makeVariable w) m m′ c r
+        pub variable-called : not b ≡ false → {m₁ m′ : Lent} {r₁ r : Out ℕ} → Working (makeVariable w) m m₁ c r₁ → Undone m₁ m′ (c .terms) r₁ r
             → Public (call (variableArguments w) (makeVariable w) m c) m m′ c r
-        variable-called d v =
-            call-works (variableArguments w) (makeVariable w) m c k verdict zero-is _ refl
+        variable-called d =
+            call-undone (variableArguments w) (makeVariable w) m c k verdict zero-is _ refl
             (right-name w b test long d)
-            (λ j e. let q = variable-stops w (storeOf m c) j e in omega arith) v
+            (λ j e. full-stops (variable-stops w (storeOf m c) j e))

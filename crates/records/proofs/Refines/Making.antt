@@ -14,18 +14,25 @@ use Rattle.records.specs.Lists.{sameWord, firstBelow}
 use Rattle.records.specs.declared.State.{State}
 use Rattle.records.specs.Store.{Term as Record, Store, Out, ok, stop, Work, count, within, term, kind, termIn, textIn}
 use Rattle.records.specs.declared.Made.the-variants.{Term, Refused}
-use Rattle.records.specs.View.{lent, termWords, termLimit, charLimit, charRoom, termRoom, oneTerm, moreChars, Lent, storeOf, termAt, termsView, charsView, span}
+use Rattle.records.specs.View.{buckets, lent, termWords, termLimit, charLimit, charRoom, termRoom, oneTerm, moreChars, Lent, storeOf, termAt, termsView, charsView, span}
 use Rattle.records.specs.Working.Audited.{Ready, Sized}
 use Rattle.records.specs.Calls.{made}
 use Rattle.records.specs.Working.Doing.{Working, Building}
 use Rattle.records.specs.Working.Puts.{CharsPut, TermPut}
-use Rattle.records.specs.Make.{lookup, orMake, lowest, addText, addTerm, withChars, withTerms, own, makeConstant, makeVariable, constantOf, constantArguments, variableArguments}
-use Rattle.records.specs.Working.Leaves.{numberOf, Passed, textOf, hasText, appendText, makeText}
+use Rattle.records.specs.Index.{bucketOf, bucket}
+use Rattle.records.specs.Make.{numberOf, lookup, orMake, lowest, addText, addTerm, withChars, withTerms, own, makeConstant, makeVariable, constantOf, constantArguments, variableArguments}
+use Rattle.records.specs.Working.Indexing.{Walkable, Searchable}
+use Rattle.records.specs.Working.Leaves.{textOf, hasText, appendText, makeText}
 use Rattle.records.specs.Rules.{named}
 use Rattle.records.proofs.Views.{term-is, text-span}
 use Rattle.records.proofs.Refines.Rooms.{chars-fit, chars-limit, chars-room, chars-over, term-limit, term-room}
-use Rattle.records.proofs.Doing.{works, building-is, constant-fit, variable-fit}
-use Rattle.records.proofs.Lists.{same-test, decide, within-low, within-high, first-same, left-false, right-false, word-differs, table-length, first-zero, first-pass, first-hit, first-stays, first-absent}
+use Rattle.records.proofs.Works.{one-store}
+use Rattle.records.proofs.Append.{grow}
+use Rattle.records.proofs.IndexSays.{bucket-small}
+use Rattle.records.proofs.IndexLaws.{index-walkable}
+use Rattle.records.proofs.IndexStores.{bucket-text}
+use Rattle.records.proofs.Doing.{works, building-is, building-stopped, building-found, indexed-made, made-text, ready-index, made-good, constant-fit, variable-fit}
+use Rattle.records.proofs.Lists.{same-test, decide, within-low, within-high, first-same, both-left, both-right, left-false, right-false, word-is, word-differs, table-length}
 
 -- WHETHER A TERM HAS A TEXT
 
@@ -47,33 +54,6 @@ module _ (l h : List ℕ) (k : ℕ) (w : List ℕ) (t x : ℕ) (ex : x ≡ termA
         let a : eqb (termAt l t .kind) k ≡ true = eq-eqb _ _ (sym ex ∙ e) in
         let v : length w ≡ termAt l t .second = sym q ∙ ey in
         rw (a, ← v, ← ez) r
-
--- THE LOWEST-NUMBERED of n terms that passes: t terms are passed by
-
-module _ (p : ℕ → Bool) where
-  pub passed-none : (n : ℕ) → Passed p n 0
-  passed-none n = record { upto = omega arith; none-yet = first-zero (λ i. p (suc i)) }
-
-  -- a search starts past terms none of which passes
-  pub passed-up-to : (n x r : ℕ) → r ≡ min n x → ((i : ℕ) → i < n → i < x → p (suc i) ≡ true → ⊥) → Passed p n r
-  passed-up-to n x r e f = record {
-    upto = omega arith;
-    none-yet = first-absent (λ i. p (suc i)) r (λ i h. decide (p (suc i)) (λ q. absurd (f i (omega arith) (omega arith) q)) (λ q. q));
-  }
-
-  module _ (n t : ℕ) (a : Passed p n t) where
-    pub passed-one : (b : Bool) → t < n → b ≡ p (t + 1) → b ≡ false → Passed p n (t + 1)
-    passed-one b q e f =
-        let g = rw add-one at e in
-        record { upto = omega arith; none-yet = rw add-one (first-pass (λ i. p (suc i)) t (a .none-yet) (sym g ∙ f)) }
-
-    pub passed-all : n ≤ t → 0 ≡ numberOf (firstBelow (λ i. p (suc i)) n)
-    passed-all q = let e : t ≡ n = le-antisymm (a .upto) q in sym (ap numberOf (rw e at (a .none-yet)))
-
-    pub hit : (b : Bool) → t < n → b ≡ p (t + 1) → b ≡ true → t + 1 ≡ numberOf (firstBelow (λ i. p (suc i)) n)
-    hit b q e f =
-        let g = rw add-one at e in
-        add-one t ∙ sym (ap numberOf (first-stays (λ i. p (suc i)) (suc t) n t (first-hit (λ i. p (suc i)) t (a .none-yet) (sym g ∙ f)) (omega arith)))
 
 -- THE LOWEST-NUMBERED in the store
 
@@ -111,6 +91,25 @@ module _ (m : Lent) (c : State) (k : ℕ) (w : List ℕ) where
   found-text texts =
       rw (table-length (λ i. termAt (m .terms) (suc i)) (c .terms))
       (first-same (λ i. hasText (m .terms) (m .chars) k w (suc i)) (λ i. textOf k w (storeOf m c) (suc i)) (c .terms) (has-text texts))
+
+  -- each term that has the text lies in its bucket
+  pub text-searchable : Ready m c → within 2 k ≡ true → Searchable (m .terms) (c .terms) (bucketOf k w) (hasText (m .terms) (m .chars) k w)
+  unfolding textOf
+  text-searchable ready h = record { f = bucket (storeOf m c); indexed = ready-index ready; small = bucket-small k w; lies = lies }
+    where
+      lies : (t : ℕ) → within (c .terms) t ≡ true → hasText (m .terms) (m .chars) k w t ≡ true → bucket (storeOf m c) t ≡ bucketOf k w
+      lies zero u e = let z = within-low (c .terms) 0 u in absurd (omega arith)
+      lies (suc i) u e =
+          let g : textOf k w (storeOf m c) (suc i) ≡ true = sym (has-text (texts-within m c k ready h) i (within-high (c .terms) (suc i) u)) ∙ e in
+          bucket-text (storeOf m c) (suc i) k w h (eqb-true _ _ (both-left _ _ g)) (word-is _ w (both-right (eqb (kind (storeOf m c) (suc i)) k) _ g))
+
+pub name-kind : within 2 2 ≡ true
+unfolding within
+name-kind = refl
+
+-- a variable of a name
+pub name-searchable : (m : Lent) (c : State) (w : List ℕ) → Ready m c → Searchable (m .terms) (c .terms) (bucketOf 2 w) (hasText (m .terms) (m .chars) 2 w)
+name-searchable m c w ready = text-searchable m c 2 w ready name-kind
 
 -- THE LOWEST EQUAL RECORD, OR A NEW ONE
 
@@ -159,27 +158,42 @@ module _ (l : List ℕ) (n k : ℕ) (limit : n ≤ charLimit) where
   text-test h =
       same-test _ _ (λ e. chars-fit l n k (omega arith) (leb-true (n + k) (length l) e)) (λ e. le-leb (n + k) (length l) (chars-room l n k e))
 
+-- what a term requires of the chain that it goes to: b is the bucket of kind k with the numbers w
+pub walk-to : {m : Lent} {c : State} (k : ℕ) (w : List ℕ) → Ready m c → (b : ℕ) → b ≡ bucketOf k w → (b < buckets) × Walkable (m .terms) (c .terms) b
+walk-to {m} {c} k w ready b e = let small : b < buckets = rw e (bucket-small k w) in (small, index-walkable (bucket (storeOf m c)) (c .terms) (m .terms) (ready-index ready) b small)
+
 -- A NEW TEXT in the words: the tests of room, for n characters
 
 module _ {t e h r ks : List ℕ} {c : State} (k : ℕ) (w : List ℕ) (n : ℕ) (long : n ≡ length w) (f : Bool) (fits : f ≡ leb (c .chars + n) (charRoom h)) where
   pub text-long : not f ≡ true → Building (appendText k w) (lent t e h r ks) (lent t e h r ks) c (made (Refused 8) (lent t e h r ks))
-  text-long q = record { says = append-long k w _ (rw (table-length, ← long) (sym fits ∙ not-true f q)); kept = refl }
+  text-long q = building-stopped (append-long k w _ (rw (table-length, ← long) (sym fits ∙ not-true f q)))
 
   module _ (q : not f ≡ false) (g : Bool) (one : g ≡ ltb (c .terms) (termRoom t)) where
     pub text-full : not g ≡ true → Building (appendText k w) (lent t e h r ks) (lent t e h r ks) c (made (Refused 8) (lent t e h r ks))
-    text-full u =
-        record { says = append-full k w _ (rw (table-length, ← long) (sym fits ∙ not-false f q)) (rw table-length (sym one ∙ not-true g u)); kept = refl }
+    text-full u = building-stopped (append-full k w _ (rw (table-length, ← long) (sym fits ∙ not-false f q)) (rw table-length (sym one ∙ not-true g u)))
 
-    pub text-made : not g ≡ false → {t′ h′ : List ℕ} {d d′ : State} → CharsPut h h′ (c .chars) w → length h′ ≡ length h
-        → TermPut t t′ (c .terms) k (c .chars) n → length t′ ≡ length t → d ≡ moreChars c n → d′ ≡ oneTerm d
-        → Building (appendText k w) (lent t e h r ks) (lent t′ e h′ r ks) c (made (Term (c .terms + 1) d′) (lent t′ e h′ r ks))
-    text-made u p lp v lv x y =
-        record {
-          says =
-              append-new k w _ (rw (table-length, ← long) (sym fits ∙ not-false f q)) (rw table-length (sym one ∙ not-false g u))
-              ∙ rw (y, x, add-one, v .grown, long, p .grown, v .zero, lp, lv, table-length, table-length);
-          kept = let a = v .kept in let b = p .kept in let z = v .zero in cc;
-        }
+    module _ (ready : Ready (lent t e h r ks) c) (text : within 2 k ≡ true) (b : ℕ) (bucketed : b ≡ bucketOf k w) where
+      pub text-made : not g ≡ false → {t′ h′ : List ℕ} {d d′ : State} → CharsPut h h′ (c .chars) w → length h′ ≡ length h
+          → TermPut t t′ (c .terms) k (c .chars) n b → length t′ ≡ length t → d ≡ moreChars c n → d′ ≡ oneTerm d
+          → Building (appendText k w) (lent t e h r ks) (lent t′ e h′ r ks) c (made (Term (c .terms + 1) d′) (lent t′ e h′ r ks))
+      text-made u {t′} {h′} {d} {d′} p lp v lv x y =
+          record {
+            says = new ∙ stored;
+            kept = record { store = (let a = v .kept in let b = p .kept in let z = v .zero in cc); index = v .linked .kept };
+            indexed = λ f a q same. indexed-made (lent t e h r ks) c t′ b (s₀ .cells) (s₀ .chars ++ w) k (length (s₀ .chars)) (length w) (storeOf (lent t′ e h′ r ks) d′) (storeOf (lent t′ e h′ r ks) f) ready (v .linked) (one-store q) (sym stored-is) same (λ s i. made-text k w s₀ s text i ∙ sym bucketed);
+          }
+        where
+          s₀ : Store
+          s₀ = storeOf (lent t e h r ks) c
+
+          new : appendText k w s₀ ≡ ok (grow s₀ (s₀ .cells) (s₀ .chars ++ w) k (length (s₀ .chars)) (length w)) (suc (count s₀))
+          new = append-new k w s₀ (rw (table-length, ← long) (sym fits ∙ not-false f q)) (rw table-length (sym one ∙ not-false g u))
+
+          stored : ok (grow s₀ (s₀ .cells) (s₀ .chars ++ w) k (length (s₀ .chars)) (length w)) (suc (count s₀)) ≡ ok (storeOf (lent t′ e h′ r ks) d′) (c .terms + 1)
+          stored = rw (y, x, add-one, v .grown, long, p .grown, v .zero, lp, lv, table-length, table-length)
+
+          stored-is : grow s₀ (s₀ .cells) (s₀ .chars ++ w) k (length (s₀ .chars)) (length w) ≡ storeOf (lent t′ e h′ r ks) d′
+          stored-is = one-store stored
 
 -- THE TEXT SOUGHT in the words: t₀ is what the search found
 
@@ -190,7 +204,7 @@ module _ {t e h r ks : List ℕ} {c : State} (ready : Ready (lent t e h r ks) c)
 
   pub text-found : (t₀ ≡ 0 → ⊥) → Building (makeText k w) (lent t e h r ks) (lent t e h r ks) c (made (Term t₀ c) (lent t e h r ks))
   unfolding makeText
-  text-found d = record { says = lowest-old (textOf k w) (appendText k w) (storeOf (lent t e h r ks) c) t₀ looked d; kept = refl }
+  text-found d = building-found ready (lowest-old (textOf k w) (appendText k w) (storeOf (lent t e h r ks) c) t₀ looked d)
 
   pub text-new : {m′ : Lent} {o : Out ℕ} → t₀ ≡ 0 → Building (appendText k w) (lent t e h r ks) m′ c o → Building (makeText k w) (lent t e h r ks) m′ c o
   unfolding makeText
@@ -229,11 +243,11 @@ name-is-new w s e = rw e
 
 module _ (w : List ℕ) {m m′ : Lent} {c : State} {o : Out ℕ} (ready : Ready m c) where
   pub constant-made : constantArguments w (storeOf m c) ≡ true → Building (makeText 1 w) m m′ c o → Working (makeConstant w) m m′ c o
-  constant-made good b = works ready (λ s t e. constant-fit (storeOf m c) s t (ready .audited) w good e .audited) (building-is (constant-is w (storeOf m c)) b)
+  constant-made good b = works ready (λ s t e. made-good (constant-fit (storeOf m c) s t (ready .audited) w good e)) (building-is (constant-is w (storeOf m c)) b)
 
   module _ (good : variableArguments w (storeOf m c) ≡ true) where
     variable-works : Building (makeVariable w) m m′ c o → Working (makeVariable w) m m′ c o
-    variable-works b = works ready (λ s t e. variable-fit (storeOf m c) s t (ready .audited) w good e .audited) b
+    variable-works b = works ready (λ s t e. made-good (variable-fit (storeOf m c) s t (ready .audited) w good e)) b
 
     pub variable-made : Building (makeText 2 w) m m′ c o → Working (makeVariable w) m m′ c o
     variable-made b = variable-works (building-is (variable-is w (storeOf m c)) b)

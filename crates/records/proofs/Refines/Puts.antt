@@ -9,12 +9,14 @@ use native.Mathlib.Omega.{arith}
 use lib.ListN.{length, getD, set, take, drop, drop-of-length-le, length-set, List·getD-append}
 use lib.Dec.{ltb}
 use lib.Seq.{sets, sets-eq, getD-append-add, length-take-le, drop-cons, length-sets, getD-set-same, getD-set-other, ext-getD}
-use Rattle.records.specs.View.{reasonRoom, termWidth, cellWidth, termPlace, cellPlace, termAt, cellAt, pairAt, termsView, cellsView, pairsView, zeroCell, termWords, cellWords}
+use Rattle.records.specs.View.{buckets, reasonRoom, termWidth, cellWidth, termPlace, cellPlace, termAt, cellAt, pairAt, termsView, cellsView, pairsView, zeroTerm, zeroCell, termWords, cellWords}
 use Rattle.records.specs.Store.{Term, noTerm, within}
 use Rattle.records.specs.Make.{own, chainFrom, withClass, withEdge}
-use Rattle.records.specs.Working.Puts.{TermPut, TermSet, CellPut, ChainPut, PairPut, Pushed}
-use Rattle.records.proofs.Lists.{table-suc, table-length, table-at, within-low, within-high, clash}
-use Rattle.records.proofs.Views.{term-same, terms-agree, zero-term-agrees, pairs-agree, cells-agree, zero-cell-agrees}
+use Rattle.records.specs.Working.Indexing.{Reached, at-head, after-last, Tied}
+use Rattle.records.specs.Working.Puts.{WordsPut, TermPut, IndexLeft, TermSet, CellPut, ChainPut, PairPut, Pushed}
+use Rattle.records.proofs.Lists.{table-suc, table-same, table-length, table-at, within-low, within-high, clash}
+use Rattle.records.proofs.Views.{term-same, terms-agree, zero-term-same, zero-term-agrees, pairs-agree, cells-agree, zero-cell-agrees}
+use Rattle.records.proofs.IndexLaws.{tied-linked}
 
 -- A RUN OF STORES
 
@@ -35,12 +37,13 @@ module _ (l : List ℕ) (i : ℕ) (vs : List ℕ) (fits : i + length vs ≤ leng
 
 -- ONE TERM
 
+-- its own words
 module _ (l : List ℕ) (n k a b : ℕ) (room : termWords (n + 1) ≤ length l) where
-  term-put-sets : TermPut l (sets l (termWords n) (k ∷ a ∷ b ∷ (n + 1) ∷ (n + 1) ∷ 0 ∷ 0 ∷ 0 ∷ [])) n k a b
-  term-put-sets = record { grown = table-suc _ n ∙ (let p = kept-is in let q = last-is in cc); kept = kept-is; zero = zero-term-agrees l l′ n (sets-below l (termWords n) vs fits) }
+  words-put-sets : WordsPut l (sets l (termWords n) (k ∷ a ∷ b ∷ (n + 1) ∷ (n + 1) ∷ 0 ∷ 0 ∷ 0 ∷ 0 ∷ [])) n k a b
+  words-put-sets = record { grown = table-suc _ n ∙ (let p = kept-is in let q = here-is in cc); last = at 8 0 (omega arith) refl; below = λ i h. sets-below l (termWords n) vs fits i (omega arith) }
     where
       vs : List ℕ
-      vs = k ∷ a ∷ b ∷ (n + 1) ∷ (n + 1) ∷ 0 ∷ 0 ∷ 0 ∷ []
+      vs = k ∷ a ∷ b ∷ (n + 1) ∷ (n + 1) ∷ 0 ∷ 0 ∷ 0 ∷ 0 ∷ []
 
       l′ : List ℕ
       l′ = sets l (termWords n) vs
@@ -54,8 +57,8 @@ module _ (l : List ℕ) (n k a b : ℕ) (room : termWords (n + 1) ≤ length l) 
       at : (j v : ℕ) → j < termWidth → getD vs j 0 ≡ v → getD l′ (termPlace (suc n) j) 0 ≡ v
       at j v h e = ap (λ (i : ℕ). getD l′ (termPlace i j) 0) (sym (add-one n)) ∙ sets-at l (termWords n) vs fits j h ∙ e
 
-      last-is : termAt l′ (suc n) ≡ own (suc n) k a b
-      last-is =
+      here-is : termAt l′ (suc n) ≡ own (suc n) k a b
+      here-is =
           let a0 = at 0 k (omega arith) refl in
           let a1 = at 1 a (omega arith) refl in
           let a2 = at 2 b (omega arith) refl in
@@ -65,8 +68,10 @@ module _ (l : List ℕ) (n k a b : ℕ) (room : termWords (n + 1) ≤ length l) 
           let a6 = at 6 0 (omega arith) refl in
           let a7 = at 7 0 (omega arith) refl in cc
 
-  pub term-put : TermPut l (set (set (set (set (set (set (set (set l (termWords n) k) (termWords n + 1) a) (termWords n + 2) b) (termWords n + 3) (n + 1)) (termWords n + 4) (n + 1)) (termWords n + 5) 0) (termWords n + 6) 0) (termWords n + 7) 0) n k a b
-  term-put =
+  pub words-put : WordsPut l
+      (set (set (set (set (set (set (set (set (set l (termWords n) k) (termWords n + 1) a) (termWords n + 2) b) (termWords n + 3) (n + 1)) (termWords n + 4) (n + 1))
+      (termWords n + 5) 0) (termWords n + 6) 0) (termWords n + 7) 0) (termWords n + 8) 0) n k a b
+  words-put =
       let e1 : termWords n + 1 ≡ suc (termWords n) = omega arith in
       let e2 : termWords n + 2 ≡ suc (suc (termWords n)) = omega arith in
       let e3 : termWords n + 3 ≡ suc (suc (suc (termWords n))) = omega arith in
@@ -74,7 +79,43 @@ module _ (l : List ℕ) (n k a b : ℕ) (room : termWords (n + 1) ≤ length l) 
       let e5 : termWords n + 5 ≡ suc (suc (suc (suc (suc (termWords n))))) = omega arith in
       let e6 : termWords n + 6 ≡ suc (suc (suc (suc (suc (suc (termWords n)))))) = omega arith in
       let e7 : termWords n + 7 ≡ suc (suc (suc (suc (suc (suc (suc (termWords n))))))) = omega arith in
-      rw (e1, e2, e3, e4, e5, e6, e7) term-put-sets
+      let e8 : termWords n + 8 ≡ suc (suc (suc (suc (suc (suc (suc (suc (termWords n)))))))) = omega arith in
+      rw (e1, e2, e3, e4, e5, e6, e7, e8) words-put-sets
+
+-- the word of the index that names it is a head or the ninth word of a counted term
+module _ (l : List ℕ) (n b : ℕ) (small : b < buckets) where
+  in-no-record : {p : ℕ} → Reached l n b p → (t k : ℕ) → k < 8 → termPlace t k ≡ p → ⊥
+  in-no-record (at-head e) t k h q = omega arith
+  in-no-record (after-last u w e f) t k h q = omega arith
+
+  not-zero-ninth : {p : ℕ} → Reached l n b p → termPlace 0 8 ≡ p → ⊥
+  not-zero-ninth (at-head e) q = omega arith
+  not-zero-ninth (after-last u w e f) q = let low = within-low n u w in omega arith
+
+  module _ (l′ : List ℕ) (h : Tied l l′ n b) where
+    tied-away : (i : ℕ) → (i ≡ h .place → ⊥) → getD l′ i 0 ≡ getD l i 0
+    tied-away i z = ap (λ (x : List ℕ). getD x i 0) (h .is) ∙ getD-set-other l (h .place) i (suc n) 0 z
+
+    pub tied-term : (t : ℕ) → termAt l′ t ≡ termAt l t
+    tied-term t = term-same l l′ t (λ k c. tied-away (termPlace t k) (in-no-record (h .reached) t k c))
+
+    pub tied-terms : (m : ℕ) → termsView l′ m ≡ termsView l m
+    tied-terms m = table-same (λ i. termAt l′ (suc i)) (λ i. termAt l (suc i)) m (λ i c. tied-term (suc i))
+
+    pub tied-zero : zeroTerm l′ ≡ zeroTerm l
+    tied-zero = zero-term-same l l′ (tied-term 0) (tied-away (termPlace 0 8) (not-zero-ninth (h .reached)))
+
+    -- the two together
+    pub term-put : (l″ : List ℕ) (k x y : ℕ) → termWords (n + 1) ≤ length l → WordsPut l′ l″ n k x y → TermPut l l″ n k x y b
+    term-put l″ k x y room p = record {
+      grown = p .grown ∙ ap (λ (ts : List Term). ts ++ (own (suc n) k x y ∷ [])) (tied-terms n);
+      kept = terms-agree l′ l″ n below ∙ tied-terms n;
+      zero = zero-term-agrees l′ l″ n below ∙ tied-zero;
+      linked = tied-linked small (omega arith) h p;
+    }
+      where
+        below : (i : ℕ) → i < termWords n → getD l″ i 0 ≡ getD l′ i 0
+        below i c = p .below i (omega arith)
 
 -- A TERM'S RECORD CHANGED
 
@@ -97,16 +138,22 @@ module _ (l l′ : List ℕ) (t : ℕ) (x : Term) (long : length l′ ≡ length
       each i c low high k (no z) =
           away (suc i) z ∙ sym (getD-set-other (termsView l n) (t - 1) i x noTerm (λ e. z (omega arith)) ∙ table-at (λ j. termAt l (suc j)) n i noTerm c)
 
-  term-set : TermSet l l′ t x
-  term-set = record { long = long; here = here; away = away; terms = view-set }
+  term-set : IndexLeft l l′ → TermSet l l′ t x
+  term-set i = record { long = long; here = here; away = away; terms = view-set; index = i }
 
--- words written within record t, from its word k on
-module _ (l : List ℕ) (t k : ℕ) (vs : List ℕ) (fits : k + length vs ≤ termWidth) where
+-- words written within record t, from its word k on, and not its ninth
+module _ (l : List ℕ) (t k : ℕ) (vs : List ℕ) (fits : k + length vs ≤ 8) where
   record-away : (u : ℕ) → (u ≡ t → ⊥) → termAt (sets l (termPlace t k) vs) u ≡ termAt l u
   record-away u z = term-same l (sets l (termPlace t k) vs) u (λ j h. sets-away vs l (termPlace t k) (termPlace u j) (λ a b. z (omega arith)))
 
+  index-away : IndexLeft l (sets l (termPlace t k) vs)
+  index-away = record {
+    heads = λ b h. sets-away vs l (termPlace t k) b (λ p q. omega arith);
+    nexts = λ u. sets-away vs l (termPlace t k) (termPlace u 8) (λ p q. omega arith);
+  }
+
   words-set : (x : Term) → termAt (sets l (termPlace t k) vs) t ≡ x → TermSet l (sets l (termPlace t k) vs) t x
-  words-set x e = term-set l (sets l (termPlace t k) vs) t x (length-sets l (termPlace t k) vs) e record-away
+  words-set x e = term-set l (sets l (termPlace t k) vs) t x (length-sets l (termPlace t k) vs) e record-away index-away
 
 module _ (l : List ℕ) (t p : ℕ) (room : termWords t ≤ length l) where
   pub class-set : TermSet l (set l (termPlace t 3) p) t (withClass (termAt l t) p)

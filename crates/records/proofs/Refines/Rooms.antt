@@ -7,12 +7,12 @@ use native.Mathlib.Omega.{arith}
 use lib.ListN.{length}
 use lib.Dec.{ltb, leb}
 use borrow.Author.Tests.{ltb-true, leb-true, lt-ltb, le-ltb, le-leb, lt-leb}
-use Rattle.records.specs.View.{termWidth, termLimit, cellLimit, charLimit, termWords, cellWords, termRoom, cellRoom, charRoom}
+use Rattle.records.specs.View.{buckets, termWidth, termLimit, cellLimit, charLimit, termWords, cellWords, termRoom, cellRoom, charRoom}
 use Rattle.records.proofs.Lists.{same-test}
 
 -- one term more
 module _ (l : List ℕ) (n : ℕ) where
-  pub term-fits : n < termLimit → termWidth * (n + 2) ≤ length l → ltb n (termRoom l) ≡ true
+  pub term-fits : n < termLimit → buckets + termWidth * (n + 2) ≤ length l → ltb n (termRoom l) ≡ true
   term-fits a b = lt-ltb n (termRoom l) (omega arith)
 
   pub term-limit : ltb n (termRoom l) ≡ true → n < termLimit
@@ -25,8 +25,10 @@ module _ (l : List ℕ) (n : ℕ) where
   term-over h = le-ltb n (termRoom l) (omega arith)
 
   -- the code's test, once the limit is known to leave room
-  pub term-test : n < termLimit → leb (termWidth * (n + 2)) (length l) ≡ ltb n (termRoom l)
-  term-test h = same-test _ _ (λ e. term-fits h (leb-true (termWidth * (n + 2)) (length l) e)) (λ e. le-leb (termWidth * (n + 2)) (length l) (let q = term-room e in omega arith))
+  pub term-test : n < termLimit → leb (buckets + termWidth * (n + 2)) (length l) ≡ ltb n (termRoom l)
+  term-test h =
+      same-test _ _ (λ e. term-fits h (leb-true (buckets + termWidth * (n + 2)) (length l) e))
+      (λ e. le-leb (buckets + termWidth * (n + 2)) (length l) (let q = term-room e in omega arith))
 
   -- what a test that passed says
   pub fits-limit : (r : Bool) → r ≡ ltb n (termRoom l) → r ≡ true → n < termLimit

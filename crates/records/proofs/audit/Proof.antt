@@ -1,4 +1,4 @@
-use Rattle.records.proofs.Refines.Auditing.{audit-short, audit-sized, audit-unrecorded, audit-unclassed, audit-congruable, audit-incongruent, audit-passed}
+use Rattle.records.proofs.Refines.Auditing.{audit-short, audit-sized, audit-unrecorded, audit-unclassed, audit-congruable, audit-incongruent, audit-bucketed, audit-unindexed, audit-passed}
 use borrow.Author.Needs.{needs}
 use Rattle.records.proofs.audit.Statement.{statement}
 use Rattle.records.proofs.audit.Tie as tie
@@ -42,12 +42,42 @@ audit-spec =
     let at-sizes = at-if1 .before in
     audit-incongruent _ _ _ (at-sizes .sizes .ensures) (at-if1 .if1 .left) _ (at-records-ok .records-ok .ensures) (at-if2 .if2 .left) _ (at-classes-ok-unchecked .classes-ok-unchecked .ensures)
     (c .before .before .if3 .left) _ (c .before .congruences-ok-unchecked .ensures) (c .if4 .taken))
-    -- returns-5
-    (λ c.
+    -- index-ok-requires
+    (λ c κs.
     let at-classes-ok-unchecked = c .before .before .before in
     let at-if2 = at-classes-ok-unchecked .before in
     let at-records-ok = at-if2 .before in
     let at-if1 = at-records-ok .before in
     let at-sizes = at-if1 .before in
-    audit-passed _ _ _ (at-sizes .sizes .ensures) (at-if1 .if1 .left) _ (at-records-ok .records-ok .ensures) (at-if2 .if2 .left) _ (at-classes-ok-unchecked .classes-ok-unchecked .ensures)
-    (c .before .before .if3 .left) _ (c .before .congruences-ok-unchecked .ensures) (c .if4 .left)))
+    let z = audit-sized _ _ _ (at-sizes .sizes .ensures) (at-if1 .if1 .left) in (
+      z .termLimited,
+      (
+        z .charRoom,
+        audit-bucketed _ _ _ (at-sizes .sizes .ensures) (at-if1 .if1 .left) _ (at-records-ok .records-ok .ensures) (at-if2 .if2 .left) _ (at-classes-ok-unchecked .classes-ok-unchecked .ensures)
+            (c .before .before .if3 .left) _ (c .before .congruences-ok-unchecked .ensures),
+      ),
+    ))
+    -- returns-5
+    (λ c.
+    let at-congruences-ok-unchecked = c .before .before .before in
+    let at-if3 = at-congruences-ok-unchecked .before in
+    let at-classes-ok-unchecked = at-if3 .before in
+    let at-if2 = at-classes-ok-unchecked .before in
+    let at-records-ok = at-if2 .before in
+    let at-if1 = at-records-ok .before in
+    let at-sizes = at-if1 .before in
+    audit-unindexed _ _ _ (at-sizes .sizes .ensures) (at-if1 .if1 .left) _ (at-records-ok .records-ok .ensures) (at-if2 .if2 .left) _
+    (at-classes-ok-unchecked .classes-ok-unchecked .ensures) (at-if3 .if3 .left) _ (at-congruences-ok-unchecked .congruences-ok-unchecked .ensures)
+    (c .before .before .if4 .left) _ (c .before .index-ok .ensures) (c .if5 .taken))
+    -- returns-6
+    (λ c.
+    let at-congruences-ok-unchecked = c .before .before .before in
+    let at-if3 = at-congruences-ok-unchecked .before in
+    let at-classes-ok-unchecked = at-if3 .before in
+    let at-if2 = at-classes-ok-unchecked .before in
+    let at-records-ok = at-if2 .before in
+    let at-if1 = at-records-ok .before in
+    let at-sizes = at-if1 .before in
+    audit-passed _ _ _ (at-sizes .sizes .ensures) (at-if1 .if1 .left) _ (at-records-ok .records-ok .ensures) (at-if2 .if2 .left) _
+    (at-classes-ok-unchecked .classes-ok-unchecked .ensures) (at-if3 .if3 .left) _ (at-congruences-ok-unchecked .congruences-ok-unchecked .ensures)
+    (c .before .before .if4 .left) _ (c .before .index-ok .ensures) (c .if5 .left)))

@@ -9,6 +9,7 @@ use Rattle.records.specs.declared.State.{State}
 use Rattle.records.specs.Lists.{all, firsts, seconds, Every}
 use Rattle.records.specs.Store.{Store, Cell, forestUp, topIn, term, cellIn, count, kind, isTerm, isString, within, text, chain, parts, root, top, sameClass, sameTree, path, isEdge}
 use Rattle.records.specs.View.{Lent, storeOf, chained, termsView, termWords, cellWords, termLimit, cellLimit, charLimit, reasonLimit, keyLimit}
+use Rattle.records.specs.Index.{Indexed}
 use Rattle.records.specs.Rules.{isChar, isNumber, reasonRule, keyRule, isEquatable}
 
 -- a cell of the concatenation t
@@ -151,6 +152,7 @@ pub record Sized (m : Lent) (c : State) : Type 0 where
 pub record Ready (m : Lent) (c : State) : Type 0 where
   pub sized : Sized m c
   pub audited : Audited (storeOf m c)
+  pub indexed : Indexed (m .terms) (storeOf m c)
 
 -- what the audit's answer says: 0 where all the facts hold, else the first place whose facts do not
 pub data Verdict (m : Lent) (c : State) : ℕ → Type 0 where
@@ -159,3 +161,4 @@ pub data Verdict (m : Lent) (c : State) : ℕ → Type 0 where
   unrecorded : Sized m c → (Recorded (storeOf m c) → ⊥) → Verdict m c 2
   unclassed : Sized m c → Recorded (storeOf m c) → (Classed (storeOf m c) → ⊥) → Verdict m c 3
   incongruent : Sized m c → Recorded (storeOf m c) → Classed (storeOf m c) → (Congruences (storeOf m c) → ⊥) → Verdict m c 4
+  unindexed : Sized m c → Audited (storeOf m c) → (Indexed (m .terms) (storeOf m c) → ⊥) → Verdict m c 12

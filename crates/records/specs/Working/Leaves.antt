@@ -64,16 +64,6 @@ pairRule false s = reasonRule
 
 -- MAKING
 
--- the number of the record found; 0, which names none, where there is none
-abbrev pub numberOf : Option ℕ → ℕ
-numberOf none = 0
-numberOf (some i) = suc i
-
--- t of n terms are passed by: none of them is the one looked for
-pub record Passed (p : ℕ → Bool) (n t : ℕ) : Type 0 where
-  pub upto : t ≤ n
-  pub none-yet : firstBelow (λ i. p (suc i)) t ≡ none
-
 -- a constant or a variable by its text, in the store and in the lent words: kind k, characters w
 unfoldable pub textOf : ℕ → List ℕ → Store → ℕ → Bool
 textOf k w s t = eqb (kind s t) k && sameWord (text s t) w

@@ -2,26 +2,40 @@
 use mathlib.Core.Path.{_≡_}
 use mathlib.Core.Bool.{Bool, true}
 use mathlib.Core.List.{List, [], _∷_, _++_}
-use Prim.Native.Nat.{ℕ, suc, _+_, _-_, _≤_}
-use lib.ListN.{length, take, set}
+use Prim.Native.Nat.{ℕ, suc, _+_, _-_, _≤_, _<_}
+use lib.ListN.{length, take, getD, set}
 use lib.Dec.{ltb}
-use Rattle.records.specs.View.{termsView, cellsView, charsView, pairsView, reasonRoom, termAt, zeroTerm, zeroCell}
+use Rattle.records.specs.View.{buckets, termPlace, termsView, cellsView, charsView, pairsView, reasonRoom, termAt, headAt, nextAt, zeroTerm, zeroCell}
 use Rattle.records.specs.Store.{Term, within}
 use Rattle.records.specs.Lists.{Every, oneMore}
 use Rattle.records.specs.Make.{own, chainFrom}
+use Rattle.records.specs.Working.Indexing.{Linked}
 
--- record n + 1 of terms is now one that is its own class
-pub record TermPut (l l′ : List ℕ) (n kind first second : ℕ) : Type 0 where
+-- the words of record n + 1 of terms are those of a term that is its own class and has none after it; no other word changes
+pub record WordsPut (l l′ : List ℕ) (n kind first second : ℕ) : Type 0 where
+  pub grown : termsView l′ (suc n) ≡ termsView l n ++ (own (suc n) kind first second ∷ [])
+  pub last : nextAt l′ (suc n) ≡ 0
+  pub below : (i : ℕ) → i < termPlace (suc n) 0 → getD l′ i 0 ≡ getD l i 0
+
+-- record n + 1 of terms is now one that is its own class, at the end of the chain of bucket b
+pub record TermPut (l l′ : List ℕ) (n kind first second b : ℕ) : Type 0 where
   pub grown : termsView l′ (suc n) ≡ termsView l n ++ (own (suc n) kind first second ∷ [])
   pub kept : termsView l′ n ≡ termsView l n
   pub zero : zeroTerm l′ ≡ zeroTerm l
+  pub linked : Linked l l′ n b
 
--- record t of terms is x, and every other record stays: record 0 and those above a count too
+-- heads and ninth words stay, of any number of terms
+pub record IndexLeft (l l′ : List ℕ) : Type 0 where
+  pub heads : (b : ℕ) → b < buckets → headAt l′ b ≡ headAt l b
+  pub nexts : (u : ℕ) → nextAt l′ u ≡ nextAt l u
+
+-- record t of terms is x, and every other record stays: record 0 and those above a count too; and so do the heads and the ninth words
 pub record TermSet (l l′ : List ℕ) (t : ℕ) (x : Term) : Type 0 where
   pub long : length l′ ≡ length l
   pub here : termAt l′ t ≡ x
   pub away : (u : ℕ) → (u ≡ t → ⊥) → termAt l′ u ≡ termAt l u
   pub terms : (n : ℕ) → within n t ≡ true → termsView l′ n ≡ set (termsView l n) (t - 1) x
+  pub index : IndexLeft l l′
 
 -- the characters from place n on are now w
 pub record CharsPut (l l′ : List ℕ) (n : ℕ) (w : List ℕ) : Type 0 where

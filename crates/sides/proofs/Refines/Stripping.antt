@@ -17,6 +17,7 @@ use Rattle.records.specs.View.{Lent, lent, storeOf, readIn}
 use Rattle.records.specs.Working.Audited.{Ready}
 use Rattle.records.specs.Calls.{added}
 use Rattle.records.specs.Working.Doing.{Working}
+use Rattle.records.proofs.IndexStores.{keeps-terms}
 use Rattle.records.proofs.Lists.{both-true, decide, all-every, every-at, all-take, all-drop, any-append, or-left, clash, drop-head}
 use Rattle.records.proofs.Doing.{working-stopped, working-at, working-is, working-answer}
 use Rattle.records.proofs.Works.{one-store}
@@ -368,7 +369,7 @@ module _ (t e h ks l r : List ℕ) {c : State} {rs rs₁ : List ℕ} (x : Rest) 
       added =
           explain-equal-gives (way false (part l 0 (x .from))) (way false (part r 0 (x .from))) (storeOf (lent t e h rs ks) c) (ready .audited)
           (way-all _ false _ (part-strings _ l 0 (x .from) strings)) (way-all _ false _ (part-strings _ r 0 (x .from) others)) (storeOf (lent t e h rs₁ ks) d) tt (added-at j w .says) .added;
-      kept = w .kept;
+      kept = w .kept .store;
     }
 
     pub both-explained : (rs₂ : List ℕ) (o : Answered)
@@ -376,7 +377,7 @@ module _ (t e h ks l r : List ℕ) {c : State} {rs rs₁ : List ℕ} (x : Rest) 
         → Working (explainMatches (matches (readIn t h c) l r)) (lent t e h rs ks) (lent t e h rs₂ ks) c (added o (lent t e h rs₂ ks))
     both-explained rs₂ o v = record {
       says = both-said (added-at j w .says) ∙ said true (x .lhs) (length l) (x .rhs) (length r) (tails-through l r x f) heads-going ∙ v .says;
-      kept = kept-down t e h ks heads-going rs₂ (v .kept);
+      kept = keeps-terms (kept-down t e h ks heads-going rs₂ (v .kept .store)) refl;
       ready = v .ready;
     }
 

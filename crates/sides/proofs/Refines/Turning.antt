@@ -11,6 +11,7 @@ use Rattle.records.specs.Meaning.{Words}
 use Rattle.records.specs.Working.Audited.{Ready}
 use Rattle.records.specs.Calls.{added}
 use Rattle.records.specs.Working.Doing.{Working}
+use Rattle.records.proofs.IndexStores.{keeps-terms}
 use Rattle.records.proofs.Doing.{working-stopped, working-left}
 use Rattle.records.proofs.Sequence.{added-at, added-ready}
 use Rattle.sides.proofs.Cited.{Cited}
@@ -30,20 +31,20 @@ module _ (t e h ks : List ℕ) (left : ℕ → Work (Unit {0})) where
 
   module _ {c d : State} {rs rs₁ : List ℕ} {i : ℕ} (g : Turning c rs d rs₁ i) where
     pub turning-end : left i (storeOf (at rs₁) d) ≡ ok (storeOf (at rs₁) d) tt → Working (left 0) (at rs) (at rs₁) c (added (adding.Counts d) (at rs₁))
-    turning-end z = working-left (g .going .ready) (sym (g .rest) ∙ z) (g .going .kept)
+    turning-end z = working-left (g .going .ready) (sym (g .rest) ∙ z) (keeps-terms (g .going .kept) refl)
 
     -- the work of turn i
     module _ (one : Work (Unit {0})) (next : left i (storeOf (at rs₁) d) ≡ andThen (λ u. left (i + 1)) (one (storeOf (at rs₁) d)))
         (rs₂ : List ℕ) (y : Answered) (w : Working one (at rs₁) (at rs₂) d (added y (at rs₂))) where
       pub turning-refused : (n : ℕ) → y ≡ adding.Refused n → Working (left 0) (at rs) (at rs₂) c (added (adding.Refused n) (at rs₂))
       turning-refused n j =
-          working-stopped (sym (g .rest) ∙ next ∙ ap (andThen (λ u. left (i + 1))) (added-at j w .says)) (kept-down t e h ks (g .going) rs₂ (w .kept))
+          working-stopped (sym (g .rest) ∙ next ∙ ap (andThen (λ u. left (i + 1))) (added-at j w .says)) (keeps-terms (kept-down t e h ks (g .going) rs₂ (w .kept .store)) refl)
 
       pub turning-on : {P : Words → Type 0} (d₂ : State) → y ≡ adding.Counts d₂
           → (one (storeOf (at rs₁) d) ≡ ok (storeOf (at rs₂) d₂) tt → Cited P (storeOf (at rs₁) d) (storeOf (at rs₂) d₂)) → Turning c rs d₂ rs₂ (i + 1)
       turning-on d₂ j x =
           let v = added-at j w in
           record {
-            going = going-then t e h ks (g .going) rs₂ (added-ready j w) (x (v .says) .added) (v .kept);
+            going = going-then t e h ks (g .going) rs₂ (added-ready j w) (x (v .says) .added) (v .kept .store);
             rest = sym (next ∙ ap (andThen (λ u. left (i + 1))) (v .says)) ∙ g .rest;
           }

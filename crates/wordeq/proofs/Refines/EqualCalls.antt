@@ -1,7 +1,8 @@
 -- Each way through `nf_equal` and `nf_equal_explain`.
-use mathlib.Core.Path.{_≡_, refl, sym, ap, _∙_}
+use mathlib.Core.Path.{_≡_, refl, sym, ap, subst, _∙_}
 use mathlib.Core.Bool.{Bool, true, false, not, _&&_}
 use mathlib.Core.List.{List, [], _∷_}
+use mathlib.Core.Logic.{inl}
 use Prim.Native.Nat.{ℕ}
 use native.Mathlib.Omega.{arith}
 use lib.ListN.{length}
@@ -13,12 +14,13 @@ use Rattle.records.specs.Store.{Store, Out, ok, stop, isString}
 use Rattle.records.specs.View.{Lent, storeOf, readIn}
 use Rattle.records.specs.Rules.{audit, isList}
 use Rattle.records.specs.Working.Audited.{Ready}
-use Rattle.records.specs.Calls.{Public, call}
+use Rattle.records.specs.Calls.{Public, writesNothing, call}
 use Rattle.records.specs.Working.Doing.{Working}
 use Rattle.records.proofs.Lists.{both-left, both-right, left-false, and-next}
 use Rattle.records.proofs.Passed.{ready-of}
 use Rattle.records.proofs.Doing.{working-same}
-use Rattle.records.proofs.Public.{call-unready, call-unfit, call-works, audit-low}
+use Rattle.records.proofs.Outcomes.{refused-by}
+use Rattle.records.proofs.Public.{call-unready, call-unfit, call-still, call-works, audit-idle}
 use Rattle.records.proofs.Works.{stop-not}
 use Rattle.records.proofs.ListLaws.{list-strings}
 use Rattle.sides.specs.Wordeq.{same, nfEqual, nfExplain, nfArguments}
@@ -77,7 +79,7 @@ module _ (m : Lent) (c : State) (l r : List ℕ) (k : ℕ) (v : k ≡ audit m c)
       pub equal-gives : (x : Bool) → x ≡ nfEqual (readIn (m .terms) (m .chars) c) l r → Public (call (equalArguments l r) (equalLists l r) m c) m m c (ok (storeOf m c) x)
       unfolding equalLists
       equal-gives x q =
-          call-works (equalArguments l r) (equalLists l r) m c k v z b e (not-false b h) (λ j n. let y : _≡_ {A = ℕ} 0 1 = cc in absurd (omega arith))
+          call-still (equalArguments l r) (equalLists l r) m c k v z b e (not-false b h)
           (working-same (ready-of m c (sym v ∙ z)) (ap (ok (storeOf m c)) (sym (q ∙ equal-read m c l r))))
 
 -- NF_EQUAL_EXPLAIN
@@ -88,7 +90,7 @@ module _ (m : Lent) (c : State) (l r : List ℕ) (k : ℕ) (v : k ≡ audit m c)
     is = call-unready (nfArguments l r) (nfExplain l r) m c k v d;
     worth = λ s′ e. stop-not e;
     once = λ s′ e. stop-not e;
-    full = λ j e h. let y : k ≡ j = cc in let q = audit-low m c in absurd (omega arith);
+    full = λ j e h. let y : k ≡ j = cc in absurd (h (subst writesNothing y (audit-idle m c k v)));
   }
 
   module _ (z : k ≡ 0) (b : Bool) (e : b ≡ nfArguments l r (storeOf m c)) where
@@ -97,7 +99,7 @@ module _ (m : Lent) (c : State) (l r : List ℕ) (k : ℕ) (v : k ≡ audit m c)
       is = call-unfit (nfArguments l r) (nfExplain l r) m c k v z b e (not-true b h);
       worth = λ s′ i. stop-not i;
       once = λ s′ i. stop-not i;
-      full = λ j i q. let y : 5 ≡ j = cc in absurd (omega arith);
+      full = λ j i q. let y : 5 ≡ j = cc in absurd (q (inl (omega arith)));
     }
 
     module _ (h : not b ≡ false) where
@@ -119,9 +121,9 @@ module _ (m : Lent) (c : State) (l r : List ℕ) (k : ℕ) (v : k ≡ audit m c)
       pub explain-lengths : length l ≡ length r
       explain-lengths = eqb-true (length l) (length r) (both-right (equalArguments l r (storeOf m c)) _ fit)
 
-      pub explain-called : (m′ : Lent) (o : Out (Unit {0})) → Working (nfExplain l r) m m′ c o → PublicEqualExplain l r m m′ c o
-      explain-called m′ o w = record {
-        is = call-works (nfArguments l r) (nfExplain l r) m c k v z b e (not-false b h) (λ j n. let q = seven j n in omega arith) w;
+      pub explain-called : (m′ : Lent) (o : Out (Unit {0})) → m′ .terms ≡ m .terms → Working (nfExplain l r) m m′ c o → PublicEqualExplain l r m m′ c o
+      explain-called m′ o same w = record {
+        is = call-works (nfArguments l r) (nfExplain l r) m c k v z b e (not-false b h) (λ j n. refused-by 7 (omega arith) (omega arith) (seven j n)) same w;
         worth = λ s′ i. explain-equal-sound l r (storeOf m c) (explain-ready .audited) explain-left explain-right s′ tt (w .says ∙ i);
         once = λ s′ i. added-once (explain-equal-gives l r (storeOf m c) (explain-ready .audited) explain-left explain-right s′ tt (w .says ∙ i) .added);
         full = λ j i q. seven j (w .says ∙ i);

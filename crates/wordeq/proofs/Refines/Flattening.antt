@@ -16,6 +16,7 @@ use Rattle.records.specs.View.{Lent, storeOf}
 use Rattle.records.specs.Rules.{listLimit}
 use Rattle.records.specs.Working.Doing.{Working}
 use Rattle.records.proofs.Lists.{any-append, drop-head}
+use Rattle.records.proofs.IndexStores.{keeps-same}
 use Rattle.records.proofs.Doing.{working-stopped, working-at, working-is, working-answer}
 use Rattle.records.proofs.Works.{one-store}
 use Rattle.normalize.specs.Normalize.{atoms, flatten}
@@ -100,12 +101,12 @@ module _ (m : Lent) (c : State) (l r : List ℕ) (g : ℤ) where
 
   pub left-passes : flatten l (storeOf m c) ≡ stop 6 → Working (flatSteps l r g) m m c (stop 6)
   unfolding flatSteps
-  left-passes e = working-stopped (ap (andThen onward) e) refl
+  left-passes e = working-stopped (ap (andThen onward) e) keeps-same
 
   module _ (l₁ : List ℕ) (e : flatten l (storeOf m c) ≡ ok (storeOf m c) l₁) where
     pub right-passes : flatten r (storeOf m c) ≡ stop 6 → Working (flatSteps l r g) m m c (stop 6)
     unfolding flatSteps
-    right-passes f = working-stopped (ap (andThen onward) e ∙ ap (andThen (λ r₁. steps g l₁ r₁ >>= (λ y. give (softened y)))) f) refl
+    right-passes f = working-stopped (ap (andThen onward) e ∙ ap (andThen (λ r₁. steps g l₁ r₁ >>= (λ y. give (softened y)))) f) keeps-same
 
     pub flat-done : SFits w32 g → (r₁ : List ℕ) → flatten r (storeOf m c) ≡ ok (storeOf m c) r₁ → {m′ : Lent} (k : List ℕ) (o : StepResult) → Working (steps (toZ w32 (ofZ w32 g)) l₁ r₁) m m′ c (resolved o m′ k)
         → (x : StepResult) → x ≡ soft o → Working (flatSteps l r g) m m′ c (resolved x m′ k)

@@ -23,6 +23,7 @@ use Rattle.records.proofs.Lists.{both-true}
 use Rattle.records.proofs.Works.{branch}
 use Rattle.records.proofs.Grown.{grown-string, grown-kind}
 use Rattle.records.proofs.Kept.{made-string, name-characters, name-filled, NameTaken, name-taken, fresh-kept}
+use Rattle.records.proofs.IndexStores.{keeps-same}
 use Rattle.records.proofs.Doing.{working-same, working-stopped, constant-fit, concat-fit, length-fit, working-left}
 use Rattle.sides.specs.Wordeq.{Tried, freshVariable}
 use Rattle.wordeq.specs.Working.Splits.{prefixAtom, emptyAtom, characterAtom, lengthsAtom, characterAtoms, prefixAtoms, headAtoms}
@@ -41,11 +42,11 @@ module _ {m : Lent} {c : State} (r : Named) (x : Taken m c r) where
   answered b = if b then ok (storeOf m (r .state)) (take (r .len) (r .name)) else stop (r .code)
 
   taken-zero : r .code ≡ 0 → Working takeName m m c (ok (storeOf m (r .state)) (take (r .len) (r .name)))
-  taken-zero e = working-left (x .ready) (x .says ∙ ap answered (eq-eqb (r .code) 0 e)) refl
+  taken-zero e = working-left (x .ready) (x .says ∙ ap answered (eq-eqb (r .code) 0 e)) keeps-same
 
   pub named-stop : (r .code ≡ 0 → ⊥) → Working freshVariable m m c (stop (r .code))
   unfolding freshVariable
-  named-stop d = working-stop {w = takeName} makeVariable (working-stopped (x .says ∙ ap answered (ne-eqb (r .code) 0 d)) refl)
+  named-stop d = working-stop {w = takeName} makeVariable (working-stopped (x .says ∙ ap answered (ne-eqb (r .code) 0 d)) keeps-same)
 
   name-of : r .code ≡ 0 → NameTaken (storeOf m c) (storeOf m (r .state)) (take (r .len) (r .name))
   name-of e = name-taken (storeOf m c) (storeOf m (r .state)) _ (taken-zero e .says)

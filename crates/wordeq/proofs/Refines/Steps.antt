@@ -32,7 +32,8 @@ use Rattle.sides.specs.Working.Stripping.{part, stripped, Inside, Needed, Strip
 use Rattle.sides.proofs.Strip.{strip-ends}
 use Rattle.sides.proofs.Strip as strip
 use Rattle.wordeq.proofs.Refines.Heads.{heads-apart}
-use Rattle.records.proofs.Counts.{Higher, agree-below}
+use Rattle.records.proofs.Counts.{Higher}
+use Rattle.records.proofs.IndexStores.{keeps-then}
 use Rattle.sides.proofs.ConstantSides.{constants-need, constants-conflict, constants-pass}
 use Rattle.sides.proofs.Trying.{Lined, Last, occursBoth, conflicts, propagates, tiles, grouped, both-rises, conflicts-rises, propagates-rises, tiles-rises, after-groups, passed-ready, else-works, else-tries, else-last}
 use Rattle.records.proofs.ListLaws.{list-short, list-every}
@@ -183,6 +184,6 @@ module _ (g : ℤ) (l r : List ℕ) {m m₁ : Lent} {c : State} {y : Stripped} (
             says =
                 opened ∙ ap (λ (x : Bool). rest x asked) (sym e ∙ z) ∙ ap (rest false) (sym (counted (sym e ∙ z)))
                 ∙ ap (λ (y : ℤ). andThen orDone (after y f (part l i p) (part r i q) (storeOf m₁ d))) (sym n) ∙ u .says;
-            kept = agree-below m m₁ m₂ c d (higher-added (off .cited .added)) (v .kept) ∙ w .is .kept;
+            kept = keeps-then (higher-added (off .cited .added)) (w .is .kept) (v .kept);
             ready = u .ready;
           }

@@ -1,3 +1,4 @@
+use mathlib.Core.Path.{refl}
 use Rattle.records.specs.View.{lent}
 use Rattle.wordeq.proofs.Refines.EqualCalls.{explain-unready, explain-unfit, explain-ready, explain-left, explain-right, explain-lengths, explain-called}
 use borrow.Author.Needs.{needs}
@@ -50,5 +51,5 @@ nf-equal-explain-spec =
     let at-can-pair = at-if2 .before in
     let at-if1 = at-can-pair .before in
     let at-audit = at-if1 .before in
-    explain-called _ _ _ _ _ (at-audit .audit .ensures) (at-if1 .if1 .left) _ (at-can-pair .can-pair .ensures) (at-if2 .if2 .left) _ _
+    explain-called _ _ _ _ _ (at-audit .audit .ensures) (at-if1 .if1 .left) _ (at-can-pair .can-pair .ensures) (at-if2 .if2 .left) _ _ refl
     (c .before .before .nf-equal-explain-unchecked .ensures)))

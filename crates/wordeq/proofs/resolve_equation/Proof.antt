@@ -1,4 +1,5 @@
-use Rattle.wordeq.proofs.Refines.ResolveCalls.{resolve-short, resolve-unready, resolve-unfit, resolve-ready, resolve-lists, resolve-guard, resolve-called}
+use Rattle.records.proofs.Public.{cut-asked, passed-ready}
+use Rattle.wordeq.proofs.Refines.ResolveCalls.{resolve-short, resolve-unready, resolve-unfit, resolve-ready, resolve-lists, resolve-guard, resolve-called, undone-resolved}
 use Rattle.wordeq.proofs.Refines.Flattening.{guard-passed}
 use Rattle.records.specs.View.{lent}
 use borrow.Author.Needs.{needs}
@@ -72,6 +73,12 @@ resolve-equation-spec =
         ),
       ),
     ))
+    -- cut-unresolved-unchecked-requires
+    (λ c κs.
+    let at-resolve-unchecked = c .before .before .before .before .before .before .before .before .before .before .before .before .before in
+    let at-if2 = at-resolve-unchecked .before .before .before .before .before .before .before .before .before .before in
+    let at-audit = at-if2 .before in
+    cut-asked (passed-ready _ _ _ (at-audit .audit .ensures) (at-if2 .if2 .left)) (at-resolve-unchecked .resolve-unchecked .kept .0))
     -- same-length-11
     (λ c. search needs)
     -- same-length-12
@@ -86,7 +93,7 @@ resolve-equation-spec =
     (λ c. search needs)
     -- returns-4
     (λ c.
-    let at-resolve-unchecked = c .before .before .before .before .before .before .before .before .before .before .before .before in
+    let at-resolve-unchecked = c .before .before .before .before .before .before .before .before .before .before .before .before .before .before .before .before in
     let at-if3 = at-resolve-unchecked .before .before .before .before .before .before .before in
     let at-can-resolve = at-if3 .before in
     let at-if2 = at-can-resolve .before .before in
@@ -95,4 +102,4 @@ resolve-equation-spec =
     let at-start = at-if1 .before .before .before .before .before .before .before .before .before in
     resolve-called (at-start .args .lhs .now) (at-start .args .rhs .now) (at-start .args .guard) _ _ (at-start .args .list .now) (at-if1 .if1 .left) _
     (at-audit .audit .ensures) (at-if2 .if2 .left) (at-start .fits .guard) _ (at-can-resolve .can-resolve .ensures) (at-if3 .if3 .left)
-    (at-resolve-unchecked .resolve-unchecked .ensures)))
+    (at-resolve-unchecked .resolve-unchecked .ensures) (undone-resolved _ _ _ _ _ _ (c .before .before .cut-unresolved-unchecked .ensures))))

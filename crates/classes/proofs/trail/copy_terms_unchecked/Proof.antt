@@ -21,6 +21,8 @@ copy-terms-unchecked-spec =
     (λ c. search needs)
     -- mul-words
     (λ c. search needs)
+    -- add-words-2
+    (λ c. search needs)
     -- loop-holds
     (λ c. search (needs, copying-begin))
     -- mul-table

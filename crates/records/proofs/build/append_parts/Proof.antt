@@ -1,4 +1,5 @@
 use Rattle.records.proofs.Refines.Builds.{one-limit, one-words, one-later, append-long, append-limit, append-words, append-full, append-made}
+use Rattle.records.proofs.Refines.Making.{walk-to}
 use borrow.Author.Needs.{needs}
 use Rattle.records.proofs.build.append_parts.Statement.{statement}
 use Rattle.records.proofs.build.append_parts.Tie as tie
@@ -33,17 +34,21 @@ append-parts-spec =
     let r = a .reasons .now in
     let k = a .keys .now in
     let p = at-cells-fit .cells-fit .ensures in
-    let s = at-start .pre in (append-limit t e h r k (a .c) (a .l .now) _ p s (at-if1 .if1 .left), append-words t e h r k (a .c) (a .l .now) _ p s (at-if1 .if1 .left)))
+    let s = at-start .pre .sized in (append-limit t e h r k (a .c) (a .l .now) _ p s (at-if1 .if1 .left), append-words t e h r k (a .c) (a .l .now) _ p s (at-if1 .if1 .left)))
     -- add-put-term-unchecked
     (λ c. search needs)
     -- cast-put-term-unchecked
     (λ c. search needs)
+    -- bucket-of-requires
+    (λ c κs. search needs)
     -- put-term-unchecked-requires
     (λ c κs.
-    let at-if2 = c .before .before .before .before .before in
+    let at-if2 = c .before .before .before .before .before .before in
     let at-term-fits = at-if2 .before in
     let at-start = at-term-fits .before .before .before .before .before .before .before .before .before .before .before in
-    let t = at-start .args .terms .now in let p = at-term-fits .term-fits .ensures in (one-limit t _ _ p (at-if2 .if2 .left), one-words t _ _ p (at-if2 .if2 .left)))
+    let t = at-start .args .terms .now in
+    let p = at-term-fits .term-fits .ensures in
+    (one-limit t _ _ p (at-if2 .if2 .left), (one-words t _ _ p (at-if2 .if2 .left), walk-to 3 _ (at-start .pre) _ (c .bucket-of .ensures))))
     -- add-t13
     (λ c. search needs)
     -- cast-t22
@@ -57,4 +62,15 @@ append-parts-spec =
     -- same-length-5
     (λ c. search needs)
     -- returns-3
-    (λ c. search append-made))
+    (λ c.
+    let at-put-term-unchecked = c .before .before .before .before in
+    let at-bucket-of = c .before .before .before .before .before in
+    let at-put-chain-unchecked = c .before .before .before .before .before .before .before .before .before in
+    let at-if2 = c .before .before .before .before .before .before .before .before .before .before .before in
+    let at-term-fits = c .before .before .before .before .before .before .before .before .before .before .before .before in
+    let at-if1 = c .before .before .before .before .before .before .before .before .before .before .before .before .before .before in
+    let at-cells-fit = c .before .before .before .before .before .before .before .before .before .before .before .before .before .before .before in
+    let at-start = c .before .before .before .before .before .before .before .before .before .before .before .before .before .before .before .before .before .before .before .before .before .before .before in
+    append-made _ _ _ _ _ _ _ _ (at-cells-fit .cells-fit .ensures) (at-if1 .if1 .left) _ (at-term-fits .term-fits .ensures) (at-start .pre) _ _ _ _ _ (at-if2 .if2 .left)
+    (at-bucket-of .bucket-of .ensures) (at-put-chain-unchecked .put-chain-unchecked .ensures) (at-put-chain-unchecked .put-chain-unchecked .kept .0)
+    (at-put-term-unchecked .put-term-unchecked .ensures) (at-put-term-unchecked .put-term-unchecked .kept .0) (c .before .with-cells .ensures) (c .with-term .ensures)))

@@ -1,39 +1,11 @@
-use Prim.Native.Nat.{_-_}
-use Rattle.records.specs.Working.Leaves.{Passed, hasSides}
-use Rattle.records.proofs.Refines.Making.{passed-one, passed-all, hit}
-use borrow.Author.Needs.{needs}
+use mathlib.Core.Path.{refl}
+use Rattle.records.proofs.IndexLaws.{search-walkable, search-first}
 use Rattle.records.proofs.build.find_sides.Statement.{statement}
 use Rattle.records.proofs.build.find_sides.Tie as tie
 
-abbrev Inv-loop : tie.InvT-loop
-Inv-loop terms n from k a b t₀ t = Passed (hasSides terms k a b) n t
-
-abbrev μ-loop : tie.MeasureT-loop
-μ-loop terms n from k a b t₀ t = n - t
-
 pub find-sides-spec : {M : Type 1} → statement M
-find-sides-spec =
-    tie.close
-    (tie.spec
-    Inv-loop
-    μ-loop
-    -- loop-holds
-    (λ c. search needs)
-    -- cast-loop
-    (λ c. search needs)
-    -- add-t
-    (λ c. search needs)
-    -- has-sides-requires
-    (λ c κs. search needs)
+find-sides-spec = tie.close (tie.spec
+    -- walk-sides-requires
+    (λ c κs. search-walkable _ _ _ _ (c .before .pre) _ refl)
     -- returns
-    (λ c.
-    let at-loop = c .before .before .before in
-    hit _ _ _ (at-loop .loop .inv) _ (c .before .before .loop-test .taken) (c .before .has-sides .ensures) (c .if1 .taken))
-    -- loop-less
-    (λ c. search needs)
-    -- loop-again
-    (λ c.
-    let at-loop = c .before .before .before in
-    passed-one _ _ _ (at-loop .loop .inv) _ (c .before .before .loop-test .taken) (c .before .has-sides .ensures) (c .if1 .left))
-    -- returns-2
-    (λ c. passed-all _ _ _ (c .before .loop .inv) (c .loop-test .left)))
+    (λ c. search-first _ _ _ _ (c .before .before .pre) _ refl _ (c .walk-sides .ensures)))

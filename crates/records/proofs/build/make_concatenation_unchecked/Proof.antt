@@ -1,4 +1,4 @@
-use Rattle.records.proofs.Refines.Builds.{parts-from, concat-old, concat-new}
+use Rattle.records.proofs.Refines.Builds.{parts-searchable, concat-old, concat-new}
 use borrow.Author.Needs.{needs}
 use Rattle.records.proofs.build.make_concatenation_unchecked.Statement.{statement}
 use Rattle.records.proofs.build.make_concatenation_unchecked.Tie as tie
@@ -7,12 +7,8 @@ pub make-concatenation-unchecked-spec : {M : Type 1} → statement M
 make-concatenation-unchecked-spec =
     tie.close
     (tie.spec
-    -- up-to-last-requires
-    (λ c κs. search needs)
     -- find-parts-requires
-    (λ c κs.
-    let at-start = c .before .before .before .before .before .before .before .before .before in
-    (at-start .pre .0 .sized .termLimited, (at-start .pre .0 .audited .recorded .nexts, parts-from _ _ _ _ (at-start .pre .0) (c .before .before .up-to-last .ensures))))
+    (λ c κs. let at-start = c .before .before .before .before .before .before .before .before in (at-start .pre .0 .audited .recorded .nexts, parts-searchable _ _ _ (at-start .pre .0)))
     -- same-length
     (λ c. search needs)
     -- same-length-2

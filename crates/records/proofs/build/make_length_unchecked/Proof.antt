@@ -8,7 +8,7 @@ use Rattle.records.proofs.build.make_length_unchecked.Tie as tie
 pub make-length-unchecked-spec : {M : Type 1} → statement M
 make-length-unchecked-spec = tie.close (tie.spec
     -- make-sides-requires
-    (λ c κs. let at-start = c .before .before .before .before .before .before in (at-start .pre .0, inl refl))
+    (λ c κs. let at-start = c .before .before .before .before .before .before in (at-start .pre .0, inl (refl, refl)))
     -- same-length
     (λ c. search needs)
     -- returns

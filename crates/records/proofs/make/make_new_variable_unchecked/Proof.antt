@@ -1,4 +1,4 @@
-use Rattle.records.proofs.Refines.Making.{variable-new}
+use Rattle.records.proofs.Refines.Making.{name-kind, variable-new}
 use borrow.Author.Needs.{needs}
 use Rattle.records.proofs.make.make_new_variable_unchecked.Statement.{statement}
 use Rattle.records.proofs.make.make_new_variable_unchecked.Tie as tie
@@ -8,7 +8,7 @@ make-new-variable-unchecked-spec =
     tie.close
     (tie.spec
     -- append-text-requires
-    (λ c κs. let at-start = c .before .before .before .before .before .before .before .before in at-start .pre .0 .sized)
+    (λ c κs. let at-start = c .before .before .before .before .before .before .before .before in (at-start .pre .0, name-kind))
     -- same-length
     (λ c. search needs)
     -- same-length-2

@@ -1,4 +1,4 @@
-use Rattle.records.proofs.Refines.Making.{text-found, text-new}
+use Rattle.records.proofs.Refines.Making.{text-searchable, text-found, text-new}
 use borrow.Author.Needs.{needs}
 use Rattle.records.proofs.make.make_text.Statement.{statement}
 use Rattle.records.proofs.make.make_text.Tie as tie
@@ -8,7 +8,7 @@ make-text-spec =
     tie.close
     (tie.spec
     -- find-text-unchecked-requires
-    (λ c κs. search needs)
+    (λ c κs. let at-start = c .before .before .before .before .before .before .before .before in text-searchable _ _ _ _ (at-start .pre .0) (at-start .pre .1))
     -- same-length
     (λ c. search needs)
     -- same-length-2
@@ -18,7 +18,7 @@ make-text-spec =
     let at-start = c .before .before .before .before .before .before .before .before .before .before in
     text-found (at-start .pre .0) _ (at-start .pre .1) _ _ (c .before .find-text-unchecked .ensures) (c .if1 .taken))
     -- append-text-requires
-    (λ c κs. let at-start = c .before .before .before .before .before .before .before .before .before .before .before .before in at-start .pre .0 .sized)
+    (λ c κs. let at-start = c .before .before .before .before .before .before .before .before .before .before .before .before in at-start .pre)
     -- same-length-3
     (λ c. search needs)
     -- same-length-4

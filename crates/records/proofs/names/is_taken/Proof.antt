@@ -1,4 +1,5 @@
 use Rattle.records.proofs.Naming.{name-here, name-part, taken-is}
+use Rattle.records.proofs.Refines.Making.{name-searchable}
 use mathlib.Core.Path.{refl}
 use borrow.Author.Needs.{needs}
 use Rattle.records.proofs.names.is_taken.Statement.{statement}
@@ -17,6 +18,6 @@ is-taken-spec =
     -- slice-aggregate-find-text-unchecked
     (λ c. let at-put-name = c .before .before in name-part _ _ _ _ refl (at-put-name .put-name .kept .0) (at-put-name .put-name .ensures))
     -- find-text-unchecked-requires
-    (λ c κs. search needs)
+    (λ c κs. let at-start = c .before .before .before .before .before .before .before .before .before in name-searchable _ _ _ (at-start .pre))
     -- returns
     (λ c. search taken-is))

@@ -10,6 +10,8 @@ put-class-parent-unchecked-spec =
     (λ c. search needs)
     -- add-terms
     (λ c. search needs)
+    -- add-terms
+    (λ c. search needs)
     -- mul-terms-2
     (λ c. search needs)
     -- slice-write-terms

@@ -11,6 +11,8 @@ put-edge-unchecked-spec =
     (tie.spec
     -- mul-at
     (λ c. search needs)
+    -- add-at
+    (λ c. search needs)
     -- add-terms
     (λ c. search needs)
     -- mul-terms

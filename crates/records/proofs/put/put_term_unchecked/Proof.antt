@@ -1,68 +1,15 @@
-use lib.ListN.{length-set}
 use Rattle.records.proofs.Refines.Puts.{term-put}
-use native.Mathlib.Omega.{arith}
 use borrow.Author.Needs.{needs}
 use Rattle.records.proofs.put.put_term_unchecked.Statement.{statement}
 use Rattle.records.proofs.put.put_term_unchecked.Tie as tie
 
 pub put-term-unchecked-spec : {M : Type 1} → statement M
 put-term-unchecked-spec =
-    tie.close
-    (tie.spec
-    -- add-at
-    (λ c. search needs)
-    -- mul-at
-    (λ c. search needs)
-    -- add-own
-    (λ c. search needs)
-    -- cast-own
-    (λ c. search needs)
-    -- mul-terms
-    (λ c. search needs)
-    -- slice-write-terms
-    (λ c. search needs)
-    -- add-terms
-    (λ c. search needs)
-    -- mul-terms-2
-    (λ c. search needs)
-    -- slice-write-terms-2
-    (λ c. simp length-set (omega arith))
-    -- add-terms-2
-    (λ c. search needs)
-    -- mul-terms-3
-    (λ c. search needs)
-    -- slice-write-terms-3
-    (λ c. simp length-set (omega arith))
-    -- add-terms-3
-    (λ c. search needs)
-    -- mul-terms-4
-    (λ c. search needs)
-    -- slice-write-terms-4
-    (λ c. simp length-set (omega arith))
-    -- add-terms-4
-    (λ c. search needs)
-    -- mul-terms-5
-    (λ c. search needs)
-    -- slice-write-terms-5
-    (λ c. simp length-set (omega arith))
-    -- add-terms-5
-    (λ c. search needs)
-    -- mul-terms-6
-    (λ c. search needs)
-    -- slice-write-terms-6
-    (λ c. simp length-set (omega arith))
-    -- add-terms-6
-    (λ c. search needs)
-    -- mul-terms-7
-    (λ c. search needs)
-    -- slice-write-terms-7
-    (λ c. simp length-set (omega arith))
-    -- add-terms-7
-    (λ c. search needs)
-    -- mul-terms-8
-    (λ c. search needs)
-    -- slice-write-terms-8
-    (λ c. simp length-set (omega arith))
+    tie.close (tie.spec
+    -- link-requires
+    (λ c κs. search needs)
+    -- put-words-requires
+    (λ c κs. search needs)
     -- same-length
     (λ c. search needs)
     -- returns

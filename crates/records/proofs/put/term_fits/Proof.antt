@@ -9,6 +9,8 @@ term-fits-spec = tie.close (tie.spec
     (λ c. search needs)
     -- mul-result
     (λ c. search needs)
+    -- add-result-2
+    (λ c. search needs)
     -- returns
     (λ c. search term-test)
     -- returns-2

@@ -12,8 +12,11 @@ add-result c = search needs
 mul-result : tie.Need-mul-result
 mul-result c = search needs
 
+add-result-2 : tie.Need-add-result-2
+add-result-2 c = search needs
+
 returns-2 : tie.Need-returns-2
 returns-2 c = search limit-is
 
 pub terms-fit-spec : {M : Type 1} → statement M
-terms-fit-spec = tie.close (tie.spec returns add-result mul-result returns-2)
+terms-fit-spec = tie.close (tie.spec returns add-result mul-result add-result-2 returns-2)

@@ -53,7 +53,10 @@ prefix-unchecked-spec =
     -- same-length-2
     (λ c. search needs)
     -- same-length-3
-    (λ c. search needs)
+    (λ c.
+    let at-make-concatenation-unchecked = c .before .before .before .before .before .before .before .before .before .before .before .before .before in
+    let at-fresh-str-unchecked = at-make-concatenation-unchecked .before .before .before .before .before .before .before .before .before .before .before .before in
+    at-fresh-str-unchecked .fresh-str-unchecked .kept .1 .1 .0)
     -- returns
     (λ c.
     let at-whole = c .before .before .before .before .before .before .before in
