@@ -64,6 +64,8 @@
 // For forced_length: k, c and l, then m and r, or the shortage.
 // For join, set_mark and go_back: the number answered, and how many marks and joins are counted from then on. A term's class words stand
 // as (t class-parent forest-parent label-kind label-value stamp), a recorded join as (child old-root class-root) after the marks' counts.
+#![tactic(auto)]
+
 use asking::{ask, is_ask};
 use building::adding::apply;
 use building::{Counts, none};

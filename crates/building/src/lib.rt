@@ -1,10 +1,12 @@
 // A store built by commands, a record or many at a time, and what is counted and lent of it.
+#![tactic(auto)]
+
 pub mod adding;
 pub mod words;
 
 // How many terms, cells, characters, reasons and keys are counted, the name counter, how many atoms the list has, and which slice is not
 // lent whole, and how many of its words are.
-#[derive(Drop)]
+#[derive(Clone, Copy)]
 pub struct Counts {
     pub terms: u32,
     pub cells: u32,

@@ -1,6 +1,6 @@
 // The forced length of a repeated field.
 ghost use Rattle.std.specs.Prelude.{◌≡◌, true};
-ghost use Rattle.records.specs.View.{across};
+ghost use Rattle.records.specs.View.{across, changing};
 ghost use Rattle.capi.specs.Interface.{state_of, state_room, roomy};
 ghost use Rattle.capi.specs.Lengths.{ExportedForced};
 ghost use Rattle.capi.specs.Working.Leaves.{written, ToldIn};
@@ -13,7 +13,7 @@ use forced::Forced;
 fn tell_forced(state: &[u32], answer: &mut [u32], made: Forced) -> u32
     requires fact_1 { roomy state_room state.now answer.old ≡ true }
     requires fact_2 { NarrowForced made }
-    ensures { ToldIn written (forced_telling (state_of state.now)) state answer made result }
+    ensures { ToldIn written (forced_telling (state_of state.now)) state (changing answer) made result }
 {
     match made {
         Forced::Spans(k, c, l, m, r) => {

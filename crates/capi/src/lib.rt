@@ -1,6 +1,8 @@
 // The C interface: each call of the store over lent words, the state in six words of its own. A slice is a pointer and a length.
+#![tactic(auto)]
+
 ghost use Rattle.std.specs.Prelude.{◌≡◌};
-ghost use Rattle.records.specs.View.{across, Between};
+ghost use Rattle.records.specs.View.{across, Between, changing, lent};
 ghost use Rattle.records.specs.Make.{make_constant, constant_arguments, make_variable, variable_arguments, make_concat, concat_arguments};
 ghost use Rattle.records.specs.Make.{make_length, length_arguments, make_equation, equation_arguments};
 ghost use Rattle.engine.specs.Explain.{find, find_arguments};
@@ -50,7 +52,7 @@ pub extern "C" fn labels_make_constant(
     text: &[u32],
     answer: &mut [u32],
 ) -> u32
-    ensures { ExportsNumber (constant_arguments text.now) (make_constant text.now) (across terms cells chars reasons keys) state answer result }
+    ensures { ExportsNumber (constant_arguments text.now) (make_constant text.now) (across (changing terms) cells (changing chars) reasons keys) (changing state) (changing answer) result }
 {
     if !is_roomy(STATE_ROOM, state, answer) {
         return 1;
@@ -71,7 +73,7 @@ pub extern "C" fn labels_make_variable(
     name: &[u32],
     answer: &mut [u32],
 ) -> u32
-    ensures { ExportsNumber (variable_arguments name.now) (make_variable name.now) (across terms cells chars reasons keys) state answer result }
+    ensures { ExportsNumber (variable_arguments name.now) (make_variable name.now) (across (changing terms) cells (changing chars) reasons keys) (changing state) (changing answer) result }
 {
     if !is_roomy(STATE_ROOM, state, answer) {
         return 1;
@@ -92,7 +94,7 @@ pub extern "C" fn labels_make_concatenation(
     parts: &[u32],
     answer: &mut [u32],
 ) -> u32
-    ensures { ExportsNumber (concat_arguments parts.now) (make_concat parts.now) (across terms cells chars reasons keys) state answer result }
+    ensures { ExportsNumber (concat_arguments parts.now) (make_concat parts.now) (across (changing terms) (changing cells) chars reasons keys) (changing state) (changing answer) result }
 {
     if !is_roomy(STATE_ROOM, state, answer) {
         return 1;
@@ -113,7 +115,7 @@ pub extern "C" fn labels_make_length(
     t: u32,
     answer: &mut [u32],
 ) -> u32
-    ensures { ExportsNumber (length_arguments t) (make_length t) (across terms cells chars reasons keys) state answer result }
+    ensures { ExportsNumber (length_arguments t) (make_length t) (across (changing terms) cells chars reasons keys) (changing state) (changing answer) result }
 {
     if !is_roomy(STATE_ROOM, state, answer) {
         return 1;
@@ -135,7 +137,7 @@ pub extern "C" fn labels_make_equation(
     u: u32,
     answer: &mut [u32],
 ) -> u32
-    ensures { ExportsNumber (equation_arguments t u) (make_equation t u) (across terms cells chars reasons keys) state answer result }
+    ensures { ExportsNumber (equation_arguments t u) (make_equation t u) (across (changing terms) cells chars reasons keys) (changing state) (changing answer) result }
 {
     if !is_roomy(STATE_ROOM, state, answer) {
         return 1;
@@ -156,7 +158,7 @@ pub extern "C" fn labels_find(
     t: u32,
     answer: &mut [u32],
 ) -> u32
-    ensures { ExportsNumber (find_arguments t) (find t) (across terms cells chars reasons keys) state answer result }
+    ensures { ExportsNumber (find_arguments t) (find t) (across terms cells chars reasons keys) state (changing answer) result }
 {
     if !is_roomy(STATE_ROOM, state, answer) {
         return 1;
@@ -180,7 +182,7 @@ pub extern "C" fn labels_explain(
     a: u32,
     b: u32,
 ) -> u32
-    ensures { Between (ExportedExplain a b) (across terms cells chars reasons keys) state.old state.new result }
+    ensures { Between (ExportedExplain a b) (across terms cells chars (changing reasons) keys) state.old state.new result }
 {
     if state.len() < STATE_ROOM {
         return 1;
@@ -203,7 +205,7 @@ pub extern "C" fn labels_normal_form(
     list: &mut [u32],
     answer: &mut [u32],
 ) -> u32
-    ensures { ExportsList (ExportedForm known.now t) (across terms cells chars reasons keys) list state answer result }
+    ensures { ExportsList (ExportedForm known.now t) (across (changing terms) cells (changing chars) (changing reasons) keys) (changing list) (changing state) (changing answer) result }
 {
     if !is_roomy(STATE_ROOM, state, answer) {
         return 1;
@@ -226,7 +228,7 @@ pub extern "C" fn labels_deep_normal_form(
     list: &mut [u32],
     answer: &mut [u32],
 ) -> u32
-    ensures { ExportsList (ExportedDeepForm known.now t) (across terms cells chars reasons keys) list state answer result }
+    ensures { ExportsList (ExportedDeepForm known.now t) (across (changing terms) cells (changing chars) (changing reasons) keys) (changing list) (changing state) (changing answer) result }
 {
     if !is_roomy(STATE_ROOM, state, answer) {
         return 1;
@@ -252,7 +254,7 @@ pub extern "C" fn labels_resolve_equation<'a>(
     list: &mut [u32],
     answer: &mut [u32],
 ) -> u32
-    ensures { ExportsList (ExportedResolve lhs.now rhs.now guard) (across terms cells chars reasons keys) list state answer result }
+    ensures { ExportsList (ExportedResolve lhs.now rhs.now guard) (across (changing terms) (changing cells) (changing chars) (changing reasons) (changing keys)) (changing list) (changing state) (changing answer) result }
 {
     if !is_roomy(STATE_ROOM, state, answer) {
         return 1;
@@ -300,7 +302,7 @@ pub extern "C" fn labels_nf_equal_explain(
     lhs: &[u32],
     rhs: &[u32],
 ) -> u32
-    ensures { Between (ExportedEqualExplain lhs.now rhs.now) (across terms cells chars reasons keys) state.old state.new result }
+    ensures { Between (ExportedEqualExplain lhs.now rhs.now) (across terms cells chars (changing reasons) keys) state.old state.new result }
 {
     if state.len() < STATE_ROOM {
         return 1;
@@ -324,7 +326,7 @@ pub extern "C" fn labels_step(
     list: &mut [u32],
     answer: &mut [u32],
 ) -> u32
-    ensures { ExportsList (ExportedStep known.now e guard) (across terms cells chars reasons keys) list state answer result }
+    ensures { ExportsList (ExportedStep known.now e guard) (across (changing terms) (changing cells) (changing chars) (changing reasons) (changing keys)) (changing list) (changing state) (changing answer) result }
 {
     if !is_roomy(STATE_ROOM, state, answer) {
         return 1;

@@ -1,7 +1,7 @@
 // Joining, setting a mark and going back. Their state has two words more: 6 counts the marks that stand, 7 the joins recorded since the
 // first of them. The other calls leave these alone.
 ghost use Rattle.std.specs.Prelude.{◌≡◌, true, [], ◌≤◌, length};
-ghost use Rattle.records.specs.View.{across};
+ghost use Rattle.records.specs.View.{across, changing};
 ghost use Rattle.classes.specs.Calls.{set_mark, Tracks, PublicJoin};
 ghost use Rattle.capi.specs.Interface.{roomy};
 ghost use Rattle.capi.specs.Marks.{standing_of, marked_room, ExportsMarks, ExportsBack};
@@ -52,7 +52,7 @@ fn tell_standing(state: &mut [u32], told: Answer) -> u32
 fn tell_number(state: &mut [u32], answer: &mut [u32], told: Answer) -> u32
     requires fact_1 { roomy marked_room state.old answer.old ≡ true }
     requires fact_2 { NarrowGiven told }
-    ensures { ToldIn standing_in number_telling state answer told result }
+    ensures { ToldIn standing_in number_telling (changing state) (changing answer) told result }
 {
     match told {
         Answer::Given(n, e) => {
@@ -79,7 +79,7 @@ pub extern "C" fn labels_join(
     number: u32,
     answer: &mut [u32],
 ) -> u32
-    ensures { ExportsMarks (PublicJoin a b kind number) 7 8 (across terms cells chars reasons keys) marks state answer result }
+    ensures { ExportsMarks (PublicJoin a b kind number) 7 8 (across (changing terms) cells chars reasons keys) (changing marks) (changing state) (changing answer) result }
 {
     if !is_roomy(MARKED_ROOM, state, answer) {
         return 1;
@@ -103,7 +103,7 @@ pub extern "C" fn labels_set_mark(
     marks: &mut [u32],
     answer: &mut [u32],
 ) -> u32
-    ensures { ExportsMarks (Tracks set_mark) 6 7 (across terms cells chars reasons keys) marks state answer result }
+    ensures { ExportsMarks (Tracks set_mark) 6 7 (across terms cells chars reasons keys) (changing marks) (changing state) (changing answer) result }
 {
     if !is_roomy(MARKED_ROOM, state, answer) {
         return 1;
@@ -125,7 +125,7 @@ pub extern "C" fn labels_go_back(
     marks: &[u32],
     mark: u32,
 ) -> u32
-    ensures { ExportsBack mark (across terms cells chars reasons keys) marks state result }
+    ensures { ExportsBack mark (across (changing terms) cells chars reasons keys) marks (changing state) result }
 {
     if state.len() < MARKED_ROOM {
         return 1;

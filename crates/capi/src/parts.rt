@@ -1,6 +1,6 @@
 // Every empty part of a label.
 ghost use Rattle.std.specs.Prelude.{◌≡◌, true};
-ghost use Rattle.records.specs.View.{across};
+ghost use Rattle.records.specs.View.{across, changing};
 ghost use Rattle.capi.specs.Interface.{state_room, roomy, ExportsList};
 ghost use Rattle.capi.specs.Parts.{ExportedParts};
 ghost use Rattle.capi.specs.Working.Leaves.{written, ToldIn};
@@ -13,7 +13,7 @@ use empties::Empties;
 fn tell_parts(state: &mut [u32], answer: &mut [u32], made: Empties) -> u32
     requires fact_1 { roomy state_room state.old answer.old ≡ true }
     requires fact_2 { NarrowParts made }
-    ensures { ToldIn written parts_telling state answer made result }
+    ensures { ToldIn written parts_telling (changing state) (changing answer) made result }
 {
     match made {
         Empties::Parts(c, e, n, f) => tell_words(state, answer, c, &[n as u32, e, flag_of(f)]),
@@ -34,7 +34,7 @@ pub extern "C" fn labels_empty_parts(
     list: &mut [u32],
     answer: &mut [u32],
 ) -> u32
-    ensures { ExportsList (ExportedParts lhs.now rhs.now) (across terms cells chars reasons keys) list state answer result }
+    ensures { ExportsList (ExportedParts lhs.now rhs.now) (across (changing terms) cells (changing chars) reasons keys) (changing list) (changing state) (changing answer) result }
 {
     if !is_roomy(STATE_ROOM, state, answer) {
         return 1;

@@ -1,4 +1,5 @@
 // An answer put into the words that a C caller lends: the state's six, and the answer's.
+ghost use Rattle.records.specs.View.{changing, lends};
 ghost use Rattle.std.specs.Prelude.{◌≡◌, true, [], ℕ, ◌≤◌, length};
 ghost use Rattle.std.specs.Int.{w32};
 ghost use Rattle.std.proofs.Common.{of_z};
@@ -73,7 +74,7 @@ pub(crate) fn is_roomy(n: usize, state: &[u32], answer: &[u32]) -> bool
 // The counts into the state's words, and words into the answer.
 pub(crate) fn tell_words(state: &mut [u32], answer: &mut [u32], c: State, words: &[u32]) -> u32
     requires { (roomy state_room state.old answer.old ≡ true) × Narrow c × (length words.now ≤ answer_room) }
-    ensures { ToldIn written (tells c) state answer words.now result }
+    ensures { ToldIn written (tells c) (changing state) (changing answer) words.now result }
 {
     write_state(state, c);
     write_words(answer, words);
@@ -83,7 +84,7 @@ pub(crate) fn tell_words(state: &mut [u32], answer: &mut [u32], c: State, words:
 // Words into the answer; the state stays.
 pub(crate) fn tell_still(state: &[u32], answer: &mut [u32], words: &[u32]) -> u32
     requires { (roomy state_room state.now answer.old ≡ true) × (length words.now ≤ answer_room) }
-    ensures { ToldIn written (tells (state_of state.now)) state answer words.now result }
+    ensures { ToldIn written (tells (state_of state.now)) state (changing answer) words.now result }
 {
     write_words(answer, words);
     0
@@ -92,7 +93,7 @@ pub(crate) fn tell_still(state: &[u32], answer: &mut [u32], words: &[u32]) -> u3
 // A making call's answer into the state's and the answer's words.
 pub(crate) fn tell(state: &mut [u32], answer: &mut [u32], made: Made) -> u32
     requires { (roomy state_room state.old answer.old ≡ true) × ((t : ℕ) (c : State) → made ≡ Term t c → Narrow c) }
-    ensures { ToldIn written made_telling state answer made result }
+    ensures { ToldIn written made_telling (changing state) (changing answer) made result }
 {
     match made {
         Made::Term(t, c) => tell_words(state, answer, c, &[t]),
@@ -117,7 +118,7 @@ pub(crate) fn tell_counts(state: &mut [u32], added: Added) -> u32
 // A normal form's answer into the words.
 pub(crate) fn tell_form(state: &mut [u32], answer: &mut [u32], made: Form) -> u32
     requires { (roomy state_room state.old answer.old ≡ true) × ((n : ℕ) (c : State) → made ≡ form.List n c → NarrowList n c) }
-    ensures { ToldIn written form_telling state answer made result }
+    ensures { ToldIn written form_telling (changing state) (changing answer) made result }
 {
     match made {
         Form::List(n, c) => tell_words(state, answer, c, &[1, n as u32]),
@@ -128,7 +129,7 @@ pub(crate) fn tell_form(state: &mut [u32], answer: &mut [u32], made: Form) -> u3
 // A deep form's answer into the words.
 pub(crate) fn tell_deep_form(state: &mut [u32], answer: &mut [u32], made: DeepForm) -> u32
     requires { (roomy state_room state.old answer.old ≡ true) × ((n : ℕ) (c : State) → made ≡ deep.List n c → NarrowList n c) × ((c : State) → made ≡ deep.None c → Narrow c) }
-    ensures { ToldIn written deep_telling state answer made result }
+    ensures { ToldIn written deep_telling (changing state) (changing answer) made result }
 {
     match made {
         DeepForm::List(n, c) => tell_words(state, answer, c, &[1, n as u32]),
@@ -160,7 +161,7 @@ pub(crate) fn bits_of(g: i32) -> u32
 // An answer of wordeq into the words.
 pub(crate) fn tell_answer(state: &mut [u32], answer: &mut [u32], made: StepResult) -> u32
     requires { (roomy state_room state.old answer.old ≡ true) × NarrowAnswer made }
-    ensures { ToldIn written answer_telling state answer made result }
+    ensures { ToldIn written answer_telling (changing state) (changing answer) made result }
 {
     match made {
         StepResult::Done(c) => tell_words(state, answer, c, &[0]),
@@ -180,7 +181,7 @@ pub(crate) fn tell_answer(state: &mut [u32], answer: &mut [u32], made: StepResul
 // An answer of the step over one equation into the words.
 pub(crate) fn tell_outcome(state: &mut [u32], answer: &mut [u32], made: Outcome) -> u32
     requires { (roomy state_room state.old answer.old ≡ true) × NarrowOutcome made }
-    ensures { ToldIn written outcome_telling state answer made result }
+    ensures { ToldIn written outcome_telling (changing state) (changing answer) made result }
 {
     match made {
         Outcome::Answered(r) => tell_answer(state, answer, r),

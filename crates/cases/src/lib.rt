@@ -1,5 +1,7 @@
 // The starred label cases: see specs/Cases.antt.
-#[derive(Drop)]
+#![tactic(auto)]
+
+#[derive(Clone, Copy)]
 pub struct Starred {
     pub cases: u32,
 }

@@ -9,10 +9,11 @@ use lib.ListN.{length, drop, length-append}
 use lib.Seq.{drop-append_seam}
 use Rattle.records.specs.Lists.{one_more}
 use Rattle.records.specs.Store.{Term, Cell, Store, count, within}
-use Rattle.records.specs.Make.{own, with_terms}
+use Rattle.records.specs.Make.{own, with_names, with_terms}
 use Rattle.records.specs.Working.Audited.{Audited}
 use Rattle.records.proofs.Lists.{both_true, all_every, every_all, every_map}
 use Rattle.records.proofs.Append.{grow, More, New, longer, kept-audited}
+use Rattle.records.proofs.Beside.{beside}
 use Rattle.records.proofs.Kept.{names-audited}
 use Rattle.records.proofs.LaterStores.{Extended, as_was, one_term_more, counter, others}
 use Rattle.classes.specs.Joins.{Trace, undo_in}
@@ -127,5 +128,5 @@ pub marks-later : {s s' : Store} (x : Trail) → Audited s → marks_rule s x �
 marks-later x au h as_was = h
 marks-later {s} x au h (one_term_more {ds = ds} {hs = hs} {k = k} {a = a} {b = b} m n p) =
     marks-later x (kept-audited s ds hs k a b au m n) (rule_each s _ x (rule_grow s ds hs k a b au m n) h) p
-marks-later {s} x au h (counter m p) = marks-later x (names-audited s m au) (rule_each s _ x (λ l q. passes-alone (undo_all l s.terms) s _ refl ∙ q) h) p
-marks-later {s} x au h (others rs ks a p) = marks-later x a (rule_each s _ x (λ l q. passes-alone (undo_all l s.terms) s _ refl ∙ q) h) p
+marks-later {s} x au h (counter m p) = marks-later x (names-audited s m au) (rule_each s (with_names s m) x (λ l q. passes-alone (undo_all l s.terms) s (with_names s m) refl ∙ q) h) p
+marks-later {s} x au h (others rs ks a p) = marks-later x a (rule_each s (beside s rs ks s.names) x (λ l q. passes-alone (undo_all l s.terms) s (beside s rs ks s.names) refl ∙ q) h) p

@@ -1,8 +1,10 @@
 // The classes of a store changed: two of them joined under a reason, a mark set, and going back to a mark; and `merge`, which puts a class
 // under a term of another as `labelstep` does for its command `M child parent n`.
+#![tactic(auto)]
+
 ghost use Rattle.std.specs.Prelude.{◌≡◌, true, ◌≤◌, ◌<◌, length};
 ghost use Rattle.records.specs.Store.{within};
-ghost use Rattle.records.specs.View.{store_of, term_at, terms_view, term_words, termed, lends, across, Between};
+ghost use Rattle.records.specs.View.{store_of, term_at, terms_view, term_words, termed, across, Between, changing, lent};
 ghost use Rattle.records.specs.Rules.{is_reason_kind};
 ghost use Rattle.records.specs.Working.Puts.{TermSet};
 ghost use Rattle.records.specs.Working.Audited.{Ready};
@@ -47,7 +49,7 @@ fn can_merge_unchecked(
     parent: u32,
     n: u32,
 ) -> bool
-    requires { Ready (lends terms cells chars reasons keys) c }
+    requires { Ready (lent terms.now cells.now chars.now reasons.now keys.now) c }
     ensures { result ≡ can_merge child parent n (store_of (across terms cells chars reasons keys).entry c) }
 {
     if !is_string(terms, c.terms, child) {
@@ -89,7 +91,7 @@ pub fn merge(
     n: u32,
     stamp: u32,
 ) -> u32
-    ensures { Between PublicMerge (across terms cells chars reasons keys) c child parent n stamp result }
+    ensures { Between PublicMerge (across (changing terms) cells chars reasons keys) c child parent n stamp result }
 {
     let k = records::audit(terms, cells, chars, reasons, keys, c);
     if k != 0 {
@@ -103,14 +105,14 @@ pub fn merge(
 }
 
 // How many marks stand, and how many joins were recorded since the first of them.
-#[derive(Drop)]
+#[derive(Clone, Copy)]
 pub struct Standing {
     pub marks: usize,
     pub joins: usize,
 }
 
 // What joining, setting a mark and going back answer: a number, with the counts after the call; or the refusal.
-#[derive(Drop)]
+#[derive(Clone, Copy)]
 pub enum Answer {
     Given(u32, Standing),
     Refused(u32),
@@ -144,7 +146,7 @@ fn can_join(terms: &[u32], c: State, a: u32, b: u32, kind: u32, number: u32) -> 
 }
 
 // What joining answers over store and marks that pass: 1 where it joined, 0 where the terms are in one class already; and the counts after it.
-#[derive(Drop)]
+#[derive(Clone, Copy)]
 pub struct Joining {
     pub answer: u32,
     pub standing: Standing,
@@ -167,9 +169,9 @@ pub fn join_unchecked(
     kind: u32,
     number: u32,
 ) -> Joining
-    requires ready_marks { ReadyMarks (lends terms cells chars reasons keys) marks.old c d }
-    requires c_value { join_arguments a b kind number (store_of (lends terms cells chars reasons keys) c) ≡ true }
-    ensures { Marked (WorkingJoin a b kind number) (across terms cells chars reasons keys) marks c d result.answer result.standing }
+    requires ready_marks { ReadyMarks (lent terms.old cells.now chars.now reasons.now keys.now) marks.old c d }
+    requires c_value { join_arguments a b kind number (store_of (lent terms.old cells.now chars.now reasons.now keys.now) c) ≡ true }
+    ensures { Marked (WorkingJoin a b kind number) (across (changing terms) cells chars reasons keys) (changing marks) c d result.answer result.standing }
 {
     let under = root_unchecked(terms, c.terms, a);
     let over = root_unchecked(terms, c.terms, b);
@@ -199,9 +201,9 @@ pub fn set_mark_unchecked(
     marks: &mut [u32],
     d: Standing,
 ) -> Standing
-    requires ready_marks { ReadyMarks (lends terms cells chars reasons keys) marks.old c d }
+    requires ready_marks { ReadyMarks (lent terms.now cells.now chars.now reasons.now keys.now) marks.old c d }
     requires marks_lt_mark_limit { d.marks < mark_limit }
-    ensures { Marked (WorkingMarks set_mark) (across terms cells chars reasons keys) marks c d result.marks result }
+    ensures { Marked (WorkingMarks set_mark) (across terms cells chars reasons keys) (changing marks) c d result.marks result }
 {
     record_mark_unchecked(marks, d)
 }
@@ -218,9 +220,9 @@ pub fn go_back_unchecked(
     d: Standing,
     mark: u32,
 ) -> Standing
-    requires ready_marks { ReadyMarks (lends terms cells chars reasons keys) marks.now c d }
+    requires ready_marks { ReadyMarks (lent terms.old cells.now chars.now reasons.now keys.now) marks.now c d }
     requires mark_value { within d.marks mark ≡ true }
-    ensures { Marked (WorkingMarks (go_back mark)) (across terms cells chars reasons keys) marks c d mark result }
+    ensures { Marked (WorkingMarks (go_back mark)) (across (changing terms) cells chars reasons keys) marks c d mark result }
 {
     let left = wide(mark) - 1;
     let joins = wide(word(marks, left));
@@ -245,7 +247,7 @@ pub fn join(
     kind: u32,
     number: u32,
 ) -> Answer
-    ensures { Marked (PublicJoin a b kind number) (across terms cells chars reasons keys) marks c d result }
+    ensures { Marked (PublicJoin a b kind number) (across (changing terms) cells chars reasons keys) (changing marks) c d result }
 {
     let k = audit(terms, cells, chars, reasons, keys, c, marks, d);
     if k != 0 {
@@ -272,7 +274,7 @@ pub fn set_mark(
     marks: &mut [u32],
     d: Standing,
 ) -> Answer
-    ensures { Marked (Tracks set_mark) (across terms cells chars reasons keys) marks c d result }
+    ensures { Marked (Tracks set_mark) (across terms cells chars reasons keys) (changing marks) c d result }
 {
     let k = audit(terms, cells, chars, reasons, keys, c, marks, d);
     if k != 0 {
@@ -297,7 +299,7 @@ pub fn go_back(
     d: Standing,
     mark: u32,
 ) -> Answer
-    ensures { Marked (Tracks (go_back mark)) (across terms cells chars reasons keys) marks c d result }
+    ensures { Marked (Tracks (go_back mark)) (across (changing terms) cells chars reasons keys) marks c d result }
 {
     let k = audit(terms, cells, chars, reasons, keys, c, marks, d);
     if k != 0 {

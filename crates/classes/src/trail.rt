@@ -1,7 +1,7 @@
 // The words lent for marks: their audit, a join or a mark recorded, and joins undone.
 ghost use Rattle.std.specs.Prelude.{◌≡◌, true, ◌&&◌, ◌+◌, ◌<◌, ◌≤◌, length, get_or, drop};
 ghost use Rattle.records.specs.Lists.{all, one_more, table};
-ghost use Rattle.records.specs.View.{term_limit, term_words, terms_view, chained, across};
+ghost use Rattle.records.specs.View.{term_limit, term_words, terms_view, chained, across, changing, lent};
 ghost use Rattle.records.specs.Rules.{classes_rule, congruences_rule};
 ghost use Rattle.classes.specs.Joins.{trace, undo_in};
 ghost use Rattle.classes.specs.Marks.{join_limit, mark_limit, trace_place, trace_at, trail_of, trail_sizes, undo_all, table_at, counts_rule, passes, marks_rule, audit_marks};
@@ -74,9 +74,7 @@ pub(crate) fn record_join_unchecked(
 pub(crate) fn record_mark_unchecked(marks: &mut [u32], d: Standing) -> Standing
     requires fact_1 { TrailSized marks.old d }
     requires fact_2 { d.marks < mark_limit }
-    ensures* { do
-      let x = trail_of marks.entry.now d
-      ⌜ Trailed marks.entry.now marks.exit.now (record { marks = one_more x.marks (length x.joins); joins = x.joins }) result ⌝ }
+    ensures { let x = trail_of marks.entry.now d in Trailed marks.entry.now marks.exit.now (record { marks = one_more x.marks (length x.joins); joins = x.joins }) result }
 {
     let at = d.marks;
     marks[at] = d.joins as u32;
@@ -168,9 +166,7 @@ fn copy_terms_unchecked(terms: &[u32], n: usize, table: &mut [u32; TERM_SLICE])
 // Whether refusals 3 and 4 let a table pass.
 fn table_ok_unchecked(table: &[u32], cells: &[u32], c: State) -> bool
     requires { Markable table.now cells.now c }
-    ensures* { do
-      let s = chained table.now cells.now c
-      ⌜ result ≡ (classes_rule s && congruences_rule s) ⌝ }
+    ensures { let s = chained table.now cells.now c in result ≡ (classes_rule s && congruences_rule s) }
 {
     if !classes_ok_unchecked(table, c) {
         return false;
@@ -189,10 +185,7 @@ fn tables_ok_unchecked(
     requires fact_1 { Markable table.old cells.now c }
     requires fact_2 { TrailSized marks.now d }
     requires fact_3 { counts_rule (trail_of marks.now d).marks d.joins ≡ true }
-    ensures* { do
-      let s = chained table.old cells.now c
-      let x = trail_of marks.now d
-      ⌜ result ≡ all (λ n. passes s (table_at n x s.terms)) x.marks ⌝ }
+    ensures { let s = chained table.old cells.now c in let x = trail_of marks.now d in result ≡ all (λ n. passes s (table_at n x s.terms)) x.marks }
 {
     let mut joins = d.joins;
     let mut i = d.marks;

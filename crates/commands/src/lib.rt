@@ -1,4 +1,6 @@
 // The lines of the program `labelstep`: a line to a command, and an answer to its printed line.
+#![tactic(auto)]
+
 pub mod numbers;
 pub mod parse;
 pub mod print;
@@ -8,35 +10,35 @@ pub mod utf8;
 pub const LINE_LIMIT: usize = 1024;
 
 // A decimal number that fits, or none.
-#[derive(Drop)]
+#[derive(Clone, Copy)]
 pub enum Number {
     Fits(u32),
     Bad,
 }
 
 // A guard, or none.
-#[derive(Drop)]
+#[derive(Clone, Copy)]
 pub enum Guard {
     Fits(i32),
     Bad,
 }
 
 // Numbers or characters, counted, at the start of a list; or none.
-#[derive(Drop)]
+#[derive(Clone, Copy)]
 pub enum Listing {
     Count(usize),
     Bad,
 }
 
 // A character: how many bytes it has, and its number; or none.
-#[derive(Drop)]
+#[derive(Clone, Copy)]
 pub enum Char {
     Is(usize, u32),
     Bad,
 }
 
 // A command: a text, parts and a known list are counted, and stand at the start of a list.
-#[derive(Drop)]
+#[derive(Clone, Copy)]
 pub enum Parsed {
     Constant(usize),
     Variable(usize),

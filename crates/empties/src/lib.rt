@@ -1,8 +1,10 @@
 // Every part of a label that must still become "", in one call.
+#![tactic(auto)]
+
 ghost use Rattle.std.specs.Prelude.{◌≡◌, true, [], ◌∷◌, ◌≤◌, ◌<◌, length, take};
 ghost use Rattle.records.specs.Lists.{all, any};
 ghost use Rattle.records.specs.Store.{is_string, same_class};
-ghost use Rattle.records.specs.View.{store_of, lends, across, read_in, term_limit, term_words};
+ghost use Rattle.records.specs.View.{store_of, across, read_in, term_limit, term_words, changing, lent};
 ghost use Rattle.records.specs.Rules.{list_limit, is_list};
 ghost use Rattle.records.specs.Calls.{Writes, ◌into◌};
 ghost use Rattle.records.specs.Working.Doing.{Does, CutRefused};
@@ -20,7 +22,7 @@ use sides::stripping;
 use wordeq::{propagate, resolving};
 
 // The answer, with the new counts.
-#[derive(Drop)]
+#[derive(Clone, Copy)]
 pub enum Empties {
     // the number of "", how many variables are listed, the link flag
     Parts(records::State, u32, usize, bool),
@@ -102,10 +104,10 @@ fn empties_unchecked(
     side: &[u32],
     list: &mut [u32],
 ) -> Empties
-    requires ready { Ready (lends terms cells chars reasons keys) c }
-    requires side_value { is_list (store_of (lends terms cells chars reasons keys) c) side.now ≡ true }
+    requires ready { Ready (lent terms.old cells.now chars.old reasons.now keys.now) c }
+    requires side_value { is_list (store_of (lent terms.old cells.now chars.old reasons.now keys.now) c) side.now ≡ true }
     requires list_limit_in_bounds { list_limit ≤ length list.old }
-    ensures { Does (emptied side.now) (across terms cells chars reasons keys) c (listed result into list) }
+    ensures { Does (emptied side.now) (across (changing terms) cells (changing chars) reasons keys) c (listed result into changing list) }
 {
     let word: [u32; 0] = [];
     let empty = make::make_constant_unchecked(terms, cells, chars, reasons, keys, c, &word);
@@ -130,10 +132,10 @@ fn sides_unchecked(
     rhs: &[u32],
     list: &mut [u32],
 ) -> Empties
-    requires ready { Ready (lends terms cells chars reasons keys) c }
-    requires both_lists { BothLists (store_of (lends terms cells chars reasons keys) c) lhs.now rhs.now }
+    requires ready { Ready (lent terms.old cells.now chars.old reasons.now keys.now) c }
+    requires both_lists { BothLists (store_of (lent terms.old cells.now chars.old reasons.now keys.now) c) lhs.now rhs.now }
     requires list_limit_in_bounds { list_limit ≤ length list.old }
-    ensures { Does (sides lhs.now rhs.now) (across terms cells chars reasons keys) c (listed result into list) }
+    ensures { Does (sides lhs.now rhs.now) (across (changing terms) cells (changing chars) reasons keys) c (listed result into changing list) }
 {
     if propagate::is_emptied_unchecked(terms, c, lhs, rhs) {
         return empties_unchecked(terms, cells, chars, reasons, keys, c, rhs, list);
@@ -156,10 +158,10 @@ pub fn empty_parts_unchecked(
     rhs: &[u32],
     list: &mut [u32],
 ) -> Empties
-    requires ready { Ready (lends terms cells chars reasons keys) c }
-    requires both_lists { BothLists (store_of (lends terms cells chars reasons keys) c) lhs.now rhs.now }
+    requires ready { Ready (lent terms.old cells.now chars.old reasons.now keys.now) c }
+    requires both_lists { BothLists (store_of (lent terms.old cells.now chars.old reasons.now keys.now) c) lhs.now rhs.now }
     requires list_limit_in_bounds { list_limit ≤ length list.old }
-    ensures { Does (empty_parts lhs.now rhs.now) (across terms cells chars reasons keys) c (listed result into list) }
+    ensures { Does (empty_parts lhs.now rhs.now) (across (changing terms) cells (changing chars) reasons keys) c (listed result into changing list) }
 {
     let mut left: [u32; 1024] = [0; 1024];
     let n = resolving::flatten_list_unchecked(terms, cells, c, lhs, &mut left);
@@ -196,7 +198,7 @@ pub fn empty_parts(
     rhs: &[u32],
     list: &mut [u32],
 ) -> Empties
-    ensures { Writes (PublicEmpties lhs.now rhs.now) (across terms cells chars reasons keys) list c (listed result) }
+    ensures { Writes (PublicEmpties lhs.now rhs.now) (across (changing terms) cells (changing chars) reasons keys) (changing list) c (listed result) }
 {
     if list.len() < LIST_LIMIT {
         return Empties::Refused(1);

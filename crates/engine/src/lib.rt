@@ -1,6 +1,8 @@
 // Classes and explanations: find and explain.
+#![tactic(auto)]
+
 ghost use Rattle.std.specs.Prelude.{◌≡◌, true, false, ◌+◌, ◌*◌, ◌≤◌, ◌<◌, length};
-ghost use Rattle.records.specs.View.{store_of, lends, across, reason_room};
+ghost use Rattle.records.specs.View.{store_of, across, reason_room, changing, lent};
 ghost use Rattle.records.specs.Working.Audited.{Ready};
 ghost use Rattle.records.specs.Calls.{added, Answers, Promises};
 ghost use Rattle.records.specs.Working.Doing.{Does};
@@ -14,21 +16,21 @@ use records::{Added, State, classes, fields, put, rules};
 mod listing;
 
 // How far a walk came: 0 and the count of reasons, or the refusal.
-#[derive(Drop)]
+#[derive(Clone, Copy)]
 pub struct Walked {
     pub code: u32,
     pub count: usize,
 }
 
 // What a walk without a table came to: how far it came, or that it met a congruence edge, whose pairs need the table.
-#[derive(Drop)]
+#[derive(Clone, Copy)]
 enum Plain {
     Ended(Walked),
     Congruence,
 }
 
 // What find answers.
-#[derive(Drop)]
+#[derive(Clone, Copy)]
 pub enum Found {
     Root(u32),
     Refused(u32),
@@ -135,7 +137,7 @@ fn explain_rec(
     count: usize,
 ) -> Walked
     requires { Walkable terms.now cells.now table.old reasons.old n k count (λ s. Together s (a, b)) }
-    ensures { Along (Walks (walked (a, b)) (λ s. Together s (a, b))) terms cells table reasons n k count result }
+    ensures { Along (Walks (walked (a, b)) (λ s. Together s (a, b))) terms cells (changing table) (changing reasons) n k count result }
 {
     if a == b {
         return Walked {
@@ -189,7 +191,7 @@ fn expand_edge(
     count: usize,
 ) -> Walked
     requires { Walkable terms.now cells.now table.old reasons.old n k count (λ s. Edge s node) }
-    ensures { Along (Walks (edge walked node) (λ s. Edge s node)) terms cells table reasons n k count result }
+    ensures { Along (Walks (edge walked node) (λ s. Edge s node)) terms cells (changing table) (changing reasons) n k count result }
 {
     let kind = fields::label_kind(terms, node);
     let value = fields::label_value(terms, node);
@@ -240,7 +242,7 @@ fn explain_tabled(
     reasons: &mut [u32],
 ) -> Walked
     requires { (c.terms ≤ 512) × Explainable terms.now cells.now reasons.old c.terms c.cells a b c.reasons }
-    ensures { PairExplained terms cells reasons c a b result }
+    ensures { PairExplained terms cells (changing reasons) c a b result }
 {
     let n = c.terms;
     let k = c.cells;
@@ -360,7 +362,7 @@ fn explain_pair(
     places: &mut [u32],
 ) -> Walked
     requires { (c.terms ≤ 512) × Explainable terms.now cells.now reasons.old c.terms c.cells a b c.reasons }
-    ensures { PairExplained terms cells reasons c a b result }
+    ensures { PairExplained terms cells (changing reasons) c a b result }
 {
     if c.terms < 32 {
         return explain_tabled(terms, cells, c, a, b, reasons);
@@ -386,8 +388,8 @@ pub fn explain_unchecked(
     b: u32,
     places: &mut [u32],
 ) -> Added
-    requires { (Ready (lends terms cells chars reasons keys) c) × (explain_arguments a b (store_of (lends terms cells chars reasons keys) c) ≡ true) }
-    ensures { Does (explain a b) (across terms cells chars reasons keys) c (added result) }
+    requires { (Ready (lent terms.now cells.now chars.now reasons.old keys.now) c) × (explain_arguments a b (store_of (lent terms.now cells.now chars.now reasons.old keys.now) c) ≡ true) }
+    ensures { Does (explain a b) (across terms cells chars (changing reasons) keys) c (added result) }
 {
     let r = explain_pair(terms, cells, c, a, b, reasons, places);
     if r.code != 0 {
@@ -408,7 +410,7 @@ pub fn is_reasoned_unchecked(
     b: u32,
     places: &mut [u32],
 ) -> bool
-    requires { (Ready (lends terms cells chars reasons keys) c) × (explain_arguments a b (store_of (lends terms cells chars reasons keys) c) ≡ true) }
+    requires { (Ready (lent terms.now cells.now chars.now reasons.now keys.now) c) × (explain_arguments a b (store_of (lent terms.now cells.now chars.now reasons.now keys.now) c) ≡ true) }
     ensures { result ≡ is_reasoned (store_of (across terms cells chars reasons keys).entry c) a b }
 {
     let mut own: [u32; 2] = [0; 2];
@@ -431,7 +433,7 @@ fn can_explain(
     a: u32,
     b: u32,
 ) -> bool
-    requires { Ready (lends terms cells chars reasons keys) c }
+    requires { Ready (lent terms.now cells.now chars.now reasons.now keys.now) c }
     ensures { result ≡ explain_arguments a b (store_of (across terms cells chars reasons keys).entry c) }
 {
     if !rules::is_string(terms, c.terms, a) {
@@ -454,7 +456,7 @@ pub fn explain(
     a: u32,
     b: u32,
 ) -> Added
-    ensures { Promises (PublicExplain a b) (across terms cells chars reasons keys) c (added result) }
+    ensures { Promises (PublicExplain a b) (across terms cells chars (changing reasons) keys) c (added result) }
 {
     let k = records::audit(terms, cells, chars, reasons, keys, c);
     if k != 0 {

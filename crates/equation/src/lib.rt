@@ -1,6 +1,8 @@
 // The step over one equation: the deep forms of its two sides, then wordeq over them.
+#![tactic(auto)]
+
 ghost use Rattle.std.specs.Prelude.{◌≡◌, true, ◌≤◌, length};
-ghost use Rattle.records.specs.View.{store_of, lends, across, termed, term_limit, term_words};
+ghost use Rattle.records.specs.View.{store_of, across, termed, term_limit, term_words, changing, lent};
 ghost use Rattle.records.specs.Rules.{list_limit, is_list};
 ghost use Rattle.records.specs.Working.Audited.{Ready};
 ghost use Rattle.records.specs.Calls.{Writes, ◌into◌};
@@ -22,7 +24,7 @@ use wordeq::cut_unresolved_unchecked;
 use wordeq::resolving::resolve_unchecked;
 
 // wordeq's answer, a refusal among its cases; or Unexpanded, with the new counts.
-#[derive(Drop)]
+#[derive(Clone, Copy)]
 pub enum Outcome {
     Answered(StepResult),
     Unexpanded(State),
@@ -52,11 +54,11 @@ fn resolve_forms<'a>(
     list: &mut [u32],
     incoming: usize,
 ) -> Outcome
-    requires ready { Ready (lends terms cells chars reasons keys) c }
-    requires both_lists { BothLists (store_of (lends terms cells chars reasons keys) c) lhs.now rhs.now }
+    requires ready { Ready (lent terms.old cells.old chars.old reasons.old keys.old) c }
+    requires both_lists { BothLists (store_of (lent terms.old cells.old chars.old reasons.old keys.old) c) lhs.now rhs.now }
     requires guard_value { is_guard guard ≡ true }
     requires list_limit_in_bounds { (list_limit ≤ length list.old) × (incoming ≤ c.reasons) }
-    ensures { Does (resolve_forms lhs.now rhs.now guard (incoming_of reasons incoming)) (across terms cells chars reasons keys) c (stepped result into list) }
+    ensures { Does (resolve_forms lhs.now rhs.now guard (incoming_of (changing reasons) incoming)) (across (changing terms) (changing cells) (changing chars) (changing reasons) (changing keys)) c (stepped result into changing list) }
 {
     let o = resolve_unchecked(terms, cells, chars, reasons, keys, c, lhs, rhs, guard, list);
     Outcome::Answered(carried(o, incoming))
@@ -78,12 +80,12 @@ fn right_form(
     list: &mut [u32],
     incoming: usize,
 ) -> Outcome
-    requires ready { (Ready (lends terms cells chars reasons keys) c) × (Candidates (store_of (lends terms cells chars reasons keys) c) known.now table.now) }
-    requires c_value { form_arguments known.now t (store_of (lends terms cells chars reasons keys) c) ≡ true }
-    requires lhs_value { is_list (store_of (lends terms cells chars reasons keys) c) lhs.now ≡ true }
+    requires ready { (Ready (lent terms.old cells.old chars.old reasons.old keys.old) c) × (Candidates (store_of (lent terms.old cells.old chars.old reasons.old keys.old) c) known.now table.now) }
+    requires c_value { form_arguments known.now t (store_of (lent terms.old cells.old chars.old reasons.old keys.old) c) ≡ true }
+    requires lhs_value { is_list (store_of (lent terms.old cells.old chars.old reasons.old keys.old) c) lhs.now ≡ true }
     requires guard_value { is_guard guard ≡ true }
     requires list_limit_in_bounds { (list_limit ≤ length list.old) × (incoming ≤ c.reasons) }
-    ensures { Does (right_form known.now t guard lhs.now (incoming_of reasons incoming)) (across terms cells chars reasons keys) c (stepped result into list) }
+    ensures { Does (right_form known.now t guard lhs.now (incoming_of (changing reasons) incoming)) (across (changing terms) (changing cells) (changing chars) (changing reasons) (changing keys)) c (stepped result into changing list) }
 {
     let mut right: [u32; 1024] = [0; 1024];
     match deep_form_by_unchecked(
@@ -120,10 +122,10 @@ pub fn step_unchecked(
     guard: i32,
     list: &mut [u32],
 ) -> Outcome
-    requires ready { Ready (lends terms cells chars reasons keys) c }
-    requires c_value { step_arguments known.now e guard (store_of (lends terms cells chars reasons keys) c) ≡ true }
+    requires ready { Ready (lent terms.old cells.old chars.old reasons.old keys.old) c }
+    requires c_value { step_arguments known.now e guard (store_of (lent terms.old cells.old chars.old reasons.old keys.old) c) ≡ true }
     requires list_limit_in_bounds { list_limit ≤ length list.old }
-    ensures { Does (step known.now e guard) (across terms cells chars reasons keys) c (stepped result into list) }
+    ensures { Does (step known.now e guard) (across (changing terms) (changing cells) (changing chars) (changing reasons) (changing keys)) c (stepped result into changing list) }
 {
     let mut left: [u32; 1024] = [0; 1024];
     let a = fields::first(terms, e);
@@ -181,7 +183,7 @@ pub fn step(
     guard: i32,
     list: &mut [u32],
 ) -> Outcome
-    ensures { Writes (PublicStep known.now e guard) (across terms cells chars reasons keys) list c (stepped result) }
+    ensures { Writes (PublicStep known.now e guard) (across (changing terms) (changing cells) (changing chars) (changing reasons) (changing keys)) (changing list) c (stepped result) }
 {
     if list.len() < LIST_LIMIT {
         return Outcome::Answered(StepResult::Refused(1));

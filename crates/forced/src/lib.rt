@@ -1,7 +1,9 @@
 // The length that a side of constants forces on the one variable class of the other side.
+#![tactic(auto)]
+
 ghost use Rattle.std.specs.Prelude.{◌≡◌, true};
 ghost use Rattle.records.specs.Store.{ok};
-ghost use Rattle.records.specs.View.{store_of, lends, across, read_in};
+ghost use Rattle.records.specs.View.{store_of, across, read_in, lent};
 ghost use Rattle.records.specs.Rules.{is_list};
 ghost use Rattle.records.specs.Calls.{Promises};
 ghost use Rattle.records.specs.Working.Doing.{Does};
@@ -17,7 +19,7 @@ use sides::{letters, spans, stripping};
 use wordeq::resolving;
 
 // k variables and c constant characters on one side, l characters on the other.
-#[derive(Drop)]
+#[derive(Clone, Copy)]
 pub enum Forced {
     // k, c, l, and m and r with l = c + k × m + r and r below k
     Spans(usize, usize, usize, usize, usize),
@@ -30,9 +32,7 @@ pub enum Forced {
 fn has_one_class(terms: &[u32], chars: &[u32], c: State, side: &[u32]) -> bool
     requires readable { Readable terms.now chars.now c }
     requires side_value { is_list (read_in terms.now chars.now c) side.now ≡ true }
-    ensures* { do
-      let s = read_in terms.now chars.now c
-      ⌜ result ≡ one_class s (variables s side.now) ⌝ }
+    ensures { let s = read_in terms.now chars.now c in result ≡ one_class s (variables s side.now) }
 {
     let i = spans::first_variable_unchecked(terms, c, side);
     if side.len() <= i {
@@ -58,9 +58,7 @@ fn side_fit(terms: &[u32], chars: &[u32], c: State, word: &[u32], side: &[u32]) 
     requires readable { Readable terms.now chars.now c }
     requires both_lists { BothLists (read_in terms.now chars.now c) word.now side.now }
     requires side_value { is_forced (read_in terms.now chars.now c) word.now side.now ≡ true }
-    ensures* { do
-      let s = read_in terms.now chars.now c
-      ⌜ fitted result s ≡ ok s (side_fit s word.now side.now) ⌝ }
+    ensures { let s = read_in terms.now chars.now c in fitted result s ≡ ok s (side_fit s word.now side.now) }
 {
     let k = spans::variables_length(terms, c, side);
     let n = letters::letters_length_unchecked(terms, c, side);
@@ -82,8 +80,8 @@ fn sides_fit(
     lhs: &[u32],
     rhs: &[u32],
 ) -> Forced
-    requires ready { Ready (lends terms cells chars reasons keys) c }
-    requires both_lists { BothLists (store_of (lends terms cells chars reasons keys) c) lhs.now rhs.now }
+    requires ready { Ready (lent terms.now cells.now chars.now reasons.now keys.now) c }
+    requires both_lists { BothLists (store_of (lent terms.now cells.now chars.now reasons.now keys.now) c) lhs.now rhs.now }
     ensures { Does (sides_fit lhs.now rhs.now) (across terms cells chars reasons keys) c (λ m. fitted result (store_of m c)) }
 {
     if is_forced(terms, chars, c, lhs, rhs) {
@@ -106,8 +104,8 @@ fn residual_fit(
     lhs: &[u32],
     rhs: &[u32],
 ) -> Forced
-    requires ready { Ready (lends terms cells chars reasons keys) c }
-    requires both_lists { BothLists (store_of (lends terms cells chars reasons keys) c) lhs.now rhs.now }
+    requires ready { Ready (lent terms.now cells.now chars.now reasons.now keys.now) c }
+    requires both_lists { BothLists (store_of (lent terms.now cells.now chars.now reasons.now keys.now) c) lhs.now rhs.now }
     ensures { Does (residual_fit lhs.now rhs.now) (across terms cells chars reasons keys) c (λ m. fitted result (store_of m c)) }
 {
     let rest = stripping::find_rest_unchecked(terms, chars, c, lhs, rhs);
@@ -130,8 +128,8 @@ pub fn forced_unchecked(
     lhs: &[u32],
     rhs: &[u32],
 ) -> Forced
-    requires ready { Ready (lends terms cells chars reasons keys) c }
-    requires both_lists { BothLists (store_of (lends terms cells chars reasons keys) c) lhs.now rhs.now }
+    requires ready { Ready (lent terms.now cells.now chars.now reasons.now keys.now) c }
+    requires both_lists { BothLists (store_of (lent terms.now cells.now chars.now reasons.now keys.now) c) lhs.now rhs.now }
     ensures { Does (forced_length lhs.now rhs.now) (across terms cells chars reasons keys) c (λ m. fitted result (store_of m c)) }
 {
     let mut left: [u32; 1024] = [0; 1024];

@@ -7,8 +7,6 @@ use Prim.Native.Nat.{ℕ, suc, ◌<◌, ◌≤◌}
 use native.Mathlib.Omega.{arith}
 use lib.ListN.{length}
 use lib.Dec.{eqb, ltb}
-use types.Run.{OneOf}
-use denote.Enum.Declared.{tag_of}
 use borrow.Author.Tests.{lt-ltb, le-ltb, eq-eqb, ne_eqb, eqb-false, ltb-false}
 use Rattle.records.specs.Store.{Cell, cell_in, within, chain_in}
 use Rattle.records.specs.View.{cell_at, cells_view}
@@ -18,7 +16,6 @@ use Rattle.records.proofs.Views.{cell-is}
 use Rattle.records.proofs.Chains.{chain-is, chain-none}
 use Rattle.held.specs.declared.chains.Link.{Link}
 use Rattle.held.specs.declared.chains.Link.TheVariants as link
-use Rattle.held.specs.contracts.chains.Link.{the_type}
 use Rattle.held.specs.Links.{link_of, link_in, values_from}
 
 -- ONE CELL
@@ -128,8 +125,8 @@ is_cell link.Absent = false
 is_cell link.Back = false
 
 -- what a `match` finds where it is no cell
-pub other_tag : (r : Link) → OneOf (1 ∷ 2 ∷ 3 ∷ []) (tag_of the_type r) → is_cell r ≡ false
-other_tag (link.Cell v o x) k = ⊎_elim (λ (e : ◌≡◌ {A = ℕ} 0 1). absurd (omega arith)) (λ w. ⊎_elim (λ (e : ◌≡◌ {A = ℕ} 0 2). absurd (omega arith)) (λ (e : ◌≡◌ {A = ℕ} 0 3). absurd (omega arith)) w) k
+pub other_tag : (r : Link) → ((v o x : ℕ) → r ≡ link.Cell v o x → ⊥) → is_cell r ≡ false
+other_tag (link.Cell v o x) k = absurd (k v o x refl)
 other_tag link.End k = refl
 other_tag link.Absent k = refl
 other_tag link.Back k = refl

@@ -12,7 +12,7 @@ pub struct Chain<'a> {
 }
 
 // What one step along a chain gives.
-#[derive(Drop)]
+#[derive(Clone, Copy)]
 pub enum Link {
     // the value, the second value, the next
     Cell(u32, u32, u32),

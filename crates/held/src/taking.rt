@@ -1,6 +1,6 @@
 // 'taking a name advances the counter and hands the name back': the counter of names, lent.
 ghost use Rattle.std.specs.Prelude.{◌≡◌};
-ghost use Rattle.records.specs.View.{names_at, lends, across};
+ghost use Rattle.records.specs.View.{names_at, across, lent};
 ghost use Rattle.records.specs.Working.Audited.{Ready};
 ghost use Rattle.records.specs.Working.Doing.{Taken};
 
@@ -21,7 +21,7 @@ pub(crate) fn name_from_unchecked(
     keys: &[u32],
     c: State,
 ) -> Named
-    requires { Ready (lends terms cells chars reasons keys) (names_at c next) }
+    requires { Ready (lent terms.now cells.now chars.now reasons.now keys.now) (names_at c next) }
     ensures { Taken (across terms cells chars reasons keys).entry (names_at c next) result }
 {
     names::take_name_unchecked(terms, cells, chars, reasons, keys, c.with_names(next))
@@ -37,7 +37,7 @@ pub(crate) fn take_unchecked(
     keys: &[u32],
     c: State,
 ) -> Named
-    requires { Ready (lends terms cells chars reasons keys) (names_at c counter.old.next) }
+    requires { Ready (lent terms.now cells.now chars.now reasons.now keys.now) (names_at c counter.old.next) }
     ensures { Taken (across terms cells chars reasons keys).entry (names_at c counter.old.next) result × (counter.new.next ≡ result.state.names) }
 {
     let r = name_from_unchecked(counter.next, terms, cells, chars, reasons, keys, c);
@@ -54,7 +54,7 @@ pub fn next_name_unchecked(
     keys: &[u32],
     c: State,
 ) -> Named
-    requires { Ready (lends terms cells chars reasons keys) c }
+    requires { Ready (lent terms.now cells.now chars.now reasons.now keys.now) c }
     ensures { Taken (across terms cells chars reasons keys).entry c result }
 {
     let mut counter = Counter { next: c.names };

@@ -1,4 +1,6 @@
 // One theorem over every list of calls, as the contracts of two functions that do nothing: see specs/Calls.antt and specs/Actual.antt.
+#![tactic(auto)]
+
 ghost use Rattle.history.specs.Calls.{EveryList};
 ghost use Rattle.history.specs.Actual.{EveryRun};
 

@@ -1,5 +1,7 @@
 // The program `labelstep`: standard input to standard output, a line at a time. A line makes a term, joins two classes, sets the
 // known list or runs the step over an equation; what it answers, where it answers, is printed at once.
+#![tactic(auto)]
+
 mod act;
 mod front;
 mod read;

@@ -4,7 +4,7 @@ use std::num::{wrapping_add_u32, wrapping_add_u64};
 
 // The counts, how many terms are known, the next stamp, the number of the line, how much of it was read, and whether it has more bytes than
 // a line may have.
-#[derive(Drop)]
+#[derive(Clone, Copy)]
 pub(crate) struct Session {
     pub counts: State,
     pub known: usize,

@@ -1,5 +1,7 @@
 // Lines of the test programs: a letter and its numbers are read, words are put where there is room, numbers are printed; and the index of a store
 // that was written by hand.
+#![tactic(auto)]
+
 pub mod indexing;
 pub mod lending;
 pub mod reading;

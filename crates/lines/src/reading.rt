@@ -7,7 +7,7 @@ use records::fields::word;
 use std::num::{wrapping_add_u32, wrapping_add_usize};
 
 // How many numbers a line has, and where its name starts.
-#[derive(Drop)]
+#[derive(Clone, Copy)]
 pub struct Line {
     pub count: usize,
     pub at: usize,

@@ -202,7 +202,7 @@ form-ends known t s audited h i =
     (ends_by {P = λ s₁ m. Flat s s₁ (t ∷ []) m × Strings s m} 6 (omega arith) (omega arith)
     (λ s₁ m e. (flatten-flat (t ∷ []) s s₁ m e, every_map (λ a x. x.string) (flatten-atoms (t ∷ []) s s₁ m audited (both_true _ _ i refl) e)))
     (λ n e. (flatten-stops (t ∷ []) s n e).0))
-    (λ s₁ m x. subst (λ (y : Store). Ends (λ s' l. Formed s s' t l) ((push_forms (known ++ m) m [] >>= (λ out. give (reverse out))) y)) (sym x.0.same_Store)
+    (λ s₁ m x. subst (λ (y : Store). Ends (λ s' l. Formed s s' t l) ((push_forms (known ++ m) m [] >>= (λ out. give (reverse out))) y)) (sym x.0.same_store)
     (form_of (known ++ m) m t s audited (every_append h x.1) x.1 x.0.long x.0.words))
 
 module _ (known : List ℕ) (t : ℕ) (s : Store) (audited : Audited s) (good : form_arguments known t s ≡ true) where

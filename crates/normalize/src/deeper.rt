@@ -2,7 +2,7 @@
 ghost use Rattle.std.specs.Prelude.{◌≡◌, true, [], ◌≤◌, length};
 ghost use Rattle.records.specs.Lists.{all};
 ghost use Rattle.records.specs.Store.{is_string};
-ghost use Rattle.records.specs.View.{store_of, lends, across, Between};
+ghost use Rattle.records.specs.View.{store_of, across, Between, changing, lent};
 ghost use Rattle.records.specs.Working.Audited.{Ready};
 ghost use Rattle.records.specs.Calls.{◌into◌};
 ghost use Rattle.records.specs.Working.Doing.{Does};
@@ -27,12 +27,12 @@ fn push_all(
     k: usize,
     out: &mut [u32],
 ) -> Form
-    requires ready { Ready (lends terms cells chars reasons keys) c }
-    requires k_value { all (is_string (store_of (lends terms cells chars reasons keys) c)) (first_words next.now k) ≡ true }
+    requires ready { Ready (lent terms.old cells.now chars.old reasons.now keys.now) c }
+    requires k_value { all (is_string (store_of (lent terms.old cells.now chars.old reasons.now keys.now) c)) (first_words next.now k) ≡ true }
     requires k_in_bounds { k ≤ length next.now }
     requires k_le_list_limit { k ≤ list_limit }
     requires list_limit_in_bounds { list_limit ≤ length out.old }
-    ensures { Does (push_all (first_words next.now k) []) (across terms cells chars reasons keys) c (pushed result into out) }
+    ensures { Does (push_all (first_words next.now k) []) (across (changing terms) cells (changing chars) reasons keys) c (pushed result into changing out) }
 {
     let mut d = c;
     let mut count: usize = 0;
@@ -66,12 +66,12 @@ fn settle(
     list: &mut [u32],
     count: usize,
 ) -> Turn
-    requires ready { Ready (lends terms cells chars reasons keys) c }
-    requires k_value { all (is_string (store_of (lends terms cells chars reasons keys) c)) (first_words next.now k) ≡ true }
+    requires ready { Ready (lent terms.old cells.now chars.old reasons.now keys.now) c }
+    requires k_value { all (is_string (store_of (lent terms.old cells.now chars.old reasons.now keys.now) c)) (first_words next.now k) ≡ true }
     requires k_in_bounds { (k ≤ length next.now) × (k ≤ list_limit) }
     requires count_in_bounds { count ≤ length list.old }
     requires deep_limit_in_bounds { deep_limit ≤ length list.old }
-    ensures { Between (Settles (first_words list.old count) (first_words next.now k)) (across terms cells chars reasons keys) c list.new result }
+    ensures { Between (Settles (first_words list.old count) (first_words next.now k)) (across (changing terms) cells (changing chars) reasons keys) c list.new result }
 {
     let mut out: [u32; 1024] = [0; 1024];
     let made = push_all(terms, cells, chars, reasons, keys, c, next, k, &mut out);
@@ -105,14 +105,12 @@ fn round(
     count: usize,
     met: &mut [u8; 513],
 ) -> Turn
-    requires ready { Ready (lends terms cells chars reasons keys) c }
-    requires candidates { Candidates (store_of (lends terms cells chars reasons keys) c) known.now table.now }
-    requires count_value { all (is_string (store_of (lends terms cells chars reasons keys) c)) (first_words list.old count) ≡ true }
+    requires ready { Ready (lent terms.old cells.now chars.old reasons.old keys.now) c }
+    requires candidates { Candidates (store_of (lent terms.old cells.now chars.old reasons.old keys.now) c) known.now table.now }
+    requires count_value { all (is_string (store_of (lent terms.old cells.now chars.old reasons.old keys.now) c)) (first_words list.old count) ≡ true }
     requires count_le_deep_limit { (count ≤ deep_limit) × (list_limit ≤ length list.old) }
     requires met_table { MetTable met.old }
-    ensures* { do
-      let l = first_words list.old count
-      ⌜ Between (Turns known.now t l met.old) (across terms cells chars reasons keys) c list.new met.new result ⌝ }
+    ensures { let l = first_words list.old count in Between (Turns known.now t l met.old) (across (changing terms) cells (changing chars) (changing reasons) keys) c list.new met.new result }
 {
     if !expands::any_opens(terms, c.terms, t, list, count) {
         return Turn::Ends(DeepForm::List(count, c));
@@ -141,11 +139,11 @@ fn rounds(
     list: &mut [u32],
     count: usize,
 ) -> DeepForm
-    requires ready { Ready (lends terms cells chars reasons keys) c }
-    requires candidates { Candidates (store_of (lends terms cells chars reasons keys) c) known.now table.now }
-    requires count_value { all (is_string (store_of (lends terms cells chars reasons keys) c)) (first_words list.old count) ≡ true }
+    requires ready { Ready (lent terms.old cells.now chars.old reasons.old keys.now) c }
+    requires candidates { Candidates (store_of (lent terms.old cells.now chars.old reasons.old keys.now) c) known.now table.now }
+    requires count_value { all (is_string (store_of (lent terms.old cells.now chars.old reasons.old keys.now) c)) (first_words list.old count) ≡ true }
     requires count_le_deep_limit { (count ≤ deep_limit) × (list_limit ≤ length list.old) }
-    ensures { Does (rounds 64 known.now t [] (first_words list.old count)) (across terms cells chars reasons keys) c (deepened result into list) }
+    ensures { Does (rounds 64 known.now t [] (first_words list.old count)) (across (changing terms) cells (changing chars) (changing reasons) keys) c (deepened result into changing list) }
 {
     let mut met: [u8; 513] = [0; 513];
     let mut d = c;
@@ -179,8 +177,8 @@ pub fn known_table_unchecked(
     c: State,
     known: &[u32],
 ) -> [u32; 513]
-    requires ready { Ready (lends terms cells chars reasons keys) c }
-    requires known_value { is_list (store_of (lends terms cells chars reasons keys) c) known.now ≡ true }
+    requires ready { Ready (lent terms.now cells.now chars.now reasons.now keys.now) c }
+    requires known_value { is_list (store_of (lent terms.now cells.now chars.now reasons.now keys.now) c) known.now ≡ true }
     ensures { Candidates (store_of (across terms cells chars reasons keys).entry c) known.now result }
 {
     let mut table: [u32; 513] = [0; 513];
@@ -201,11 +199,11 @@ pub fn deep_form_by_unchecked(
     t: u32,
     list: &mut [u32],
 ) -> DeepForm
-    requires ready { Ready (lends terms cells chars reasons keys) c }
-    requires candidates { Candidates (store_of (lends terms cells chars reasons keys) c) known.now table.now }
-    requires t_value { is_string (store_of (lends terms cells chars reasons keys) c) t ≡ true }
+    requires ready { Ready (lent terms.old cells.now chars.old reasons.old keys.now) c }
+    requires candidates { Candidates (store_of (lent terms.old cells.now chars.old reasons.old keys.now) c) known.now table.now }
+    requires t_value { is_string (store_of (lent terms.old cells.now chars.old reasons.old keys.now) c) t ≡ true }
     requires list_limit_in_bounds { list_limit ≤ length list.old }
-    ensures { Does (deep_form known.now t) (across terms cells chars reasons keys) c (deepened result into list) }
+    ensures { Does (deep_form known.now t) (across (changing terms) cells (changing chars) (changing reasons) keys) c (deepened result into changing list) }
 {
     let made = normal::form_by(terms, cells, chars, reasons, keys, c, known, table, t, list);
     match made {
@@ -233,10 +231,10 @@ pub(crate) fn deep_normal_form_cited_unchecked(
     t: u32,
     list: &mut [u32],
 ) -> DeepForm
-    requires ready { Ready (lends terms cells chars reasons keys) c }
-    requires c_value { form_arguments known.now t (store_of (lends terms cells chars reasons keys) c) ≡ true }
+    requires ready { Ready (lent terms.old cells.now chars.old reasons.old keys.now) c }
+    requires c_value { form_arguments known.now t (store_of (lent terms.old cells.now chars.old reasons.old keys.now) c) ≡ true }
     requires list_limit_in_bounds { list_limit ≤ length list.old }
-    ensures { Does (deep_form known.now t) (across terms cells chars reasons keys) c (deepened result into list) }
+    ensures { Does (deep_form known.now t) (across (changing terms) cells (changing chars) (changing reasons) keys) c (deepened result into changing list) }
 {
     let table = known_table_unchecked(terms, cells, chars, reasons, keys, c, known);
     deep_form_by_unchecked(

@@ -2,7 +2,7 @@
 ghost use Rattle.std.specs.Prelude.{◌≡◌, true, [], ◌∷◌, ◌≤◌, ◌<◌, length};
 ghost use Rattle.records.specs.Lists.{any};
 ghost use Rattle.records.specs.Store.{is_string};
-ghost use Rattle.records.specs.View.{store_of, terms_view, lends, across, Between};
+ghost use Rattle.records.specs.View.{store_of, terms_view, across, Between, changing, lent};
 ghost use Rattle.records.specs.Working.Audited.{Ready};
 ghost use Rattle.records.specs.Calls.{◌into◌};
 ghost use Rattle.records.specs.Working.Doing.{Does};
@@ -53,12 +53,12 @@ fn expand_atom(
     next: &mut [u32],
     k: usize,
 ) -> DeepForm
-    requires ready { Ready (lends terms cells chars reasons keys) c }
-    requires candidates { Candidates (store_of (lends terms cells chars reasons keys) c) known.now table.now }
-    requires a_value { is_string (store_of (lends terms cells chars reasons keys) c) a ≡ true }
+    requires ready { Ready (lent terms.old cells.now chars.old reasons.old keys.now) c }
+    requires candidates { Candidates (store_of (lent terms.old cells.now chars.old reasons.old keys.now) c) known.now table.now }
+    requires a_value { is_string (store_of (lent terms.old cells.now chars.old reasons.old keys.now) c) a ≡ true }
     requires k_in_bounds { k < length next.old }
     requires deep_limit_in_bounds { deep_limit ≤ length next.old }
-    ensures { Does (expand_atom known.now a (first_words next.old k)) (across terms cells chars reasons keys) c (deepened result into next) }
+    ensures { Does (expand_atom known.now a (first_words next.old k)) (across (changing terms) cells (changing chars) (changing reasons) keys) c (deepened result into changing next) }
 {
     let mut form: [u32; 1024] = [0; 1024];
     let made = normal::form_by(
@@ -92,12 +92,12 @@ fn expand_one(
     next: &mut [u32],
     k: usize,
 ) -> DeepForm
-    requires ready { Ready (lends terms cells chars reasons keys) c }
-    requires candidates { Candidates (store_of (lends terms cells chars reasons keys) c) known.now table.now }
-    requires a_value { is_string (store_of (lends terms cells chars reasons keys) c) a ≡ true }
+    requires ready { Ready (lent terms.old cells.now chars.old reasons.old keys.now) c }
+    requires candidates { Candidates (store_of (lent terms.old cells.now chars.old reasons.old keys.now) c) known.now table.now }
+    requires a_value { is_string (store_of (lent terms.old cells.now chars.old reasons.old keys.now) c) a ≡ true }
     requires k_in_bounds { k < length next.old }
     requires deep_limit_in_bounds { deep_limit ≤ length next.old }
-    ensures { Between (Expands known.now t (a ∷ []) next.old k met.old) (across terms cells chars reasons keys) c next.new met.new result }
+    ensures { Between (Expands known.now t (a ∷ []) next.old k met.old) (across (changing terms) cells (changing chars) (changing reasons) keys) c next.new met.new result }
 {
     if !opens(terms, c.terms, t, a) {
         next[k] = a;
@@ -128,12 +128,10 @@ pub(crate) fn expand(
     met: &mut [u8; 513],
     next: &mut [u32],
 ) -> DeepForm
-    requires ready { Ready (lends terms cells chars reasons keys) c }
-    requires candidates { Candidates (store_of (lends terms cells chars reasons keys) c) known.now table.now }
-    requires round_of { RoundOf (store_of (lends terms cells chars reasons keys) c) list.now count met.old next.old }
-    ensures* { do
-      let l = first_words list.now count
-      ⌜ Between (Expands known.now t l next.old 0 met.old) (across terms cells chars reasons keys) c next.new met.new result ⌝ }
+    requires ready { Ready (lent terms.old cells.now chars.old reasons.old keys.now) c }
+    requires candidates { Candidates (store_of (lent terms.old cells.now chars.old reasons.old keys.now) c) known.now table.now }
+    requires round_of { RoundOf (store_of (lent terms.old cells.now chars.old reasons.old keys.now) c) list.now count met.old next.old }
+    ensures { let l = first_words list.now count in Between (Expands known.now t l next.old 0 met.old) (across (changing terms) cells (changing chars) (changing reasons) keys) c next.new met.new result }
 {
     let mut d = c;
     let mut k: usize = 0;

@@ -1,7 +1,9 @@
 // Cited normal forms.
+#![tactic(auto)]
+
 ghost use Rattle.std.specs.Prelude.{◌≡◌, ◌≤◌, length};
 ghost use Rattle.records.specs.Calls.{Writes};
-ghost use Rattle.records.specs.View.{across, termed, term_limit, term_words};
+ghost use Rattle.records.specs.View.{across, termed, term_limit, term_words, changing};
 ghost use Rattle.records.specs.Working.Doing.{CutRefused};
 ghost use Rattle.normalize.specs.Normalize.{form_arguments};
 ghost use Rattle.normalize.specs.Calls.{formed, deepened, PublicForm, PublicDeepForm};
@@ -23,14 +25,14 @@ pub mod slices;
 pub const DEEP_NF_ATOM_CAP: usize = 256;
 
 // The list of a normal form, by its count, with the new counts; or the refusal.
-#[derive(Drop)]
+#[derive(Clone, Copy)]
 pub enum Form {
     List(usize, State),
     Refused(u32),
 }
 
 // The same of a deep form, which can answer None.
-#[derive(Drop)]
+#[derive(Clone, Copy)]
 pub enum DeepForm {
     List(usize, State),
     None(State),
@@ -38,7 +40,7 @@ pub enum DeepForm {
 }
 
 // How a round of the deep form ended: another round follows over its list, or the answer is known.
-#[derive(Drop)]
+#[derive(Clone, Copy)]
 pub enum Turn {
     Again(usize, State),
     Ends(DeepForm),
@@ -96,7 +98,7 @@ pub fn normal_form_cited(
     t: u32,
     list: &mut [u32],
 ) -> Form
-    ensures { Writes (PublicForm known.now t) (across terms cells chars reasons keys) list c (formed result) }
+    ensures { Writes (PublicForm known.now t) (across (changing terms) cells (changing chars) (changing reasons) keys) (changing list) c (formed result) }
 {
     if list.len() < LIST_LIMIT {
         return Form::Refused(1);
@@ -124,7 +126,7 @@ pub fn deep_normal_form_cited(
     t: u32,
     list: &mut [u32],
 ) -> DeepForm
-    ensures { Writes (PublicDeepForm known.now t) (across terms cells chars reasons keys) list c (deepened result) }
+    ensures { Writes (PublicDeepForm known.now t) (across (changing terms) cells (changing chars) (changing reasons) keys) (changing list) c (deepened result) }
 {
     if list.len() < LIST_LIMIT {
         return DeepForm::Refused(1);

@@ -2,7 +2,7 @@
 ghost use Rattle.std.specs.Prelude.{◌≡◌, true, [], ◌++◌, reverse, ◌≤◌, ◌<◌, length};
 ghost use Rattle.records.specs.Lists.{all};
 ghost use Rattle.records.specs.Store.{is_string};
-ghost use Rattle.records.specs.View.{store_of, lends, across};
+ghost use Rattle.records.specs.View.{store_of, across, changing, lent};
 ghost use Rattle.records.specs.Working.Audited.{Ready};
 ghost use Rattle.records.specs.Calls.{added, ◌into◌};
 ghost use Rattle.records.specs.Working.Doing.{Does};
@@ -28,9 +28,9 @@ fn cite(
     r: u32,
     places: &mut [u32],
 ) -> Added
-    requires ready { Ready (lends terms cells chars reasons keys) c }
-    requires c_value { explain_arguments a r (store_of (lends terms cells chars reasons keys) c) ≡ true }
-    ensures { Does (cite a r) (across terms cells chars reasons keys) c (added result) }
+    requires ready { Ready (lent terms.now cells.now chars.now reasons.old keys.now) c }
+    requires c_value { explain_arguments a r (store_of (lent terms.now cells.now chars.now reasons.old keys.now) c) ≡ true }
+    ensures { Does (cite a r) (across terms cells chars (changing reasons) keys) c (added result) }
 {
     if r == a {
         return Added::Counts(c);
@@ -52,11 +52,11 @@ fn push_for(
     count: usize,
     places: &mut [u32],
 ) -> Form
-    requires ready { Ready (lends terms cells chars reasons keys) c }
-    requires c_value { explain_arguments a r (store_of (lends terms cells chars reasons keys) c) ≡ true }
+    requires ready { Ready (lent terms.old cells.now chars.old reasons.old keys.now) c }
+    requires c_value { explain_arguments a r (store_of (lent terms.old cells.now chars.old reasons.old keys.now) c) ≡ true }
     requires count_lt_list_limit { count < list_limit }
     requires list_limit_in_bounds { list_limit ≤ length list.old }
-    ensures { Does (push_for a r (reverse (first_words list.old count))) (across terms cells chars reasons keys) c (pushed result into list) }
+    ensures { Does (push_for a r (reverse (first_words list.old count))) (across (changing terms) cells (changing chars) (changing reasons) keys) c (pushed result into changing list) }
 {
     let cited = cite(terms, cells, chars, reasons, keys, c, a, r, places);
     match cited {
@@ -79,11 +79,11 @@ fn push_forms(
     list: &mut [u32],
     places: &mut [u32],
 ) -> Form
-    requires ready { Ready (lends terms cells chars reasons keys) c }
-    requires candidates { Candidates (store_of (lends terms cells chars reasons keys) c) (known.now ++ flat.now) table.now }
+    requires ready { Ready (lent terms.old cells.now chars.old reasons.old keys.now) c }
+    requires candidates { Candidates (store_of (lent terms.old cells.now chars.old reasons.old keys.now) c) (known.now ++ flat.now) table.now }
     requires flat_len_bound { length flat.now ≤ list_limit }
     requires list_limit_in_bounds { list_limit ≤ length list.old }
-    ensures { Does (push_forms (known.now ++ flat.now) flat.now []) (across terms cells chars reasons keys) c (pushed result into list) }
+    ensures { Does (push_forms (known.now ++ flat.now) flat.now []) (across (changing terms) cells (changing chars) (changing reasons) keys) c (pushed result into changing list) }
 {
     let mut d = c;
     let mut count: usize = 0;
@@ -121,12 +121,12 @@ fn form_atoms(
     flat: &[u32],
     list: &mut [u32],
 ) -> Form
-    requires ready { Ready (lends terms cells chars reasons keys) c }
-    requires candidates { Candidates (store_of (lends terms cells chars reasons keys) c) known.now table.now }
-    requires flat_value { all (is_string (store_of (lends terms cells chars reasons keys) c)) flat.now ≡ true }
+    requires ready { Ready (lent terms.old cells.now chars.old reasons.old keys.now) c }
+    requires candidates { Candidates (store_of (lent terms.old cells.now chars.old reasons.old keys.now) c) known.now table.now }
+    requires flat_value { all (is_string (store_of (lent terms.old cells.now chars.old reasons.old keys.now) c)) flat.now ≡ true }
     requires flat_len_bound { length flat.now ≤ list_limit }
     requires list_limit_in_bounds { list_limit ≤ length list.old }
-    ensures { Does (push_forms (known.now ++ flat.now) flat.now []) (across terms cells chars reasons keys) c (pushed result into list) }
+    ensures { Does (push_forms (known.now ++ flat.now) flat.now []) (across (changing terms) cells (changing chars) (changing reasons) keys) c (pushed result into changing list) }
 {
     let mut own: [u32; 513] = *table;
     nodes::build_node_of(terms, c.terms, flat, &mut own);
@@ -165,11 +165,11 @@ fn form_flat(
     t: u32,
     list: &mut [u32],
 ) -> Form
-    requires ready { Ready (lends terms cells chars reasons keys) c }
-    requires candidates { Candidates (store_of (lends terms cells chars reasons keys) c) known.now table.now }
-    requires t_value { is_string (store_of (lends terms cells chars reasons keys) c) t ≡ true }
+    requires ready { Ready (lent terms.old cells.now chars.old reasons.old keys.now) c }
+    requires candidates { Candidates (store_of (lent terms.old cells.now chars.old reasons.old keys.now) c) known.now table.now }
+    requires t_value { is_string (store_of (lent terms.old cells.now chars.old reasons.old keys.now) c) t ≡ true }
     requires list_limit_in_bounds { list_limit ≤ length list.old }
-    ensures { Does (normal_form known.now t) (across terms cells chars reasons keys) c (formed result into list) }
+    ensures { Does (normal_form known.now t) (across (changing terms) cells (changing chars) (changing reasons) keys) c (formed result into changing list) }
 {
     let mut flat: [u32; 1024] = [0; 1024];
     let n = flat::flatten_unchecked(terms, c.terms, cells, c.cells, t, &mut flat, 0);
@@ -204,11 +204,11 @@ pub(crate) fn form_by(
     t: u32,
     list: &mut [u32],
 ) -> Form
-    requires ready { Ready (lends terms cells chars reasons keys) c }
-    requires candidates { Candidates (store_of (lends terms cells chars reasons keys) c) known.now table.now }
-    requires t_value { is_string (store_of (lends terms cells chars reasons keys) c) t ≡ true }
+    requires ready { Ready (lent terms.old cells.now chars.old reasons.old keys.now) c }
+    requires candidates { Candidates (store_of (lent terms.old cells.now chars.old reasons.old keys.now) c) known.now table.now }
+    requires t_value { is_string (store_of (lent terms.old cells.now chars.old reasons.old keys.now) c) t ≡ true }
     requires list_limit_in_bounds { list_limit ≤ length list.old }
-    ensures { Does (normal_form known.now t) (across terms cells chars reasons keys) c (formed result into list) }
+    ensures { Does (normal_form known.now t) (across (changing terms) cells (changing chars) (changing reasons) keys) c (formed result into changing list) }
 {
     if rules::kind_of(terms, c.terms, t) != 3 {
         let one: [u32; 1] = [t];
@@ -231,10 +231,10 @@ pub(crate) fn normal_form_cited_unchecked(
     t: u32,
     list: &mut [u32],
 ) -> Form
-    requires ready { Ready (lends terms cells chars reasons keys) c }
-    requires c_value { form_arguments known.now t (store_of (lends terms cells chars reasons keys) c) ≡ true }
+    requires ready { Ready (lent terms.old cells.now chars.old reasons.old keys.now) c }
+    requires c_value { form_arguments known.now t (store_of (lent terms.old cells.now chars.old reasons.old keys.now) c) ≡ true }
     requires list_limit_in_bounds { list_limit ≤ length list.old }
-    ensures { Does (normal_form known.now t) (across terms cells chars reasons keys) c (formed result into list) }
+    ensures { Does (normal_form known.now t) (across (changing terms) cells (changing chars) (changing reasons) keys) c (formed result into changing list) }
 {
     let mut table: [u32; 513] = [0; 513];
     nodes::build_node_of(terms, c.terms, known, &mut table);

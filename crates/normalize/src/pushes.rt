@@ -1,6 +1,6 @@
 // A normal form's list, atom by atom: "" is dropped, and a constant after a constant is joined with it.
 ghost use Rattle.std.specs.Prelude.{◌≡◌, true, reverse, ◌≤◌, ◌<◌, length};
-ghost use Rattle.records.specs.View.{terms_view, lends, across};
+ghost use Rattle.records.specs.View.{terms_view, across, changing, lent};
 ghost use Rattle.records.specs.Working.Audited.{Ready};
 ghost use Rattle.records.specs.Calls.{◌into◌};
 ghost use Rattle.records.specs.Working.Doing.{Does};
@@ -48,11 +48,11 @@ fn join_last(
     list: &mut [u32],
     count: usize,
 ) -> Form
-    requires ready { Ready (lends terms cells chars reasons keys) c }
+    requires ready { Ready (lent terms.old cells.now chars.old reasons.now keys.now) c }
     requires count_value { joins_in (terms_view terms.old c.terms) t (reverse (first_words list.old count)) ≡ true }
     requires count_nonzero { 0 < count }
     requires count_in_bounds { count ≤ length list.old }
-    ensures { Does (join t (reverse (first_words list.old count))) (across terms cells chars reasons keys) c (pushed result into list) }
+    ensures { Does (join t (reverse (first_words list.old count))) (across (changing terms) cells (changing chars) reasons keys) c (pushed result into changing list) }
 {
     let last = count - 1;
     let pair: [u32; 2] = [list[last], t];
@@ -78,10 +78,10 @@ pub(crate) fn push(
     list: &mut [u32],
     count: usize,
 ) -> Form
-    requires ready { Ready (lends terms cells chars reasons keys) c }
+    requires ready { Ready (lent terms.old cells.now chars.old reasons.now keys.now) c }
     requires count_lt_list_limit { count < list_limit }
     requires list_limit_in_bounds { list_limit ≤ length list.old }
-    ensures { Does (push t (reverse (first_words list.old count))) (across terms cells chars reasons keys) c (pushed result into list) }
+    ensures { Does (push t (reverse (first_words list.old count))) (across (changing terms) cells (changing chars) reasons keys) c (pushed result into changing list) }
 {
     if is_empty(terms, c.terms, t) {
         return Form::List(count, c);

@@ -476,6 +476,7 @@ module _ {A : Type 0} where
   pub every_mem : {P : A → Type 0} {l : List A} {a : A} → Every P l → Memᴰ a l → P a
   every_mem {P} (and p k) (Memᴰ.head e) = rw e p
   every_mem (and p k) (Memᴰ.tail m) = every_mem k m
+  every_mem {P = P} {a = a} none_left x3 = elim x3 [ ]
 
   pub all_every : (p : A → Bool) (l : List A) → all p l ≡ true → Every (λ a. p a ≡ true) l
   unfolding all

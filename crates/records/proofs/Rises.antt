@@ -94,7 +94,7 @@ module _ (ts : List Term) where
     pub mem : Memᴰ at l
     pub passes : p at ≡ true
 
-  pub first_of_lem : (p : ℕ → Bool) {l : List ℕ} {x : ℕ} → Memᴰ x l → p x ≡ true → First p l
+  pub first_of_lem : (p : ℕ → Bool) {x : ℕ} {l : List ℕ} → Memᴰ x l → p x ≡ true → First p l
   unfolding first_of
   first_of_lem p (Memᴰ.head {x = y} {xs = l} e) q = record { at = y; is = rw (ap p (sym e) ∙ q, first_of); mem = Memᴰ.head refl; passes = ap p (sym e) ∙ q }
   first_of_lem p (Memᴰ.tail {x = y} {xs = l} m) q = go (first_of_lem p m q) (p y) refl

@@ -1,6 +1,7 @@
 -- What of the lent slices is counted, and whether the slices are long enough for it.
 use Rattle.std.specs.Prelude.{Bool, ◌&&◌, List, [], ◌∷◌, ℕ, suc, ◌+◌, ◌-◌, ◌*◌, ◌/◌, min, length, get_or, leb}
-use Rattle.std.specs.Borrow.{Bor}
+use Rattle.std.specs.Borrow.{Bor, MutBor}
+use denote.Ref.{as_bor}
 use denote.Triple.Both.{Both}
 use Rattle.records.specs.declared.State.{State}
 use Rattle.records.specs.Lists.{table}
@@ -21,11 +22,15 @@ lent t e h r k = record { terms = t; cells = e; chars = h; reasons = r; keys = k
 abbrev pub Slice : Type 0
 Slice = Both (Bor (List ℕ)) (Bor (List ℕ))
 
--- the five slices by their names, in a `requires`
+-- a slice that is lent by `&mut`, likewise
+abbrev pub changing : Both (MutBor (List ℕ)) (MutBor (List ℕ)) → Slice
+changing x = record { entry = as_bor x.entry; exit = as_bor x.exit }
+
+-- the five slices by their names, at one moment
 abbrev pub lends : Bor (List ℕ) → Bor (List ℕ) → Bor (List ℕ) → Bor (List ℕ) → Bor (List ℕ) → Lent
 lends t e h r k = lent t.now e.now h.now r.now k.now
 
--- and in an `ensures`, at both moments
+-- and at both moments
 abbrev pub across : Slice → Slice → Slice → Slice → Slice → Both Lent Lent
 across t e h r k = record { entry = lends t.entry e.entry h.entry r.entry k.entry; exit = lends t.exit e.exit h.exit r.exit k.exit }
 

@@ -2,7 +2,7 @@
 ghost use Rattle.std.specs.Prelude.{true, ◌≡◌, ◌⊎◌, suc};
 ghost use Rattle.records.specs.Lists.{same_word, firsts, first_below};
 ghost use Rattle.records.specs.Store.{chain_in};
-ghost use Rattle.records.specs.View.{cells_view, store_of, lends, across};
+ghost use Rattle.records.specs.View.{cells_view, store_of, across, changing, lent};
 ghost use Rattle.records.specs.Index.{bucket_of};
 ghost use Rattle.records.specs.Make.{number_of, make_concat, make_length, make_equation, concat_arguments, length_arguments, equation_arguments};
 ghost use Rattle.records.specs.Working.Indexing.{Walkable, Searchable, FirstIn};
@@ -84,8 +84,8 @@ fn append_parts(
     c: State,
     l: &[u32],
 ) -> Made
-    requires { Ready (lends terms cells chars reasons keys) c }
-    ensures { Builds (append_parts l.now) (across terms cells chars reasons keys) c (made result) }
+    requires { Ready (lent terms.old cells.old chars.now reasons.now keys.now) c }
+    ensures { Builds (append_parts l.now) (across (changing terms) (changing cells) chars reasons keys) c (made result) }
 {
     let n = c.terms;
     let k = c.cells;
@@ -109,9 +109,9 @@ pub fn make_concatenation_unchecked(
     c: State,
     l: &[u32],
 ) -> Made
-    requires ready { Ready (lends terms cells chars reasons keys) c }
-    requires c_value { concat_arguments l.now (store_of (lends terms cells chars reasons keys) c) ≡ true }
-    ensures { Does (make_concat l.now) (across terms cells chars reasons keys) c (made result) }
+    requires ready { Ready (lent terms.old cells.old chars.now reasons.now keys.now) c }
+    requires c_value { concat_arguments l.now (store_of (lent terms.old cells.old chars.now reasons.now keys.now) c) ≡ true }
+    ensures { Does (make_concat l.now) (across (changing terms) (changing cells) chars reasons keys) c (made result) }
 {
     let t = find_parts(terms, cells, c.terms, c.cells, l);
     if t != 0 {
@@ -168,9 +168,9 @@ fn make_sides(
     a: u32,
     b: u32,
 ) -> Made
-    requires fact_1 { Ready (lends terms cells chars reasons keys) c }
+    requires fact_1 { Ready (lent terms.old cells.now chars.now reasons.now keys.now) c }
     requires fact_2 { ((k ≡ 4) × (b ≡ 0)) ⊎ (k ≡ 5) }
-    ensures { Builds (make_sides k a b) (across terms cells chars reasons keys) c (made result) }
+    ensures { Builds (make_sides k a b) (across (changing terms) cells chars reasons keys) c (made result) }
 {
     let at = bucket_of_sides(k, a, b);
     let t = find_sides(terms, c.terms, at, k, a, b);
@@ -194,9 +194,9 @@ pub fn make_length_unchecked(
     c: State,
     t: u32,
 ) -> Made
-    requires ready { Ready (lends terms cells chars reasons keys) c }
-    requires c_value { length_arguments t (store_of (lends terms cells chars reasons keys) c) ≡ true }
-    ensures { Does (make_length t) (across terms cells chars reasons keys) c (made result) }
+    requires ready { Ready (lent terms.old cells.now chars.now reasons.now keys.now) c }
+    requires c_value { length_arguments t (store_of (lent terms.old cells.now chars.now reasons.now keys.now) c) ≡ true }
+    ensures { Does (make_length t) (across (changing terms) cells chars reasons keys) c (made result) }
 {
     make_sides(terms, cells, chars, reasons, keys, c, 4, t, 0)
 }
@@ -211,9 +211,9 @@ pub fn make_equation_unchecked(
     a: u32,
     b: u32,
 ) -> Made
-    requires ready { Ready (lends terms cells chars reasons keys) c }
-    requires c_value { equation_arguments a b (store_of (lends terms cells chars reasons keys) c) ≡ true }
-    ensures { Does (make_equation a b) (across terms cells chars reasons keys) c (made result) }
+    requires ready { Ready (lent terms.old cells.now chars.now reasons.now keys.now) c }
+    requires c_value { equation_arguments a b (store_of (lent terms.old cells.now chars.now reasons.now keys.now) c) ≡ true }
+    ensures { Does (make_equation a b) (across (changing terms) cells chars reasons keys) c (made result) }
 {
     make_sides(terms, cells, chars, reasons, keys, c, 5, a, b)
 }
@@ -229,7 +229,7 @@ pub fn make_concatenation(
     c: State,
     l: &[u32],
 ) -> Made
-    ensures { Answers (concat_arguments l.now) (make_concat l.now) (across terms cells chars reasons keys) c (made result) }
+    ensures { Answers (concat_arguments l.now) (make_concat l.now) (across (changing terms) (changing cells) chars reasons keys) c (made result) }
 {
     let k = crate::audit(terms, cells, chars, reasons, keys, c);
     if k != 0 {
@@ -254,7 +254,7 @@ pub fn make_length(
     c: State,
     t: u32,
 ) -> Made
-    ensures { Answers (length_arguments t) (make_length t) (across terms cells chars reasons keys) c (made result) }
+    ensures { Answers (length_arguments t) (make_length t) (across (changing terms) cells chars reasons keys) c (made result) }
 {
     let k = crate::audit(terms, cells, chars, reasons, keys, c);
     if k != 0 {
@@ -277,7 +277,7 @@ pub fn make_equation(
     a: u32,
     b: u32,
 ) -> Made
-    ensures { Answers (equation_arguments a b) (make_equation a b) (across terms cells chars reasons keys) c (made result) }
+    ensures { Answers (equation_arguments a b) (make_equation a b) (across (changing terms) cells chars reasons keys) c (made result) }
 {
     let k = crate::audit(terms, cells, chars, reasons, keys, c);
     if k != 0 {

@@ -122,9 +122,7 @@ fn parents_ok(terms: &[u32], c: State, t: u32) -> bool
 
 fn parents_hold(terms: &[u32], c: State) -> bool
     requires { c.terms ≤ term_limit }
-    ensures* { do
-      let s = termed terms.now c
-      ⌜ result ≡ each_term s (parents_rule s) ⌝ }
+    ensures { let s = termed terms.now c in result ≡ each_term s (parents_rule s) }
 {
     let mut i: u32 = 0;
     while (i as usize) < c.terms {
@@ -206,9 +204,9 @@ fn alone_ok(terms: &[u32], c: State, t: u32) -> bool
 
 // One term's tests, with the roots that were climbed to at hand.
 pub(crate) fn rooted_ok(terms: &[u32], c: State, t: u32, r: u32, q: u32, p: u32, u: u32) -> bool
-    requires* { do
-      let s = termed terms.now c
-      ⌜ Rooted s c.terms t r q ⌝ ∗ ⌜ p ≡ root s q ⌝ ∗ ⌜ u ≡ top s r ⌝ }
+    requires fact_1 { let s = termed terms.now c in Rooted s c.terms t r q }
+    requires fact_2 { let s = termed terms.now c in p ≡ root s q }
+    requires fact_3 { let s = termed terms.now c in u ≡ top s r }
     ensures { result ≡ class_test (termed terms.now c) t }
 {
     if !ends_ok(terms, c, t, r, q) {
@@ -224,9 +222,7 @@ pub(crate) fn rooted_ok(terms: &[u32], c: State, t: u32, r: u32, q: u32, p: u32,
 }
 
 fn class_ok(terms: &[u32], c: State, t: u32) -> bool
-    requires* { do
-      let s = termed terms.now c
-      ⌜ (within c.terms t ≡ true) × (each_term s (parents_rule s) ≡ true) ⌝ }
+    requires { let s = termed terms.now c in (within c.terms t ≡ true) × (each_term s (parents_rule s) ≡ true) }
     ensures { result ≡ class_test (termed terms.now c) t }
 {
     let r = root_unchecked(terms, c.terms, t);
@@ -237,12 +233,8 @@ fn class_ok(terms: &[u32], c: State, t: u32) -> bool
 }
 
 fn classes_few(terms: &[u32], c: State) -> bool
-    requires* { do
-      let s = termed terms.now c
-      ⌜ (c.terms ≤ term_limit) × (each_term s (parents_rule s) ≡ true) ⌝ }
-    ensures* { do
-      let s = termed terms.now c
-      ⌜ result ≡ each_term s (class_test s) ⌝ }
+    requires { let s = termed terms.now c in (c.terms ≤ term_limit) × (each_term s (parents_rule s) ≡ true) }
+    ensures { let s = termed terms.now c in result ≡ each_term s (class_test s) }
 {
     let mut i: u32 = 0;
     while (i as usize) < c.terms {
@@ -256,12 +248,8 @@ fn classes_few(terms: &[u32], c: State) -> bool
 
 // Tables of roots have to be cleared at each call, so few terms go without.
 fn classes_hold(terms: &[u32], c: State) -> bool
-    requires* { do
-      let s = termed terms.now c
-      ⌜ (c.terms ≤ term_limit) × (each_term s (parents_rule s) ≡ true) ⌝ }
-    ensures* { do
-      let s = termed terms.now c
-      ⌜ result ≡ each_term s (class_test s) ⌝ }
+    requires { let s = termed terms.now c in (c.terms ≤ term_limit) × (each_term s (parents_rule s) ≡ true) }
+    ensures { let s = termed terms.now c in result ≡ each_term s (class_test s) }
 {
     if c.terms < 32 {
         return classes_few(terms, c);
@@ -313,9 +301,7 @@ fn pair_meets(cells: &[u32], n: usize, x: u32, y: u32, z: u32) -> bool
 
 // The pair chain from p against the chains from a and b. A chain has at most as many cells as there are, so the walk ends.
 fn pairs_ok(cells: &[u32], n: usize, p: u32, a: u32, b: u32) -> bool
-    ensures* { do
-      let cs = cells_view cells.now n
-      ⌜ result ≡ pair_words (chain_in cs p) (chain_in cs a) (chain_in cs b) ⌝ }
+    ensures { let cs = cells_view cells.now n in result ≡ pair_words (chain_in cs p) (chain_in cs a) (chain_in cs b) }
 {
     let mut x = p;
     let mut y = a;
@@ -341,9 +327,7 @@ fn falls_hold(terms: &[u32], cells: &[u32], c: State, m: u32, p: u32, heights: &
     requires pathed { Pathed terms.now c.terms }
     requires every { Every (TermPair c.terms) (chain_in (cells_view cells.now c.cells) p) }
     requires heights { Heights (termed terms.now c) cells.now heights.old }
-    ensures* { do
-      let s = termed terms.now c
-      ⌜ Told s cells.now heights.new result (all (falls_rule s m) (chain_in (cells_view cells.now c.cells) p)) ⌝ }
+    ensures { let s = termed terms.now c in Told s cells.now heights.new result (all (falls_rule s m) (chain_in (cells_view cells.now c.cells) p)) }
 {
     let mut x = p;
     let mut i: usize = 0;
@@ -362,9 +346,7 @@ fn falls_hold(terms: &[u32], cells: &[u32], c: State, m: u32, p: u32, heights: &
 }
 
 fn pairs_either_ok(cells: &[u32], n: usize, p: u32, a: u32, b: u32) -> bool
-    ensures* { do
-      let cs = cells_view cells.now n
-      ⌜ result ≡ (pair_words (chain_in cs p) (chain_in cs a) (chain_in cs b) || pair_words (chain_in cs p) (chain_in cs b) (chain_in cs a)) ⌝ }
+    ensures { let cs = cells_view cells.now n in result ≡ (pair_words (chain_in cs p) (chain_in cs a) (chain_in cs b) || pair_words (chain_in cs p) (chain_in cs b) (chain_in cs a)) }
 {
     if pairs_ok(cells, n, p, a, b) {
         return true;

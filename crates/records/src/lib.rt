@@ -1,4 +1,6 @@
 // The store of labels: its layout in lent slices, its audit, its counts, and the calls that make terms.
+#![tactic(auto)]
+
 ghost use Rattle.std.specs.Prelude.{◌≡◌, ◌+◌, ◌<◌, ◌≤◌};
 ghost use Rattle.records.specs.Rules.{audit};
 ghost use Rattle.records.specs.View.{term_limit, cell_limit, char_limit, reason_limit, key_limit, one_term, more_cells, more_chars, reasons_at, one_reason, one_key, names_at, counts, across};
@@ -77,7 +79,7 @@ pub fn audit(
 }
 
 // How many records of each slice are counted, and the name counter. Record 0 of terms and of cells is not counted.
-#[derive(Drop)]
+#[derive(Clone, Copy)]
 pub struct State {
     pub terms: usize,
     pub cells: usize,
@@ -88,21 +90,21 @@ pub struct State {
 }
 
 // What a making call answers: the term with the new counts, or the refusal.
-#[derive(Drop)]
+#[derive(Clone, Copy)]
 pub enum Made {
     Term(u32, State),
     Refused(u32),
 }
 
 // What adding reasons or a key answers: the new counts, or the refusal.
-#[derive(Drop)]
+#[derive(Clone, Copy)]
 pub enum Added {
     Counts(State),
     Refused(u32),
 }
 
 // What taking a name answers: 0, or the refusal; the counts with the counter past the name, or those of entry; the name and its length.
-#[derive(Drop)]
+#[derive(Clone, Copy)]
 pub struct Named {
     pub code: u32,
     pub state: State,

@@ -3,7 +3,7 @@ ghost use Rattle.std.specs.Prelude.{true, ◌≡◌, suc, ◌+◌, ◌≤◌, le
 ghost use Rattle.std.proofs.Math.Option.{none};
 ghost use Rattle.records.specs.Lists.{all, concat_map, first_below};
 ghost use Rattle.records.specs.Store.{within, is_constant, text};
-ghost use Rattle.records.specs.View.{term_limit, term_words, char_limit, char_room, store_of, text_at, lengths, lends, across};
+ghost use Rattle.records.specs.View.{term_limit, term_words, char_limit, char_room, store_of, text_at, lengths, across, changing, lent};
 ghost use Rattle.records.specs.Index.{bucket_of};
 ghost use Rattle.records.specs.Rules.{list_limit, named};
 ghost use Rattle.records.specs.Make.{number_of, lookup, make_constant, make_variable, constant_arguments, variable_arguments};
@@ -82,9 +82,9 @@ fn append_text(
     k: u32,
     w: &[u32],
 ) -> Made
-    requires fact_1 { Ready (lends terms cells chars reasons keys) c }
+    requires fact_1 { Ready (lent terms.old cells.now chars.old reasons.now keys.now) c }
     requires fact_2 { within 2 k ≡ true }
-    ensures { Builds (append_text k w.now) (across terms cells chars reasons keys) c (made result) }
+    ensures { Builds (append_text k w.now) (across (changing terms) cells (changing chars) reasons keys) c (made result) }
 {
     if !text_fits(chars, c.chars, w.len()) {
         return Made::Refused(8);
@@ -110,9 +110,9 @@ fn make_text(
     k: u32,
     w: &[u32],
 ) -> Made
-    requires fact_1 { Ready (lends terms cells chars reasons keys) c }
+    requires fact_1 { Ready (lent terms.old cells.now chars.old reasons.now keys.now) c }
     requires fact_2 { within 2 k ≡ true }
-    ensures { Builds (make_text k w.now) (across terms cells chars reasons keys) c (made result) }
+    ensures { Builds (make_text k w.now) (across (changing terms) cells (changing chars) reasons keys) c (made result) }
 {
     let t = find_text_unchecked(terms, chars, c.terms, k, w);
     if t != 0 {
@@ -130,9 +130,9 @@ pub fn make_constant_unchecked(
     c: State,
     w: &[u32],
 ) -> Made
-    requires ready { Ready (lends terms cells chars reasons keys) c }
-    requires c_value { constant_arguments w.now (store_of (lends terms cells chars reasons keys) c) ≡ true }
-    ensures { Does (make_constant w.now) (across terms cells chars reasons keys) c (made result) }
+    requires ready { Ready (lent terms.old cells.now chars.old reasons.now keys.now) c }
+    requires c_value { constant_arguments w.now (store_of (lent terms.old cells.now chars.old reasons.now keys.now) c) ≡ true }
+    ensures { Does (make_constant w.now) (across (changing terms) cells (changing chars) reasons keys) c (made result) }
 {
     make_text(terms, cells, chars, reasons, keys, c, 1, w)
 }
@@ -146,9 +146,9 @@ pub(crate) fn make_variable_unchecked(
     c: State,
     w: &[u32],
 ) -> Made
-    requires ready { Ready (lends terms cells chars reasons keys) c }
-    requires c_value { variable_arguments w.now (store_of (lends terms cells chars reasons keys) c) ≡ true }
-    ensures { Does (make_variable w.now) (across terms cells chars reasons keys) c (made result) }
+    requires ready { Ready (lent terms.old cells.now chars.old reasons.now keys.now) c }
+    requires c_value { variable_arguments w.now (store_of (lent terms.old cells.now chars.old reasons.now keys.now) c) ≡ true }
+    ensures { Does (make_variable w.now) (across (changing terms) cells (changing chars) reasons keys) c (made result) }
 {
     make_text(terms, cells, chars, reasons, keys, c, 2, w)
 }
@@ -163,10 +163,10 @@ pub fn make_new_variable_unchecked(
     c: State,
     w: &[u32],
 ) -> Made
-    requires ready { Ready (lends terms cells chars reasons keys) c }
-    requires c_value { variable_arguments w.now (store_of (lends terms cells chars reasons keys) c) ≡ true }
-    requires c_value_2 { lookup (named w.now) (store_of (lends terms cells chars reasons keys) c) ≡ none }
-    ensures { Does (make_variable w.now) (across terms cells chars reasons keys) c (made result) }
+    requires ready { Ready (lent terms.old cells.now chars.old reasons.now keys.now) c }
+    requires c_value { variable_arguments w.now (store_of (lent terms.old cells.now chars.old reasons.now keys.now) c) ≡ true }
+    requires c_value_2 { lookup (named w.now) (store_of (lent terms.old cells.now chars.old reasons.now keys.now) c) ≡ none }
+    ensures { Does (make_variable w.now) (across (changing terms) cells (changing chars) reasons keys) c (made result) }
 {
     append_text(terms, cells, chars, reasons, keys, c, 2, w)
 }
@@ -194,9 +194,7 @@ fn walk_joined(terms: &[u32], chars: &[u32], n: usize, b: usize, list: &[u32], t
     requires list_len_bound { length list.now ≤ list_limit }
     requires texts_within { TextsWithin terms.now (length chars.now) list.now }
     requires total_value { total ≡ lengths terms.now list.now }
-    ensures* { do
-      let w = concat_map (text_at terms.now chars.now) list.now
-      ⌜ FirstIn terms.now b (has_text terms.now chars.now 1 w) result ⌝ }
+    ensures { let w = concat_map (text_at terms.now chars.now) list.now in FirstIn terms.now b (has_text terms.now chars.now 1 w) result }
 {
     let mut t = head(terms, b);
     while t != 0 {
@@ -214,9 +212,7 @@ fn find_joined(terms: &[u32], chars: &[u32], n: usize, b: usize, list: &[u32], t
     requires list_len_bound { length list.now ≤ list_limit }
     requires texts_within { TextsWithin terms.now (length chars.now) list.now }
     requires total_value { total ≡ lengths terms.now list.now }
-    ensures* { do
-      let w = concat_map (text_at terms.now chars.now) list.now
-      ⌜ result ≡ number_of (first_below (λ i. has_text terms.now chars.now 1 w (suc i)) n) ⌝ }
+    ensures { let w = concat_map (text_at terms.now chars.now) list.now in result ≡ number_of (first_below (λ i. has_text terms.now chars.now 1 w (suc i)) n) }
 {
     walk_joined(terms, chars, n, b, list, total)
 }
@@ -232,10 +228,10 @@ pub fn join_constants_unchecked(
     c: State,
     list: &[u32],
 ) -> Made
-    requires ready { Ready (lends terms cells chars reasons keys) c }
+    requires ready { Ready (lent terms.old cells.now chars.old reasons.now keys.now) c }
     requires list_len_bound { length list.now ≤ list_limit }
-    requires list_value { all (is_constant (store_of (lends terms cells chars reasons keys) c)) list.now ≡ true }
-    ensures { Does (λ s. make_constant (concat_map (text s) list.now) s) (across terms cells chars reasons keys) c (made result) }
+    requires list_value { all (is_constant (store_of (lent terms.old cells.now chars.old reasons.now keys.now) c)) list.now ≡ true }
+    ensures { Does (λ s. make_constant (concat_map (text s) list.now) s) (across (changing terms) cells (changing chars) reasons keys) c (made result) }
 {
     let total = joined_length_unchecked(terms, list);
     let b = bucket_of_joined(terms, chars, list);
@@ -281,7 +277,7 @@ pub fn make_constant(
     c: State,
     w: &[u32],
 ) -> Made
-    ensures { Answers (constant_arguments w.now) (make_constant w.now) (across terms cells chars reasons keys) c (made result) }
+    ensures { Answers (constant_arguments w.now) (make_constant w.now) (across (changing terms) cells (changing chars) reasons keys) c (made result) }
 {
     let k = crate::audit(terms, cells, chars, reasons, keys, c);
     if k != 0 {
@@ -304,7 +300,7 @@ pub fn make_variable(
     c: State,
     w: &[u32],
 ) -> Made
-    ensures { Answers (variable_arguments w.now) (make_variable w.now) (across terms cells chars reasons keys) c (made result) }
+    ensures { Answers (variable_arguments w.now) (make_variable w.now) (across (changing terms) cells (changing chars) reasons keys) c (made result) }
 {
     let k = crate::audit(terms, cells, chars, reasons, keys, c);
     if k != 0 {

@@ -1,6 +1,6 @@
 // Names for new variables: `!strk` and a counter in decimal.
 ghost use Rattle.std.specs.Prelude.{◌≡◌, ◌+◌, ◌≤◌, length};
-ghost use Rattle.records.specs.View.{store_of, lends, across};
+ghost use Rattle.records.specs.View.{store_of, across, lent};
 ghost use Rattle.records.specs.Make.{decimal_by, name_of, is_taken};
 ghost use Rattle.records.specs.Working.Puts.{Written};
 ghost use Rattle.records.specs.Working.Audited.{Ready};
@@ -50,7 +50,7 @@ fn is_taken(
     c: State,
     x: u32,
 ) -> bool
-    requires { Ready (lends terms cells chars reasons keys) c }
+    requires { Ready (lent terms.now cells.now chars.now reasons.now keys.now) c }
     ensures { result ≡ is_taken (store_of (across terms cells chars reasons keys).entry c) x }
 {
     let mut name: [u32; 15] = [0; 15];
@@ -67,7 +67,7 @@ fn free_name(
     keys: &[u32],
     c: State,
 ) -> u32
-    requires { Ready (lends terms cells chars reasons keys) c }
+    requires { Ready (lent terms.now cells.now chars.now reasons.now keys.now) c }
     ensures { Free (store_of (across terms cells chars reasons keys).entry c) result }
 {
     let mut x = c.names;
@@ -89,7 +89,7 @@ pub fn take_name_unchecked(
     keys: &[u32],
     c: State,
 ) -> Named
-    requires { Ready (lends terms cells chars reasons keys) c }
+    requires { Ready (lent terms.now cells.now chars.now reasons.now keys.now) c }
     ensures { Taken (across terms cells chars reasons keys).entry c result }
 {
     let mut name: [u32; 15] = [0; 15];

@@ -1,7 +1,7 @@
 // Writing records above the counts: terms, cells, reasons and keys; and what joins classes, in a term's record.
 ghost use Rattle.std.specs.Prelude.{true, ◌≡◌, ◌+◌, ◌*◌, ◌/◌, ◌<◌, ◌≤◌, min, max, ltb, leb, length};
 ghost use Rattle.records.specs.Lists.{any};
-ghost use Rattle.records.specs.View.{buckets, term_limit, cell_limit, term_at, term_words, cell_words, term_room, cell_room, pair_at, pairs_view, store_of, lends, across};
+ghost use Rattle.records.specs.View.{buckets, term_limit, cell_limit, term_at, term_words, cell_words, term_room, cell_room, pair_at, pairs_view, store_of, across, changing, lent};
 ghost use Rattle.records.specs.Rules.{key_rule};
 ghost use Rattle.records.specs.Make.{with_class, with_edge, add_key, ordered, same_pair};
 ghost use Rattle.records.specs.Working.Indexing.{Walkable};
@@ -179,9 +179,9 @@ pub fn add_key_unchecked(
     a: u32,
     b: u32,
 ) -> crate::Added
-    requires ready { Ready (lends terms cells chars reasons keys) c }
-    requires b_value { key_rule (store_of (lends terms cells chars reasons keys) c) (ordered a b) ≡ true }
-    ensures { Does (add_key a b) (across terms cells chars reasons keys) c (added result) }
+    requires ready { Ready (lent terms.now cells.now chars.now reasons.now keys.old) c }
+    requires b_value { key_rule (store_of (lent terms.now cells.now chars.now reasons.now keys.old) c) (ordered a b) ≡ true }
+    ensures { Does (add_key a b) (across terms cells chars reasons (changing keys)) c (added result) }
 {
     if pair_fits(keys, crate::KEY_LIMIT, c.keys) {
         push_pair(keys, c.keys, lower(a, b), higher(a, b));

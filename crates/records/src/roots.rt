@@ -74,9 +74,10 @@ fn class_kept_ok(
     roots: &mut [u32; 513],
     tops: &mut [u32; 513],
 ) -> bool
-    requires* { do
-      let s = termed terms.now c
-      ⌜ c.terms ≤ term_limit ⌝ ∗ ⌜ within c.terms t ≡ true ⌝ ∗ ⌜ each_term s (parents_rule s) ≡ true ⌝ ∗ ⌜ Kept s c.terms roots.old tops.old ⌝ }
+    requires fact_1 { c.terms ≤ term_limit }
+    requires fact_2 { within c.terms t ≡ true }
+    requires fact_3 { let s = termed terms.now c in each_term s (parents_rule s) ≡ true }
+    requires fact_4 { let s = termed terms.now c in Kept s c.terms roots.old tops.old }
     ensures { Tested (termed terms.now c) c.terms t result roots.new tops.new }
 {
     let r = kept_root_unchecked(terms, c.terms, t, roots);
@@ -92,12 +93,8 @@ fn class_kept_ok(
 }
 
 pub(crate) fn classes_many(terms: &[u32], c: State) -> bool
-    requires* { do
-      let s = termed terms.now c
-      ⌜ (c.terms ≤ term_limit) × (each_term s (parents_rule s) ≡ true) ⌝ }
-    ensures* { do
-      let s = termed terms.now c
-      ⌜ result ≡ each_term s (class_test s) ⌝ }
+    requires { let s = termed terms.now c in (c.terms ≤ term_limit) × (each_term s (parents_rule s) ≡ true) }
+    ensures { let s = termed terms.now c in result ≡ each_term s (class_test s) }
 {
     let mut roots: [u32; 513] = [0; 513];
     let mut tops: [u32; 513] = [0; 513];

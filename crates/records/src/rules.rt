@@ -2,7 +2,7 @@
 ghost use Rattle.std.specs.Prelude.{[], ◌≡◌, true, ◌&&◌, ◌+◌, ◌*◌, ◌<◌, ◌≤◌, length, leb};
 ghost use Rattle.records.specs.Lists.{all};
 ghost use Rattle.records.specs.Store.{term_in, within, cell, chain};
-ghost use Rattle.records.specs.View.{store_of, terms_view, chars_view, pairs_view, lends, across, termed, read_in, chained, records_in};
+ghost use Rattle.records.specs.View.{store_of, terms_view, chars_view, pairs_view, across, termed, read_in, chained, records_in, lent};
 ghost use Rattle.records.specs.View.{term_words, cell_words, term_limit, cell_limit, char_limit, reason_limit, sizes};
 ghost use Rattle.records.specs.Rules.{is_char, is_number, is_equatable, records_rule, each_term, each_cell, is_list};
 ghost use Rattle.records.specs.Rules.{reason_rule, key_rule, cell_rule, text_rule, part_rule, concat_rule, length_rule, equation_rule, term_rule};
@@ -183,9 +183,7 @@ pub(crate) fn text_ok(terms: &[u32], c: State, t: u32) -> bool
 
 fn part_ok(terms: &[u32], cells: &[u32], c: State, t: u32, i: u32) -> bool
     requires { within c.cells i ≡ true }
-    ensures* { do
-      let s = chained terms.now cells.now c
-      ⌜ result ≡ part_rule s t ((cell s i).value, (cell s i).other) ⌝ }
+    ensures { let s = chained terms.now cells.now c in result ≡ part_rule s t ((cell s i).value, (cell s i).other) }
 {
     let o = fields::other(cells, i);
     if o != 0 {
@@ -259,9 +257,7 @@ fn equation_ok(terms: &[u32], c: State, t: u32) -> bool
 
 // The chain from cell f as the parts of term t. A chain has at most as many cells as there are, so the walk ends.
 fn parts_ok(terms: &[u32], cells: &[u32], c: State, t: u32, f: u32) -> bool
-    ensures* { do
-      let s = chained terms.now cells.now c
-      ⌜ result ≡ (leb 2 (length (chain s f)) && all (part_rule s t) (chain s f)) ⌝ }
+    ensures { let s = chained terms.now cells.now c in result ≡ (leb 2 (length (chain s f)) && all (part_rule s t) (chain s f)) }
 {
     let mut at = f;
     let mut i: usize = 0;
@@ -302,9 +298,7 @@ fn term_ok(
     t: u32,
 ) -> bool
     requires { (within c.terms t ≡ true) × (c.chars ≤ length chars.now) × Tables (read_in terms.now chars.now c) hashes.old links.old heads.old t }
-    ensures* { do
-      let s = records_in terms.now cells.now chars.now c
-      ⌜ Passing (read_in terms.now chars.now c) (term_rule s t) hashes.new links.new heads.new t result ⌝ }
+    ensures { let s = records_in terms.now cells.now chars.now c in Passing (read_in terms.now chars.now c) (term_rule s t) hashes.new links.new heads.new t result }
 {
     let k = fields::kind(terms, t);
     match k {
@@ -321,9 +315,7 @@ fn term_ok(
 
 fn cells_ok(cells: &[u32], c: State) -> bool
     requires { c.cells ≤ cell_limit }
-    ensures* { do
-      let s = chained [] cells.now c
-      ⌜ result ≡ each_cell s (cell_rule s) ⌝ }
+    ensures { let s = chained [] cells.now c in result ≡ each_cell s (cell_rule s) }
 {
     let mut i: usize = 0;
     while i < c.cells {
@@ -375,9 +367,7 @@ fn terms_pass(
     links: &mut [u32],
 ) -> bool
     requires { (c.terms ≤ term_limit) × (c.chars ≤ length chars.now) × (c.terms < length hashes.old) × (c.terms < length links.old) }
-    ensures* { do
-      let s = records_in terms.now cells.now chars.now c
-      ⌜ result ≡ each_term s (term_rule s) ⌝ }
+    ensures { let s = records_in terms.now cells.now chars.now c in result ≡ each_term s (term_rule s) }
 {
     let mut heads: [u32; 64] = [0; 64];
     let mut i: usize = 0;
@@ -394,9 +384,7 @@ fn terms_pass(
 // The tables are cleared at each call, so a store of few terms has small ones.
 fn terms_ok(terms: &[u32], cells: &[u32], chars: &[u32], c: State) -> bool
     requires { (c.terms ≤ term_limit) × (c.chars ≤ length chars.now) }
-    ensures* { do
-      let s = records_in terms.now cells.now chars.now c
-      ⌜ result ≡ each_term s (term_rule s) ⌝ }
+    ensures { let s = records_in terms.now cells.now chars.now c in result ≡ each_term s (term_rule s) }
 {
     if c.terms < 32 {
         let mut hashes: [u32; 32] = [0; 32];
@@ -416,7 +404,7 @@ pub(crate) fn records_ok(
     keys: &[u32],
     c: State,
 ) -> bool
-    requires { Sized (lends terms cells chars reasons keys) c }
+    requires { Sized (lent terms.now cells.now chars.now reasons.now keys.now) c }
     ensures { result ≡ records_rule (store_of (across terms cells chars reasons keys).entry c) }
 {
     if !terms_ok(terms, cells, chars, c) {

@@ -94,9 +94,7 @@ fn spans_agree(chars: &[u32], at: usize, from: usize, n: usize) -> bool
 pub(crate) fn joined_is_unchecked(terms: &[u32], chars: &[u32], p: u32, list: &[u32]) -> bool
     requires fact_1 { length list.now ≤ list_limit }
     requires fact_2 { TextsWithin terms.now (length chars.now) list.now }
-    ensures* { do
-      let w = concat_map (text_at terms.now chars.now) list.now
-      ⌜ result ≡ same_word (span chars.now p (lengths terms.now list.now)) w ⌝ }
+    ensures { let w = concat_map (text_at terms.now chars.now) list.now in result ≡ same_word (span chars.now p (lengths terms.now list.now)) w }
 {
     let mut at = p as usize;
     let mut i: usize = 0;

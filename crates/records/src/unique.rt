@@ -35,12 +35,8 @@ fn name_hash(terms: &[u32], chars: &[u32], c: State, t: u32) -> u32
 
 // Whether variable u has t's name; m is the hash of t.
 fn is_named(terms: &[u32], chars: &[u32], c: State, hashes: &[u32], m: u32, t: u32, u: u32) -> bool
-    requires* { do
-      let s = read_in terms.now chars.now c
-      ⌜ (c.chars ≤ length chars.now) × (u < length hashes.now) × Hashed s m t × Hashed s (get_or hashes.now u 0) u ⌝ }
-    ensures* { do
-      let s = read_in terms.now chars.now c
-      ⌜ result ≡ named (text s t) s u ⌝ }
+    requires { let s = read_in terms.now chars.now c in (c.chars ≤ length chars.now) × (u < length hashes.now) × Hashed s m t × Hashed s (get_or hashes.now u 0) u }
+    ensures { let s = read_in terms.now chars.now c in result ≡ named (text s t) s u }
 {
     if hashes[u as usize] != m {
         return false;
@@ -61,9 +57,7 @@ fn name_ok(
     m: u32,
     t: u32,
 ) -> bool
-    requires* { do
-      let s = read_in terms.now chars.now c
-      ⌜ (c.chars ≤ length chars.now) × Hashed s m t × Tables s hashes.now links.now heads.now t ⌝ }
+    requires { let s = read_in terms.now chars.now c in (c.chars ≤ length chars.now) × Hashed s m t × Tables s hashes.now links.now heads.now t }
     ensures { result ≡ name_rule (read_in terms.now chars.now c) t }
 {
     let n = fields::second(terms, t);
@@ -90,12 +84,8 @@ pub(crate) fn variable_ok(
     heads: &mut [u32; 64],
     t: u32,
 ) -> bool
-    requires* { do
-      let s = read_in terms.now chars.now c
-      ⌜ (c.chars ≤ length chars.now) × (is_variable s t ≡ true) × Tables s hashes.old links.old heads.old t ⌝ }
-    ensures* { do
-      let s = read_in terms.now chars.now c
-      ⌜ Passing s (text_rule s t && name_rule s t) hashes.new links.new heads.new t result ⌝ }
+    requires { let s = read_in terms.now chars.now c in (c.chars ≤ length chars.now) × (is_variable s t ≡ true) × Tables s hashes.old links.old heads.old t }
+    ensures { let s = read_in terms.now chars.now c in Passing s (text_rule s t && name_rule s t) hashes.new links.new heads.new t result }
 {
     if !text_ok(terms, c, t) {
         return false;

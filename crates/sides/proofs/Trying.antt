@@ -7,8 +7,6 @@ use mathlib.Core.Logic.{inl, inr}
 use mathlib.Core.Option.{Option, none, some}
 use Prim.Native.Nat.{ℕ, suc}
 use native.Mathlib.Omega.{arith}
-use types.Run.{OneOf}
-use denote.Enum.Declared.{tag_of}
 use lib.ListN.{length}
 use lib.IntN.{ℤ}
 use Rattle.records.specs.declared.State.{State}
@@ -25,7 +23,6 @@ use Rattle.sides.specs.declared.StepResult.{StepResult}
 use Rattle.sides.specs.declared.StepResult.TheVariants as step
 use Rattle.sides.specs.Wordeq.{Answer, conflict, propagate, Tried, answer, pass, settled, ◌or_else◌, same, fixed, letters, occurrence, occurs_at, occurs, unequal, short, absent, constants, is_plain, alias, empties_at, empties, assigns, fits, explain_all, variables, tile_by, tile, clashes, splits, after}
 use Rattle.sides.specs.Working.Results.{BothLists, tried, Tries}
-use Rattle.sides.specs.contracts.StepResult.{the_type}
 use Rattle.sides.proofs.Orelse.{else_assoc}
 use Rattle.records.proofs.Counts.{Higher, higher-none, higher-then}
 use Rattle.records.proofs.IndexStores.{keeps_then}
@@ -105,16 +102,9 @@ Last (step.Propagate d v w f) = Unit {0}
 Last (step.Split d n g j) = Unit {0}
 Last (step.Refused n) = Unit {0}
 
-not-zero : OneOf (1 ∷ 2 ∷ 3 ∷ 4 ∷ 5 ∷ []) 0 → ⊥
-not-zero (inl e) = omega arith
-not-zero (inr (inl e)) = omega arith
-not-zero (inr (inr (inl e))) = omega arith
-not-zero (inr (inr (inr (inl e)))) = omega arith
-not-zero (inr (inr (inr (inr e)))) = omega arith
-
 -- an answer that is not Done, as a `let .. else` tells it
-pub last_of : (o : StepResult) → OneOf (1 ∷ 2 ∷ 3 ∷ 4 ∷ 5 ∷ []) (tag_of the_type o) → Last o
-last_of (step.Done d) h = not-zero h
+pub last_of : (o : StepResult) → ((d : State) → o ≡ step.Done d → ⊥) → Last o
+last_of (step.Done d) h = absurd (h d refl)
 last_of (step.Saturated d) h = tt
 last_of (step.Conflict d) h = tt
 last_of (step.Propagate d v w f) h = tt

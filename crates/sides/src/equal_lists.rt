@@ -2,7 +2,7 @@
 ghost use Rattle.std.specs.Prelude.{◌≡◌, true, length};
 ghost use Rattle.records.specs.Lists.{all};
 ghost use Rattle.records.specs.Store.{is_string};
-ghost use Rattle.records.specs.View.{lends, across, read_in};
+ghost use Rattle.records.specs.View.{across, read_in, changing, lent};
 ghost use Rattle.records.specs.Working.Audited.{Ready};
 ghost use Rattle.records.specs.Calls.{added};
 ghost use Rattle.records.specs.Working.Doing.{Does};
@@ -36,11 +36,11 @@ pub fn nf_equal_explain_unchecked(
     lhs: &[u32],
     rhs: &[u32],
 ) -> Added
-    requires ready { Ready (lends terms cells chars reasons keys) c }
+    requires ready { Ready (lent terms.now cells.now chars.now reasons.old keys.now) c }
     requires lhs_value { all (is_string (read_in terms.now chars.now c)) lhs.now ≡ true }
     requires rhs_value { all (is_string (read_in terms.now chars.now c)) rhs.now ≡ true }
     requires lhs_len { length lhs.now ≡ length rhs.now }
-    ensures { Does (nf_explain lhs.now rhs.now) (across terms cells chars reasons keys) c (added result) }
+    ensures { Does (nf_explain lhs.now rhs.now) (across terms cells chars (changing reasons) keys) c (added result) }
 {
     let mut places: [u32; 513] = [0; 513];
     stripping::explain_pairs(

@@ -1,6 +1,6 @@
 // Departure B: the later variables of a side are explained with the first.
 ghost use Rattle.records.specs.Lists.{Every};
-ghost use Rattle.records.specs.View.{terms_view, lends, across, read_in};
+ghost use Rattle.records.specs.View.{terms_view, across, read_in, changing, lent};
 ghost use Rattle.records.specs.Working.Audited.{Ready};
 ghost use Rattle.records.specs.Calls.{added};
 ghost use Rattle.records.specs.Working.Doing.{Does};
@@ -21,10 +21,10 @@ fn explain_atom(
     v: u32,
     places: &mut [u32],
 ) -> Added
-    requires ready { Ready (lends terms cells chars reasons keys) c }
+    requires ready { Ready (lent terms.now cells.now chars.now reasons.old keys.now) c }
     requires pair { Pair (read_in terms.now chars.now c) u v }
     requires one_class { OneClass (terms_view terms.now c.terms) u v }
-    ensures { Does (explain_atom u v) (across terms cells chars reasons keys) c (added result) }
+    ensures { Does (explain_atom u v) (across terms cells chars (changing reasons) keys) c (added result) }
 {
     if rules::kind_of(terms, c.terms, u) == 1 {
         return Added::Counts(c);
@@ -43,10 +43,10 @@ pub(crate) fn explain_all_unchecked(
     side: &[u32],
     v: u32,
 ) -> Added
-    requires ready { Ready (lends terms cells chars reasons keys) c }
+    requires ready { Ready (lent terms.now cells.now chars.now reasons.old keys.now) c }
     requires every { Every (λ u. Pair (read_in terms.now chars.now c) u v) side.now }
     requires every_2 { Every (λ u. OneClass (terms_view terms.now c.terms) u v) side.now }
-    ensures { Does (explain_all (variables (read_in terms.now chars.now c) side.now) v) (across terms cells chars reasons keys) c (added result) }
+    ensures { Does (explain_all (variables (read_in terms.now chars.now c) side.now) v) (across terms cells chars (changing reasons) keys) c (added result) }
 {
     if side.len() == 0 {
         return Added::Counts(c);

@@ -103,9 +103,7 @@ fn lacks_text(chars: &[u32], table: &mut [u8; 16384], n: usize, p: usize, k: usi
 
 fn lacks_atom(terms: &[u32], chars: &[u32], c: State, a: u32, table: &mut [u8; 16384]) -> bool
     requires { Spelled terms.now chars.now c × (length table.old ≡ char_limit) }
-    ensures* { do
-      let s = read_in terms.now chars.now c
-      ⌜ Lacking chars.now c.chars (letters_of s a) table.old table.new result ⌝ }
+    ensures { let s = read_in terms.now chars.now c in Lacking chars.now c.chars (letters_of s a) table.old table.new result }
 {
     if rules::kind_of(terms, c.terms, a) != 1 {
         return false;
@@ -117,9 +115,7 @@ fn lacks_atom(terms: &[u32], chars: &[u32], c: State, a: u32, table: &mut [u8; 1
 
 fn lacks_side(terms: &[u32], chars: &[u32], c: State, l: &[u32], table: &mut [u8; 16384]) -> bool
     requires { Spelled terms.now chars.now c × (length table.old ≡ char_limit) }
-    ensures* { do
-      let s = read_in terms.now chars.now c
-      ⌜ Lacking chars.now c.chars (letters s l.now) table.old table.new result ⌝ }
+    ensures { let s = read_in terms.now chars.now c in Lacking chars.now c.chars (letters s l.now) table.old table.new result }
 {
     let mut i: usize = 0;
     while i < l.len() {

@@ -123,7 +123,7 @@ pub(crate) fn short(terms: &[u32], c: State, l: &[u32], r: &[u32]) -> bool
 // A PLACE IN THE CONSTANT CHARACTERS OF A SIDE
 
 // A character of an atom; past the atom's end, one of the atoms after it.
-#[derive(Drop)]
+#[derive(Clone, Copy)]
 pub struct Cursor {
     pub atom: usize,
     pub place: usize,
@@ -149,9 +149,7 @@ fn settle(terms: &[u32], c: State, l: &[u32], k: Cursor) -> Cursor
 
 fn letter(terms: &[u32], chars: &[u32], c: State, l: &[u32], k: Cursor) -> u32
     requires { Spelled terms.now chars.now c × There terms.now c l.now k × (k.atom < length l.now) }
-    ensures* { do
-      let s = read_in terms.now chars.now c
-      ⌜ rest s l.now k.atom k.place ≡ result ∷ rest s l.now k.atom (k.place + 1) ⌝ }
+    ensures { let s = read_in terms.now chars.now c in rest s l.now k.atom k.place ≡ result ∷ rest s l.now k.atom (k.place + 1) }
 {
     let i = k.atom;
     let p = fields::wide(fields::first(terms, l[i]));
@@ -169,9 +167,7 @@ fn same_letter(
     x: Cursor,
 ) -> bool
     requires { Spelled terms.now chars.now c × There terms.now c l.now k × There terms.now c r.now x }
-    ensures* { do
-      let s = read_in terms.now chars.now c
-      ⌜ result ≡ heads_agree (rest s l.now k.atom k.place) (rest s r.now x.atom x.place) ⌝ }
+    ensures { let s = read_in terms.now chars.now c in result ≡ heads_agree (rest s l.now k.atom k.place) (rest s r.now x.atom x.place) }
 {
     if l.len() <= k.atom {
         return false;
@@ -207,9 +203,7 @@ fn spans_differ(chars: &[u32], p: usize, n: usize, q: usize, m: usize) -> bool
 // Two constants that differ at a character.
 pub fn constants_differ_unchecked(terms: &[u32], chars: &[u32], c: State, a: u32, b: u32) -> bool
     requires { Spelled terms.now chars.now c }
-    ensures* { do
-      let s = read_in terms.now chars.now c
-      ⌜ result ≡ (is_constant s a && is_constant s b && differ (text s a) (text s b)) ⌝ }
+    ensures { let s = read_in terms.now chars.now c in result ≡ (is_constant s a && is_constant s b && differ (text s a) (text s b)) }
 {
     if !stripping::both_constant(terms, c.terms, a, b) {
         return false;
@@ -291,9 +285,7 @@ pub(crate) fn is_tiled<'a>(
     m: usize,
 ) -> bool
     requires { Tiling terms.now chars.now c word.now v m }
-    ensures* { do
-      let s = read_in terms.now chars.now c
-      ⌜ result ≡ same_word (filled s (take m (rest s word.now v.atom v.place)) side.now) (letters s word.now) ⌝ }
+    ensures { let s = read_in terms.now chars.now c in result ≡ same_word (filled s (take m (rest s word.now v.atom v.place)) side.now) (letters s word.now) }
 {
     let mut k = Cursor { atom: 0, place: 0 };
     let mut i: usize = 0;

@@ -1,4 +1,6 @@
 // The two sides of a word equation: what the steps ask of them and explain, without making a term.
+#![tactic(auto)]
+
 pub mod equal_lists;
 pub mod explaining;
 pub mod lacking;
@@ -8,7 +10,7 @@ pub mod spans;
 pub mod stripping;
 
 // The answer, with the new counts. A single step that finds nothing says Done, and the next one is tried.
-#[derive(Drop)]
+#[derive(Clone, Copy)]
 pub enum StepResult {
     Done(records::State),
     Saturated(records::State),
@@ -21,7 +23,7 @@ pub enum StepResult {
 }
 
 // The places of what step 1 leaves: where both parts begin, and where the left and the right one end.
-#[derive(Drop)]
+#[derive(Clone, Copy)]
 pub struct Rest {
     pub from: usize,
     pub lhs: usize,
@@ -29,7 +31,7 @@ pub struct Rest {
 }
 
 // What step 1 leaves: the counts, these places, and whether a match that it stripped needs a reason; or the refusal.
-#[derive(Drop)]
+#[derive(Clone, Copy)]
 pub enum Stripped {
     Parts(records::State, usize, usize, usize, bool),
     Refused(u32),

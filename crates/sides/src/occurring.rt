@@ -3,7 +3,7 @@ ghost use Rattle.std.specs.Prelude.{◌≡◌, true, ◌&&◌, [], ◌≤◌, le
 ghost use Rattle.records.specs.Lists.{all, keep};
 ghost use Rattle.records.specs.Rules.{list_limit};
 ghost use Rattle.records.specs.Store.{within, root_in, class_up};
-ghost use Rattle.records.specs.View.{terms_view, store_of, lends, across, Between, termed};
+ghost use Rattle.records.specs.View.{terms_view, store_of, across, Between, termed, changing, lent};
 ghost use Rattle.records.specs.Working.Audited.{Ready, Closed};
 ghost use Rattle.sides.specs.Wordeq.{is_full, occurrence, occurs, ◌or_else◌};
 ghost use Rattle.sides.specs.Working.Sides.{Texts};
@@ -83,9 +83,9 @@ fn occurs_in(
     lone: &[u32],
     side: &[u32],
 ) -> StepResult
-    requires ready { Ready (lends terms cells chars reasons keys) c }
-    requires both_lists { BothLists (store_of (lends terms cells chars reasons keys) c) lone.now side.now }
-    ensures { Between (Tries (occurs lone.now side.now)) (across terms cells chars reasons keys) c result }
+    requires ready { Ready (lent terms.now cells.now chars.now reasons.old keys.now) c }
+    requires both_lists { BothLists (store_of (lent terms.now cells.now chars.now reasons.old keys.now) c) lone.now side.now }
+    ensures { Between (Tries (occurs lone.now side.now)) (across terms cells chars (changing reasons) keys) c result }
 {
     if lone.len() != 1 {
         return StepResult::Done(c);
@@ -126,9 +126,9 @@ pub fn occurs_unchecked(
     lhs: &[u32],
     rhs: &[u32],
 ) -> StepResult
-    requires ready { Ready (lends terms cells chars reasons keys) c }
-    requires both_lists { BothLists (store_of (lends terms cells chars reasons keys) c) lhs.now rhs.now }
-    ensures { Between (Tries (occurs lhs.now rhs.now or_else occurs rhs.now lhs.now)) (across terms cells chars reasons keys) c result }
+    requires ready { Ready (lent terms.now cells.now chars.now reasons.old keys.now) c }
+    requires both_lists { BothLists (store_of (lent terms.now cells.now chars.now reasons.old keys.now) c) lhs.now rhs.now }
+    ensures { Between (Tries (occurs lhs.now rhs.now or_else occurs rhs.now lhs.now)) (across terms cells chars (changing reasons) keys) c result }
 {
     let o = occurs_in(terms, cells, chars, reasons, keys, c, lhs, rhs);
     let StepResult::Done(d) = o else {

@@ -2,7 +2,7 @@
 ghost use Rattle.std.specs.Prelude.{◌≡◌, true, false, suc, ◌+◌, ◌<◌, ◌≤◌, length, drop, get_or};
 ghost use Rattle.records.specs.Lists.{if◌then◌else◌, all};
 ghost use Rattle.records.specs.Store.{is_constant, is_string};
-ghost use Rattle.records.specs.View.{store_of, lends, across, Between, read_in, termed};
+ghost use Rattle.records.specs.View.{store_of, across, Between, read_in, termed, changing, lent};
 ghost use Rattle.records.specs.Working.Audited.{Ready};
 ghost use Rattle.records.specs.Rules.{is_list, list_limit};
 ghost use Rattle.sides.specs.Wordeq.{◌or_else◌, letters, fits, variables, tile_by, tile};
@@ -34,9 +34,7 @@ fn fits<'a>(
     k: usize,
 ) -> bool
     requires { Spelled terms.now chars.now c × (length word.now ≤ list_limit) × (length side.now ≤ list_limit) × FirstVariable (termed terms.now c) side.now i × (0 < k) }
-    ensures* { do
-      let s = read_in terms.now chars.now c
-      ⌜ result ≡ fits s (letters s word.now) side.now k ⌝ }
+    ensures { let s = read_in terms.now chars.now c in result ≡ fits s (letters s word.now) side.now k }
 {
     let l = letters::letters_length_unchecked(terms, c, word);
     let n = letters::letters_length_unchecked(terms, c, side);
@@ -111,12 +109,8 @@ fn is_unfit<'a>(
     i: usize,
 ) -> bool
     requires readable { Readable terms.now chars.now c }
-    requires* fact { do
-      let r = side.now
-      ⌜ (length word.now ≤ list_limit) × (is_list (read_in terms.now chars.now c) r ≡ true) × FirstVariable (termed terms.now c) r i × (i < length r) ⌝ }
-    ensures* { do
-      let s = read_in terms.now chars.now c
-      ⌜ result ≡ unfit s word.now side.now (get_or side.now i 0) (variables s (drop (suc i) side.now)) ⌝ }
+    requires fact { let r = side.now in (length word.now ≤ list_limit) × (is_list (read_in terms.now chars.now c) r ≡ true) × FirstVariable (termed terms.now c) r i × (i < length r) }
+    ensures { let s = read_in terms.now chars.now c in result ≡ unfit s word.now side.now (get_or side.now i 0) (variables s (drop (suc i) side.now)) }
 {
     let later = &side[i + 1..side.len()];
     if !all_agree_unchecked(terms, chars, c, later, side[i]) {
@@ -137,12 +131,9 @@ fn tile_sides<'a>(
     word: &'a [u32],
     side: &'a [u32],
 ) -> StepResult
-    requires ready { Ready (lends terms cells chars reasons keys) c }
-    requires both_lists { BothLists (store_of (lends terms cells chars reasons keys) c) word.now side.now }
-    ensures* { do
-      let m = (across terms cells chars reasons keys).entry
-      let s = store_of m c
-      ⌜ Tries (tile_by s word.now side.now (variables s side.now)) m (across terms cells chars reasons keys).exit c result ⌝ }
+    requires ready { Ready (lent terms.now cells.now chars.now reasons.old keys.now) c }
+    requires both_lists { BothLists (store_of (lent terms.now cells.now chars.now reasons.old keys.now) c) word.now side.now }
+    ensures { let m = (across terms cells chars (changing reasons) keys).entry in let s = store_of m c in Tries (tile_by s word.now side.now (variables s side.now)) m (across terms cells chars (changing reasons) keys).exit c result }
 {
     let i = first_variable_unchecked(terms, c, side);
     if side.len() <= i {
@@ -169,9 +160,9 @@ pub fn tile_unchecked<'a>(
     lhs: &'a [u32],
     rhs: &'a [u32],
 ) -> StepResult
-    requires ready { Ready (lends terms cells chars reasons keys) c }
-    requires both_lists { BothLists (store_of (lends terms cells chars reasons keys) c) lhs.now rhs.now }
-    ensures { Between (Tries (tile lhs.now rhs.now or_else tile rhs.now lhs.now)) (across terms cells chars reasons keys) c result }
+    requires ready { Ready (lent terms.now cells.now chars.now reasons.old keys.now) c }
+    requires both_lists { BothLists (store_of (lent terms.now cells.now chars.now reasons.old keys.now) c) lhs.now rhs.now }
+    ensures { Between (Tries (tile lhs.now rhs.now or_else tile rhs.now lhs.now)) (across terms cells chars (changing reasons) keys) c result }
 {
     let which = letters::which_fixed(terms, c, lhs, rhs);
     let word = letters::pick(which, lhs, rhs);

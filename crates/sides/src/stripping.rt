@@ -2,7 +2,7 @@
 ghost use Rattle.std.specs.Prelude.{◌≡◌, true, ◌&&◌, [], min, ◌<◌, length, get_or, eqb};
 ghost use Rattle.records.specs.Lists.{all, same_word};
 ghost use Rattle.records.specs.Store.{term_in, is_constant, is_string, text, same_class};
-ghost use Rattle.records.specs.View.{store_of, terms_view, lends, across, Between, read_in};
+ghost use Rattle.records.specs.View.{store_of, terms_view, across, Between, read_in, changing, lent};
 ghost use Rattle.records.specs.Working.Audited.{Ready};
 ghost use Rattle.records.specs.Calls.{added};
 ghost use Rattle.records.specs.Working.Doing.{Does};
@@ -64,9 +64,7 @@ pub fn same_unchecked(terms: &[u32], chars: &[u32], c: State, a: u32, b: u32) ->
 // Whether they are two constants of equal characters.
 fn is_alike(terms: &[u32], chars: &[u32], c: State, a: u32, b: u32) -> bool
     requires { Readable terms.now chars.now c }
-    ensures* { do
-      let s = read_in terms.now chars.now c
-      ⌜ result ≡ (is_constant s a && is_constant s b && same_word (text s a) (text s b)) ⌝ }
+    ensures { let s = read_in terms.now chars.now c in result ≡ (is_constant s a && is_constant s b && same_word (text s a) (text s b)) }
 {
     if !both_constant(terms, c.terms, a, b) {
         return false;
@@ -151,9 +149,9 @@ fn explain_pair(
     b: u32,
     places: &mut [u32],
 ) -> Added
-    requires fact_1 { Ready (lends terms cells chars reasons keys) c }
+    requires fact_1 { Ready (lent terms.now cells.now chars.now reasons.old keys.now) c }
     requires fact_2 { Pair (read_in terms.now chars.now c) a b }
-    ensures { Does (explain_pair a b) (across terms cells chars reasons keys) c (added result) }
+    ensures { Does (explain_pair a b) (across terms cells chars (changing reasons) keys) c (added result) }
 {
     if a == b {
         return Added::Counts(c);
@@ -180,11 +178,11 @@ pub(crate) fn explain_pairs(
     tail: bool,
     places: &mut [u32],
 ) -> Added
-    requires ready { Ready (lends terms cells chars reasons keys) c }
+    requires ready { Ready (lent terms.now cells.now chars.now reasons.old keys.now) c }
     requires lhs_value { all (is_string (read_in terms.now chars.now c)) lhs.now ≡ true }
     requires rhs_value { all (is_string (read_in terms.now chars.now c)) rhs.now ≡ true }
     requires lhs_len { length lhs.now ≡ length rhs.now }
-    ensures { Does (nf_explain (way tail lhs.now) (way tail rhs.now)) (across terms cells chars reasons keys) c (added result) }
+    ensures { Does (nf_explain (way tail lhs.now) (way tail rhs.now)) (across terms cells chars (changing reasons) keys) c (added result) }
 {
     let mut d = c;
     let mut i: usize = 0;
@@ -217,13 +215,11 @@ fn explain_stripped(
     rest: Rest,
     places: &mut [u32],
 ) -> Added
-    requires ready { Ready (lends terms cells chars reasons keys) c }
+    requires ready { Ready (lent terms.now cells.now chars.now reasons.old keys.now) c }
     requires lhs_value { all (is_string (read_in terms.now chars.now c)) lhs.now ≡ true }
     requires rhs_value { all (is_string (read_in terms.now chars.now c)) rhs.now ≡ true }
     requires finds { Finds (read_in terms.now chars.now c) lhs.now rhs.now rest }
-    ensures* { do
-      let s = read_in terms.now chars.now c
-      ⌜ Does (explain_matches (matches s lhs.now rhs.now)) (across terms cells chars reasons keys) c (added result) ⌝ }
+    ensures { let s = read_in terms.now chars.now c in Does (explain_matches (matches s lhs.now rhs.now)) (across terms cells chars (changing reasons) keys) c (added result) }
 {
     let from = rest.from;
     let l = &lhs[0..from];
@@ -252,7 +248,7 @@ fn needs_reason(
     b: u32,
     places: &mut [u32],
 ) -> bool
-    requires ready { Ready (lends terms cells chars reasons keys) c }
+    requires ready { Ready (lent terms.now cells.now chars.now reasons.now keys.now) c }
     requires pair { Pair (read_in terms.now chars.now c) a b }
     requires b_value { same (read_in terms.now chars.now c) a b ≡ true }
     ensures { result ≡ needs_reason (store_of (across terms cells chars reasons keys).entry c) (a, b) }
@@ -279,13 +275,11 @@ fn pairs_need(
     tail: bool,
     places: &mut [u32],
 ) -> bool
-    requires ready { Ready (lends terms cells chars reasons keys) c }
+    requires ready { Ready (lent terms.now cells.now chars.now reasons.now keys.now) c }
     requires lhs_value { all (is_string (read_in terms.now chars.now c)) lhs.now ≡ true }
     requires rhs_value { all (is_string (read_in terms.now chars.now c)) rhs.now ≡ true }
     requires rhs_value_2 { nf_equal (read_in terms.now chars.now c) (way tail lhs.now) (way tail rhs.now) ≡ true }
-    ensures* { do
-      let s = read_in terms.now chars.now c
-      ⌜ Needs (across terms cells chars reasons keys).entry c (same_heads s (way tail lhs.now) (way tail rhs.now)) result ⌝ }
+    ensures { let s = read_in terms.now chars.now c in Needs (across terms cells chars reasons keys).entry c (same_heads s (way tail lhs.now) (way tail rhs.now)) result }
 {
     let mut i: usize = 0;
     while i < lhs.len() {
@@ -312,7 +306,7 @@ fn matches_need(
     rest: Rest,
     places: &mut [u32],
 ) -> bool
-    requires ready { Ready (lends terms cells chars reasons keys) c }
+    requires ready { Ready (lent terms.now cells.now chars.now reasons.now keys.now) c }
     requires lhs_value { all (is_string (read_in terms.now chars.now c)) lhs.now ≡ true }
     requires rhs_value { all (is_string (read_in terms.now chars.now c)) rhs.now ≡ true }
     requires finds { Finds (read_in terms.now chars.now c) lhs.now rhs.now rest }
@@ -349,11 +343,11 @@ fn strip_by(
     rest: Rest,
     places: &mut [u32],
 ) -> Stripped
-    requires ready { Ready (lends terms cells chars reasons keys) c }
+    requires ready { Ready (lent terms.now cells.now chars.now reasons.old keys.now) c }
     requires lhs_value { all (is_string (read_in terms.now chars.now c)) lhs.now ≡ true }
     requires rhs_value { all (is_string (read_in terms.now chars.now c)) rhs.now ≡ true }
     requires finds { Finds (read_in terms.now chars.now c) lhs.now rhs.now rest }
-    ensures { Between Strips (across terms cells chars reasons keys) c lhs.now rhs.now result }
+    ensures { Between Strips (across terms cells chars (changing reasons) keys) c lhs.now rhs.now result }
 {
     let needed = matches_need(
         terms, cells, chars, reasons, keys, c, lhs, rhs, rest, places,
@@ -378,10 +372,10 @@ pub fn strip_unchecked(
     lhs: &[u32],
     rhs: &[u32],
 ) -> Stripped
-    requires ready { Ready (lends terms cells chars reasons keys) c }
+    requires ready { Ready (lent terms.now cells.now chars.now reasons.old keys.now) c }
     requires lhs_value { all (is_string (read_in terms.now chars.now c)) lhs.now ≡ true }
     requires rhs_value { all (is_string (read_in terms.now chars.now c)) rhs.now ≡ true }
-    ensures { Between Strips (across terms cells chars reasons keys) c lhs.now rhs.now result }
+    ensures { Between Strips (across terms cells chars (changing reasons) keys) c lhs.now rhs.now result }
 {
     let rest = find_rest_unchecked(terms, chars, c, lhs, rhs);
     if lhs.len() < 8 {

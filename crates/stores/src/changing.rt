@@ -54,7 +54,7 @@ fn good(
 }
 
 // Words of one slice, by the slice's number: `many` from `from` on, `apart` places apart, the first x, each `more` above the one before.
-#[derive(Drop)]
+#[derive(Clone, Copy)]
 struct Filling {
     slice: u32,
     from: usize,

@@ -14,6 +14,8 @@
 //   l t · e t u            make a length, an equation
 //
 // Another line is a remark. G, O, N, T, E, H and F put the index of the counted terms anew; a call leaves its own.
+#![tactic(auto)]
+
 mod asking;
 mod changing;
 mod counting;
@@ -44,7 +46,7 @@ pub(crate) const KEY_WORDS: usize = 2 * (KEY_LIMIT + 1);
 const NUMBERS: usize = 64;
 
 // How many words of each slice are lent.
-#[derive(Drop)]
+#[derive(Clone, Copy)]
 pub(crate) struct Lens {
     pub terms: usize,
     pub cells: usize,
@@ -54,7 +56,7 @@ pub(crate) struct Lens {
 }
 
 // What lasts from line to line beside the words.
-#[derive(Drop)]
+#[derive(Clone, Copy)]
 pub(crate) struct Setup {
     pub counts: State,
     pub lens: Lens,

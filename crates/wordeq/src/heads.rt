@@ -1,7 +1,7 @@
 // Steps 6 and 7: the heads of the two lists.
 ghost use Rattle.std.specs.Prelude.{◌≡◌, true, ◌∷◌, ◌≤◌, length, drop, neg_ℤ};
 ghost use Rattle.records.specs.Store.{text};
-ghost use Rattle.records.specs.View.{store_of, lends, across, read_in, termed};
+ghost use Rattle.records.specs.View.{store_of, across, read_in, termed, changing, lent};
 ghost use Rattle.records.specs.Rules.{list_limit};
 ghost use Rattle.records.specs.Working.Audited.{Ready};
 ghost use Rattle.records.specs.Calls.{◌into◌};
@@ -27,9 +27,7 @@ fn negated(guard: i32) -> i32
 
 fn first_letter(terms: &[u32], chars: &[u32], c: State, a: u32) -> u32
     requires { Spelled terms.now chars.now c × (is_full (termed terms.now c) a ≡ true) }
-    ensures* { do
-      let s = read_in terms.now chars.now c
-      ⌜ text s a ≡ result ∷ drop 1 (text s a) ⌝ }
+    ensures { let s = read_in terms.now chars.now c in text s a ≡ result ∷ drop 1 (text s a) }
 {
     let p = fields::wide(fields::first(terms, a));
     fields::word(chars, p)
@@ -47,10 +45,10 @@ fn put_atoms(
     b: u32,
     list: &mut [u32],
 ) -> Form
-    requires ready { Ready (lends terms cells chars reasons keys) c }
-    requires head_pair { HeadPair (store_of (lends terms cells chars reasons keys) c) a b }
+    requires ready { Ready (lent terms.old cells.old chars.old reasons.now keys.now) c }
+    requires head_pair { HeadPair (store_of (lent terms.old cells.old chars.old reasons.now keys.now) c) a b }
     requires in_bounds { 3 ≤ length list.old }
-    ensures { Does (atoms_of a b) (across terms cells chars reasons keys) c (listed result into list) }
+    ensures { Does (atoms_of a b) (across (changing terms) (changing cells) (changing chars) reasons keys) c (listed result into changing list) }
 {
     if letters::is_full_unchecked(terms, c, b) {
         let x = first_letter(terms, chars, c, b);
@@ -76,11 +74,11 @@ fn split_new(
     guard: i32,
     list: &mut [u32],
 ) -> StepResult
-    requires ready { Ready (lends terms cells chars reasons keys) c }
-    requires head_pair { HeadPair (store_of (lends terms cells chars reasons keys) c) a b }
+    requires ready { Ready (lent terms.old cells.old chars.old reasons.now keys.old) c }
+    requires head_pair { HeadPair (store_of (lent terms.old cells.old chars.old reasons.now keys.old) c) a b }
     requires guard_value { is_guard guard ≡ true }
     requires in_bounds { 3 ≤ length list.old }
-    ensures { Does (split_new guard a b) (across terms cells chars reasons keys) c (tried result into list) }
+    ensures { Does (split_new guard a b) (across (changing terms) (changing cells) (changing chars) reasons (changing keys)) c (tried result into changing list) }
 {
     let opposite = negated(guard);
     let key = put::add_key_unchecked(terms, cells, chars, reasons, keys, c, a, b);
@@ -114,15 +112,12 @@ pub(crate) fn split_unchecked(
     needed: bool,
     list: &mut [u32],
 ) -> StepResult
-    requires ready { Ready (lends terms cells chars reasons keys) c }
-    requires both_lists { BothLists (store_of (lends terms cells chars reasons keys) c) lhs.now rhs.now }
+    requires ready { Ready (lent terms.old cells.old chars.old reasons.now keys.old) c }
+    requires both_lists { BothLists (store_of (lent terms.old cells.old chars.old reasons.now keys.old) c) lhs.now rhs.now }
     requires heads_apart { HeadsApart lhs.now rhs.now }
     requires guard_value { is_guard guard ≡ true }
     requires list_limit_in_bounds { list_limit ≤ length list.old }
-    ensures* { do
-      let l = lhs.now
-      let r = rhs.now
-      ⌜ Does (clashes l r or_else splits guard needed l r) (across terms cells chars reasons keys) c (tried result into list) ⌝ }
+    ensures { let l = lhs.now in let r = rhs.now in Does (clashes l r or_else splits guard needed l r) (across (changing terms) (changing cells) (changing chars) reasons (changing keys)) c (tried result into changing list) }
 {
     if lhs.len() == 0 {
         return StepResult::Done(c);

@@ -1,6 +1,8 @@
 // Word equations, steps 1 to 8: the public calls.
+#![tactic(auto)]
+
 ghost use Rattle.std.specs.Prelude.{◌≡◌, ◌≤◌, length};
-ghost use Rattle.records.specs.View.{across, termed, term_limit, term_words};
+ghost use Rattle.records.specs.View.{across, termed, term_limit, term_words, changing};
 ghost use Rattle.records.specs.Working.Doing.{CutRefused};
 ghost use Rattle.records.specs.Calls.{added, Answers, Promises, Writes};
 ghost use Rattle.sides.specs.Wordeq.{is_guard, resolve_arguments, nf_arguments};
@@ -18,7 +20,7 @@ pub mod splits;
 mod stepping;
 
 // Whether two lists are equal, or the refusal.
-#[derive(Drop)]
+#[derive(Clone, Copy)]
 pub enum Equality {
     Is(bool),
     Refused(u32),
@@ -55,10 +57,7 @@ pub fn nf_equal(
     lhs: &[u32],
     rhs: &[u32],
 ) -> Equality
-    ensures* { do
-      let l = lhs.now
-      let r = rhs.now
-      ⌜ Answers (equal_arguments l r) (equal_lists l r) (across terms cells chars reasons keys) c (λ m. compared result m c) ⌝ }
+    ensures { let l = lhs.now in let r = rhs.now in Answers (equal_arguments l r) (equal_lists l r) (across terms cells chars reasons keys) c (λ m. compared result m c) }
 {
     let k = records::audit(terms, cells, chars, reasons, keys, c);
     if k != 0 {
@@ -81,7 +80,7 @@ pub fn nf_equal_explain(
     lhs: &[u32],
     rhs: &[u32],
 ) -> Added
-    ensures { Promises (PublicEqualExplain lhs.now rhs.now) (across terms cells chars reasons keys) c (added result) }
+    ensures { Promises (PublicEqualExplain lhs.now rhs.now) (across terms cells chars (changing reasons) keys) c (added result) }
 {
     let k = records::audit(terms, cells, chars, reasons, keys, c);
     if k != 0 {
@@ -129,7 +128,7 @@ pub fn resolve_equation<'a>(
     guard: i32,
     list: &mut [u32],
 ) -> StepResult
-    ensures { Writes (PublicResolve lhs.now rhs.now guard) (across terms cells chars reasons keys) list c (resolved result) }
+    ensures { Writes (PublicResolve lhs.now rhs.now guard) (across (changing terms) (changing cells) (changing chars) (changing reasons) (changing keys)) (changing list) c (resolved result) }
 {
     if list.len() < LIST_LIMIT {
         return StepResult::Refused(1);

@@ -2,7 +2,7 @@
 ghost use Rattle.std.specs.Prelude.{◌≡◌, true, not, ◌&&◌, [], ◌∷◌, ◌≤◌, length};
 ghost use Rattle.records.specs.Lists.{all, first_of, Every};
 ghost use Rattle.records.specs.Store.{is_variable};
-ghost use Rattle.records.specs.View.{store_of, lends, across, Between, read_in, termed};
+ghost use Rattle.records.specs.View.{store_of, across, Between, read_in, termed, changing, lent};
 ghost use Rattle.records.specs.Rules.{list_limit};
 ghost use Rattle.records.specs.Make.{make_constant};
 ghost use Rattle.records.specs.Working.Audited.{Ready};
@@ -27,10 +27,10 @@ pub(crate) fn side_word_unchecked(
     c: State,
     side: &[u32],
 ) -> Made
-    requires ready { Ready (lends terms cells chars reasons keys) c }
+    requires ready { Ready (lent terms.old cells.now chars.old reasons.now keys.now) c }
     requires side_len_bound { length side.now ≤ list_limit }
-    requires side_value { fixed (store_of (lends terms cells chars reasons keys) c) side.now ≡ true }
-    ensures { Does (λ s. make_constant (letters s side.now) s) (across terms cells chars reasons keys) c (made result) }
+    requires side_value { fixed (store_of (lent terms.old cells.now chars.old reasons.now keys.now) c) side.now ≡ true }
+    ensures { Does (λ s. make_constant (letters s side.now) s) (across (changing terms) cells (changing chars) reasons keys) c (made result) }
 {
     make::join_constants_unchecked(terms, cells, chars, reasons, keys, c, side)
 }
@@ -112,9 +112,9 @@ fn empties_unchecked(
     c: State,
     side: &[u32],
 ) -> StepResult
-    requires ready { Ready (lends terms cells chars reasons keys) c }
+    requires ready { Ready (lent terms.old cells.now chars.old reasons.now keys.now) c }
     requires side_value { emptied (termed terms.old c) [] side.now ≡ true }
-    ensures { Between (Tries (empties [] side.now)) (across terms cells chars reasons keys) c result }
+    ensures { Between (Tries (empties [] side.now)) (across (changing terms) cells (changing chars) reasons keys) c result }
 {
     let word: [u32; 0] = [];
     let empty = make::make_constant_unchecked(terms, cells, chars, reasons, keys, c, &word);
@@ -135,10 +135,10 @@ fn assigns_unchecked(
     v: u32,
     side: &[u32],
 ) -> StepResult
-    requires ready { Ready (lends terms cells chars reasons keys) c }
+    requires ready { Ready (lent terms.old cells.now chars.old reasons.now keys.now) c }
     requires side_len_bound { length side.now ≤ list_limit }
     requires side_value { (is_variable (termed terms.old c) v && fixed (termed terms.old c) side.now) ≡ true }
-    ensures { Between (Tries (assigns (v ∷ []) side.now)) (across terms cells chars reasons keys) c result }
+    ensures { Between (Tries (assigns (v ∷ []) side.now)) (across (changing terms) cells (changing chars) reasons keys) c result }
 {
     let word = side_word_unchecked(terms, cells, chars, reasons, keys, c, side);
     match word {
@@ -158,12 +158,9 @@ pub(crate) fn propagate_unchecked(
     lhs: &[u32],
     rhs: &[u32],
 ) -> StepResult
-    requires ready { Ready (lends terms cells chars reasons keys) c }
-    requires both_lists { BothLists (store_of (lends terms cells chars reasons keys) c) lhs.now rhs.now }
-    ensures* { do
-      let l = lhs.now
-      let r = rhs.now
-      ⌜ Between (Tries (alias l r or_else empties l r or_else empties r l or_else assigns l r or_else assigns r l)) (across terms cells chars reasons keys) c result ⌝ }
+    requires ready { Ready (lent terms.old cells.now chars.old reasons.now keys.now) c }
+    requires both_lists { BothLists (store_of (lent terms.old cells.now chars.old reasons.now keys.now) c) lhs.now rhs.now }
+    ensures { let l = lhs.now in let r = rhs.now in Between (Tries (alias l r or_else empties l r or_else empties r l or_else assigns l r or_else assigns r l)) (across (changing terms) cells (changing chars) reasons keys) c result }
 {
     if is_alias(terms, chars, c, lhs, rhs) {
         return StepResult::Propagate(c, lhs[0], rhs[0], false);

@@ -2,7 +2,7 @@
 ghost use Rattle.std.specs.Prelude.{◌≡◌, true, ◌++◌, ◌≤◌, length};
 ghost use Rattle.records.specs.Lists.{any, concat_map};
 ghost use Rattle.records.specs.Store.{is_concat};
-ghost use Rattle.records.specs.View.{store_of, lends, across, termed};
+ghost use Rattle.records.specs.View.{store_of, across, termed, changing, lent};
 ghost use Rattle.records.specs.Working.Audited.{Ready};
 ghost use Rattle.records.specs.Calls.{◌into◌};
 ghost use Rattle.records.specs.Working.Doing.{Does};
@@ -86,11 +86,11 @@ fn flat_steps(
     guard: i32,
     list: &mut [u32],
 ) -> StepResult
-    requires ready { Ready (lends terms cells chars reasons keys) c }
-    requires both_lists { BothLists (store_of (lends terms cells chars reasons keys) c) lhs.now rhs.now }
+    requires ready { Ready (lent terms.old cells.old chars.old reasons.old keys.old) c }
+    requires both_lists { BothLists (store_of (lent terms.old cells.old chars.old reasons.old keys.old) c) lhs.now rhs.now }
     requires guard_value { is_guard guard ≡ true }
     requires list_limit_in_bounds { list_limit ≤ length list.old }
-    ensures { Does (flat_steps lhs.now rhs.now guard) (across terms cells chars reasons keys) c (resolved result into list) }
+    ensures { Does (flat_steps lhs.now rhs.now guard) (across (changing terms) (changing cells) (changing chars) (changing reasons) (changing keys)) c (resolved result into changing list) }
 {
     let mut left: [u32; 1024] = [0; 1024];
     let n = flatten_list_unchecked(terms, cells, c, lhs, &mut left);
@@ -129,11 +129,11 @@ fn run<'a>(
     guard: i32,
     list: &mut [u32],
 ) -> StepResult
-    requires ready { Ready (lends terms cells chars reasons keys) c }
-    requires both_lists { BothLists (store_of (lends terms cells chars reasons keys) c) lhs.now rhs.now }
+    requires ready { Ready (lent terms.old cells.old chars.old reasons.old keys.old) c }
+    requires both_lists { BothLists (store_of (lent terms.old cells.old chars.old reasons.old keys.old) c) lhs.now rhs.now }
     requires guard_value { is_guard guard ≡ true }
     requires list_limit_in_bounds { list_limit ≤ length list.old }
-    ensures { Does (ran lhs.now rhs.now guard) (across terms cells chars reasons keys) c (resolved result into list) }
+    ensures { Does (ran lhs.now rhs.now guard) (across (changing terms) (changing cells) (changing chars) (changing reasons) (changing keys)) c (resolved result into changing list) }
 {
     if either_concat(terms, c, lhs, rhs) {
         return flat_steps(terms, cells, chars, reasons, keys, c, lhs, rhs, guard, list);
@@ -168,11 +168,11 @@ pub fn resolve_unchecked<'a>(
     guard: i32,
     list: &mut [u32],
 ) -> StepResult
-    requires ready { Ready (lends terms cells chars reasons keys) c }
-    requires both_lists { BothLists (store_of (lends terms cells chars reasons keys) c) lhs.now rhs.now }
+    requires ready { Ready (lent terms.old cells.old chars.old reasons.old keys.old) c }
+    requires both_lists { BothLists (store_of (lent terms.old cells.old chars.old reasons.old keys.old) c) lhs.now rhs.now }
     requires guard_value { is_guard guard ≡ true }
     requires list_limit_in_bounds { list_limit ≤ length list.old }
-    ensures { Does (resolve lhs.now rhs.now guard) (across terms cells chars reasons keys) c (resolved result into list) }
+    ensures { Does (resolve lhs.now rhs.now guard) (across (changing terms) (changing cells) (changing chars) (changing reasons) (changing keys)) c (resolved result into changing list) }
 {
     let n = c.reasons;
     close(

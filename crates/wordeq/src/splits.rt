@@ -2,7 +2,7 @@
 ghost use Rattle.std.specs.Prelude.{◌≡◌, true, ◌≤◌, length, take};
 ghost use Rattle.std.proofs.Math.Option.{none};
 ghost use Rattle.records.specs.Store.{is_string};
-ghost use Rattle.records.specs.View.{store_of, lends, across};
+ghost use Rattle.records.specs.View.{store_of, across, changing, lent};
 ghost use Rattle.records.specs.Rules.{is_char, named};
 ghost use Rattle.records.specs.Make.{lookup, make_variable, variable_arguments};
 ghost use Rattle.records.specs.Working.Audited.{Ready};
@@ -26,11 +26,11 @@ fn make_named(
     name: &[u32; 15],
     len: usize,
 ) -> Made
-    requires ready { Ready (lends terms cells chars reasons keys) c }
+    requires ready { Ready (lent terms.old cells.now chars.old reasons.now keys.now) c }
     requires len_bound { len ≤ 15 }
-    requires c_value { variable_arguments (take len name.now) (store_of (lends terms cells chars reasons keys) c) ≡ true }
-    requires c_value_2 { lookup (named (take len name.now)) (store_of (lends terms cells chars reasons keys) c) ≡ none }
-    ensures { Does (make_variable (take len name.now)) (across terms cells chars reasons keys) c (made result) }
+    requires c_value { variable_arguments (take len name.now) (store_of (lent terms.old cells.now chars.old reasons.now keys.now) c) ≡ true }
+    requires c_value_2 { lookup (named (take len name.now)) (store_of (lent terms.old cells.now chars.old reasons.now keys.now) c) ≡ none }
+    ensures { Does (make_variable (take len name.now)) (across (changing terms) cells (changing chars) reasons keys) c (made result) }
 {
     let all: &[u32] = name;
     make::make_new_variable_unchecked(terms, cells, chars, reasons, keys, c, &all[..len])
@@ -45,8 +45,8 @@ pub(crate) fn fresh_str_unchecked(
     keys: &[u32],
     c: State,
 ) -> Made
-    requires { Ready (lends terms cells chars reasons keys) c }
-    ensures { Does fresh_variable (across terms cells chars reasons keys) c (made result) }
+    requires { Ready (lent terms.old cells.now chars.old reasons.now keys.now) c }
+    ensures { Does fresh_variable (across (changing terms) cells (changing chars) reasons keys) c (made result) }
 {
     let named = taking::next_name_unchecked(terms, cells, chars, reasons, keys, c);
     if named.code != 0 {
@@ -76,10 +76,10 @@ pub(crate) fn prefix_unchecked(
     v: u32,
     h: u32,
 ) -> Made
-    requires ready { Ready (lends terms cells chars reasons keys) c }
-    requires v_value { is_string (store_of (lends terms cells chars reasons keys) c) v ≡ true }
-    requires h_value { is_string (store_of (lends terms cells chars reasons keys) c) h ≡ true }
-    ensures { Does (prefix_atom v h) (across terms cells chars reasons keys) c (made result) }
+    requires ready { Ready (lent terms.old cells.old chars.old reasons.now keys.now) c }
+    requires v_value { is_string (store_of (lent terms.old cells.old chars.old reasons.now keys.now) c) v ≡ true }
+    requires h_value { is_string (store_of (lent terms.old cells.old chars.old reasons.now keys.now) c) h ≡ true }
+    ensures { Does (prefix_atom v h) (across (changing terms) (changing cells) (changing chars) reasons keys) c (made result) }
 {
     let fresh = fresh_str_unchecked(terms, cells, chars, reasons, keys, c);
     match fresh {
@@ -109,9 +109,9 @@ pub(crate) fn empty_unchecked(
     c: State,
     v: u32,
 ) -> Made
-    requires ready { Ready (lends terms cells chars reasons keys) c }
-    requires v_value { is_string (store_of (lends terms cells chars reasons keys) c) v ≡ true }
-    ensures { Does (empty_atom v) (across terms cells chars reasons keys) c (made result) }
+    requires ready { Ready (lent terms.old cells.now chars.old reasons.now keys.now) c }
+    requires v_value { is_string (store_of (lent terms.old cells.now chars.old reasons.now keys.now) c) v ≡ true }
+    ensures { Does (empty_atom v) (across (changing terms) cells (changing chars) reasons keys) c (made result) }
 {
     let word: [u32; 0] = [];
     let empty = make::make_constant_unchecked(terms, cells, chars, reasons, keys, c, &word);
@@ -134,10 +134,10 @@ pub(crate) fn character_unchecked(
     v: u32,
     ch: u32,
 ) -> Made
-    requires ready { Ready (lends terms cells chars reasons keys) c }
-    requires v_value { is_string (store_of (lends terms cells chars reasons keys) c) v ≡ true }
+    requires ready { Ready (lent terms.old cells.old chars.old reasons.now keys.now) c }
+    requires v_value { is_string (store_of (lent terms.old cells.old chars.old reasons.now keys.now) c) v ≡ true }
     requires ch_value { is_char ch ≡ true }
-    ensures { Does (character_atom v ch) (across terms cells chars reasons keys) c (made result) }
+    ensures { Does (character_atom v ch) (across (changing terms) (changing cells) (changing chars) reasons keys) c (made result) }
 {
     let word: [u32; 1] = [ch];
     let head = make::make_constant_unchecked(terms, cells, chars, reasons, keys, c, &word);
@@ -158,10 +158,10 @@ pub(crate) fn lengths_unchecked(
     a: u32,
     b: u32,
 ) -> Made
-    requires ready { Ready (lends terms cells chars reasons keys) c }
-    requires a_value { is_string (store_of (lends terms cells chars reasons keys) c) a ≡ true }
-    requires b_value { is_string (store_of (lends terms cells chars reasons keys) c) b ≡ true }
-    ensures { Does (lengths_atom a b) (across terms cells chars reasons keys) c (made result) }
+    requires ready { Ready (lent terms.old cells.now chars.now reasons.now keys.now) c }
+    requires a_value { is_string (store_of (lent terms.old cells.now chars.now reasons.now keys.now) c) a ≡ true }
+    requires b_value { is_string (store_of (lent terms.old cells.now chars.now reasons.now keys.now) c) b ≡ true }
+    ensures { Does (lengths_atom a b) (across (changing terms) cells chars reasons keys) c (made result) }
 {
     let left = build::make_length_unchecked(terms, cells, chars, reasons, keys, c, a);
     match left {
@@ -190,11 +190,11 @@ pub(crate) fn split_character_unchecked(
     ch: u32,
     list: &mut [u32],
 ) -> Form
-    requires ready { Ready (lends terms cells chars reasons keys) c }
-    requires v_value { is_string (store_of (lends terms cells chars reasons keys) c) v ≡ true }
+    requires ready { Ready (lent terms.old cells.old chars.old reasons.now keys.now) c }
+    requires v_value { is_string (store_of (lent terms.old cells.old chars.old reasons.now keys.now) c) v ≡ true }
     requires ch_value { is_char ch ≡ true }
     requires in_bounds { 2 ≤ length list.old }
-    ensures { Does (character_atoms v ch) (across terms cells chars reasons keys) c (listed result into list) }
+    ensures { Does (character_atoms v ch) (across (changing terms) (changing cells) (changing chars) reasons keys) c (listed result into changing list) }
 {
     let first = empty_unchecked(terms, cells, chars, reasons, keys, c, v);
     match first {
@@ -226,11 +226,11 @@ fn put_prefixes(
     p: u32,
     list: &mut [u32],
 ) -> Form
-    requires ready { Ready (lends terms cells chars reasons keys) c }
-    requires a_value { is_string (store_of (lends terms cells chars reasons keys) c) a ≡ true }
-    requires b_value { is_string (store_of (lends terms cells chars reasons keys) c) b ≡ true }
+    requires ready { Ready (lent terms.old cells.old chars.old reasons.now keys.now) c }
+    requires a_value { is_string (store_of (lent terms.old cells.old chars.old reasons.now keys.now) c) a ≡ true }
+    requires b_value { is_string (store_of (lent terms.old cells.old chars.old reasons.now keys.now) c) b ≡ true }
     requires in_bounds { 3 ≤ length list.old }
-    ensures { Does (prefix_atoms p a b) (across terms cells chars reasons keys) c (listed result into list) }
+    ensures { Does (prefix_atoms p a b) (across (changing terms) (changing cells) (changing chars) reasons keys) c (listed result into changing list) }
 {
     let first = prefix_unchecked(terms, cells, chars, reasons, keys, c, a, b);
     match first {
@@ -262,11 +262,11 @@ pub(crate) fn split_heads_unchecked(
     b: u32,
     list: &mut [u32],
 ) -> Form
-    requires ready { Ready (lends terms cells chars reasons keys) c }
-    requires a_value { is_string (store_of (lends terms cells chars reasons keys) c) a ≡ true }
-    requires b_value { is_string (store_of (lends terms cells chars reasons keys) c) b ≡ true }
+    requires ready { Ready (lent terms.old cells.old chars.old reasons.now keys.now) c }
+    requires a_value { is_string (store_of (lent terms.old cells.old chars.old reasons.now keys.now) c) a ≡ true }
+    requires b_value { is_string (store_of (lent terms.old cells.old chars.old reasons.now keys.now) c) b ≡ true }
     requires in_bounds { 3 ≤ length list.old }
-    ensures { Does (head_atoms a b) (across terms cells chars reasons keys) c (listed result into list) }
+    ensures { Does (head_atoms a b) (across (changing terms) (changing cells) (changing chars) reasons keys) c (listed result into changing list) }
 {
     let lengths = lengths_unchecked(terms, cells, chars, reasons, keys, c, a, b);
     match lengths {

@@ -1,6 +1,6 @@
 // The steps in sequence: where one finds nothing the next is tried.
 ghost use Rattle.std.specs.Prelude.{◌≡◌, true, ◌≤◌, length};
-ghost use Rattle.records.specs.View.{store_of, lends, across, Between};
+ghost use Rattle.records.specs.View.{store_of, across, Between, changing, lent};
 ghost use Rattle.records.specs.Rules.{list_limit};
 ghost use Rattle.records.specs.Working.Audited.{Ready};
 ghost use Rattle.records.specs.Calls.{◌into◌};
@@ -25,12 +25,9 @@ fn conflicts_unchecked<'a>(
     lhs: &'a [u32],
     rhs: &'a [u32],
 ) -> StepResult
-    requires ready { Ready (lends terms cells chars reasons keys) c }
-    requires both_lists { BothLists (store_of (lends terms cells chars reasons keys) c) lhs.now rhs.now }
-    ensures* { do
-      let l = lhs.now
-      let r = rhs.now
-      ⌜ Between (Tries (occurs l r or_else occurs r l or_else constants l r)) (across terms cells chars reasons keys) c result ⌝ }
+    requires ready { Ready (lent terms.now cells.now chars.now reasons.old keys.now) c }
+    requires both_lists { BothLists (store_of (lent terms.now cells.now chars.now reasons.old keys.now) c) lhs.now rhs.now }
+    ensures { let l = lhs.now in let r = rhs.now in Between (Tries (occurs l r or_else occurs r l or_else constants l r)) (across terms cells chars (changing reasons) keys) c result }
 {
     let o = occurring::occurs_unchecked(terms, cells, chars, reasons, keys, c, lhs, rhs);
     let StepResult::Done(d) = o else {
@@ -56,12 +53,12 @@ pub(crate) fn after_unchecked<'a>(
     needed: bool,
     list: &mut [u32],
 ) -> StepResult
-    requires ready { Ready (lends terms cells chars reasons keys) c }
-    requires both_lists { BothLists (store_of (lends terms cells chars reasons keys) c) lhs.now rhs.now }
+    requires ready { Ready (lent terms.old cells.old chars.old reasons.old keys.old) c }
+    requires both_lists { BothLists (store_of (lent terms.old cells.old chars.old reasons.old keys.old) c) lhs.now rhs.now }
     requires heads_apart { HeadsApart lhs.now rhs.now }
     requires guard_value { is_guard guard ≡ true }
     requires list_limit_in_bounds { list_limit ≤ length list.old }
-    ensures { Does (after guard needed lhs.now rhs.now) (across terms cells chars reasons keys) c (tried result into list) }
+    ensures { Does (after guard needed lhs.now rhs.now) (across (changing terms) (changing cells) (changing chars) (changing reasons) (changing keys)) c (tried result into changing list) }
 {
     let early = conflicts_unchecked(terms, cells, chars, reasons, keys, c, lhs, rhs);
     let StepResult::Done(d) = early else {
@@ -102,11 +99,11 @@ pub(crate) fn steps_unchecked<'a>(
     guard: i32,
     list: &mut [u32],
 ) -> StepResult
-    requires ready { Ready (lends terms cells chars reasons keys) c }
-    requires both_lists { BothLists (store_of (lends terms cells chars reasons keys) c) lhs.now rhs.now }
+    requires ready { Ready (lent terms.old cells.old chars.old reasons.old keys.old) c }
+    requires both_lists { BothLists (store_of (lent terms.old cells.old chars.old reasons.old keys.old) c) lhs.now rhs.now }
     requires guard_value { is_guard guard ≡ true }
     requires list_limit_in_bounds { list_limit ≤ length list.old }
-    ensures { Does (steps guard lhs.now rhs.now) (across terms cells chars reasons keys) c (resolved result into list) }
+    ensures { Does (steps guard lhs.now rhs.now) (across (changing terms) (changing cells) (changing chars) (changing reasons) (changing keys)) c (resolved result into changing list) }
 {
     let parts = stripping::strip_unchecked(terms, cells, chars, reasons, keys, c, lhs, rhs);
     match parts {

@@ -9,8 +9,6 @@ use lib.ListN.{length, take, get_or, length-take}
 use lib.Seq.{ext_get_or, get_or-take}
 use lib.IntN.{ℤ}
 use lib.Dec.{leb}
-use denote.Enum.Declared.{tag_of}
-use types.Run.{OneOf, miss}
 use borrow.Author.Tests.{eq-eqb, ne_eqb, eqb-true, le-leb, not-true, not-false}
 use Rattle.records.specs.declared.State.{State}
 use Rattle.records.specs.Lists.{all}
@@ -42,7 +40,6 @@ use Rattle.normalize.proofs.Candidates.{candidates_later}
 use Rattle.normalize.proofs.Deep.{deep_gives, deep_kept}
 use Rattle.normalize.proofs.Carried.{Carried, carried_none, carried-then, carried-kept}
 use Rattle.normalize.proofs.ListCalls.{listed-short, listed_unready, listed-unfit, listed-works}
-use Rattle.sides.specs.contracts.StepResult.{the_type}
 use Rattle.sides.specs.declared.StepResult.{StepResult}
 use Rattle.sides.specs.declared.StepResult.TheVariants.{Done, Saturated, Conflict, Propagate, Split, Refused}
 use Rattle.sides.specs.Wordeq.{Answer, done, saturated, conflict, propagate, split, is_guard, resolve}
@@ -140,8 +137,8 @@ pub carried-done : (o : StepResult) (n : ℕ) {x : StepResult} (c : State) → o
 carried-done o n c e q = q ∙ ap (carried n) (sym e)
 
 -- what a `match` finds where it is not Done is carried as it is
-pub carried_same : (o : StepResult) (n : ℕ) → OneOf (1 ∷ 2 ∷ 3 ∷ 4 ∷ 5 ∷ []) (tag_of the_type o) → o ≡ carried n o
-carried_same (Done c) n k = absurd (miss (1 ∷ 2 ∷ 3 ∷ 4 ∷ 5 ∷ []) 0 tt k)
+pub carried_same : (o : StepResult) (n : ℕ) → ((c : State) → o ≡ Done c → ⊥) → o ≡ carried n o
+carried_same (Done c) n k = absurd (k c refl)
 carried_same (Saturated c) n k = refl
 carried_same (Conflict c) n k = refl
 carried_same (Propagate c v w f) n k = refl

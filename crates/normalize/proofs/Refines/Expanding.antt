@@ -10,8 +10,6 @@ use native.Mathlib.Omega.{arith}
 use lib.ListN.{length, drop, get_or, set, length-set, length-append, drop_of_length-le}
 use lib.Seq.{drop-cons, get_or-set_same, get_or-set_other}
 use lib.Dec.{eqb, ltb}
-use types.Run.{OneOf}
-use denote.Enum.Declared.{tag_of}
 use borrow.Author.Tests.{eqb-true, eqb-false, eq-eqb, ne_eqb, ltb-false, lt-ltb, le-ltb, not-true, not-false}
 use Rattle.records.specs.declared.State.{State}
 use Rattle.records.specs.Lists.{if◌then◌else◌, all, any, is_in, none_left, and}
@@ -30,7 +28,6 @@ use Rattle.normalize.specs.declared.Form.{Form}
 use Rattle.normalize.specs.declared.Form.TheVariants as form
 use Rattle.normalize.specs.declared.DeepForm.{DeepForm}
 use Rattle.normalize.specs.declared.DeepForm.TheVariants as deep
-use Rattle.normalize.specs.contracts.DeepForm.{the_type}
 use Rattle.normalize.specs.Normalize.{deep_limit, normal_form, opens, Round, expand}
 use Rattle.records.specs.Rules.{list_limit}
 use Rattle.normalize.specs.Working.Pushes.{Candidates}
@@ -347,11 +344,11 @@ module _ (list : List ℕ) (count' : ℕ) {known : List ℕ} {t : ℕ} {next₀ 
       }
 
     -- an answer that is no list ends the loop
-    pub walking_ended : OneOf (1 ∷ 2 ∷ []) (tag_of the_type x) → Expands known t (first_words list count') next₀ 0 table₀ m₀ m' c next' table' x
+    pub walking_ended : ((j : ℕ) (d' : State) → x ≡ deep.List j d' → ⊥) → Expands known t (first_words list count') next₀ 0 table₀ m₀ m' c next' table' x
     walking_ended k = record { kept = carried-kept g.carried m' w.kept; ready = w.ready; is = λ met z. go met z x refl k }
       where
-        go : (met : List ℕ) → Met table₀ met → (y : DeepForm) → x ≡ y → OneOf (1 ∷ 2 ∷ []) (tag_of the_type y) → ExpandedTo (expand known t (first_words list count') (record { list = first_words next₀ 0; met = met }) (store_of m₀ c)) m' next' table' y
-        go met z (deep.List n d') e k = ⊎_elim (λ (u : ◌≡◌ {A = ℕ} 0 1). absurd (omega arith)) (λ (u : ◌≡◌ {A = ℕ} 0 2). absurd (omega arith)) k
+        go : (met : List ℕ) → Met table₀ met → (y : DeepForm) → x ≡ y → ((j : ℕ) (d' : State) → x ≡ deep.List j d' → ⊥) → ExpandedTo (expand known t (first_words list count') (record { list = first_words next₀ 0; met = met }) (store_of m₀ c)) m' next' table' y
+        go met z (deep.List n d') e k = absurd (k n d' e)
         go met z (deep.None d') e k = record { met = []; is = sym (rest-says met z (deep.None d') e); tells = λ n f y. no_list y }
         go met z (deep.Refused j) e k = record { met = []; is = sym (rest-says met z (deep.Refused j) e); tells = λ n f y. no_refusal y }
 

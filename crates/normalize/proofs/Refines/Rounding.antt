@@ -11,8 +11,6 @@ use native.Mathlib.Omega.{arith}
 use lib.ListN.{length, drop, get_or, drop_of_length-le}
 use lib.Seq.{drop-cons}
 use lib.Dec.{ltb}
-use types.Run.{OneOf}
-use denote.Enum.Declared.{tag_of}
 use borrow.Author.Tests.{lt-ltb, le-ltb, not-true, not-false}
 use Rattle.records.specs.declared.State.{State}
 use Rattle.records.specs.Lists.{if◌then◌else◌, all, any, table, same_word}
@@ -25,7 +23,6 @@ use Rattle.normalize.specs.declared.Form.{Form}
 use Rattle.normalize.specs.declared.Form.TheVariants as form
 use Rattle.normalize.specs.declared.DeepForm.{DeepForm}
 use Rattle.normalize.specs.declared.DeepForm.TheVariants as deep
-use Rattle.normalize.specs.contracts.DeepForm.{the_type}
 use Rattle.normalize.specs.declared.Turn.{Turn}
 use Rattle.normalize.specs.declared.Turn.TheVariants as turn
 use Rattle.normalize.specs.Normalize.{deep_limit, normal_form, push, push_all, expand, settle, after_expand, rounds, deep_form}
@@ -156,11 +153,11 @@ module _ {m : Lent} {c : State} (known : List ℕ) (t : ℕ) (list : List ℕ) (
     round-stopped j i l = record { kept = w.kept; ready = left (deep.Refused j) i; is = λ met q. record { met = []; is = λ more. round-says met q (deep.Refused j) i more; tells = λ k f z. (let y : ◌≡◌ {A = ℕ} 0 1 = cc in absurd (omega arith)) } }
 
     -- an answer that is no list ends the round
-    pub round-ended : OneOf (1 ∷ 2 ∷ []) (tag_of the_type x) → (l : List ℕ) → Turns known t (first_words list n) table m m' c l table' (turn.Ends x)
+    pub round-ended : ((j : ℕ) (d : State) → x ≡ deep.List j d → ⊥) → (l : List ℕ) → Turns known t (first_words list n) table m m' c l table' (turn.Ends x)
     round-ended k l = go x refl k
       where
-        go : (y : DeepForm) → x ≡ y → OneOf (1 ∷ 2 ∷ []) (tag_of the_type y) → Turns known t (first_words list n) table m m' c l table' (turn.Ends y)
-        go (deep.List j d) i k = ⊎_elim (λ (z : ◌≡◌ {A = ℕ} 0 1). absurd (omega arith)) (λ (z : ◌≡◌ {A = ℕ} 0 2). absurd (omega arith)) k
+        go : (y : DeepForm) → x ≡ y → ((j : ℕ) (d : State) → x ≡ deep.List j d → ⊥) → Turns known t (first_words list n) table m m' c l table' (turn.Ends y)
+        go (deep.List j d) i k = absurd (k j d i)
         go (deep.None d) i k = round-none d i l
         go (deep.Refused j) i k = round-stopped j i l
 

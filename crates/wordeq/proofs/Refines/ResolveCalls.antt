@@ -11,9 +11,6 @@ use borrow.Author.Tests.{not-true, not-false, eq-eqb, ne_eqb}
 use mir.Syntax.{w32}
 use mir.Val.{to_z, of_z, SFits}
 use mir.ValLaws.{to_z-of_z}
-use denote.Enum.Declared.{tag_of}
-use types.Run.{OneOf, miss}
-use Rattle.sides.specs.contracts.StepResult.{the_type}
 use Rattle.records.specs.declared.State.{State}
 use Rattle.records.specs.Lists.{all}
 use Rattle.records.specs.Store.{Store, Out, ok, stop, and_then, is_string}
@@ -120,13 +117,13 @@ module _ (s : Store) (l r : List ℕ) (g : ℤ) (b : Bool) (e : b ≡ equal_argu
 -- RESOLVE_EQUATION
 
 -- what a `match` finds that is no refusal
-pub not-refused : (o : StepResult) → OneOf (0 ∷ 1 ∷ 2 ∷ 3 ∷ 4 ∷ []) (tag_of the_type o) → unresolved o ≡ false
+pub not-refused : (o : StepResult) → ((j : ℕ) → o ≡ step.Refused j → ⊥) → unresolved o ≡ false
 not-refused (step.Done c) k = refl
 not-refused (step.Saturated c) k = refl
 not-refused (step.Conflict c) k = refl
 not-refused (step.Propagate c v w f) k = refl
 not-refused (step.Split c j g i) k = refl
-not-refused (step.Refused j) k = absurd (miss (0 ∷ 1 ∷ 2 ∷ 3 ∷ 4 ∷ []) 5 tt k)
+not-refused (step.Refused j) k = absurd (k j refl)
 
 -- an answer handed on: after a refusal the index is cut
 pub undone-resolved : {t t' : List ℕ} (e h r ks : List ℕ) {n : ℕ} (l : List ℕ) (x : StepResult) {o : StepResult} → CutRefused unresolved t t' n x o → Undone (lent t e h r ks) (lent t' e h r ks) n (resolved x (lent t e h r ks) l) (resolved o (lent t' e h r ks) l)

@@ -1,0 +1,26 @@
+use mathlib.Core.Path.{ap, ◌∙◌}
+use Prim.Native.Nat.{ℕ, ◌-◌}
+use native.Mathlib.Omega.{arith}
+use Rattle.records.proofs.Lists.{within_low}
+use Rattle.classes.proofs.Refines.Calling.{back-asked, back_done}
+use borrow.Author.Rules.{rules}
+use Rattle.classes.proofs.go_back_unchecked.Goals as goal
+
+pub overflow_sub-left : goal.overflow_sub-left
+overflow_sub-left c =
+    let e = c.wide-left.ensures in let h = within_low _ _ c.requires.mark_value in omega arith
+
+pub undo_to_unchecked-requires : goal.undo_to_unchecked-requires
+undo_to_unchecked-requires c =
+    let h = back-asked c.requires.ready_marks c.args.mark c.requires.mark_value (ap (λ (x : ℕ). x - 1) c.wide-left.ensures)
+    (c.wide-joins.ensures ∙ c.word.ensures) in
+    record {
+      fact_1 = h.0;
+      fact_2 = h.1.0;
+      fact_3 = h.1.1;
+    }
+
+pub returns : goal.returns
+returns c =
+    back_done c.requires.ready_marks c.args.mark c.requires.mark_value (ap (λ (x : ℕ). x - 1) c.wide-left.ensures) (c.wide-joins.ensures ∙ c.word.ensures)
+    c.undo_to_unchecked.ensures

@@ -1,0 +1,11 @@
+use Prim.Native.Nat.{suc, ◌-◌}
+use Rattle.classes.specs.Joins.{edge}
+use Rattle.classes.proofs.Refines.CarryWords.{Carrying, carrying_begin, carrying_room, carrying_out, carrying_end, carrying_turn}
+use borrow.Author.Rules.{rules}
+use Rattle.classes.proofs.links.carry_unchecked.Given as goal
+
+abbrev pub invariant-loop-i : goal.invariant-loop-i
+invariant-loop-i l = Carrying l.initial.terms l.terms l.n l.x (edge l.parent l.kind l.value l.stamp) l.at l.below l.k l.v l.m l.i
+
+abbrev pub decreases-loop-i : goal.decreases-loop-i
+decreases-loop-i l = suc l.n - l.i

@@ -1,0 +1,11 @@
+use native.Mathlib.Omega.{arith}
+use mathlib.Core.Path.{refl, ◌∙◌}
+use Rattle.classes.proofs.Refines.MarkTables.{Auditing, auditing_begin, first_low, joins_low, auditing_none, auditing_asks, auditing_bad, auditing_turn, auditing_done}
+use borrow.Author.Rules.{rules}
+use Rattle.classes.proofs.trail.tables_ok_unchecked.Given as goal
+
+abbrev pub invariant-loop-i : goal.invariant-loop-i
+invariant-loop-i l = Auditing l.initial.table l.cells l.c l.marks l.initial.i l.initial.joins l.table l.joins l.i
+
+abbrev pub decreases-loop-i : goal.decreases-loop-i
+decreases-loop-i l = l.i

@@ -1,0 +1,10 @@
+use Rattle.classes.proofs.Refines.Trails.{Backward, backward_begin, backward_done, backward_stop, backward_turn}
+use mathlib.Core.Path.{refl}
+use borrow.Author.Rules.{rules}
+use Rattle.classes.proofs.trail.undo_to_unchecked.Given as goal
+
+abbrev pub invariant-loop-j : goal.invariant-loop-j
+invariant-loop-j l = Backward l.initial.terms l.terms l.n l.marks l.joins l.first l.j
+
+abbrev pub decreases-loop-j : goal.decreases-loop-j
+decreases-loop-j l = l.j

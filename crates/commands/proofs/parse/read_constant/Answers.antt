@@ -1,0 +1,12 @@
+use Rattle.commands.proofs.Parsing.{listed-bad, listed-count}
+use Rattle.commands.specs.Commands.{as_constant}
+use borrow.Author.Rules.{rules}
+use Rattle.commands.proofs.parse.read_constant.Goals as goal
+
+pub returns-in_default : goal.returns-in_default
+returns-in_default c =
+    listed-bad as_constant _ _ _ c.read_text.ensures c.in_default.is
+
+pub returns : goal.returns
+returns c =
+    listed-count as_constant _ _ _ c.read_text.ensures _ c.in-Count.is

@@ -1,0 +1,46 @@
+use Rattle.commands.proofs.Decoding.{Decoded, decoded_none, decoded_one, decoded_bad, decoded_all, char_size}
+use lib.ListN.{length}
+use Prim.Native.Nat.{◌-◌}
+use native.Mathlib.Omega.{arith}
+use borrow.Author.Rules.{rules}
+use Rattle.commands.proofs.utf8.read_chars.Goals as goal
+
+pub loop-at-init : goal.loop-at-init
+loop-at-init c =
+    decoded_none _ _
+
+pub shape_of-list-in_default : goal.shape_of-list-in_default
+shape_of-list-in_default c =
+    c.loop-at.invariant.filled.long
+
+pub returns-in_default : goal.returns-in_default
+returns-in_default c =
+    decoded_bad _ _ _ _ _ c.loop-at.invariant c.loop-at-test.true _ c.char_at.ensures c.in_default.is
+
+pub bounds-list-n : goal.bounds-list-n
+bounds-list-n c =
+    let a = c.loop-at.invariant.low in let b = c.loop-at.invariant.filled.long in let t = c.loop-at-test.true in omega arith
+
+pub overflow_add-n : goal.overflow_add-n
+overflow_add-n c =
+    let a = c.loop-at.invariant.low in let t = c.loop-at-test.true in omega arith
+
+pub overflow_add-at : goal.overflow_add-at
+overflow_add-at c =
+    let z = char_size _ _ _ _ c.char_at.ensures c.in-Is.is in let t = c.loop-at-test.true in omega arith
+
+pub loop-at-smaller : goal.loop-at-smaller
+loop-at-smaller c =
+    let z = char_size _ _ _ _ c.char_at.ensures c.in-Is.is in let t = c.loop-at-test.true in omega arith
+
+pub loop-at-preserved : goal.loop-at-preserved
+loop-at-preserved c =
+    decoded_one _ _ _ _ _ c.loop-at.invariant c.loop-at-test.true _ _ _ c.requires.fact_2 c.char_at.ensures c.in-Is.is
+
+pub shape_of-list : goal.shape_of-list
+shape_of-list c =
+    c.loop-at.invariant.filled.long
+
+pub returns : goal.returns
+returns c =
+    decoded_all _ _ _ _ _ c.loop-at.invariant c.loop-at-test.false c.requires.fact_2

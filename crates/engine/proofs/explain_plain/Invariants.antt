@@ -1,0 +1,14 @@
+use mathlib.Core.Path.{◌≡◌, refl, ◌∙◌}
+use lib.ListN.{length}
+use mathlib.Core.List.{[]}
+use Rattle.records.specs.View.{terms_view}
+use Rattle.engine.proofs.Refines.Rises.{nearest-fit, rising_begin, rising_switch, rising_turn, far, far_switch, far-turn}
+use Rattle.engine.proofs.Refines.Plainly.{Walking, plain_walkable, plain-room, plain-same, plain_done, plain-met, plain-stop}
+use borrow.Author.Rules.{rules}
+use Rattle.engine.proofs.explain_plain.Given as goal
+
+abbrev pub invariant-loop-node : goal.invariant-loop-node
+invariant-loop-node l = Walking l.terms l.initial.reasons l.reasons l.c.terms l.a l.b l.top l.node l.last l.initial.given l.given × (length l.places ≡ length l.initial.places)
+
+abbrev pub decreases-loop-node : goal.decreases-loop-node
+decreases-loop-node l = far (terms_view l.terms l.c.terms) l.top l.b l.last l.node

@@ -1,0 +1,21 @@
+use Rattle.engine.proofs.Refines.Listing.{Lacks, lacks-none, lacks-turn, place_found, place_none}
+use Prim.Native.Nat.{◌≤◌, ◌-◌}
+use native.Mathlib.Omega.{arith}
+use borrow.Author.Rules.{rules}
+use Rattle.engine.proofs.listing.place_of.Goals as goal
+
+pub loop-i-init : goal.loop-i-init
+loop-i-init c =
+    (omega arith, lacks-none _ 0 _ _)
+
+pub returns-then-pair_is_unchecked : goal.returns-then-pair_is_unchecked
+returns-then-pair_is_unchecked c =
+    place_found _ _ _ _ _ _ c.pair_is_unchecked.ensures c.if-pair_is_unchecked.true c.loop-i-test.true
+
+pub loop-i-preserved : goal.loop-i-preserved
+loop-i-preserved c =
+    (omega arith, lacks-turn _ 0 _ _ _ _ c.pair_is_unchecked.ensures c.if-pair_is_unchecked.false c.loop-i.invariant.1)
+
+pub returns : goal.returns
+returns c =
+    place_none _ _ _ _ _ c.loop-i.invariant.0 c.loop-i-test.false c.loop-i.invariant.1

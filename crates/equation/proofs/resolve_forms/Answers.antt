@@ -1,0 +1,23 @@
+use mir.Val.{to_z, of_z}
+use mir.ValLaws.{to_z-of_z}
+use mir.Syntax.{w32}
+use Rattle.sides.specs.Wordeq.{is_guard}
+use mathlib.Core.Path.{ap, ◌∙◌}
+use Rattle.equation.proofs.Refines.StepCalls.{forms_resolved}
+use borrow.Author.Rules.{rules}
+use Rattle.equation.proofs.resolve_forms.Goals as goal
+
+pub resolve_unchecked-o-requires : goal.resolve_unchecked-o-requires
+resolve_unchecked-o-requires c =
+    record {
+      ready = c.requires.ready;
+      both_lists = c.requires.both_lists;
+      guard_value = ap is_guard (to_z-of_z w32 c.args.guard c.ranges.guard) ∙ c.requires.guard_value;
+      list_limit_in_bounds = c.requires.list_limit_in_bounds.0;
+    }
+
+pub returns : goal.returns
+returns c =
+    forms_resolved c.args.lhs.now c.args.rhs.now c.resolve_unchecked-o.new.list c.args.guard
+    (to_z w32 (of_z w32 c.args.guard)) c.args.incoming c.resolve_unchecked-o.result _ c.requires.ready c.requires.both_lists c.requires.list_limit_in_bounds.1
+    (to_z-of_z w32 c.args.guard c.ranges.guard) c.resolve_unchecked-o.ensures c.carried.ensures

@@ -1,0 +1,13 @@
+use Rattle.records.proofs.Public.{handed_on, handed_cut}
+use Rattle.normalize.specs.Working.Cuts.{unformed}
+use mathlib.Core.Path.{refl}
+use borrow.Author.Rules.{rules}
+use Rattle.normalize.proofs.cut_unformed.Goals as goal
+
+pub returns-in-List : goal.returns-in-List
+returns-in-List c =
+    handed_on unformed _ _ _ c.in-List.is _ refl
+
+pub returns-in-Refused : goal.returns-in-Refused
+returns-in-Refused c =
+    handed_cut unformed _ _ _ c.in-Refused.is _ _ refl c.cut_unchecked.ensures

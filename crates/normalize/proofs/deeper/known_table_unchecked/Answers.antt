@@ -1,0 +1,16 @@
+use Rattle.normalize.proofs.Refines.Forming.{ready_rooting, strings-within, known-table, list-strings}
+use lib.ListN.{replicate, get_or-replicate}
+use mathlib.Core.Path.{refl}
+use Rattle.normalize.proofs.deeper.known_table_unchecked.Goals as goal
+
+pub build_node_of-requires : goal.build_node_of-requires
+build_node_of-requires c =
+    record {
+      n_le_term_limit = c.requires.ready.sized.term_limited;
+      every = strings-within c.requires.ready _ (list-strings c.requires.ready _ c.requires.known_value);
+      rooting = ready_rooting c.requires.ready;
+    }
+
+pub returns : goal.returns
+returns c =
+    known-table c.requires.ready _ (replicate 513 0) c.requires.known_value refl (λ i h. get_or-replicate 513 i 0 0 h) _ c.build_node_of.ensures

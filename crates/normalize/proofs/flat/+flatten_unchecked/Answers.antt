@@ -1,0 +1,57 @@
+use mathlib.Core.Bool.{true, false}
+use mathlib.Core.Path.{◌≡◌, refl, sym, ap, ◌∙◌}
+use Rattle.held.proofs.Linking.{is_cell, other_tag, step_words_lem, words-none}
+use Rattle.normalize.proofs.Refines.Flats.{one-atom, Left, begin, ended, part_lower, part_passes, part_done, chain_falls}
+use Rattle.normalize.specs.Working.Flat.{bare}
+use Rattle.records.specs.Store.{chain}
+use lib.ListN.{length}
+use native.Mathlib.Omega.{arith}
+use borrow.Author.Rules.{rules}
+use Prim.Native.Nat.{ℕ, ◌<◌}
+use Rattle.normalize.proofs.flat.+flatten_unchecked.Goals as goal
+
+pub returns-then-kind_of-ne3 : goal.returns-then-kind_of-ne3
+returns-then-kind_of-ne3 t c =
+    search one-atom
+
+pub loop-v-init : goal.loop-v-init
+loop-v-init t c =
+    (refl, search begin)
+
+pub returns-in_default : goal.returns-in_default
+returns-in_default t c =
+    ended _ _ _ _ c.requires.nested c.loop-v.invariant.1 false
+    (words-none c.args.cells.now c.args.m _ c.requires.nested.ascends
+    (ap is_cell (sym c.next_link-link.ensures) ∙ other_tag c.next_link-link.result c.in_default.not-Cell))
+    refl
+
+pub flatten_unchecked-k-requires : goal.flatten_unchecked-k-requires
+flatten_unchecked-k-requires t c =
+    let w = step_words_lem c.args.cells.now c.args.m _ c.in-Cell.v c.in-Cell.field-1 c.in-Cell.next
+    (sym c.in-Cell.is ∙ c.next_link-link.ensures) in (
+      (let h = part_lower _ _ _ _ c.requires.nested c.loop-v.invariant.1 _ true w.counted refl w.value in let e = c.requires-raw.0 in omega arith),
+      (c.requires.nested, (c.loop-v.invariant.1.from, omega arith)),
+    )
+
+pub returns-then-k-gt-LIST_LIMIT : goal.returns-then-k-gt-LIST_LIMIT
+returns-then-k-gt-LIST_LIMIT t c =
+    let w = step_words_lem c.args.cells.now c.args.m _ c.in-Cell.v c.in-Cell.field-1 c.in-Cell.next
+    (sym c.in-Cell.is ∙ c.next_link-link.ensures) in
+    part_passes _ _ _ _ c.requires.nested c.loop-v.invariant.1 _ true w.counted refl w.value _ _ (omega arith)
+    (let f = c.loop-v.invariant.1.from in let l = c.loop-v.invariant.0 in let p0 = c.requires.nested in let p1 = c.requires.count_le_list_limit in let p2 = c.requires.list_limit_in_bounds in omega arith) c.flatten_unchecked-k.ensures
+    c.if-k-gt-LIST_LIMIT.true
+
+pub loop-v-smaller : goal.loop-v-smaller
+loop-v-smaller t c =
+    let w = step_words_lem c.args.cells.now c.args.m _ c.in-Cell.v c.in-Cell.field-1 c.in-Cell.next
+    (sym c.in-Cell.is ∙ c.next_link-link.ensures) in
+    chain_falls _ _ _ _ c.requires.nested c.loop-v.invariant.1 _ true w.counted refl w.value _ w.next
+
+pub loop-v-preserved : goal.loop-v-preserved
+loop-v-preserved t c =
+    let w = step_words_lem c.args.cells.now c.args.m _ c.in-Cell.v c.in-Cell.field-1 c.in-Cell.next
+    (sym c.in-Cell.is ∙ c.next_link-link.ensures) in (
+      omega arith,
+      part_done _ _ _ _ c.requires.nested c.loop-v.invariant.1 _ true w.counted refl w.value _ w.next _ _ c.flatten_unchecked-k.ensures
+          c.if-k-gt-LIST_LIMIT.false,
+    )

@@ -1,0 +1,16 @@
+use lib.ListN.{length, drop}
+use Prim.Native.Nat.{◌-◌, ◌≤◌}
+use mathlib.Core.Path.{◌≡◌, refl}
+use Rattle.normalize.specs.Working.Nodes.{with_nodes}
+use Rattle.records.specs.View.{terms_view}
+use Rattle.records.proofs.Lists.{every_at}
+use Rattle.normalize.proofs.Represents.{nodes-turn, nodes-done}
+use native.Mathlib.Omega.{arith}
+use borrow.Author.Rules.{rules}
+use Rattle.normalize.proofs.nodes.build_few.Given as goal
+
+abbrev pub invariant-loop-i : goal.invariant-loop-i
+invariant-loop-i l = (l.i ≤ length l.known) × (with_nodes (terms_view l.terms l.n) (drop l.i l.known) l.nodes ≡ with_nodes (terms_view l.terms l.n) l.known l.initial.nodes)
+
+abbrev pub decreases-loop-i : goal.decreases-loop-i
+decreases-loop-i l = length l.known - l.i

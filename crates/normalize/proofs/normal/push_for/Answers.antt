@@ -1,0 +1,19 @@
+use Rattle.normalize.proofs.Refines.Replacing.{cited-ready, push_for-done, push_for-stopped}
+use borrow.Author.Rules.{rules}
+use Rattle.normalize.proofs.normal.push_for.Goals as goal
+
+pub push-requires : goal.push-requires
+push-requires c =
+    record {
+      ready = cited-ready c.requires.ready _ _ _ c.requires.c_value c.cite-cited.ensures _ c.in-Counts.is;
+      count_lt_list_limit = c.requires.count_lt_list_limit;
+      list_limit_in_bounds = c.requires.list_limit_in_bounds;
+    }
+
+pub returns-in-Counts : goal.returns-in-Counts
+returns-in-Counts c =
+    push_for-done c.requires.ready _ _ _ c.requires.c_value c.cite-cited.ensures _ _ c.in-Counts.is c.push.ensures
+
+pub returns-in-Refused : goal.returns-in-Refused
+returns-in-Refused c =
+    push_for-stopped c.requires.ready _ _ _ c.requires.c_value c.cite-cited.ensures _ _ c.in-Refused.is

@@ -1,0 +1,42 @@
+use Rattle.records.proofs.Lists.{each-stop, each_turn, each-done}
+use Rattle.records.specs.View.{term_at, termed}
+use Rattle.records.proofs.Lists.{below-zero, within-is}
+use Rattle.records.specs.Rules.{parents_rule}
+use Rattle.records.specs.Lists.{all_below}
+use Prim.Native.Nat.{suc, ◌-◌, ◌≤◌}
+use mathlib.Core.Path.{◌≡◌}
+use mathlib.Core.Bool.{true}
+use native.Mathlib.Omega.{arith}
+use borrow.Author.Rules.{rules}
+use Rattle.records.proofs.classes.parents_hold.Goals as goal
+
+pub loop-i-init : goal.loop-i-init
+loop-i-init c =
+    (omega arith, below-zero _)
+
+pub overflow_add-i : goal.overflow_add-i
+overflow_add-i c =
+    omega (arith, c.requires)
+
+pub parents_ok-requires : goal.parents_ok-requires
+parents_ok-requires c =
+    within-is _ _ (omega arith) (omega arith)
+
+pub returns-then-not-parents_ok : goal.returns-then-not-parents_ok
+returns-then-not-parents_ok c =
+    let a = c.args in
+    each-stop (parents_rule (termed a.terms.now a.c)) (λ j. term_at a.terms.now (suc j)) a.c.terms c.loop-i.i _ c.parents_ok.ensures c.if-not-parents_ok.true-raw c.loop-i-test.true
+
+pub overflow_add-i-in-loop-i : goal.overflow_add-i-in-loop-i
+overflow_add-i-in-loop-i c =
+    omega (arith, c.requires)
+
+pub loop-i-preserved : goal.loop-i-preserved
+loop-i-preserved c =
+    let a = c.args in
+    (omega arith, each_turn (parents_rule (termed a.terms.now a.c)) c.loop-i.i _ c.parents_ok.ensures c.if-not-parents_ok.false-raw c.loop-i.invariant.1)
+
+pub returns : goal.returns
+returns c =
+    let a = c.args in
+    each-done (parents_rule (termed a.terms.now a.c)) (λ j. term_at a.terms.now (suc j)) a.c.terms c.loop-i.i c.loop-i.invariant.0 c.loop-i-test.false c.loop-i.invariant.1

@@ -1,0 +1,11 @@
+use Rattle.records.proofs.Climbs.{parent-forest, parent-class}
+use borrow.Author.Rules.{rules}
+use Rattle.records.proofs.fields.parent.Goals as goal
+
+pub returns-then-forest : goal.returns-then-forest
+returns-then-forest c =
+    search parent-forest
+
+pub returns : goal.returns
+returns c =
+    search parent-class

@@ -1,0 +1,19 @@
+use Prim.Native.Nat.{ℕ, ◌%◌, ◌-◌}
+use mathlib.Core.Path.{ap}
+use lib.ListN.{length}
+use Rattle.records.specs.Index.{bucket_of}
+use Rattle.records.proofs.Refines.IndexBuckets.{AddingFrom, list-start, list-turn, list_done}
+use borrow.Author.Rules.{rules}
+use Rattle.records.proofs.index.bucket_of.Goals as goal
+
+pub loop-i-init : goal.loop-i-init
+loop-i-init c =
+    list-start _ _ _ (ap (λ (x : ℕ). x % 64) c.wide-b.ensures)
+
+pub loop-i-preserved : goal.loop-i-preserved
+loop-i-preserved c =
+    search list-turn
+
+pub returns : goal.returns
+returns c =
+    search list_done

@@ -1,0 +1,26 @@
+use lib.ListN.{length}
+use Rattle.records.specs.Lists.{firsts}
+use Rattle.records.specs.Store.{chain_in}
+use Rattle.records.specs.View.{cells_view}
+use Rattle.records.specs.Index.{bucket_of}
+use Rattle.records.proofs.Refines.IndexBuckets.{Adding, chain-start, chain-shorter, chain-turn, chain-done}
+use borrow.Author.Rules.{rules}
+use Rattle.records.proofs.index.bucket_of_chain.Goals as goal
+
+pub loop-b-init : goal.loop-b-init
+loop-b-init c =
+    let a = c.args in chain-start a.cells.now a.n a.f
+
+pub loop-b-smaller : goal.loop-b-smaller
+loop-b-smaller c =
+    let a = c.args in chain-shorter a.cells.now a.n c.requires _ _ c.is_within.ensures c.loop-b-test.true _ c.next-at.ensures
+
+pub loop-b-preserved : goal.loop-b-preserved
+loop-b-preserved c =
+    let a = c.args in
+    chain-turn a.cells.now a.n c.requires _ _ c.is_within.ensures c.loop-b-test.true _ _ _ _ _ c.loop-b.invariant
+    c.value.ensures c.added-b.ensures c.next-at.ensures
+
+pub returns : goal.returns
+returns c =
+    let a = c.args in chain-done a.cells.now a.n c.requires _ _ c.is_within.ensures _ _ c.loop-b.invariant c.loop-b-test.false

@@ -1,0 +1,16 @@
+use Rattle.records.proofs.Refines.IndexBuckets.{JoinedFrom, bucket-low, joined-start, joined-within, joined-turn, joined-done}
+use Rattle.records.specs.Index.{bucket_of}
+use Rattle.records.specs.View.{text_at}
+use Rattle.records.specs.Lists.{concat_map}
+use mathlib.Core.Path.{◌∙◌}
+use lib.ListN.{length}
+use Prim.Native.Nat.{◌-◌}
+use native.Mathlib.Omega.{arith}
+use borrow.Author.Rules.{rules}
+use Rattle.records.proofs.index.bucket_of_joined.Given as goal
+
+abbrev pub invariant-loop-i : goal.invariant-loop-i
+invariant-loop-i l = JoinedFrom l.terms l.chars l.list (bucket_of 1 (concat_map (text_at l.terms l.chars) l.list)) l.b l.i
+
+abbrev pub decreases-loop-i : goal.decreases-loop-i
+decreases-loop-i l = length l.list - l.i

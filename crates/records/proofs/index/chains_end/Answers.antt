@@ -1,0 +1,30 @@
+use mathlib.Core.Path.{◌≡◌}
+use mathlib.Core.Bool.{true}
+use Prim.Native.Nat.{◌-◌, ◌≤◌}
+use lib.ListN.{get_or}
+use lib.Dec.{eqb}
+use Rattle.records.specs.Lists.{all_below}
+use Rattle.records.specs.View.{buckets}
+use Rattle.records.specs.Working.Indexing.{word_after}
+use Rattle.records.proofs.Lists.{below-zero}
+use Rattle.records.proofs.Refines.IndexReads.{end-not, end-turn, end-all}
+use native.Mathlib.Omega.{arith}
+use borrow.Author.Rules.{rules}
+use Rattle.records.proofs.index.chains_end.Goals as goal
+
+pub loop-b-init : goal.loop-b-init
+loop-b-init c =
+    (omega arith, below-zero _)
+
+pub returns-then-word_after-ne0 : goal.returns-then-word_after-ne0
+returns-then-word_after-ne0 c =
+    let a = c.args in end-not a.terms.now a.ends.now c.loop-b.b _ c.loop-b-test.true c.word_after.ensures c.if-word_after-ne0.true
+
+pub loop-b-preserved : goal.loop-b-preserved
+loop-b-preserved c =
+    let a = c.args in
+    (omega arith, end-turn a.terms.now a.ends.now c.loop-b.b _ c.word_after.ensures c.if-word_after-ne0.false c.loop-b.invariant.1)
+
+pub returns : goal.returns
+returns c =
+    let a = c.args in end-all a.terms.now a.ends.now c.loop-b.b c.loop-b.invariant.0 c.loop-b-test.false c.loop-b.invariant.1

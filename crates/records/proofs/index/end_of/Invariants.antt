@@ -1,0 +1,10 @@
+use Rattle.records.proofs.Refines.IndexWalks.{end-inside, EndWalk, to_meet, end-from, end-fewer, end-next, end-reached}
+use native.Mathlib.Omega.{arith}
+use borrow.Author.Rules.{rules}
+use Rattle.records.proofs.index.end_of.Given as goal
+
+abbrev pub invariant-loop-t : goal.invariant-loop-t
+invariant-loop-t l = EndWalk l.terms l.n l.b l.place l.t
+
+abbrev pub decreases-loop-t : goal.decreases-loop-t
+decreases-loop-t l = to_meet l.n l.t

@@ -1,0 +1,24 @@
+use Rattle.records.proofs.Refines.IndexWalks.{Walking, to_meet, walk_from, walk-met, walk-fewer, walk-next, walk_none}
+use Rattle.records.specs.Working.Leaves.{has_text}
+use borrow.Author.Rules.{rules}
+use Rattle.records.proofs.make.walk_text.Goals as goal
+
+pub loop-t-init : goal.loop-t-init
+loop-t-init c =
+    search walk_from
+
+pub returns-then-has_text : goal.returns-then-has_text
+returns-then-has_text c =
+    search walk-met
+
+pub loop-t-smaller : goal.loop-t-smaller
+loop-t-smaller c =
+    search walk-fewer
+
+pub loop-t-preserved : goal.loop-t-preserved
+loop-t-preserved c =
+    search walk-next
+
+pub returns : goal.returns
+returns c =
+    search walk_none

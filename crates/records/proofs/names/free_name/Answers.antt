@@ -1,0 +1,22 @@
+use Rattle.records.proofs.Naming.{Passed, passed_none, passed_one, free_here, free-none}
+use Rattle.records.specs.Make.{name_limit}
+use Rattle.records.specs.View.{lent, store_of}
+use Prim.Native.Nat.{◌-◌}
+use borrow.Author.Rules.{rules}
+use Rattle.records.proofs.names.free_name.Goals as goal
+
+pub loop-x-init : goal.loop-x-init
+loop-x-init c =
+    passed_none _
+
+pub returns-then-not-is_taken : goal.returns-then-not-is_taken
+returns-then-not-is_taken c =
+    search free_here
+
+pub loop-x-preserved : goal.loop-x-preserved
+loop-x-preserved c =
+    search passed_one
+
+pub returns : goal.returns
+returns c =
+    search free-none

@@ -1,0 +1,26 @@
+use Rattle.records.proofs.Lists.{any-zero, any-turn, any-stop, any-done}
+use Rattle.records.specs.Make.{same_pair}
+use Rattle.records.specs.View.{pairs_view}
+use Rattle.records.specs.Lists.{any}
+use Prim.Native.Nat.{◌≤◌, ◌-◌}
+use mathlib.Core.Bool.{false}
+use mathlib.Core.Path.{◌≡◌}
+use native.Mathlib.Omega.{arith}
+use borrow.Author.Rules.{rules}
+use Rattle.records.proofs.put.has_pair.Goals as goal
+
+pub loop-i-init : goal.loop-i-init
+loop-i-init c =
+    (omega arith, any-zero _ _)
+
+pub returns-then-pair_is_unchecked : goal.returns-then-pair_is_unchecked
+returns-then-pair_is_unchecked c =
+    search any-stop
+
+pub loop-i-preserved : goal.loop-i-preserved
+loop-i-preserved c =
+    (omega arith, search any-turn)
+
+pub returns : goal.returns
+returns c =
+    search any-done

@@ -1,0 +1,13 @@
+use Rattle.records.proofs.Refines.Puts.{Chained, chained-none, chained-turn, chained-end, chain-empty}
+use lib.ListN.{length}
+use Prim.Native.Nat.{◌≤◌, ◌-◌, ◌+◌}
+use mathlib.Core.Path.{◌≡◌}
+use native.Mathlib.Omega.{arith}
+use borrow.Author.Rules.{rules}
+use Rattle.records.proofs.put.put_chain_unchecked.Given as goal
+
+abbrev pub invariant-loop-i : goal.invariant-loop-i
+invariant-loop-i l = (l.i ≤ l.last) × (l.last + 1 ≡ length l.l) × Chained l.initial.cells l.cells l.n l.l l.i
+
+abbrev pub decreases-loop-i : goal.decreases-loop-i
+decreases-loop-i l = l.last - l.i

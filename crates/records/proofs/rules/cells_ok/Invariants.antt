@@ -1,0 +1,17 @@
+use mathlib.Core.List.{[]}
+use Rattle.records.proofs.Lists.{within-is, below-zero, each-stop, each_turn, each-done}
+use Rattle.records.specs.Rules.{cell_rule}
+use Rattle.records.specs.View.{lent, store_of, cell_at}
+use Rattle.records.specs.Lists.{all_below}
+use Prim.Native.Nat.{suc, ◌-◌, ◌≤◌}
+use mathlib.Core.Bool.{true}
+use mathlib.Core.Path.{◌≡◌}
+use native.Mathlib.Omega.{arith}
+use borrow.Author.Rules.{rules}
+use Rattle.records.proofs.rules.cells_ok.Given as goal
+
+abbrev pub invariant-loop-i : goal.invariant-loop-i
+invariant-loop-i l = (l.i ≤ l.c.cells) × (all_below (λ j. cell_rule (store_of (lent [] l.cells [] [] []) l.c) (suc j)) l.i ≡ true)
+
+abbrev pub decreases-loop-i : goal.decreases-loop-i
+decreases-loop-i l = l.c.cells - l.i

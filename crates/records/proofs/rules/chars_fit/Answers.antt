@@ -1,0 +1,10 @@
+use Rattle.records.proofs.Refines.RuleLaws.{limit-past, limit_is}
+use Rattle.records.proofs.rules.chars_fit.Goals as goal
+
+pub returns-then-n-gt-CHAR_LIMIT : goal.returns-then-n-gt-CHAR_LIMIT
+returns-then-n-gt-CHAR_LIMIT c =
+    search limit-past
+
+pub returns : goal.returns
+returns c =
+    search limit_is

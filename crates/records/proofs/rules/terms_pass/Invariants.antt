@@ -1,0 +1,21 @@
+use borrow.Author.Tests.{not-false}
+use mathlib.Core.Path.{◌≡◌, refl}
+use mathlib.Core.Bool.{true}
+use Prim.Native.Nat.{suc, ◌+◌, ◌-◌, ◌≤◌}
+use lib.ListN.{length}
+use Rattle.records.specs.Lists.{all_below}
+use Rattle.records.specs.View.{lent, store_of, term_at}
+use Rattle.records.specs.Rules.{term_rule}
+use Rattle.records.specs.Working.Hashes.{Tables}
+use Rattle.records.proofs.Lists.{within-is, below-zero, each-stop, each_turn, each-done}
+use Rattle.records.proofs.Refines.NameLaws.{tables_start}
+use mathlib.Core.List.{[]}
+use native.Mathlib.Omega.{arith}
+use borrow.Author.Rules.{rules}
+use Rattle.records.proofs.rules.terms_pass.Given as goal
+
+abbrev pub invariant-loop-i : goal.invariant-loop-i
+invariant-loop-i l = (l.i ≤ l.c.terms) × (length l.hashes ≡ length l.initial.hashes) × (length l.links ≡ length l.initial.links) × (all_below (λ j. term_rule (store_of (lent l.terms l.cells l.chars [] []) l.c) (suc j)) l.i ≡ true) × Tables (store_of (lent l.terms [] l.chars [] []) l.c) l.hashes l.links l.heads (l.i + 1)
+
+abbrev pub decreases-loop-i : goal.decreases-loop-i
+decreases-loop-i l = l.c.terms - l.i

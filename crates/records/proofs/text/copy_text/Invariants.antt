@@ -1,0 +1,12 @@
+use Rattle.records.proofs.Refines.JoinedTexts.{moved-one, moved_all}
+use Rattle.records.proofs.Refines.Texts.{Copied, copied_none}
+use Rattle.records.specs.View.{span}
+use Prim.Native.Nat.{◌-◌}
+use borrow.Author.Rules.{rules}
+use Rattle.records.proofs.text.copy_text.Given as goal
+
+abbrev pub invariant-loop-i : goal.invariant-loop-i
+invariant-loop-i l = Copied l.initial.chars l.chars l.at (span l.initial.chars l.from l.n) l.i
+
+abbrev pub decreases-loop-i : goal.decreases-loop-i
+decreases-loop-i l = l.n - l.i

@@ -1,0 +1,12 @@
+use Rattle.records.proofs.Refines.Texts.{Agreed, agreed_none, agreed_all, disagree, disagree_next, agreed_two, agreed_last}
+use lib.ListN.{length}
+use Prim.Native.Nat.{◌-◌}
+use native.Mathlib.Omega.{arith}
+use borrow.Author.Rules.{rules}
+use Rattle.records.proofs.text.text_from.Given as goal
+
+abbrev pub invariant-loop-i : goal.invariant-loop-i
+invariant-loop-i l = Agreed l.chars l.w l.at l.i
+
+abbrev pub decreases-loop-i : goal.decreases-loop-i
+decreases-loop-i l = length l.w - l.i

@@ -1,0 +1,22 @@
+use Rattle.records.proofs.Refines.Texts.{Agreed, agreed_none, agreed_one, agreed_all, disagree}
+use mathlib.Core.Path.{sym, ◌∙◌}
+use lib.ListN.{length}
+use Prim.Native.Nat.{◌-◌}
+use borrow.Author.Rules.{rules}
+use Rattle.records.proofs.text.text_past.Goals as goal
+
+pub loop-i-init : goal.loop-i-init
+loop-i-init c =
+    agreed_none _ _ _
+
+pub returns-then-word-w : goal.returns-then-word-w
+returns-then-word-w c =
+    disagree _ _ _ _ c.loop-i.invariant c.loop-i-test.true (λ e. c.if-word-w.true (c.word.ensures ∙ e))
+
+pub loop-i-preserved : goal.loop-i-preserved
+loop-i-preserved c =
+    agreed_one _ _ _ _ c.loop-i.invariant c.loop-i-test.true (sym c.word.ensures ∙ c.if-word-w.false)
+
+pub returns : goal.returns
+returns c =
+    agreed_all _ _ _ _ c.loop-i.invariant c.loop-i-test.false

@@ -1,0 +1,20 @@
+use Rattle.sides.proofs.Refines.ExplainingEach.{atom-constant, atom_arguments, atom-explained}
+use borrow.Author.Rules.{rules}
+use Rattle.sides.proofs.explaining.explain_atom.Goals as goal
+
+pub returns-then-kind_of-eq1 : goal.returns-then-kind_of-eq1
+returns-then-kind_of-eq1 c =
+    atom-constant c.args.terms.now c.args.cells.now c.args.chars.now c.args.reasons.now c.args.keys.now
+    c.args.c _ _ _ c.kind_of.ensures c.requires.ready c.if-kind_of-eq1.true
+
+pub explain_unchecked-requires : goal.explain_unchecked-requires
+explain_unchecked-requires c = (
+  c.requires.ready,
+  atom_arguments c.args.terms.now c.args.cells.now c.args.chars.now c.args.reasons.now c.args.keys.now
+      c.args.c _ _ _ c.kind_of.ensures c.if-kind_of-eq1.false c.requires.pair c.requires.one_class,
+)
+
+pub returns : goal.returns
+returns c =
+    atom-explained c.args.terms.now c.args.cells.now c.args.chars.now c.args.reasons.now c.args.keys.now
+    c.args.c _ _ _ c.kind_of.ensures c.if-kind_of-eq1.false c.explain_unchecked.ensures

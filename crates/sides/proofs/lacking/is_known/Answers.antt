@@ -1,0 +1,7 @@
+use Rattle.sides.proofs.Refines.LackingPlaces.{seen_here}
+use borrow.Author.Rules.{rules}
+use Rattle.sides.proofs.lacking.is_known.Goals as goal
+
+pub returns-then-table-i-ne0 : goal.returns-then-table-i-ne0
+returns-then-table-i-ne0 c =
+    seen_here _ _ _ c.args.i c.requires.2 c.if-table-i-ne0.true

@@ -1,0 +1,10 @@
+use Rattle.sides.proofs.Refines.LackingPlaces.{Unseen, unseen_none, unseen_stop, unseen_one, unseen_done}
+use Prim.Native.Nat.{◌-◌}
+use borrow.Author.Rules.{rules}
+use Rattle.sides.proofs.lacking.is_seen.Given as goal
+
+abbrev pub invariant-loop-i : goal.invariant-loop-i
+invariant-loop-i l = Unseen l.chars l.table l.n l.x l.i
+
+abbrev pub decreases-loop-i : goal.decreases-loop-i
+decreases-loop-i l = l.n - l.i

@@ -1,0 +1,10 @@
+use Rattle.sides.proofs.Refines.LackingSides.{Looked, looked_none, looked_stop, looked_one, looked_done}
+use Prim.Native.Nat.{◌-◌}
+use borrow.Author.Rules.{rules}
+use Rattle.sides.proofs.lacking.lacks_text.Given as goal
+
+abbrev pub invariant-loop-j : goal.invariant-loop-j
+invariant-loop-j l = Looked l.chars l.n l.p l.k l.initial.table l.table l.j
+
+abbrev pub decreases-loop-j : goal.decreases-loop-j
+decreases-loop-j l = l.k - l.j

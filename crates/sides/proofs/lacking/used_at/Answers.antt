@@ -1,0 +1,11 @@
+use Rattle.sides.proofs.Refines.LackingPlaces.{used-none, used-is}
+use borrow.Author.Rules.{rules}
+use Rattle.sides.proofs.lacking.used_at.Goals as goal
+
+pub returns-then-table-i-eq0 : goal.returns-then-table-i-eq0
+returns-then-table-i-eq0 c =
+    used-none _ _ _ _ c.if-table-i-eq0.true
+
+pub returns : goal.returns
+returns c =
+    used-is _ _ _ _ c.if-table-i-eq0.false

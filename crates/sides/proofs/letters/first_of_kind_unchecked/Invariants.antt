@@ -1,0 +1,17 @@
+use Prim.Native.Nat.{◌-◌, ◌≤◌}
+use mathlib.Core.Path.{◌≡◌}
+use mathlib.Core.Bool.{false}
+use lib.ListN.{length, take}
+use Rattle.records.specs.Lists.{any}
+use Rattle.records.specs.View.{termed}
+use Rattle.sides.specs.Working.Sides.{of_kind}
+use Rattle.sides.proofs.FirstOfKind.{first-start, first-here, first-turn, first-none}
+use native.Mathlib.Omega.{arith}
+use borrow.Author.Rules.{rules}
+use Rattle.sides.proofs.letters.first_of_kind_unchecked.Given as goal
+
+abbrev pub invariant-loop-i : goal.invariant-loop-i
+invariant-loop-i l = (l.i ≤ length l.l) × (any (of_kind (termed l.terms l.c) l.k l.is) (take l.i l.l) ≡ false)
+
+abbrev pub decreases-loop-i : goal.decreases-loop-i
+decreases-loop-i l = length l.l - l.i

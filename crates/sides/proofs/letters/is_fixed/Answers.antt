@@ -1,0 +1,8 @@
+use Rattle.records.specs.View.{termed}
+use Rattle.sides.proofs.FirstOfKind.{fixed-kind}
+use borrow.Author.Rules.{rules}
+use Rattle.sides.proofs.letters.is_fixed.Goals as goal
+
+pub returns : goal.returns
+returns c =
+    fixed-kind (termed c.args.terms.now c.args.c) c.args.l.now _ c.first_of_kind_unchecked.ensures

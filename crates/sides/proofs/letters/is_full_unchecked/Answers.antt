@@ -1,0 +1,8 @@
+use Rattle.records.specs.View.{termed}
+use Rattle.sides.proofs.Refines.SideLetters.{count-full}
+use borrow.Author.Rules.{rules}
+use Rattle.sides.proofs.letters.is_full_unchecked.Goals as goal
+
+pub returns : goal.returns
+returns c =
+    count-full (termed c.args.terms.now c.args.c) c.args.a _ c.fill_count.ensures

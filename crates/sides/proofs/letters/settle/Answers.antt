@@ -1,0 +1,21 @@
+use Prim.Native.Nat.{◌-◌}
+use lib.ListN.{length}
+use Rattle.sides.proofs.Refines.SideWalk.{Onward, onward-none, onward-here, onward-atom, onward-end}
+use borrow.Author.Rules.{rules}
+use Rattle.sides.proofs.letters.settle.Goals as goal
+
+pub loop-i-init : goal.loop-i-init
+loop-i-init c =
+    onward-none _ _ _ _ _
+
+pub returns-then-j-n : goal.returns-then-j-n
+returns-then-j-n c =
+    onward-here _ _ _ _ _ _ c.loop-i.invariant _ c.letter_count-n.ensures c.if-j-n.true
+
+pub loop-i-preserved : goal.loop-i-preserved
+loop-i-preserved c =
+    onward-atom _ _ _ c.args.k _ _ c.loop-i.invariant _ c.letter_count-n.ensures c.requires c.loop-i-test.true c.if-j-n.false
+
+pub returns : goal.returns
+returns c =
+    onward-end _ _ _ _ _ _ c.loop-i.invariant c.loop-i-test.false

@@ -1,0 +1,29 @@
+use Prim.Native.Nat.{◌-◌}
+use lib.ListN.{length}
+use Rattle.records.specs.View.{termed}
+use Rattle.sides.proofs.Refines.Elsewhere.{full_count, fulls_none, fulls_turn}
+use Rattle.records.proofs.Loops.{Summing, summing_none, summing_all}
+use native.Mathlib.Omega.{arith}
+use borrow.Author.Rules.{rules}
+use Rattle.sides.proofs.occurring.count_full.Goals as goal
+
+pub loop-i-init : goal.loop-i-init
+loop-i-init c =
+    summing_none _ _ _
+
+pub own_count-n-requires : goal.own_count-n-requires
+own_count-n-requires c =
+    c.requires.0
+
+pub overflow_add-n : goal.overflow_add-n
+overflow_add-n c =
+    let z = fulls_turn _ _ _ _ _ c.loop-i.invariant c.loop-i-test.true c.own_count-n.ensures in
+    let y = z.small in let x = z.within in let v = c.requires.1 in omega arith
+
+pub loop-i-preserved : goal.loop-i-preserved
+loop-i-preserved c =
+    fulls_turn _ _ _ _ _ c.loop-i.invariant c.loop-i-test.true c.own_count-n.ensures
+
+pub returns : goal.returns
+returns c =
+    summing_all _ _ _ _ _ c.loop-i.invariant (fulls_none _) c.loop-i-test.false

@@ -1,0 +1,7 @@
+use Rattle.sides.proofs.FirstOfKind.{first-variable}
+use borrow.Author.Rules.{rules}
+use Rattle.sides.proofs.spans.first_variable_unchecked.Goals as goal
+
+pub returns : goal.returns
+returns c =
+    first-variable _ _ _ c.first_of_kind_unchecked.ensures

@@ -1,0 +1,41 @@
+use Rattle.records.specs.View.{read_in, termed}
+use Rattle.sides.proofs.Refines.TileCalls.{list-string, after-strings, after-short, readable_read_in, unfit-apart, unfit-is}
+use Rattle.records.proofs.ListLaws.{list-short}
+use native.Mathlib.Omega.{arith}
+use borrow.Author.Rules.{rules}
+use Rattle.sides.proofs.spans.is_unfit.Goals as goal
+
+pub all_agree_unchecked-requires : goal.all_agree_unchecked-requires
+all_agree_unchecked-requires c =
+    record {
+      readable = c.requires.readable;
+      l_value = after-strings (read_in c.args.terms.now c.args.chars.now c.args.c) c.args.side.now c.args.i
+          c.requires.fact.1;
+      v_value = list-string (read_in c.args.terms.now c.args.chars.now c.args.c) c.args.side.now c.requires.fact.1 c.args.i
+          c.requires.fact.3;
+    }
+
+pub returns-then-not-all_agree_unchecked : goal.returns-then-not-all_agree_unchecked
+returns-then-not-all_agree_unchecked c =
+    unfit-apart c.args.terms.now c.args.chars.now c.args.c c.args.word.now c.args.side.now c.args.i _
+    c.all_agree_unchecked.ensures c.if-not-all_agree_unchecked.true-raw
+
+pub overflow_add-k : goal.overflow_add-k
+overflow_add-k c =
+    (let z = after-short (termed c.args.terms.now c.args.c) c.args.side.now c.args.i _ c.requires.fact.3
+    c.variables_length-k.ensures in
+    let y = list-short (read_in c.args.terms.now c.args.chars.now c.args.c) c.args.side.now c.requires.fact.1 in omega arith)
+
+pub fits-requires : goal.fits-requires
+fits-requires c = (
+  readable_read_in c.args.terms.now c.args.chars.now c.args.c c.requires.readable,
+  c.requires.fact.0,
+  list-short (read_in c.args.terms.now c.args.chars.now c.args.c) c.args.side.now c.requires.fact.1,
+  c.requires.fact.2,
+  omega arith,
+)
+
+pub returns : goal.returns
+returns c =
+    unfit-is c.args.terms.now c.args.chars.now c.args.c c.args.word.now c.args.side.now c.args.i _
+    c.all_agree_unchecked.ensures c.if-not-all_agree_unchecked.false-raw _ c.variables_length-k.ensures _ c.fits.ensures

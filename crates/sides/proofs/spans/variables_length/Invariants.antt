@@ -1,0 +1,14 @@
+use Prim.Native.Nat.{◌-◌}
+use lib.ListN.{length}
+use Rattle.records.specs.View.{termed}
+use Rattle.sides.proofs.Refines.Fitting.{variable_count, tally_none, tallied_one}
+use Rattle.records.proofs.Loops.{Summing, summing_none, summing_all}
+use native.Mathlib.Omega.{arith}
+use borrow.Author.Rules.{rules}
+use Rattle.sides.proofs.spans.variables_length.Given as goal
+
+abbrev pub invariant-loop-i : goal.invariant-loop-i
+invariant-loop-i l = Summing (variable_count (termed l.terms l.c)) 1 l.l l.total l.i
+
+abbrev pub decreases-loop-i : goal.decreases-loop-i
+decreases-loop-i l = length l.l - l.i
