@@ -1,4 +1,4 @@
-/* The label resolver's calls for C99, C++11 and later; link libcapi.a (`rt staticlib capi`).
+/* The label resolver's calls for C99, C++11 and later; link libcapi.a (`rt lib` in crates/capi).
  *
  * PLAIN CALLS. A slice is a pointer and a length in words. The store comes first: the state's words (counts of terms, cells, characters,
  * reasons and keys, the name counter, counts of marks and of recorded joins), then the five slices. The result is 0 or the refusal's number;

@@ -31,11 +31,11 @@ fn main() {
         return;
     }
     let package = PathBuf::from(env::var_os("CARGO_MANIFEST_DIR").unwrap());
-    let folder = package.join("../target/staticlib");
+    let folder = package.join("../crates/capi/out");
     let library = folder.join("libcapi.a");
     println!("cargo:rerun-if-changed={}", library.display());
     let Ok(archive) = fs::read(&library) else {
-        eprintln!("the port's library is not at {}: make it with `rt staticlib capi`", library.display());
+        eprintln!("the port's library is not at {}: make it with `rt lib` in crates/capi", library.display());
         std::process::exit(1);
     };
     for call in CALLS {

@@ -6,12 +6,12 @@ BEGIN {
     print "  edge [color=\"#555555\", arrowsize=0.7]"
     print "  node [fillcolor=\"#d9ead3\"] answers labelstep stores"
     print "  node [fillcolor=\"#fce5cd\"] capi cases"
-    print "  node [fillcolor=\"#eeeeee\"] io libc"
     print "  node [fillcolor=\"#cfe2f3\"]"
 }
-/^[a-z]/ {
-    sub(":", "", $1)
-    print "  " $1
-    for (i = 2; i <= NF; i++) print "  " $1 " -> " $i
+/^[a-z]/ { # NAME, what it is where that is told, a colon, and the crates that it is built on
+    name = $0; sub(/[ :].*/, "", name)
+    sub(/^[^:]*:/, "")
+    print "  " name
+    for (i = 1; i <= NF; i++) print "  " name " -> " $i
 }
 END { print "}" }

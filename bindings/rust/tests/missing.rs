@@ -14,5 +14,5 @@ fn a_missing_library_is_told() {
     fs::remove_dir_all(&folder).unwrap();
     assert!(!output.status.success());
     assert!(told.contains(&format!("there is no {}", folder.join("libcapi.a").display())), "{told}");
-    assert!(told.contains("rt staticlib capi") && told.contains("LABELS_LIBRARY"), "{told}");
+    assert!(told.contains("rt lib") && told.contains("LABELS_LIBRARY"), "{told}");
 }
