@@ -15,7 +15,7 @@ use Rattle.normalize.specs.Calls.{first_words, list_call}
 use Rattle.wordeq.specs.Calls.{equal_arguments}
 use Rattle.empties.specs.declared.Empties.{Empties}
 use Rattle.empties.specs.declared.Empties.TheVariants as empties
-use Rattle.empties.specs.Empties.{Parts, empty_parts}
+use Rattle.empties.specs.Empties.{empty_parts}
 use Rattle.empties.specs.Meaning.{Becomes}
 use Rattle.empties.specs.Repeats.{Repeats}
 use Rattle.empties.specs.Calls.{listed, PublicEmpties}

@@ -2,7 +2,6 @@
 use Rattle.std.specs.Prelude.{Bool, true, false, ◌&&◌, List, [], ◌∷◌, ℕ, length, ℤ, pos, negsuc, eqb, T}
 use Prim.Native.Char.{code}
 use Prim.Native.String.{String}
-use Prim.Native.String
 use Rattle.records.specs.Lists.{all, any, first_of, keep, concat_map, table, same_word, is_in, firsts, seconds, up_to, all_below, first_below}
 use Rattle.records.specs.Store.{Store, no_term, no_cell, Out, ok, stop, Work, ◌>>=◌, ◌>>◌, give, store, put, term_in, cell_in, within, text_in, chain_by, climb, above_by, nearest_in, path_in}
 use Rattle.records.specs.View.{term_words, cell_words}

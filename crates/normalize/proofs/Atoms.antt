@@ -8,7 +8,7 @@ use lib.ListN.{length}
 use lib.Dec.{eqb, leb}
 use borrow.Author.Tests.{eqb-true, leb-true, leb-false, le-leb, lt-leb}
 use Rattle.records.specs.Lists.{if◌then◌else◌, all, concat_map, firsts, Every, none_left, and}
-use Rattle.records.specs.Store.{Term, Cell, Store, ok, stop, give, refuse, kind, is_string, is_concat, term, term_in, chain_in, parts}
+use Rattle.records.specs.Store.{Term, Cell, Store, ok, stop, give, refuse, is_string, is_concat, term, term_in, chain_in, parts}
 use Rattle.records.specs.Meaning.{Words, Reading}
 use Rattle.records.specs.Working.Audited.{Recorded, Audited}
 use Rattle.records.proofs.Lists.{decide, clash, concat_map-append, concat_map-same, every_map, every_append, all_every, every_both}

@@ -11,7 +11,7 @@ use lib.Seq.{drop-cons, get_or-set_same, get_or-set_other}
 use lib.Dec.{eqb, ltb}
 use borrow.Author.Tests.{eqb-true, eqb-false, eq-eqb, ne_eqb, lt-ltb, le-ltb}
 use Rattle.records.specs.Lists.{if◌then◌else◌, first_of, Every, none_left, and}
-use Rattle.records.specs.Store.{Store, Term, within, kind, term_in, root_in, class_up}
+use Rattle.records.specs.Store.{Store, Term, within, term_in, root_in, class_up}
 use Rattle.records.specs.View.{term_limit, terms_view}
 use Rattle.records.specs.Working.Audited.{Closed}
 use Rattle.records.specs.Working.ClimbEnds.{Ends}

@@ -1,25 +1,25 @@
 -- The index of a store: where the buckets stay, after a term was made, and where other words than those of terms are written.
 use mathlib.Core.Path.{◌≡◌, refl, sym, ap, subst, ◌∙◌}
-use mathlib.Core.Bool.{true, false, ◌||◌}
+use mathlib.Core.Bool.{true, ◌||◌}
 use mathlib.Core.List.{List, [], ◌∷◌}
-use Prim.Native.Nat.{ℕ, zero, suc, ◌+◌, ◌≤◌, ◌<◌}
+use Prim.Native.Nat.{ℕ, zero, suc, ◌≤◌, ◌<◌}
 use native.Mathlib.Omega.{arith}
 use lib.ListN.{length}
 use lib.Dec.{eqb}
-use borrow.Author.Tests.{eqb-true, eq-eqb}
+use borrow.Author.Tests.{eqb-true}
 use Rattle.records.specs.declared.State.{State}
 use Rattle.records.specs.Lists.{if◌then◌else◌}
-use Rattle.records.specs.Store.{Term, Cell, Store, term, count, kind, within, is_term, is_constant, is_variable, is_concat, is_length, text, parts}
-use Rattle.records.specs.View.{Lent, store_of, buckets}
+use Rattle.records.specs.Store.{Term, Store, term, count, kind, within, text, parts}
+use Rattle.records.specs.View.{Lent, store_of}
 use Rattle.records.specs.Index.{numbers, sum, bucket_of, bucket, IndexOf, Indexed, SameIndex}
 use Rattle.records.specs.Make.{with_reasons}
 use Rattle.records.specs.Calls.{KeepsStore}
 use Rattle.records.specs.Working.Indexing.{SameBuckets, CutIndex, Linked}
 use Rattle.records.specs.Working.Puts.{IndexLeft}
 use Rattle.records.specs.Working.Doing.{Keeps}
-use Rattle.records.proofs.Lists.{decide, within_low, within-high, within-is, table-length}
+use Rattle.records.proofs.Lists.{decide, within_low, within-high}
 use Rattle.records.proofs.Grown.{Grown}
-use Rattle.records.proofs.Counts.{Below, Higher, higher-below, agree-below}
+use Rattle.records.proofs.Counts.{Higher, higher-below, agree-below}
 use Rattle.records.proofs.IndexFinds.{bucket-is, constant-numbers, variable-numbers}
 use Rattle.records.proofs.IndexLaws.{same_none, cut-index-none, cut-index-then, index_stays}
 

@@ -1,5 +1,5 @@
 -- The index of one small store, by computing: its buckets, its heads and ninth words, and the test on these and on damaged ones.
-use Rattle.std.specs.Prelude.{Bool, not, ◌&&◌, List, [], ◌∷◌, ◌++◌, ℕ, suc, get_or, set, eqb, T}
+use Rattle.std.specs.Prelude.{Bool, not, ◌&&◌, List, [], ◌∷◌, ◌++◌, ℕ, suc, set, eqb, T}
 use Rattle.records.specs.Lists.{all, first_of, concat_map, table, same_word, firsts, all_below, first_below}
 use Rattle.records.specs.Store.{no_term, no_cell, Store, or_none, term_in, cell_in, within, text_in, chain_by}
 use Rattle.records.specs.View.{buckets, term_words, cell_words}

@@ -1,7 +1,6 @@
 use Rattle.capi.proofs.FormExports.{deep_untold, deep_tellable, none_tellable, deep_exported}
 use borrow.Author.Tests.{not-true, not-false}
 use mathlib.Core.Path.{sym, ◌∙◌}
-use borrow.Author.Rules.{rules}
 use Rattle.capi.proofs.labels_deep_normal_form.Goals as goal
 
 pub returns-then-not-is_roomy : goal.returns-then-not-is_roomy
@@ -9,12 +8,11 @@ returns-then-not-is_roomy c =
     deep_untold _ _ _ _ _ _ (sym c.is_roomy.ensures ∙ not-true _ c.if-not-is_roomy.true-raw)
 
 pub tell_deep_form-requires : goal.tell_deep_form-requires
-tell_deep_form-requires c =
-    (
-      sym c.is_roomy.ensures ∙ not-false _ c.if-not-is_roomy.false-raw,
-      deep_tellable c.deep_normal_form_cited-made.ensures,
-      none_tellable c.deep_normal_form_cited-made.ensures,
-    )
+tell_deep_form-requires c = (
+  sym c.is_roomy.ensures ∙ not-false _ c.if-not-is_roomy.false-raw,
+  deep_tellable c.deep_normal_form_cited-made.ensures,
+  none_tellable c.deep_normal_form_cited-made.ensures,
+)
 
 pub returns : goal.returns
 returns c =

@@ -1,6 +1,5 @@
 use Rattle.capi.proofs.Engines.{explain-short, explain_tellable, explain_exported}
 use native.Mathlib.Omega.{arith}
-use borrow.Author.Rules.{rules}
 use Rattle.capi.proofs.labels_explain.Goals as goal
 
 pub returns-then-state-lt-STATE_ROOM : goal.returns-then-state-lt-STATE_ROOM

@@ -3,7 +3,6 @@ use Rattle.capi.proofs.Engines.{find-told, find_untold}
 use borrow.Author.Tests.{not-true, not-false}
 use mathlib.Core.Path.{sym, ◌∙◌}
 use native.Mathlib.Omega.{arith}
-use borrow.Author.Rules.{rules}
 use Rattle.capi.proofs.labels_find.Goals as goal
 
 pub returns-then-not-is_roomy : goal.returns-then-not-is_roomy

@@ -2,7 +2,6 @@ use mathlib.Core.Path.{sym, ◌∙◌}
 use borrow.Author.Tests.{not-true, not-false}
 use Rattle.capi.proofs.Exports.{untold, tellable, exported}
 use Rattle.capi.proofs.Tellings.{concat-tells}
-use borrow.Author.Rules.{rules}
 use Rattle.capi.proofs.labels_make_concatenation.Goals as goal
 
 pub returns-then-not-is_roomy : goal.returns-then-not-is_roomy
@@ -10,11 +9,10 @@ returns-then-not-is_roomy c =
     untold _ _ _ _ _ _ (sym c.is_roomy.ensures ∙ not-true _ c.if-not-is_roomy.true-raw)
 
 pub tell-requires : goal.tell-requires
-tell-requires c =
-    (
-      sym c.is_roomy.ensures ∙ not-false _ c.if-not-is_roomy.false-raw,
-      tellable (concat-tells c.args.parts.now) c.make_concatenation-made.ensures,
-    )
+tell-requires c = (
+  sym c.is_roomy.ensures ∙ not-false _ c.if-not-is_roomy.false-raw,
+  tellable (concat-tells c.args.parts.now) c.make_concatenation-made.ensures,
+)
 
 pub returns : goal.returns
 returns c =

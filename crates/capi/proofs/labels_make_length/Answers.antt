@@ -2,7 +2,6 @@ use mathlib.Core.Path.{sym, ◌∙◌}
 use borrow.Author.Tests.{not-true, not-false}
 use Rattle.capi.proofs.Exports.{untold, tellable, exported}
 use Rattle.capi.proofs.Tellings.{length-tells}
-use borrow.Author.Rules.{rules}
 use Rattle.capi.proofs.labels_make_length.Goals as goal
 
 pub returns-then-not-is_roomy : goal.returns-then-not-is_roomy

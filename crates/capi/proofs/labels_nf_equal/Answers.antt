@@ -2,7 +2,6 @@ use Rattle.capi.proofs.EqualExports.{equal-short, equal-told, equal_untold}
 use borrow.Author.Tests.{not-true, not-false}
 use mathlib.Core.Path.{sym, ◌∙◌}
 use native.Mathlib.Omega.{arith}
-use borrow.Author.Rules.{rules}
 use Rattle.capi.proofs.labels_nf_equal.Goals as goal
 
 pub returns-then-not-is_roomy : goal.returns-then-not-is_roomy

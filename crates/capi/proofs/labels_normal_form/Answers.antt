@@ -1,7 +1,6 @@
 use Rattle.capi.proofs.FormExports.{form_untold, form_tellable, form_exported}
 use borrow.Author.Tests.{not-true, not-false}
 use mathlib.Core.Path.{sym, ◌∙◌}
-use borrow.Author.Rules.{rules}
 use Rattle.capi.proofs.labels_normal_form.Goals as goal
 
 pub returns-then-not-is_roomy : goal.returns-then-not-is_roomy

@@ -2,7 +2,6 @@ use Rattle.capi.proofs.AnswerExports.{resolve_untold, resolve_tellable, resolve_
 use borrow.Author.Tests.{not-true, not-false}
 use mathlib.Core.Path.{sym, ◌∙◌}
 use native.Mathlib.Omega.{arith}
-use borrow.Author.Rules.{rules}
 use Rattle.capi.proofs.labels_resolve_equation.Goals as goal
 
 pub returns-then-not-is_roomy : goal.returns-then-not-is_roomy
@@ -10,12 +9,11 @@ returns-then-not-is_roomy c =
     resolve_untold _ _ _ _ _ _ _ (sym c.is_roomy.ensures ∙ not-true _ c.if-not-is_roomy.true-raw)
 
 pub tell_answer-requires : goal.tell_answer-requires
-tell_answer-requires c =
-    (
-      (sym c.is_roomy.ensures ∙ not-false _ c.if-not-is_roomy.false-raw),
-      resolve_tellable _ c.ranges.guard c.resolve_equation-made.ensures
-          (let k = c.resolve_equation-made.auto.list in omega arith),
-    )
+tell_answer-requires c = (
+  (sym c.is_roomy.ensures ∙ not-false _ c.if-not-is_roomy.false-raw),
+  resolve_tellable _ c.ranges.guard c.resolve_equation-made.ensures
+      (let k = c.resolve_equation-made.auto.list in omega arith),
+)
 
 pub returns : goal.returns
 returns c =

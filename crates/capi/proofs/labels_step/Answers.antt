@@ -2,7 +2,6 @@ use Rattle.capi.proofs.StepExports.{step_untold, step_tellable, step_exported}
 use borrow.Author.Tests.{not-true, not-false}
 use mathlib.Core.Path.{sym, ◌∙◌}
 use native.Mathlib.Omega.{arith}
-use borrow.Author.Rules.{rules}
 use Rattle.capi.proofs.labels_step.Goals as goal
 
 pub returns-then-not-is_roomy : goal.returns-then-not-is_roomy
@@ -10,11 +9,10 @@ returns-then-not-is_roomy c =
     step_untold _ _ _ _ _ _ _ (sym c.is_roomy.ensures ∙ not-true _ c.if-not-is_roomy.true-raw)
 
 pub tell_outcome-requires : goal.tell_outcome-requires
-tell_outcome-requires c =
-    (
-      (sym c.is_roomy.ensures ∙ not-false _ c.if-not-is_roomy.false-raw),
-      step_tellable c.step-made.result c.ranges.guard c.step-made.ensures (let k = c.step-made.auto.list in omega arith),
-    )
+tell_outcome-requires c = (
+  (sym c.is_roomy.ensures ∙ not-false _ c.if-not-is_roomy.false-raw),
+  step_tellable c.step-made.result c.ranges.guard c.step-made.ensures (let k = c.step-made.auto.list in omega arith),
+)
 
 pub returns : goal.returns
 returns c =

@@ -12,7 +12,7 @@ use lib.Seq.{get_or-set_same, get_or-set_other, drop-append-le, drop-append_seam
 use borrow.Author.Tests.{not-true, not-false}
 use Rattle.records.specs.declared.State.{State}
 use Rattle.records.specs.Lists.{all, table, firsts, Every}
-use Rattle.records.specs.Store.{Term, Store, term_in, term, kind, chain, within, class_up}
+use Rattle.records.specs.Store.{Term, Store, term_in, term, chain, within, class_up}
 use Rattle.records.specs.View.{Lent, store_of, terms_view, term_words, term_limit, chained, termed}
 use Rattle.records.specs.Rules.{classes_rule, congruences_rule}
 use Rattle.records.specs.Working.Audited.{Closed, Classed, Congruable}

@@ -1,6 +1,5 @@
 use Rattle.records.specs.View.{termed}
 use Rattle.classes.proofs.Refines.PublicCalls.{cannot_one, cannot_other, cannot_kind, can-number}
-use borrow.Author.Rules.{rules}
 use Rattle.classes.proofs.can_join.Goals as goal
 
 pub returns-then-not-is_string : goal.returns-then-not-is_string

@@ -1,6 +1,5 @@
 use Rattle.classes.proofs.Refines.Merge.{cannot_1, cannot_2, cannot_3, cannot_4, can-last, string-within, can-climb}
 use Rattle.records.specs.View.{lent}
-use borrow.Author.Rules.{rules}
 use Rattle.classes.proofs.can_merge_unchecked.Goals as goal
 
 pub returns-then-not-is_string : goal.returns-then-not-is_string

@@ -4,7 +4,6 @@ use Rattle.records.proofs.Lists.{passed}
 use Rattle.classes.specs.Calls.{go_back}
 use Rattle.classes.proofs.ReadyMarks.{marks-ready}
 use Rattle.classes.proofs.Refines.PublicCalls.{call-audit, back-absent, call-given}
-use borrow.Author.Rules.{rules}
 use Rattle.classes.proofs.go_back.Goals as goal
 
 pub returns-then-k-ne0 : goal.returns-then-k-ne0

@@ -3,7 +3,6 @@ use Prim.Native.Nat.{ℕ, ◌-◌}
 use native.Mathlib.Omega.{arith}
 use Rattle.records.proofs.Lists.{within_low}
 use Rattle.classes.proofs.Refines.Calling.{back-asked, back_done}
-use borrow.Author.Rules.{rules}
 use Rattle.classes.proofs.go_back_unchecked.Goals as goal
 
 pub overflow_sub-left : goal.overflow_sub-left

@@ -1,5 +1,4 @@
 use Rattle.classes.proofs.Refines.Merge.{root-not, root_by}
-use borrow.Author.Rules.{rules}
 use Rattle.classes.proofs.is_root.Goals as goal
 
 pub returns-then-class_parent-t : goal.returns-then-class_parent-t

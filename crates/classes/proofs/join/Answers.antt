@@ -3,7 +3,6 @@ use Rattle.records.specs.View.{lent}
 use Rattle.records.proofs.Lists.{passed}
 use Rattle.classes.proofs.ReadyMarks.{marks-ready}
 use Rattle.classes.proofs.Refines.PublicCalls.{join_unready, join-wrong, join-gives}
-use borrow.Author.Rules.{rules}
 use Rattle.classes.proofs.join.Goals as goal
 
 pub returns-then-k-ne0 : goal.returns-then-k-ne0

@@ -1,5 +1,4 @@
 use Rattle.classes.proofs.Refines.Calling.{one-asked, other-asked, join-same, top-asked, record-asked, link-asked, join-two}
-use borrow.Author.Rules.{rules}
 use Rattle.classes.proofs.join_unchecked.Goals as goal
 
 pub root_unchecked-under-requires : goal.root_unchecked-under-requires

@@ -1,7 +1,6 @@
 use Rattle.classes.proofs.Refines.Merge.{merge_unready, merge-unfit, merge-room, merge-is}
 use Rattle.records.proofs.Public.{passed-ready}
 use Rattle.records.specs.View.{lent}
-use borrow.Author.Rules.{rules}
 use Rattle.classes.proofs.merge.Goals as goal
 
 pub returns-then-k-ne0 : goal.returns-then-k-ne0

@@ -1,5 +1,4 @@
 use Rattle.classes.proofs.Refines.Merge.{put-room, put_under}
-use borrow.Author.Rules.{rules}
 use Rattle.classes.proofs.put_under_unchecked.Goals as goal
 
 pub put_edge_unchecked-requires : goal.put_edge_unchecked-requires

@@ -3,7 +3,6 @@ use Rattle.records.specs.View.{lent}
 use Rattle.classes.specs.Calls.{set_mark}
 use Rattle.classes.proofs.ReadyMarks.{marks-ready}
 use Rattle.classes.proofs.Refines.PublicCalls.{call-audit, mark_full, call-given}
-use borrow.Author.Rules.{rules}
 use Rattle.classes.proofs.set_mark.Goals as goal
 
 pub returns-then-k-ne0 : goal.returns-then-k-ne0

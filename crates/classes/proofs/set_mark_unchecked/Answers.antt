@@ -1,5 +1,4 @@
 use Rattle.classes.proofs.Refines.Calling.{mark_done}
-use borrow.Author.Rules.{rules}
 use Rattle.classes.proofs.set_mark_unchecked.Goals as goal
 
 pub returns : goal.returns

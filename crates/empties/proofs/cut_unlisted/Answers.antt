@@ -1,7 +1,6 @@
 use Rattle.records.proofs.Public.{handed_on, handed_cut}
 use Rattle.empties.specs.Working.Cuts.{unlisted}
 use mathlib.Core.Path.{refl}
-use borrow.Author.Rules.{rules}
 use Rattle.empties.proofs.cut_unlisted.Goals as goal
 
 pub returns-in-Parts : goal.returns-in-Parts

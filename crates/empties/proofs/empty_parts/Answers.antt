@@ -1,7 +1,6 @@
 use Rattle.records.proofs.Public.{cut-asked, passed-ready}
 use Rattle.empties.proofs.Refines.EmptyPartsCalls.{parts-short, parts_unready, parts-unfit, parts-ready, parts-lists, parts_called, undone-listed}
 use Rattle.records.specs.View.{lent}
-use borrow.Author.Rules.{rules}
 use Rattle.empties.proofs.empty_parts.Goals as goal
 
 pub returns-then-list-lt-LIST_LIMIT : goal.returns-then-list-lt-LIST_LIMIT

@@ -1,14 +1,10 @@
 use Rattle.empties.proofs.Refines.Listing.{met-empty, met-pair, met-first, met-later}
 use Rattle.records.proofs.Loops.{any-stop, any-turn, any-done}
-use Rattle.records.specs.Lists.{any}
 use Rattle.records.specs.Store.{same_class}
 use Rattle.records.specs.View.{read_in}
-use lib.ListN.{length, drop}
 use mathlib.Core.Bool.{true, false}
-use mathlib.Core.Path.{◌≡◌, refl, sym, ◌∙◌}
-use Prim.Native.Nat.{◌-◌, ◌≤◌}
+use mathlib.Core.Path.{refl, sym, ◌∙◌}
 use native.Mathlib.Omega.{arith}
-use borrow.Author.Rules.{rules}
 use Rattle.empties.proofs.is_met.Goals as goal
 
 pub same_class_unchecked-requires : goal.same_class_unchecked-requires

@@ -1,14 +1,9 @@
-use Rattle.empties.proofs.Refines.Listing.{met-empty, met-pair, met-first, met-later}
-use Rattle.records.proofs.Loops.{any-stop, any-turn, any-done}
 use Rattle.records.specs.Lists.{any}
 use Rattle.records.specs.Store.{same_class}
 use Rattle.records.specs.View.{read_in}
 use lib.ListN.{length, drop}
-use mathlib.Core.Bool.{true, false}
-use mathlib.Core.Path.{◌≡◌, refl, sym, ◌∙◌}
+use mathlib.Core.Path.{◌≡◌}
 use Prim.Native.Nat.{◌-◌, ◌≤◌}
-use native.Mathlib.Omega.{arith}
-use borrow.Author.Rules.{rules}
 use Rattle.empties.proofs.is_met.Given as goal
 
 abbrev pub invariant-loop-i : goal.invariant-loop-i

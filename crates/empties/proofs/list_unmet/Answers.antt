@@ -1,8 +1,6 @@
-use Rattle.empties.proofs.Refines.Listing.{Listing, listing_none, listing-strings, listing-turn, listing_done}
+use Rattle.empties.proofs.Refines.Listing.{listing_none, listing-strings, listing-turn, listing_done}
 use Rattle.records.specs.View.{read_in}
-use lib.ListN.{length}
-use mathlib.Core.Path.{◌≡◌, refl}
-use Prim.Native.Nat.{◌-◌, ◌≤◌}
+use mathlib.Core.Path.{refl}
 use native.Mathlib.Omega.{arith}
 use borrow.Author.Rules.{rules}
 use Rattle.empties.proofs.list_unmet.Goals as goal

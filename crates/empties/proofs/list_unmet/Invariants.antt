@@ -1,10 +1,8 @@
-use Rattle.empties.proofs.Refines.Listing.{Listing, listing_none, listing-strings, listing-turn, listing_done}
+use Rattle.empties.proofs.Refines.Listing.{Listing}
 use Rattle.records.specs.View.{read_in}
 use lib.ListN.{length}
-use mathlib.Core.Path.{◌≡◌, refl}
+use mathlib.Core.Path.{◌≡◌}
 use Prim.Native.Nat.{◌-◌, ◌≤◌}
-use native.Mathlib.Omega.{arith}
-use borrow.Author.Rules.{rules}
 use Rattle.empties.proofs.list_unmet.Given as goal
 
 abbrev pub invariant-loop-i : goal.invariant-loop-i

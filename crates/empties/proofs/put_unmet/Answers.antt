@@ -3,7 +3,6 @@ use Rattle.records.specs.View.{read_in}
 use lib.Seq.{length-take-le}
 use mathlib.Core.Path.{sym}
 use native.Mathlib.Omega.{arith}
-use borrow.Author.Rules.{rules}
 use Rattle.empties.proofs.put_unmet.Goals as goal
 
 pub slice_bounds-is_met-end-2 : goal.slice_bounds-is_met-end-2

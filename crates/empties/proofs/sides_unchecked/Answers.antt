@@ -1,6 +1,5 @@
 use Rattle.empties.proofs.Refines.EmptyPartsCalls.{sides-left, sides-right, sides-none}
 use Rattle.records.specs.View.{lent}
-use borrow.Author.Rules.{rules}
 use Rattle.empties.proofs.sides_unchecked.Goals as goal
 
 pub empties_unchecked-requires : goal.empties_unchecked-requires

@@ -1,15 +1,8 @@
-use Rattle.engine.proofs.Refines.Turns.{pairing_walkable, pairing_low, pairing_less, Pairing, pairing_begin, pairing_turn, pairing_stop, pairing_done, slot_past, edge_hints, edge-nothing, edge_other}
-use Rattle.engine.proofs.Refines.Rises.{rising_walkable, rising-low, pair_same, pair-seen, place_inside, nearest-fit, Rising, rising_begin, rising_switch, rising_turn, rising_stop, rising_done, far, far_switch, far-turn}
+use Rattle.engine.proofs.Refines.Turns.{pairing_walkable, pairing_low, pairing_less, pairing_begin, pairing_turn, pairing_stop, pairing_done, slot_past, edge_hints, edge-nothing, edge_other}
+use Rattle.engine.proofs.Refines.Rises.{rising_walkable, rising-low, pair_same, pair-seen, place_inside, nearest-fit, rising_begin, rising_switch, rising_turn, rising_stop, rising_done, far_switch, far-turn}
 use mathlib.Core.Logic.{inl, inr}
 use mathlib.Core.Path.{refl, sym, ◌∙◌}
-use lib.ListN.{length}
-use Prim.Native.Nat.{◌+◌, ◌*◌}
-use Rattle.records.specs.View.{terms_view, cells_view}
-use Rattle.records.specs.Store.{term_in, path_in, chain_in}
-use Rattle.engine.specs.Explain.{highest}
 use native.Mathlib.Omega.{arith}
-use borrow.Author.Rules.{rules}
-use Prim.Native.Nat.{ℕ, ◌<◌}
 use Rattle.engine.proofs.+expand_edge_explain_rec.Goals as goal
 
 pub expand_edge-overflow_sub-table-in-1 : goal.expand_edge-overflow_sub-table-in-1

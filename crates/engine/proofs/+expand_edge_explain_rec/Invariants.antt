@@ -1,15 +1,10 @@
-use Rattle.engine.proofs.Refines.Turns.{pairing_walkable, pairing_low, pairing_less, Pairing, pairing_begin, pairing_turn, pairing_stop, pairing_done, slot_past, edge_hints, edge-nothing, edge_other}
-use Rattle.engine.proofs.Refines.Rises.{rising_walkable, rising-low, pair_same, pair-seen, place_inside, nearest-fit, Rising, rising_begin, rising_switch, rising_turn, rising_stop, rising_done, far, far_switch, far-turn}
-use mathlib.Core.Logic.{inl, inr}
-use mathlib.Core.Path.{refl, sym, ◌∙◌}
+use Rattle.engine.proofs.Refines.Turns.{Pairing}
+use Rattle.engine.proofs.Refines.Rises.{Rising, far}
 use lib.ListN.{length}
 use Prim.Native.Nat.{◌+◌, ◌*◌}
 use Rattle.records.specs.View.{terms_view, cells_view}
 use Rattle.records.specs.Store.{term_in, path_in, chain_in}
 use Rattle.engine.specs.Explain.{highest}
-use native.Mathlib.Omega.{arith}
-use borrow.Author.Rules.{rules}
-use Prim.Native.Nat.{ℕ, ◌<◌}
 use Rattle.engine.proofs.+expand_edge_explain_rec.Given as goal
 
 abbrev pub decreases-expand_edge : goal.decreases-expand_edge

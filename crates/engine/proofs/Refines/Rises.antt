@@ -11,7 +11,7 @@ use lib.ListN.{length}
 use lib.Dec.{eqb}
 use borrow.Author.Tests.{eqb-true, eq-eqb, ne_eqb}
 use Rattle.records.specs.Lists.{any, up_to, Every}
-use Rattle.records.specs.Store.{Term, Store, store, term, count, is_term, within, path, path_in, forest_up, top_in, above_by, above_in, nearest_in, term_in}
+use Rattle.records.specs.Store.{Term, Store, term, is_term, within, path, path_in, forest_up, top_in, above_by, above_in, nearest_in, term_in}
 use Rattle.records.specs.View.{term_at, terms_view, pairs_view}
 use Rattle.records.specs.Make.{with_reasons, ordered, same_pair}
 use Rattle.records.specs.Working.Audited.{Pathed}

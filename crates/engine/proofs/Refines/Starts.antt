@@ -7,7 +7,7 @@ use native.Mathlib.Omega.{arith}
 use lib.ListN.{length, replicate, length-replicate}
 use lib.Dec.{ltb}
 use Rattle.records.specs.Lists.{any, all, table}
-use Rattle.records.specs.Store.{Store, ok, stop, and_then, store, count, is_string}
+use Rattle.records.specs.Store.{Store, ok, stop, and_then, is_string}
 use Rattle.records.specs.declared.State.{State}
 use Rattle.records.specs.declared.Added.{Added}
 use Rattle.records.specs.declared.Added.TheVariants.{Counts, Refused}

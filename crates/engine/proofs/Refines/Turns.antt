@@ -9,7 +9,7 @@ use lib.ListN.{length, length-append}
 use lib.Dec.{ltb}
 use borrow.Author.Tests.{ltb-true, lt-ltb}
 use Rattle.records.specs.Lists.{firsts, one_more, Every, and}
-use Rattle.records.specs.Store.{Term, Cell, Store, Out, ok, stop, Work, and_then, store, term, cell, count, is_term, is_edge, within, kind, parts, chain, chain_in, path_in, term_in, cell_in}
+use Rattle.records.specs.Store.{Term, Cell, Store, Out, ok, stop, Work, and_then, term, cell, count, is_term, is_edge, within, kind, parts, chain, chain_in, path_in, term_in, cell_in}
 use Rattle.records.specs.View.{term_at, cell_at, pair_at, terms_view, cells_view, pairs_view, reason_room, reason_limit}
 use Rattle.records.specs.Make.{with_reasons, is_listed, add_reason}
 use Rattle.records.specs.Working.Audited.{Audited, Label, asserted, interface, congruence, definitional, Next, last, later}

@@ -1,5 +1,4 @@
 use Rattle.engine.proofs.Refines.EngineCalls.{can-here, can-not-first, can-not-second, can-classes}
-use borrow.Author.Rules.{rules}
 use Rattle.engine.proofs.can_explain.Goals as goal
 
 pub returns-then-not-is_string : goal.returns-then-not-is_string

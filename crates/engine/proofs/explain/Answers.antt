@@ -1,7 +1,6 @@
 use mathlib.Core.Path.{refl, sym, ◌∙◌}
 use Rattle.records.proofs.Passed.{ready_of}
 use Rattle.engine.proofs.Refines.EngineCalls.{explain_unready, explain-unfit, explain-fit, explain_called}
-use borrow.Author.Rules.{rules}
 use Rattle.engine.proofs.explain.Goals as goal
 
 pub returns-then-k-ne0 : goal.returns-then-k-ne0

@@ -1,5 +1,4 @@
 use Rattle.engine.proofs.Refines.Plainly.{explainable_on, explained_anew}
-use borrow.Author.Rules.{rules}
 use Rattle.engine.proofs.explain_pair.Goals as goal
 
 pub returns-in-Ended : goal.returns-in-Ended

@@ -1,10 +1,7 @@
-use mathlib.Core.Path.{◌≡◌, refl, ◌∙◌}
-use lib.ListN.{length}
+use mathlib.Core.Path.{refl, ◌∙◌}
 use mathlib.Core.List.{[]}
-use Rattle.records.specs.View.{terms_view}
-use Rattle.engine.proofs.Refines.Rises.{nearest-fit, rising_begin, rising_switch, rising_turn, far, far_switch, far-turn}
-use Rattle.engine.proofs.Refines.Plainly.{Walking, plain_walkable, plain-room, plain-same, plain_done, plain-met, plain-stop}
-use borrow.Author.Rules.{rules}
+use Rattle.engine.proofs.Refines.Rises.{nearest-fit, rising_begin, rising_switch, rising_turn, far_switch, far-turn}
+use Rattle.engine.proofs.Refines.Plainly.{plain_walkable, plain-room, plain-same, plain_done, plain-met, plain-stop}
 use Rattle.engine.proofs.explain_plain.Goals as goal
 
 pub returns-then-a-b : goal.returns-then-a-b

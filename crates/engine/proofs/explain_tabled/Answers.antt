@@ -1,6 +1,5 @@
 use Rattle.engine.proofs.Refines.Starts.{explained-by, explainable_walk}
 use native.Mathlib.Omega.{arith}
-use borrow.Author.Rules.{rules}
 use Rattle.engine.proofs.explain_tabled.Goals as goal
 
 pub explain_rec-requires : goal.explain_rec-requires

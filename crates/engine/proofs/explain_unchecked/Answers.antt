@@ -1,5 +1,4 @@
 use Rattle.engine.proofs.Refines.Starts.{explainable_of, explain_came, explain_refused}
-use borrow.Author.Rules.{rules}
 use Rattle.engine.proofs.explain_unchecked.Goals as goal
 
 pub explain_pair-r-requires : goal.explain_pair-r-requires

@@ -1,5 +1,4 @@
 use Rattle.engine.proofs.Refines.EngineCalls.{find_unready, find-unfit, find-here, find-gives}
-use borrow.Author.Rules.{rules}
 use Rattle.engine.proofs.find.Goals as goal
 
 pub returns-then-k-ne0 : goal.returns-then-k-ne0

@@ -1,5 +1,4 @@
 use Rattle.engine.proofs.Refines.Turns.{gives-listed, gives_one, gives_refused}
-use borrow.Author.Rules.{rules}
 use Rattle.engine.proofs.give.Goals as goal
 
 pub returns-then-is_listed : goal.returns-then-is_listed

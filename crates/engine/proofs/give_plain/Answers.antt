@@ -1,7 +1,6 @@
 use mathlib.Core.Path.{ap}
 use Rattle.records.specs.declared.State.{State}
 use Rattle.engine.proofs.Refines.Turns.{gives-low, gives-counted}
-use borrow.Author.Rules.{rules}
 use Rattle.engine.proofs.give_plain.Goals as goal
 
 pub with_reason_unchecked-d-requires : goal.with_reason_unchecked-d-requires

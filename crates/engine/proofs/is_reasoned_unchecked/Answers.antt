@@ -1,6 +1,5 @@
 use Rattle.engine.proofs.Refines.Starts.{own-ready, own-counts, own-refused}
 use Rattle.records.specs.View.{lent}
-use borrow.Author.Rules.{rules}
 use Rattle.engine.proofs.is_reasoned_unchecked.Goals as goal
 
 pub explain_unchecked-r-requires : goal.explain_unchecked-r-requires

@@ -1,6 +1,5 @@
 use mathlib.Core.Path.{refl}
 use Rattle.engine.specs.Working.Seen.{seen_at, bit}
-use borrow.Author.Rules.{rules}
 use Rattle.engine.proofs.is_seen.Goals as goal
 
 pub returns : goal.returns

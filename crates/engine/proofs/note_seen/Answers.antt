@@ -1,7 +1,6 @@
 use Prim.Native.Nat.{◌/◌}
 use Rattle.engine.proofs.Refines.Bits.{shifted_fits, note_shifted}
 use Rattle.engine.specs.Working.Seen.{seen_at}
-use borrow.Author.Rules.{rules}
 use Rattle.engine.proofs.note_seen.Goals as goal
 
 pub overflow_add-table : goal.overflow_add-table

@@ -1,6 +1,5 @@
 use Rattle.engine.proofs.Refines.Bits.{triangle-fits, place-first, place-second}
 use native.Mathlib.Omega.{arith}
-use borrow.Author.Rules.{rules}
 use Rattle.engine.proofs.place.Goals as goal
 
 pub overflow_mul-result : goal.overflow_mul-result

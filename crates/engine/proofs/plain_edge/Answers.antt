@@ -1,7 +1,6 @@
 use mathlib.Core.Path.{refl}
 use mathlib.Core.Logic.{inl, inr}
 use Rattle.engine.proofs.Refines.Plainly.{plainly-met, plain-gives, plain-nothing}
-use borrow.Author.Rules.{rules}
 use Rattle.engine.proofs.plain_edge.Goals as goal
 
 pub returns-in-1 : goal.returns-in-1

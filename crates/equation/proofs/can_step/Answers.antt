@@ -3,7 +3,6 @@ use mir.Syntax.{w32}
 use Rattle.sides.specs.Wordeq.{is_guard}
 use mathlib.Core.Path.{ap, ◌∙◌}
 use Rattle.equation.proofs.Refines.StepCalls.{steps_no_list, steps_no_equation, steps_no_string, steps-last}
-use borrow.Author.Rules.{rules}
 use Rattle.equation.proofs.can_step.Goals as goal
 
 pub returns-then-not-is_list : goal.returns-then-not-is_list

@@ -1,5 +1,4 @@
 use Rattle.equation.proofs.Refines.StepCalls.{carried-done, carried_same}
-use borrow.Author.Rules.{rules}
 use Rattle.equation.proofs.carried.Goals as goal
 
 pub returns-in-Done : goal.returns-in-Done

@@ -2,7 +2,6 @@ use Rattle.records.proofs.Public.{handed_on}
 use Rattle.equation.specs.Working.Cuts.{unstepped}
 use Rattle.equation.proofs.Refines.StepCalls.{stepped-cut}
 use mathlib.Core.Path.{refl}
-use borrow.Author.Rules.{rules}
 use Rattle.equation.proofs.cut_unstepped.Goals as goal
 
 pub returns-in-Answered : goal.returns-in-Answered

@@ -4,7 +4,6 @@ use mir.Syntax.{w32}
 use Rattle.sides.specs.Wordeq.{is_guard}
 use mathlib.Core.Path.{ap, ◌∙◌}
 use Rattle.equation.proofs.Refines.StepCalls.{forms_resolved}
-use borrow.Author.Rules.{rules}
 use Rattle.equation.proofs.resolve_forms.Goals as goal
 
 pub resolve_unchecked-o-requires : goal.resolve_unchecked-o-requires

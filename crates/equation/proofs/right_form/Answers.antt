@@ -6,7 +6,6 @@ use Rattle.sides.specs.Wordeq.{is_guard}
 use mir.Syntax.{w32}
 use mir.ValLaws.{to_z-of_z}
 use native.Mathlib.Omega.{arith}
-use borrow.Author.Rules.{rules}
 use Rattle.equation.proofs.right_form.Goals as goal
 
 pub deep_form_by_unchecked-requires : goal.deep_form_by_unchecked-requires

@@ -2,7 +2,6 @@ use Rattle.records.proofs.Public.{cut-asked, passed-ready}
 use mir.ValLaws.{to_z-of_z}
 use mir.Syntax.{w32}
 use Rattle.equation.proofs.Refines.StepCalls.{call-short, call_unready, call-unfit, call-ready, call-fit, call-steps, undone-stepped}
-use borrow.Author.Rules.{rules}
 use Rattle.equation.proofs.step.Goals as goal
 
 pub returns-then-list-lt-LIST_LIMIT : goal.returns-then-list-lt-LIST_LIMIT

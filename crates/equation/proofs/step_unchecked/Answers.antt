@@ -6,7 +6,6 @@ use Rattle.sides.specs.Wordeq.{is_guard}
 use mir.Syntax.{w32}
 use mir.ValLaws.{to_z-of_z}
 use native.Mathlib.Omega.{arith}
-use borrow.Author.Rules.{rules}
 use Rattle.equation.proofs.step_unchecked.Goals as goal
 
 pub known_table_unchecked-table-requires : goal.known_table_unchecked-table-requires

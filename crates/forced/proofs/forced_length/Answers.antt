@@ -1,6 +1,5 @@
 use Rattle.forced.proofs.Refines.ForcedLengthCalls.{forced_unready, forced-unfit, forced-ready, forced-lists, forced_called}
 use Rattle.records.specs.View.{lent}
-use borrow.Author.Rules.{rules}
 use Rattle.forced.proofs.forced_length.Goals as goal
 
 pub returns-then-k-ne0 : goal.returns-then-k-ne0

@@ -1,6 +1,5 @@
 use Rattle.records.specs.View.{read_in}
 use Rattle.forced.proofs.Refines.ForcedLengthCalls.{list-string, after-strings, class-none, class-is}
-use borrow.Author.Rules.{rules}
 use Rattle.forced.proofs.has_one_class.Goals as goal
 
 pub returns-then-side-i : goal.returns-then-side-i

@@ -1,5 +1,4 @@
 use Rattle.forced.proofs.Refines.ForcedLengthCalls.{form-not, form-is}
-use borrow.Author.Rules.{rules}
 use Rattle.forced.proofs.is_forced.Goals as goal
 
 pub returns-then-not-is_fixed : goal.returns-then-not-is_fixed

@@ -3,7 +3,6 @@ use Rattle.records.proofs.ListLaws.{list-short}
 use Rattle.sides.proofs.Residual.{texts-read}
 use Rattle.forced.proofs.Refines.ForcedLengthCalls.{fit-short, fit-spans, some-counted}
 use native.Mathlib.Omega.{arith}
-use borrow.Author.Rules.{rules}
 use Rattle.forced.proofs.side_fit.Goals as goal
 
 pub letters_length_unchecked-n-requires : goal.letters_length_unchecked-n-requires

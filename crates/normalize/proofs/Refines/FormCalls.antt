@@ -22,7 +22,7 @@ use Rattle.normalize.specs.declared.Form.{Form}
 use Rattle.normalize.specs.declared.Form.TheVariants as form
 use Rattle.normalize.specs.declared.DeepForm.{DeepForm}
 use Rattle.normalize.specs.declared.DeepForm.TheVariants as deep
-use Rattle.normalize.specs.Calls.{first_words, formed, deepened, PublicForm, PublicDeepForm}
+use Rattle.normalize.specs.Calls.{formed, deepened, PublicForm, PublicDeepForm}
 use Rattle.normalize.specs.Working.Cuts.{unformed, undeepened}
 use Rattle.normalize.proofs.ListCalls.{listed-short, listed_unready, listed-unfit, listed-works}
 use Rattle.normalize.proofs.Formed.{form-stops, form-sound, form-kept}

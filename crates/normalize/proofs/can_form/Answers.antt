@@ -1,7 +1,6 @@
 use mathlib.Core.List.{[]}
 use Rattle.records.specs.View.{lent, store_of}
 use Rattle.normalize.proofs.Refines.FormCalls.{arguments_stop, arguments_last}
-use borrow.Author.Rules.{rules}
 use Rattle.normalize.proofs.can_form.Goals as goal
 
 pub returns-then-not-is_list : goal.returns-then-not-is_list

@@ -1,7 +1,6 @@
 use Rattle.records.proofs.Public.{handed_on, handed_cut}
 use Rattle.normalize.specs.Working.Cuts.{unformed}
 use mathlib.Core.Path.{refl}
-use borrow.Author.Rules.{rules}
 use Rattle.normalize.proofs.cut_unformed.Goals as goal
 
 pub returns-in-List : goal.returns-in-List

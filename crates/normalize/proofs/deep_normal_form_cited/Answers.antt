@@ -1,6 +1,5 @@
 use Rattle.records.proofs.Public.{cut-asked, passed-ready}
 use Rattle.normalize.proofs.Refines.FormCalls.{deep_short, deep_unready, deep_unfit, form-ready, form-fit, deep_called, undone_deep}
-use borrow.Author.Rules.{rules}
 use Rattle.normalize.proofs.deep_normal_form_cited.Goals as goal
 
 pub returns-then-list-lt-LIST_LIMIT : goal.returns-then-list-lt-LIST_LIMIT

@@ -1,6 +1,5 @@
 use Rattle.records.proofs.Public.{cut-asked, passed-ready}
 use Rattle.normalize.proofs.Refines.FormCalls.{form-short, form_unready, form-unfit, form-ready, form-fit, form_called, undone-form}
-use borrow.Author.Rules.{rules}
 use Rattle.normalize.proofs.normal_form_cited.Goals as goal
 
 pub returns-then-list-lt-LIST_LIMIT : goal.returns-then-list-lt-LIST_LIMIT

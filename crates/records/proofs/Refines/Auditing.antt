@@ -8,7 +8,7 @@ use lib.ListN.{length}
 use borrow.Author.Tests.{not-true, not-false}
 use Rattle.records.proofs.Lists.{within_low, within-high}
 use Rattle.records.specs.declared.State.{State}
-use Rattle.records.specs.Store.{Store, term, kind, within}
+use Rattle.records.specs.Store.{term, kind}
 use Rattle.records.specs.View.{Lent, lent, store_of, records_in, sizes}
 use Rattle.records.specs.Index.{numbers, index_rule}
 use Rattle.records.specs.Rules.{records_rule, classes_rule, congruences_rule, audit_store, audit_index, audit}

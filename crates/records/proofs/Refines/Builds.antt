@@ -1,16 +1,16 @@
 -- Making concatenations, lengths and equations.
-use mathlib.Core.Path.{◌≡◌, refl, sym, ap, subst, ◌∙◌}
+use mathlib.Core.Path.{◌≡◌, refl, sym, ap, ◌∙◌}
 use mathlib.Core.Bool.{Bool, true, false, not, ◌&&◌}
 use mathlib.Core.List.{List, [], ◌∷◌, ◌++◌}
 use mathlib.Core.Logic.{◌⊎◌, inl, inr}
-use Prim.Native.Nat.{ℕ, suc, ◌+◌, ◌-◌, ◌<◌, ◌≤◌, min, max}
+use Prim.Native.Nat.{ℕ, suc, ◌+◌, ◌<◌, ◌≤◌}
 use native.Mathlib.Numerals.{add-one}
 use native.Mathlib.Omega.{arith}
 use lib.ListN.{length, get_or, drop, drop_of_length-le}
 use lib.Seq.{drop-cons}
 use lib.Dec.{eqb, ltb, leb}
 use borrow.Author.Tests.{not-true, not-false, eqb-true, eq-eqb, ne_eqb}
-use Rattle.records.specs.Lists.{same_word, firsts, first_below, Every}
+use Rattle.records.specs.Lists.{same_word, firsts, first_below}
 use Rattle.records.specs.declared.State.{State}
 use Rattle.records.specs.declared.Made.TheVariants.{Term, Refused}
 use Rattle.records.specs.Store.{Term as Record, Cell, Store, Out, ok, stop, Work, term, kind, count, within, chain_in}
@@ -23,7 +23,7 @@ use Rattle.records.specs.Working.Puts.{TermPut, ChainPut}
 use Rattle.records.specs.Working.Audited.{Ready, Sized, Recorded, Ascends}
 use Rattle.records.specs.Calls.{made}
 use Rattle.records.specs.Working.Doing.{Working, Building}
-use Rattle.records.proofs.Lists.{left_false, right-false, both_left, both_right, decide, within_low, within-high, table-length, first-same, word_is, every_at, firsts-length, every_firsts}
+use Rattle.records.proofs.Lists.{left_false, right-false, both_left, both_right, decide, within_low, within-high, table-length, first-same, word_is}
 use Rattle.records.proofs.Works.{one_store}
 use Rattle.records.proofs.Append.{grow}
 use Rattle.records.proofs.IndexSays.{bucket-small}

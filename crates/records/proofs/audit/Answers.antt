@@ -1,5 +1,4 @@
 use Rattle.records.proofs.Refines.Auditing.{audit-short, audit-sized, audit-unrecorded, audit-unclassed, audit_congruable, audit-incongruent, audit_bucketed, audit-unindexed, audit-passed}
-use borrow.Author.Rules.{rules}
 use Rattle.records.proofs.audit.Goals as goal
 
 pub returns-then-not-sizes : goal.returns-then-not-sizes

@@ -1,7 +1,6 @@
 -- What the contracts of private functions cite, each tied by a law to the definition that it serves. No public contract cites these.
 use Rattle.std.specs.Prelude.{◌≡◌, Bool, false, true, ◌&&◌, ◌||◌, List, ℕ, suc, ◌+◌, ◌≤◌, ◌<◌, length, eqb}
-use Rattle.std.proofs.Math.Option.{Option, none, some}
-use Rattle.records.specs.Lists.{same_word, firsts, seconds, first_below}
+use Rattle.records.specs.Lists.{same_word, firsts, seconds}
 use Rattle.records.specs.Store.{Cell, Store, ok, stop, Work, ◌>>=◌, term, kind, is_string, within, cell_in, chain_in, text, root, top, Term, term_in, above_in, nearest_in}
 use Rattle.records.specs.View.{term_at, text_at, terms_view}
 use Rattle.records.specs.Rules.{reason_rule, key_rule, ends_rule, label_rule}

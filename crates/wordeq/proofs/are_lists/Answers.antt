@@ -1,7 +1,6 @@
 use Rattle.wordeq.proofs.Refines.EqualCalls.{lists-stop, lists-last}
 use Rattle.records.specs.View.{lent, store_of}
 use mathlib.Core.List.{[]}
-use borrow.Author.Rules.{rules}
 use Rattle.wordeq.proofs.are_lists.Goals as goal
 
 pub returns-then-not-is_list : goal.returns-then-not-is_list

@@ -1,7 +1,6 @@
 use Rattle.wordeq.proofs.Refines.EqualCalls.{pair-stop, pair-last}
 use Rattle.records.specs.View.{lent, store_of}
 use mathlib.Core.List.{[]}
-use borrow.Author.Rules.{rules}
 use Rattle.wordeq.proofs.can_pair.Goals as goal
 
 pub returns-then-not-are_lists : goal.returns-then-not-are_lists

@@ -1,7 +1,6 @@
 use Rattle.wordeq.proofs.Refines.ResolveCalls.{guard-stop, guard-last}
 use Rattle.records.specs.View.{lent, store_of}
 use mathlib.Core.List.{[]}
-use borrow.Author.Rules.{rules}
 use Rattle.wordeq.proofs.can_resolve.Goals as goal
 
 pub returns-then-not-are_lists : goal.returns-then-not-are_lists

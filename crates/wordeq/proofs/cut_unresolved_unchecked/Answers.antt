@@ -2,7 +2,6 @@ use Rattle.records.proofs.Public.{handed_on, handed_cut}
 use Rattle.wordeq.specs.Working.Cuts.{unresolved}
 use Rattle.wordeq.proofs.Refines.ResolveCalls.{not-refused}
 use mathlib.Core.Path.{refl}
-use borrow.Author.Rules.{rules}
 use Rattle.wordeq.proofs.cut_unresolved_unchecked.Goals as goal
 
 pub returns-in-Refused : goal.returns-in-Refused

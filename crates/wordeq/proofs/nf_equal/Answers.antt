@@ -1,6 +1,5 @@
 use Rattle.records.specs.View.{lent}
 use Rattle.wordeq.proofs.Refines.EqualCalls.{equal_unready, equal-unfit, equal_readable, equal-left, equal-right, equal-gives}
-use borrow.Author.Rules.{rules}
 use Rattle.wordeq.proofs.nf_equal.Goals as goal
 
 pub returns-then-k-ne0 : goal.returns-then-k-ne0

@@ -1,7 +1,6 @@
 use mathlib.Core.Path.{refl}
 use Rattle.records.specs.View.{lent}
 use Rattle.wordeq.proofs.Refines.EqualCalls.{explain_unready, explain-unfit, explain-ready, explain-left, explain-right, explain-lengths, explain_called}
-use borrow.Author.Rules.{rules}
 use Rattle.wordeq.proofs.nf_equal_explain.Goals as goal
 
 pub returns-then-k-ne0 : goal.returns-then-k-ne0

@@ -2,7 +2,6 @@ use Rattle.records.proofs.Public.{cut-asked, passed-ready}
 use Rattle.wordeq.proofs.Refines.ResolveCalls.{resolve-short, resolve_unready, resolve-unfit, resolve-ready, resolve_lists, resolve-guard, resolve_called, undone-resolved}
 use Rattle.wordeq.proofs.Refines.Flattening.{guard_passed}
 use Rattle.records.specs.View.{lent}
-use borrow.Author.Rules.{rules}
 use Rattle.wordeq.proofs.resolve_equation.Goals as goal
 
 pub returns-then-list-lt-LIST_LIMIT : goal.returns-then-list-lt-LIST_LIMIT

@@ -1,7 +1,6 @@
 use Rattle.capi.proofs.LengthExports.{forced_untold, forced_tellable, forced_exported}
 use borrow.Author.Tests.{not-true, not-false}
 use mathlib.Core.Path.{sym, ◌∙◌}
-use borrow.Author.Rules.{rules}
 use Rattle.capi.proofs.lengths.labels_forced_length.Goals as goal
 
 pub returns-then-not-is_roomy : goal.returns-then-not-is_roomy
@@ -11,9 +10,9 @@ returns-then-not-is_roomy c =
 pub tell_forced-requires : goal.tell_forced-requires
 tell_forced-requires c =
     record {
-  fact_1 = (sym c.is_roomy.ensures ∙ not-false _ c.if-not-is_roomy.false-raw);
-  fact_2 = forced_tellable c.forced_length-made.ensures
-}
+      fact_1 = (sym c.is_roomy.ensures ∙ not-false _ c.if-not-is_roomy.false-raw);
+      fact_2 = forced_tellable c.forced_length-made.ensures;
+    }
 
 pub returns : goal.returns
 returns c =

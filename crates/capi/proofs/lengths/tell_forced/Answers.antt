@@ -3,7 +3,6 @@ use Rattle.capi.specs.Interface.{state_of}
 use Rattle.capi.specs.Working.Measuring.{forced_telling}
 use mathlib.Core.Path.{ap}
 use native.Mathlib.Omega.{arith}
-use borrow.Author.Rules.{rules}
 use Rattle.capi.proofs.lengths.tell_forced.Goals as goal
 
 pub overflow_cast-words : goal.overflow_cast-words

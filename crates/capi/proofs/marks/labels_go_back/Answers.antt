@@ -1,6 +1,5 @@
 use native.Mathlib.Omega.{arith}
 use Rattle.capi.proofs.Standings.{back-short, tracks_narrow, back_exported}
-use borrow.Author.Rules.{rules}
 use Rattle.capi.proofs.marks.labels_go_back.Goals as goal
 
 pub returns-then-state-lt-MARKED_ROOM : goal.returns-then-state-lt-MARKED_ROOM
@@ -10,9 +9,9 @@ returns-then-state-lt-MARKED_ROOM c =
 pub tell_standing-requires : goal.tell_standing-requires
 tell_standing-requires c =
     record {
-  fact_1 = omega (arith, c.if-state-lt-MARKED_ROOM.false);
-  fact_2 = tracks_narrow c.go_back-told.ensures
-}
+      fact_1 = omega (arith, c.if-state-lt-MARKED_ROOM.false);
+      fact_2 = tracks_narrow c.go_back-told.ensures;
+    }
 
 pub returns : goal.returns
 returns c =

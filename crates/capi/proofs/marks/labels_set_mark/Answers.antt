@@ -1,7 +1,6 @@
 use mathlib.Core.Path.{sym, ◌∙◌}
 use borrow.Author.Tests.{not-true, not-false}
 use Rattle.capi.proofs.Standings.{marks-short, tracks_narrow, mark_exported}
-use borrow.Author.Rules.{rules}
 use Rattle.capi.proofs.marks.labels_set_mark.Goals as goal
 
 pub returns-then-not-is_roomy : goal.returns-then-not-is_roomy
@@ -11,9 +10,9 @@ returns-then-not-is_roomy c =
 pub tell_number-requires : goal.tell_number-requires
 tell_number-requires c =
     record {
-  fact_1 = sym c.is_roomy.ensures ∙ not-false _ c.if-not-is_roomy.false-raw;
-  fact_2 = tracks_narrow c.set_mark-told.ensures
-}
+      fact_1 = sym c.is_roomy.ensures ∙ not-false _ c.if-not-is_roomy.false-raw;
+      fact_2 = tracks_narrow c.set_mark-told.ensures;
+    }
 
 pub returns : goal.returns
 returns c =

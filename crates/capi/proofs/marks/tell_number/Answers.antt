@@ -2,7 +2,6 @@ use Rattle.capi.proofs.Words.{roomy-state, roomy-answer, told-by}
 use Rattle.capi.specs.Working.Standings.{number_telling}
 use mathlib.Core.Path.{refl, ap}
 use native.Mathlib.Omega.{arith}
-use borrow.Author.Rules.{rules}
 use Rattle.capi.proofs.marks.tell_number.Goals as goal
 
 pub write_standing-requires : goal.write_standing-requires

@@ -1,7 +1,6 @@
 use Rattle.capi.proofs.Words.{told-by}
 use Rattle.capi.specs.Working.Standings.{standing_telling}
 use mathlib.Core.Path.{refl, ap}
-use borrow.Author.Rules.{rules}
 use Rattle.capi.proofs.marks.tell_standing.Goals as goal
 
 pub write_standing-requires : goal.write_standing-requires

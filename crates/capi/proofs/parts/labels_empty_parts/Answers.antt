@@ -1,7 +1,6 @@
 use Rattle.capi.proofs.PartExports.{parts_untold, parts_tellable, parts_exported}
 use borrow.Author.Tests.{not-true, not-false}
 use mathlib.Core.Path.{sym, ◌∙◌}
-use borrow.Author.Rules.{rules}
 use Rattle.capi.proofs.parts.labels_empty_parts.Goals as goal
 
 pub returns-then-not-is_roomy : goal.returns-then-not-is_roomy
@@ -11,9 +10,9 @@ returns-then-not-is_roomy c =
 pub tell_parts-requires : goal.tell_parts-requires
 tell_parts-requires c =
     record {
-  fact_1 = sym c.is_roomy.ensures ∙ not-false _ c.if-not-is_roomy.false-raw;
-  fact_2 = parts_tellable c.empty_parts-made.ensures
-}
+      fact_1 = sym c.is_roomy.ensures ∙ not-false _ c.if-not-is_roomy.false-raw;
+      fact_2 = parts_tellable c.empty_parts-made.ensures;
+    }
 
 pub returns : goal.returns
 returns c =

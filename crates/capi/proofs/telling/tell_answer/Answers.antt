@@ -7,7 +7,6 @@ use mir.Syntax.{w32}
 use mir.Val.{of_z}
 use mir.ValLaws.{to_z-of_z}
 use native.Mathlib.Omega.{arith}
-use borrow.Author.Rules.{rules}
 use Rattle.capi.proofs.telling.tell_answer.Goals as goal
 
 pub tell_words-requires : goal.tell_words-requires

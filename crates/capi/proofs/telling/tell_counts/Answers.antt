@@ -1,7 +1,6 @@
 use Rattle.capi.proofs.Words.{told-by}
 use Rattle.capi.specs.Working.Leaves.{added_telling}
 use mathlib.Core.Path.{refl, ap}
-use borrow.Author.Rules.{rules}
 use Rattle.capi.proofs.telling.tell_counts.Goals as goal
 
 pub write_state-requires : goal.write_state-requires

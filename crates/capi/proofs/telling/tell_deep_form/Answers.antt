@@ -2,7 +2,6 @@ use Rattle.capi.proofs.Words.{told-by}
 use Rattle.capi.specs.Working.Leaves.{deep_telling}
 use mathlib.Core.Path.{ap}
 use native.Mathlib.Omega.{arith}
-use borrow.Author.Rules.{rules}
 use Rattle.capi.proofs.telling.tell_deep_form.Goals as goal
 
 pub tell_words-requires : goal.tell_words-requires

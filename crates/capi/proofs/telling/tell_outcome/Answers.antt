@@ -2,7 +2,6 @@ use Rattle.capi.proofs.Words.{told-by}
 use Rattle.capi.specs.Working.Leaves.{outcome_telling, NarrowOutcome}
 use mathlib.Core.Path.{ap, subst}
 use native.Mathlib.Omega.{arith}
-use borrow.Author.Rules.{rules}
 use Rattle.capi.proofs.telling.tell_outcome.Goals as goal
 
 pub tell_answer-requires : goal.tell_answer-requires

@@ -1,7 +1,6 @@
 use Rattle.capi.proofs.Words.{roomy-state, roomy-answer, written_same}
 use mathlib.Core.Path.{refl}
 use native.Mathlib.Omega.{arith}
-use borrow.Author.Rules.{rules}
 use Rattle.capi.proofs.telling.tell_still.Goals as goal
 
 pub write_words-requires : goal.write_words-requires

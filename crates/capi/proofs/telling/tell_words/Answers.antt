@@ -1,6 +1,5 @@
 use Rattle.capi.proofs.Words.{roomy-state, roomy-answer}
 use native.Mathlib.Omega.{arith}
-use borrow.Author.Rules.{rules}
 use Rattle.capi.proofs.telling.tell_words.Goals as goal
 
 pub write_state-requires : goal.write_state-requires

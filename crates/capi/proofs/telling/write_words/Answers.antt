@@ -1,8 +1,5 @@
-use Rattle.capi.proofs.Words.{Putting, put-none, put_one, put_all}
-use lib.ListN.{length}
-use Prim.Native.Nat.{◌-◌}
+use Rattle.capi.proofs.Words.{put-none, put_one, put_all}
 use native.Mathlib.Omega.{arith}
-use borrow.Author.Rules.{rules}
 use Rattle.capi.proofs.telling.write_words.Goals as goal
 
 pub loop-i-init : goal.loop-i-init

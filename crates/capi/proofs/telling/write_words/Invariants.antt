@@ -1,8 +1,6 @@
-use Rattle.capi.proofs.Words.{Putting, put-none, put_one, put_all}
+use Rattle.capi.proofs.Words.{Putting}
 use lib.ListN.{length}
 use Prim.Native.Nat.{◌-◌}
-use native.Mathlib.Omega.{arith}
-use borrow.Author.Rules.{rules}
 use Rattle.capi.proofs.telling.write_words.Given as goal
 
 abbrev pub invariant-loop-i : goal.invariant-loop-i

@@ -1,7 +1,4 @@
-use Prim.Native.Nat.{suc, ◌-◌}
-use Rattle.classes.specs.Joins.{edge}
-use Rattle.classes.proofs.Refines.CarryWords.{Carrying, carrying_begin, carrying_room, carrying_out, carrying_end, carrying_turn}
-use borrow.Author.Rules.{rules}
+use Rattle.classes.proofs.Refines.CarryWords.{carrying_begin, carrying_room, carrying_out, carrying_end, carrying_turn}
 use Rattle.classes.proofs.links.carry_unchecked.Goals as goal
 
 pub loop-i-init : goal.loop-i-init

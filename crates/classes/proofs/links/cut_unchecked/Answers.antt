@@ -1,5 +1,4 @@
 use Rattle.classes.proofs.Refines.JoinWords.{edge-room, reroot_asked, class-asked, cut-leaves}
-use borrow.Author.Rules.{rules}
 use Rattle.classes.proofs.links.cut_unchecked.Goals as goal
 
 pub put_edge_unchecked-requires : goal.put_edge_unchecked-requires

@@ -1,5 +1,4 @@
 use Rattle.classes.proofs.Refines.JoinWords.{no_child, no_root, no_class, no_edge_lem, trace-last}
-use borrow.Author.Rules.{rules}
 use Rattle.classes.proofs.links.is_trace.Goals as goal
 
 pub returns-then-not-is_within : goal.returns-then-not-is_within

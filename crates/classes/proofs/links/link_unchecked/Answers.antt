@@ -1,5 +1,4 @@
 use Rattle.classes.proofs.Refines.JoinWords.{under-room, carry_asked, link-leaves}
-use borrow.Author.Rules.{rules}
 use Rattle.classes.proofs.links.link_unchecked.Goals as goal
 
 pub put_class_parent_unchecked-requires : goal.put_class_parent_unchecked-requires

@@ -1,5 +1,4 @@
 use Rattle.classes.proofs.Refines.JoinWords.{undo-not, undo-asked, undo-done}
-use borrow.Author.Rules.{rules}
 use Rattle.classes.proofs.links.undo_unchecked.Goals as goal
 
 pub returns-then-not-is_trace : goal.returns-then-not-is_trace

@@ -1,6 +1,5 @@
 use Rattle.records.specs.View.{lent}
 use Rattle.classes.proofs.Refines.AuditMarks.{audit-few, audit-first, audit_asks, trail-fits, audit_marks_lem, audit-last}
-use borrow.Author.Rules.{rules}
 use Rattle.classes.proofs.trail.audit.Goals as goal
 
 pub returns-then-not-trail_sizes : goal.returns-then-not-trail_sizes

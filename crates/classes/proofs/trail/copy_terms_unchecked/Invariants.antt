@@ -1,7 +1,5 @@
-use mathlib.Core.Path.{refl}
 use Prim.Native.Nat.{◌-◌}
-use Rattle.classes.proofs.Refines.MarkTables.{Copying, copying_begin, copying_turn, copied}
-use borrow.Author.Rules.{rules}
+use Rattle.classes.proofs.Refines.MarkTables.{Copying}
 use Rattle.classes.proofs.trail.copy_terms_unchecked.Given as goal
 
 abbrev pub invariant-loop-i : goal.invariant-loop-i

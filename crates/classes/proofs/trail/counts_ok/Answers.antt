@@ -1,7 +1,5 @@
-use Prim.Native.Nat.{◌-◌}
 use lib.ListN.{get_or}
-use Rattle.classes.proofs.Refines.Counting.{Rising, counts-none, counts-first, rising_begin, rising_stop, rising_turn, rising_done}
-use borrow.Author.Rules.{rules}
+use Rattle.classes.proofs.Refines.Counting.{counts-none, counts-first, rising_begin, rising_stop, rising_turn, rising_done}
 use Rattle.classes.proofs.trail.counts_ok.Goals as goal
 
 pub returns-then-d-eq0 : goal.returns-then-d-eq0

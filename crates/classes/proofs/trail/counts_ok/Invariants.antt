@@ -1,7 +1,6 @@
 use Prim.Native.Nat.{◌-◌}
 use lib.ListN.{get_or}
-use Rattle.classes.proofs.Refines.Counting.{Rising, counts-none, counts-first, rising_begin, rising_stop, rising_turn, rising_done}
-use borrow.Author.Rules.{rules}
+use Rattle.classes.proofs.Refines.Counting.{Rising}
 use Rattle.classes.proofs.trail.counts_ok.Given as goal
 
 abbrev pub invariant-loop-i : goal.invariant-loop-i

@@ -1,5 +1,4 @@
 use Rattle.classes.proofs.Refines.MarkTables.{table-not, table_asks, table_is}
-use borrow.Author.Rules.{rules}
 use Rattle.classes.proofs.trail.table_ok_unchecked.Goals as goal
 
 pub returns-then-not-classes_ok_unchecked : goal.returns-then-not-classes_ok_unchecked

@@ -1,6 +1,6 @@
 use native.Mathlib.Omega.{arith}
 use mathlib.Core.Path.{refl, ◌∙◌}
-use Rattle.classes.proofs.Refines.MarkTables.{Auditing, auditing_begin, first_low, joins_low, auditing_none, auditing_asks, auditing_bad, auditing_turn, auditing_done}
+use Rattle.classes.proofs.Refines.MarkTables.{auditing_begin, first_low, joins_low, auditing_none, auditing_asks, auditing_bad, auditing_turn, auditing_done}
 use borrow.Author.Rules.{rules}
 use Rattle.classes.proofs.trail.tables_ok_unchecked.Goals as goal
 

@@ -1,7 +1,4 @@
-use native.Mathlib.Omega.{arith}
-use mathlib.Core.Path.{refl, ◌∙◌}
-use Rattle.classes.proofs.Refines.MarkTables.{Auditing, auditing_begin, first_low, joins_low, auditing_none, auditing_asks, auditing_bad, auditing_turn, auditing_done}
-use borrow.Author.Rules.{rules}
+use Rattle.classes.proofs.Refines.MarkTables.{Auditing}
 use Rattle.classes.proofs.trail.tables_ok_unchecked.Given as goal
 
 abbrev pub invariant-loop-i : goal.invariant-loop-i

@@ -1,5 +1,4 @@
 use Rattle.classes.proofs.Refines.Trails.{undoes_read}
-use borrow.Author.Rules.{rules}
 use Rattle.classes.proofs.trail.undo_join_unchecked.Goals as goal
 
 pub returns : goal.returns

@@ -1,4 +1,4 @@
-use Rattle.classes.proofs.Refines.Trails.{Backward, backward_begin, backward_done, backward_stop, backward_turn}
+use Rattle.classes.proofs.Refines.Trails.{backward_begin, backward_done, backward_stop, backward_turn}
 use mathlib.Core.Path.{refl}
 use borrow.Author.Rules.{rules}
 use Rattle.classes.proofs.trail.undo_to_unchecked.Goals as goal

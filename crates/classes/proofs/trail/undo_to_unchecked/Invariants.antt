@@ -1,6 +1,4 @@
-use Rattle.classes.proofs.Refines.Trails.{Backward, backward_begin, backward_done, backward_stop, backward_turn}
-use mathlib.Core.Path.{refl}
-use borrow.Author.Rules.{rules}
+use Rattle.classes.proofs.Refines.Trails.{Backward}
 use Rattle.classes.proofs.trail.undo_to_unchecked.Given as goal
 
 abbrev pub invariant-loop-j : goal.invariant-loop-j

@@ -1,7 +1,4 @@
-use Rattle.commands.proofs.Numbering.{Passed, passed_none, passed_here, passed_one, passed_all}
-use lib.ListN.{length}
-use Prim.Native.Nat.{◌-◌}
-use borrow.Author.Rules.{rules}
+use Rattle.commands.proofs.Numbering.{passed_none, passed_here, passed_one, passed_all}
 use Rattle.commands.proofs.numbers.field_end.Goals as goal
 
 pub loop-i-init : goal.loop-i-init

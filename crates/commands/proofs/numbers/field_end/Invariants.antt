@@ -1,7 +1,6 @@
-use Rattle.commands.proofs.Numbering.{Passed, passed_none, passed_here, passed_one, passed_all}
+use Rattle.commands.proofs.Numbering.{Passed}
 use lib.ListN.{length}
 use Prim.Native.Nat.{◌-◌}
-use borrow.Author.Rules.{rules}
 use Rattle.commands.proofs.numbers.field_end.Given as goal
 
 abbrev pub invariant-loop-i : goal.invariant-loop-i

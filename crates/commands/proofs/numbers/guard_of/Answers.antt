@@ -1,6 +1,5 @@
 use Rattle.commands.proofs.Guards.{guard_none, below-is, below_none, above_is, above-none, number-low}
 use native.Mathlib.Omega.{arith}
-use borrow.Author.Rules.{rules}
 use Rattle.commands.proofs.numbers.guard_of.Goals as goal
 
 pub returns-then-w-eq0 : goal.returns-then-w-eq0

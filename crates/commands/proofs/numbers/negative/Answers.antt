@@ -1,5 +1,4 @@
 use Rattle.commands.proofs.Guards.{negative_zero, negative_fits, negative_is}
-use borrow.Author.Rules.{rules}
 use Rattle.commands.proofs.numbers.negative.Goals as goal
 
 pub returns-then-x-eq0 : goal.returns-then-x-eq0

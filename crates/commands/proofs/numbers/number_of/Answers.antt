@@ -1,8 +1,5 @@
-use Rattle.commands.proofs.Numbering.{Read, number-none, read_none, read_low, read-high, read_past, read_one, read_all}
-use lib.ListN.{length}
-use Prim.Native.Nat.{◌-◌}
+use Rattle.commands.proofs.Numbering.{number-none, read_none, read_low, read-high, read_past, read_one, read_all}
 use native.Mathlib.Omega.{arith}
-use borrow.Author.Rules.{rules}
 use Rattle.commands.proofs.numbers.number_of.Goals as goal
 
 pub returns-then-w-eq0 : goal.returns-then-w-eq0

@@ -1,5 +1,4 @@
 use Rattle.commands.proofs.Guards.{positive_is}
-use borrow.Author.Rules.{rules}
 use Rattle.commands.proofs.numbers.positive.Goals as goal
 
 pub returns : goal.returns

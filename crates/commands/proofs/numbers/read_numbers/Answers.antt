@@ -1,8 +1,5 @@
-use Rattle.commands.proofs.Numbering.{Numbered, numbered_none, numbered_odd, numbered_one, numbered_bad, numbered_all, field_within}
-use lib.ListN.{length}
-use Prim.Native.Nat.{◌-◌}
+use Rattle.commands.proofs.Numbering.{numbered_none, numbered_odd, numbered_one, numbered_bad, numbered_all, field_within}
 use native.Mathlib.Omega.{arith}
-use borrow.Author.Rules.{rules}
 use Rattle.commands.proofs.numbers.read_numbers.Goals as goal
 
 pub loop-at-init : goal.loop-at-init

@@ -1,8 +1,6 @@
-use Rattle.commands.proofs.Numbering.{Numbered, numbered_none, numbered_odd, numbered_one, numbered_bad, numbered_all, field_within}
+use Rattle.commands.proofs.Numbering.{Numbered}
 use lib.ListN.{length}
 use Prim.Native.Nat.{◌-◌}
-use native.Mathlib.Omega.{arith}
-use borrow.Author.Rules.{rules}
 use Rattle.commands.proofs.numbers.read_numbers.Given as goal
 
 abbrev pub invariant-loop-at : goal.invariant-loop-at

@@ -1,7 +1,6 @@
 use Rattle.commands.proofs.Parsing.{resolve-none, resolve_odd, resolve-one, resolve-more, resolve-bad, resolve-free, resolve-is}
 use Rattle.commands.proofs.Numbering.{field_within}
 use native.Mathlib.Omega.{arith}
-use borrow.Author.Rules.{rules}
 use Rattle.commands.proofs.numbers.read_resolve.Goals as goal
 
 pub returns-then-rest-eq0 : goal.returns-then-rest-eq0

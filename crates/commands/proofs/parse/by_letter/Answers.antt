@@ -1,5 +1,4 @@
 use Rattle.commands.proofs.Parsing.{letter-constant, letter-variable, letter-concatenation, letter-equation, letter-merge, letter-known, letter-resolve, other-letter}
-use borrow.Author.Rules.{rules}
 use Rattle.commands.proofs.parse.by_letter.Goals as goal
 
 pub returns-in-67 : goal.returns-in-67

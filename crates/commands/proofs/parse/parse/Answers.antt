@@ -1,5 +1,4 @@
 use Rattle.commands.proofs.Parsing.{line-none, line-long, line-is}
-use borrow.Author.Rules.{rules}
 use Rattle.commands.proofs.parse.parse.Goals as goal
 
 pub returns-then-line-eq0 : goal.returns-then-line-eq0

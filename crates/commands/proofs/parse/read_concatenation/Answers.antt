@@ -1,6 +1,5 @@
 use Rattle.commands.proofs.Parsing.{listed-bad, listed-count}
 use Rattle.commands.specs.Commands.{as_concatenation}
-use borrow.Author.Rules.{rules}
 use Rattle.commands.proofs.parse.read_concatenation.Goals as goal
 
 pub returns-in_default : goal.returns-in_default

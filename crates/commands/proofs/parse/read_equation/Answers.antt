@@ -1,7 +1,6 @@
 use Rattle.commands.proofs.Parsing.{listed-bad, count-within, equation-not, equation-is}
 use Rattle.commands.specs.Commands.{as_equation}
 use native.Mathlib.Omega.{arith}
-use borrow.Author.Rules.{rules}
 use Rattle.commands.proofs.parse.read_equation.Goals as goal
 
 pub returns-in_default : goal.returns-in_default

@@ -1,6 +1,5 @@
 use Rattle.commands.proofs.Parsing.{listed-bad, listed-count}
 use Rattle.commands.specs.Commands.{as_known}
-use borrow.Author.Rules.{rules}
 use Rattle.commands.proofs.parse.read_known.Goals as goal
 
 pub returns-in_default : goal.returns-in_default

@@ -1,7 +1,6 @@
 use Rattle.commands.proofs.Parsing.{listed-bad, count-within, merge-not, merge-is}
 use Rattle.commands.specs.Commands.{as_merge}
 use native.Mathlib.Omega.{arith}
-use borrow.Author.Rules.{rules}
 use Rattle.commands.proofs.parse.read_merge.Goals as goal
 
 pub returns-in_default : goal.returns-in_default

@@ -1,5 +1,4 @@
 use Rattle.commands.proofs.Parsing.{text-none, text_odd, text_is}
-use borrow.Author.Rules.{rules}
 use Rattle.commands.proofs.parse.read_text.Goals as goal
 
 pub returns-then-rest-eq0 : goal.returns-then-rest-eq0

@@ -5,7 +5,6 @@ use mathlib.Core.Path.{◌∙◌, ap}
 use lib.IntN.{nat_abs}
 use lib.ListN.{length-set}
 use native.Mathlib.Omega.{arith}
-use borrow.Author.Rules.{rules}
 use Rattle.commands.proofs.print.guard_into.Goals as goal
 
 pub bounds-out-1 : goal.bounds-out-1

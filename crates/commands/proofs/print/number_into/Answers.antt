@@ -2,7 +2,6 @@ use Rattle.commands.proofs.Printing.{number_put}
 use mathlib.Core.Path.{◌∙◌}
 use lib.ListN.{length-set}
 use native.Mathlib.Omega.{arith}
-use borrow.Author.Rules.{rules}
 use Rattle.commands.proofs.print.number_into.Goals as goal
 
 pub put_digits-requires : goal.put_digits-requires

@@ -1,8 +1,5 @@
-use Rattle.commands.proofs.Printing.{Copying, copying_none, copying_one, copying_all}
-use lib.ListN.{length}
-use Prim.Native.Nat.{◌-◌}
+use Rattle.commands.proofs.Printing.{copying_none, copying_one, copying_all}
 use native.Mathlib.Omega.{arith}
-use borrow.Author.Rules.{rules}
 use Rattle.commands.proofs.print.put_bytes.Goals as goal
 
 pub loop-i-init : goal.loop-i-init

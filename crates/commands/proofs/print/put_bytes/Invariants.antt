@@ -1,8 +1,6 @@
-use Rattle.commands.proofs.Printing.{Copying, copying_none, copying_one, copying_all}
+use Rattle.commands.proofs.Printing.{Copying}
 use lib.ListN.{length}
 use Prim.Native.Nat.{◌-◌}
-use native.Mathlib.Omega.{arith}
-use borrow.Author.Rules.{rules}
 use Rattle.commands.proofs.print.put_bytes.Given as goal
 
 abbrev pub invariant-loop-i : goal.invariant-loop-i

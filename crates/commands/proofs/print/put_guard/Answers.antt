@@ -1,5 +1,4 @@
 use Rattle.commands.proofs.Printing.{guard-same}
-use borrow.Author.Rules.{rules}
 use Rattle.commands.proofs.print.put_guard.Goals as goal
 
 pub returns : goal.returns

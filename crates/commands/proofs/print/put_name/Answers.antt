@@ -1,5 +1,4 @@
 use Rattle.commands.proofs.Printing.{name_is, other_name}
-use borrow.Author.Rules.{rules}
 use Rattle.commands.proofs.print.put_name.Goals as goal
 
 pub returns-in-0 : goal.returns-in-0

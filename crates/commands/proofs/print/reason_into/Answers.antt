@@ -2,7 +2,6 @@ use Rattle.commands.proofs.Printing.{reason_put}
 use mathlib.Core.Path.{◌∙◌}
 use lib.ListN.{length-set}
 use native.Mathlib.Omega.{arith}
-use borrow.Author.Rules.{rules}
 use Rattle.commands.proofs.print.reason_into.Goals as goal
 
 pub bounds-out-1 : goal.bounds-out-1

@@ -1,5 +1,4 @@
 use Rattle.commands.proofs.Printing.{size_sub, size_cast, size_add, size_is, size-up}
-use borrow.Author.Rules.{rules}
 use Rattle.commands.proofs.print.size_of.Goals as goal
 
 pub overflow_sub-result : goal.overflow_sub-result

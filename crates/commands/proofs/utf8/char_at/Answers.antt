@@ -1,5 +1,4 @@
 use Rattle.commands.proofs.Decoding.{char_at}
-use borrow.Author.Rules.{rules}
 use Rattle.commands.proofs.utf8.char_at.Goals as goal
 
 pub returns : goal.returns

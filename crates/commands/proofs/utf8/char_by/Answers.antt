@@ -1,5 +1,4 @@
 use Rattle.commands.proofs.Decoding.{by_one, by-none, by_two, by_three, by-four, by-more}
-use borrow.Author.Rules.{rules}
 use Rattle.commands.proofs.utf8.char_by.Goals as goal
 
 pub returns-then-a-lt128 : goal.returns-then-a-lt128

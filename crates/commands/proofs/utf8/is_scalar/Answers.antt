@@ -1,5 +1,4 @@
 use Rattle.commands.proofs.Decoding.{scalar_none, scalar_low, scalar_high}
-use borrow.Author.Rules.{rules}
 use Rattle.commands.proofs.utf8.is_scalar.Goals as goal
 
 pub returns-then-not-is_char : goal.returns-then-not-is_char

@@ -1,8 +1,5 @@
-use Rattle.commands.proofs.Decoding.{Decoded, decoded_none, decoded_one, decoded_bad, decoded_all, char_size}
-use lib.ListN.{length}
-use Prim.Native.Nat.{◌-◌}
+use Rattle.commands.proofs.Decoding.{decoded_none, decoded_one, decoded_bad, decoded_all, char_size}
 use native.Mathlib.Omega.{arith}
-use borrow.Author.Rules.{rules}
 use Rattle.commands.proofs.utf8.read_chars.Goals as goal
 
 pub loop-at-init : goal.loop-at-init

@@ -1,5 +1,4 @@
 use Rattle.commands.proofs.Decoding.{shape_low, shape_odd, shape_is}
-use borrow.Author.Rules.{rules}
 use Rattle.commands.proofs.utf8.shape.Goals as goal
 
 pub returns-then-x-least : goal.returns-then-x-least

@@ -8,7 +8,6 @@ use mathlib.Core.Bool.{true}
 use mathlib.Core.Path.{◌∙◌, ap}
 use Prim.Native.Nat.{ℕ}
 use native.Mathlib.Omega.{arith}
-use borrow.Author.Rules.{rules}
 use Rattle.commands.proofs.utf8.three_bytes.Goals as goal
 
 pub returns-then-not-is_next : goal.returns-then-not-is_next

@@ -3,7 +3,6 @@ use Rattle.commands.specs.Utf8.{shaped}
 use Rattle.records.proofs.Lists.{failed, passed}
 use mathlib.Core.Bool.{true}
 use mathlib.Core.Path.{◌∙◌, ap}
-use borrow.Author.Rules.{rules}
 use Rattle.commands.proofs.utf8.two_bytes.Goals as goal
 
 pub returns-then-not-is_next : goal.returns-then-not-is_next

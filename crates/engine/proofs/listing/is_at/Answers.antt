@@ -1,5 +1,4 @@
 use Rattle.engine.proofs.Refines.Listing.{stands-not, stands_by}
-use borrow.Author.Rules.{rules}
 use Rattle.engine.proofs.listing.is_at.Goals as goal
 
 pub returns-then-place-eq0 : goal.returns-then-place-eq0

@@ -1,6 +1,5 @@
 use Rattle.engine.proofs.Refines.Listing.{looked_there, looked_none, looked_found, looked_written}
 use native.Mathlib.Omega.{arith}
-use borrow.Author.Rules.{rules}
 use Rattle.engine.proofs.listing.is_listed.Goals as goal
 
 pub is_at-requires : goal.is_at-requires

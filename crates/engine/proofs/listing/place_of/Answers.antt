@@ -1,7 +1,5 @@
-use Rattle.engine.proofs.Refines.Listing.{Lacks, lacks-none, lacks-turn, place_found, place_none}
-use Prim.Native.Nat.{◌≤◌, ◌-◌}
+use Rattle.engine.proofs.Refines.Listing.{lacks-none, lacks-turn, place_found, place_none}
 use native.Mathlib.Omega.{arith}
-use borrow.Author.Rules.{rules}
 use Rattle.engine.proofs.listing.place_of.Goals as goal
 
 pub loop-i-init : goal.loop-i-init

@@ -1,7 +1,5 @@
-use Rattle.engine.proofs.Refines.Listing.{Lacks, lacks-none, lacks-turn, place_found, place_none}
+use Rattle.engine.proofs.Refines.Listing.{Lacks}
 use Prim.Native.Nat.{◌≤◌, ◌-◌}
-use native.Mathlib.Omega.{arith}
-use borrow.Author.Rules.{rules}
 use Rattle.engine.proofs.listing.place_of.Given as goal
 
 abbrev pub invariant-loop-i : goal.invariant-loop-i

@@ -1,4 +1,3 @@
-use borrow.Author.Rules.{rules}
 use Rattle.held.proofs.Linking.{link-end, link-past, link-last, link-later, link-back}
 use Rattle.held.proofs.chains.link_at.Goals as goal
 

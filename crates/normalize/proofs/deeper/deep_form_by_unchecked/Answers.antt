@@ -1,6 +1,5 @@
 use Rattle.normalize.proofs.Refines.Rounding.{deep_stopped, deep_long, deep_ready, deep_strings, deep_candidates, deep_done}
 use native.Mathlib.Omega.{arith}
-use borrow.Author.Rules.{rules}
 use Rattle.normalize.proofs.deeper.deep_form_by_unchecked.Goals as goal
 
 pub returns-then-n-gt-DEEP_NF_ATOM_CAP : goal.returns-then-n-gt-DEEP_NF_ATOM_CAP

@@ -1,5 +1,4 @@
 use Rattle.normalize.proofs.FormReady.{known-list, term-string}
-use borrow.Author.Rules.{rules}
 use Rattle.normalize.proofs.deeper.deep_normal_form_cited_unchecked.Goals as goal
 
 pub known_table_unchecked-table-requires : goal.known_table_unchecked-table-requires

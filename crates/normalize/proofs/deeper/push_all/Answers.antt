@@ -1,9 +1,6 @@
-use lib.ListN.{length}
-use Prim.Native.Nat.{◌-◌, ◌≤◌}
-use mathlib.Core.Path.{◌≡◌, refl}
-use Rattle.records.specs.View.{lent}
-use Rattle.normalize.proofs.Refines.Heaping.{Heaping, heaping_none}
-use Rattle.normalize.proofs.Refines.Rounding.{all_left, all-turn, all-stopped, all_done}
+use mathlib.Core.Path.{refl}
+use Rattle.normalize.proofs.Refines.Heaping.{heaping_none}
+use Rattle.normalize.proofs.Refines.Rounding.{all-turn, all-stopped, all_done}
 use native.Mathlib.Omega.{arith}
 use borrow.Author.Rules.{rules}
 use Rattle.normalize.proofs.deeper.push_all.Goals as goal

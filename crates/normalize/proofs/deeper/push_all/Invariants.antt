@@ -1,11 +1,9 @@
 use lib.ListN.{length}
 use Prim.Native.Nat.{◌-◌, ◌≤◌}
-use mathlib.Core.Path.{◌≡◌, refl}
+use mathlib.Core.Path.{◌≡◌}
 use Rattle.records.specs.View.{lent}
-use Rattle.normalize.proofs.Refines.Heaping.{Heaping, heaping_none}
-use Rattle.normalize.proofs.Refines.Rounding.{all_left, all-turn, all-stopped, all_done}
-use native.Mathlib.Omega.{arith}
-use borrow.Author.Rules.{rules}
+use Rattle.normalize.proofs.Refines.Heaping.{Heaping}
+use Rattle.normalize.proofs.Refines.Rounding.{all_left}
 use Rattle.normalize.proofs.deeper.push_all.Given as goal
 
 abbrev pub invariant-loop-i : goal.invariant-loop-i

@@ -3,7 +3,6 @@ use lib.ListN.{replicate}
 use Rattle.normalize.proofs.Refines.Expanding.{expanded-ready, round-carried, round-strings, round-short}
 use Rattle.normalize.proofs.Refines.Rounding.{round-stands, round-ended, round-settled}
 use native.Mathlib.Omega.{arith}
-use borrow.Author.Rules.{rules}
 use Rattle.normalize.proofs.deeper.round.Goals as goal
 
 pub any_opens-requires : goal.any_opens-requires

@@ -1,9 +1,6 @@
-use lib.ListN.{length, replicate, get_or-replicate}
-use Prim.Native.Nat.{◌-◌, ◌≤◌}
-use mathlib.Core.Path.{◌≡◌, refl}
-use Rattle.normalize.specs.Calls.{first_words}
-use Rattle.records.specs.View.{lent}
-use Rattle.normalize.proofs.Refines.Rounding.{Rounding, rounding_none, rounding_candidates, rounding_met, rounds-ended, rounding_turn, rounds_done}
+use lib.ListN.{replicate, get_or-replicate}
+use mathlib.Core.Path.{refl}
+use Rattle.normalize.proofs.Refines.Rounding.{rounding_none, rounding_candidates, rounding_met, rounds-ended, rounding_turn, rounds_done}
 use native.Mathlib.Omega.{arith}
 use borrow.Author.Rules.{rules}
 use Rattle.normalize.proofs.deeper.rounds.Goals as goal

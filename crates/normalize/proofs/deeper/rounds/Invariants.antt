@@ -1,11 +1,9 @@
-use lib.ListN.{length, replicate, get_or-replicate}
+use lib.ListN.{length}
 use Prim.Native.Nat.{◌-◌, ◌≤◌}
-use mathlib.Core.Path.{◌≡◌, refl}
+use mathlib.Core.Path.{◌≡◌}
 use Rattle.normalize.specs.Calls.{first_words}
 use Rattle.records.specs.View.{lent}
-use Rattle.normalize.proofs.Refines.Rounding.{Rounding, rounding_none, rounding_candidates, rounding_met, rounds-ended, rounding_turn, rounds_done}
-use native.Mathlib.Omega.{arith}
-use borrow.Author.Rules.{rules}
+use Rattle.normalize.proofs.Refines.Rounding.{Rounding}
 use Rattle.normalize.proofs.deeper.rounds.Given as goal
 
 abbrev pub invariant-loop-i : goal.invariant-loop-i

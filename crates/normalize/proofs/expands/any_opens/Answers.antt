@@ -1,14 +1,9 @@
 use lib.ListN.{get_or}
-use Prim.Native.Nat.{ℕ, ◌-◌, ◌≤◌}
-use mathlib.Core.Bool.{false}
-use mathlib.Core.Path.{◌≡◌}
+use Prim.Native.Nat.{ℕ}
 use Rattle.normalize.specs.Working.Deeps.{opens_in}
-use Rattle.normalize.specs.Calls.{first_words}
 use Rattle.records.specs.View.{terms_view}
-use Rattle.records.specs.Lists.{any}
 use Rattle.records.proofs.Lists.{any-zero, any-turn, any-stop, any-done}
 use native.Mathlib.Omega.{arith}
-use borrow.Author.Rules.{rules}
 use Rattle.normalize.proofs.expands.any_opens.Goals as goal
 
 pub loop-i-init : goal.loop-i-init

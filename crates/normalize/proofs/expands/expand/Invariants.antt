@@ -1,11 +1,9 @@
 use lib.ListN.{length}
 use Prim.Native.Nat.{◌-◌, ◌≤◌}
-use mathlib.Core.Path.{◌≡◌, refl}
+use mathlib.Core.Path.{◌≡◌}
 use Rattle.normalize.specs.Calls.{first_words}
 use Rattle.records.specs.View.{lent}
-use Rattle.normalize.proofs.Refines.Expanding.{Walking, walking_none, walk_candidates, walk-string, walk-low, walking_turn, walking_ended, walking_done}
-use native.Mathlib.Omega.{arith}
-use borrow.Author.Rules.{rules}
+use Rattle.normalize.proofs.Refines.Expanding.{Walking}
 use Rattle.normalize.proofs.expands.expand.Given as goal
 
 abbrev pub invariant-loop-i : goal.invariant-loop-i

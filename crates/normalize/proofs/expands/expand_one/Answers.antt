@@ -1,6 +1,5 @@
 use Rattle.normalize.proofs.Refines.Expanding.{atom-place, one_plain, one_again, one-opened}
 use native.Mathlib.Omega.{arith}
-use borrow.Author.Rules.{rules}
 use Rattle.normalize.proofs.expands.expand_one.Goals as goal
 
 pub returns-then-not-opens : goal.returns-then-not-opens

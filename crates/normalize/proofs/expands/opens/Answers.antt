@@ -1,5 +1,4 @@
 use Rattle.normalize.proofs.Refines.Expanding.{opens-other, opens-concat}
-use borrow.Author.Rules.{rules}
 use Rattle.normalize.proofs.expands.opens.Goals as goal
 
 pub returns-then-kind_of-ne3 : goal.returns-then-kind_of-ne3

@@ -1,13 +1,8 @@
 use mathlib.Core.Bool.{true, false}
-use mathlib.Core.Path.{◌≡◌, refl, sym, ap, ◌∙◌}
+use mathlib.Core.Path.{refl, sym, ap, ◌∙◌}
 use Rattle.held.proofs.Linking.{is_cell, other_tag, step_words_lem, words-none}
-use Rattle.normalize.proofs.Refines.Flats.{one-atom, Left, begin, ended, part_lower, part_passes, part_done, chain_falls}
-use Rattle.normalize.specs.Working.Flat.{bare}
-use Rattle.records.specs.Store.{chain}
-use lib.ListN.{length}
+use Rattle.normalize.proofs.Refines.Flats.{one-atom, begin, ended, part_lower, part_passes, part_done, chain_falls}
 use native.Mathlib.Omega.{arith}
-use borrow.Author.Rules.{rules}
-use Prim.Native.Nat.{ℕ, ◌<◌}
 use Rattle.normalize.proofs.flat.+flatten_unchecked.Goals as goal
 
 pub returns-then-kind_of-ne3 : goal.returns-then-kind_of-ne3

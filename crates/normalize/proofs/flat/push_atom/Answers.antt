@@ -1,4 +1,3 @@
-use borrow.Author.Rules.{rules}
 use Rattle.normalize.proofs.Refines.Flats.{atom-fits, atom-passes}
 use Rattle.normalize.proofs.flat.push_atom.Goals as goal
 

@@ -1,5 +1,4 @@
 use Rattle.normalize.proofs.Represents.{root-place}
-use borrow.Author.Rules.{rules}
 use Rattle.normalize.proofs.nodes.add_node.Goals as goal
 
 pub put_node-requires : goal.put_node-requires

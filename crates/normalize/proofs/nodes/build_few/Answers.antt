@@ -1,12 +1,7 @@
-use lib.ListN.{length, drop}
-use Prim.Native.Nat.{◌-◌, ◌≤◌}
-use mathlib.Core.Path.{◌≡◌, refl}
-use Rattle.normalize.specs.Working.Nodes.{with_nodes}
-use Rattle.records.specs.View.{terms_view}
+use mathlib.Core.Path.{refl}
 use Rattle.records.proofs.Lists.{every_at}
 use Rattle.normalize.proofs.Represents.{nodes-turn, nodes-done}
 use native.Mathlib.Omega.{arith}
-use borrow.Author.Rules.{rules}
 use Rattle.normalize.proofs.nodes.build_few.Goals as goal
 
 pub loop-i-init : goal.loop-i-init

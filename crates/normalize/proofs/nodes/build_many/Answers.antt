@@ -1,15 +1,8 @@
-use lib.ListN.{length, drop}
-use Prim.Native.Nat.{◌-◌, ◌≤◌}
-use mathlib.Core.Path.{◌≡◌, refl}
-use Rattle.normalize.specs.Working.Nodes.{with_nodes}
-use Rattle.records.specs.View.{terms_view}
-use Rattle.records.specs.Store.{class_up}
-use Rattle.records.specs.Working.ClimbEnds.{Ends}
+use mathlib.Core.Path.{refl}
 use Rattle.records.proofs.ClimbEnds.{ends-none}
 use Rattle.records.proofs.Lists.{every_at}
 use Rattle.normalize.proofs.Represents.{nodes-turn, nodes-done}
 use native.Mathlib.Omega.{arith}
-use borrow.Author.Rules.{rules}
 use Rattle.normalize.proofs.nodes.build_many.Goals as goal
 
 pub loop-i-init : goal.loop-i-init

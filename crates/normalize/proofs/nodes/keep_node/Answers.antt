@@ -1,6 +1,5 @@
 use Rattle.normalize.proofs.Represents.{root-place, keeps-more}
 use Rattle.records.proofs.ClimbEnds.{term_place_lem}
-use borrow.Author.Rules.{rules}
 use Rattle.normalize.proofs.nodes.keep_node.Goals as goal
 
 pub bounds-roots-t : goal.bounds-roots-t

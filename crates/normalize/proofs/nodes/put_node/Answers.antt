@@ -1,5 +1,4 @@
 use Rattle.normalize.proofs.Represents.{node_free, node_better, node_stays}
-use borrow.Author.Rules.{rules}
 use Rattle.normalize.proofs.nodes.put_node.Goals as goal
 
 pub returns-then-prev-eq0 : goal.returns-then-prev-eq0

@@ -1,5 +1,4 @@
 use Rattle.normalize.proofs.Represents.{root-place, at_none, at_some}
-use borrow.Author.Rules.{rules}
 use Rattle.normalize.proofs.nodes.rep.Goals as goal
 
 pub bounds-nodes-root : goal.bounds-nodes-root

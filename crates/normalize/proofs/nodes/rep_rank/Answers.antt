@@ -1,5 +1,4 @@
 use Rattle.normalize.proofs.Represents.{rank-one, rank-none}
-use borrow.Author.Rules.{rules}
 use Rattle.normalize.proofs.nodes.rep_rank.Goals as goal
 
 pub returns-then-kind_of-eq1 : goal.returns-then-kind_of-eq1

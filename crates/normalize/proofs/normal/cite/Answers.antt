@@ -1,5 +1,4 @@
 use Rattle.normalize.proofs.Refines.Replacing.{cite-same, cite-other}
-use borrow.Author.Rules.{rules}
 use Rattle.normalize.proofs.normal.cite.Goals as goal
 
 pub returns-then-r-a : goal.returns-then-r-a

@@ -1,5 +1,4 @@
 use Rattle.normalize.proofs.Refines.Forming.{ready_rooting, strings-within, more-table}
-use borrow.Author.Rules.{rules}
 use Rattle.normalize.proofs.normal.form_atoms.Goals as goal
 
 pub build_node_of-requires : goal.build_node_of-requires

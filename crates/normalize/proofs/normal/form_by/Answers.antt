@@ -1,6 +1,5 @@
 use Rattle.normalize.proofs.Refines.Forming.{one-string, one-done}
 use native.Mathlib.Omega.{arith}
-use borrow.Author.Rules.{rules}
 use Rattle.normalize.proofs.normal.form_by.Goals as goal
 
 pub form_atoms-requires : goal.form_atoms-requires

@@ -4,7 +4,6 @@ use lib.ListN.{replicate, get_or-replicate}
 use mathlib.Core.Path.{refl}
 use Rattle.normalize.proofs.Refines.Forming.{ready_rooting}
 use Rattle.normalize.proofs.Refines.Forming.{strings-within, known-table}
-use borrow.Author.Rules.{rules}
 use Rattle.normalize.proofs.normal.normal_form_cited_unchecked.Goals as goal
 
 pub build_node_of-requires : goal.build_node_of-requires

@@ -1,5 +1,4 @@
 use Rattle.normalize.proofs.Refines.Replacing.{cited-ready, push_for-done, push_for-stopped}
-use borrow.Author.Rules.{rules}
 use Rattle.normalize.proofs.normal.push_for.Goals as goal
 
 pub push-requires : goal.push-requires

@@ -1,11 +1,8 @@
-use lib.ListN.{length}
-use Prim.Native.Nat.{◌-◌, ◌≤◌}
 use mathlib.Core.List.{◌++◌}
-use mathlib.Core.Path.{◌≡◌, refl}
-use Rattle.records.specs.View.{lent}
+use mathlib.Core.Path.{refl}
 use Rattle.records.proofs.Lists.{all_every, every_right}
-use Rattle.normalize.proofs.Refines.Heaping.{Heaping, heaping_none}
-use Rattle.normalize.proofs.Refines.Replacing.{forms_left, rep_requires as forms-rep, for_arguments, forms_turn, forms_stopped, forms_done}
+use Rattle.normalize.proofs.Refines.Heaping.{heaping_none}
+use Rattle.normalize.proofs.Refines.Replacing.{rep_requires as forms-rep, for_arguments, forms_turn, forms_stopped, forms_done}
 use native.Mathlib.Omega.{arith}
 use borrow.Author.Rules.{rules}
 use Rattle.normalize.proofs.normal.push_forms.Goals as goal

@@ -1,13 +1,10 @@
 use lib.ListN.{length}
 use Prim.Native.Nat.{◌-◌, ◌≤◌}
 use mathlib.Core.List.{◌++◌}
-use mathlib.Core.Path.{◌≡◌, refl}
+use mathlib.Core.Path.{◌≡◌}
 use Rattle.records.specs.View.{lent}
-use Rattle.records.proofs.Lists.{all_every, every_right}
-use Rattle.normalize.proofs.Refines.Heaping.{Heaping, heaping_none}
-use Rattle.normalize.proofs.Refines.Replacing.{forms_left, rep_requires as forms-rep, for_arguments, forms_turn, forms_stopped, forms_done}
-use native.Mathlib.Omega.{arith}
-use borrow.Author.Rules.{rules}
+use Rattle.normalize.proofs.Refines.Heaping.{Heaping}
+use Rattle.normalize.proofs.Refines.Replacing.{forms_left}
 use Rattle.normalize.proofs.normal.push_forms.Given as goal
 
 abbrev pub invariant-loop-i : goal.invariant-loop-i

@@ -1,5 +1,4 @@
 use Rattle.normalize.proofs.Refines.Pushing.{empty-other, empty_constant}
-use borrow.Author.Rules.{rules}
 use Rattle.normalize.proofs.pushes.is_empty.Goals as goal
 
 pub returns-then-kind_of-ne1 : goal.returns-then-kind_of-ne1

@@ -1,6 +1,5 @@
 use Rattle.normalize.proofs.Refines.Pushing.{pair-constants, join-made, join-stopped}
 use native.Mathlib.Omega.{arith}
-use borrow.Author.Rules.{rules}
 use Rattle.normalize.proofs.pushes.join_last.Goals as goal
 
 pub join_constants_unchecked-made-requires : goal.join_constants_unchecked-made-requires

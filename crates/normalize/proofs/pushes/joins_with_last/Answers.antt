@@ -1,5 +1,4 @@
 use Rattle.normalize.proofs.Refines.Pushing.{joins-none, joins-other, joins-last}
-use borrow.Author.Rules.{rules}
 use Rattle.normalize.proofs.pushes.joins_with_last.Goals as goal
 
 pub returns-then-count-eq0 : goal.returns-then-count-eq0

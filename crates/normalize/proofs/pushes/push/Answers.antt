@@ -1,7 +1,6 @@
 use mathlib.Core.Path.{sym, refl, ◌∙◌}
 use Rattle.normalize.proofs.Refines.Pushing.{push-empty, push-joined, push-plain, joins-some}
 use native.Mathlib.Omega.{arith}
-use borrow.Author.Rules.{rules}
 use Rattle.normalize.proofs.pushes.push.Goals as goal
 
 pub returns-then-is_empty : goal.returns-then-is_empty

@@ -1,8 +1,4 @@
-use lib.ListN.{length}
-use Prim.Native.Nat.{◌+◌, ◌-◌, ◌≤◌}
-use mathlib.Core.List.{◌++◌}
-use mathlib.Core.Path.{◌≡◌, refl}
-use Rattle.normalize.specs.Calls.{first_words}
+use mathlib.Core.Path.{refl}
 use Rattle.normalize.proofs.Refines.Words.{append-none, append-turn, append-done}
 use native.Mathlib.Omega.{arith}
 use borrow.Author.Rules.{rules}

@@ -1,11 +1,8 @@
 use lib.ListN.{length}
 use Prim.Native.Nat.{◌+◌, ◌-◌, ◌≤◌}
 use mathlib.Core.List.{◌++◌}
-use mathlib.Core.Path.{◌≡◌, refl}
+use mathlib.Core.Path.{◌≡◌}
 use Rattle.normalize.specs.Calls.{first_words}
-use Rattle.normalize.proofs.Refines.Words.{append-none, append-turn, append-done}
-use native.Mathlib.Omega.{arith}
-use borrow.Author.Rules.{rules}
 use Rattle.normalize.proofs.slices.append.Given as goal
 
 abbrev pub invariant-loop-i : goal.invariant-loop-i

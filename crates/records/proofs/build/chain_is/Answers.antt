@@ -1,7 +1,4 @@
-use Rattle.records.proofs.Refines.Builds.{Walked, walked_none, walk_ends, walk-differs, walk-on, walk_over}
-use lib.ListN.{length}
-use Prim.Native.Nat.{◌-◌}
-use borrow.Author.Rules.{rules}
+use Rattle.records.proofs.Refines.Builds.{walked_none, walk_ends, walk-differs, walk-on, walk_over}
 use Rattle.records.proofs.build.chain_is.Goals as goal
 
 pub loop-i-init : goal.loop-i-init

@@ -1,7 +1,6 @@
-use Rattle.records.proofs.Refines.Builds.{Walked, walked_none, walk_ends, walk-differs, walk-on, walk_over}
+use Rattle.records.proofs.Refines.Builds.{Walked}
 use lib.ListN.{length}
 use Prim.Native.Nat.{◌-◌}
-use borrow.Author.Rules.{rules}
 use Rattle.records.proofs.build.chain_is.Given as goal
 
 abbrev pub invariant-loop-i : goal.invariant-loop-i

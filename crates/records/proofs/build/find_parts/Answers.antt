@@ -1,5 +1,4 @@
 use Rattle.records.proofs.IndexLaws.{search_walkable, search_first}
-use borrow.Author.Rules.{rules}
 use Rattle.records.proofs.build.find_parts.Goals as goal
 
 pub walk_parts-requires : goal.walk_parts-requires

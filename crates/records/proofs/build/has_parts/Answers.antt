@@ -1,5 +1,4 @@
 use Rattle.records.proofs.Refines.Builds.{parts-kind, parts_are}
-use borrow.Author.Rules.{rules}
 use Rattle.records.proofs.build.has_parts.Goals as goal
 
 pub returns-then-kind-ne3 : goal.returns-then-kind-ne3

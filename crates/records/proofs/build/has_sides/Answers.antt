@@ -1,5 +1,4 @@
 use Rattle.records.proofs.Refines.Builds.{sides-kind, sides_first, sides-second}
-use borrow.Author.Rules.{rules}
 use Rattle.records.proofs.build.has_sides.Goals as goal
 
 pub returns-then-kind-k : goal.returns-then-kind-k

@@ -1,5 +1,4 @@
 use Rattle.records.proofs.Refines.Builds.{parts_searchable, concat-old, concat-new}
-use borrow.Author.Rules.{rules}
 use Rattle.records.proofs.build.make_concatenation_unchecked.Goals as goal
 
 pub find_parts-t-requires : goal.find_parts-t-requires

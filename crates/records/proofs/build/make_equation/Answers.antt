@@ -2,7 +2,6 @@ use Rattle.records.proofs.Refines.BuildCalls.{equation-right, equation-unfit, eq
 use Rattle.records.proofs.Public.{cut-asked, call_unready, passed-ready}
 use Rattle.records.proofs.Refines.MakeCalls.{undone-made}
 use Rattle.records.specs.View.{lent}
-use borrow.Author.Rules.{rules}
 use Rattle.records.proofs.build.make_equation.Goals as goal
 
 pub returns-then-k-ne0 : goal.returns-then-k-ne0

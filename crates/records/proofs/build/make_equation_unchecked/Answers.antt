@@ -1,7 +1,6 @@
 use mathlib.Core.Logic.{inr}
 use mathlib.Core.Path.{refl}
 use Rattle.records.proofs.Refines.Builds.{equation-made}
-use borrow.Author.Rules.{rules}
 use Rattle.records.proofs.build.make_equation_unchecked.Goals as goal
 
 pub make_sides-requires : goal.make_sides-requires

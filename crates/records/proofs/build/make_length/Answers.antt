@@ -2,7 +2,6 @@ use Rattle.records.proofs.Refines.BuildCalls.{length-unfit, length_called}
 use Rattle.records.proofs.Public.{cut-asked, call_unready, passed-ready}
 use Rattle.records.proofs.Refines.MakeCalls.{undone-made}
 use mathlib.Core.Path.{sym, ◌∙◌}
-use borrow.Author.Rules.{rules}
 use Rattle.records.proofs.build.make_length.Goals as goal
 
 pub returns-then-k-ne0 : goal.returns-then-k-ne0

@@ -1,7 +1,6 @@
-use Rattle.records.proofs.Refines.IndexWalks.{Walking, to_meet, walk_from, walk-met, walk-fewer, walk-next, walk_none}
+use Rattle.records.proofs.Refines.IndexWalks.{Walking, to_meet}
 use Rattle.records.specs.Working.Leaves.{has_parts}
 use Rattle.records.specs.View.{cells_view}
-use borrow.Author.Rules.{rules}
 use Rattle.records.proofs.build.walk_parts.Given as goal
 
 abbrev pub invariant-loop-t : goal.invariant-loop-t

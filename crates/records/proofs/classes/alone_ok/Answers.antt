@@ -1,5 +1,4 @@
 use Rattle.records.proofs.Refines.ClassLaws.{alone-root, alone-child, alone-parent}
-use borrow.Author.Rules.{rules}
 use Rattle.records.proofs.classes.alone_ok.Goals as goal
 
 pub returns-then-p-t : goal.returns-then-p-t

@@ -1,7 +1,6 @@
 use Rattle.records.proofs.Lists.{and-stop, and-next}
 use mathlib.Core.Bool.{not}
 use mathlib.Core.Path.{sym, ap, ◌∙◌}
-use borrow.Author.Rules.{rules}
 use Rattle.records.proofs.classes.both_ended.Goals as goal
 
 pub returns-then-is_within : goal.returns-then-is_within

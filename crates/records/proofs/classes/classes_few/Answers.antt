@@ -2,12 +2,8 @@ use Rattle.records.proofs.Lists.{each-stop, each_turn, each-done}
 use Rattle.records.specs.View.{term_at, termed}
 use Rattle.records.proofs.Lists.{below-zero, within-is}
 use Rattle.records.specs.Working.Leaves.{class_test}
-use Rattle.records.specs.Lists.{all_below}
-use Prim.Native.Nat.{suc, ◌-◌, ◌≤◌}
-use mathlib.Core.Path.{◌≡◌}
-use mathlib.Core.Bool.{true}
+use Prim.Native.Nat.{suc}
 use native.Mathlib.Omega.{arith}
-use borrow.Author.Rules.{rules}
 use Rattle.records.proofs.classes.classes_few.Goals as goal
 
 pub loop-i-init : goal.loop-i-init

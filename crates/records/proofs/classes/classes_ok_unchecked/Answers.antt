@@ -2,7 +2,6 @@ use Rattle.records.specs.View.{termed}
 use Rattle.records.proofs.Refines.ClassLaws.{classes-is, classes-not}
 use Rattle.records.proofs.Lists.{failed, passed}
 use mathlib.Core.Path.{◌∙◌}
-use borrow.Author.Rules.{rules}
 use Rattle.records.proofs.classes.classes_ok_unchecked.Goals as goal
 
 pub returns-then-not-parents_hold : goal.returns-then-not-parents_hold

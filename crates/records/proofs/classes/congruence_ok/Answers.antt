@@ -1,5 +1,4 @@
 use Rattle.records.proofs.Refines.PairLaws.{congruent_child, congruent_parent, congruent_pairs, congruent_terms, congruent_last}
-use borrow.Author.Rules.{rules}
 use Rattle.records.proofs.classes.congruence_ok.Goals as goal
 
 pub returns-then-j-ne3 : goal.returns-then-j-ne3

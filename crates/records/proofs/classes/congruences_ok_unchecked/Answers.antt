@@ -1,5 +1,4 @@
 use Rattle.records.proofs.Refines.HeightLaws.{heights_none}
-use borrow.Author.Rules.{rules}
 use Rattle.records.proofs.classes.congruences_ok_unchecked.Goals as goal
 
 pub edges_ok-requires : goal.edges_ok-requires

@@ -1,5 +1,4 @@
 use Rattle.records.proofs.Refines.ClassLaws.{label_reason, label_congruence, label_definitional, label_low, label_high}
-use borrow.Author.Rules.{rules}
 use Rattle.records.proofs.classes.edge_label_ok.Goals as goal
 
 pub returns-in-3 : goal.returns-in-3

@@ -1,5 +1,4 @@
 use Rattle.records.proofs.Refines.PairLaws.{edge-root, edge_other, edge-congruence}
-use borrow.Author.Rules.{rules}
 use Rattle.records.proofs.classes.edge_ok.Goals as goal
 
 pub returns-then-u-t : goal.returns-then-u-t

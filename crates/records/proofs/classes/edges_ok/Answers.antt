@@ -1,14 +1,9 @@
 use Rattle.records.proofs.Lists.{below-zero, within-is, each-stop, each_turn, each-done}
 use Rattle.records.specs.Rules.{edge_rule, congruences_rule}
-use Rattle.records.specs.View.{term_at, termed, chained}
-use Rattle.records.specs.Lists.{all_below}
-use Rattle.records.specs.Working.Heights.{Heights}
-use Prim.Native.Nat.{suc, ◌-◌, ◌≤◌}
-use mathlib.Core.Path.{◌≡◌, refl, ◌∙◌}
-use mathlib.Core.Bool.{true}
-use lib.ListN.{length}
+use Rattle.records.specs.View.{term_at, chained}
+use Prim.Native.Nat.{suc}
+use mathlib.Core.Path.{refl, ◌∙◌}
 use native.Mathlib.Omega.{arith}
-use borrow.Author.Rules.{rules}
 use Rattle.records.proofs.classes.edges_ok.Goals as goal
 
 pub loop-i-init : goal.loop-i-init

@@ -1,14 +1,11 @@
-use Rattle.records.proofs.Lists.{below-zero, within-is, each-stop, each_turn, each-done}
-use Rattle.records.specs.Rules.{edge_rule, congruences_rule}
-use Rattle.records.specs.View.{term_at, termed, chained}
+use Rattle.records.specs.Rules.{edge_rule}
+use Rattle.records.specs.View.{termed, chained}
 use Rattle.records.specs.Lists.{all_below}
 use Rattle.records.specs.Working.Heights.{Heights}
 use Prim.Native.Nat.{suc, ◌-◌, ◌≤◌}
-use mathlib.Core.Path.{◌≡◌, refl, ◌∙◌}
+use mathlib.Core.Path.{◌≡◌}
 use mathlib.Core.Bool.{true}
 use lib.ListN.{length}
-use native.Mathlib.Omega.{arith}
-use borrow.Author.Rules.{rules}
 use Rattle.records.proofs.classes.edges_ok.Given as goal
 
 abbrev pub invariant-loop-i : goal.invariant-loop-i

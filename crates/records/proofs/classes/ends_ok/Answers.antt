@@ -1,5 +1,4 @@
 use Rattle.records.proofs.Refines.ClassLaws.{ends-stop, ends_last}
-use borrow.Author.Rules.{rules}
 use Rattle.records.proofs.classes.ends_ok.Goals as goal
 
 pub returns-then-p-r : goal.returns-then-p-r

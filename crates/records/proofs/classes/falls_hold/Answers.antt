@@ -1,14 +1,7 @@
-use Rattle.records.specs.View.{termed}
 use Rattle.records.proofs.Refines.HeightLaws.{height-fails, height-passes}
-use Rattle.records.proofs.Refines.PairLaws.{Chaining, chaining_begin, chaining_end, chaining_head, chaining_stop, chaining_turn, chaining_done}
-use Rattle.records.specs.Working.Audited.{TermPair}
-use Rattle.records.specs.Working.Heights.{Heights}
-use Rattle.records.specs.Rules.{falls_rule}
-use Prim.Native.Nat.{◌-◌}
-use mathlib.Core.Path.{◌≡◌, refl, ◌∙◌}
+use Rattle.records.proofs.Refines.PairLaws.{chaining_begin, chaining_end, chaining_head, chaining_stop, chaining_turn, chaining_done}
+use mathlib.Core.Path.{refl, ◌∙◌}
 use mathlib.Core.Bool.{true, false}
-use lib.ListN.{length}
-use borrow.Author.Rules.{rules}
 use Rattle.records.proofs.classes.falls_hold.Goals as goal
 
 pub loop-i-init : goal.loop-i-init

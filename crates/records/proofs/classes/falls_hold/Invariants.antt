@@ -1,14 +1,11 @@
 use Rattle.records.specs.View.{termed}
-use Rattle.records.proofs.Refines.HeightLaws.{height-fails, height-passes}
-use Rattle.records.proofs.Refines.PairLaws.{Chaining, chaining_begin, chaining_end, chaining_head, chaining_stop, chaining_turn, chaining_done}
+use Rattle.records.proofs.Refines.PairLaws.{Chaining}
 use Rattle.records.specs.Working.Audited.{TermPair}
 use Rattle.records.specs.Working.Heights.{Heights}
 use Rattle.records.specs.Rules.{falls_rule}
 use Prim.Native.Nat.{◌-◌}
-use mathlib.Core.Path.{◌≡◌, refl, ◌∙◌}
-use mathlib.Core.Bool.{true, false}
+use mathlib.Core.Path.{◌≡◌}
 use lib.ListN.{length}
-use borrow.Author.Rules.{rules}
 use Rattle.records.proofs.classes.falls_hold.Given as goal
 
 abbrev pub invariant-loop-i : goal.invariant-loop-i

@@ -1,5 +1,4 @@
 use Rattle.records.proofs.Refines.ClassLaws.{label_edge, root-kind, root-value, root-stamp}
-use borrow.Author.Rules.{rules}
 use Rattle.records.proofs.classes.label_ok.Goals as goal
 
 pub returns-then-p-t : goal.returns-then-p-t

@@ -1,6 +1,4 @@
-use Rattle.records.proofs.Paths.{Lifting, lifting_begin, lifting_done, lifting_less, lifting_turn, pathed-words}
-use Rattle.records.specs.View.{terms_view}
-use Rattle.records.specs.Working.Leaves.{levels}
+use Rattle.records.proofs.Paths.{lifting_begin, lifting_done, lifting_less, lifting_turn, pathed-words}
 use Rattle.records.proofs.classes.lift.Goals as goal
 
 pub loop-w-init : goal.loop-w-init

@@ -1,6 +1,4 @@
-use Rattle.records.proofs.Paths.{Meeting, meeting_begin, meeting_met, meeting_none, meeting_less, meeting_turn, pathed-words}
-use Rattle.records.specs.View.{terms_view}
-use Rattle.records.specs.Working.Leaves.{levels}
+use Rattle.records.proofs.Paths.{meeting_begin, meeting_met, meeting_none, meeting_less, meeting_turn, pathed-words}
 use Rattle.records.proofs.classes.meet.Goals as goal
 
 pub loop-x-init : goal.loop-x-init

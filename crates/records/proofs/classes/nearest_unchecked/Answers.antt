@@ -1,7 +1,5 @@
-use Rattle.records.proofs.Paths.{Abreast, abreast_begin, abreast_turned, abreast_lift, abreast_even, abreast_met, abreast_less, abreast_turn, pathed-words}
+use Rattle.records.proofs.Paths.{abreast_begin, abreast_turned, abreast_lift, abreast_even, abreast_met, abreast_less, abreast_turn, pathed-words}
 use mathlib.Core.Path.{sym}
-use Rattle.records.specs.View.{terms_view}
-use Rattle.records.specs.Working.Leaves.{levels}
 use Rattle.records.proofs.classes.nearest_unchecked.Goals as goal
 
 pub loop-x-init : goal.loop-x-init

@@ -1,5 +1,4 @@
-use Rattle.records.proofs.Paths.{Abreast, abreast_begin, abreast_turned, abreast_lift, abreast_even, abreast_met, abreast_less, abreast_turn, pathed-words}
-use mathlib.Core.Path.{sym}
+use Rattle.records.proofs.Paths.{Abreast}
 use Rattle.records.specs.View.{terms_view}
 use Rattle.records.specs.Working.Leaves.{levels}
 use Rattle.records.proofs.classes.nearest_unchecked.Given as goal

@@ -1,6 +1,5 @@
 use Rattle.records.proofs.Refines.PairLaws.{meets-one, meets-other, meets-value, meets-last}
 use Rattle.records.proofs.Lists.{passed}
-use borrow.Author.Rules.{rules}
 use Rattle.records.proofs.classes.pair_meets.Goals as goal
 
 pub returns-then-not-is_within : goal.returns-then-not-is_within

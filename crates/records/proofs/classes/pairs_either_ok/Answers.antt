@@ -1,6 +1,5 @@
 use Rattle.records.proofs.Lists.{or-stop, or-next}
 use mathlib.Core.Path.{sym, ◌∙◌}
-use borrow.Author.Rules.{rules}
 use Rattle.records.proofs.classes.pairs_either_ok.Goals as goal
 
 pub returns-then-pairs_ok : goal.returns-then-pairs_ok

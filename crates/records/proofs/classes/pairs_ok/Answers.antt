@@ -1,7 +1,5 @@
-use Rattle.records.proofs.Refines.PairLaws.{Linking, linking_begin, linking_end, linking_stop, linking_turn, linking_done}
+use Rattle.records.proofs.Refines.PairLaws.{linking_begin, linking_end, linking_stop, linking_turn, linking_done}
 use Rattle.records.proofs.Lists.{passed}
-use Prim.Native.Nat.{◌-◌}
-use borrow.Author.Rules.{rules}
 use Rattle.records.proofs.classes.pairs_ok.Goals as goal
 
 pub loop-i-init : goal.loop-i-init

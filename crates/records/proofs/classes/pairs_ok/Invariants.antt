@@ -1,7 +1,5 @@
-use Rattle.records.proofs.Refines.PairLaws.{Linking, linking_begin, linking_end, linking_stop, linking_turn, linking_done}
-use Rattle.records.proofs.Lists.{passed}
+use Rattle.records.proofs.Refines.PairLaws.{Linking}
 use Prim.Native.Nat.{◌-◌}
-use borrow.Author.Rules.{rules}
 use Rattle.records.proofs.classes.pairs_ok.Given as goal
 
 abbrev pub invariant-loop-i : goal.invariant-loop-i

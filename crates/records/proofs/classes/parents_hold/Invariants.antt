@@ -1,13 +1,9 @@
-use Rattle.records.proofs.Lists.{each-stop, each_turn, each-done}
-use Rattle.records.specs.View.{term_at, termed}
-use Rattle.records.proofs.Lists.{below-zero, within-is}
+use Rattle.records.specs.View.{termed}
 use Rattle.records.specs.Rules.{parents_rule}
 use Rattle.records.specs.Lists.{all_below}
 use Prim.Native.Nat.{suc, ◌-◌, ◌≤◌}
 use mathlib.Core.Path.{◌≡◌}
 use mathlib.Core.Bool.{true}
-use native.Mathlib.Omega.{arith}
-use borrow.Author.Rules.{rules}
 use Rattle.records.proofs.classes.parents_hold.Given as goal
 
 abbrev pub invariant-loop-i : goal.invariant-loop-i

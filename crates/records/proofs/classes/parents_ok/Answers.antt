@@ -1,5 +1,4 @@
 use Rattle.records.proofs.Refines.ClassLaws.{parents_stop, parents_last}
-use borrow.Author.Rules.{rules}
 use Rattle.records.proofs.classes.parents_ok.Goals as goal
 
 pub returns-then-not-is_within : goal.returns-then-not-is_within

@@ -1,5 +1,4 @@
 use Rattle.records.proofs.Climbs.{root-counted}
-use borrow.Author.Rules.{rules}
 use Rattle.records.proofs.classes.root_unchecked.Goals as goal
 
 pub returns : goal.returns

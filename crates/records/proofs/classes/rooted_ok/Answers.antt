@@ -1,7 +1,6 @@
 use Rattle.records.specs.View.{termed}
 use Rattle.records.proofs.Refines.ClassLaws.{alike_is, test_ends, test_alike, test_label, test_alone}
 use mathlib.Core.Path.{◌∙◌}
-use borrow.Author.Rules.{rules}
 use Rattle.records.proofs.classes.rooted_ok.Goals as goal
 
 pub ends_ok-requires : goal.ends_ok-requires

@@ -1,5 +1,4 @@
 use Rattle.records.proofs.Climbs.{parent-forest, parent-class}
-use borrow.Author.Rules.{rules}
 use Rattle.records.proofs.fields.parent.Goals as goal
 
 pub returns-then-forest : goal.returns-then-forest

@@ -1,7 +1,5 @@
-use Rattle.records.proofs.Refines.HeightLaws.{Raising, raising_begin, raising_end, raising_root, raising_turn, raising_done}
-use Prim.Native.Nat.{suc, ◌-◌}
+use Rattle.records.proofs.Refines.HeightLaws.{raising_begin, raising_end, raising_root, raising_turn, raising_done}
 use native.Mathlib.Omega.{arith}
-use borrow.Author.Rules.{rules}
 use Rattle.records.proofs.heights.height_up.Goals as goal
 
 pub loop-i-init : goal.loop-i-init

@@ -1,7 +1,5 @@
-use Rattle.records.proofs.Refines.HeightLaws.{Raising, raising_begin, raising_end, raising_root, raising_turn, raising_done}
+use Rattle.records.proofs.Refines.HeightLaws.{Raising}
 use Prim.Native.Nat.{suc, ◌-◌}
-use native.Mathlib.Omega.{arith}
-use borrow.Author.Rules.{rules}
 use Rattle.records.proofs.heights.height_up.Given as goal
 
 abbrev pub invariant-loop-i : goal.invariant-loop-i

@@ -1,6 +1,5 @@
 use Rattle.records.proofs.Refines.HeightLaws.{kept-known, kept-past, kept_new}
 use native.Mathlib.Omega.{arith}
-use borrow.Author.Rules.{rules}
 use Rattle.records.proofs.heights.kept_height.Goals as goal
 
 pub returns-then-k-ne0 : goal.returns-then-k-ne0

@@ -1,9 +1,6 @@
-use Prim.Native.Nat.{ℕ, ◌%◌, ◌-◌}
+use Prim.Native.Nat.{ℕ, ◌%◌}
 use mathlib.Core.Path.{ap}
-use lib.ListN.{length}
-use Rattle.records.specs.Index.{bucket_of}
-use Rattle.records.proofs.Refines.IndexBuckets.{AddingFrom, list-start, list-turn, list_done}
-use borrow.Author.Rules.{rules}
+use Rattle.records.proofs.Refines.IndexBuckets.{list-start, list-turn, list_done}
 use Rattle.records.proofs.index.bucket_of.Goals as goal
 
 pub loop-i-init : goal.loop-i-init

@@ -1,9 +1,7 @@
-use Prim.Native.Nat.{ℕ, ◌%◌, ◌-◌}
-use mathlib.Core.Path.{ap}
+use Prim.Native.Nat.{◌-◌}
 use lib.ListN.{length}
 use Rattle.records.specs.Index.{bucket_of}
-use Rattle.records.proofs.Refines.IndexBuckets.{AddingFrom, list-start, list-turn, list_done}
-use borrow.Author.Rules.{rules}
+use Rattle.records.proofs.Refines.IndexBuckets.{AddingFrom}
 use Rattle.records.proofs.index.bucket_of.Given as goal
 
 abbrev pub invariant-loop-i : goal.invariant-loop-i

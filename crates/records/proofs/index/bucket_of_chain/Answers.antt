@@ -1,10 +1,4 @@
-use lib.ListN.{length}
-use Rattle.records.specs.Lists.{firsts}
-use Rattle.records.specs.Store.{chain_in}
-use Rattle.records.specs.View.{cells_view}
-use Rattle.records.specs.Index.{bucket_of}
-use Rattle.records.proofs.Refines.IndexBuckets.{Adding, chain-start, chain-shorter, chain-turn, chain-done}
-use borrow.Author.Rules.{rules}
+use Rattle.records.proofs.Refines.IndexBuckets.{chain-start, chain-shorter, chain-turn, chain-done}
 use Rattle.records.proofs.index.bucket_of_chain.Goals as goal
 
 pub loop-b-init : goal.loop-b-init

@@ -3,8 +3,7 @@ use Rattle.records.specs.Lists.{firsts}
 use Rattle.records.specs.Store.{chain_in}
 use Rattle.records.specs.View.{cells_view}
 use Rattle.records.specs.Index.{bucket_of}
-use Rattle.records.proofs.Refines.IndexBuckets.{Adding, chain-start, chain-shorter, chain-turn, chain-done}
-use borrow.Author.Rules.{rules}
+use Rattle.records.proofs.Refines.IndexBuckets.{Adding}
 use Rattle.records.proofs.index.bucket_of_chain.Given as goal
 
 abbrev pub invariant-loop-b : goal.invariant-loop-b

@@ -1,12 +1,6 @@
-use Rattle.records.proofs.Refines.IndexBuckets.{JoinedFrom, bucket-low, joined-start, joined-within, joined-turn, joined-done}
-use Rattle.records.specs.Index.{bucket_of}
-use Rattle.records.specs.View.{text_at}
-use Rattle.records.specs.Lists.{concat_map}
+use Rattle.records.proofs.Refines.IndexBuckets.{bucket-low, joined-start, joined-within, joined-turn, joined-done}
 use mathlib.Core.Path.{◌∙◌}
-use lib.ListN.{length}
-use Prim.Native.Nat.{◌-◌}
 use native.Mathlib.Omega.{arith}
-use borrow.Author.Rules.{rules}
 use Rattle.records.proofs.index.bucket_of_joined.Goals as goal
 
 pub loop-i-init : goal.loop-i-init

@@ -1,12 +1,9 @@
-use Rattle.records.proofs.Refines.IndexBuckets.{JoinedFrom, bucket-low, joined-start, joined-within, joined-turn, joined-done}
+use Rattle.records.proofs.Refines.IndexBuckets.{JoinedFrom}
 use Rattle.records.specs.Index.{bucket_of}
 use Rattle.records.specs.View.{text_at}
 use Rattle.records.specs.Lists.{concat_map}
-use mathlib.Core.Path.{◌∙◌}
 use lib.ListN.{length}
 use Prim.Native.Nat.{◌-◌}
-use native.Mathlib.Omega.{arith}
-use borrow.Author.Rules.{rules}
 use Rattle.records.proofs.index.bucket_of_joined.Given as goal
 
 abbrev pub invariant-loop-i : goal.invariant-loop-i

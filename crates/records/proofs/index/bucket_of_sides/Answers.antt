@@ -2,7 +2,6 @@ use Prim.Native.Nat.{ℕ, ◌%◌}
 use mathlib.Core.Path.{ap}
 use Rattle.records.proofs.Refines.IndexBuckets.{sides-added}
 use native.Mathlib.Omega.{arith}
-use borrow.Author.Rules.{rules}
 use Rattle.records.proofs.index.bucket_of_sides.Goals as goal
 
 pub added-requires : goal.added-requires

@@ -2,7 +2,6 @@ use Rattle.records.proofs.Refines.IndexBuckets.{text-within, constant-bucket, va
 use Rattle.records.proofs.Lists.{within-is}
 use mathlib.Core.Path.{◌∙◌}
 use native.Mathlib.Omega.{arith}
-use borrow.Author.Rules.{rules}
 use Rattle.records.proofs.index.bucket_of_term.Goals as goal
 
 pub bucket_of_text-requires : goal.bucket_of_text-requires

@@ -1,5 +1,4 @@
 use Rattle.records.proofs.Refines.IndexBuckets.{text-bucket}
-use borrow.Author.Rules.{rules}
 use Rattle.records.proofs.index.bucket_of_text.Goals as goal
 
 pub returns : goal.returns

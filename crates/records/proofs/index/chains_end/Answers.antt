@@ -1,15 +1,6 @@
-use mathlib.Core.Path.{◌≡◌}
-use mathlib.Core.Bool.{true}
-use Prim.Native.Nat.{◌-◌, ◌≤◌}
-use lib.ListN.{get_or}
-use lib.Dec.{eqb}
-use Rattle.records.specs.Lists.{all_below}
-use Rattle.records.specs.View.{buckets}
-use Rattle.records.specs.Working.Indexing.{word_after}
 use Rattle.records.proofs.Lists.{below-zero}
 use Rattle.records.proofs.Refines.IndexReads.{end-not, end-turn, end-all}
 use native.Mathlib.Omega.{arith}
-use borrow.Author.Rules.{rules}
 use Rattle.records.proofs.index.chains_end.Goals as goal
 
 pub loop-b-init : goal.loop-b-init

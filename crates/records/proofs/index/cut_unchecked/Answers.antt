@@ -1,8 +1,5 @@
-use Prim.Native.Nat.{◌-◌, ◌≤◌}
-use Rattle.records.specs.View.{buckets}
-use Rattle.records.proofs.Refines.IndexCuts.{Cutting, cutting_none, cutting_head, cutting_ninth, cut-done}
+use Rattle.records.proofs.Refines.IndexCuts.{cutting_none, cutting_head, cutting_ninth, cut-done}
 use native.Mathlib.Omega.{arith}
-use borrow.Author.Rules.{rules}
 use Rattle.records.proofs.index.cut_unchecked.Goals as goal
 
 pub loop-b-init : goal.loop-b-init

@@ -1,8 +1,6 @@
 use Prim.Native.Nat.{◌-◌, ◌≤◌}
 use Rattle.records.specs.View.{buckets}
-use Rattle.records.proofs.Refines.IndexCuts.{Cutting, cutting_none, cutting_head, cutting_ninth, cut-done}
-use native.Mathlib.Omega.{arith}
-use borrow.Author.Rules.{rules}
+use Rattle.records.proofs.Refines.IndexCuts.{Cutting}
 use Rattle.records.proofs.index.cut_unchecked.Given as goal
 
 abbrev pub invariant-loop-b : goal.invariant-loop-b

@@ -1,7 +1,6 @@
 use lib.ListN.{length-set}
 use Rattle.records.proofs.Refines.IndexCuts.{word_cut, word-left}
 use native.Mathlib.Omega.{arith}
-use borrow.Author.Rules.{rules}
 use Rattle.records.proofs.index.cut_word.Goals as goal
 
 pub shape_of-terms : goal.shape_of-terms

@@ -1,6 +1,5 @@
-use Rattle.records.proofs.Refines.IndexWalks.{end-inside, EndWalk, to_meet, end-from, end-fewer, end-next, end-reached}
+use Rattle.records.proofs.Refines.IndexWalks.{end-inside, end-from, end-fewer, end-next, end-reached}
 use native.Mathlib.Omega.{arith}
-use borrow.Author.Rules.{rules}
 use Rattle.records.proofs.index.end_of.Goals as goal
 
 pub loop-t-init : goal.loop-t-init

@@ -1,6 +1,4 @@
-use Rattle.records.proofs.Refines.IndexWalks.{end-inside, EndWalk, to_meet, end-from, end-fewer, end-next, end-reached}
-use native.Mathlib.Omega.{arith}
-use borrow.Author.Rules.{rules}
+use Rattle.records.proofs.Refines.IndexWalks.{EndWalk, to_meet}
 use Rattle.records.proofs.index.end_of.Given as goal
 
 abbrev pub invariant-loop-t : goal.invariant-loop-t

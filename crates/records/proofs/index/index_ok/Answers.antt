@@ -2,7 +2,6 @@ use Rattle.records.proofs.Refines.IndexReads.{none-met, index-not, index_is}
 use Rattle.records.proofs.Lists.{table-length}
 use Rattle.records.specs.View.{records_in, term_at}
 use Prim.Native.Nat.{suc}
-use borrow.Author.Rules.{rules}
 use Rattle.records.proofs.index.index_ok.Goals as goal
 
 pub terms_linked-requires : goal.terms_linked-requires

@@ -1,6 +1,5 @@
 use mathlib.Core.Path.{sym, ◌∙◌}
 use Rattle.records.proofs.IndexLinks.{after_none, after-some}
-use borrow.Author.Rules.{rules}
 use Rattle.records.proofs.index.word_after.Goals as goal
 
 pub returns-then-t-eq0 : goal.returns-then-t-eq0

@@ -1,7 +1,6 @@
 use mathlib.Core.Path.{refl}
 use Rattle.records.proofs.Refines.Making.{text-long, text-full, text-made, walk-to, long-limit, long-room, one-limit, one-room, next-limit}
 use native.Mathlib.Omega.{arith}
-use borrow.Author.Rules.{rules}
 use Rattle.records.proofs.make.append_text.Goals as goal
 
 pub returns-then-not-text_fits : goal.returns-then-not-text_fits

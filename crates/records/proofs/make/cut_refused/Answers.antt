@@ -1,7 +1,6 @@
 use Rattle.records.proofs.Public.{handed_on, handed_cut}
 use Rattle.records.specs.Working.Doing.{unmade}
 use mathlib.Core.Path.{refl}
-use borrow.Author.Rules.{rules}
 use Rattle.records.proofs.make.cut_refused.Goals as goal
 
 pub returns-in-Term : goal.returns-in-Term

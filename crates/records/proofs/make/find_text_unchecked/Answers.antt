@@ -1,5 +1,4 @@
 use Rattle.records.proofs.IndexLaws.{search_walkable, search_first}
-use borrow.Author.Rules.{rules}
 use Rattle.records.proofs.make.find_text_unchecked.Goals as goal
 
 pub walk_text-requires : goal.walk_text-requires

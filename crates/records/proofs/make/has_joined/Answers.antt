@@ -1,6 +1,5 @@
 use Rattle.records.proofs.Refines.JoinConstants.{joined-other, joined-equal}
 use Rattle.records.proofs.Refines.Making.{other-kind}
-use borrow.Author.Rules.{rules}
 use Rattle.records.proofs.make.has_joined.Goals as goal
 
 pub returns-then-kind-ne1 : goal.returns-then-kind-ne1

@@ -1,5 +1,4 @@
 use Rattle.records.proofs.Refines.Making.{other-kind, other_length, same_kind}
-use borrow.Author.Rules.{rules}
 use Rattle.records.proofs.make.has_text.Goals as goal
 
 pub returns-then-kind-k : goal.returns-then-kind-k

@@ -3,7 +3,6 @@ use Rattle.records.proofs.Refines.Making.{text-found, text-new, text-long, text-
 use mathlib.Core.Path.{refl}
 use Rattle.records.specs.Store.{within}
 use native.Mathlib.Omega.{arith}
-use borrow.Author.Rules.{rules}
 use Rattle.records.proofs.make.join_constants_unchecked.Goals as goal
 
 pub bucket_of_joined-b-requires : goal.bucket_of_joined-b-requires

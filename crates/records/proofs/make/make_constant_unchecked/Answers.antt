@@ -1,7 +1,6 @@
 use Rattle.records.proofs.Refines.Making.{constant-made}
 use Rattle.records.specs.Store.{within}
 use mathlib.Core.Path.{refl}
-use borrow.Author.Rules.{rules}
 use Rattle.records.proofs.make.make_constant_unchecked.Goals as goal
 
 pub make_text-requires : goal.make_text-requires

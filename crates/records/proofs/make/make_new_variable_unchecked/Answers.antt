@@ -1,5 +1,4 @@
 use Rattle.records.proofs.Refines.Making.{name_kind, variable-new}
-use borrow.Author.Rules.{rules}
 use Rattle.records.proofs.make.make_new_variable_unchecked.Goals as goal
 
 pub append_text-requires : goal.append_text-requires

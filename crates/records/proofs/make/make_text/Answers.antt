@@ -1,5 +1,4 @@
 use Rattle.records.proofs.Refines.Making.{text_searchable, text-found, text-new}
-use borrow.Author.Rules.{rules}
 use Rattle.records.proofs.make.make_text.Goals as goal
 
 pub find_text_unchecked-t-requires : goal.find_text_unchecked-t-requires

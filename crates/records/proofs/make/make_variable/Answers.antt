@@ -2,7 +2,6 @@ use Rattle.records.proofs.Refines.MakeCalls.{right_name, undone-made, variable_u
 use Rattle.records.proofs.Passed.{ready_of}
 use Rattle.records.proofs.Public.{cut-asked}
 use mathlib.Core.Path.{sym, ◌∙◌}
-use borrow.Author.Rules.{rules}
 use Rattle.records.proofs.make.make_variable.Goals as goal
 
 pub returns-then-k-ne0 : goal.returns-then-k-ne0

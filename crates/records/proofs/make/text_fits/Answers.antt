@@ -1,5 +1,4 @@
 use Rattle.records.proofs.Refines.Making.{text-over, text_test}
-use borrow.Author.Rules.{rules}
 use Rattle.records.proofs.make.text_fits.Goals as goal
 
 pub returns-then-n-k : goal.returns-then-n-k

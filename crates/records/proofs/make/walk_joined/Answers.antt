@@ -1,8 +1,4 @@
-use Rattle.records.proofs.Refines.IndexWalks.{Walking, to_meet, walk_from, walk-met, walk-fewer, walk-next, walk_none}
-use Rattle.records.specs.Working.Leaves.{has_text}
-use Rattle.records.specs.View.{text_at}
-use Rattle.records.specs.Lists.{concat_map}
-use borrow.Author.Rules.{rules}
+use Rattle.records.proofs.Refines.IndexWalks.{walk_from, walk-met, walk-fewer, walk-next, walk_none}
 use Rattle.records.proofs.make.walk_joined.Goals as goal
 
 pub loop-t-init : goal.loop-t-init

@@ -1,8 +1,7 @@
-use Rattle.records.proofs.Refines.IndexWalks.{Walking, to_meet, walk_from, walk-met, walk-fewer, walk-next, walk_none}
+use Rattle.records.proofs.Refines.IndexWalks.{Walking, to_meet}
 use Rattle.records.specs.Working.Leaves.{has_text}
 use Rattle.records.specs.View.{text_at}
 use Rattle.records.specs.Lists.{concat_map}
-use borrow.Author.Rules.{rules}
 use Rattle.records.proofs.make.walk_joined.Given as goal
 
 abbrev pub invariant-loop-t : goal.invariant-loop-t

@@ -1,6 +1,4 @@
-use Rattle.records.proofs.Refines.IndexWalks.{Walking, to_meet, walk_from, walk-met, walk-fewer, walk-next, walk_none}
-use Rattle.records.specs.Working.Leaves.{has_text}
-use borrow.Author.Rules.{rules}
+use Rattle.records.proofs.Refines.IndexWalks.{walk_from, walk-met, walk-fewer, walk-next, walk_none}
 use Rattle.records.proofs.make.walk_text.Goals as goal
 
 pub loop-t-init : goal.loop-t-init

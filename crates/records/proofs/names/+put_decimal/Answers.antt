@@ -1,5 +1,4 @@
 use Rattle.records.proofs.Naming.{decimal-none, decimal-one, decimal-more, decimal-room}
-use Rattle.std.proofs.Common.{arith}
 use Rattle.records.proofs.names.+put_decimal.Goals as goal
 
 pub returns-then-n-eq0 : goal.returns-then-n-eq0

@@ -1,8 +1,7 @@
-use Rattle.records.proofs.Naming.{Passed, passed_none, passed_one, free_here, free-none}
+use Rattle.records.proofs.Naming.{Passed}
 use Rattle.records.specs.Make.{name_limit}
 use Rattle.records.specs.View.{lent, store_of}
 use Prim.Native.Nat.{◌-◌}
-use borrow.Author.Rules.{rules}
 use Rattle.records.proofs.names.free_name.Given as goal
 
 abbrev pub invariant-loop-x : goal.invariant-loop-x

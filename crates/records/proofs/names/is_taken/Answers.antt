@@ -1,7 +1,6 @@
 use Rattle.records.proofs.Naming.{name_here, name_part, taken_is}
 use Rattle.records.proofs.Refines.Making.{name_searchable}
 use mathlib.Core.Path.{refl}
-use borrow.Author.Rules.{rules}
 use Rattle.records.proofs.names.is_taken.Goals as goal
 
 pub slice_bounds-name-end : goal.slice_bounds-name-end

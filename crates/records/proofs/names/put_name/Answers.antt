@@ -2,7 +2,6 @@ use mathlib.Core.Path.{◌∙◌}
 use Rattle.records.proofs.Naming.{name_put}
 use lib.ListN.{length-set}
 use native.Mathlib.Omega.{arith}
-use borrow.Author.Rules.{rules}
 use Rattle.records.proofs.names.put_name.Goals as goal
 
 pub bounds-name-1 : goal.bounds-name-1

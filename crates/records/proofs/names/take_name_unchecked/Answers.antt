@@ -1,5 +1,4 @@
 use Rattle.records.proofs.Naming.{name_taken, name_spent}
-use borrow.Author.Rules.{rules}
 use Rattle.records.proofs.names.take_name_unchecked.Goals as goal
 
 pub returns-then-x-lt-NAME_LIMIT : goal.returns-then-x-lt-NAME_LIMIT

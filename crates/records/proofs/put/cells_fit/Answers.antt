@@ -1,5 +1,4 @@
 use Rattle.records.proofs.Refines.Rooms.{cells_test, cells-none}
-use borrow.Author.Rules.{rules}
 use Rattle.records.proofs.put.cells_fit.Goals as goal
 
 pub returns-then-k-n : goal.returns-then-k-n

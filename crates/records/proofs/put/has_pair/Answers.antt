@@ -1,12 +1,5 @@
 use Rattle.records.proofs.Lists.{any-zero, any-turn, any-stop, any-done}
-use Rattle.records.specs.Make.{same_pair}
-use Rattle.records.specs.View.{pairs_view}
-use Rattle.records.specs.Lists.{any}
-use Prim.Native.Nat.{◌≤◌, ◌-◌}
-use mathlib.Core.Bool.{false}
-use mathlib.Core.Path.{◌≡◌}
 use native.Mathlib.Omega.{arith}
-use borrow.Author.Rules.{rules}
 use Rattle.records.proofs.put.has_pair.Goals as goal
 
 pub loop-i-init : goal.loop-i-init

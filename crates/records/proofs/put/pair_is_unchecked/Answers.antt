@@ -1,5 +1,4 @@
 use Rattle.records.proofs.Refines.Adds.{pair_same, pair-other}
-use borrow.Author.Rules.{rules}
 use Rattle.records.proofs.put.pair_is_unchecked.Goals as goal
 
 pub returns-then-b-pairs : goal.returns-then-b-pairs

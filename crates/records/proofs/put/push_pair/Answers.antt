@@ -1,7 +1,6 @@
 use Rattle.records.proofs.Refines.Puts.{pair_put}
 use lib.ListN.{length-set}
 use native.Mathlib.Omega.{arith}
-use borrow.Author.Rules.{rules}
 use Rattle.records.proofs.put.push_pair.Goals as goal
 
 pub bounds-pairs-n-2 : goal.bounds-pairs-n-2

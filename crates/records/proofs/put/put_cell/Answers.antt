@@ -1,7 +1,6 @@
 use Rattle.records.proofs.Refines.Puts.{cell-put}
 use lib.ListN.{length-set}
 use native.Mathlib.Omega.{arith}
-use borrow.Author.Rules.{rules}
 use Rattle.records.proofs.put.put_cell.Goals as goal
 
 pub bounds-cells-at-2 : goal.bounds-cells-at-2

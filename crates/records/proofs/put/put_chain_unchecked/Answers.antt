@@ -1,7 +1,4 @@
-use Rattle.records.proofs.Refines.Puts.{Chained, chained-none, chained-turn, chained-end, chain-empty}
-use lib.ListN.{length}
-use Prim.Native.Nat.{◌≤◌, ◌-◌, ◌+◌}
-use mathlib.Core.Path.{◌≡◌}
+use Rattle.records.proofs.Refines.Puts.{chained-none, chained-turn, chained-end, chain-empty}
 use native.Mathlib.Omega.{arith}
 use borrow.Author.Rules.{rules}
 use Rattle.records.proofs.put.put_chain_unchecked.Goals as goal

@@ -1,9 +1,7 @@
-use Rattle.records.proofs.Refines.Puts.{Chained, chained-none, chained-turn, chained-end, chain-empty}
+use Rattle.records.proofs.Refines.Puts.{Chained}
 use lib.ListN.{length}
 use Prim.Native.Nat.{◌≤◌, ◌-◌, ◌+◌}
 use mathlib.Core.Path.{◌≡◌}
-use native.Mathlib.Omega.{arith}
-use borrow.Author.Rules.{rules}
 use Rattle.records.proofs.put.put_chain_unchecked.Given as goal
 
 abbrev pub invariant-loop-i : goal.invariant-loop-i

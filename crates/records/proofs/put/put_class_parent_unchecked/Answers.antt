@@ -1,5 +1,4 @@
 use Rattle.records.proofs.Refines.Puts.{class-set}
-use borrow.Author.Rules.{rules}
 use Rattle.records.proofs.put.put_class_parent_unchecked.Goals as goal
 
 pub returns : goal.returns

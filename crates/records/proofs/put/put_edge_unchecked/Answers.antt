@@ -1,7 +1,6 @@
 use lib.ListN.{length-set}
 use Rattle.records.proofs.Refines.Puts.{edge-set}
 use native.Mathlib.Omega.{arith}
-use borrow.Author.Rules.{rules}
 use Rattle.records.proofs.put.put_edge_unchecked.Goals as goal
 
 pub bounds-terms-at-2 : goal.bounds-terms-at-2

@@ -1,5 +1,4 @@
 use Rattle.records.proofs.Refines.Puts.{term-put}
-use borrow.Author.Rules.{rules}
 use Rattle.records.proofs.put.put_term_unchecked.Goals as goal
 
 pub returns : goal.returns

@@ -1,5 +1,4 @@
 use Rattle.records.proofs.Refines.Rooms.{term_test, term-over}
-use borrow.Author.Rules.{rules}
 use Rattle.records.proofs.put.term_fits.Goals as goal
 
 pub returns-then-n-lt-TERM_LIMIT : goal.returns-then-n-lt-TERM_LIMIT

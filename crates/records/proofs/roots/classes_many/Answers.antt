@@ -1,14 +1,9 @@
-use mathlib.Core.Bool.{true}
-use mathlib.Core.Path.{◌≡◌}
-use Prim.Native.Nat.{suc, ◌-◌, ◌≤◌}
-use Rattle.records.specs.Lists.{all_below}
+use Prim.Native.Nat.{suc}
 use Rattle.records.specs.Working.Leaves.{class_test}
-use Rattle.records.specs.Working.ClimbEnds.{Kept}
 use Rattle.records.proofs.ClimbEnds.{kept-none}
 use Rattle.records.specs.View.{term_at, termed}
 use Rattle.records.proofs.Lists.{each-stop, each_turn, each-done, below-zero, within-is}
 use native.Mathlib.Omega.{arith}
-use borrow.Author.Rules.{rules}
 use Rattle.records.proofs.roots.classes_many.Goals as goal
 
 pub loop-i-init : goal.loop-i-init

@@ -4,11 +4,7 @@ use Prim.Native.Nat.{suc, ◌-◌, ◌≤◌}
 use Rattle.records.specs.Lists.{all_below}
 use Rattle.records.specs.Working.Leaves.{class_test}
 use Rattle.records.specs.Working.ClimbEnds.{Kept}
-use Rattle.records.proofs.ClimbEnds.{kept-none}
-use Rattle.records.specs.View.{term_at, termed}
-use Rattle.records.proofs.Lists.{each-stop, each_turn, each-done, below-zero, within-is}
-use native.Mathlib.Omega.{arith}
-use borrow.Author.Rules.{rules}
+use Rattle.records.specs.View.{termed}
 use Rattle.records.proofs.roots.classes_many.Given as goal
 
 abbrev pub invariant-loop-i : goal.invariant-loop-i

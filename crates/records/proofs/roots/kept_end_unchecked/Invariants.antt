@@ -1,10 +1,7 @@
-use Rattle.records.proofs.Climbs.{Climbing, climbing_begin, climbing_turn, climbing_here, climbing_done, view_up}
-use Rattle.records.proofs.ClimbEnds.{term_place_lem, climbing_kept}
+use Rattle.records.proofs.Climbs.{Climbing}
 use Rattle.records.specs.View.{terms_view}
 use Rattle.records.specs.Working.Leaves.{up_in}
 use Prim.Native.Nat.{◌-◌}
-use native.Mathlib.Omega.{arith}
-use borrow.Author.Rules.{rules}
 use Rattle.records.proofs.roots.kept_end_unchecked.Given as goal
 
 abbrev pub invariant-loop-i : goal.invariant-loop-i

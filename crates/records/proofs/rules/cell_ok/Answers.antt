@@ -1,7 +1,6 @@
 use Rattle.records.proofs.Lists.{table-length}
 use Rattle.records.proofs.Views.{next_at_lem}
 use Rattle.records.proofs.Refines.RuleLaws.{cell-ends, cell-back, cell_test}
-use borrow.Author.Rules.{rules}
 use Rattle.records.proofs.rules.cell_ok.Goals as goal
 
 pub returns-then-next-eq0 : goal.returns-then-next-eq0

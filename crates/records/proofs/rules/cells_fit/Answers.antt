@@ -1,5 +1,4 @@
 use Rattle.records.proofs.Refines.RuleLaws.{limit-past, limit_is}
-use borrow.Author.Rules.{rules}
 use Rattle.records.proofs.rules.cells_fit.Goals as goal
 
 pub returns-then-n-gt-CELL_LIMIT : goal.returns-then-n-gt-CELL_LIMIT

@@ -2,12 +2,8 @@ use mathlib.Core.List.{[]}
 use Rattle.records.proofs.Lists.{within-is, below-zero, each-stop, each_turn, each-done}
 use Rattle.records.specs.Rules.{cell_rule}
 use Rattle.records.specs.View.{lent, store_of, cell_at}
-use Rattle.records.specs.Lists.{all_below}
-use Prim.Native.Nat.{suc, ◌-◌, ◌≤◌}
-use mathlib.Core.Bool.{true}
-use mathlib.Core.Path.{◌≡◌}
+use Prim.Native.Nat.{suc}
 use native.Mathlib.Omega.{arith}
-use borrow.Author.Rules.{rules}
 use Rattle.records.proofs.rules.cells_ok.Goals as goal
 
 pub loop-i-init : goal.loop-i-init

@@ -1,13 +1,10 @@
 use mathlib.Core.List.{[]}
-use Rattle.records.proofs.Lists.{within-is, below-zero, each-stop, each_turn, each-done}
 use Rattle.records.specs.Rules.{cell_rule}
-use Rattle.records.specs.View.{lent, store_of, cell_at}
+use Rattle.records.specs.View.{lent, store_of}
 use Rattle.records.specs.Lists.{all_below}
 use Prim.Native.Nat.{suc, ◌-◌, ◌≤◌}
 use mathlib.Core.Bool.{true}
 use mathlib.Core.Path.{◌≡◌}
-use native.Mathlib.Omega.{arith}
-use borrow.Author.Rules.{rules}
 use Rattle.records.proofs.rules.cells_ok.Given as goal
 
 abbrev pub invariant-loop-i : goal.invariant-loop-i

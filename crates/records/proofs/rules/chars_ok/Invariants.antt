@@ -1,12 +1,9 @@
-use Rattle.records.proofs.Lists.{below-zero, table-stop, below-turn, table_done}
 use Rattle.records.specs.Rules.{is_char}
 use Rattle.records.specs.Lists.{all_below}
 use lib.ListN.{get_or}
 use Prim.Native.Nat.{◌-◌, ◌≤◌}
 use mathlib.Core.Bool.{true}
-use mathlib.Core.Path.{◌≡◌, ◌∙◌, ap}
-use native.Mathlib.Omega.{arith}
-use borrow.Author.Rules.{rules}
+use mathlib.Core.Path.{◌≡◌}
 use Rattle.records.proofs.rules.chars_ok.Given as goal
 
 abbrev pub invariant-loop-i : goal.invariant-loop-i

@@ -1,6 +1,5 @@
 use Rattle.records.proofs.Refines.RuleLaws.{concat_second_lem, concat-is}
 use Rattle.records.proofs.Views.{first-at, second_at}
-use borrow.Author.Rules.{rules}
 use Rattle.records.proofs.rules.concat_ok.Goals as goal
 
 pub returns-then-o-ne0 : goal.returns-then-o-ne0

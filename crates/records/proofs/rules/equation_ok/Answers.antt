@@ -1,6 +1,5 @@
 use Rattle.records.proofs.Views.{first-at, second_at}
 use Rattle.records.proofs.Refines.RuleLaws.{equation_first_lem, equation_second_lem, equation-is}
-use borrow.Author.Rules.{rules}
 use Rattle.records.proofs.rules.equation_ok.Goals as goal
 
 pub returns-then-t-a : goal.returns-then-t-a

@@ -1,5 +1,4 @@
 use Rattle.records.proofs.Refines.RuleLaws.{equatable_strings, equatable_none, equatable_lengths}
-use borrow.Author.Rules.{rules}
 use Rattle.records.proofs.rules.is_equatable.Goals as goal
 
 pub returns-then-is_string : goal.returns-then-is_string

@@ -1,15 +1,6 @@
 use Rattle.records.proofs.Refines.BuildCalls.{list-long, list-stop, list_done}
 use Rattle.records.proofs.Lists.{below-zero, below-turn}
-use Rattle.records.specs.View.{lent, store_of}
-use Rattle.records.specs.Store.{is_string}
-use Rattle.records.specs.Lists.{all_below}
-use lib.ListN.{length, get_or}
-use Prim.Native.Nat.{◌-◌, ◌≤◌}
-use mathlib.Core.List.{[]}
-use mathlib.Core.Bool.{true}
-use mathlib.Core.Path.{◌≡◌}
 use native.Mathlib.Omega.{arith}
-use borrow.Author.Rules.{rules}
 use Rattle.records.proofs.rules.is_list.Goals as goal
 
 pub returns-then-l-gt-LIST_LIMIT : goal.returns-then-l-gt-LIST_LIMIT

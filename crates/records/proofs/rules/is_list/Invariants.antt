@@ -1,5 +1,3 @@
-use Rattle.records.proofs.Refines.BuildCalls.{list-long, list-stop, list_done}
-use Rattle.records.proofs.Lists.{below-zero, below-turn}
 use Rattle.records.specs.View.{lent, store_of}
 use Rattle.records.specs.Store.{is_string}
 use Rattle.records.specs.Lists.{all_below}
@@ -8,8 +6,6 @@ use Prim.Native.Nat.{◌-◌, ◌≤◌}
 use mathlib.Core.List.{[]}
 use mathlib.Core.Bool.{true}
 use mathlib.Core.Path.{◌≡◌}
-use native.Mathlib.Omega.{arith}
-use borrow.Author.Rules.{rules}
 use Rattle.records.proofs.rules.is_list.Given as goal
 
 abbrev pub invariant-loop-i : goal.invariant-loop-i

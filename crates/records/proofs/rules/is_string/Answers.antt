@@ -1,5 +1,4 @@
 use Rattle.records.proofs.Refines.RuleLaws.{string-none, string-is}
-use borrow.Author.Rules.{rules}
 use Rattle.records.proofs.rules.is_string.Goals as goal
 
 pub returns-then-k-eq0 : goal.returns-then-k-eq0

@@ -1,5 +1,4 @@
 use Rattle.records.proofs.Refines.RuleLaws.{within_none, within_test}
-use borrow.Author.Rules.{rules}
 use Rattle.records.proofs.rules.is_within.Goals as goal
 
 pub returns-then-t-eq0 : goal.returns-then-t-eq0

@@ -1,5 +1,4 @@
 use Rattle.records.proofs.Refines.RuleLaws.{key_order, key_first, key_is}
-use borrow.Author.Rules.{rules}
 use Rattle.records.proofs.rules.key_ok.Goals as goal
 
 pub returns-then-b-a : goal.returns-then-b-a

@@ -1,5 +1,4 @@
 use Rattle.records.proofs.Refines.RuleLaws.{kind-none, kind-past, kind_is}
-use borrow.Author.Rules.{rules}
 use Rattle.records.proofs.rules.kind_of.Goals as goal
 
 pub returns-then-t-eq0 : goal.returns-then-t-eq0

@@ -1,6 +1,5 @@
 use Rattle.records.proofs.Views.{first-at, second_at}
 use Rattle.records.proofs.Refines.RuleLaws.{length_second_lem, length_upper, length_is_lem}
-use borrow.Author.Rules.{rules}
 use Rattle.records.proofs.rules.length_ok.Goals as goal
 
 pub returns-then-o-ne0 : goal.returns-then-o-ne0

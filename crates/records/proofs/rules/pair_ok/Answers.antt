@@ -1,5 +1,4 @@
 use Rattle.records.proofs.Refines.RuleLaws.{pair_key, pair_reason}
-use borrow.Author.Rules.{rules}
 use Rattle.records.proofs.rules.pair_ok.Goals as goal
 
 pub returns-then-key : goal.returns-then-key

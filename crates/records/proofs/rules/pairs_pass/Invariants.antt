@@ -1,13 +1,9 @@
-use Rattle.records.proofs.Refines.RuleLaws.{pair_test}
-use Rattle.records.proofs.Lists.{below-zero, table-stop, below-turn, table_done}
 use Rattle.records.specs.View.{termed, pair_at}
 use Rattle.records.specs.Working.Leaves.{pair_rule}
 use Rattle.records.specs.Lists.{all_below}
 use Prim.Native.Nat.{◌-◌, ◌≤◌}
 use mathlib.Core.Bool.{true}
 use mathlib.Core.Path.{◌≡◌}
-use native.Mathlib.Omega.{arith}
-use borrow.Author.Rules.{rules}
 use Rattle.records.proofs.rules.pairs_pass.Given as goal
 
 abbrev pub invariant-loop-i : goal.invariant-loop-i

@@ -1,6 +1,5 @@
 use Rattle.records.proofs.Views.{value-at, other_at}
 use Rattle.records.proofs.Refines.RuleLaws.{part-other, part_upper, part-is}
-use borrow.Author.Rules.{rules}
 use Rattle.records.proofs.rules.part_ok.Goals as goal
 
 pub returns-then-o-ne0 : goal.returns-then-o-ne0

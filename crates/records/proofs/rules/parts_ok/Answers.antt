@@ -1,7 +1,5 @@
-use Rattle.records.proofs.Refines.RuleLaws.{Walked, walk_start, walk_over, walk_end, walk_stop, walk_turn}
+use Rattle.records.proofs.Refines.RuleLaws.{walk_start, walk_over, walk_end, walk_stop, walk_turn}
 use Rattle.records.proofs.Lists.{passed}
-use Prim.Native.Nat.{◌-◌}
-use borrow.Author.Rules.{rules}
 use Rattle.records.proofs.rules.parts_ok.Goals as goal
 
 pub loop-i-init : goal.loop-i-init

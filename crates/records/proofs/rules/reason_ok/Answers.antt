@@ -1,5 +1,4 @@
 use Rattle.records.proofs.Refines.RuleLaws.{reason_is, reason_low, reason_high}
-use borrow.Author.Rules.{rules}
 use Rattle.records.proofs.rules.reason_ok.Goals as goal
 
 pub returns-in-1 : goal.returns-in-1

@@ -1,5 +1,4 @@
 use Rattle.records.proofs.Refines.TermLaws.{records_terms, records_cells, records_chars, records_reasons, records_is}
-use borrow.Author.Rules.{rules}
 use Rattle.records.proofs.rules.records_ok.Goals as goal
 
 pub returns-then-not-terms_ok : goal.returns-then-not-terms_ok

@@ -1,5 +1,4 @@
 use Rattle.records.proofs.Refines.RuleLaws.{sizes-terms, sizes-cells, sizes-chars, sizes-reasons, sizes-is}
-use borrow.Author.Rules.{rules}
 use Rattle.records.proofs.rules.sizes.Goals as goal
 
 pub returns-then-not-terms_fit : goal.returns-then-not-terms_fit

@@ -6,7 +6,6 @@ use Rattle.records.proofs.Refines.TermLaws.{term-constant, term-variable, term-c
 use Rattle.records.proofs.Refines.NameLaws.{text_anywhere, passing-not, passing-other}
 use mathlib.Core.List.{[]}
 use native.Mathlib.Omega.{arith}
-use borrow.Author.Rules.{rules}
 use Rattle.records.proofs.rules.term_ok.Goals as goal
 
 pub variable_ok-requires : goal.variable_ok-requires

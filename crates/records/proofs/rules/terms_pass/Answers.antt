@@ -1,12 +1,8 @@
 use borrow.Author.Tests.{not-false}
-use mathlib.Core.Path.{◌≡◌, refl}
-use mathlib.Core.Bool.{true}
-use Prim.Native.Nat.{suc, ◌+◌, ◌-◌, ◌≤◌}
-use lib.ListN.{length}
-use Rattle.records.specs.Lists.{all_below}
+use mathlib.Core.Path.{refl}
+use Prim.Native.Nat.{suc}
 use Rattle.records.specs.View.{lent, store_of, term_at}
 use Rattle.records.specs.Rules.{term_rule}
-use Rattle.records.specs.Working.Hashes.{Tables}
 use Rattle.records.proofs.Lists.{within-is, below-zero, each-stop, each_turn, each-done}
 use Rattle.records.proofs.Refines.NameLaws.{tables_start}
 use mathlib.Core.List.{[]}

@@ -1,17 +1,12 @@
-use borrow.Author.Tests.{not-false}
-use mathlib.Core.Path.{◌≡◌, refl}
+use mathlib.Core.Path.{◌≡◌}
 use mathlib.Core.Bool.{true}
 use Prim.Native.Nat.{suc, ◌+◌, ◌-◌, ◌≤◌}
 use lib.ListN.{length}
 use Rattle.records.specs.Lists.{all_below}
-use Rattle.records.specs.View.{lent, store_of, term_at}
+use Rattle.records.specs.View.{lent, store_of}
 use Rattle.records.specs.Rules.{term_rule}
 use Rattle.records.specs.Working.Hashes.{Tables}
-use Rattle.records.proofs.Lists.{within-is, below-zero, each-stop, each_turn, each-done}
-use Rattle.records.proofs.Refines.NameLaws.{tables_start}
 use mathlib.Core.List.{[]}
-use native.Mathlib.Omega.{arith}
-use borrow.Author.Rules.{rules}
 use Rattle.records.proofs.rules.terms_pass.Given as goal
 
 abbrev pub invariant-loop-i : goal.invariant-loop-i

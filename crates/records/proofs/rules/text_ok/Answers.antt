@@ -1,7 +1,6 @@
 use Rattle.records.proofs.Lists.{table-length}
 use Rattle.records.proofs.Views.{first-at, second_at}
 use Rattle.records.proofs.Refines.RuleLaws.{text_test}
-use borrow.Author.Rules.{rules}
 use Rattle.records.proofs.rules.text_ok.Goals as goal
 
 pub returns : goal.returns

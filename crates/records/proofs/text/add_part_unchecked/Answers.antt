@@ -1,6 +1,5 @@
 use Rattle.records.proofs.Refines.JoinedTexts.{part-below, part_room, part-added}
 use native.Mathlib.Omega.{arith}
-use borrow.Author.Rules.{rules}
 use Rattle.records.proofs.text.add_part_unchecked.Goals as goal
 
 pub overflow_add-to : goal.overflow_add-to

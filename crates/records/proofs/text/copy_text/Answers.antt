@@ -1,8 +1,5 @@
 use Rattle.records.proofs.Refines.JoinedTexts.{moved-one, moved_all}
-use Rattle.records.proofs.Refines.Texts.{Copied, copied_none}
-use Rattle.records.specs.View.{span}
-use Prim.Native.Nat.{◌-◌}
-use borrow.Author.Rules.{rules}
+use Rattle.records.proofs.Refines.Texts.{copied_none}
 use Rattle.records.proofs.text.copy_text.Goals as goal
 
 pub loop-i-init : goal.loop-i-init

@@ -1,8 +1,6 @@
-use Rattle.records.proofs.Refines.JoinedTexts.{moved-one, moved_all}
-use Rattle.records.proofs.Refines.Texts.{Copied, copied_none}
+use Rattle.records.proofs.Refines.Texts.{Copied}
 use Rattle.records.specs.View.{span}
 use Prim.Native.Nat.{◌-◌}
-use borrow.Author.Rules.{rules}
 use Rattle.records.proofs.text.copy_text.Given as goal
 
 abbrev pub invariant-loop-i : goal.invariant-loop-i

@@ -1,8 +1,5 @@
-use Rattle.records.proofs.Refines.JoinedTexts.{Matched, matched-none, matched-one, matched-stop, matched-all, within-at}
-use lib.ListN.{length}
-use Prim.Native.Nat.{◌-◌}
+use Rattle.records.proofs.Refines.JoinedTexts.{matched-none, matched-one, matched-stop, matched-all, within-at}
 use native.Mathlib.Omega.{arith}
-use borrow.Author.Rules.{rules}
 use Rattle.records.proofs.text.joined_is_unchecked.Goals as goal
 
 pub loop-i-init : goal.loop-i-init

@@ -1,8 +1,6 @@
-use Rattle.records.proofs.Refines.JoinedTexts.{Matched, matched-none, matched-one, matched-stop, matched-all, within-at}
+use Rattle.records.proofs.Refines.JoinedTexts.{Matched}
 use lib.ListN.{length}
 use Prim.Native.Nat.{◌-◌}
-use native.Mathlib.Omega.{arith}
-use borrow.Author.Rules.{rules}
 use Rattle.records.proofs.text.joined_is_unchecked.Given as goal
 
 abbrev pub invariant-loop-i : goal.invariant-loop-i

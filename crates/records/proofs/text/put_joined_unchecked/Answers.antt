@@ -1,7 +1,4 @@
-use Rattle.records.proofs.Refines.JoinedTexts.{Joined, joined-none, joined-room, joined-one, joined-all}
-use lib.ListN.{length}
-use Prim.Native.Nat.{◌-◌}
-use borrow.Author.Rules.{rules}
+use Rattle.records.proofs.Refines.JoinedTexts.{joined-none, joined-room, joined-one, joined-all}
 use Rattle.records.proofs.text.put_joined_unchecked.Goals as goal
 
 pub loop-i-init : goal.loop-i-init

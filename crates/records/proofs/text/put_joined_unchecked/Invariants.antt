@@ -1,7 +1,6 @@
-use Rattle.records.proofs.Refines.JoinedTexts.{Joined, joined-none, joined-room, joined-one, joined-all}
+use Rattle.records.proofs.Refines.JoinedTexts.{Joined}
 use lib.ListN.{length}
 use Prim.Native.Nat.{◌-◌}
-use borrow.Author.Rules.{rules}
 use Rattle.records.proofs.text.put_joined_unchecked.Given as goal
 
 abbrev pub invariant-loop-i : goal.invariant-loop-i

@@ -1,9 +1,6 @@
-use Rattle.records.proofs.Refines.Texts.{Copied, copied_none, copied-one, copied_all}
+use Rattle.records.proofs.Refines.Texts.{copied_none, copied-one, copied_all}
 use mathlib.Core.Path.{refl}
-use lib.ListN.{length}
-use Prim.Native.Nat.{◌-◌}
 use native.Mathlib.Omega.{arith}
-use borrow.Author.Rules.{rules}
 use Rattle.records.proofs.text.put_text_unchecked.Goals as goal
 
 pub loop-i-init : goal.loop-i-init

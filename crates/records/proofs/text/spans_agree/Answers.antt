@@ -1,5 +1,4 @@
 use Rattle.records.proofs.Views.{agree-part}
-use borrow.Author.Rules.{rules}
 use Rattle.records.proofs.text.spans_agree.Goals as goal
 
 pub returns : goal.returns

@@ -1,8 +1,5 @@
-use Rattle.records.proofs.Refines.Texts.{Agreed, agreed_none, agreed_all, disagree, disagree_next, agreed_two, agreed_last}
-use lib.ListN.{length}
-use Prim.Native.Nat.{◌-◌}
+use Rattle.records.proofs.Refines.Texts.{agreed_none, agreed_all, disagree, disagree_next, agreed_two, agreed_last}
 use native.Mathlib.Omega.{arith}
-use borrow.Author.Rules.{rules}
 use Rattle.records.proofs.text.text_from.Goals as goal
 
 pub loop-i-init : goal.loop-i-init

@@ -1,8 +1,6 @@
-use Rattle.records.proofs.Refines.Texts.{Agreed, agreed_none, agreed_all, disagree, disagree_next, agreed_two, agreed_last}
+use Rattle.records.proofs.Refines.Texts.{Agreed}
 use lib.ListN.{length}
 use Prim.Native.Nat.{◌-◌}
-use native.Mathlib.Omega.{arith}
-use borrow.Author.Rules.{rules}
 use Rattle.records.proofs.text.text_from.Given as goal
 
 abbrev pub invariant-loop-i : goal.invariant-loop-i

@@ -1,8 +1,5 @@
-use Rattle.records.proofs.Refines.Texts.{Agreed, agreed_none, agreed_one, agreed_all, disagree}
+use Rattle.records.proofs.Refines.Texts.{agreed_none, agreed_one, agreed_all, disagree}
 use mathlib.Core.Path.{sym, ◌∙◌}
-use lib.ListN.{length}
-use Prim.Native.Nat.{◌-◌}
-use borrow.Author.Rules.{rules}
 use Rattle.records.proofs.text.text_past.Goals as goal
 
 pub loop-i-init : goal.loop-i-init

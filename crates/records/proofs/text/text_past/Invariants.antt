@@ -1,8 +1,6 @@
-use Rattle.records.proofs.Refines.Texts.{Agreed, agreed_none, agreed_one, agreed_all, disagree}
-use mathlib.Core.Path.{sym, ◌∙◌}
+use Rattle.records.proofs.Refines.Texts.{Agreed}
 use lib.ListN.{length}
 use Prim.Native.Nat.{◌-◌}
-use borrow.Author.Rules.{rules}
 use Rattle.records.proofs.text.text_past.Given as goal
 
 abbrev pub invariant-loop-i : goal.invariant-loop-i

@@ -1,6 +1,5 @@
 use mathlib.Core.Path.{◌∙◌}
 use Rattle.records.proofs.Refines.NameLaws.{named_other, named_test, name_ends, name_part}
-use borrow.Author.Rules.{rules}
 use Rattle.records.proofs.unique.is_named.Goals as goal
 
 pub returns-then-hashes-u : goal.returns-then-hashes-u

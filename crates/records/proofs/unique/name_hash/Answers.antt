@@ -1,6 +1,5 @@
 use mathlib.Core.Path.{◌∙◌}
 use Rattle.records.proofs.Refines.NameLaws.{name_ends, hash-is}
-use borrow.Author.Rules.{rules}
 use Rattle.records.proofs.unique.name_hash.Goals as goal
 
 pub text_hash-requires : goal.text_hash-requires

@@ -1,8 +1,6 @@
 use mathlib.Core.List.{[]}
 use Rattle.records.specs.View.{lent, store_of}
-use Rattle.records.proofs.Refines.NameLaws.{Walk, walk_start, walk-hashed, tables-room, walk_less, walk_turn, name_empty, name_taken, name_free}
-use native.Mathlib.Omega.{arith}
-use borrow.Author.Rules.{rules}
+use Rattle.records.proofs.Refines.NameLaws.{Walk}
 use Rattle.records.proofs.unique.name_ok.Given as goal
 
 abbrev pub invariant-loop-u : goal.invariant-loop-u

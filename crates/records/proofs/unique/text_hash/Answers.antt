@@ -1,11 +1,6 @@
 use Prim.Native.Nat.{◌+◌}
 use Rattle.records.proofs.Refines.NameLaws.{hash-none, hash-turn, hash-done}
-use Rattle.records.specs.Working.Hashes.{hash_from}
-use Rattle.records.specs.View.{span}
-use Prim.Native.Nat.{◌-◌, ◌≤◌, ◌<◌}
-use mathlib.Core.Path.{◌≡◌}
 use native.Mathlib.Omega.{arith}
-use borrow.Author.Rules.{rules}
 use Rattle.records.proofs.unique.text_hash.Goals as goal
 
 pub loop-i-init : goal.loop-i-init

@@ -2,7 +2,6 @@ use mathlib.Core.Path.{sym, ◌∙◌}
 use mathlib.Core.List.{[]}
 use Rattle.records.proofs.Lists.{and-stop, and-next, failed, passed}
 use Rattle.records.proofs.Refines.NameLaws.{variable-within, text_anywhere, tables-room, tables-keep, passing-not}
-use borrow.Author.Rules.{rules}
 use Rattle.records.proofs.unique.variable_ok.Goals as goal
 
 pub text_ok-requires : goal.text_ok-requires

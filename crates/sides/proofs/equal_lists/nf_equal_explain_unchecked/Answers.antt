@@ -1,5 +1,4 @@
 use Rattle.sides.proofs.Refines.Pairs.{front-pairs}
-use borrow.Author.Rules.{rules}
 use Rattle.sides.proofs.equal_lists.nf_equal_explain_unchecked.Goals as goal
 
 pub returns : goal.returns

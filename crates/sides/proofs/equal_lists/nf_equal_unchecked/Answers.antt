@@ -1,6 +1,5 @@
 use Rattle.sides.proofs.Refines.Stripping.{unequal-lengths, equal-counted}
 use Rattle.records.specs.View.{read_in}
-use borrow.Author.Rules.{rules}
 use Rattle.sides.proofs.equal_lists.nf_equal_unchecked.Goals as goal
 
 pub returns-then-lhs-rhs : goal.returns-then-lhs-rhs

@@ -1,7 +1,5 @@
-use lib.ListN.{length}
-use mathlib.Core.Path.{◌≡◌, refl, sym}
-use Rattle.sides.proofs.Refines.ExplainingEach.{Citing, citing-none, citing-end, citing-pair, citing-class, citing-refused, citing-turn}
-use Prim.Native.Nat.{◌-◌, ◌≤◌}
+use mathlib.Core.Path.{refl, sym}
+use Rattle.sides.proofs.Refines.ExplainingEach.{citing-none, citing-end, citing-pair, citing-class, citing-refused, citing-turn}
 use native.Mathlib.Omega.{arith}
 use borrow.Author.Rules.{rules}
 use Rattle.sides.proofs.explaining.explain_all_unchecked.Goals as goal

@@ -1,9 +1,7 @@
 use lib.ListN.{length}
-use mathlib.Core.Path.{◌≡◌, refl, sym}
-use Rattle.sides.proofs.Refines.ExplainingEach.{Citing, citing-none, citing-end, citing-pair, citing-class, citing-refused, citing-turn}
+use mathlib.Core.Path.{◌≡◌}
+use Rattle.sides.proofs.Refines.ExplainingEach.{Citing}
 use Prim.Native.Nat.{◌-◌, ◌≤◌}
-use native.Mathlib.Omega.{arith}
-use borrow.Author.Rules.{rules}
 use Rattle.sides.proofs.explaining.explain_all_unchecked.Given as goal
 
 abbrev pub invariant-loop-i : goal.invariant-loop-i

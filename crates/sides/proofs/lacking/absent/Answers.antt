@@ -2,7 +2,6 @@ use mathlib.Core.Path.{◌∙◌}
 use Prim.Native.Nat.{ℕ}
 use lib.ListN.{length-replicate}
 use Rattle.sides.proofs.Refines.LackingSides.{absent-not, absent-bare, absent-is}
-use borrow.Author.Rules.{rules}
 use Rattle.sides.proofs.lacking.absent.Goals as goal
 
 pub returns-then-not-is_fixed : goal.returns-then-not-is_fixed

@@ -1,5 +1,4 @@
 use Rattle.sides.proofs.Refines.LackingPlaces.{seen_here}
-use borrow.Author.Rules.{rules}
 use Rattle.sides.proofs.lacking.is_known.Goals as goal
 
 pub returns-then-table-i-ne0 : goal.returns-then-table-i-ne0

@@ -1,6 +1,4 @@
-use Rattle.sides.proofs.Refines.LackingPlaces.{Unseen, unseen_none, unseen_stop, unseen_one, unseen_done}
-use Prim.Native.Nat.{◌-◌}
-use borrow.Author.Rules.{rules}
+use Rattle.sides.proofs.Refines.LackingPlaces.{unseen_none, unseen_stop, unseen_one, unseen_done}
 use Rattle.sides.proofs.lacking.is_seen.Goals as goal
 
 pub loop-i-init : goal.loop-i-init

@@ -1,6 +1,5 @@
-use Rattle.sides.proofs.Refines.LackingPlaces.{Unseen, unseen_none, unseen_stop, unseen_one, unseen_done}
+use Rattle.sides.proofs.Refines.LackingPlaces.{Unseen}
 use Prim.Native.Nat.{◌-◌}
-use borrow.Author.Rules.{rules}
 use Rattle.sides.proofs.lacking.is_seen.Given as goal
 
 abbrev pub invariant-loop-i : goal.invariant-loop-i

@@ -1,5 +1,4 @@
 use Rattle.sides.proofs.Refines.LackingSides.{lack-atom-none, lack-atom-is, text-fits}
-use borrow.Author.Rules.{rules}
 use Rattle.sides.proofs.lacking.lacks_atom.Goals as goal
 
 pub returns-then-kind_of-ne1 : goal.returns-then-kind_of-ne1

@@ -1,9 +1,5 @@
-use Rattle.records.specs.View.{read_in}
-use Rattle.sides.proofs.Refines.LackingSides.{Found, found_none, found-stop, found-one, found-done}
-use lib.ListN.{length}
+use Rattle.sides.proofs.Refines.LackingSides.{found_none, found-stop, found-one, found-done}
 use mathlib.Core.Path.{◌∙◌}
-use Prim.Native.Nat.{◌-◌}
-use borrow.Author.Rules.{rules}
 use Rattle.sides.proofs.lacking.lacks_side.Goals as goal
 
 pub loop-i-init : goal.loop-i-init

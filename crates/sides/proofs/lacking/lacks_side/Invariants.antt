@@ -1,9 +1,7 @@
 use Rattle.records.specs.View.{read_in}
-use Rattle.sides.proofs.Refines.LackingSides.{Found, found_none, found-stop, found-one, found-done}
+use Rattle.sides.proofs.Refines.LackingSides.{Found}
 use lib.ListN.{length}
-use mathlib.Core.Path.{◌∙◌}
 use Prim.Native.Nat.{◌-◌}
-use borrow.Author.Rules.{rules}
 use Rattle.sides.proofs.lacking.lacks_side.Given as goal
 
 abbrev pub invariant-loop-i : goal.invariant-loop-i

@@ -1,6 +1,5 @@
-use Rattle.sides.proofs.Refines.LackingSides.{Looked, looked_none, looked_stop, looked_one, looked_done}
+use Rattle.sides.proofs.Refines.LackingSides.{Looked}
 use Prim.Native.Nat.{◌-◌}
-use borrow.Author.Rules.{rules}
 use Rattle.sides.proofs.lacking.lacks_text.Given as goal
 
 abbrev pub invariant-loop-j : goal.invariant-loop-j

@@ -1,5 +1,4 @@
 use Rattle.sides.proofs.Refines.LackingSides.{use_atom-none, use_atom-is, text-limit}
-use borrow.Author.Rules.{rules}
 use Rattle.sides.proofs.lacking.use_atom.Goals as goal
 
 pub returns-then-kind_of-ne1 : goal.returns-then-kind_of-ne1

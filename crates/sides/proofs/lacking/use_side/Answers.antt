@@ -1,8 +1,5 @@
-use Rattle.sides.proofs.Refines.LackingSides.{UsingSide, using_side_none, using_side_one, using_side_done}
-use lib.ListN.{length}
+use Rattle.sides.proofs.Refines.LackingSides.{using_side_none, using_side_one, using_side_done}
 use mathlib.Core.Path.{◌∙◌}
-use Prim.Native.Nat.{◌-◌}
-use borrow.Author.Rules.{rules}
 use Rattle.sides.proofs.lacking.use_side.Goals as goal
 
 pub loop-i-init : goal.loop-i-init

@@ -1,8 +1,6 @@
-use Rattle.sides.proofs.Refines.LackingSides.{UsingSide, using_side_none, using_side_one, using_side_done}
+use Rattle.sides.proofs.Refines.LackingSides.{UsingSide}
 use lib.ListN.{length}
-use mathlib.Core.Path.{◌∙◌}
 use Prim.Native.Nat.{◌-◌}
-use borrow.Author.Rules.{rules}
 use Rattle.sides.proofs.lacking.use_side.Given as goal
 
 abbrev pub invariant-loop-i : goal.invariant-loop-i

@@ -1,6 +1,4 @@
-use Rattle.sides.proofs.Refines.LackingPlaces.{Using, using_none, using_one, using_done}
-use Prim.Native.Nat.{◌-◌}
-use borrow.Author.Rules.{rules}
+use Rattle.sides.proofs.Refines.LackingPlaces.{using_none, using_one, using_done}
 use Rattle.sides.proofs.lacking.use_text.Goals as goal
 
 pub loop-j-init : goal.loop-j-init

@@ -1,6 +1,5 @@
-use Rattle.sides.proofs.Refines.LackingPlaces.{Using, using_none, using_one, using_done}
+use Rattle.sides.proofs.Refines.LackingPlaces.{Using}
 use Prim.Native.Nat.{◌-◌}
-use borrow.Author.Rules.{rules}
 use Rattle.sides.proofs.lacking.use_text.Given as goal
 
 abbrev pub invariant-loop-j : goal.invariant-loop-j

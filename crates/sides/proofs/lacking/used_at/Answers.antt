@@ -1,5 +1,4 @@
 use Rattle.sides.proofs.Refines.LackingPlaces.{used-none, used-is}
-use borrow.Author.Rules.{rules}
 use Rattle.sides.proofs.lacking.used_at.Goals as goal
 
 pub returns-then-table-i-eq0 : goal.returns-then-table-i-eq0

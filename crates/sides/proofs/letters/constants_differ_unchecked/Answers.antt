@@ -2,7 +2,6 @@ use mathlib.Core.Path.{◌∙◌}
 use Rattle.records.proofs.Lists.{passed}
 use Rattle.sides.proofs.Refines.SideTexts.{one-room, other-room, differ-is, differ-not}
 use native.Mathlib.Omega.{arith}
-use borrow.Author.Rules.{rules}
 use Rattle.sides.proofs.letters.constants_differ_unchecked.Goals as goal
 
 pub returns-then-not-both_constant : goal.returns-then-not-both_constant

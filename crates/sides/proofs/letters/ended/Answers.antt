@@ -1,6 +1,5 @@
 use mathlib.Core.Path.{refl}
 use Rattle.sides.proofs.Refines.TileWalk.{ended-before, ended-after}
-use borrow.Author.Rules.{rules}
 use Rattle.sides.proofs.letters.ended.Goals as goal
 
 pub returns-then-i-side : goal.returns-then-i-side

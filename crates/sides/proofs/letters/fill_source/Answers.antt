@@ -1,5 +1,4 @@
 use Rattle.sides.proofs.Refines.TileWalk.{source_variable, source_constant}
-use borrow.Author.Rules.{rules}
 use Rattle.sides.proofs.letters.fill_source.Goals as goal
 
 pub returns-then-kind_of-ne1 : goal.returns-then-kind_of-ne1

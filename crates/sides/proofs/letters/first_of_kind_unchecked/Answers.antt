@@ -1,13 +1,7 @@
-use Prim.Native.Nat.{◌-◌, ◌≤◌}
-use mathlib.Core.Path.{◌≡◌}
-use mathlib.Core.Bool.{false}
-use lib.ListN.{length, take}
-use Rattle.records.specs.Lists.{any}
 use Rattle.records.specs.View.{termed}
 use Rattle.sides.specs.Working.Sides.{of_kind}
 use Rattle.sides.proofs.FirstOfKind.{first-start, first-here, first-turn, first-none}
 use native.Mathlib.Omega.{arith}
-use borrow.Author.Rules.{rules}
 use Rattle.sides.proofs.letters.first_of_kind_unchecked.Goals as goal
 
 pub loop-i-init : goal.loop-i-init

@@ -5,9 +5,6 @@ use lib.ListN.{length, take}
 use Rattle.records.specs.Lists.{any}
 use Rattle.records.specs.View.{termed}
 use Rattle.sides.specs.Working.Sides.{of_kind}
-use Rattle.sides.proofs.FirstOfKind.{first-start, first-here, first-turn, first-none}
-use native.Mathlib.Omega.{arith}
-use borrow.Author.Rules.{rules}
 use Rattle.sides.proofs.letters.first_of_kind_unchecked.Given as goal
 
 abbrev pub invariant-loop-i : goal.invariant-loop-i

@@ -1,6 +1,5 @@
 use Rattle.records.specs.View.{termed}
 use Rattle.sides.proofs.FirstOfKind.{fixed-kind}
-use borrow.Author.Rules.{rules}
 use Rattle.sides.proofs.letters.is_fixed.Goals as goal
 
 pub returns : goal.returns

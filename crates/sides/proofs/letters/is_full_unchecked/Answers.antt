@@ -1,6 +1,5 @@
 use Rattle.records.specs.View.{termed}
 use Rattle.sides.proofs.Refines.SideLetters.{count-full}
-use borrow.Author.Rules.{rules}
 use Rattle.sides.proofs.letters.is_full_unchecked.Goals as goal
 
 pub returns : goal.returns

@@ -1,6 +1,5 @@
 use Rattle.records.specs.View.{termed}
 use Rattle.sides.proofs.FirstOfKind.{kind_yes, kind_no}
-use borrow.Author.Rules.{rules}
 use Rattle.sides.proofs.letters.is_kind.Goals as goal
 
 pub returns-then-kind_of-k : goal.returns-then-kind_of-k

@@ -1,6 +1,5 @@
 use mathlib.Core.Path.{refl}
 use Rattle.sides.proofs.Refines.SideTexts.{plain-kind, plain-short, plain-is}
-use borrow.Author.Rules.{rules}
 use Rattle.sides.proofs.letters.is_plain_unchecked.Goals as goal
 
 pub returns-then-kind_of-ne2 : goal.returns-then-kind_of-ne2

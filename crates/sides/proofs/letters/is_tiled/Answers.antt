@@ -1,9 +1,5 @@
-use mathlib.Core.Logic.{⊎_elim}
-use Prim.Native.Nat.{◌-◌}
 use mathlib.Core.Path.{refl}
-use lib.ListN.{length}
-use Rattle.sides.proofs.Refines.TileWalk.{Walked, walked_none, Filling, filling_start, filling_one, filling_end, filling_differs, word_limit_lem, source_limit, tiled_end, tiled_break}
-use borrow.Author.Rules.{rules}
+use Rattle.sides.proofs.Refines.TileWalk.{walked_none, filling_start, filling_one, filling_end, filling_differs, word_limit_lem, source_limit, tiled_end, tiled_break}
 use Rattle.sides.proofs.letters.is_tiled.Goals as goal
 use Rattle.sides.proofs.letters.is_tiled.Goals.{else-atoms-test, then-atoms-test+then-loop-j-test+then-not-same_letter}
 

@@ -1,9 +1,6 @@
-use mathlib.Core.Logic.{⊎_elim}
 use Prim.Native.Nat.{◌-◌}
-use mathlib.Core.Path.{refl}
 use lib.ListN.{length}
-use Rattle.sides.proofs.Refines.TileWalk.{Walked, walked_none, Filling, filling_start, filling_one, filling_end, filling_differs, word_limit_lem, source_limit, tiled_end, tiled_break}
-use borrow.Author.Rules.{rules}
+use Rattle.sides.proofs.Refines.TileWalk.{Walked, Filling}
 use Rattle.sides.proofs.letters.is_tiled.Given as goal
 
 abbrev pub invariant-loop-j : goal.invariant-loop-j

@@ -1,7 +1,6 @@
 use Rattle.sides.proofs.Refines.SideWalk.{place-limit}
 use Rattle.sides.proofs.Refines.SideWalk.{letter-is}
 use native.Mathlib.Omega.{arith}
-use borrow.Author.Rules.{rules}
 use Rattle.sides.proofs.letters.letter.Goals as goal
 
 pub overflow_add-p : goal.overflow_add-p

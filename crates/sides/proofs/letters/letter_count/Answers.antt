@@ -1,6 +1,5 @@
 use Rattle.records.specs.View.{termed}
 use Rattle.sides.proofs.Refines.SideLetters.{count-letters}
-use borrow.Author.Rules.{rules}
 use Rattle.sides.proofs.letters.letter_count.Goals as goal
 
 pub returns : goal.returns

@@ -1,10 +1,6 @@
-use Prim.Native.Nat.{◌-◌}
-use lib.ListN.{length}
-use Rattle.sides.proofs.Refines.SideLetters.{letter_count, letters_none, counted-one}
-use Rattle.records.proofs.Loops.{Summing, summing_none, summing_all}
-use Rattle.records.specs.View.{char_limit, termed}
+use Rattle.sides.proofs.Refines.SideLetters.{letters_none, counted-one}
+use Rattle.records.proofs.Loops.{summing_none, summing_all}
 use native.Mathlib.Omega.{arith}
-use borrow.Author.Rules.{rules}
 use Rattle.sides.proofs.letters.letters_length_unchecked.Goals as goal
 
 pub loop-i-init : goal.loop-i-init

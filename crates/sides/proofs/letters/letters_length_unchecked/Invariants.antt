@@ -1,10 +1,8 @@
 use Prim.Native.Nat.{◌-◌}
 use lib.ListN.{length}
-use Rattle.sides.proofs.Refines.SideLetters.{letter_count, letters_none, counted-one}
-use Rattle.records.proofs.Loops.{Summing, summing_none, summing_all}
+use Rattle.sides.proofs.Refines.SideLetters.{letter_count}
+use Rattle.records.proofs.Loops.{Summing}
 use Rattle.records.specs.View.{char_limit, termed}
-use native.Mathlib.Omega.{arith}
-use borrow.Author.Rules.{rules}
 use Rattle.sides.proofs.letters.letters_length_unchecked.Given as goal
 
 abbrev pub invariant-loop-i : goal.invariant-loop-i

@@ -1,5 +1,4 @@
 use Rattle.sides.proofs.Refines.SideLetters.{pick_first, pick_second, pick_none}
-use borrow.Author.Rules.{rules}
 use Rattle.sides.proofs.letters.pick.Goals as goal
 
 pub returns-then-which-eq1 : goal.returns-then-which-eq1

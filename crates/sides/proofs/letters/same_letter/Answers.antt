@@ -2,7 +2,6 @@ use Rattle.records.specs.View.{read_in}
 use Rattle.sides.specs.Working.Sides.{rest}
 use mathlib.Core.Path.{refl}
 use Rattle.sides.proofs.Refines.SideWalk.{heads-left, heads-right, heads-both}
-use borrow.Author.Rules.{rules}
 use Rattle.sides.proofs.letters.same_letter.Goals as goal
 
 pub returns-then-l-k : goal.returns-then-l-k

@@ -1,7 +1,4 @@
-use Prim.Native.Nat.{◌-◌}
-use lib.ListN.{length}
-use Rattle.sides.proofs.Refines.SideWalk.{Onward, onward-none, onward-here, onward-atom, onward-end}
-use borrow.Author.Rules.{rules}
+use Rattle.sides.proofs.Refines.SideWalk.{onward-none, onward-here, onward-atom, onward-end}
 use Rattle.sides.proofs.letters.settle.Goals as goal
 
 pub loop-i-init : goal.loop-i-init

@@ -1,7 +1,6 @@
 use Prim.Native.Nat.{◌-◌}
 use lib.ListN.{length}
-use Rattle.sides.proofs.Refines.SideWalk.{Onward, onward-none, onward-here, onward-atom, onward-end}
-use borrow.Author.Rules.{rules}
+use Rattle.sides.proofs.Refines.SideWalk.{Onward}
 use Rattle.sides.proofs.letters.settle.Given as goal
 
 abbrev pub invariant-loop-i : goal.invariant-loop-i

@@ -1,6 +1,5 @@
 use mathlib.Core.Path.{refl}
 use Rattle.sides.proofs.Refines.SideLetters.{short-not, short-is}
-use borrow.Author.Rules.{rules}
 use Rattle.sides.proofs.letters.short.Goals as goal
 
 pub returns-then-not-is_fixed : goal.returns-then-not-is_fixed

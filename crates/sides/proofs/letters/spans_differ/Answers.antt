@@ -1,6 +1,4 @@
-use Prim.Native.Nat.{◌-◌}
-use Rattle.sides.proofs.Refines.SideTexts.{Alike, alike_none, alike_short, alike_differ, alike_one, alike_all}
-use borrow.Author.Rules.{rules}
+use Rattle.sides.proofs.Refines.SideTexts.{alike_none, alike_short, alike_differ, alike_one, alike_all}
 use Rattle.sides.proofs.letters.spans_differ.Goals as goal
 
 pub loop-j-init : goal.loop-j-init

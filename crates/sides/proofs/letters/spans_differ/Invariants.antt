@@ -1,6 +1,5 @@
 use Prim.Native.Nat.{◌-◌}
-use Rattle.sides.proofs.Refines.SideTexts.{Alike, alike_none, alike_short, alike_differ, alike_one, alike_all}
-use borrow.Author.Rules.{rules}
+use Rattle.sides.proofs.Refines.SideTexts.{Alike}
 use Rattle.sides.proofs.letters.spans_differ.Given as goal
 
 abbrev pub invariant-loop-j : goal.invariant-loop-j

@@ -1,6 +1,5 @@
 use Rattle.sides.proofs.Refines.SideUnequal.{unequal-left, unequal-right, unequal-is}
 use native.Mathlib.Omega.{arith}
-use borrow.Author.Rules.{rules}
 use Rattle.sides.proofs.letters.unequal.Goals as goal
 
 pub returns-then-not-is_fixed : goal.returns-then-not-is_fixed

@@ -1,5 +1,4 @@
 use Rattle.sides.proofs.Refines.SideLetters.{which_left, which_right, which_none}
-use borrow.Author.Rules.{rules}
 use Rattle.sides.proofs.letters.which_fixed.Goals as goal
 
 pub returns-then-is_fixed : goal.returns-then-is_fixed

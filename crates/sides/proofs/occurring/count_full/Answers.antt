@@ -1,10 +1,6 @@
-use Prim.Native.Nat.{◌-◌}
-use lib.ListN.{length}
-use Rattle.records.specs.View.{termed}
-use Rattle.sides.proofs.Refines.Elsewhere.{full_count, fulls_none, fulls_turn}
-use Rattle.records.proofs.Loops.{Summing, summing_none, summing_all}
+use Rattle.sides.proofs.Refines.Elsewhere.{fulls_none, fulls_turn}
+use Rattle.records.proofs.Loops.{summing_none, summing_all}
 use native.Mathlib.Omega.{arith}
-use borrow.Author.Rules.{rules}
 use Rattle.sides.proofs.occurring.count_full.Goals as goal
 
 pub loop-i-init : goal.loop-i-init

@@ -1,9 +1,6 @@
-use Prim.Native.Nat.{◌-◌}
-use lib.ListN.{length}
 use Rattle.records.specs.View.{termed}
 use Rattle.records.proofs.Lists.{all_every, every_at}
-use Rattle.sides.proofs.Refines.Elsewhere.{Seeking, seeking_none, seeking_hit, seeking_turn, seeking_end}
-use borrow.Author.Rules.{rules}
+use Rattle.sides.proofs.Refines.Elsewhere.{seeking_none, seeking_hit, seeking_turn, seeking_end}
 use Rattle.sides.proofs.occurring.find.Goals as goal
 
 pub count_full-n-requires : goal.count_full-n-requires

@@ -1,9 +1,7 @@
 use Prim.Native.Nat.{◌-◌}
 use lib.ListN.{length}
 use Rattle.records.specs.View.{termed}
-use Rattle.records.proofs.Lists.{all_every, every_at}
-use Rattle.sides.proofs.Refines.Elsewhere.{Seeking, seeking_none, seeking_hit, seeking_turn, seeking_end}
-use borrow.Author.Rules.{rules}
+use Rattle.sides.proofs.Refines.Elsewhere.{Seeking}
 use Rattle.sides.proofs.occurring.find.Given as goal
 
 abbrev pub invariant-loop-i : goal.invariant-loop-i

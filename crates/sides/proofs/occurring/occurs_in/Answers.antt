@@ -1,5 +1,4 @@
 use Rattle.sides.proofs.Refines.LoneAtom.{not_lone, lone_constant, texts-known, classes-known, lone_within, side_within, not_found, found_arguments, found-conflict, found-refused}
-use borrow.Author.Rules.{rules}
 use Rattle.sides.proofs.occurring.occurs_in.Goals as goal
 
 pub returns-then-lone-ne1 : goal.returns-then-lone-ne1

@@ -1,6 +1,5 @@
 use Rattle.sides.specs.Wordeq.{occurs}
 use Rattle.sides.proofs.Trying.{passed_on, occurs-rises, last_of, else_last, else_tries}
-use borrow.Author.Rules.{rules}
 use Rattle.sides.proofs.occurring.occurs_unchecked.Goals as goal
 
 pub returns-in_default : goal.returns-in_default

@@ -1,5 +1,4 @@
 use Rattle.sides.proofs.Refines.Elsewhere.{own-full, own-none}
-use borrow.Author.Rules.{rules}
 use Rattle.sides.proofs.occurring.own_count.Goals as goal
 
 pub returns-then-is_full_unchecked : goal.returns-then-is_full_unchecked

@@ -2,13 +2,8 @@ use Rattle.records.specs.View.{read_in}
 use Rattle.records.proofs.Lists.{failed, passed}
 use Rattle.records.proofs.Loops.{all-stop, all-turn, all_done}
 use Rattle.sides.proofs.Refines.Fitting.{pair_at_lem}
-use Prim.Native.Nat.{◌-◌, ◌≤◌}
-use mathlib.Core.Path.{◌≡◌, refl}
-use lib.ListN.{length, drop}
-use Rattle.records.specs.Lists.{all}
-use Rattle.sides.specs.Working.Spans.{agrees}
+use mathlib.Core.Path.{refl}
 use native.Mathlib.Omega.{arith}
-use borrow.Author.Rules.{rules}
 use Rattle.sides.proofs.spans.all_agree_unchecked.Goals as goal
 
 pub loop-i-init : goal.loop-i-init

@@ -1,14 +1,9 @@
 use Rattle.records.specs.View.{read_in}
-use Rattle.records.proofs.Lists.{failed, passed}
-use Rattle.records.proofs.Loops.{all-stop, all-turn, all_done}
-use Rattle.sides.proofs.Refines.Fitting.{pair_at_lem}
 use Prim.Native.Nat.{◌-◌, ◌≤◌}
-use mathlib.Core.Path.{◌≡◌, refl}
+use mathlib.Core.Path.{◌≡◌}
 use lib.ListN.{length, drop}
 use Rattle.records.specs.Lists.{all}
 use Rattle.sides.specs.Working.Spans.{agrees}
-use native.Mathlib.Omega.{arith}
-use borrow.Author.Rules.{rules}
 use Rattle.sides.proofs.spans.all_agree_unchecked.Given as goal
 
 abbrev pub invariant-loop-i : goal.invariant-loop-i

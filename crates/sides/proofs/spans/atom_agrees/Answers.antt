@@ -1,6 +1,5 @@
 use Rattle.records.specs.View.{read_in}
 use Rattle.sides.proofs.Refines.Fitting.{agrees-constant, agrees-other}
-use borrow.Author.Rules.{rules}
 use Rattle.sides.proofs.spans.atom_agrees.Goals as goal
 
 pub returns-then-kind_of-eq1 : goal.returns-then-kind_of-eq1

@@ -1,5 +1,4 @@
 use Rattle.sides.proofs.FirstOfKind.{first-variable}
-use borrow.Author.Rules.{rules}
 use Rattle.sides.proofs.spans.first_variable_unchecked.Goals as goal
 
 pub returns : goal.returns

@@ -1,5 +1,4 @@
 use Rattle.sides.proofs.Refines.Fitting.{fits-over, fits_uneven, span-there, fits_tiled}
-use borrow.Author.Rules.{rules}
 use Rattle.sides.proofs.spans.fits.Goals as goal
 
 pub returns-then-l-n : goal.returns-then-l-n

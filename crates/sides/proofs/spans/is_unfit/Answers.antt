@@ -2,7 +2,6 @@ use Rattle.records.specs.View.{read_in, termed}
 use Rattle.sides.proofs.Refines.TileCalls.{list-string, after-strings, after-short, readable_read_in, unfit-apart, unfit-is}
 use Rattle.records.proofs.ListLaws.{list-short}
 use native.Mathlib.Omega.{arith}
-use borrow.Author.Rules.{rules}
 use Rattle.sides.proofs.spans.is_unfit.Goals as goal
 
 pub all_agree_unchecked-requires : goal.all_agree_unchecked-requires

@@ -1,7 +1,6 @@
 use Rattle.sides.proofs.Refines.TileCalls.{tile-none, tile-fits, tile-pairs, tile-classes, tile-conflict, tile-refused}
 use Rattle.records.proofs.ListLaws.{list-short}
 use Rattle.records.specs.View.{lent, store_of}
-use borrow.Author.Rules.{rules}
 use Rattle.sides.proofs.spans.tile_sides.Goals as goal
 
 pub returns-then-side-i : goal.returns-then-side-i

@@ -1,6 +1,5 @@
 use Rattle.sides.proofs.Refines.TileCalls.{sides-lists, sides-tried}
 use Rattle.records.specs.View.{lent}
-use borrow.Author.Rules.{rules}
 use Rattle.sides.proofs.spans.tile_unchecked.Goals as goal
 
 pub tile_sides-requires : goal.tile_sides-requires

@@ -1,6 +1,5 @@
 use Rattle.records.specs.View.{termed}
 use Rattle.sides.proofs.Refines.Fitting.{count_no, count-one}
-use borrow.Author.Rules.{rules}
 use Rattle.sides.proofs.spans.variable_count.Goals as goal
 
 pub returns-then-kind_of-eq1 : goal.returns-then-kind_of-eq1

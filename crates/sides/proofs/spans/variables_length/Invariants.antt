@@ -1,10 +1,8 @@
 use Prim.Native.Nat.{◌-◌}
 use lib.ListN.{length}
 use Rattle.records.specs.View.{termed}
-use Rattle.sides.proofs.Refines.Fitting.{variable_count, tally_none, tallied_one}
-use Rattle.records.proofs.Loops.{Summing, summing_none, summing_all}
-use native.Mathlib.Omega.{arith}
-use borrow.Author.Rules.{rules}
+use Rattle.sides.proofs.Refines.Fitting.{variable_count}
+use Rattle.records.proofs.Loops.{Summing}
 use Rattle.sides.proofs.spans.variables_length.Given as goal
 
 abbrev pub invariant-loop-i : goal.invariant-loop-i

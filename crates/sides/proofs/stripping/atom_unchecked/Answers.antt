@@ -1,5 +1,4 @@
 use Rattle.sides.proofs.FrontOrEnd.{read_first, read-last}
-use borrow.Author.Rules.{rules}
 use Rattle.sides.proofs.stripping.atom_unchecked.Goals as goal
 
 pub returns-then-tail : goal.returns-then-tail

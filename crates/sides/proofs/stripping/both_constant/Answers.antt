@@ -1,5 +1,4 @@
 use Rattle.sides.proofs.Refines.Alike.{both-other, both-last}
-use borrow.Author.Rules.{rules}
 use Rattle.sides.proofs.stripping.both_constant.Goals as goal
 
 pub returns-then-kind_of-ne1 : goal.returns-then-kind_of-ne1

@@ -1,9 +1,6 @@
 use Prim.Native.Nat.{◌-◌, ◌≤◌}
 use Rattle.records.specs.View.{read_in}
-use Rattle.sides.proofs.Refines.Pairs.{pair_at_lem}
-use Rattle.sides.proofs.Refines.Stripping.{Counted, counted_none, count_all, count_stop, count_turn, below_left, below_right}
-use native.Mathlib.Omega.{arith}
-use borrow.Author.Rules.{rules}
+use Rattle.sides.proofs.Refines.Stripping.{Counted}
 use Rattle.sides.proofs.stripping.count_same.Given as goal
 
 abbrev pub invariant-loop-i : goal.invariant-loop-i

@@ -1,6 +1,5 @@
 use Rattle.sides.proofs.SideReady.{ready_readable}
 use Rattle.sides.proofs.Refines.Pairs.{pair-number, pair-alike, pair-apart, pair_arguments, pair-explained}
-use borrow.Author.Rules.{rules}
 use Rattle.sides.proofs.stripping.explain_pair.Goals as goal
 
 pub returns-then-a-b : goal.returns-then-a-b

@@ -1,7 +1,5 @@
-use mathlib.Core.Path.{◌≡◌, refl}
-use Prim.Native.Nat.{◌-◌, ◌≤◌}
-use lib.ListN.{length}
-use Rattle.sides.proofs.Refines.Pairs.{Pairing, pairing_none, pairing_end, pairing_pair, pairing_refused, pairing_turn}
+use mathlib.Core.Path.{refl}
+use Rattle.sides.proofs.Refines.Pairs.{pairing_none, pairing_end, pairing_pair, pairing_refused, pairing_turn}
 use native.Mathlib.Omega.{arith}
 use borrow.Author.Rules.{rules}
 use Rattle.sides.proofs.stripping.explain_pairs.Goals as goal

@@ -1,9 +1,7 @@
-use mathlib.Core.Path.{◌≡◌, refl}
+use mathlib.Core.Path.{◌≡◌}
 use Prim.Native.Nat.{◌-◌, ◌≤◌}
 use lib.ListN.{length}
-use Rattle.sides.proofs.Refines.Pairs.{Pairing, pairing_none, pairing_end, pairing_pair, pairing_refused, pairing_turn}
-use native.Mathlib.Omega.{arith}
-use borrow.Author.Rules.{rules}
+use Rattle.sides.proofs.Refines.Pairs.{Pairing}
 use Rattle.sides.proofs.stripping.explain_pairs.Given as goal
 
 abbrev pub invariant-loop-i : goal.invariant-loop-i

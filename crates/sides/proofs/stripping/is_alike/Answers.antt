@@ -2,7 +2,6 @@ use Rattle.records.specs.View.{read_in}
 use Rattle.sides.proofs.Refines.Pairs.{alike-not, alike-text}
 use borrow.Author.Tests.{not-false}
 use mathlib.Core.Path.{sym, ◌∙◌}
-use borrow.Author.Rules.{rules}
 use Rattle.sides.proofs.stripping.is_alike.Goals as goal
 
 pub returns-then-not-both_constant : goal.returns-then-not-both_constant

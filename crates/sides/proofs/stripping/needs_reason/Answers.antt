@@ -1,5 +1,4 @@
 use Rattle.sides.proofs.Refines.Stripping.{need_arguments, need_number, need_constants, need_reasoned}
-use borrow.Author.Rules.{rules}
 use Rattle.sides.proofs.stripping.needs_reason.Goals as goal
 
 pub returns-then-a-b : goal.returns-then-a-b

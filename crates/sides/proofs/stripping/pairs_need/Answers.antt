@@ -1,11 +1,7 @@
-use mathlib.Core.Path.{◌≡◌, refl}
-use Prim.Native.Nat.{◌-◌, ◌≤◌}
-use lib.ListN.{length}
+use mathlib.Core.Path.{refl}
 use Rattle.records.specs.View.{lent, read_in}
-use Rattle.sides.specs.Wordeq.{same_heads}
-use Rattle.sides.specs.Working.Stripping.{way}
 use Rattle.sides.proofs.Refines.Pairs.{pair_at_lem}
-use Rattle.sides.proofs.Refines.Stripping.{Needing, needing_none, needing_end, needing_stop, needing_turn, equal-within, equal-same}
+use Rattle.sides.proofs.Refines.Stripping.{needing_none, needing_end, needing_stop, needing_turn, equal-within, equal-same}
 use native.Mathlib.Omega.{arith}
 use borrow.Author.Rules.{rules}
 use Rattle.sides.proofs.stripping.pairs_need.Goals as goal

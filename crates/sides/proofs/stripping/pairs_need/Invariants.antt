@@ -1,13 +1,10 @@
-use mathlib.Core.Path.{◌≡◌, refl}
+use mathlib.Core.Path.{◌≡◌}
 use Prim.Native.Nat.{◌-◌, ◌≤◌}
 use lib.ListN.{length}
 use Rattle.records.specs.View.{lent, read_in}
 use Rattle.sides.specs.Wordeq.{same_heads}
 use Rattle.sides.specs.Working.Stripping.{way}
-use Rattle.sides.proofs.Refines.Pairs.{pair_at_lem}
-use Rattle.sides.proofs.Refines.Stripping.{Needing, needing_none, needing_end, needing_stop, needing_turn, equal-within, equal-same}
-use native.Mathlib.Omega.{arith}
-use borrow.Author.Rules.{rules}
+use Rattle.sides.proofs.Refines.Stripping.{Needing}
 use Rattle.sides.proofs.stripping.pairs_need.Given as goal
 
 abbrev pub invariant-loop-i : goal.invariant-loop-i

@@ -1,5 +1,4 @@
 use Rattle.sides.proofs.Refines.Alike.{texts-apart, text-inside, texts-compared}
-use borrow.Author.Rules.{rules}
 use Rattle.sides.proofs.stripping.same_text.Goals as goal
 
 pub returns-then-k-second : goal.returns-then-k-second

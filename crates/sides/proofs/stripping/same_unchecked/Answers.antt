@@ -1,6 +1,5 @@
 use Rattle.sides.proofs.Refines.Alike.{same_number, same-constants, same-classes}
 use mathlib.Core.Path.{sym, ◌∙◌}
-use borrow.Author.Rules.{rules}
 use Rattle.sides.proofs.stripping.same_unchecked.Goals as goal
 
 pub returns-then-a-b : goal.returns-then-a-b

@@ -1,5 +1,4 @@
 use Rattle.sides.proofs.Refines.Stripping.{strip-refused, strip-parts}
-use borrow.Author.Rules.{rules}
 use Rattle.sides.proofs.stripping.strip_by.Goals as goal
 
 pub matches_need-needed-requires : goal.matches_need-needed-requires

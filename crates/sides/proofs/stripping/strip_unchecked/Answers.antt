@@ -1,5 +1,4 @@
 use Rattle.sides.proofs.SideReady.{ready_readable}
-use borrow.Author.Rules.{rules}
 use Rattle.sides.proofs.stripping.strip_unchecked.Goals as goal
 
 pub find_rest_unchecked-rest-requires : goal.find_rest_unchecked-rest-requires

@@ -1,5 +1,4 @@
 use Rattle.wordeq.proofs.Refines.Heads.{letter-first}
-use borrow.Author.Rules.{rules}
 use Rattle.wordeq.proofs.heads.first_letter.Goals as goal
 
 pub returns : goal.returns

@@ -1,7 +1,6 @@
 use mathlib.Core.Path.{sym, ◌∙◌}
 use Rattle.wordeq.proofs.Refines.Heads.{read_in-of, texts-of, full_at, first_char, atoms-right, atoms-left, atoms-heads}
 use native.Mathlib.Omega.{arith}
-use borrow.Author.Rules.{rules}
 use Rattle.wordeq.proofs.heads.put_atoms.Goals as goal
 
 pub is_full_unchecked-requires : goal.is_full_unchecked-requires

@@ -3,7 +3,6 @@ use Rattle.records.proofs.Kept.{key_rule_lem}
 use Rattle.records.proofs.Sequence.{added-ready}
 use Rattle.wordeq.proofs.Refines.Heads.{opposite_kept, new-pair, new-below, new-small, new-done, new-stop, new-stop_2}
 use native.Mathlib.Omega.{arith}
-use borrow.Author.Rules.{rules}
 use Rattle.wordeq.proofs.heads.split_new.Goals as goal
 
 pub add_key_unchecked-key-requires : goal.add_key_unchecked-key-requires

@@ -7,7 +7,6 @@ use Rattle.records.proofs.Lists.{or_left}
 use Rattle.records.specs.View.{lent}
 use Rattle.wordeq.proofs.Refines.Heads.{read_in-of, left-none, right-none, heads_clash, heads-constant, heads-saturated, heads-new, pair_of, key_read}
 use native.Mathlib.Omega.{arith}
-use borrow.Author.Rules.{rules}
 use Rattle.wordeq.proofs.heads.split_unchecked.Goals as goal
 
 pub returns-then-lhs-eq0 : goal.returns-then-lhs-eq0

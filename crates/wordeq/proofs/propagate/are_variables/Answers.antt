@@ -1,6 +1,5 @@
 use Rattle.records.specs.View.{termed}
 use Rattle.sides.proofs.FirstOfKind.{all-kind}
-use borrow.Author.Rules.{rules}
 use Rattle.wordeq.proofs.propagate.are_variables.Goals as goal
 
 pub returns : goal.returns

@@ -1,6 +1,5 @@
 use Rattle.wordeq.proofs.Refines.Propagate.{side_fixed, assigned-done, assigned-stop}
 use Rattle.records.specs.View.{lent}
-use borrow.Author.Rules.{rules}
 use Rattle.wordeq.proofs.propagate.assigns_unchecked.Goals as goal
 
 pub side_word_unchecked-word-requires : goal.side_word_unchecked-word-requires

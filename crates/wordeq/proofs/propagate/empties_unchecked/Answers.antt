@@ -2,7 +2,6 @@ use Rattle.records.proofs.Sequence.{made-ready}
 use Rattle.wordeq.proofs.Refines.Propagate.{empties-pairs, empties-done, empties-stop}
 use Rattle.sides.proofs.SideReady.{ready_readable}
 use Rattle.wordeq.proofs.Refines.SplitAtoms.{no_characters}
-use borrow.Author.Rules.{rules}
 use Rattle.wordeq.proofs.propagate.empties_unchecked.Goals as goal
 
 pub make_constant_unchecked-empty-requires : goal.make_constant_unchecked-empty-requires

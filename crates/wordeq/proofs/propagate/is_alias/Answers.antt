@@ -1,6 +1,5 @@
 use Rattle.records.specs.View.{read_in}
 use Rattle.wordeq.proofs.Refines.Propagate.{aliased-left, aliased-right, aliased-first, aliased-last}
-use borrow.Author.Rules.{rules}
 use Rattle.wordeq.proofs.propagate.is_alias.Goals as goal
 
 pub returns-then-l-ne1 : goal.returns-then-l-ne1

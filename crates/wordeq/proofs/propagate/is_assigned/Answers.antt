@@ -1,6 +1,5 @@
 use Rattle.records.specs.View.{termed}
 use Rattle.wordeq.proofs.Refines.Propagate.{assigned-left, assigned-kind, assigned-last}
-use borrow.Author.Rules.{rules}
 use Rattle.wordeq.proofs.propagate.is_assigned.Goals as goal
 
 pub returns-then-l-ne1 : goal.returns-then-l-ne1

@@ -1,6 +1,5 @@
 use Rattle.records.specs.View.{termed}
 use Rattle.wordeq.proofs.Refines.Propagate.{emptied-left, emptied-short, emptied-last}
-use borrow.Author.Rules.{rules}
 use Rattle.wordeq.proofs.propagate.is_emptied_unchecked.Goals as goal
 
 pub returns-then-l-ne0 : goal.returns-then-l-ne0

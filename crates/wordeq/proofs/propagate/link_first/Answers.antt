@@ -1,14 +1,8 @@
 use Rattle.records.specs.View.{read_in}
 use Rattle.wordeq.proofs.Refines.Propagate.{linked-first, linked-turn, linked-none}
-use Rattle.sides.specs.Wordeq.{same}
 use Rattle.records.proofs.Lists.{every_at}
-use Rattle.records.specs.Lists.{first_of}
-use lib.ListN.{length, drop}
-use mathlib.Core.Bool.{not}
-use mathlib.Core.Path.{◌≡◌, refl}
-use Prim.Native.Nat.{◌-◌, ◌≤◌}
+use mathlib.Core.Path.{refl}
 use native.Mathlib.Omega.{arith}
-use borrow.Author.Rules.{rules}
 use Rattle.wordeq.proofs.propagate.link_first.Goals as goal
 
 pub loop-i-init : goal.loop-i-init

@@ -1,14 +1,10 @@
 use Rattle.records.specs.View.{read_in}
-use Rattle.wordeq.proofs.Refines.Propagate.{linked-first, linked-turn, linked-none}
 use Rattle.sides.specs.Wordeq.{same}
-use Rattle.records.proofs.Lists.{every_at}
 use Rattle.records.specs.Lists.{first_of}
 use lib.ListN.{length, drop}
 use mathlib.Core.Bool.{not}
-use mathlib.Core.Path.{◌≡◌, refl}
+use mathlib.Core.Path.{◌≡◌}
 use Prim.Native.Nat.{◌-◌, ◌≤◌}
-use native.Mathlib.Omega.{arith}
-use borrow.Author.Rules.{rules}
 use Rattle.wordeq.proofs.propagate.link_first.Given as goal
 
 abbrev pub invariant-loop-i : goal.invariant-loop-i

@@ -3,7 +3,6 @@ use Rattle.records.proofs.ListLaws.{list-short}
 use Rattle.sides.proofs.SideReady.{ready-read_in}
 use Rattle.records.specs.View.{lent, store_of, read_in, termed}
 use native.Mathlib.Omega.{arith}
-use borrow.Author.Rules.{rules}
 use Rattle.wordeq.proofs.propagate.propagate_unchecked.Goals as goal
 
 pub is_alias-requires : goal.is_alias-requires

@@ -1,5 +1,4 @@
 use Rattle.wordeq.proofs.Refines.PropagateMakes.{fixed-all, word_made}
-use borrow.Author.Rules.{rules}
 use Rattle.wordeq.proofs.propagate.side_word_unchecked.Goals as goal
 
 pub join_constants_unchecked-requires : goal.join_constants_unchecked-requires

@@ -6,7 +6,6 @@ use Rattle.records.specs.declared.State.{State}
 use mir.ValLaws.{to_z-of_z}
 use mir.Syntax.{w32}
 use mathlib.Core.Path.{sym, ap, ◌∙◌}
-use borrow.Author.Rules.{rules}
 use Rattle.wordeq.proofs.resolving.close.Goals as goal
 
 pub returns-in-Done : goal.returns-in-Done

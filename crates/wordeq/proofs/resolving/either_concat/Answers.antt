@@ -1,6 +1,5 @@
 use Rattle.records.specs.View.{termed}
 use Rattle.wordeq.proofs.Refines.Flattening.{either_left, either_right}
-use borrow.Author.Rules.{rules}
 use Rattle.wordeq.proofs.resolving.either_concat.Goals as goal
 
 pub returns-then-has_concat : goal.returns-then-has_concat

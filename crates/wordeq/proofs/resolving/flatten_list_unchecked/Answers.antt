@@ -1,8 +1,5 @@
-use lib.ListN.{length}
-use mathlib.Core.Path.{◌≡◌}
-use Prim.Native.Nat.{◌-◌, ◌≤◌}
 use Rattle.normalize.specs.Working.Flat.{bare}
-use Rattle.wordeq.proofs.Refines.Flattening.{Flattening, flattening_end, flattening_turn, flattening_passes}
+use Rattle.wordeq.proofs.Refines.Flattening.{flattening_end, flattening_turn, flattening_passes}
 use native.Mathlib.Omega.{arith}
 use borrow.Author.Rules.{rules}
 use Rattle.wordeq.proofs.resolving.flatten_list_unchecked.Goals as goal

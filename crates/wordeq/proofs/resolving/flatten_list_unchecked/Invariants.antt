@@ -2,9 +2,7 @@ use lib.ListN.{length}
 use mathlib.Core.Path.{◌≡◌}
 use Prim.Native.Nat.{◌-◌, ◌≤◌}
 use Rattle.normalize.specs.Working.Flat.{bare}
-use Rattle.wordeq.proofs.Refines.Flattening.{Flattening, flattening_end, flattening_turn, flattening_passes}
-use native.Mathlib.Omega.{arith}
-use borrow.Author.Rules.{rules}
+use Rattle.wordeq.proofs.Refines.Flattening.{Flattening}
 use Rattle.wordeq.proofs.resolving.flatten_list_unchecked.Given as goal
 
 abbrev pub invariant-loop-i : goal.invariant-loop-i

@@ -1,6 +1,5 @@
 use Rattle.records.specs.View.{termed}
 use Rattle.sides.proofs.FirstOfKind.{any-kind}
-use borrow.Author.Rules.{rules}
 use Rattle.wordeq.proofs.resolving.has_concat.Goals as goal
 
 pub returns : goal.returns

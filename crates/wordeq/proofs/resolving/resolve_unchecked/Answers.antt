@@ -1,6 +1,5 @@
 use Rattle.wordeq.proofs.Refines.ResolveCalls.{resolve-closed}
 use Rattle.wordeq.proofs.Refines.Flattening.{guard_passed}
-use borrow.Author.Rules.{rules}
 use Rattle.wordeq.proofs.resolving.resolve_unchecked.Goals as goal
 
 pub run-requires : goal.run-requires

@@ -1,5 +1,4 @@
 use Rattle.wordeq.proofs.Refines.Flattening.{guard_passed, ran-flat, ran-plain}
-use borrow.Author.Rules.{rules}
 use Rattle.wordeq.proofs.resolving.run.Goals as goal
 
 pub flat_steps-requires : goal.flat_steps-requires

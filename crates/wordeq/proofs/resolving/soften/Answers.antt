@@ -5,7 +5,6 @@ use mathlib.Core.Path.{refl}
 use mir.ValLaws.{to_z-of_z}
 use mir.Syntax.{w32}
 use mathlib.Core.Path.{sym, ap, ◌∙◌}
-use borrow.Author.Rules.{rules}
 use Rattle.wordeq.proofs.resolving.soften.Goals as goal
 
 pub returns-in-Done : goal.returns-in-Done

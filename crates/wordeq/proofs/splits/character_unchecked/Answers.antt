@@ -1,6 +1,5 @@
 use Rattle.records.proofs.Sequence.{grows-constant, made-ready, made-stays}
 use Rattle.wordeq.proofs.Refines.SplitAtoms.{one-character, character-string, character-done, character-stop}
-use borrow.Author.Rules.{rules}
 use Rattle.wordeq.proofs.splits.character_unchecked.Goals as goal
 
 pub make_constant_unchecked-head-requires : goal.make_constant_unchecked-head-requires

@@ -1,6 +1,5 @@
 use Rattle.records.proofs.Sequence.{made-ready}
 use Rattle.wordeq.proofs.Refines.SplitAtoms.{no_characters, empty-sides, empty-done, empty-stop}
-use borrow.Author.Rules.{rules}
 use Rattle.wordeq.proofs.splits.empty_unchecked.Goals as goal
 
 pub make_constant_unchecked-empty-requires : goal.make_constant_unchecked-empty-requires

@@ -1,5 +1,4 @@
 use Rattle.wordeq.proofs.Refines.SplitAtoms.{named-stop, named_arguments, named_new, named-then}
-use borrow.Author.Rules.{rules}
 use Rattle.wordeq.proofs.splits.fresh_str_unchecked.Goals as goal
 
 pub returns-then-named-ne0 : goal.returns-then-named-ne0

@@ -1,6 +1,5 @@
 use Rattle.records.proofs.Sequence.{grows-length, made-ready, made-stays}
 use Rattle.wordeq.proofs.Refines.SplitAtoms.{lengths-sides, lengths-done, lengths-stop, lengths-stop_2}
-use borrow.Author.Rules.{rules}
 use Rattle.wordeq.proofs.splits.lengths_unchecked.Goals as goal
 
 pub make_length_unchecked-right-requires : goal.make_length_unchecked-right-requires

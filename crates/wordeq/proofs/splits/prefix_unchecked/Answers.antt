@@ -1,7 +1,6 @@
 use Rattle.records.proofs.Sequence.{made-ready}
 use Rattle.wordeq.proofs.Refines.SplitAtoms.{prefix_parts, prefix_sides, prefix_done, prefix_stop, prefix_stop_2}
 use mathlib.Core.Path.{◌∙◌}
-use borrow.Author.Rules.{rules}
 use Rattle.wordeq.proofs.splits.prefix_unchecked.Goals as goal
 
 pub make_concatenation_unchecked-whole-requires : goal.make_concatenation_unchecked-whole-requires

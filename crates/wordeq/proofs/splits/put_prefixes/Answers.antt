@@ -2,7 +2,6 @@ use Rattle.records.proofs.Sequence.{made-ready, made-stays}
 use Rattle.wordeq.proofs.Refines.SplitAtoms.{grows_prefix, prefixes_done, prefixes_stop, prefixes_stop_2}
 use lib.ListN.{length-set}
 use native.Mathlib.Omega.{arith}
-use borrow.Author.Rules.{rules}
 use Rattle.wordeq.proofs.splits.put_prefixes.Goals as goal
 
 pub prefix_unchecked-second-requires : goal.prefix_unchecked-second-requires

@@ -2,7 +2,6 @@ use Rattle.records.proofs.Sequence.{made-ready, made-stays}
 use Rattle.wordeq.proofs.Refines.SplitAtoms.{grows-empty, characters-done, characters-stop, characters-stop_2}
 use lib.ListN.{length-set}
 use native.Mathlib.Omega.{arith}
-use borrow.Author.Rules.{rules}
 use Rattle.wordeq.proofs.splits.split_character_unchecked.Goals as goal
 
 pub character_unchecked-second-requires : goal.character_unchecked-second-requires

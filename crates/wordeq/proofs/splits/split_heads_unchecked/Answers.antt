@@ -1,6 +1,5 @@
 use Rattle.records.proofs.Sequence.{made-ready, made-stays}
 use Rattle.wordeq.proofs.Refines.SplitAtoms.{grows-lengths, heads_done, heads-stop}
-use borrow.Author.Rules.{rules}
 use Rattle.wordeq.proofs.splits.split_heads_unchecked.Goals as goal
 
 pub put_prefixes-requires : goal.put_prefixes-requires

@@ -3,7 +3,6 @@ use Rattle.sides.specs.Wordeq.{is_guard}
 use mir.Facts.{to_z-of_z}
 use Rattle.wordeq.proofs.Refines.Steps.{after_early, after-known, after_tiled, after-split}
 use Rattle.sides.proofs.Trying.{passed_on, conflicts-rises, propagates-rises, tiles-rises, last_of}
-use borrow.Author.Rules.{rules}
 use Rattle.wordeq.proofs.stepping.after_unchecked.Goals as goal
 
 pub returns-in_default : goal.returns-in_default

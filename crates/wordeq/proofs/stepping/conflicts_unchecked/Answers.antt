@@ -1,7 +1,6 @@
 use Rattle.wordeq.proofs.Refines.Steps.{lined_read_in, conflicts-found, conflicts-none}
 use Rattle.sides.proofs.Trying.{passed_on, both-rises, last_of, else_last}
 use Rattle.sides.specs.Wordeq.{constants}
-use borrow.Author.Rules.{rules}
 use Rattle.wordeq.proofs.stepping.conflicts_unchecked.Goals as goal
 
 pub returns-in_default : goal.returns-in_default

@@ -3,7 +3,6 @@ use Rattle.sides.specs.Wordeq.{is_guard}
 use mir.Facts.{to_z-of_z}
 use Rattle.wordeq.proofs.Refines.Steps.{lined_strings, parts-inside, parts-fit, parts_lined, parts_apart, steps-refused, steps-bare, steps_after}
 use Rattle.sides.proofs.Trying.{lined}
-use borrow.Author.Rules.{rules}
 use Rattle.wordeq.proofs.stepping.steps_unchecked.Goals as goal
 
 pub strip_unchecked-parts-requires : goal.strip_unchecked-parts-requires
