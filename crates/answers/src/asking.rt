@@ -11,6 +11,7 @@ use lines::saying::{say, say_count};
 use normalize::{DeepForm, Form};
 use records::fields::word;
 use records::{Added, State};
+use std::io;
 use wordeq::Equality;
 
 pub fn state(c: Counts) -> State {
@@ -24,50 +25,50 @@ pub fn state(c: Counts) -> State {
     )
 }
 
-fn say_found(r: Found) {
+fn say_found(rt: &impl Print, r: Found) -> io::Result<()> {
     match r {
-        Found::Root(t) => say(b": ", t),
-        Found::Refused(k) => say(b": refused ", k),
+        Found::Root(t) => say(rt, b": ", t),
+        Found::Refused(k) => say(rt, b": refused ", k),
     }
 }
 
-fn say_equality(r: Equality) {
+fn say_equality(rt: &impl Print, r: Equality) -> io::Result<()> {
     match r {
         Equality::Is(b) => {
             if b {
-                io::write_all(1, b": true");
-                return;
+                return rt.write_all(b": true");
             }
-            io::write_all(1, b": false");
+            rt.write_all(b": false")
         }
-        Equality::Refused(k) => say(b": refused ", k),
+        Equality::Refused(k) => say(rt, b": refused ", k),
     }
 }
 
-fn say_sides(k: usize, c: usize, l: usize) {
-    say_count(b": ", k);
-    say_count(b" ", c);
-    say_count(b" ", l);
+fn say_sides(rt: &impl Print, k: usize, c: usize, l: usize) -> io::Result<()> {
+    say_count(rt, b": ", k)?;
+    say_count(rt, b" ", c)?;
+    say_count(rt, b" ", l)
 }
 
 // k, c and l, then m and r, or the shortage.
-fn say_forced(f: Forced) {
+fn say_forced(rt: &impl Print, f: Forced) -> io::Result<()> {
     match f {
         Forced::Spans(k, c, l, m, r) => {
-            say_sides(k, c, l);
-            say_count(b", ", m);
-            say_count(b" ", r);
+            say_sides(rt, k, c, l)?;
+            say_count(rt, b", ", m)?;
+            say_count(rt, b" ", r)
         }
         Forced::Shortage(k, c, l, d) => {
-            say_sides(k, c, l);
-            say_count(b", short ", d);
+            say_sides(rt, k, c, l)?;
+            say_count(rt, b", short ", d)
         }
-        Forced::Refused(j) => say(b": refused ", j),
+        Forced::Refused(j) => say(rt, b": refused ", j),
     }
 }
 
 // find, nf_equal and forced_length write nothing.
 fn ask_reading(
+    rt: &impl Print,
     l: u8,
     t: u32,
     terms: &[u32],
@@ -77,14 +78,20 @@ fn ask_reading(
     keys: &[u32],
     known: &[u32],
     s: State,
-) {
+) -> io::Result<()> {
     let at = t as usize;
     let lhs = front(known, at);
     let rhs = rest(known, at);
     match l {
-        102 => say_found(engine::find(terms, cells, chars, reasons, keys, s, t)),
-        113 => say_equality(wordeq::nf_equal(terms, cells, chars, reasons, keys, s, lhs, rhs)),
-        _ => say_forced(forced::forced_length(terms, cells, chars, reasons, keys, s, lhs, rhs)),
+        102 => say_found(rt, engine::find(terms, cells, chars, reasons, keys, s, t)),
+        113 => say_equality(
+            rt,
+            wordeq::nf_equal(terms, cells, chars, reasons, keys, s, lhs, rhs),
+        ),
+        _ => say_forced(
+            rt,
+            forced::forced_length(terms, cells, chars, reasons, keys, s, lhs, rhs),
+        ),
     }
 }
 
@@ -109,24 +116,30 @@ fn explain(
 }
 
 // explain and nf_equal_explain: the answer and the reasons that are counted now, which stay after E.
-fn say_explained(l: u8, r: Added, reasons: &[u32], c: Counts) -> Counts {
+fn say_explained(
+    rt: &impl Print,
+    l: u8,
+    r: Added,
+    reasons: &[u32],
+    c: Counts,
+) -> io::Result<Counts> {
     match r {
         Added::Counts(d) => {
-            io::write_all(1, b": ");
-            say_reasons(reasons, d.reasons);
+            rt.write_all(b": ")?;
+            say_reasons(rt, reasons, d.reasons)?;
             if l == 69 {
-                return reasoned(c, d.reasons);
+                return Ok(reasoned(c, d.reasons));
             }
         }
         Added::Refused(k) => {
-            say(b": refused ", k);
+            say(rt, b": refused ", k)?;
             if l != 81 {
-                io::write_all(1, b", ");
-                say_reasons(reasons, c.reasons);
+                rt.write_all(b", ")?;
+                say_reasons(rt, reasons, c.reasons)?;
             }
         }
     }
-    c
+    Ok(c)
 }
 
 fn form(
@@ -152,18 +165,26 @@ fn form(
     }
 }
 
-fn say_form(f: DeepForm, terms: &[u32], chars: &[u32], reasons: &[u32], list: &[u32], c: Counts) {
+fn say_form(
+    rt: &impl Print,
+    f: DeepForm,
+    terms: &[u32],
+    chars: &[u32],
+    reasons: &[u32],
+    list: &[u32],
+    c: Counts,
+) -> io::Result<()> {
     match f {
         DeepForm::List(n, d) => {
-            io::write_all(1, b": ");
-            say_list(list, n);
-            say_after(terms, chars, reasons, c, d);
+            rt.write_all(b": ")?;
+            say_list(rt, list, n)?;
+            say_after(rt, terms, chars, reasons, c, d)
         }
         DeepForm::None(d) => {
-            io::write_all(1, b": none");
-            say_after(terms, chars, reasons, c, d);
+            rt.write_all(b": none")?;
+            say_after(rt, terms, chars, reasons, c, d)
         }
-        DeepForm::Refused(k) => say(b": refused ", k),
+        DeepForm::Refused(k) => say(rt, b": refused ", k),
     }
 }
 
@@ -178,6 +199,7 @@ fn terms_after(f: DeepForm, c: Counts) -> u32 {
 
 // Answers what is counted from here on.
 pub fn ask(
+    rt: &impl Print,
     l: u8,
     n: &[u32],
     terms: &mut [u32],
@@ -188,26 +210,28 @@ pub fn ask(
     known: &[u32],
     list: &mut [u32],
     c: Counts,
-) -> Counts {
+) -> io::Result<Counts> {
     let a = word(n, 1);
     let b = word(n, 2);
     let s = state(c);
     match l {
         102 | 113 | 104 => {
-            ask_reading(l, a, terms, cells, chars, reasons, keys, known, s);
-            c
+            ask_reading(rt, l, a, terms, cells, chars, reasons, keys, known, s)?;
+            Ok(c)
         }
         101 | 69 | 81 => {
             let r = explain(l, a, b, terms, cells, chars, reasons, keys, known, s);
-            say_explained(l, r, reasons, c)
+            say_explained(rt, l, r, reasons, c)
         }
         110 | 100 => {
             let f = form(l, a, terms, cells, chars, reasons, keys, known, list, s);
-            say_form(f, terms, chars, reasons, list, c);
-            uncount(terms, cells, chars, terms_after(f, c), c)
+            say_form(rt, f, terms, chars, reasons, list, c)?;
+            Ok(uncount(terms, cells, chars, terms_after(f, c), c))
         }
-        97 => ask_empty_parts(a, terms, cells, chars, reasons, keys, known, list, c),
-        _ => solve(l, a, b, terms, cells, chars, reasons, keys, known, list, c),
+        97 => ask_empty_parts(rt, a, terms, cells, chars, reasons, keys, known, list, c),
+        _ => solve(
+            rt, l, a, b, terms, cells, chars, reasons, keys, known, list, c,
+        ),
     }
 }
 

@@ -71,11 +71,13 @@ use building::adding::apply;
 use building::{Counts, none};
 use lending::words_of;
 use lines::indexing::put_index;
+use lines::input::read_text;
 use lines::lending::{front, part};
 use lines::reading::{letter, line_end};
 use marking::{is_mark, mark};
 use reading::read;
 use records::{CELL_SLICE, CHAR_LIMIT, KEY_LIMIT, LIST_LIMIT, REASON_LIMIT, TERM_SLICE};
+use std::io;
 
 pub mod asking;
 pub mod lending;
@@ -92,6 +94,9 @@ const REASON_WORDS: usize = 2 * (REASON_LIMIT + 1);
 
 const KEY_WORDS: usize = 2 * (KEY_LIMIT + 1);
 
+// How many bytes of standard input are read; what follows them is not.
+const TEXT_LIMIT: usize = 65536;
+
 // The numbers or characters of a line, its letter before them.
 const NUMBERS: usize = 256;
 
@@ -100,6 +105,7 @@ const KNOWN_WORDS: usize = 2 * LIST_LIMIT + NUMBERS;
 
 // A command that asks is printed with its answer. As many words are lent of each slice as the counts say.
 fn ask_line(
+    rt: &impl Print,
     l: u8,
     line: &[u8],
     n: &[u32],
@@ -110,7 +116,7 @@ fn ask_line(
     keys: &mut [u32],
     known: &[u32],
     c: Counts,
-) -> Counts {
+) -> io::Result<Counts> {
     let mut list: [u32; LIST_LIMIT] = [0; LIST_LIMIT];
     let t = part(words_of(c, 1), terms);
     let e = part(words_of(c, 2), cells);
@@ -118,8 +124,9 @@ fn ask_line(
     let r = part(words_of(c, 4), reasons);
     let k = part(words_of(c, 5), keys);
     let w = part(words_of(c, 6), &list);
-    io::write_all(1, line);
+    rt.write_all(line)?;
     let d = ask(
+        rt,
         l,
         n,
         &mut terms[..t],
@@ -130,12 +137,13 @@ fn ask_line(
         front(known, c.known),
         &mut list[..w],
         c,
-    );
-    io::write_all(1, b"\n");
-    d
+    )?;
+    rt.write_all(b"\n")?;
+    Ok(d)
 }
 
 fn step(
+    rt: &impl Print,
     line: &[u8],
     terms: &mut [u32],
     cells: &mut [u32],
@@ -145,30 +153,35 @@ fn step(
     known: &mut [u32],
     marks: &mut [u32],
     c: Counts,
-) -> Counts {
+) -> io::Result<Counts> {
     let l = letter(line);
     if l == 35 {
-        io::write_all(1, line);
-        io::write_all(1, b"\n");
-        return c;
+        rt.write_all(line)?;
+        rt.write_all(b"\n")?;
+        return Ok(c);
     }
     let mut n: [u32; NUMBERS] = [0; NUMBERS];
     let last = read(l, line, &mut n);
     if is_mark(l) {
-        let d = mark(l, line, &n, terms, cells, chars, reasons, keys, marks, c);
+        let d = mark(
+            rt, l, line, &n, terms, cells, chars, reasons, keys, marks, c,
+        )?;
         if l != 78 {
-            return d;
+            return Ok(d);
         }
         put_index(terms, cells, chars, d.terms);
-        return d;
+        return Ok(d);
     }
     if is_ask(l) {
-        return ask_line(l, line, &n, terms, cells, chars, reasons, keys, known, c);
+        return ask_line(
+            rt, l, line, &n, terms, cells, chars, reasons, keys, known, c,
+        );
     }
-    apply(l, &n, last, terms, cells, chars, reasons, keys, known, c)
+    Ok(apply(l, &n, last, terms, cells, chars, reasons, keys, known, c))
 }
 
 fn run(
+    rt: &impl Print,
     text: &[u8],
     terms: &mut [u32],
     cells: &mut [u32],
@@ -177,12 +190,13 @@ fn run(
     keys: &mut [u32],
     known: &mut [u32],
     marks: &mut [u32],
-) {
+) -> io::Result<()> {
     let mut c = none();
     let mut at: usize = 0;
     while at < text.len() {
         let end = line_end(text, at);
         c = step(
+            rt,
             &text[at..end],
             terms,
             cells,
@@ -192,14 +206,15 @@ fn run(
             known,
             marks,
             c,
-        );
+        )?;
         at = end + 1;
     }
+    Ok(())
 }
 
-fn main() {
-    let mut text = io::large_buffer();
-    let len = io::read_full(0, &mut text);
+fn main(rt: HostRuntime) -> io::Result<()> {
+    let mut text = [0u8; TEXT_LIMIT];
+    let len = read_text(&rt, &mut text)?;
     let mut terms: [u32; TERM_SLICE] = [0; TERM_SLICE];
     let mut cells: [u32; CELL_SLICE] = [0; CELL_SLICE];
     let mut chars: [u32; CHAR_WORDS] = [0; CHAR_WORDS];
@@ -208,6 +223,7 @@ fn main() {
     let mut known: [u32; KNOWN_WORDS] = [0; KNOWN_WORDS];
     let mut marks: [u32; marking::WORDS] = [0; marking::WORDS];
     run(
+        &rt,
         &text[..len],
         &mut terms,
         &mut cells,
@@ -216,5 +232,5 @@ fn main() {
         &mut keys,
         &mut known,
         &mut marks,
-    );
+    )
 }

@@ -10,6 +10,7 @@ use lines::put;
 use lines::saying::{say, say_count};
 use records::fields::word;
 use records::{State, fields};
+use std::io;
 use std::num::wrapping_add_usize;
 
 // The words lent for marks stand first; after them how many marks stand, and how many joins are recorded.
@@ -28,15 +29,16 @@ fn standing(marks: &[u32]) -> Standing {
 }
 
 // Prints the answer, with the counts of marks and of joins after the call, which are counted from here on.
-fn say_answer(r: Answer, marks: &mut [u32]) {
+fn say_answer(rt: &impl Print, r: Answer, marks: &mut [u32]) -> io::Result<()> {
     match r {
         Answer::Given(n, d) => {
-            say(b": ", n);
-            say_count(b", ", d.marks);
-            say_count(b" ", d.joins);
+            say(rt, b": ", n)?;
+            say_count(rt, b", ", d.marks)?;
+            say_count(rt, b" ", d.joins)?;
             count(marks, narrow(d.marks), narrow(d.joins));
+            Ok(())
         }
-        Answer::Refused(k) => say(b": refused ", k),
+        Answer::Refused(k) => say(rt, b": refused ", k),
     }
 }
 
@@ -57,63 +59,66 @@ fn is_bare(terms: &[u32], t: u32) -> bool {
     fields::stamp(terms, t) == 0
 }
 
-fn say_class(terms: &[u32], t: u32) {
+fn say_class(rt: &impl Print, terms: &[u32], t: u32) -> io::Result<()> {
     if is_bare(terms, t) {
-        return;
+        return Ok(());
     }
-    say(b" (", t);
-    say(b" ", fields::class_parent(terms, t));
-    say(b" ", fields::forest_parent(terms, t));
-    say(b" ", fields::label_kind(terms, t));
-    say(b" ", fields::label_value(terms, t));
-    say(b" ", fields::stamp(terms, t));
-    io::write_all(1, b")");
+    say(rt, b" (", t)?;
+    say(rt, b" ", fields::class_parent(terms, t))?;
+    say(rt, b" ", fields::forest_parent(terms, t))?;
+    say(rt, b" ", fields::label_kind(terms, t))?;
+    say(rt, b" ", fields::label_value(terms, t))?;
+    say(rt, b" ", fields::stamp(terms, t))?;
+    rt.write_all(b")")
 }
 
 // The terms up to n.
-fn say_classes(terms: &[u32], n: u32) {
+fn say_classes(rt: &impl Print, terms: &[u32], n: u32) -> io::Result<()> {
     let mut t: u32 = 0;
     while t < n {
         t += 1;
-        say_class(terms, t);
+        say_class(rt, terms, t)?;
     }
+    Ok(())
 }
 
-fn say_word(marks: &[u32], i: usize) {
-    say(b" ", word(marks, i));
+fn say_word(rt: &impl Print, marks: &[u32], i: usize) -> io::Result<()> {
+    say(rt, b" ", word(marks, i))
 }
 
-fn say_marks(marks: &[u32], n: usize) {
+fn say_marks(rt: &impl Print, marks: &[u32], n: usize) -> io::Result<()> {
     let mut i: usize = 0;
     while i < n {
-        say_word(marks, i);
+        say_word(rt, marks, i)?;
         i += 1;
     }
+    Ok(())
 }
 
 // Join j: three words, after those of the marks.
-fn say_join(marks: &[u32], j: usize) {
+fn say_join(rt: &impl Print, marks: &[u32], j: usize) -> io::Result<()> {
     let three = wrapping_add_usize(wrapping_add_usize(j, j), j);
     let at = wrapping_add_usize(MARK_LIMIT, three);
-    say(b" (", word(marks, at));
-    say_word(marks, wrapping_add_usize(at, 1));
-    say_word(marks, wrapping_add_usize(at, 2));
-    io::write_all(1, b")");
+    say(rt, b" (", word(marks, at))?;
+    say_word(rt, marks, wrapping_add_usize(at, 1))?;
+    say_word(rt, marks, wrapping_add_usize(at, 2))?;
+    rt.write_all(b")")
 }
 
-fn say_joins(marks: &[u32], n: usize) {
+fn say_joins(rt: &impl Print, marks: &[u32], n: usize) -> io::Result<()> {
     let mut j: usize = 0;
     while j < n {
-        say_join(marks, j);
+        say_join(rt, marks, j)?;
         j += 1;
     }
+    Ok(())
 }
 
-fn say_trail(marks: &[u32]) {
+fn say_trail(rt: &impl Print, marks: &[u32]) -> io::Result<()> {
     let d = standing(marks);
-    say_marks(marks, d.marks);
-    io::write_all(1, b",");
-    say_joins(marks, d.joins);
+    say_marks(rt, marks, d.marks)?;
+    rt.write_all(b",")?;
+    say_joins(rt, marks, d.joins)
 }
 
 fn ask(
@@ -172,6 +177,7 @@ fn ask_lent(
 
 // A command that prints.
 fn tell(
+    rt: &impl Print,
     l: u8,
     n: &[u32],
     terms: &mut [u32],
@@ -181,25 +187,26 @@ fn tell(
     keys: &[u32],
     marks: &mut [u32],
     c: Counts,
-) {
+) -> io::Result<()> {
     match l {
         112 => {
-            io::write_all(1, b":");
-            say_classes(terms, c.terms);
+            rt.write_all(b":")?;
+            say_classes(rt, terms, c.terms)
         }
         116 => {
-            io::write_all(1, b":");
-            say_trail(marks);
+            rt.write_all(b":")?;
+            say_trail(rt, marks)
         }
         _ => {
             let r = ask_lent(l, n, terms, cells, chars, reasons, keys, marks, c);
-            say_answer(r, marks);
+            say_answer(rt, r, marks)
         }
     }
 }
 
 // One of these commands: N, w and z change words and counts, the others print. Answers what is counted from here on.
 pub fn mark(
+    rt: &impl Print,
     l: u8,
     line: &[u8],
     n: &[u32],
@@ -210,23 +217,23 @@ pub fn mark(
     keys: &[u32],
     marks: &mut [u32],
     c: Counts,
-) -> Counts {
+) -> io::Result<Counts> {
     let a = word(n, 1);
     let b = word(n, 2);
     match l {
         78 => {
             count(marks, 0, 0);
-            return none();
+            return Ok(none());
         }
         119 => put(marks, a as usize, b),
         122 => count(marks, a, b),
         _ => {
-            io::write_all(1, line);
-            tell(l, n, terms, cells, chars, reasons, keys, marks, c);
-            io::write_all(1, b"\n");
+            rt.write_all(line)?;
+            tell(rt, l, n, terms, cells, chars, reasons, keys, marks, c)?;
+            rt.write_all(b"\n")?;
         }
     }
-    c
+    Ok(c)
 }
 
 pub fn is_mark(l: u8) -> bool {

@@ -12,32 +12,35 @@ use lines::lending::{front, rest};
 use lines::saying::say;
 use records::State;
 use sides::StepResult;
+use std::io;
 
-fn say_guard(g: i32) {
+fn say_guard(rt: &impl Print, g: i32) -> io::Result<()> {
     let mut piece = [0u8; 24];
     let n = put_guard(&mut piece, g);
-    io::write_all(1, &piece[..n]);
+    rt.write_all(&piece[..n])
 }
 
-fn say_link(link: bool) {
+fn say_link(rt: &impl Print, link: bool) -> io::Result<()> {
     if link {
-        io::write_all(1, b" link");
+        return rt.write_all(b" link");
     }
+    Ok(())
 }
 
-fn say_propagate(v: u32, w: u32, link: bool) {
-    say(b": propagate ", v);
-    say(b" ", w);
-    say_link(link);
+fn say_propagate(rt: &impl Print, v: u32, w: u32, link: bool) -> io::Result<()> {
+    say(rt, b": propagate ", v)?;
+    say(rt, b" ", w)?;
+    say_link(rt, link)
 }
 
-fn say_split(list: &[u32], n: usize, g: i32) {
-    io::write_all(1, b": split ");
-    say_list(list, n);
-    say_guard(g);
+fn say_split(rt: &impl Print, list: &[u32], n: usize, g: i32) -> io::Result<()> {
+    rt.write_all(b": split ")?;
+    say_list(rt, list, n)?;
+    say_guard(rt, g)
 }
 
 fn say_answer(
+    rt: &impl Print,
     r: StepResult,
     terms: &[u32],
     cells: &[u32],
@@ -45,29 +48,32 @@ fn say_answer(
     reasons: &[u32],
     list: &[u32],
     c: Counts,
-) -> Counts {
+) -> io::Result<Counts> {
     match r {
-        StepResult::Done(d) => say_store(b": done", terms, cells, chars, reasons, c, d),
-        StepResult::Saturated(d) => say_store(b": saturated", terms, cells, chars, reasons, c, d),
-        StepResult::Conflict(d) => say_store(b": conflict", terms, cells, chars, reasons, c, d),
+        StepResult::Done(d) => say_store(rt, b": done", terms, cells, chars, reasons, c, d),
+        StepResult::Saturated(d) => {
+            say_store(rt, b": saturated", terms, cells, chars, reasons, c, d)
+        }
+        StepResult::Conflict(d) => say_store(rt, b": conflict", terms, cells, chars, reasons, c, d),
         StepResult::Propagate(d, v, w, link) => {
-            say_propagate(v, w, link);
-            say_store(b"", terms, cells, chars, reasons, c, d)
+            say_propagate(rt, v, w, link)?;
+            say_store(rt, b"", terms, cells, chars, reasons, c, d)
         }
         StepResult::Split(d, n, g, k) => {
-            say_split(list, n, g);
-            let e = say_store(b"", terms, cells, chars, reasons, c, d);
-            say(b"\n made ", k);
-            e
+            say_split(rt, list, n, g)?;
+            let e = say_store(rt, b"", terms, cells, chars, reasons, c, d)?;
+            say(rt, b"\n made ", k)?;
+            Ok(e)
         }
         StepResult::Refused(k) => {
-            say(b": refused ", k);
-            c
+            say(rt, b": refused ", k)?;
+            Ok(c)
         }
     }
 }
 
 fn say_outcome(
+    rt: &impl Print,
     o: Outcome,
     terms: &[u32],
     cells: &[u32],
@@ -75,10 +81,12 @@ fn say_outcome(
     reasons: &[u32],
     list: &[u32],
     c: Counts,
-) -> Counts {
+) -> io::Result<Counts> {
     match o {
-        Outcome::Answered(r) => say_answer(r, terms, cells, chars, reasons, list, c),
-        Outcome::Unexpanded(d) => say_store(b": unexpanded", terms, cells, chars, reasons, c, d),
+        Outcome::Answered(r) => say_answer(rt, r, terms, cells, chars, reasons, list, c),
+        Outcome::Unexpanded(d) => {
+            say_store(rt, b": unexpanded", terms, cells, chars, reasons, c, d)
+        }
     }
 }
 
@@ -107,6 +115,7 @@ fn outcome(
 
 // Answers what is counted from here on: what was added stays after B alone.
 pub fn solve(
+    rt: &impl Print,
     l: u8,
     a: u32,
     b: u32,
@@ -118,19 +127,20 @@ pub fn solve(
     known: &[u32],
     list: &mut [u32],
     c: Counts,
-) -> Counts {
+) -> io::Result<Counts> {
     let g = guard_of_word(b);
     let s = state(c);
     let o = outcome(l, a, g, terms, cells, chars, reasons, keys, known, list, s);
-    let d = say_outcome(o, terms, cells, chars, reasons, list, c);
+    let d = say_outcome(rt, o, terms, cells, chars, reasons, list, c)?;
     if l == 66 {
-        return d;
+        return Ok(d);
     }
-    uncount(terms, cells, chars, d.terms, c)
+    Ok(uncount(terms, cells, chars, d.terms, c))
 }
 
 // The variables listed, the number of "", the link flag, and the store. Answers what is counted after the call.
 fn say_parts(
+    rt: &impl Print,
     r: Empties,
     terms: &[u32],
     cells: &[u32],
@@ -138,23 +148,24 @@ fn say_parts(
     reasons: &[u32],
     list: &[u32],
     c: Counts,
-) -> Counts {
+) -> io::Result<Counts> {
     match r {
         Empties::Parts(d, e, n, link) => {
-            io::write_all(1, b": ");
-            say_list(list, n);
-            say(b", ", e);
-            say_link(link);
-            say_store(b"", terms, cells, chars, reasons, c, d)
+            rt.write_all(b": ")?;
+            say_list(rt, list, n)?;
+            say(rt, b", ", e)?;
+            say_link(rt, link)?;
+            say_store(rt, b"", terms, cells, chars, reasons, c, d)
         }
         Empties::Refused(k) => {
-            say(b": refused ", k);
-            c
+            say(rt, b": refused ", k)?;
+            Ok(c)
         }
     }
 }
 
 pub fn ask_empty_parts(
+    rt: &impl Print,
     a: u32,
     terms: &mut [u32],
     cells: &[u32],
@@ -164,10 +175,10 @@ pub fn ask_empty_parts(
     known: &[u32],
     list: &mut [u32],
     c: Counts,
-) -> Counts {
+) -> io::Result<Counts> {
     let s = state(c);
     let lhs = front(known, a as usize);
     let rhs = rest(known, a as usize);
     let r = empties::empty_parts(terms, cells, chars, reasons, keys, s, lhs, rhs, list);
-    say_parts(r, terms, cells, chars, reasons, list, c)
+    say_parts(rt, r, terms, cells, chars, reasons, list, c)
 }

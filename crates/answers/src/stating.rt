@@ -4,41 +4,56 @@ use building::Counts;
 use building::words::narrow;
 use lines::saying::{say, say_count};
 use records::{State, fields};
+use std::io;
 
 // A concatenation made has two parts.
-fn say_concatenation(cells: &[u32], e: u32) {
-    say(b" ", fields::value(cells, e));
-    say(b"+", fields::value(cells, fields::next(cells, e)));
+fn say_concatenation(rt: &impl Print, cells: &[u32], e: u32) -> io::Result<()> {
+    say(rt, b" ", fields::value(cells, e))?;
+    say(rt, b"+", fields::value(cells, fields::next(cells, e)))
 }
 
-fn say_term(terms: &[u32], cells: &[u32], chars: &[u32], t: u32) {
+fn say_term(
+    rt: &impl Print,
+    terms: &[u32],
+    cells: &[u32],
+    chars: &[u32],
+    t: u32,
+) -> io::Result<()> {
     let first = fields::first(terms, t);
     let second = fields::second(terms, t);
     match fields::kind(terms, t) {
-        1 => say_constant(terms, chars, t),
+        1 => say_constant(rt, terms, chars, t),
         2 => {
-            io::write_all(1, b" ");
-            say_text(chars, first, second);
+            rt.write_all(b" ")?;
+            say_text(rt, chars, first, second)
         }
-        3 => say_concatenation(cells, first),
+        3 => say_concatenation(rt, cells, first),
         4 => {
-            say(b" |", first);
-            io::write_all(1, b"|");
+            say(rt, b" |", first)?;
+            rt.write_all(b"|")
         }
         _ => {
-            say(b" ", first);
-            say(b"=", second);
+            say(rt, b" ", first)?;
+            say(rt, b"=", second)
         }
     }
 }
 
 // The terms above `above`, to n.
-fn say_terms(terms: &[u32], cells: &[u32], chars: &[u32], above: u32, n: u32) {
+fn say_terms(
+    rt: &impl Print,
+    terms: &[u32],
+    cells: &[u32],
+    chars: &[u32],
+    above: u32,
+    n: u32,
+) -> io::Result<()> {
     let mut t = above;
     while t < n {
         t += 1;
-        say_term(terms, cells, chars, t);
+        say_term(rt, terms, cells, chars, t)?;
     }
+    Ok(())
 }
 
 fn kept(c: Counts, d: State) -> Counts {
@@ -54,6 +69,7 @@ fn kept(c: Counts, d: State) -> Counts {
 
 // The case, the reasons, the new counts and the terms made. Answers what is counted after the call.
 pub fn say_store(
+    rt: &impl Print,
     case: &[u8],
     terms: &[u32],
     cells: &[u32],
@@ -61,15 +77,15 @@ pub fn say_store(
     reasons: &[u32],
     c: Counts,
     d: State,
-) -> Counts {
-    io::write_all(1, case);
-    io::write_all(1, b", ");
-    say_reasons(reasons, d.reasons);
-    say_count(b", ", d.terms);
-    say_count(b" ", d.cells);
-    say_count(b" ", d.chars);
-    say_count(b" ", d.keys);
-    say(b" ", d.names);
-    say_terms(terms, cells, chars, c.terms, narrow(d.terms));
-    kept(c, d)
+) -> io::Result<Counts> {
+    rt.write_all(case)?;
+    rt.write_all(b", ")?;
+    say_reasons(rt, reasons, d.reasons)?;
+    say_count(rt, b", ", d.terms)?;
+    say_count(rt, b" ", d.cells)?;
+    say_count(rt, b" ", d.chars)?;
+    say_count(rt, b" ", d.keys)?;
+    say(rt, b" ", d.names)?;
+    say_terms(rt, terms, cells, chars, c.terms, narrow(d.terms))?;
+    Ok(kept(c, d))
 }

@@ -11,18 +11,19 @@ use records::rules::is_list;
 use records::{
     CELL_SLICE, CHAR_LIMIT, KEY_SLICE, LIST_LIMIT, Made, REASON_SLICE, State, TERM_SLICE,
 };
+use std::io;
 
 // A line that finds the store full is refused; another that makes no term is bad.
-fn after_making(r: Made, s: Session) -> Session {
+fn after_making(rt: &impl Print, r: Made, s: Session) -> io::Result<Session> {
     match r {
-        Made::Term(t, c) => with_counts(s, c),
+        Made::Term(t, c) => Ok(with_counts(s, c)),
         Made::Refused(k) => {
             if k == 8 {
-                say_refused(8);
-                return s;
+                say_refused(rt, 8)?;
+                return Ok(s);
             }
-            say_bad(s.line);
-            s
+            say_bad(rt, s.line)?;
+            Ok(s)
         }
     }
 }
@@ -55,6 +56,7 @@ fn make(
 
 // `M child parent n`.
 fn merge_classes(
+    rt: &impl Print,
     child: u32,
     parent: u32,
     n: u32,
@@ -64,15 +66,15 @@ fn merge_classes(
     reasons: &[u32; REASON_SLICE],
     keys: &[u32; KEY_SLICE],
     s: Session,
-) -> Session {
+) -> io::Result<Session> {
     let c = s.counts;
     let m = s.stamp;
     let k = merge(terms, cells, chars, reasons, keys, c, child, parent, n, m);
     if k != 0 {
-        say_bad(s.line);
-        return s;
+        say_bad(rt, s.line)?;
+        return Ok(s);
     }
-    with_stamp(s)
+    Ok(with_stamp(s))
 }
 
 fn copy(from: &[u32], to: &mut [u32; LIST_LIMIT]) {
@@ -85,24 +87,26 @@ fn copy(from: &[u32], to: &mut [u32; LIST_LIMIT]) {
 
 // `K ..`: a list of string terms.
 fn set_known(
+    rt: &impl Print,
     list: &[u32; LIST_LIMIT],
     n: usize,
     known: &mut [u32; LIST_LIMIT],
     terms: &[u32; TERM_SLICE],
     s: Session,
-) -> Session {
+) -> io::Result<Session> {
     let c = s.counts;
     let w = front(list, n);
     if !is_list(terms, c, w) {
-        say_bad(s.line);
-        return s;
+        say_bad(rt, s.line)?;
+        return Ok(s);
     }
     copy(w, known);
-    with_known(s, w.len())
+    Ok(with_known(s, w.len()))
 }
 
 // `R e g`.
 fn resolve(
+    rt: &impl Print,
     e: u32,
     g: i32,
     list: &mut [u32; LIST_LIMIT],
@@ -113,15 +117,16 @@ fn resolve(
     reasons: &mut [u32; REASON_SLICE],
     keys: &mut [u32; KEY_SLICE],
     s: Session,
-) -> Session {
+) -> io::Result<Session> {
     let c = s.counts;
     let w = front(known, s.known);
     let o = equation::step(terms, cells, chars, reasons, keys, c, w, e, g, list);
-    let d = say_outcome(o, reasons, list, c);
-    with_counts(s, without_reasons(d))
+    let d = say_outcome(rt, o, reasons, list, c)?;
+    Ok(with_counts(s, without_reasons(d)))
 }
 
 pub(crate) fn act(
+    rt: &impl Print,
     p: Parsed,
     list: &mut [u32; LIST_LIMIT],
     known: &mut [u32; LIST_LIMIT],
@@ -131,15 +136,17 @@ pub(crate) fn act(
     reasons: &mut [u32; REASON_SLICE],
     keys: &mut [u32; KEY_SLICE],
     s: Session,
-) -> Session {
+) -> io::Result<Session> {
     match p {
-        Parsed::Merge(t, u, n) => merge_classes(t, u, n, terms, cells, chars, reasons, keys, s),
-        Parsed::Known(n) => set_known(list, n, known, terms, s),
-        Parsed::Resolve(e, g) => resolve(e, g, list, known, terms, cells, chars, reasons, keys, s),
+        Parsed::Merge(t, u, n) => merge_classes(rt, t, u, n, terms, cells, chars, reasons, keys, s),
+        Parsed::Known(n) => set_known(rt, list, n, known, terms, s),
+        Parsed::Resolve(e, g) => resolve(
+            rt, e, g, list, known, terms, cells, chars, reasons, keys, s,
+        ),
         _ => {
             let c = s.counts;
             let r = make(p, list, terms, cells, chars, reasons, keys, c);
-            after_making(r, s)
+            after_making(rt, r, s)
         }
     }
 }

@@ -1,11 +1,12 @@
 // The front of a line.
-ghost use Rattle.io.specs.Counts.{IsPrefixLen};
+ghost use Rattle.std.specs.Prelude.{◌≡◌, ◌≤◌, length, take};
 
 use lines::lending::least;
 
 // n, or the length of a shorter line.
 fn part_of_line(n: usize, s: &[u8]) -> usize
-    ensures { IsPrefixLen result s.now }
+    ensures within { result ≤ length s.now }
+    ensures taken { result ≡ length (take result s.now) }
 {
     least(n, s.len())
 }

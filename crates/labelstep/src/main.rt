@@ -12,9 +12,15 @@ use crate::read::{take_bytes, take_last};
 use crate::session::{Session, start};
 use commands::LINE_LIMIT;
 use records::{CELL_SLICE, CHAR_LIMIT, KEY_SLICE, LIST_LIMIT, REASON_SLICE, TERM_SLICE};
+use std::io;
+use std::io::Read;
+
+// How many bytes are read at once, at most.
+const CHUNK: usize = 4096;
 
 // Until the input ends. It is read at most as often as a u64 counts.
 fn run(
+    rt: &(impl Input + Print),
     line: &mut [u8; LINE_LIMIT],
     list: &mut [u32; LIST_LIMIT],
     known: &mut [u32; LIST_LIMIT],
@@ -24,23 +30,24 @@ fn run(
     reasons: &mut [u32; REASON_SLICE],
     keys: &mut [u32; KEY_SLICE],
     was: Session,
-) {
-    let mut text = io::buffer();
+) -> io::Result<()> {
+    let mut input = rt.reader();
+    let mut text = [0u8; CHUNK];
     let mut s = was;
-    let mut left: u64 = 0xFFFF_FFFF_FFFF_FFFF;
-    while 0 < left {
-        let n = io::count(libc::read(0, &mut text), &text);
+    for _ in 0..u64::MAX {
+        let n = input.read(&mut text)?;
         if n == 0 {
-            take_last(line, list, known, terms, cells, chars, reasons, keys, s);
-            return;
+            return take_last(rt, line, list, known, terms, cells, chars, reasons, keys, s);
         }
         let b = &text[..n];
-        s = take_bytes(b, line, list, known, terms, cells, chars, reasons, keys, s);
-        left -= 1;
+        s = take_bytes(
+            rt, b, line, list, known, terms, cells, chars, reasons, keys, s,
+        )?;
     }
+    Ok(())
 }
 
-fn main() {
+fn main(rt: HostRuntime) -> io::Result<()> {
     let mut line: [u8; LINE_LIMIT] = [0; LINE_LIMIT];
     let mut list: [u32; LIST_LIMIT] = [0; LIST_LIMIT];
     let mut known: [u32; LIST_LIMIT] = [0; LIST_LIMIT];
@@ -50,6 +57,7 @@ fn main() {
     let mut reasons: [u32; REASON_SLICE] = [0; REASON_SLICE];
     let mut keys: [u32; KEY_SLICE] = [0; KEY_SLICE];
     run(
+        &rt,
         &mut line,
         &mut list,
         &mut known,
@@ -59,5 +67,5 @@ fn main() {
         &mut reasons,
         &mut keys,
         start(),
-    );
+    )
 }

@@ -6,9 +6,11 @@ use crate::session::{Session, next_line, with_length};
 use commands::LINE_LIMIT;
 use commands::parse::parse;
 use records::{CELL_SLICE, CHAR_LIMIT, KEY_SLICE, LIST_LIMIT, REASON_SLICE, TERM_SLICE};
+use std::io;
 
 // A line that is whole.
 fn take_line(
+    rt: &impl Print,
     line: &[u8; LINE_LIMIT],
     list: &mut [u32; LIST_LIMIT],
     known: &mut [u32; LIST_LIMIT],
@@ -18,14 +20,15 @@ fn take_line(
     reasons: &mut [u32; REASON_SLICE],
     keys: &mut [u32; KEY_SLICE],
     s: Session,
-) -> Session {
+) -> io::Result<Session> {
     if s.over {
-        say_bad(s.line);
-        return next_line(s);
+        say_bad(rt, s.line)?;
+        return Ok(next_line(s));
     }
     let w = front_of_line(line, s.len);
     let p = parse(w, list);
-    next_line(act(p, list, known, terms, cells, chars, reasons, keys, s))
+    let d = act(rt, p, list, known, terms, cells, chars, reasons, keys, s)?;
+    Ok(next_line(d))
 }
 
 // One byte more of a line: what a line does not hold is passed over.
@@ -39,6 +42,7 @@ fn keep(line: &mut [u8; LINE_LIMIT], b: u8, s: Session) -> Session {
 }
 
 fn take_byte(
+    rt: &impl Print,
     b: u8,
     line: &mut [u8; LINE_LIMIT],
     list: &mut [u32; LIST_LIMIT],
@@ -49,14 +53,15 @@ fn take_byte(
     reasons: &mut [u32; REASON_SLICE],
     keys: &mut [u32; KEY_SLICE],
     s: Session,
-) -> Session {
+) -> io::Result<Session> {
     if b == 10 {
-        return take_line(line, list, known, terms, cells, chars, reasons, keys, s);
+        return take_line(rt, line, list, known, terms, cells, chars, reasons, keys, s);
     }
-    keep(line, b, s)
+    Ok(keep(line, b, s))
 }
 
 pub(crate) fn take_bytes(
+    rt: &impl Print,
     text: &[u8],
     line: &mut [u8; LINE_LIMIT],
     list: &mut [u32; LIST_LIMIT],
@@ -67,19 +72,22 @@ pub(crate) fn take_bytes(
     reasons: &mut [u32; REASON_SLICE],
     keys: &mut [u32; KEY_SLICE],
     was: Session,
-) -> Session {
+) -> io::Result<Session> {
     let mut s = was;
     let mut i: usize = 0;
     while i < text.len() {
         let b = text[i];
-        s = take_byte(b, line, list, known, terms, cells, chars, reasons, keys, s);
+        s = take_byte(
+            rt, b, line, list, known, terms, cells, chars, reasons, keys, s,
+        )?;
         i += 1;
     }
-    s
+    Ok(s)
 }
 
 // A last line without a line end counts.
 pub(crate) fn take_last(
+    rt: &impl Print,
     line: &[u8; LINE_LIMIT],
     list: &mut [u32; LIST_LIMIT],
     known: &mut [u32; LIST_LIMIT],
@@ -89,8 +97,9 @@ pub(crate) fn take_last(
     reasons: &mut [u32; REASON_SLICE],
     keys: &mut [u32; KEY_SLICE],
     s: Session,
-) {
+) -> io::Result<()> {
     if s.len != 0 {
-        take_line(line, list, known, terms, cells, chars, reasons, keys, s);
+        take_line(rt, line, list, known, terms, cells, chars, reasons, keys, s)?;
     }
+    Ok(())
 }

@@ -1,6 +1,5 @@
 // How much of a slice is lent.
-ghost use Rattle.std.specs.Prelude.{◌≤◌};
-ghost use Rattle.io.specs.Counts.{IsPrefixLen};
+ghost use Rattle.std.specs.Prelude.{◌≡◌, ◌≤◌, length, take};
 
 pub fn least(a: usize, b: usize) -> usize
     ensures { result ≤ b }
@@ -13,7 +12,8 @@ pub fn least(a: usize, b: usize) -> usize
 
 // n, or the length of a shorter slice.
 pub fn part(n: usize, s: &[u32]) -> usize
-    ensures { IsPrefixLen result s.now }
+    ensures within { result ≤ length s.now }
+    ensures taken { result ≡ length (take result s.now) }
 {
     least(n, s.len())
 }

@@ -3,6 +3,7 @@
 #![tactic(auto)]
 
 pub mod indexing;
+pub mod input;
 pub mod lending;
 pub mod reading;
 pub mod saying;

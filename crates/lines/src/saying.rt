@@ -1,10 +1,12 @@
 // A number printed after some bytes.
-pub fn say(before: &[u8], x: u32) {
-    io::write_all(1, before);
-    io::print_decimal(1, x as u64);
+use std::io;
+
+pub fn say(rt: &impl Print, before: &[u8], x: u32) -> io::Result<()> {
+    rt.write_all(before)?;
+    rt.print(x)
 }
 
-pub fn say_count(before: &[u8], n: usize) {
-    io::write_all(1, before);
-    io::print_decimal(1, n as u64);
+pub fn say_count(rt: &impl Print, before: &[u8], n: usize) -> io::Result<()> {
+    rt.write_all(before)?;
+    rt.print(n)
 }

@@ -6,8 +6,10 @@ use lines::lending::{front, part};
 use lines::reading::numbers;
 use records::fields::word;
 use records::{Made, State};
+use std::io;
 
 pub(crate) fn ask_audit(
+    rt: &impl Print,
     name: &[u8],
     terms: &[u32],
     cells: &[u32],
@@ -15,7 +17,7 @@ pub(crate) fn ask_audit(
     reasons: &[u32],
     keys: &[u32],
     s: Setup,
-) {
+) -> io::Result<()> {
     let c = s.counts;
     let z = s.lens;
     let k = records::audit(
@@ -26,8 +28,8 @@ pub(crate) fn ask_audit(
         front(keys, z.keys),
         c,
     );
-    say_named(name, k);
-    io::write_all(1, b"\n");
+    say_named(rt, name, k)?;
+    rt.write_all(b"\n")
 }
 
 // The making calls, by their letter.
@@ -91,6 +93,7 @@ fn make_of(
 }
 
 pub(crate) fn ask_make(
+    rt: &impl Print,
     l: u8,
     n: &[u32],
     name: &[u8],
@@ -101,7 +104,7 @@ pub(crate) fn ask_make(
     keys: &[u32],
     list: &[u32],
     s: Setup,
-) -> Setup {
+) -> io::Result<Setup> {
     let c = s.counts;
     let z = s.lens;
     let w = numbers(list, s.list);
@@ -109,5 +112,5 @@ pub(crate) fn ask_make(
     save(terms, cells, chars, &mut old);
     let r = make_of(l, n, terms, cells, chars, reasons, keys, z, c, w);
     let same = kept(refusal(r), c, terms, cells, chars, &old);
-    tell(name, r, same, s)
+    tell(rt, name, r, same, s)
 }

@@ -26,10 +26,12 @@ use crate::asking::{ask_audit, ask_make};
 use crate::changing::change;
 use crate::counting::{counts_of, lens_of, recount};
 use lines::indexing::put_index;
+use lines::input::read_text;
 use lines::reading::{letter, line_end, read_line};
 use records::{
     CELL_LIMIT, CELL_WIDTH, CHAR_LIMIT, KEY_LIMIT, REASON_LIMIT, State, TERM_SLICE, TERM_WIDTH,
 };
+use std::io;
 
 // The words of each slice: room for one record more than each limit.
 pub(crate) const TERM_WORDS: usize = TERM_SLICE + TERM_WIDTH;
@@ -41,6 +43,9 @@ pub(crate) const CHAR_WORDS: usize = CHAR_LIMIT + 8;
 pub(crate) const REASON_WORDS: usize = 2 * (REASON_LIMIT + 1);
 
 pub(crate) const KEY_WORDS: usize = 2 * (KEY_LIMIT + 1);
+
+// How many bytes of standard input are read; what follows them is not.
+const TEXT_LIMIT: usize = 65536;
 
 // The numbers of a line, its letter before them.
 const NUMBERS: usize = 64;
@@ -87,6 +92,7 @@ fn is_making(l: u8) -> bool {
 }
 
 fn step(
+    rt: &impl Print,
     line: &[u8],
     terms: &mut [u32],
     cells: &mut [u32],
@@ -95,30 +101,33 @@ fn step(
     keys: &mut [u32],
     list: &mut [u32],
     was: Setup,
-) -> Setup {
+) -> io::Result<Setup> {
     let mut n: [u32; NUMBERS] = [0; NUMBERS];
     let l = letter(line);
     let p = read_line(line, &mut n);
     let at = p.at;
     let name = &line[at..];
     if is_making(l) {
-        return ask_make(l, &n, name, terms, cells, chars, reasons, keys, list, was);
+        return ask_make(
+            rt, l, &n, name, terms, cells, chars, reasons, keys, list, was,
+        );
     }
     if l == 65 {
-        ask_audit(name, terms, cells, chars, reasons, keys, was);
-        return was;
+        ask_audit(rt, name, terms, cells, chars, reasons, keys, was)?;
+        return Ok(was);
     }
     change(l, &n, terms, cells, chars, reasons, keys, list);
     let s = recount(l, &n, p.count, was);
     let c = s.counts;
     if !is_record(l) {
-        return s;
+        return Ok(s);
     }
     put_index(terms, cells, chars, narrow(c.terms));
-    s
+    Ok(s)
 }
 
 fn run(
+    rt: &impl Print,
     text: &[u8],
     terms: &mut [u32],
     cells: &mut [u32],
@@ -126,7 +135,7 @@ fn run(
     reasons: &mut [u32],
     keys: &mut [u32],
     list: &mut [u32],
-) {
+) -> io::Result<()> {
     let mut s = Setup {
         counts: counts_of(0, 0, 0, 0, 0, 0),
         lens: lens_of(0, 0, 0, 0, 0),
@@ -135,14 +144,25 @@ fn run(
     let mut at: usize = 0;
     while at < text.len() {
         let e = line_end(text, at);
-        s = step(&text[at..e], terms, cells, chars, reasons, keys, list, s);
+        s = step(
+            rt,
+            &text[at..e],
+            terms,
+            cells,
+            chars,
+            reasons,
+            keys,
+            list,
+            s,
+        )?;
         at = e + 1;
     }
+    Ok(())
 }
 
-fn main() {
-    let mut text = io::large_buffer();
-    let len = io::read_full(0, &mut text);
+fn main(rt: HostRuntime) -> io::Result<()> {
+    let mut text = [0u8; TEXT_LIMIT];
+    let len = read_text(&rt, &mut text)?;
     let mut terms: [u32; TERM_WORDS] = [0; TERM_WORDS];
     let mut cells: [u32; CELL_WORDS] = [0; CELL_WORDS];
     let mut chars: [u32; CHAR_WORDS] = [0; CHAR_WORDS];
@@ -150,6 +170,7 @@ fn main() {
     let mut keys: [u32; KEY_WORDS] = [0; KEY_WORDS];
     let mut list: [u32; CHAR_WORDS] = [0; CHAR_WORDS];
     run(
+        &rt,
         &text[..len],
         &mut terms,
         &mut cells,
@@ -157,5 +178,5 @@ fn main() {
         &mut reasons,
         &mut keys,
         &mut list,
-    );
+    )
 }
