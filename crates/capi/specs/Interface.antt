@@ -1,8 +1,8 @@
 -- What an exported call does with the words that a C caller lends it.
-use Rattle.std.specs.Prelude.{◌≡◌, Bool, ◌&&◌, List, [], ℕ, zero, suc, length, get_or, take, drop, leb}
+use Rattle.std.specs.Prelude.{◌≡◌, Bool, ◌&&◌, List, [], ℕ, zero, suc, length, get_or, take, drop, leb, if◌then◌else◌}
 use denote.Triple.Both.{Both}
 use Rattle.records.specs.declared.State.{State}
-use Rattle.records.specs.Lists.{if◌then◌else◌, Every}
+use Rattle.records.specs.Lists.{Every}
 use Rattle.records.specs.Store.{Out, ok, stop}
 use Rattle.records.specs.View.{Lent, store_of}
 use Rattle.records.specs.Store.{Store, Work}

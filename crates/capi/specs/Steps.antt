@@ -1,6 +1,5 @@
 -- What the exported call of the step over one equation promises.
-use Rattle.std.specs.Prelude.{◌≡◌, List, [], ◌∷◌, ℕ, get_or, ℤ, ltb}
-use Rattle.records.specs.Lists.{if◌then◌else◌}
+use Rattle.std.specs.Prelude.{◌≡◌, List, [], ◌∷◌, ℕ, get_or, ℤ, ltb, if◌then◌else◌}
 use Rattle.records.specs.View.{Lent, store_of}
 use Rattle.records.specs.Make.{EachOnce}
 use Rattle.normalize.specs.Calls.{list_call}

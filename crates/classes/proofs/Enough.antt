@@ -1,4 +1,5 @@
 -- 511 records of joins are enough: undoing them all makes as many class roots more, and 512 terms have at most 512.
+use Rattle.std.specs.Prelude.{if◌then◌else◌}
 use mathlib.Core.Path.{◌≡◌, refl, sym, ap, subst, ◌∙◌}
 use mathlib.Core.Bool.{Bool, true, false, not, ◌&&◌, false≢true}
 use mathlib.Core.List.{List, [], ◌∷◌}
@@ -11,7 +12,7 @@ use native.Mathlib.Omega.{arith}
 use lib.ListN.{length}
 use lib.Dec.{eqb}
 use borrow.Author.Tests.{eqb-true, eq-eqb, ne_eqb}
-use Rattle.records.specs.Lists.{if◌then◌else◌, all}
+use Rattle.records.specs.Lists.{all}
 use Rattle.records.specs.Store.{Term, Store, count, is_term, class_up, root}
 use Rattle.records.specs.Working.Audited.{Audited}
 use Rattle.records.proofs.Lists.{decide, both_left, both_right, both_true, right-true, right-false, within_low, within-high}

@@ -1,11 +1,11 @@
 -- Store and marks that pass: the audit of both answers 0 exactly there, and they go on passing while the store grows.
+use Rattle.std.specs.Prelude.{if◌then◌else◌}
 use mathlib.Core.Path.{◌≡◌, refl}
 use mathlib.Core.Bool.{Bool, true, false}
 use mathlib.Core.List.{List}
 use Prim.Native.Nat.{ℕ}
 use native.Mathlib.Omega.{arith}
 use Rattle.records.specs.declared.State.{State}
-use Rattle.records.specs.Lists.{if◌then◌else◌}
 use Rattle.records.specs.View.{Lent, store_of, sizes}
 use Rattle.records.specs.Rules.{records_rule, classes_rule, congruences_rule, audit_store, audit_index, first_due, audit}
 use Rattle.records.specs.Index.{index_rule}

@@ -1,8 +1,8 @@
 -- Document 02, Note 1: joining, setting a mark, going back to one, and what each call promises.
-use Rattle.std.specs.Prelude.{◌≡◌, Bool, false, ◌&&◌, ◌||◌, List, ℕ, zero, suc, ◌-◌, length, get_or, take, ltb, leb}
+use Rattle.std.specs.Prelude.{◌≡◌, Bool, false, ◌&&◌, ◌||◌, List, ℕ, zero, suc, ◌-◌, length, get_or, take, ltb, leb, if◌then◌else◌}
 use Rattle.std.proofs.Math.Option.{Option, none, some}
 use Rattle.records.specs.declared.State.{State}
-use Rattle.records.specs.Lists.{if◌then◌else◌, one_more}
+use Rattle.records.specs.Lists.{one_more}
 use Rattle.records.specs.Store.{Term, Store, within, is_string, same_class}
 use denote.Triple.Both.{Both}
 use Rattle.records.specs.View.{Lent, Slice, store_of, term_at}

@@ -1,7 +1,6 @@
 -- Document 02, Note 1: joining two classes of terms, and undoing the last join.
-use Rattle.std.specs.Prelude.{◌≡◌, Bool, true, false, not, ◌&&◌, List, [], ◌∷◌, ℕ, ◌-◌, length, set, eqb}
+use Rattle.std.specs.Prelude.{◌≡◌, Bool, true, false, not, ◌&&◌, List, [], ◌∷◌, ℕ, ◌-◌, length, set, eqb, if◌then◌else◌}
 use Rattle.std.proofs.Math.Option.{Option, none, some}
-use Rattle.records.specs.Lists.{if◌then◌else◌}
 use Rattle.records.specs.Store.{Term, term_in, within, class_up, forest_up, root_in, top_in, above_in}
 use Rattle.records.specs.Make.{with_class, with_edge}
 

@@ -1,8 +1,8 @@
 -- Document 02, Note 1: the words lent for marks, going back to a mark, and the audit of marks.
-use Rattle.std.specs.Prelude.{Bool, false, ◌&&◌, List, [], ◌∷◌, ℕ, ◌+◌, ◌*◌, length, get_or, drop, eqb, leb}
+use Rattle.std.specs.Prelude.{Bool, false, ◌&&◌, List, [], ◌∷◌, ℕ, ◌+◌, ◌*◌, length, get_or, drop, eqb, leb, if◌then◌else◌}
 use Rattle.std.proofs.Math.Option.{Option, none, some}
 use Rattle.records.specs.declared.State.{State}
-use Rattle.records.specs.Lists.{if◌then◌else◌, all, table}
+use Rattle.records.specs.Lists.{all, table}
 use Rattle.records.specs.Store.{Term, Store}
 use Rattle.records.specs.View.{Lent, store_of, sizes}
 use Rattle.records.specs.Rules.{records_rule, classes_rule, congruences_rule, audit_index, first_due}

@@ -1,4 +1,5 @@
 -- Decimal numbers and fields: the loop over digits, the loop over bytes up to a space, the loop over fields.
+use Rattle.std.specs.Prelude.{if◌then◌else◌}
 use mathlib.Core.Path.{◌≡◌, refl, sym, ap, ◌∙◌}
 use mathlib.Core.Bool.{Bool, true, false, ◌&&◌}
 use mathlib.Core.List.{List, [], ◌∷◌}
@@ -10,7 +11,7 @@ use lib.ListN.{length, take, drop, get_or, set, drop_of_length-le, length-drop}
 use lib.Seq.{drop-cons, drop-drop}
 use lib.Dec.{eqb, ltb, leb}
 use borrow.Author.Tests.{ltb-true, ltb-false, lt-ltb, le-ltb, le-leb, lt-leb, eq-eqb, ne_eqb, eqb-true, eqb-false}
-use Rattle.records.specs.Lists.{if◌then◌else◌, all, up_to}
+use Rattle.records.specs.Lists.{all, up_to}
 use Rattle.records.proofs.Lists.{decide, left_false, right-false, both_true, both_left, both_right}
 use Rattle.commands.specs.declared.Number.{Number}
 use Rattle.commands.specs.declared.Number.TheVariants as number

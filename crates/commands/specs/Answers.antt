@@ -1,6 +1,6 @@
 -- Document 01, 'Program `labelstep`': the printed line of each answer.
-use Rattle.std.specs.Prelude.{◌≡◌, Bool, true, false, List, [], ◌∷◌, ◌++◌, ℕ, suc, ◌≤◌, length, take, eqb, ℤ, pos, negsuc}
-use Rattle.records.specs.Lists.{if◌then◌else◌, concat_map}
+use Rattle.std.specs.Prelude.{◌≡◌, Bool, true, false, List, [], ◌∷◌, ◌++◌, ℕ, suc, ◌≤◌, length, take, eqb, ℤ, pos, negsuc, if◌then◌else◌}
+use Rattle.records.specs.Lists.{concat_map}
 use Rattle.records.specs.Make.{decimal_by}
 
 -- a number below 2^64 has at most twenty digits

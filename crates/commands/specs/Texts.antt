@@ -1,7 +1,7 @@
 -- A line's fields and its decimal numbers. Bytes are numbers below 256.
-use Rattle.std.specs.Prelude.{Bool, true, false, ◌&&◌, List, [], ◌∷◌, ℕ, zero, suc, ◌+◌, ◌-◌, ◌*◌, length, eqb, ltb, leb, ℤ, pos, negsuc}
+use Rattle.std.specs.Prelude.{Bool, true, false, ◌&&◌, List, [], ◌∷◌, ℕ, zero, suc, ◌+◌, ◌-◌, ◌*◌, length, eqb, ltb, leb, ℤ, pos, negsuc, if◌then◌else◌}
 use Rattle.std.proofs.Math.Option.{Option, none, some}
-use Rattle.records.specs.Lists.{if◌then◌else◌, all}
+use Rattle.records.specs.Lists.{all}
 
 -- one more in front, where there is one and there is a list
 module _ {A : Type 0} where

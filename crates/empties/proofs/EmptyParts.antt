@@ -1,11 +1,12 @@
 -- What the call for every empty part gives, keeps and refuses.
+use Rattle.std.specs.Prelude.{if◌then◌else◌}
 use mathlib.Core.Path.{◌≡◌, refl, sym, ap, subst, ◌∙◌}
 use mathlib.Core.Bool.{Bool, true, false}
 use mathlib.Core.List.{List, [], ◌∷◌}
 use Prim.Native.Nat.{ℕ, ◌≤◌}
 use native.Mathlib.Omega.{arith}
 use lib.ListN.{length}
-use Rattle.records.specs.Lists.{if◌then◌else◌, all}
+use Rattle.records.specs.Lists.{all}
 use Rattle.records.specs.Store.{Store, Out, ok, stop, and_then, ◌>>=◌, give}
 use Rattle.records.specs.Rules.{list_limit}
 use Rattle.records.specs.Make.{make_constant}

@@ -1,6 +1,6 @@
 -- Document 02, Note 3: every empty part of a label.
-use Rattle.std.specs.Prelude.{Bool, true, false, ◌&&◌, ◌||◌, List, [], ◌∷◌, ℕ, length, eqb, ltb, leb}
-use Rattle.records.specs.Lists.{if◌then◌else◌, all, any, concat_map, one_more}
+use Rattle.std.specs.Prelude.{Bool, true, false, ◌&&◌, ◌||◌, List, [], ◌∷◌, ℕ, length, eqb, ltb, leb, if◌then◌else◌}
+use Rattle.records.specs.Lists.{all, any, concat_map, one_more}
 use Rattle.records.specs.Store.{Store, Work, ◌>>=◌, give, store, is_variable, same_class}
 use Rattle.records.specs.Make.{make_constant}
 use Rattle.normalize.specs.Normalize.{atoms, flatten}

@@ -1,6 +1,6 @@
 -- The definitions run on small stores: what the one call lists, and what repeated calls list there.
-use Rattle.std.specs.Prelude.{◌≡◌, refl, Bool, true, false, ◌&&◌, List, [], ◌∷◌, ℕ, ◌-◌, length, pos, eqb, T}
-use Rattle.records.specs.Lists.{if◌then◌else◌, all, any, first_of, keep, concat_map, same_word, is_in, firsts, up_to, first_below}
+use Rattle.std.specs.Prelude.{◌≡◌, refl, Bool, true, false, ◌&&◌, List, [], ◌∷◌, ℕ, ◌-◌, length, pos, eqb, T, if◌then◌else◌}
+use Rattle.records.specs.Lists.{all, any, first_of, keep, concat_map, same_word, is_in, firsts, up_to, first_below}
 use Rattle.records.specs.Store.{Term, no_term, Cell, no_cell, Store, Out, ok, stop, term_in, cell_in, within, text_in, chain_by, climb, above_by, nearest_in, path_in}
 use Rattle.records.specs.View.{term_words, cell_words}
 use Rattle.records.specs.Rules.{is_number}

@@ -1,4 +1,5 @@
 -- Reasons given in turn: the one thing that explain does to a store.
+use Rattle.std.specs.Prelude.{if◌then◌else◌}
 use mathlib.Core.Path.{◌≡◌, refl, sym, ap, subst, ◌∙◌}
 use mathlib.Core.Bool.{Bool, true, false, not, ◌&&◌}
 use mathlib.Core.List.Memᴰ
@@ -9,7 +10,7 @@ use native.Mathlib.Omega.{arith}
 use lib.ListN.{length, length-append}
 use lib.Dec.{eqb, ltb}
 use borrow.Author.Tests.{eqb-true, ltb-true, lt-ltb}
-use Rattle.records.specs.Lists.{if◌then◌else◌, any, one_more, Every, none_left, and}
+use Rattle.records.specs.Lists.{any, one_more, Every, none_left, and}
 use Rattle.records.specs.Store.{Store, Out, ok, stop, Work, and_then, ◌>>◌, give}
 use Rattle.records.specs.Make.{add_reason, with_reasons, same_pair, is_listed, each_new, EachOnce}
 use Rattle.engine.specs.Explain.{gives_reason}

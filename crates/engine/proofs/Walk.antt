@@ -1,4 +1,5 @@
 -- The equation of walk without its height: a height beyond the pair's changes nothing.
+use Rattle.std.specs.Prelude.{if◌then◌else◌}
 use mathlib.Core.Path.{◌≡◌, refl, sym, ap, ◌∙◌}
 use mathlib.Core.Bool.{Bool, true, false, ◌||◌}
 use mathlib.Core.List.{List, ◌∷◌, ◌++◌}
@@ -6,7 +7,7 @@ use Prim.Native.Nat.{ℕ, zero, suc, ◌≤◌, ◌<◌}
 use native.Mathlib.Omega.{arith}
 use lib.Dec.{eqb}
 use borrow.Author.Tests.{eq-eqb}
-use Rattle.records.specs.Lists.{if◌then◌else◌, Every, none_left, and}
+use Rattle.records.specs.Lists.{Every, none_left, and}
 use Rattle.records.specs.Store.{Store, Work, and_then, give, term, is_term, path, is_edge}
 use Rattle.records.specs.Make.{with_reasons, ordered}
 use Rattle.records.specs.Working.Audited.{Audited, Label, asserted, interface, congruence, definitional}

@@ -1,6 +1,6 @@
 -- Document 01, 'Engine': find and explain.
-use Rattle.std.specs.Prelude.{Bool, true, ◌&&◌, ◌||◌, List, [], ◌∷◌, ℕ, zero, suc, max, length, eqb, ltb}
-use Rattle.records.specs.Lists.{if◌then◌else◌, any}
+use Rattle.std.specs.Prelude.{Bool, true, ◌&&◌, ◌||◌, List, [], ◌∷◌, ℕ, zero, suc, max, length, eqb, ltb, if◌then◌else◌}
+use Rattle.records.specs.Lists.{any}
 use Rattle.records.specs.Store.{Term, Store, Out, ok, stop, Work, ◌>>=◌, ◌>>◌, give, refuse, store, term_in, term, is_string, chain, root, same_class, path}
 use Rattle.records.specs.Make.{add_reason, ordered, same_pair}
 

@@ -1,11 +1,12 @@
 -- What the call for the forced length gives and refuses, and what its answer is worth.
+use Rattle.std.specs.Prelude.{if◌then◌else◌}
 use mathlib.Core.Path.{◌≡◌, refl, sym, ap, subst, ◌∙◌}
 use mathlib.Core.Bool.{Bool, true, false}
 use mathlib.Core.List.{List, [], ◌∷◌, reverse}
 use Prim.Native.Nat.{ℕ, ◌*◌, ◌≤◌}
 use native.Mathlib.Omega.{arith}
 use lib.ListN.{length, drop, length-append, length-take, length-drop, length-reverse}
-use Rattle.records.specs.Lists.{if◌then◌else◌, all, concat_map}
+use Rattle.records.specs.Lists.{all, concat_map}
 use Rattle.records.specs.Store.{Store, Out, ok, stop, and_then, ◌>>=◌, give, refuse, term, text_in, text, is_constant, is_string}
 use Rattle.records.specs.View.{char_limit}
 use Rattle.records.specs.Rules.{list_limit}

@@ -1,5 +1,6 @@
 -- Wordeq on two lists whose residual lists have a remainder or a shortage: the answer is Conflict, or Saturated where a concatenation was
 -- flattened, unless the reasons are full.
+use Rattle.std.specs.Prelude.{if◌then◌else◌}
 use mathlib.Core.Path.{◌≡◌, refl, sym, subst, ◌∙◌}
 use mathlib.Core.Bool.{Bool, true, false}
 use mathlib.Core.List.{List, ◌++◌}
@@ -7,7 +8,7 @@ use mathlib.Core.Option.{Option}
 use Prim.Native.Nat.{ℕ, ◌≤◌}
 use lib.ListN.{length}
 use lib.IntN.{ℤ}
-use Rattle.records.specs.Lists.{if◌then◌else◌, any, concat_map}
+use Rattle.records.specs.Lists.{any, concat_map}
 use Rattle.records.specs.Store.{Store, Out, ok, stop, Work, and_then, ◌>>=◌, give, is_concat}
 use Rattle.records.specs.Make.{with_reasons}
 use Rattle.records.specs.Rules.{list_limit}

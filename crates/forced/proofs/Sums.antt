@@ -1,4 +1,5 @@
 -- The quotient and the remainder, or the shortage, add up.
+use Rattle.std.specs.Prelude.{if◌then◌else◌}
 use mathlib.Core.Path.{◌≡◌, refl}
 use mathlib.Core.Bool.{Bool, true, false}
 use Prim.Native.Nat.{ℕ, ◌+◌, ◌*◌, ◌-◌, ◌/◌, ◌%◌, ◌≤◌, ◌<◌}
@@ -6,7 +7,6 @@ use native.Mathlib.Nat.{mod-lt, mod-le, div-add-mod, div-le_self}
 use native.Mathlib.Omega.{arith}
 use lib.Dec.{ltb}
 use borrow.Author.Tests.{ltb-true, ltb-false}
-use Rattle.records.specs.Lists.{if◌then◌else◌}
 use Rattle.forced.specs.Forced.{spans, short, span_of}
 use Rattle.forced.specs.Forces.{Sums, Unfit, letter_limit, FewSpan}
 

@@ -1,5 +1,6 @@
 -- Steps 2 to 5 on a side of constants and a side of one variable class, with a remainder or a shortage: the answer is Conflict, unless the
 -- reasons are full.
+use Rattle.std.specs.Prelude.{if◌then◌else◌}
 use mathlib.Core.Path.{◌≡◌, refl, sym, ap, subst, ◌∙◌}
 use mathlib.Core.Bool.{Bool, true, false, ◌&&◌, ◌||◌}
 use mathlib.Core.List.{List, [], ◌∷◌}
@@ -9,7 +10,7 @@ use native.Mathlib.Omega.{arith}
 use lib.ListN.{length}
 use lib.IntN.{ℤ}
 use borrow.Author.Tests.{eqb-true, lt-ltb, ne_eqb}
-use Rattle.records.specs.Lists.{if◌then◌else◌, all, keep, concat_map}
+use Rattle.records.specs.Lists.{all, keep, concat_map}
 use Rattle.records.specs.Store.{Store, Out, ok, stop, and_then, is_constant, is_variable, kind}
 use Rattle.records.specs.Make.{with_reasons}
 use Rattle.records.specs.Working.Audited.{Audited}

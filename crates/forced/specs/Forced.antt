@@ -1,6 +1,6 @@
 -- Document 02, Note 6: the forced length.
-use Rattle.std.specs.Prelude.{Bool, false, ◌&&◌, List, [], ◌∷◌, ℕ, ◌-◌, ◌/◌, ◌%◌, length, ltb}
-use Rattle.records.specs.Lists.{if◌then◌else◌, all}
+use Rattle.std.specs.Prelude.{Bool, false, ◌&&◌, List, [], ◌∷◌, ℕ, ◌-◌, ◌/◌, ◌%◌, length, ltb, if◌then◌else◌}
+use Rattle.records.specs.Lists.{all}
 use Rattle.records.specs.Store.{Store, Work, ◌>>=◌, give, refuse, store}
 use Rattle.normalize.specs.Normalize.{flatten}
 use Rattle.sides.specs.Wordeq.{same, fixed, letters, variables, rest}

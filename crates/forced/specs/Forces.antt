@@ -1,6 +1,6 @@
 -- What a forced length is worth.
-use Rattle.std.specs.Prelude.{◌≡◌, List, ◌++◌, ℕ, ◌+◌, ◌*◌, ◌≤◌, ◌<◌, ℤ}
-use Rattle.records.specs.Lists.{if◌then◌else◌, any}
+use Rattle.std.specs.Prelude.{◌≡◌, List, ◌++◌, ℕ, ◌+◌, ◌*◌, ◌≤◌, ◌<◌, ℤ, if◌then◌else◌}
+use Rattle.records.specs.Lists.{any}
 use Rattle.records.specs.Store.{Store, Out, ok, stop, is_concat}
 use Rattle.sides.specs.Wordeq.{Answer, saturated, conflict, resolve}
 use Rattle.forced.specs.Forced.{Span, spans, short, Fit}

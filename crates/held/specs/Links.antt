@@ -1,6 +1,5 @@
 -- One step along a chain, with every outcome.
-use Rattle.std.specs.Prelude.{◌||◌, List, [], ◌∷◌, ℕ, length, eqb, ltb}
-use Rattle.records.specs.Lists.{if◌then◌else◌}
+use Rattle.std.specs.Prelude.{◌||◌, List, [], ◌∷◌, ℕ, length, eqb, ltb, if◌then◌else◌}
 use Rattle.records.specs.Store.{Cell, cell_in, chain_in}
 use Rattle.held.specs.declared.chains.Link.{Link}
 use Rattle.held.specs.declared.chains.Link.TheVariants as link

@@ -1,8 +1,8 @@
 -- Document 02, Note 1, over all public calls: 'every list of these and making calls', from any store and marks that pass.
-use Rattle.std.specs.Prelude.{◌≡◌, Bool, ◌&&◌, List, [], ◌∷◌, ℕ, length, ℤ, leb}
+use Rattle.std.specs.Prelude.{◌≡◌, Bool, ◌&&◌, List, [], ◌∷◌, ℕ, length, ℤ, leb, if◌then◌else◌}
 use Rattle.std.proofs.Math.Option.{some}
 use Rattle.records.specs.declared.State.{State}
-use Rattle.records.specs.Lists.{if◌then◌else◌, all, one_more}
+use Rattle.records.specs.Lists.{all, one_more}
 use Rattle.records.specs.Store.{Store, Out, ok, stop, Work}
 use Rattle.records.specs.View.{Lent, store_of}
 use Rattle.records.specs.Rules.{reason_rule, list_limit}

@@ -1,8 +1,8 @@
 -- Lists of calls, run on a small store: after each call the audit passes, the classes are what the joins left standing generate, and each
 -- standing mark leads back to the table that it was set at.
-use Rattle.std.specs.Prelude.{Bool, true, false, not, ◌&&◌, List, [], ◌∷◌, ◌++◌, ℕ, suc, ◌-◌, length, eqb, T}
+use Rattle.std.specs.Prelude.{Bool, true, false, not, ◌&&◌, List, [], ◌∷◌, ◌++◌, ℕ, suc, ◌-◌, length, eqb, T, if◌then◌else◌}
 use Rattle.std.proofs.Math.Option.{Option, none, some}
-use Rattle.records.specs.Lists.{if◌then◌else◌, all, any, first_of, table, same_word, is_in, firsts, seconds, up_to, all_below, first_below, one_more}
+use Rattle.records.specs.Lists.{all, any, first_of, table, same_word, is_in, firsts, seconds, up_to, all_below, first_below, one_more}
 use Rattle.records.specs.Store.{Term, no_term, no_cell, Store, term_in, cell_in, within, count, text_in, chain_by, climb, above_by, nearest_in, path_in, same_class}
 use Rattle.records.specs.View.{term_words, cell_words}
 use Rattle.records.specs.Rules.{is_char, is_number, reason_rule, key_rule, cell_rule, text_rule, named, name_rule, part_rule, concat_rule, length_rule, is_equatable, equation_rule, term_rule, records_rule, parents_rule, ends_rule, alike_rule, alone_rule, edge_label, label_rule, classes_rule, pairs_of, falls_rule, congruence_rule, congruences_rule}

@@ -1,4 +1,5 @@
 -- The atoms of a term: their equation without fuel, what they are, and that they have the term's word.
+use Rattle.std.specs.Prelude.{if◌then◌else◌}
 use mathlib.Core.Path.{◌≡◌, refl, sym, ap, subst, ◌∙◌}
 use mathlib.Core.Bool.{Bool, true, false}
 use mathlib.Core.List.{List, [], ◌∷◌, ◌++◌, append-nil}
@@ -7,7 +8,7 @@ use native.Mathlib.Omega.{arith}
 use lib.ListN.{length}
 use lib.Dec.{eqb, leb}
 use borrow.Author.Tests.{eqb-true, leb-true, leb-false, le-leb, lt-leb}
-use Rattle.records.specs.Lists.{if◌then◌else◌, all, concat_map, firsts, Every, none_left, and}
+use Rattle.records.specs.Lists.{all, concat_map, firsts, Every, none_left, and}
 use Rattle.records.specs.Store.{Term, Cell, Store, ok, stop, give, refuse, is_string, is_concat, term, term_in, chain_in, parts}
 use Rattle.records.specs.Meaning.{Words, Reading}
 use Rattle.records.specs.Working.Audited.{Recorded, Audited}

@@ -1,4 +1,5 @@
 -- The normal form over an audited store: what it answers has the term's word, what it leaves, and with which numbers it stops.
+use Rattle.std.specs.Prelude.{if◌then◌else◌}
 use mathlib.Core.Path.{◌≡◌, refl, sym, ap, subst, ◌∙◌}
 use mathlib.Core.Bool.{true, ◌&&◌}
 use mathlib.Core.List.{List, [], ◌∷◌, ◌++◌, reverse, append-nil, append_assoc, reverse-cons}
@@ -8,7 +9,7 @@ use native.Mathlib.Omega.{arith}
 use lib.ListN.{length, length-append, length-reverse}
 use lib.Dec.{eqb}
 use borrow.Author.Tests.{eqb-true, eq-eqb}
-use Rattle.records.specs.Lists.{if◌then◌else◌, all, first_of, concat_map, Every, none_left, and}
+use Rattle.records.specs.Lists.{all, first_of, concat_map, Every, none_left, and}
 use Rattle.records.specs.Store.{Store, ok, stop, Work, ◌>>=◌, give, within, is_string, is_constant, text, root, same_class}
 use Rattle.records.specs.Rules.{is_char, list_limit, is_list}
 use Rattle.records.specs.Make.{make_constant}

@@ -1,4 +1,5 @@
 -- The table of representatives: each way of adding a candidate, and what the table then says of a class.
+use Rattle.std.specs.Prelude.{if◌then◌else◌}
 use mathlib.Core.Path.{◌≡◌, refl, sym, ap, subst, ◌∙◌}
 use mathlib.Core.Bool.{Bool, true, false, ◌&&◌, ◌||◌}
 use mathlib.Core.List.{List, [], ◌∷◌, ◌++◌, append-nil, append_assoc}
@@ -10,7 +11,7 @@ use lib.ListN.{length, drop, set, get_or, length-set, drop_of_length-le}
 use lib.Seq.{drop-cons, get_or-set_same, get_or-set_other}
 use lib.Dec.{eqb, ltb}
 use borrow.Author.Tests.{eqb-true, eqb-false, eq-eqb, ne_eqb, lt-ltb, le-ltb}
-use Rattle.records.specs.Lists.{if◌then◌else◌, first_of, Every, none_left, and}
+use Rattle.records.specs.Lists.{first_of, Every, none_left, and}
 use Rattle.records.specs.Store.{Store, Term, within, term_in, root_in, class_up}
 use Rattle.records.specs.View.{term_limit, terms_view}
 use Rattle.records.specs.Working.Audited.{Closed}

@@ -1,8 +1,8 @@
 -- What the public calls of the normal forms promise.
-use Rattle.std.specs.Prelude.{◌≡◌, Bool, List, ℕ, length, get_or, leb}
+use Rattle.std.specs.Prelude.{◌≡◌, Bool, List, ℕ, length, get_or, leb, if◌then◌else◌}
 use Rattle.std.proofs.Math.Option.{Option, none, some}
 use Rattle.records.specs.declared.State.{State}
-use Rattle.records.specs.Lists.{if◌then◌else◌, table}
+use Rattle.records.specs.Lists.{table}
 use Rattle.records.specs.Store.{Store, Out, ok, stop, Work}
 use Rattle.records.specs.View.{Lent, store_of}
 use Rattle.records.specs.Make.{EachOnce}

@@ -1,7 +1,7 @@
 -- Document 01, 'Normalize': flatten, representatives, the cited normal form and the deep form.
-use Rattle.std.specs.Prelude.{Bool, true, false, not, ◌&&◌, List, [], ◌∷◌, ◌++◌, reverse, ℕ, zero, suc, length, eqb, ltb, leb}
+use Rattle.std.specs.Prelude.{Bool, true, false, not, ◌&&◌, List, [], ◌∷◌, ◌++◌, reverse, ℕ, zero, suc, length, eqb, ltb, leb, if◌then◌else◌}
 use Rattle.std.proofs.Math.Option.{Option, none, some}
-use Rattle.records.specs.Lists.{if◌then◌else◌, any, first_of, concat_map, same_word, is_in}
+use Rattle.records.specs.Lists.{any, first_of, concat_map, same_word, is_in}
 use Rattle.records.specs.Store.{Store, Work, ◌>>=◌, ◌>>◌, give, refuse, store, is_constant, is_concat, is_string, text, parts, same_class}
 use Rattle.records.specs.Rules.{list_limit, is_list}
 use Rattle.records.specs.Make.{make_constant}

@@ -1,4 +1,5 @@
 -- A term appended: words for the store extend to it, and for a variable any word can be chosen.
+use Rattle.std.specs.Prelude.{if◌then◌else◌}
 use mathlib.Core.Path.{◌≡◌, refl, sym, ap, subst, ◌∙◌}
 use mathlib.Core.Bool.{Bool, true, false, not}
 use mathlib.Core.List.{List, []}
@@ -7,7 +8,7 @@ use native.Mathlib.Omega.{arith}
 use native.Mathlib.Decide.{dec_le}
 use lib.Dec.{eqb}
 use borrow.Author.Tests.{eq-eqb, ne_eqb}
-use Rattle.records.specs.Lists.{if◌then◌else◌, all, concat_map, firsts, Every}
+use Rattle.records.specs.Lists.{all, concat_map, firsts, Every}
 use Rattle.records.specs.Store.{Term, Cell, Store, term, count, kind, text_in, text, chain_in, parts, is_edge}
 use Rattle.records.specs.Rules.{is_char}
 use Rattle.records.specs.Make.{own}

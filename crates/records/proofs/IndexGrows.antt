@@ -1,4 +1,5 @@
 -- One term more, and a cut back to fewer: the lowest above a term in a bucket, from that of more or of fewer terms.
+use Rattle.std.specs.Prelude.{if◌then◌else◌}
 use mathlib.Core.Path.{◌≡◌, refl, sym, ◌∙◌}
 use mathlib.Core.Bool.{Bool, true, false}
 use mathlib.Core.Logic.{⊎_elim}
@@ -7,7 +8,6 @@ use native.Mathlib.Nat.{eq-or-lt_of_le, le_of_suc-le-suc}
 use native.Mathlib.Omega.{arith}
 use lib.Dec.{leb}
 use borrow.Author.Tests.{leb-true, leb-false}
-use Rattle.records.specs.Lists.{if◌then◌else◌}
 use Rattle.records.specs.Index.{next_in}
 use Rattle.records.specs.Working.Indexing.{cut_at}
 use Rattle.records.proofs.IndexNexts.{Lowest, nothing, lowest, next-lowest, next_is}

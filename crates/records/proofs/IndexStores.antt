@@ -1,4 +1,5 @@
 -- The index of a store: where the buckets stay, after a term was made, and where other words than those of terms are written.
+use Rattle.std.specs.Prelude.{if◌then◌else◌}
 use mathlib.Core.Path.{◌≡◌, refl, sym, ap, subst, ◌∙◌}
 use mathlib.Core.Bool.{true, ◌||◌}
 use mathlib.Core.List.{List, [], ◌∷◌}
@@ -8,7 +9,6 @@ use lib.ListN.{length}
 use lib.Dec.{eqb}
 use borrow.Author.Tests.{eqb-true}
 use Rattle.records.specs.declared.State.{State}
-use Rattle.records.specs.Lists.{if◌then◌else◌}
 use Rattle.records.specs.Store.{Term, Store, term, count, kind, within, text, parts}
 use Rattle.records.specs.View.{Lent, store_of}
 use Rattle.records.specs.Index.{numbers, sum, bucket_of, bucket, IndexOf, Indexed, SameIndex}

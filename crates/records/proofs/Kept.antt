@@ -1,4 +1,5 @@
 -- Making a term, adding a reason or a key and taking a name keep a store audited: what each gives, and with which number it stops.
+use Rattle.std.specs.Prelude.{if◌then◌else◌}
 use mathlib.Core.Path.{◌≡◌, refl, sym, ap, subst, ◌∙◌}
 use mathlib.Core.Bool.{Bool, true, false, ◌&&◌, false≢true}
 use mathlib.Core.List.{List, [], ◌∷◌, ◌++◌}
@@ -11,7 +12,7 @@ use lib.ListN.{length, take, drop, length-append, length-drop}
 use lib.Seq.{take-append-le, drop-append-le, drop-append_seam, take-length}
 use lib.Dec.{eqb, ltb, leb}
 use borrow.Author.Tests.{eqb-true, eq-eqb, ltb-true, leb-true, leb-false, lt-ltb}
-use Rattle.records.specs.Lists.{if◌then◌else◌, all, firsts, first_below, Every, none_left, and}
+use Rattle.records.specs.Lists.{all, firsts, first_below, Every, none_left, and}
 use Rattle.records.specs.Store.{Term, Cell, Store, Out, ok, stop, Work, and_then, ◌>>=◌, ◌>>◌, give, refuse, put, term, count, kind, within, is_term, is_string, is_constant, is_variable, is_concat, is_length, is_equation, text_in, text, chain_in, parts}
 use Rattle.records.specs.Rules.{is_char, key_rule, named, is_equatable}
 use Rattle.records.specs.Make.{with_keys, with_chars, with_cells, with_names, own, add_key, add_text, add_chain, chain_from, add_term, lookup, or_make, lowest, constant_of, concat_of, length_of, equation_of, make_constant, make_variable, make_concat, make_length, make_equation, ordered, strk, decimal_by, name_of, is_some, is_taken, take_name_by, name_limit, take_name}

@@ -1,4 +1,5 @@
 -- Laws of tests, lists and numbers: none knows what a store is.
+use Rattle.std.specs.Prelude.{if◌then◌else◌}
 use mathlib.Core.Path.{◌≡◌, refl, sym, ap, ◌∙◌}
 use mathlib.Core.Bool.{Bool, true, false, not, ◌&&◌, ◌||◌, false≢true}
 use mathlib.Core.List.{List, [], ◌∷◌, ◌++◌, append_assoc, Memᴰ}
@@ -12,7 +13,7 @@ use lib.ListN.{length, take, drop, get_or, replicate, length-append, get_or-appe
 use lib.Seq.{get_or_at, drop-cons}
 use lib.Dec.{eqb, ltb}
 use borrow.Author.Tests.{not-true, not-false, eqb-true, eq-eqb, ltb-true, leb-true, lt-ltb, le-leb, le-ltb, lt-leb}
-use Rattle.records.specs.Lists.{if◌then◌else◌, all, any, concat_map, table, same_word, firsts, seconds, all_below, first_below, last_below, Every, none_left, and}
+use Rattle.records.specs.Lists.{all, any, concat_map, table, same_word, firsts, seconds, all_below, first_below, last_below, Every, none_left, and}
 use Rattle.records.specs.Store.{within}
 
 -- TESTS

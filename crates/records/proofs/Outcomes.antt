@@ -1,9 +1,9 @@
 -- How work ends: what holds of its end without a stop, and that it stops only with a number from 6 to the last of its refusals.
+use Rattle.std.specs.Prelude.{if◌then◌else◌}
 use mathlib.Core.Path.{◌≡◌, refl, subst}
 use mathlib.Core.Bool.{Bool, true, false}
 use Prim.Native.Nat.{ℕ, ◌≤◌}
 use native.Mathlib.Omega.{arith}
-use Rattle.records.specs.Lists.{if◌then◌else◌}
 use Rattle.records.specs.Store.{Store, Out, ok, stop, Work, and_then}
 use Rattle.records.proofs.Works.{stop-not}
 

@@ -1,4 +1,5 @@
 -- The audit answers 0 exactly where the facts of specs/Working/Audited.antt hold.
+use Rattle.std.specs.Prelude.{if◌then◌else◌}
 use mathlib.Core.Path.{◌≡◌, refl, sym, ap, subst}
 use mathlib.Core.Bool.{Bool, true, false, not, ◌&&◌, ◌||◌, false≢true}
 use mathlib.Core.List.{List}
@@ -9,7 +10,7 @@ use lib.ListN.{length}
 use lib.Dec.{eqb, ltb, leb}
 use borrow.Author.Tests.{not-true, eqb-true, eq-eqb, ltb-true, ltb-false, lt-ltb, leb-true, le-leb}
 use Rattle.records.specs.declared.State.{State}
-use Rattle.records.specs.Lists.{if◌then◌else◌, all, all_below}
+use Rattle.records.specs.Lists.{all, all_below}
 use Rattle.records.specs.Store.{Store, term, cell, count, kind, within, is_term, is_string, text, chain, root, same_class, is_edge}
 use Rattle.records.specs.View.{Lent, store_of, term_at, sizes}
 use Rattle.records.specs.Index.{Indexed, index_rule, SameIndex}

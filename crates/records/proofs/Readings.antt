@@ -1,5 +1,6 @@
 -- Each assignment of words to the variables has a reading, the words computed from it, and any two readings that agree on the variables
 -- agree on every string term.
+use Rattle.std.specs.Prelude.{if◌then◌else◌}
 use mathlib.Core.Path.{◌≡◌, refl, sym, ap, ◌∙◌}
 use mathlib.Core.Bool.{Bool, true, false}
 use mathlib.Core.List.{List, []}
@@ -8,7 +9,7 @@ use Prim.Native.Nat.{ℕ, zero, suc, ◌≤◌, ◌<◌}
 use native.Mathlib.Omega.{arith}
 use lib.Dec.{eqb}
 use borrow.Author.Tests.{eqb-true, eq-eqb}
-use Rattle.records.specs.Lists.{if◌then◌else◌, all, concat_map, Every, none_left, and}
+use Rattle.records.specs.Lists.{all, concat_map, Every, none_left, and}
 use Rattle.records.specs.Store.{Store, term, kind, is_term, is_string, is_constant, is_concat, text_in, text, chain, parts}
 use Rattle.records.specs.Rules.{is_char}
 use Rattle.records.specs.Meaning.{Words, Reading}

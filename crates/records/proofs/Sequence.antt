@@ -1,4 +1,5 @@
 -- Working functions in sequence: the second goes on from the slices and counts that the first left, and what was counted at entry is kept.
+use Rattle.std.specs.Prelude.{if◌then◌else◌}
 use mathlib.Core.Path.{◌≡◌, refl, sym, ap, subst, ◌∙◌}
 use mathlib.Core.Bool.{Bool, true, false}
 use mathlib.Core.List.{List, [], ◌∷◌, ◌++◌}
@@ -12,7 +13,6 @@ use Rattle.records.specs.declared.Made.{Made}
 use Rattle.records.specs.declared.Made.TheVariants.{Term, Refused}
 use Rattle.records.specs.declared.Added.{Added}
 use Rattle.records.specs.declared.Added.TheVariants.{Counts}
-use Rattle.records.specs.Lists.{if◌then◌else◌}
 use Rattle.records.specs.Store.{Store, Out, ok, stop, Work, and_then, ◌>>=◌, ◌>>◌, give, refuse, put, count, is_string}
 use Rattle.records.specs.View.{Lent, store_of}
 use Rattle.records.specs.Rules.{named}

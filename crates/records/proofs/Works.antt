@@ -1,9 +1,9 @@
 -- Work in sequence and by cases: what an end without a stop says of each part.
+use Rattle.std.specs.Prelude.{if◌then◌else◌}
 use mathlib.Core.Path.{◌≡◌, refl}
 use mathlib.Core.Bool.{Bool, true, false}
 use Prim.Native.Nat.{ℕ}
 use native.Mathlib.Omega.{arith}
-use Rattle.records.specs.Lists.{if◌then◌else◌}
 use Rattle.records.specs.Store.{Store, Out, ok, stop, Work, and_then}
 
 pub stop-not : {A : Type 0} {n : ℕ} {s : Store} {a : A} {X : Type 0} → ◌≡◌ {A = Out A} (stop n) (ok s a) → X

@@ -1,6 +1,6 @@
 -- Document 02, Note 9, 'An index over the store': the bucket of a record, and the index that the records determine.
-use Rattle.std.specs.Prelude.{◌≡◌, Bool, true, ◌&&◌, ◌||◌, List, [], ◌∷◌, ℕ, suc, ◌+◌, ◌%◌, ◌<◌, eqb, ltb}
-use Rattle.records.specs.Lists.{if◌then◌else◌, all_below, first_below}
+use Rattle.std.specs.Prelude.{◌≡◌, Bool, true, ◌&&◌, ◌||◌, List, [], ◌∷◌, ℕ, suc, ◌+◌, ◌%◌, ◌<◌, eqb, ltb, if◌then◌else◌}
+use Rattle.records.specs.Lists.{all_below, first_below}
 use Rattle.records.specs.Store.{Store, term, count, kind, within, is_constant, is_variable, is_concat, is_length, text, parts, or_none}
 use Rattle.records.specs.View.{buckets, head_at, next_at}
 

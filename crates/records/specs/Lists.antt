@@ -1,12 +1,6 @@
 -- Lists, words and numbers, with nothing of a store: tests of each element, the first that passes, words joined.
-use Rattle.std.specs.Prelude.{Bool, true, false, ◌&&◌, ◌||◌, List, [], ◌∷◌, ◌++◌, ℕ, zero, suc, eqb}
+use Rattle.std.specs.Prelude.{Bool, true, false, ◌&&◌, ◌||◌, List, [], ◌∷◌, ◌++◌, ℕ, zero, suc, eqb, if◌then◌else◌}
 use Rattle.std.proofs.Math.Option.{Option, none, some}
-
-module _ {A : Type 0} where
-  infix 4 if◌then◌else◌
-  abbrev pub if◌then◌else◌ : Bool → A → A → A
-  if true then a else b = a
-  if false then a else b = b
 
 module _ {A : Type 0} where
   unfoldable pub all : (A → Bool) → List A → Bool

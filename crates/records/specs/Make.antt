@@ -1,7 +1,7 @@
 -- Adding records: a reason, a key, and a term, which is the lowest-numbered equal record, else one appended.
-use Rattle.std.specs.Prelude.{◌≡◌, Bool, true, false, not, ◌&&◌, List, [], ◌∷◌, ◌++◌, ℕ, zero, suc, ◌+◌, ◌-◌, ◌/◌, ◌%◌, min, max, length, eqb, ltb, leb}
+use Rattle.std.specs.Prelude.{◌≡◌, Bool, true, false, not, ◌&&◌, List, [], ◌∷◌, ◌++◌, ℕ, zero, suc, ◌+◌, ◌-◌, ◌/◌, ◌%◌, min, max, length, eqb, ltb, leb, if◌then◌else◌}
 use Rattle.std.proofs.Math.Option.{Option, none, some}
-use Rattle.records.specs.Lists.{if◌then◌else◌, all, any, same_word, first_below, one_more}
+use Rattle.records.specs.Lists.{all, any, same_word, first_below, one_more}
 use Rattle.records.specs.Store.{Term, Cell, Store, ok, stop, Work, ◌>>=◌, ◌>>◌, give, refuse, store, put, term, count, is_string, is_constant, is_concat, is_length, is_equation, text, parts}
 use Rattle.records.specs.Rules.{is_char, named, is_list, is_equatable}
 

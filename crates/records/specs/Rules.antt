@@ -1,7 +1,7 @@
 -- Document 01, 'The records': each rule as a test, and the audit in the order of 'Where each refusal is checked', with document 02's 12.
-use Rattle.std.specs.Prelude.{Bool, not, ◌&&◌, ◌||◌, List, ℕ, zero, suc, ◌+◌, length, eqb, ltb, leb}
+use Rattle.std.specs.Prelude.{Bool, not, ◌&&◌, ◌||◌, List, ℕ, zero, suc, ◌+◌, length, eqb, ltb, leb, if◌then◌else◌}
 use Rattle.records.specs.declared.State.{State}
-use Rattle.records.specs.Lists.{if◌then◌else◌, all, same_word, firsts, seconds, all_below}
+use Rattle.records.specs.Lists.{all, same_word, firsts, seconds, all_below}
 use Rattle.records.specs.Store.{Term, Store, term_in, term, cell, count, is_term, is_constant, is_variable, is_concat, is_length, is_equation, is_string, text, chain, parts, root, top, same_class, same_tree, path, is_edge}
 use Rattle.records.specs.View.{Lent, store_of, sizes}
 use Rattle.records.specs.Index.{index_rule}

@@ -1,10 +1,10 @@
 -- What holds of all words under the reasons that are there when work has ended; work that is refused only where the reasons are full.
+use Rattle.std.specs.Prelude.{if◌then◌else◌}
 use mathlib.Core.Path.{◌≡◌, refl, sym, subst, ◌∙◌}
 use mathlib.Core.Bool.{Bool, true, false}
 use mathlib.Core.List.{List, ◌++◌}
 use Prim.Native.Nat.{ℕ}
 use native.Mathlib.Omega.{arith}
-use Rattle.records.specs.Lists.{if◌then◌else◌}
 use Rattle.records.specs.Store.{Store, Out, ok, stop, Work, and_then, is_string, same_class}
 use Rattle.records.specs.Meaning.{Words, Reading, Holds}
 use Rattle.records.specs.Working.Audited.{Audited}

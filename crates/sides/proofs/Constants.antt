@@ -1,4 +1,5 @@
 -- Steps 3, 4 and 6: what constants rule out, and what a lone or an empty side gives.
+use Rattle.std.specs.Prelude.{if◌then◌else◌}
 use mathlib.Core.Path.{◌≡◌, refl, sym, ap, ◌∙◌}
 use mathlib.Core.Bool.{Bool, true, false, not, ◌&&◌, ◌||◌}
 use mathlib.Core.List.{List, [], ◌∷◌, ◌++◌, append-nil}
@@ -8,7 +9,7 @@ use Prim.Native.Nat.{ℕ, ◌≤◌}
 use native.Mathlib.Omega.{arith}
 use lib.ListN.{length}
 use borrow.Author.Tests.{eqb-true, ltb-true, not-true}
-use Rattle.records.specs.Lists.{if◌then◌else◌, all, first_of, concat_map, is_in}
+use Rattle.records.specs.Lists.{all, first_of, concat_map, is_in}
 use Rattle.records.specs.Store.{Store, kind, is_constant, is_variable, text}
 use Rattle.records.specs.Rules.{is_char}
 use Rattle.records.specs.Make.{make_constant}

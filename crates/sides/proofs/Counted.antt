@@ -1,4 +1,5 @@
 -- How many terms a Split makes: what each make adds, and that the number of the definition is by how many terms the store grows.
+use Rattle.std.specs.Prelude.{if◌then◌else◌}
 use mathlib.Core.Path.{◌≡◌, refl, sym, ap, subst, ◌∙◌}
 use mathlib.Core.Bool.{Bool, true, false, ◌&&◌}
 use mathlib.Core.List.{List, [], ◌∷◌, ◌++◌}
@@ -9,7 +10,7 @@ use lib.ListN.{length, length-append}
 use lib.IntN.{ℤ, neg_ℤ}
 use lib.Dec.{eqb, ltb, leb}
 use borrow.Author.Tests.{eqb-true, eq-eqb}
-use Rattle.records.specs.Lists.{if◌then◌else◌, all, none_left, and, Every}
+use Rattle.records.specs.Lists.{all, none_left, and, Every}
 use Rattle.records.specs.Store.{Store, Out, ok, stop, Work, and_then, ◌>>=◌, ◌>>◌, give, refuse, put, count, term, kind, within, is_string, is_concat, is_equation, parts}
 use Rattle.records.specs.Rules.{is_char, is_equatable, named}
 use Rattle.records.specs.Make.{with_chars, with_cells, with_terms, own, chain_from, add_text, add_chain, add_term, is_some, lookup, or_make, lowest, constant_of, concat_of, length_of, equation_of, make_constant, make_variable, make_concat, make_length, make_equation, take_name}

@@ -1,4 +1,5 @@
 -- One repeated field is decided exactly: a Conflict comes where no word makes the sides equal, anything else where one does.
+use Rattle.std.specs.Prelude.{if◌then◌else◌}
 use mathlib.Core.Path.{◌≡◌, refl, sym, ap, subst, ◌∙◌}
 use mathlib.Core.Bool.{Bool, true, false, not, ◌&&◌, ◌||◌}
 use mathlib.Core.List.{List, [], ◌∷◌, ◌++◌, append-nil}
@@ -9,7 +10,7 @@ use lib.ListN.{length}
 use lib.IntN.{ℤ}
 use lib.Dec.{eqb}
 use borrow.Author.Tests.{eqb-true, eq-eqb}
-use Rattle.records.specs.Lists.{if◌then◌else◌, all, any, first_of, concat_map, is_in, Every, none_left, and}
+use Rattle.records.specs.Lists.{all, any, first_of, concat_map, is_in, Every, none_left, and}
 use Rattle.records.specs.Store.{Store, Out, ok, stop, and_then, ◌>>◌, give, kind, is_constant, is_variable, is_concat, text, same_class}
 use Rattle.records.specs.Make.{add_key, is_key, constant_of, length_of, equation_of, make_constant, make_concat, make_length, make_equation}
 use Rattle.records.specs.Rules.{is_char}

@@ -1,4 +1,5 @@
 -- nf_equal and nf_explain: lists called equal have equal words under the reasons added.
+use Rattle.std.specs.Prelude.{if◌then◌else◌}
 use mathlib.Core.Path.{◌≡◌, refl, sym, ap, ◌∙◌}
 use mathlib.Core.Bool.{Bool, true, false, not, ◌&&◌, ◌||◌}
 use mathlib.Core.List.{List, [], ◌∷◌, ◌++◌}
@@ -7,7 +8,7 @@ use lib.ListN.{length, take}
 use native.Mathlib.Omega.{arith}
 use lib.Dec.{eqb}
 use borrow.Author.Tests.{not-false, eq-eqb, ne_eqb}
-use Rattle.records.specs.Lists.{if◌then◌else◌, all, concat_map, same_word, and}
+use Rattle.records.specs.Lists.{all, concat_map, same_word, and}
 use Rattle.records.specs.Store.{Store, Out, ok, stop, and_then, give, is_constant, is_string, text, same_class}
 use Rattle.records.specs.Make.{with_reasons}
 use Rattle.records.specs.Meaning.{Words}

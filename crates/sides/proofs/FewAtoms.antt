@@ -1,4 +1,5 @@
 -- A Split lists at most three atoms, its guard is the one handed in, negated, and it makes at most nine terms.
+use Rattle.std.specs.Prelude.{if◌then◌else◌}
 use mathlib.Core.Path.{◌≡◌, refl, subst}
 use mathlib.Core.Bool.{Bool, true, false, not, ◌&&◌, ◌||◌}
 use mathlib.Core.List.{List, [], ◌∷◌, ◌++◌}
@@ -7,7 +8,7 @@ use Prim.Native.Nat.{ℕ, suc, ◌+◌, ◌≤◌}
 use native.Mathlib.Omega.{arith}
 use lib.IntN.{ℤ, neg_ℤ}
 use lib.ListN.{length}
-use Rattle.records.specs.Lists.{if◌then◌else◌, all, any, first_of}
+use Rattle.records.specs.Lists.{all, any, first_of}
 use Rattle.records.specs.Store.{Store, Out, ok, stop, Work, and_then, is_constant, is_variable, is_concat, text}
 use Rattle.records.specs.Make.{add_key, is_key, is_some, lookup, constant_of, length_of, equation_of, make_constant, make_concat, make_length, make_equation}
 use Rattle.records.proofs.Works.{stop-not}

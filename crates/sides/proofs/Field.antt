@@ -1,4 +1,5 @@
 -- One repeated field: what holds of its sides, what step 1 leaves of them, and a word that fills the label.
+use Rattle.std.specs.Prelude.{if◌then◌else◌}
 use mathlib.Core.Path.{◌≡◌, refl, sym, ap, subst, ◌∙◌}
 use mathlib.Core.Bool.{Bool, true, false, not, ◌&&◌, ◌||◌}
 use mathlib.Core.List.{List, [], ◌++◌, reverse}
@@ -9,7 +10,7 @@ use native.Mathlib.Omega.{arith}
 use lib.ListN.{length, drop}
 use lib.Dec.{eqb}
 use borrow.Author.Tests.{eqb-true, eq-eqb, ne_eqb, not-true}
-use Rattle.records.specs.Lists.{if◌then◌else◌, all, any, concat_map, is_in, firsts, seconds, Every, none_left, and}
+use Rattle.records.specs.Lists.{all, any, concat_map, is_in, firsts, seconds, Every, none_left, and}
 use Rattle.records.specs.Store.{Term, Store, ok, and_then, give, count, kind, is_term, is_constant, text, root, same_class}
 use Rattle.records.specs.Rules.{is_char}
 use Rattle.records.specs.Meaning.{Words, Reading}

@@ -1,4 +1,5 @@
 -- The place of the first atom of a list that a test holds of, and what it says of all of them.
+use Rattle.std.specs.Prelude.{if◌then◌else◌}
 use mathlib.Core.Path.{◌≡◌, refl, sym, ap, ◌∙◌}
 use mathlib.Core.Bool.{Bool, true, false, not, ◌&&◌, ◌||◌}
 use mathlib.Core.List.{List, [], ◌∷◌}
@@ -9,7 +10,7 @@ use lib.ListN.{length, get_or, take, drop, take-append-drop, drop_of_length-le}
 use lib.Seq.{take-suc}
 use lib.Dec.{eqb, ltb}
 use borrow.Author.Tests.{not-true, eq-eqb, ne_eqb, ltb-true, ltb-false}
-use Rattle.records.specs.Lists.{if◌then◌else◌, all, any}
+use Rattle.records.specs.Lists.{all, any}
 use Rattle.records.specs.Store.{Store, kind}
 use Rattle.records.proofs.Lists.{decide, or_left, or_none_lem, any_append, drop_head}
 use Rattle.sides.specs.Wordeq.{fixed}

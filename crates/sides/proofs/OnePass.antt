@@ -1,12 +1,13 @@
 -- Step 1 in one pass: what is the same goes as it is met, each class match explained there. It is `strip`, since reasons change nothing in what
 -- is the same.
+use Rattle.std.specs.Prelude.{if◌then◌else◌}
 use mathlib.Core.Path.{◌≡◌, refl, sym, ap, ◌∙◌}
 use mathlib.Core.Bool.{Bool, true, false, ◌&&◌, ◌||◌}
 use mathlib.Core.List.{List, [], ◌∷◌, reverse}
 use Prim.Native.Nat.{ℕ}
 use lib.ListN.{length, drop}
 use lib.Dec.{eqb}
-use Rattle.records.specs.Lists.{if◌then◌else◌, same_word, and}
+use Rattle.records.specs.Lists.{same_word, and}
 use Rattle.records.specs.Store.{Store, Out, ok, stop, Work, and_then, ◌>>=◌, ◌>>◌, give, store, is_constant, text, same_class}
 use Rattle.records.specs.Working.Audited.{Audited}
 use Rattle.records.proofs.Grown.{Strings, strings-later}

@@ -1,5 +1,6 @@
 -- The residual lists and the sides of step 5, as a crate above reads them: the variables of a side, and what the terms and characters
 -- alone say of both.
+use Rattle.std.specs.Prelude.{if◌then◌else◌}
 use mathlib.Core.Path.{◌≡◌, refl, sym, ap, ◌∙◌}
 use mathlib.Core.Bool.{Bool, true, false, not, ◌&&◌}
 use mathlib.Core.List.{List, [], ◌∷◌}
@@ -8,7 +9,7 @@ use native.Mathlib.Omega.{arith}
 use lib.ListN.{length, get_or, take, drop}
 use lib.Seq.{take_all}
 use Rattle.records.specs.declared.State.{State}
-use Rattle.records.specs.Lists.{if◌then◌else◌, all, keep}
+use Rattle.records.specs.Lists.{all, keep}
 use Rattle.records.specs.Store.{Store, is_constant}
 use Rattle.records.specs.View.{Lent, lent, store_of, read_in, termed}
 use Rattle.records.proofs.Lists.{both_left, both_right, decide}

@@ -1,4 +1,5 @@
 -- Demand 3 of wordeq: the steps in sequence.
+use Rattle.std.specs.Prelude.{if◌then◌else◌}
 use mathlib.Core.Path.{◌≡◌, refl, sym, ap, subst, ◌∙◌}
 use mathlib.Core.Bool.{Bool, true, false}
 use mathlib.Core.List.{List, ◌++◌}
@@ -6,7 +7,7 @@ use mathlib.Core.Option.{Option, none, some}
 use Prim.Native.Nat.{ℕ, ◌+◌}
 use native.Mathlib.Omega.{arith}
 use lib.IntN.{ℤ}
-use Rattle.records.specs.Lists.{if◌then◌else◌, all, any, concat_map}
+use Rattle.records.specs.Lists.{all, any, concat_map}
 use Rattle.records.specs.Store.{Store, Out, ok, stop, ◌>>=◌, give, count, is_concat, is_string}
 use Rattle.records.specs.Make.{with_reasons}
 use Rattle.records.specs.Meaning

@@ -1,4 +1,5 @@
 -- Step 7: both splits, what their atoms are worth for the words of the store.
+use Rattle.std.specs.Prelude.{if◌then◌else◌}
 use mathlib.Core.Path.{◌≡◌, refl, sym, ap, subst, ◌∙◌}
 use mathlib.Core.Bool.{Bool, true, false, ◌&&◌, ◌||◌}
 use mathlib.Core.List.{List, [], ◌∷◌, ◌++◌, append-nil, Memᴰ}
@@ -9,7 +10,7 @@ use native.Mathlib.Decide.{dec_le, ℕ_discrete}
 use lib.ListN.{length, drop}
 use lib.IntN.{ℤ, neg_ℤ}
 use borrow.Author.Tests.{eqb-true}
-use Rattle.records.specs.Lists.{if◌then◌else◌, all, concat_map, none_left, and}
+use Rattle.records.specs.Lists.{all, concat_map, none_left, and}
 use Rattle.records.specs.Store.{Store, Term, count, term, kind, within, is_constant, is_string, text}
 use Rattle.records.specs.Rules.{is_char, is_equatable}
 use Rattle.records.specs.Make.{add_key, is_key, make_concat, make_length, make_equation}

@@ -1,4 +1,5 @@
 -- Step 1: what is stripped from one side has the words of what is stripped from the other, and the heads left are two terms.
+use Rattle.std.specs.Prelude.{if◌then◌else◌}
 use mathlib.Core.Path.{◌≡◌, refl, sym, ap, subst, ◌∙◌}
 use mathlib.Core.Bool.{Bool, true, false, ◌&&◌, ◌||◌}
 use mathlib.Core.List.{List, [], ◌∷◌, ◌++◌, reverse}
@@ -6,7 +7,7 @@ use Prim.Native.Nat.{ℕ}
 use lib.ListN.{length, take, drop, take-append-drop}
 use lib.Dec.{eqb}
 use borrow.Author.Tests.{eqb-true, eq-eqb}
-use Rattle.records.specs.Lists.{if◌then◌else◌, any, concat_map, same_word, firsts, seconds, Every, none_left, and}
+use Rattle.records.specs.Lists.{any, concat_map, same_word, firsts, seconds, Every, none_left, and}
 use Rattle.records.specs.Store.{Store, Out, ok, stop, and_then, give, is_constant, is_string, text, same_class}
 use Rattle.records.specs.Make.{with_reasons}
 use Rattle.records.specs.Meaning.{Words, Reading}

@@ -1,4 +1,5 @@
 -- Step 5: no word for the one variable class fits.
+use Rattle.std.specs.Prelude.{if◌then◌else◌}
 use mathlib.Core.Path.{◌≡◌, refl, sym, ap, subst, ◌∙◌}
 use mathlib.Core.Bool.{Bool, true, false, not, ◌&&◌}
 use mathlib.Core.List.{List, [], ◌∷◌, ◌++◌, append_assoc}
@@ -7,7 +8,7 @@ use native.Mathlib.Omega.{arith}
 use lib.ListN.{length}
 use lib.Dec.{eqb}
 use borrow.Author.Tests.{eqb-true, eq-eqb, not-true}
-use Rattle.records.specs.Lists.{if◌then◌else◌, all, keep, concat_map, same_word, Every, none_left, and}
+use Rattle.records.specs.Lists.{all, keep, concat_map, same_word, Every, none_left, and}
 use Rattle.records.specs.Store.{Store, is_constant, is_string, text, root, same_class}
 use Rattle.records.specs.Meaning.{Words, Reading}
 use Rattle.records.specs.Working.Audited.{Audited}

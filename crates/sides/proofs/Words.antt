@@ -1,4 +1,5 @@
 -- The algebra of words, with nothing of a store: words joined, cancelled, filled in and compared.
+use Rattle.std.specs.Prelude.{if◌then◌else◌}
 use mathlib.Core.Path.{◌≡◌, refl, sym, ap, ◌∙◌}
 use mathlib.Core.Bool.{Bool, true, false, not, ◌&&◌, ◌||◌}
 use mathlib.Core.List.{List, [], ◌∷◌, ◌++◌, reverse, append_cancel_left, append_cancel_right, reverse-append, reverse-reverse, reverse-cons}
@@ -10,7 +11,7 @@ use lib.ListN.{length, take, drop, length-append, take-append-drop}
 use lib.Seq.{take-append-le, take_at, drop_at}
 use lib.Dec.{eqb}
 use borrow.Author.Tests.{not-true, eq-eqb}
-use Rattle.records.specs.Lists.{if◌then◌else◌, all, any, keep, concat_map, is_in, Every, none_left, and}
+use Rattle.records.specs.Lists.{all, any, keep, concat_map, is_in, Every, none_left, and}
 use Rattle.records.proofs.Lists.{either, or_left, or_right, clash, any_append, concat_map-append}
 use Rattle.sides.specs.Wordeq.{differ}
 

@@ -1,6 +1,6 @@
 -- The definitions of one repeated field run on small stores: what is in the scope, and which answer is given where a word is known or none.
-use Rattle.std.specs.Prelude.{Bool, true, false, not, ◌&&◌, ◌||◌, List, [], ◌∷◌, ℕ, pos, eqb, T}
-use Rattle.records.specs.Lists.{if◌then◌else◌, all, any, first_of, keep, concat_map, same_word, is_in, first_below, all_below, up_to}
+use Rattle.std.specs.Prelude.{Bool, true, false, not, ◌&&◌, ◌||◌, List, [], ◌∷◌, ℕ, pos, eqb, T, if◌then◌else◌}
+use Rattle.records.specs.Lists.{all, any, first_of, keep, concat_map, same_word, is_in, first_below, all_below, up_to}
 use Rattle.records.specs.Store.{Term, no_term, no_cell, Store, Out, ok, stop, term_in, cell_in, within, text_in, climb, same_class, is_constant, is_variable, text, above_by, nearest_in, path_in}
 use Rattle.records.specs.View.{term_words, cell_words}
 use Rattle.records.specs.Rules.{each_term}

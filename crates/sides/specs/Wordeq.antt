@@ -1,7 +1,7 @@
 -- Document 01, 'Wordeq' and 'Departures': two lists of terms, steps 1 to 8.
-use Rattle.std.specs.Prelude.{Bool, true, false, not, ◌&&◌, ◌||◌, List, [], ◌∷◌, ◌++◌, reverse, ℕ, suc, ◌+◌, ◌-◌, ◌*◌, ◌/◌, length, take, drop, ℤ, pos, negsuc, neg_ℤ, eqb, ltb}
+use Rattle.std.specs.Prelude.{Bool, true, false, not, ◌&&◌, ◌||◌, List, [], ◌∷◌, ◌++◌, reverse, ℕ, suc, ◌+◌, ◌-◌, ◌*◌, ◌/◌, length, take, drop, ℤ, pos, negsuc, neg_ℤ, eqb, ltb, if◌then◌else◌}
 use Rattle.std.proofs.Math.Option.{Option, none, some}
-use Rattle.records.specs.Lists.{if◌then◌else◌, all, any, first_of, keep, concat_map, same_word, is_in}
+use Rattle.records.specs.Lists.{all, any, first_of, keep, concat_map, same_word, is_in}
 use Rattle.records.specs.Store.{Store, ok, Work, ◌>>=◌, ◌>>◌, give, store, is_constant, is_variable, is_concat, text, same_class}
 use Rattle.records.specs.Make.{with_reasons, add_key, is_key, is_some, lookup, constant_of, length_of, equation_of, make_constant, make_variable, make_concat, make_length, make_equation, strk, take_name}
 use Rattle.engine.specs.Explain.{explain, is_reasoned}

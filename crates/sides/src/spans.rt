@@ -1,6 +1,6 @@
 // Step 5: a side of constants against a side with one variable class.
-ghost use Rattle.std.specs.Prelude.{◌≡◌, true, false, suc, ◌+◌, ◌<◌, ◌≤◌, length, drop, get_or};
-ghost use Rattle.records.specs.Lists.{if◌then◌else◌, all};
+ghost use Rattle.std.specs.Prelude.{◌≡◌, true, false, suc, ◌+◌, ◌<◌, ◌≤◌, length, drop, get_or, if◌then◌else◌};
+ghost use Rattle.records.specs.Lists.{all};
 ghost use Rattle.records.specs.Store.{is_constant, is_string};
 ghost use Rattle.records.specs.View.{store_of, across, Between, read_in, termed, changing, lent};
 ghost use Rattle.records.specs.Working.Audited.{Ready};

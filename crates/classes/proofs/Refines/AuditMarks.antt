@@ -1,4 +1,5 @@
 -- Each answer of the audit of store and marks.
+use Rattle.std.specs.Prelude.{if◌then◌else◌}
 use mathlib.Core.Path.{◌≡◌, refl, sym, ap, ◌∙◌}
 use mathlib.Core.Bool.{Bool, true, false, not, ◌&&◌, false≢true}
 use mathlib.Core.List.{List}
@@ -6,7 +7,6 @@ use Prim.Native.Nat.{ℕ}
 use native.Mathlib.Omega.{arith}
 use borrow.Author.Tests.{not-true, not-false}
 use Rattle.records.specs.declared.State.{State}
-use Rattle.records.specs.Lists.{if◌then◌else◌}
 use Rattle.records.specs.Store.{within}
 use Rattle.records.specs.View.{Lent, store_of, sizes, chained}
 use Rattle.records.specs.Rules.{records_rule, classes_rule, congruences_rule, audit_store, audit, audit_index, first_due}

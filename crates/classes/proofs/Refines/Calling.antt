@@ -1,4 +1,5 @@
 -- Each way through the working forms of joining, setting a mark and going back.
+use Rattle.std.specs.Prelude.{if◌then◌else◌}
 use mathlib.Core.Path.{◌≡◌, refl, sym, ap, subst, ◌∙◌}
 use mathlib.Core.Bool.{Bool, true, false, ◌&&◌}
 use mathlib.Core.List.{List, [], ◌∷◌}
@@ -9,7 +10,7 @@ use lib.ListN.{length, get_or, drop, take, length-append}
 use lib.Dec.{ltb}
 use borrow.Author.Tests.{eq-eqb, ne_eqb, lt-ltb}
 use Rattle.records.specs.declared.State.{State}
-use Rattle.records.specs.Lists.{if◌then◌else◌, table, one_more}
+use Rattle.records.specs.Lists.{table, one_more}
 use Rattle.records.specs.Store.{Term, Store, count, within, is_string, root, root_in, top_in, class_up, forest_up}
 use Rattle.records.specs.View.{Lent, lent, store_of, terms_view, zero_term}
 use Rattle.records.specs.Index.{bucket}

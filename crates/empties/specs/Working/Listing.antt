@@ -1,6 +1,6 @@
 -- Working definitions: the variables listed so far, and one more tried.
-use Rattle.std.specs.Prelude.{◌≡◌, List, ◌∷◌, ℕ, ◌≤◌, length, take}
-use Rattle.records.specs.Lists.{if◌then◌else◌, any, one_more}
+use Rattle.std.specs.Prelude.{◌≡◌, List, ◌∷◌, ℕ, ◌≤◌, length, take, if◌then◌else◌}
+use Rattle.records.specs.Lists.{any, one_more}
 use Rattle.records.specs.Store.{Store, same_class}
 
 -- w, and v after it where v is of the class of neither e nor one of w

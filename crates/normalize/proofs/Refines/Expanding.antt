@@ -1,4 +1,5 @@
 -- The ways of expanding an atom, and of the loop over a round's list.
+use Rattle.std.specs.Prelude.{if◌then◌else◌}
 use mathlib.Core.Path.{◌≡◌, refl, sym, ap, subst, ◌∙◌}
 use mathlib.Core.Bool.{Bool, true, false, not}
 use mathlib.Core.List.{List, [], ◌∷◌, ◌++◌}
@@ -11,7 +12,7 @@ use lib.Seq.{drop-cons, get_or-set_same, get_or-set_other}
 use lib.Dec.{eqb, ltb}
 use borrow.Author.Tests.{eqb-true, eqb-false, eq-eqb, ne_eqb, ltb-false, lt-ltb, le-ltb, not-true, not-false}
 use Rattle.records.specs.declared.State.{State}
-use Rattle.records.specs.Lists.{if◌then◌else◌, all, any, is_in, none_left, and}
+use Rattle.records.specs.Lists.{all, any, is_in, none_left, and}
 use Rattle.records.specs.Store.{Term, Store, Out, ok, stop, Work, and_then, give, count, term_in, is_string}
 use Rattle.records.specs.View.{Lent, store_of, term_limit}
 use Rattle.records.specs.Working.Audited.{Ready}

@@ -1,4 +1,5 @@
 -- The ways of replacing an atom, and of the loop over the atoms.
+use Rattle.std.specs.Prelude.{if◌then◌else◌}
 use mathlib.Core.Path.{◌≡◌, refl, sym, ap, subst, ◌∙◌}
 use mathlib.Core.Bool.{true, ◌&&◌}
 use mathlib.Core.List.{List, [], ◌∷◌, reverse}
@@ -12,7 +13,6 @@ use borrow.Author.Tests.{eq-eqb, ne_eqb}
 use Rattle.records.specs.declared.State.{State}
 use Rattle.records.specs.declared.Added.{Added}
 use Rattle.records.specs.declared.Added.TheVariants.{Counts, Refused}
-use Rattle.records.specs.Lists.{if◌then◌else◌}
 use Rattle.records.specs.Store.{Store, Out, ok, stop, Work, and_then, ◌>>=◌, give, within, class_up, is_string}
 use Rattle.records.specs.View.{Lent, store_of, terms_view, term_limit}
 use Rattle.records.specs.Working.Audited.{Ready, Closed}

@@ -1,4 +1,5 @@
 -- The ways of a round: its list joined and compared, another round or none; and of the deep form.
+use Rattle.std.specs.Prelude.{if◌then◌else◌}
 use mathlib.Core.Path.{◌≡◌, refl, sym, ap, ◌∙◌}
 use mathlib.Core.Bool.{Bool, true, false, not}
 use mathlib.Core.List.{List, [], ◌∷◌, ◌++◌, reverse, reverse-reverse}
@@ -12,7 +13,7 @@ use lib.Seq.{drop-cons}
 use lib.Dec.{ltb}
 use borrow.Author.Tests.{lt-ltb, le-ltb, not-true, not-false}
 use Rattle.records.specs.declared.State.{State}
-use Rattle.records.specs.Lists.{if◌then◌else◌, all, any, table, same_word}
+use Rattle.records.specs.Lists.{all, any, table, same_word}
 use Rattle.records.specs.Store.{Store, Out, ok, stop, Work, and_then, give, is_string}
 use Rattle.records.specs.View.{Lent, store_of}
 use Rattle.records.specs.Working.Audited.{Ready}

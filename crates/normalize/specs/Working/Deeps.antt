@@ -1,8 +1,8 @@
 -- Working definitions: the rounds of a deep form, with the concatenations met in a table.
-use Rattle.std.specs.Prelude.{◌≡◌, Bool, true, not, ◌&&◌, List, [], ◌++◌, reverse, ℕ, ◌*◌, ◌≤◌, length, get_or, eqb, ltb}
+use Rattle.std.specs.Prelude.{◌≡◌, Bool, true, not, ◌&&◌, List, [], ◌++◌, reverse, ℕ, ◌*◌, ◌≤◌, length, get_or, eqb, ltb, if◌then◌else◌}
 use Rattle.std.proofs.Math.Option.{Option, none, some}
 use Rattle.records.specs.declared.State.{State}
-use Rattle.records.specs.Lists.{if◌then◌else◌, all, any, is_in}
+use Rattle.records.specs.Lists.{all, any, is_in}
 use Rattle.records.specs.Store.{Term, Store, Out, ok, stop, Work, ◌>>=◌, give, store, term_in, is_string}
 use Rattle.records.specs.View.{Lent, store_of, term_limit}
 use Rattle.records.specs.Working.Doing.{Keeps, ReadyFor}

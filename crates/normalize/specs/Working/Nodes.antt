@@ -1,6 +1,6 @@
 -- Working definitions: representatives in a table by class root, 0 where a class has none.
-use Rattle.std.specs.Prelude.{◌≡◌, Bool, true, ◌&&◌, ◌||◌, List, [], ◌∷◌, ℕ, ◌≤◌, length, get_or, set, eqb, ltb}
-use Rattle.records.specs.Lists.{if◌then◌else◌, first_of}
+use Rattle.std.specs.Prelude.{◌≡◌, Bool, true, ◌&&◌, ◌||◌, List, [], ◌∷◌, ℕ, ◌≤◌, length, get_or, set, eqb, ltb, if◌then◌else◌}
+use Rattle.records.specs.Lists.{first_of}
 use Rattle.records.specs.Store.{Term, term_in, root_in, class_up, within}
 use Rattle.records.specs.View.{term_limit}
 use Rattle.records.specs.Working.Audited.{Closed}

@@ -1,6 +1,6 @@
 -- Working definitions: a list in the first words of a lent slice, atom by atom.
-use Rattle.std.specs.Prelude.{◌≡◌, Bool, true, false, ◌&&◌, List, [], ◌∷◌, reverse, ℕ, eqb}
-use Rattle.records.specs.Lists.{if◌then◌else◌, all}
+use Rattle.std.specs.Prelude.{◌≡◌, Bool, true, false, ◌&&◌, List, [], ◌∷◌, reverse, ℕ, eqb, if◌then◌else◌}
+use Rattle.records.specs.Lists.{all}
 use Rattle.records.specs.Store.{Term, Store, Out, ok, stop, Work, ◌>>=◌, give, term_in, is_string}
 use Rattle.records.specs.View.{Lent, store_of}
 use Rattle.engine.specs.Explain.{explain}

@@ -1,4 +1,5 @@
 -- The audit of classes: tests of one term at a time say what the rules of two terms say.
+use Rattle.std.specs.Prelude.{if◌then◌else◌}
 use mathlib.Core.Path.{◌≡◌, refl, sym, ap, ◌∙◌}
 use mathlib.Core.Bool.{Bool, true, false, not, ◌&&◌, ◌||◌}
 use mathlib.Core.List.{List}
@@ -9,7 +10,6 @@ use lib.ListN.{length}
 use lib.Dec.{eqb}
 use borrow.Author.Tests.{eqb-true, eqb-false, eq-eqb, ne_eqb}
 use Rattle.records.specs.declared.State.{State}
-use Rattle.records.specs.Lists.{if◌then◌else◌}
 use Rattle.records.specs.Store.{Store, term, count, is_term, is_string, within, climb, class_up, forest_up, root, top, same_class, same_tree}
 use Rattle.records.specs.Rules.{each_term, parents_rule, ends_rule, alike_rule, alone_rule, is_number, edge_label, label_rule, classes_rule}
 use Rattle.records.specs.Working.Leaves.{parent_of, up_in, alike_at, alone_at, class_test}

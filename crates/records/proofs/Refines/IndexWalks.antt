@@ -1,4 +1,5 @@
 -- Walking the chain of a bucket: from a term on it is a chain of higher terms, so the walk ends, and what is met first in it is the first of all.
+use Rattle.std.specs.Prelude.{if◌then◌else◌}
 use mathlib.Core.Path.{◌≡◌, refl, sym, ap, ◌∙◌}
 use mathlib.Core.Bool.{Bool, true, false}
 use mathlib.Core.List.{List, ◌∷◌, Memᴰ}
@@ -8,7 +9,7 @@ use native.Mathlib.Omega.{arith}
 use lib.ListN.{length}
 use lib.Dec.{eqb}
 use borrow.Author.Tests.{eq-eqb, ne_eqb}
-use Rattle.records.specs.Lists.{if◌then◌else◌, first_of}
+use Rattle.records.specs.Lists.{first_of}
 use Rattle.records.specs.Store.{within, or_none}
 use Rattle.records.specs.View.{buckets, term_place, term_words, head_at, next_at}
 use Rattle.records.specs.Index.{IndexOf}

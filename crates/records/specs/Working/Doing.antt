@@ -1,11 +1,10 @@
 -- What every working function promises: one shape for all of them, and a smaller one for the parts of a make.
-use Rattle.std.specs.Prelude.{◌≡◌, Bool, true, false, List, ℕ, ◌≤◌, take, eqb}
+use Rattle.std.specs.Prelude.{◌≡◌, Bool, true, false, List, ℕ, ◌≤◌, take, eqb, if◌then◌else◌}
 use denote.Triple.Both.{Both}
 use Rattle.records.specs.declared.State.{State}
 use Rattle.records.specs.declared.Named.{Named}
 use Rattle.records.specs.declared.Made.{Made}
 use Rattle.records.specs.declared.Made.TheVariants.{Term, Refused}
-use Rattle.records.specs.Lists.{if◌then◌else◌}
 use Rattle.records.specs.Store.{Out, ok, stop, Work}
 use Rattle.records.specs.View.{Lent, store_of}
 use Rattle.records.specs.Make.{take_name}

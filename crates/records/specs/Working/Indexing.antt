@@ -1,7 +1,7 @@
 -- The index while it is walked, grown and cut: what the functions of src/index.rt require and promise.
-use Rattle.std.specs.Prelude.{◌≡◌, Bool, true, ◌&&◌, ℕ, suc, ◌+◌, ◌≤◌, ◌<◌, length, get_or, set, eqb, ltb, leb}
+use Rattle.std.specs.Prelude.{◌≡◌, Bool, true, ◌&&◌, ℕ, suc, ◌+◌, ◌≤◌, ◌<◌, length, get_or, set, eqb, ltb, leb, if◌then◌else◌}
 use mathlib.Core.List.{List, Memᴰ}
-use Rattle.records.specs.Lists.{if◌then◌else◌, first_of, all_below, last_below}
+use Rattle.records.specs.Lists.{first_of, all_below, last_below}
 use Rattle.records.specs.Store.{Store, term, kind, within, is_term, or_none}
 use Rattle.records.specs.View.{buckets, term_place, head_at, next_at, term_at, zero_term}
 use Rattle.records.specs.Index.{bucket, IndexOf}

@@ -1,4 +1,5 @@
 -- Step 2 place by place: the non-empty constants counted, and the first atom of a class with one of them at another place.
+use Rattle.std.specs.Prelude.{if◌then◌else◌}
 use mathlib.Core.Path.{◌≡◌, refl, sym, ap, subst, ◌∙◌}
 use mathlib.Core.Bool.{Bool, true, false, ◌&&◌, ◌||◌}
 use mathlib.Core.List.{List, [], ◌∷◌, ◌++◌}
@@ -11,7 +12,7 @@ use lib.Seq.{take-suc}
 use lib.Dec.{eqb, ltb}
 use borrow.Author.Tests.{eq-eqb, ne_eqb, lt-ltb, le-ltb, ltb-true, ltb-false}
 use Rattle.records.specs.declared.State.{State}
-use Rattle.records.specs.Lists.{if◌then◌else◌, any, keep}
+use Rattle.records.specs.Lists.{any, keep}
 use Rattle.records.specs.Store.{Store, root, same_class}
 use Rattle.records.specs.View.{Lent, store_of, termed}
 use Rattle.records.proofs.Lists.{both_left, decide, drop_head}

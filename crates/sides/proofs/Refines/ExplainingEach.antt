@@ -1,4 +1,5 @@
 -- Departure B: the loop that explains each variable of a side with one.
+use Rattle.std.specs.Prelude.{if◌then◌else◌}
 use mathlib.Core.Path.{◌≡◌, refl, sym, ap, subst, ◌∙◌}
 use mathlib.Core.Bool.{Bool, true, false, not}
 use mathlib.Core.List.{List, [], ◌∷◌}
@@ -8,7 +9,7 @@ use lib.Dec.{eqb}
 use borrow.Author.Tests.{eqb-true, eq-eqb, ne_eqb}
 use Rattle.records.specs.declared.State.{State}
 use Rattle.records.specs.declared.Added.TheVariants as adding
-use Rattle.records.specs.Lists.{if◌then◌else◌, all, keep, Every, none_left, and}
+use Rattle.records.specs.Lists.{all, keep, Every, none_left, and}
 use Rattle.records.specs.Store.{Store, Term, Out, ok, Work, and_then, term_in, is_constant, is_string, root, same_class}
 use Rattle.records.specs.View.{Lent, lent, store_of, terms_view, read_in}
 use Rattle.records.specs.Working.Audited.{Audited, Ready}

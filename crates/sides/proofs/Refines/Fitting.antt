@@ -1,4 +1,5 @@
 -- Step 5: the first variable of a side, how many variables there are, and whether one word for all of them fits.
+use Rattle.std.specs.Prelude.{if◌then◌else◌}
 use mathlib.Core.Path.{◌≡◌, refl, sym, ap, ◌∙◌}
 use mathlib.Core.Bool.{Bool, true, false, not, ◌&&◌}
 use mathlib.Core.List.{List, [], ◌∷◌, ◌++◌}
@@ -9,7 +10,7 @@ use lib.ListN.{length, get_or, take, drop, length-append, length-drop, take-appe
 use lib.Dec.{eqb}
 use borrow.Author.Tests.{eq-eqb, ne_eqb}
 use Rattle.records.specs.declared.State.{State}
-use Rattle.records.specs.Lists.{if◌then◌else◌, all, keep, concat_map, same_word}
+use Rattle.records.specs.Lists.{all, keep, concat_map, same_word}
 use Rattle.records.specs.Store.{Store, kind, is_constant, is_string, text}
 use Rattle.records.specs.View.{lent, store_of, read_in, termed}
 use Rattle.records.proofs.Lists.{both_left, both_right, left_false, and-next, or-stop, or-next, clash, all_every, every_at, concat_map-append}

@@ -1,4 +1,5 @@
 -- Places of the characters that are used, and the characters that stand there.
+use Rattle.std.specs.Prelude.{if◌then◌else◌}
 use mathlib.Core.Path.{◌≡◌, refl, sym, ap, ◌∙◌}
 use mathlib.Core.Bool.{Bool, true, false, ◌||◌}
 use mathlib.Core.List.{List, [], ◌∷◌}
@@ -11,7 +12,7 @@ use lib.ListN.{length, get_or, set, replicate, length-set, get_or-replicate}
 use lib.Seq.{get_or-set_same, get_or-set_other}
 use lib.Dec.{eqb}
 use borrow.Author.Tests.{eqb-true, eq-eqb, ne_eqb}
-use Rattle.records.specs.Lists.{if◌then◌else◌, any, table, is_in}
+use Rattle.records.specs.Lists.{any, table, is_in}
 use Rattle.records.specs.View.{span}
 use Rattle.records.proofs.Lists.{any_append, any-stays, any-stop, or_right, or_none_lem, decide}
 use Rattle.sides.specs.Working.Lacking.{used_at, seen, used}

@@ -1,4 +1,5 @@
 -- Step 2 for one side's lone atom.
+use Rattle.std.specs.Prelude.{if◌then◌else◌}
 use mathlib.Core.Path.{◌≡◌, refl, sym, ap, ◌∙◌}
 use mathlib.Core.Bool.{Bool, true, false}
 use mathlib.Core.List.{List, [], ◌∷◌}
@@ -10,7 +11,7 @@ use lib.Dec.{leb}
 use borrow.Author.Tests.{eq-eqb, ne_eqb, leb-true}
 use Rattle.records.specs.declared.State.{State}
 use Rattle.records.specs.declared.Added.TheVariants as adding
-use Rattle.records.specs.Lists.{if◌then◌else◌, all}
+use Rattle.records.specs.Lists.{all}
 use Rattle.records.specs.Store.{Store, ok, and_then, term_in, within, class_up, is_constant, is_string}
 use Rattle.records.specs.View.{Lent, lent, store_of, terms_view, termed}
 use Rattle.records.specs.Working.Audited.{Ready, Closed}

@@ -1,4 +1,5 @@
 -- The constants of a side, and their characters counted.
+use Rattle.std.specs.Prelude.{if◌then◌else◌}
 use mathlib.Core.Path.{◌≡◌, sym, ap, ◌∙◌, refl}
 use mathlib.Core.Bool.{Bool, true, false, not, ◌&&◌}
 use mathlib.Core.List.{List, [], ◌++◌, ◌∷◌}
@@ -9,7 +10,7 @@ use lib.Seq.{drop-cons, take_all}
 use lib.Dec.{ltb}
 use borrow.Author.Tests.{eq-eqb, ne_eqb}
 use Rattle.records.specs.declared.State.{State}
-use Rattle.records.specs.Lists.{if◌then◌else◌, concat_map}
+use Rattle.records.specs.Lists.{concat_map}
 use Rattle.records.specs.Store.{Store, Term, text_in, kind, term, is_constant, text}
 use Rattle.records.specs.View.{char_limit, term_at, read_in, termed}
 use Rattle.records.proofs.Lists.{and-stop, and-next, table-length, failed, passed}

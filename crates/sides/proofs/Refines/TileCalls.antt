@@ -1,4 +1,5 @@
 -- Step 5 on the constant side and the side against it: what its functions require and answer.
+use Rattle.std.specs.Prelude.{if◌then◌else◌}
 use mathlib.Core.Path.{◌≡◌, refl, sym, ap, subst, ◌∙◌}
 use mathlib.Core.Bool.{Bool, true, false, not, ◌&&◌}
 use mathlib.Core.List.{List, [], ◌∷◌}
@@ -10,7 +11,7 @@ use lib.ListN.{length, get_or, drop, length-drop}
 use lib.Dec.{eqb}
 use Rattle.records.specs.declared.State.{State}
 use Rattle.records.specs.declared.Added.TheVariants as adding
-use Rattle.records.specs.Lists.{if◌then◌else◌, all, keep, Every}
+use Rattle.records.specs.Lists.{all, keep, Every}
 use Rattle.records.specs.Store.{Store, Out, ok, stop, and_then, ◌>>◌, is_string}
 use Rattle.records.specs.View.{Lent, lent, store_of, terms_view, read_in, termed}
 use Rattle.records.specs.Rules.{is_list}

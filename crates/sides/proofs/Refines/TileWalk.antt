@@ -1,4 +1,5 @@
 -- The walk of a side over the joined word.
+use Rattle.std.specs.Prelude.{if◌then◌else◌}
 use mathlib.Core.Path.{◌≡◌, refl, sym, ap, ◌∙◌}
 use mathlib.Core.Bool.{Bool, true, false, not, false≢true}
 use mathlib.Core.List.{List, [], ◌∷◌, ◌++◌}
@@ -10,7 +11,7 @@ use lib.Seq.{drop-cons, take-append_seam}
 use lib.Dec.{eqb, leb, T, nleb→lt}
 use borrow.Author.Tests.{eqb-true, eq-eqb, ne_eqb, not-true, not-false, leb-true}
 use Rattle.records.specs.declared.State.{State}
-use Rattle.records.specs.Lists.{if◌then◌else◌, concat_map, same_word}
+use Rattle.records.specs.Lists.{concat_map, same_word}
 use Rattle.records.specs.Store.{Store, kind, is_constant, text}
 use Rattle.records.specs.View.{char_limit, read_in, termed, term_at}
 use Rattle.records.proofs.Lists.{decide, left_false, clash}

@@ -1,6 +1,5 @@
 -- Departure B atom by atom: what the working functions require and do.
-use Rattle.std.specs.Prelude.{◌≡◌, true, false, List, ℕ, eqb}
-use Rattle.records.specs.Lists.{if◌then◌else◌}
+use Rattle.std.specs.Prelude.{◌≡◌, true, false, List, ℕ, eqb, if◌then◌else◌}
 use Rattle.records.specs.Store.{Term, Work, ◌>>=◌, give, store, term_in, root_in, is_constant}
 use Rattle.engine.specs.Explain.{explain}
 

@@ -1,7 +1,7 @@
 -- Working definitions of step 3's 'a constant character absent from a constant side': constants share the store's characters, so a
 -- table says of each place there whether the side uses it.
-use Rattle.std.specs.Prelude.{◌≡◌, Bool, false, not, ◌||◌, List, ℕ, zero, suc, ◌+◌, length, get_or, set, eqb}
-use Rattle.records.specs.Lists.{if◌then◌else◌, any, table, is_in}
+use Rattle.std.specs.Prelude.{◌≡◌, Bool, false, not, ◌||◌, List, ℕ, zero, suc, ◌+◌, length, get_or, set, eqb, if◌then◌else◌}
+use Rattle.records.specs.Lists.{any, table, is_in}
 use Rattle.sides.specs.Wordeq.{unequal, short, absent}
 use Rattle.records.specs.Store.{Store}
 

@@ -1,7 +1,6 @@
 -- Step 2 place by place: what its working functions answer.
-use Rattle.std.specs.Prelude.{List, ℕ, length, get_or, ltb}
+use Rattle.std.specs.Prelude.{List, ℕ, length, get_or, ltb, if◌then◌else◌}
 use Rattle.std.proofs.Math.Option.{Option, none, some}
-use Rattle.records.specs.Lists.{if◌then◌else◌}
 use Rattle.records.specs.Store.{Store}
 use Rattle.sides.specs.Wordeq.{is_full}
 

@@ -1,4 +1,5 @@
 -- Steps 6 and 7: the ways through the heads of the two lists.
+use Rattle.std.specs.Prelude.{if◌then◌else◌}
 use mathlib.Core.Path.{◌≡◌, refl, sym, ap, subst, ◌∙◌}
 use mathlib.Core.Bool.{Bool, true, false, ◌&&◌, ◌||◌}
 use mathlib.Core.List.{List, [], ◌∷◌, ◌++◌}
@@ -18,7 +19,7 @@ use borrow.Author.Tests.{eqb-true, eqb-false, ltb-true, lt-ltb, not-true}
 use Rattle.records.specs.declared.State.{State}
 use Rattle.records.specs.declared.Added.{Added}
 use Rattle.records.specs.declared.Added.TheVariants as adding
-use Rattle.records.specs.Lists.{if◌then◌else◌, all, any}
+use Rattle.records.specs.Lists.{all, any}
 use Rattle.records.specs.Store.{Store, Out, ok, stop, and_then, ◌>>=◌, ◌>>◌, count, kind, is_constant, is_string, text}
 use Rattle.records.specs.View.{Lent, store_of, pairs_view, read_in, termed, term_at}
 use Rattle.records.specs.Rules.{is_char, is_list, list_limit}

@@ -1,11 +1,12 @@
 -- The ways of step 4 that make a term.
+use Rattle.std.specs.Prelude.{if◌then◌else◌}
 use mathlib.Core.Path.{◌≡◌, ap}
 use mathlib.Core.Bool.{Bool, true, false, ◌&&◌}
 use mathlib.Core.List.{List, [], ◌∷◌}
 use Prim.Native.Nat.{ℕ}
 use Rattle.records.specs.declared.State.{State}
 use Rattle.records.specs.declared.Made.{Made}
-use Rattle.records.specs.Lists.{if◌then◌else◌, all, concat_map}
+use Rattle.records.specs.Lists.{all, concat_map}
 use Rattle.records.specs.Store.{Store, Out, and_then, is_constant, is_variable, text}
 use Rattle.records.specs.View.{Lent, store_of}
 use Rattle.records.specs.Make.{make_constant}

@@ -1,4 +1,5 @@
 -- The ways of making step 7's atoms: each make goes on from where the one before it ended.
+use Rattle.std.specs.Prelude.{if◌then◌else◌}
 use mathlib.Core.Path.{◌≡◌, refl, sym, ap, ◌∙◌}
 use mathlib.Core.Bool.{Bool, true}
 use mathlib.Core.List.{List, [], ◌∷◌}
@@ -11,7 +12,7 @@ use Rattle.records.specs.declared.State.{State}
 use Rattle.records.specs.declared.Made.{Made}
 use Rattle.records.specs.declared.Made.TheVariants.{Term, Refused}
 use Rattle.records.specs.declared.Named.{Named}
-use Rattle.records.specs.Lists.{if◌then◌else◌, all}
+use Rattle.records.specs.Lists.{all}
 use Rattle.records.specs.Store.{Store, Out, ok, stop, Work, and_then, ◌>>=◌, give, within, is_constant, is_string, text}
 use Rattle.records.specs.View.{Lent, store_of}
 use Rattle.records.specs.Rules.{is_char, named}

@@ -1,6 +1,5 @@
 -- Working definitions: step 7 behind its tests.
-use Rattle.std.specs.Prelude.{◌≡◌, true, false, ◌&&◌, List, [], ◌∷◌, ℕ, ◌<◌, length, get_or, ℤ}
-use Rattle.records.specs.Lists.{if◌then◌else◌}
+use Rattle.std.specs.Prelude.{◌≡◌, true, false, ◌&&◌, List, [], ◌∷◌, ℕ, ◌<◌, length, get_or, ℤ, if◌then◌else◌}
 use Rattle.records.specs.Store.{Store, Work, ◌>>=◌, ◌>>◌, store, count, is_constant, is_string, text}
 use Rattle.records.specs.Make.{add_key}
 use Rattle.sides.specs.Wordeq.{Tried}

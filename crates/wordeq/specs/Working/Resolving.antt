@@ -1,6 +1,6 @@
 -- Working definitions: wordeq in the order of its functions, and what each does to an answer.
-use Rattle.std.specs.Prelude.{List, ◌++◌, ℕ, ℤ}
-use Rattle.records.specs.Lists.{if◌then◌else◌, any}
+use Rattle.std.specs.Prelude.{List, ◌++◌, ℕ, ℤ, if◌then◌else◌}
+use Rattle.records.specs.Lists.{any}
 use Rattle.records.specs.Store.{Work, ◌>>=◌, give, store, is_concat}
 use Rattle.records.specs.View.{reasons_at}
 use Rattle.normalize.specs.Normalize.{flatten}
