@@ -29,10 +29,10 @@ use Rattle.capi.proofs.Words.{beyond_same, beyond_words, roomy-state, roomy-answ
 -- THE COUNTS OF MARKS AND JOINS
 
 inside-same : (i j : ℕ) (w : List ℕ) → Inside i j w w
-inside-same i j w = record { length_is_lem = refl; first = refl; rest = refl }
+inside-same i j w = record { length_is = refl; first = refl; rest = refl }
 
 inside-set : (i : ℕ) (w : List ℕ) (x : ℕ) → Inside i (suc i) w (set w i x)
-inside-set i w x = record { length_is_lem = length-set w i x; first = take-set-le i w i x (omega arith); rest = drop-set-lt (suc i) w i x (omega arith) }
+inside-set i w x = record { length_is = length-set w i x; first = take-set-le i w i x (omega arith); rest = drop-set-lt (suc i) w i x (omega arith) }
 
 pub standing-read : (w : List ℕ) {x y : ℕ} → x ≡ get_or w 6 0 → y ≡ get_or w 7 0 → ◌≡◌ {A = Standing} (record { marks = x; joins = y }) (standing_of w)
 standing-read w p q = rw (p, q)
@@ -45,7 +45,7 @@ module _ (e : Standing) (w : List ℕ) where
   -- the two words, one of them as it was or neither
   inside_both : Inside 6 8 w (standing_in e w)
   inside_both = record {
-    length_is_lem = length-set (set w 6 e.marks) 7 e.joins ∙ length-set w 6 e.marks;
+    length_is = length-set (set w 6 e.marks) 7 e.joins ∙ length-set w 6 e.marks;
     first = take-set-le 6 (set w 6 e.marks) 7 e.joins (omega arith) ∙ take-set-le 6 w 6 e.marks (omega arith);
     rest = drop-set-lt 8 (set w 6 e.marks) 7 e.joins (omega arith) ∙ drop-set-lt 8 w 6 e.marks (omega arith);
   }

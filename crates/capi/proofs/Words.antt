@@ -17,11 +17,11 @@ use Rattle.capi.specs.Interface.{state_of, Beyond, state_room, answer_room, room
 use Rattle.capi.specs.Working.Leaves.{put_first, written, Telling, tells, refuses, ToldWords, ToldBy}
 
 pub beyond_same : (n : ℕ) (w : List ℕ) → Beyond n w w
-beyond_same n w = record { length_is_lem = refl; rest = refl }
+beyond_same n w = record { length_is = refl; rest = refl }
 
 pub beyond_words : (v a : List ℕ) → length v ≤ length a → Beyond (length v) a (put_first v a)
 beyond_words v a h = record {
-  length_is_lem = length-append v (drop (length v) a) ∙ (let e = length-drop (length v) a in omega arith);
+  length_is = length-append v (drop (length v) a) ∙ (let e = length-drop (length v) a in omega arith);
   rest = drop-append_seam v (drop (length v) a);
 }
 

@@ -19,7 +19,7 @@ state_of w = record { terms = get_or w 0 0; cells = get_or w 1 0; chars = get_or
 
 -- v is w but for its first n words
 pub record Beyond (n : ℕ) (w v : List ℕ) : Type 0 where
-  pub length_is_lem : length v ≡ length w
+  pub length_is : length v ≡ length w
   pub rest : drop n v ≡ drop n w
 
 -- how many words a state and an answer must have

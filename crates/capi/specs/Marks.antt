@@ -19,7 +19,7 @@ marked_room = 8
 
 -- v is w but for its words from place i up to place j
 pub record Inside (i j : ℕ) (w v : List ℕ) : Type 0 where
-  pub length_is_lem : length v ≡ length w
+  pub length_is : length v ≡ length w
   pub first : take i v ≡ take i w
   pub rest : drop j v ≡ drop j w
 

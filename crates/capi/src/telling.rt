@@ -1,5 +1,5 @@
 // An answer put into the words that a C caller lends: the state's six, and the answer's.
-ghost use Rattle.records.specs.View.{changing, lends};
+ghost use Rattle.records.specs.View.{changing};
 ghost use Rattle.std.specs.Prelude.{◌≡◌, true, [], ℕ, ◌≤◌, length};
 ghost use Rattle.std.specs.Int.{w32};
 ghost use Rattle.std.proofs.Common.{of_z};

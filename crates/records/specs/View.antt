@@ -15,6 +15,7 @@ pub record Lent : Type 0 where
   pub reasons : List ℕ
   pub keys : List ℕ
 
+-- the words of the five slices, in a `requires`: of a slice lent by `&` `x.now`, of one lent by `&mut` `x.old`
 abbrev pub lent : List ℕ → List ℕ → List ℕ → List ℕ → List ℕ → Lent
 lent t e h r k = record { terms = t; cells = e; chars = h; reasons = r; keys = k }
 
@@ -30,7 +31,7 @@ changing x = record { entry = as_bor x.entry; exit = as_bor x.exit }
 abbrev pub lends : Bor (List ℕ) → Bor (List ℕ) → Bor (List ℕ) → Bor (List ℕ) → Bor (List ℕ) → Lent
 lends t e h r k = lent t.now e.now h.now r.now k.now
 
--- and at both moments
+-- and in an `ensures`, at both moments
 abbrev pub across : Slice → Slice → Slice → Slice → Slice → Both Lent Lent
 across t e h r k = record { entry = lends t.entry e.entry h.entry r.entry k.entry; exit = lends t.exit e.exit h.exit r.exit k.exit }
 

@@ -56,10 +56,10 @@ pub record Taken (m : Lent) (c : State) (r : Named) : Type 0 where
   pub stays : eqb r.code 0 ≡ false → r.state ≡ c
 
 -- an answer that is handed on: after a refusal the index of n terms is cut
-pub record CutRefused {X : Type 0} (isRefusal : X → Bool) (l l' : List ℕ) (n : ℕ) (r o : X) : Type 0 where
+pub record CutRefused {X : Type 0} (is_refusal : X → Bool) (l l' : List ℕ) (n : ℕ) (r o : X) : Type 0 where
   pub same : o ≡ r
-  pub given : isRefusal r ≡ false → l' ≡ l
-  pub refused : isRefusal r ≡ true → Cut l l' n
+  pub given : is_refusal r ≡ false → l' ≡ l
+  pub refused : is_refusal r ≡ true → Cut l l' n
 
 -- a make that was refused
 abbrev pub unmade : Made → Bool
