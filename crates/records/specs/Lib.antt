@@ -1,4 +1,5 @@
 pub mod Lists
+pub mod Refusal
 pub mod Store
 pub mod View
 pub mod Index

@@ -12,11 +12,10 @@ ghost use Rattle.records.specs.Calls.{made, Answers};
 ghost use Rattle.records.specs.Working.Doing.{Does, Builds};
 
 use crate::fields::{first, kind, next, second, value};
-use crate::index::{bucket_of, bucket_of_sides, head, next_term};
-use crate::make::cut_refused;
+use crate::index::{bucket_of, bucket_of_sides, cut_refused, head, next_term};
 use crate::put::{cells_fit, put_chain_unchecked, put_term_unchecked, term_fits};
 use crate::rules::{is_equatable, is_list, is_string, is_within};
-use crate::{Made, State};
+use crate::{Refusal, State};
 
 // Whether the values of the chain from cell c on are l: a chain that goes on past l's end has more of them.
 fn chain_is(cells: &[u32], n: usize, c: u32, l: &[u32]) -> bool
@@ -83,21 +82,21 @@ fn append_parts(
     keys: &[u32],
     c: State,
     l: &[u32],
-) -> Made
+) -> Result<(u32, State), Refusal>
     requires { Ready (lent terms.old cells.old chars.now reasons.now keys.now) c }
     ensures { Builds (append_parts l.now) (across (changing terms) (changing cells) chars reasons keys) c (made result) }
 {
     let n = c.terms;
     let k = c.cells;
     if !cells_fit(cells, k, l.len()) {
-        return Made::Refused(8);
+        return Err(Refusal::Room);
     }
     if !term_fits(terms, n) {
-        return Made::Refused(8);
+        return Err(Refusal::Room);
     }
     put_chain_unchecked(cells, k, l);
     put_term_unchecked(terms, n, 3, (k + 1) as u32, 0, bucket_of(3, l));
-    Made::Term((n + 1) as u32, c.with_cells(l.len()).with_term())
+    Ok(((n + 1) as u32, c.with_cells(l.len()).with_term()))
 }
 
 pub fn make_concatenation_unchecked(
@@ -108,14 +107,14 @@ pub fn make_concatenation_unchecked(
     keys: &[u32],
     c: State,
     l: &[u32],
-) -> Made
+) -> Result<(u32, State), Refusal>
     requires ready { Ready (lent terms.old cells.old chars.now reasons.now keys.now) c }
     requires c_value { concat_arguments l.now (store_of (lent terms.old cells.old chars.now reasons.now keys.now) c) ≡ true }
     ensures { Does (make_concat l.now) (across (changing terms) (changing cells) chars reasons keys) c (made result) }
 {
     let t = find_parts(terms, cells, c.terms, c.cells, l);
     if t != 0 {
-        return Made::Term(t, c);
+        return Ok((t, c));
     }
     append_parts(terms, cells, chars, reasons, keys, c, l)
 }
@@ -167,7 +166,7 @@ fn make_sides(
     k: u32,
     a: u32,
     b: u32,
-) -> Made
+) -> Result<(u32, State), Refusal>
     requires fact_1 { Ready (lent terms.old cells.now chars.now reasons.now keys.now) c }
     requires fact_2 { ((k ≡ 4) × (b ≡ 0)) ⊎ (k ≡ 5) }
     ensures { Builds (make_sides k a b) (across (changing terms) cells chars reasons keys) c (made result) }
@@ -175,14 +174,14 @@ fn make_sides(
     let at = bucket_of_sides(k, a, b);
     let t = find_sides(terms, c.terms, at, k, a, b);
     if t != 0 {
-        return Made::Term(t, c);
+        return Ok((t, c));
     }
     let n = c.terms;
     if term_fits(terms, n) {
         put_term_unchecked(terms, n, k, a, b, at);
-        return Made::Term((n + 1) as u32, c.with_term());
+        return Ok(((n + 1) as u32, c.with_term()));
     }
-    Made::Refused(8)
+    Err(Refusal::Room)
 }
 
 pub fn make_length_unchecked(
@@ -193,7 +192,7 @@ pub fn make_length_unchecked(
     keys: &[u32],
     c: State,
     t: u32,
-) -> Made
+) -> Result<(u32, State), Refusal>
     requires ready { Ready (lent terms.old cells.now chars.now reasons.now keys.now) c }
     requires c_value { length_arguments t (store_of (lent terms.old cells.now chars.now reasons.now keys.now) c) ≡ true }
     ensures { Does (make_length t) (across (changing terms) cells chars reasons keys) c (made result) }
@@ -210,7 +209,7 @@ pub fn make_equation_unchecked(
     c: State,
     a: u32,
     b: u32,
-) -> Made
+) -> Result<(u32, State), Refusal>
     requires ready { Ready (lent terms.old cells.now chars.now reasons.now keys.now) c }
     requires c_value { equation_arguments a b (store_of (lent terms.old cells.now chars.now reasons.now keys.now) c) ≡ true }
     ensures { Does (make_equation a b) (across (changing terms) cells chars reasons keys) c (made result) }
@@ -228,21 +227,18 @@ pub fn make_concatenation(
     keys: &[u32],
     c: State,
     l: &[u32],
-) -> Made
+) -> Result<(u32, State), Refusal>
     ensures { Answers (concat_arguments l.now) (make_concat l.now) (across (changing terms) (changing cells) chars reasons keys) c (made result) }
 {
-    let k = crate::audit(terms, cells, chars, reasons, keys, c);
-    if k != 0 {
-        return Made::Refused(k);
-    }
+    crate::audit(terms, cells, chars, reasons, keys, c)?;
     if l.len() < 2 {
-        return Made::Refused(5);
+        return Err(Refusal::Argument);
     }
     if is_list(terms, c, l) {
         let r = make_concatenation_unchecked(terms, cells, chars, reasons, keys, c, l);
         return cut_refused(terms, c.terms, r);
     }
-    Made::Refused(5)
+    Err(Refusal::Argument)
 }
 
 pub fn make_length(
@@ -253,18 +249,15 @@ pub fn make_length(
     keys: &[u32],
     c: State,
     t: u32,
-) -> Made
+) -> Result<(u32, State), Refusal>
     ensures { Answers (length_arguments t) (make_length t) (across (changing terms) cells chars reasons keys) c (made result) }
 {
-    let k = crate::audit(terms, cells, chars, reasons, keys, c);
-    if k != 0 {
-        return Made::Refused(k);
-    }
+    crate::audit(terms, cells, chars, reasons, keys, c)?;
     if is_string(terms, c.terms, t) {
         let r = make_length_unchecked(terms, cells, chars, reasons, keys, c, t);
         return cut_refused(terms, c.terms, r);
     }
-    Made::Refused(5)
+    Err(Refusal::Argument)
 }
 
 pub fn make_equation(
@@ -276,16 +269,13 @@ pub fn make_equation(
     c: State,
     a: u32,
     b: u32,
-) -> Made
+) -> Result<(u32, State), Refusal>
     ensures { Answers (equation_arguments a b) (make_equation a b) (across (changing terms) cells chars reasons keys) c (made result) }
 {
-    let k = crate::audit(terms, cells, chars, reasons, keys, c);
-    if k != 0 {
-        return Made::Refused(k);
-    }
+    crate::audit(terms, cells, chars, reasons, keys, c)?;
     if is_equatable(terms, c, a, b) {
         let r = make_equation_unchecked(terms, cells, chars, reasons, keys, c, a, b);
         return cut_refused(terms, c.terms, r);
     }
-    Made::Refused(5)
+    Err(Refusal::Argument)
 }

@@ -7,11 +7,12 @@ ghost use Rattle.records.specs.View.{buckets, head_at, next_at, text_at, span, t
 ghost use Rattle.records.specs.Index.{bucket_of, bucket, index_rule};
 ghost use Rattle.records.specs.Chained.{Says, Finds};
 ghost use Rattle.records.specs.Working.Audited.{Ascends};
+ghost use Rattle.records.specs.Working.Doing.{CutRefused};
 ghost use Rattle.records.specs.Working.Puts.{TextsWithin};
 ghost use Rattle.records.specs.Working.Indexing.{Walkable, Bucketed, Reached, Tied, cut_at, Cut, word_after, NoneMet, LinksRead};
 
 use crate::rules::is_within;
-use crate::{BUCKETS, State, TERM_WIDTH, fields};
+use crate::{BUCKETS, Refusal, State, TERM_WIDTH, fields};
 
 // The index that the records determine is the one of which the Note's sentences hold, and the one that passes the test.
 pub fn index_says()
@@ -182,6 +183,18 @@ pub fn cut_unchecked(terms: &mut [u32], n: usize)
         t += 1;
         cut_word(terms, BUCKETS + TERM_WIDTH * t + 8, n);
     }
+}
+
+// After a refusal the index names no term that was made on the way.
+pub fn cut_refused<T>(terms: &mut [u32], n: usize, r: Result<T, Refusal>) -> Result<T, Refusal>
+    requires n_le_term_limit { n ≤ term_limit }
+    requires terms_in_bounds { term_words n ≤ length terms.old }
+    ensures { CutRefused terms.old terms.new n r result }
+{
+    if r.is_err() {
+        cut_unchecked(terms, n);
+    }
+    r
 }
 
 // THE AUDIT: the word that a bucket has come to must hold the next term of it.

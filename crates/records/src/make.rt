@@ -12,16 +12,16 @@ ghost use Rattle.records.specs.Working.Leaves.{has_text, append_text, make_text}
 ghost use Rattle.records.specs.Working.Puts.{TextsWithin};
 ghost use Rattle.records.specs.Working.Audited.{Ready};
 ghost use Rattle.records.specs.Calls.{made, Answers};
-ghost use Rattle.records.specs.Working.Doing.{Does, Builds, CutRefused, unmade};
+ghost use Rattle.records.specs.Working.Doing.{Does, Builds};
 
 use crate::fields::{first, kind, second};
-use crate::index::{bucket_of, bucket_of_joined, cut_unchecked, head, next_term};
+use crate::index::{bucket_of, bucket_of_joined, cut_refused, head, next_term};
 use crate::put::{put_term_unchecked, term_fits};
 use crate::rules::chars_ok;
 use crate::text::{
     joined_is_unchecked, joined_length_unchecked, put_joined_unchecked, put_text_unchecked, text_is,
 };
-use crate::{Made, State};
+use crate::{Refusal, State};
 
 // Whether term t is of kind k and its text is w. Only texts of one length are compared.
 pub(crate) fn has_text(terms: &[u32], chars: &[u32], t: u32, k: u32, w: &[u32]) -> bool
@@ -81,22 +81,22 @@ fn append_text(
     c: State,
     k: u32,
     w: &[u32],
-) -> Made
+) -> Result<(u32, State), Refusal>
     requires fact_1 { Ready (lent terms.old cells.now chars.old reasons.now keys.now) c }
     requires fact_2 { within 2 k ≡ true }
     ensures { Builds (append_text k w.now) (across (changing terms) cells (changing chars) reasons keys) c (made result) }
 {
     if !text_fits(chars, c.chars, w.len()) {
-        return Made::Refused(8);
+        return Err(Refusal::Room);
     }
     if !term_fits(terms, c.terms) {
-        return Made::Refused(8);
+        return Err(Refusal::Room);
     }
     let n = c.terms;
     put_text_unchecked(chars, c.chars, w);
     put_term_unchecked(terms, n, k, c.chars as u32, w.len() as u32, bucket_of(k, w));
     let d = c.with_chars(w.len());
-    Made::Term((n + 1) as u32, d.with_term())
+    Ok(((n + 1) as u32, d.with_term()))
 }
 
 // The constant (kind 1) or variable (kind 2) whose text is w.
@@ -109,14 +109,14 @@ fn make_text(
     c: State,
     k: u32,
     w: &[u32],
-) -> Made
+) -> Result<(u32, State), Refusal>
     requires fact_1 { Ready (lent terms.old cells.now chars.old reasons.now keys.now) c }
     requires fact_2 { within 2 k ≡ true }
     ensures { Builds (make_text k w.now) (across (changing terms) cells (changing chars) reasons keys) c (made result) }
 {
     let t = find_text_unchecked(terms, chars, c.terms, k, w);
     if t != 0 {
-        return Made::Term(t, c);
+        return Ok((t, c));
     }
     append_text(terms, cells, chars, reasons, keys, c, k, w)
 }
@@ -129,7 +129,7 @@ pub fn make_constant_unchecked(
     keys: &[u32],
     c: State,
     w: &[u32],
-) -> Made
+) -> Result<(u32, State), Refusal>
     requires ready { Ready (lent terms.old cells.now chars.old reasons.now keys.now) c }
     requires c_value { constant_arguments w.now (store_of (lent terms.old cells.now chars.old reasons.now keys.now) c) ≡ true }
     ensures { Does (make_constant w.now) (across (changing terms) cells (changing chars) reasons keys) c (made result) }
@@ -145,7 +145,7 @@ pub(crate) fn make_variable_unchecked(
     keys: &[u32],
     c: State,
     w: &[u32],
-) -> Made
+) -> Result<(u32, State), Refusal>
     requires ready { Ready (lent terms.old cells.now chars.old reasons.now keys.now) c }
     requires c_value { variable_arguments w.now (store_of (lent terms.old cells.now chars.old reasons.now keys.now) c) ≡ true }
     ensures { Does (make_variable w.now) (across (changing terms) cells (changing chars) reasons keys) c (made result) }
@@ -162,7 +162,7 @@ pub fn make_new_variable_unchecked(
     keys: &[u32],
     c: State,
     w: &[u32],
-) -> Made
+) -> Result<(u32, State), Refusal>
     requires ready { Ready (lent terms.old cells.now chars.old reasons.now keys.now) c }
     requires c_value { variable_arguments w.now (store_of (lent terms.old cells.now chars.old reasons.now keys.now) c) ≡ true }
     requires c_value_2 { lookup (named w.now) (store_of (lent terms.old cells.now chars.old reasons.now keys.now) c) ≡ none }
@@ -227,7 +227,7 @@ pub fn join_constants_unchecked(
     keys: &[u32],
     c: State,
     list: &[u32],
-) -> Made
+) -> Result<(u32, State), Refusal>
     requires ready { Ready (lent terms.old cells.now chars.old reasons.now keys.now) c }
     requires list_len_bound { length list.now ≤ list_limit }
     requires list_value { all (is_constant (store_of (lent terms.old cells.now chars.old reasons.now keys.now) c)) list.now ≡ true }
@@ -237,34 +237,19 @@ pub fn join_constants_unchecked(
     let b = bucket_of_joined(terms, chars, list);
     let t = find_joined(terms, chars, c.terms, b, list, total);
     if t != 0 {
-        return Made::Term(t, c);
+        return Ok((t, c));
     }
     if !text_fits(chars, c.chars, total) {
-        return Made::Refused(8);
+        return Err(Refusal::Room);
     }
     if !term_fits(terms, c.terms) {
-        return Made::Refused(8);
+        return Err(Refusal::Room);
     }
     let n = c.terms;
     put_joined_unchecked(terms, chars, list, c.chars);
     put_term_unchecked(terms, n, 1, c.chars as u32, total as u32, b);
     let d = c.with_chars(total);
-    Made::Term((n + 1) as u32, d.with_term())
-}
-
-// After a refusal, heads and ninth words of n terms that name a later one are 0 again.
-pub(crate) fn cut_refused(terms: &mut [u32], n: usize, r: Made) -> Made
-    requires fact_1 { n ≤ term_limit }
-    requires fact_2 { term_words n ≤ length terms.old }
-    ensures { CutRefused unmade terms.old terms.new n r result }
-{
-    match r {
-        Made::Term(t, d) => Made::Term(t, d),
-        Made::Refused(k) => {
-            cut_unchecked(terms, n);
-            Made::Refused(k)
-        }
-    }
+    Ok(((n + 1) as u32, d.with_term()))
 }
 
 // The constant of a word.
@@ -276,15 +261,12 @@ pub fn make_constant(
     keys: &[u32],
     c: State,
     w: &[u32],
-) -> Made
+) -> Result<(u32, State), Refusal>
     ensures { Answers (constant_arguments w.now) (make_constant w.now) (across (changing terms) cells (changing chars) reasons keys) c (made result) }
 {
-    let k = crate::audit(terms, cells, chars, reasons, keys, c);
-    if k != 0 {
-        return Made::Refused(k);
-    }
+    crate::audit(terms, cells, chars, reasons, keys, c)?;
     if !chars_ok(w, w.len()) {
-        return Made::Refused(5);
+        return Err(Refusal::Argument);
     }
     let r = make_constant_unchecked(terms, cells, chars, reasons, keys, c, w);
     cut_refused(terms, c.terms, r)
@@ -299,18 +281,15 @@ pub fn make_variable(
     keys: &[u32],
     c: State,
     w: &[u32],
-) -> Made
+) -> Result<(u32, State), Refusal>
     ensures { Answers (variable_arguments w.now) (make_variable w.now) (across (changing terms) cells (changing chars) reasons keys) c (made result) }
 {
-    let k = crate::audit(terms, cells, chars, reasons, keys, c);
-    if k != 0 {
-        return Made::Refused(k);
-    }
+    crate::audit(terms, cells, chars, reasons, keys, c)?;
     if w.len() == 0 {
-        return Made::Refused(5);
+        return Err(Refusal::Argument);
     }
     if !chars_ok(w, w.len()) {
-        return Made::Refused(5);
+        return Err(Refusal::Argument);
     }
     let r = make_variable_unchecked(terms, cells, chars, reasons, keys, c, w);
     cut_refused(terms, c.terms, r)

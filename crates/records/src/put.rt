@@ -11,7 +11,7 @@ ghost use Rattle.records.specs.Working.Audited.{Ready};
 ghost use Rattle.records.specs.Working.Doing.{Does};
 
 use crate::index::link;
-use crate::{BUCKETS, CELL_WIDTH, TERM_WIDTH};
+use crate::{BUCKETS, CELL_WIDTH, Refusal, State, TERM_WIDTH};
 
 // One term more fits.
 pub(crate) fn term_fits(terms: &[u32], n: usize) -> bool
@@ -175,19 +175,19 @@ pub fn add_key_unchecked(
     chars: &[u32],
     reasons: &[u32],
     keys: &mut [u32],
-    c: crate::State,
+    c: State,
     a: u32,
     b: u32,
-) -> crate::Added
+) -> Result<State, Refusal>
     requires ready { Ready (lent terms.now cells.now chars.now reasons.now keys.old) c }
     requires b_value { key_rule (store_of (lent terms.now cells.now chars.now reasons.now keys.old) c) (ordered a b) ≡ true }
     ensures { Does (add_key a b) (across terms cells chars reasons (changing keys)) c (added result) }
 {
     if pair_fits(keys, crate::KEY_LIMIT, c.keys) {
         push_pair(keys, c.keys, lower(a, b), higher(a, b));
-        return crate::Added::Counts(c.with_key());
+        return Ok(c.with_key());
     }
-    crate::Added::Refused(8)
+    Err(Refusal::Room)
 }
 
 pub fn pair_is_unchecked(pairs: &[u32], i: usize, a: u32, b: u32) -> bool

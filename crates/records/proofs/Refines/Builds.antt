@@ -12,7 +12,8 @@ use lib.Dec.{eqb, ltb, leb}
 use borrow.Author.Tests.{not-true, not-false, eqb-true, eq-eqb, ne_eqb}
 use Rattle.records.specs.Lists.{same_word, firsts, first_below}
 use Rattle.records.specs.declared.State.{State}
-use Rattle.records.specs.declared.Made.TheVariants.{Term, Refused}
+use Rattle.std.specs.Prelude.{Ok, Err}
+use Rattle.records.specs.declared.refusal.Refusal.TheVariants.{Room}
 use Rattle.records.specs.Store.{Term as Record, Cell, Store, Out, ok, stop, Work, term, kind, count, within, chain_in}
 use Rattle.records.specs.View.{Lent, lent, store_of, term_words, cell_words, term_limit, cell_limit, term_room, cell_room, term_at, cell_at, cells_view, chars_view, one_term, more_cells}
 use Rattle.records.specs.Index.{bucket_of, bucket}
@@ -112,18 +113,18 @@ module _ (t e h r ks : List ℕ) (c : State) (ready : Ready (lent t e h r ks) c)
   looked : u ≡ number_of (lookup (sides_of k a b) (store_of (lent t e h r ks) c))
   looked = look ∙ ap number_of (sides-found (lent t e h r ks) c k a b)
 
-  pub sides-old : (u ≡ 0 → ⊥) → Building (make_sides k a b) (lent t e h r ks) (lent t e h r ks) c (made (Term u c) (lent t e h r ks))
+  pub sides-old : (u ≡ 0 → ⊥) → Building (make_sides k a b) (lent t e h r ks) (lent t e h r ks) c (made (Ok (u, c)) (lent t e h r ks))
   unfolding make_sides
   sides-old d = building_found ready (lowest-old (sides_of k a b) (add_term k a b) (store_of (lent t e h r ks) c) u looked d)
 
   module _ (z : u ≡ 0) (fits : Bool) (room : fits ≡ ltb c.terms (term_room t)) where
-    pub sides-full : fits ≡ false → Building (make_sides k a b) (lent t e h r ks) (lent t e h r ks) c (made (Refused 8) (lent t e h r ks))
+    pub sides-full : fits ≡ false → Building (make_sides k a b) (lent t e h r ks) (lent t e h r ks) c (made (Err Room) (lent t e h r ks))
     unfolding make_sides
     sides-full f =
         building_stopped (lowest-new (sides_of k a b) (add_term k a b) (store_of (lent t e h r ks) c) u looked z ∙ term-refused t e h r ks c k a b fits room f)
 
     pub sides-made : (t' : List ℕ) (d : State) (x : ℕ) → fits ≡ true → ((k ≡ 4) × (b ≡ 0)) ⊎ (k ≡ 5) → x ≡ bucket_of k (a ∷ b ∷ []) → TermPut t t' c.terms k a b x → length t' ≡ length t → d ≡ one_term c
-        → Building (make_sides k a b) (lent t e h r ks) (lent t' e h r ks) c (made (Term (c.terms + 1) d) (lent t' e h r ks))
+        → Building (make_sides k a b) (lent t e h r ks) (lent t' e h r ks) c (made (Ok ((c.terms + 1), d)) (lent t' e h r ks))
     unfolding make_sides
     sides-made t' d x f two i p n q =
         record {
@@ -242,7 +243,7 @@ parts_searchable m c w ready = record { f = bucket (store_of m c); indexed = rea
         (ap (λ (z : Record). firsts (chain_in (cells_view m.cells c.cells) z.first)) is ∙ word_is _ w (both_right (eqb (term_at m.terms t).kind 3) _ q))
 
 module _ (t e h r ks : List ℕ) (c : State) (w : List ℕ) (f : Bool) (cells-here : f ≡ leb (c.cells + length w) (cell_room e)) where
-  pub append-long : not f ≡ true → Building (append_parts w) (lent t e h r ks) (lent t e h r ks) c (made (Refused 8) (lent t e h r ks))
+  pub append-long : not f ≡ true → Building (append_parts w) (lent t e h r ks) (lent t e h r ks) c (made (Err Room) (lent t e h r ks))
   unfolding add_chain
   append-long q = building_stopped (rw (table-length (λ i. cell_at e (suc i)) c.cells, ← cells-here, not-true f q))
 
@@ -254,7 +255,7 @@ module _ (t e h r ks : List ℕ) (c : State) (w : List ℕ) (f : Bool) (cells-he
   append-words z q = cells-room e c.cells (length w) z.cell_room (sym cells-here ∙ not-false f q)
 
   module _ (q : not f ≡ false) (g : Bool) (term-here : g ≡ ltb c.terms (term_room t)) where
-    pub append-full : not g ≡ true → Building (append_parts w) (lent t e h r ks) (lent t e h r ks) c (made (Refused 8) (lent t e h r ks))
+    pub append-full : not g ≡ true → Building (append_parts w) (lent t e h r ks) (lent t e h r ks) c (made (Err Room) (lent t e h r ks))
     unfolding add_chain add_term
     append-full p =
         building_stopped
@@ -262,7 +263,7 @@ module _ (t e h r ks : List ℕ) (c : State) (w : List ℕ) (f : Bool) (cells-he
 
     pub append-made : Ready (lent t e h r ks) c → (t' e' : List ℕ) (d d' : State) (x : ℕ) → not g ≡ false → x ≡ bucket_of 3 w → ChainPut e e' c.cells w → length e' ≡ length e
         → TermPut t t' c.terms 3 (c.cells + 1) 0 x → length t' ≡ length t → d ≡ more_cells c (length w) → d' ≡ one_term d
-        → Building (append_parts w) (lent t e h r ks) (lent t' e' h r ks) c (made (Term (c.terms + 1) d') (lent t' e' h r ks))
+        → Building (append_parts w) (lent t e h r ks) (lent t' e' h r ks) c (made (Ok ((c.terms + 1), d')) (lent t' e' h r ks))
     unfolding add_chain
     append-made ready t' e' d d' z p i a la b lb x y = record {
       says = chained ∙ termed;
@@ -297,7 +298,7 @@ module _ (t e h r ks : List ℕ) (c : State) (w : List ℕ) (u : ℕ)
   absent z = lowest-new (concat_of w) (append_parts w) (store_of (lent t e h r ks) c) u sought z
 
   module _ (ready : Ready (lent t e h r ks) c) where
-    pub concat-old : (u ≡ 0 → ⊥) → Working (make_concat w) (lent t e h r ks) (lent t e h r ks) c (made (Term u c) (lent t e h r ks))
+    pub concat-old : (u ≡ 0 → ⊥) → Working (make_concat w) (lent t e h r ks) (lent t e h r ks) c (made (Ok (u, c)) (lent t e h r ks))
     concat-old d = working_same ready (found d)
 
     pub concat-new : (m' : Lent) (o : Out ℕ) → concat_arguments w (store_of (lent t e h r ks) c) ≡ true → u ≡ 0 → Building (append_parts w) (lent t e h r ks) m' c o → Working (make_concat w) (lent t e h r ks) m' c o

@@ -9,15 +9,16 @@ use lib.Seq.{ext_get_or}
 use lib.Dec.{leb}
 use borrow.Author.Tests.{not-true, not-false, le-leb, lt-leb}
 use Rattle.records.specs.declared.State.{State}
-use Rattle.records.specs.declared.Made.{Made}
-use Rattle.records.specs.declared.Made.TheVariants.{Term, Refused}
+use Rattle.std.specs.Prelude.{Result, Ok, Err}
+use Rattle.records.specs.declared.refusal.Refusal.{Refusal}
 use Rattle.records.specs.Lists.{all}
 use Rattle.records.specs.Store.{Out, stop}
 use Rattle.records.specs.View.{Lent, lent, store_of, chars_view}
 use Rattle.records.specs.Rules.{is_char, audit}
 use Rattle.records.specs.Make.{make_constant, make_variable, constant_arguments, variable_arguments}
+use Rattle.records.specs.Refusal.{number}
 use Rattle.records.specs.Calls.{call, made, Public}
-use Rattle.records.specs.Working.Doing.{Working, CutRefused, unmade}
+use Rattle.records.specs.Working.Doing.{Working, CutRefused}
 use Rattle.records.proofs.Lists.{table_at_lem, table-length, left_false, both_true, and-next}
 use Rattle.records.proofs.Kept.{constant-stops, variable-stops}
 use Rattle.records.proofs.Outcomes
@@ -41,22 +42,16 @@ module _ (w : List ℕ) (b : Bool) (test : b ≡ all is_char (chars_view w (leng
   right_name long d = both_true (leb 1 (length w)) (all is_char w) (le-leb 1 (length w) (omega arith)) (right d)
 
 -- the answer of a make, handed on: after a refusal the index is cut
-pub undone-made : {t t' : List ℕ} (e h r ks : List ℕ) {n : ℕ} (x : Made) {o : Made} → CutRefused unmade t t' n x o → Undone (lent t e h r ks) (lent t' e h r ks) n (made x (lent t e h r ks)) (made o (lent t' e h r ks))
-undone-made {t} e h r ks (Term u d) p =
-    given (store_of (lent t e h r ks) d) u refl (rw (p.same, p.given refl)) (ap (λ (l : List ℕ). lent l e h r ks) (p.given refl))
-undone-made e h r ks (Refused k) p = cut k refl (rw p.same) (p.refused refl) (record { cells = refl; chars = refl; reasons = refl; keys = refl })
+pub undone-made : {t t' : List ℕ} (e h r ks : List ℕ) {n : ℕ} (x : Result (ℕ × State) Refusal) {o : Result (ℕ × State) Refusal} → CutRefused t t' n x o → Undone (lent t e h r ks) (lent t' e h r ks) n (made x (lent t e h r ks)) (made o (lent t' e h r ks))
+undone-made {t} e h r ks (Ok x) p =
+    given (store_of (lent t e h r ks) x.1) x.0 refl (rw (p.same, p.given refl)) (ap (λ (l : List ℕ). lent l e h r ks) (p.given refl))
+undone-made e h r ks (Err k) p = cut (number k) refl (rw p.same) (p.refused refl) (record { cells = refl; chars = refl; reasons = refl; keys = refl })
 
 -- a make is refused under 8
 pub full-stops : {j : ℕ} → j ≡ 8 → Outcomes.Refused 9 j
 full-stops e = refused-by 8 (omega arith) (omega arith) e
 
 module _ (w : List ℕ) (m : Lent) (c : State) (k : ℕ) (verdict : k ≡ audit m c) where
-  pub constant_unready : (k ≡ 0 → ⊥) → Public (call (constant_arguments w) (make_constant w) m c) m m c (stop k)
-  constant_unready = call_unready (constant_arguments w) (make_constant w) m c k verdict
-
-  pub variable_unready : (k ≡ 0 → ⊥) → Public (call (variable_arguments w) (make_variable w) m c) m m c (stop k)
-  variable_unready = call_unready (variable_arguments w) (make_variable w) m c k verdict
-
   module _ (zero_is : k ≡ 0) where
     pub variable-empty : length w ≡ 0 → Public (call (variable_arguments w) (make_variable w) m c) m m c (stop 5)
     variable-empty e =

@@ -12,7 +12,8 @@ use borrow.Author.Tests.{not-true, not-false, leb-true, le-leb, eqb-true, eq-eqb
 use Rattle.records.specs.Lists.{same_word, first_below}
 use Rattle.records.specs.declared.State.{State}
 use Rattle.records.specs.Store.{Term as Record, Store, Out, ok, stop, Work, count, within, term, kind, term_in, text_in}
-use Rattle.records.specs.declared.Made.TheVariants.{Term, Refused}
+use Rattle.std.specs.Prelude.{Ok, Err}
+use Rattle.records.specs.declared.refusal.Refusal.TheVariants.{Room}
 use Rattle.records.specs.View.{buckets, lent, term_words, term_limit, char_limit, char_room, term_room, one_term, more_chars, Lent, store_of, term_at, terms_view, chars_view, span}
 use Rattle.records.specs.Working.Audited.{Ready, Sized}
 use Rattle.records.specs.Calls.{made}
@@ -164,17 +165,17 @@ walk-to {m} {c} k w ready b e = let small : b < buckets = rw e (bucket-small k w
 -- A NEW TEXT in the words: the tests of room, for n characters
 
 module _ {t e h r ks : List ℕ} {c : State} (k : ℕ) (w : List ℕ) (n : ℕ) (long : n ≡ length w) (f : Bool) (fits : f ≡ leb (c.chars + n) (char_room h)) where
-  pub text-long : not f ≡ true → Building (append_text k w) (lent t e h r ks) (lent t e h r ks) c (made (Refused 8) (lent t e h r ks))
+  pub text-long : not f ≡ true → Building (append_text k w) (lent t e h r ks) (lent t e h r ks) c (made (Err Room) (lent t e h r ks))
   text-long q = building_stopped (append-long k w _ (rw (table-length, ← long) (sym fits ∙ not-true f q)))
 
   module _ (q : not f ≡ false) (g : Bool) (one : g ≡ ltb c.terms (term_room t)) where
-    pub text-full : not g ≡ true → Building (append_text k w) (lent t e h r ks) (lent t e h r ks) c (made (Refused 8) (lent t e h r ks))
+    pub text-full : not g ≡ true → Building (append_text k w) (lent t e h r ks) (lent t e h r ks) c (made (Err Room) (lent t e h r ks))
     text-full u = building_stopped (append-full k w _ (rw (table-length, ← long) (sym fits ∙ not-false f q)) (rw table-length (sym one ∙ not-true g u)))
 
     module _ (ready : Ready (lent t e h r ks) c) (text : within 2 k ≡ true) (b : ℕ) (bucketed : b ≡ bucket_of k w) where
       pub text-made : not g ≡ false → {t' h' : List ℕ} {d d' : State} → CharsPut h h' c.chars w → length h' ≡ length h
           → TermPut t t' c.terms k c.chars n b → length t' ≡ length t → d ≡ more_chars c n → d' ≡ one_term d
-          → Building (append_text k w) (lent t e h r ks) (lent t' e h' r ks) c (made (Term (c.terms + 1) d') (lent t' e h' r ks))
+          → Building (append_text k w) (lent t e h r ks) (lent t' e h' r ks) c (made (Ok ((c.terms + 1), d')) (lent t' e h' r ks))
       text-made u {t'} {h'} {d} {d'} p lp v lv x y =
           record {
             says = new ∙ stored;
@@ -201,7 +202,7 @@ module _ {t e h r ks : List ℕ} {c : State} (ready : Ready (lent t e h r ks) c)
   looked : t₀ ≡ number_of (lookup (text_of k w) (store_of (lent t e h r ks) c))
   looked = look ∙ ap number_of (found-text (lent t e h r ks) c k w (texts-within (lent t e h r ks) c k ready text))
 
-  pub text-found : (t₀ ≡ 0 → ⊥) → Building (make_text k w) (lent t e h r ks) (lent t e h r ks) c (made (Term t₀ c) (lent t e h r ks))
+  pub text-found : (t₀ ≡ 0 → ⊥) → Building (make_text k w) (lent t e h r ks) (lent t e h r ks) c (made (Ok (t₀, c)) (lent t e h r ks))
   unfolding make_text
   text-found d = building_found ready (lowest-old (text_of k w) (append_text k w) (store_of (lent t e h r ks) c) t₀ looked d)
 
