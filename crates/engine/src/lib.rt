@@ -241,20 +241,12 @@ fn explain_tabled(
     let n = c.terms;
     let k = c.cells;
     let count = c.reasons;
-    if n < 32 {
-        let mut table: [u32; 49] = [0; 49];
-        return explain_rec(terms, cells, n, k, a, b, &mut table, reasons, count);
+    match n {
+        0..=31 => explain_rec(terms, cells, n, k, a, b, &mut [0; 49], reasons, count),
+        32..=127 => explain_rec(terms, cells, n, k, a, b, &mut [0; 386], reasons, count),
+        128..=256 => explain_rec(terms, cells, n, k, a, b, &mut [0; 1294], reasons, count),
+        _ => explain_rec(terms, cells, n, k, a, b, &mut [0; 4634], reasons, count),
     }
-    if n < 128 {
-        let mut table: [u32; 386] = [0; 386];
-        return explain_rec(terms, cells, n, k, a, b, &mut table, reasons, count);
-    }
-    if n <= 256 {
-        let mut table: [u32; 1294] = [0; 1294];
-        return explain_rec(terms, cells, n, k, a, b, &mut table, reasons, count);
-    }
-    let mut table: [u32; 4634] = [0; 4634];
-    explain_rec(terms, cells, n, k, a, b, &mut table, reasons, count)
 }
 
 // As give, over the counts by value: a path without congruences has them at hand.
