@@ -63,10 +63,9 @@ pub fn find(
 fn place(a: u32, b: u32) -> usize
     ensures { result ≡ place a b }
 {
-    if a < b {
-        return (b as usize) * ((b as usize) + 1) / 2 + (a as usize);
-    }
-    (a as usize) * ((a as usize) + 1) / 2 + (b as usize)
+    let high = a.max(b) as usize;
+    let low = a.min(b) as usize;
+    high * (high + 1) / 2 + low
 }
 
 // Whether the pair of the place k was seen.
@@ -74,9 +73,7 @@ fn is_seen(table: &[u32], k: usize) -> bool
     requires { k < 32 * length table.now }
     ensures { result ≡ seen_at table.now k }
 {
-    let w = table[k / 32];
-    let j = k % 32;
-    (w >> j) % 2 == 1
+    (table[k / 32] >> (k % 32)) % 2 == 1
 }
 
 // Notes that the pair of the place k was seen, which it was not before.
@@ -84,10 +81,7 @@ fn note_seen(table: &mut [u32], k: usize)
     requires { (k < 32 * length table.old) × (seen_at table.old k ≡ false) }
     ensures { Noted table.old table.new k }
 {
-    let i = k / 32;
-    let j = k % 32;
-    let w = table[i];
-    table[i] = w + (1 << j);
+    table[k / 32] += 1 << (k % 32);
 }
 
 // One reason more, that of an edge, unless the list has it.
@@ -247,20 +241,12 @@ fn explain_tabled(
     let n = c.terms;
     let k = c.cells;
     let count = c.reasons;
-    if n < 32 {
-        let mut table: [u32; 49] = [0; 49];
-        return explain_rec(terms, cells, n, k, a, b, &mut table, reasons, count);
+    match n {
+        0..=31 => explain_rec(terms, cells, n, k, a, b, &mut [0; 49], reasons, count),
+        32..=127 => explain_rec(terms, cells, n, k, a, b, &mut [0; 386], reasons, count),
+        128..=256 => explain_rec(terms, cells, n, k, a, b, &mut [0; 1294], reasons, count),
+        _ => explain_rec(terms, cells, n, k, a, b, &mut [0; 4634], reasons, count),
     }
-    if n < 128 {
-        let mut table: [u32; 386] = [0; 386];
-        return explain_rec(terms, cells, n, k, a, b, &mut table, reasons, count);
-    }
-    if n <= 256 {
-        let mut table: [u32; 1294] = [0; 1294];
-        return explain_rec(terms, cells, n, k, a, b, &mut table, reasons, count);
-    }
-    let mut table: [u32; 4634] = [0; 4634];
-    explain_rec(terms, cells, n, k, a, b, &mut table, reasons, count)
 }
 
 // As give, over the counts by value: a path without congruences has them at hand.
@@ -436,13 +422,9 @@ fn can_explain(
     requires { Ready (lent terms.now cells.now chars.now reasons.now keys.now) c }
     ensures { result ≡ explain_arguments a b (store_of (across terms cells chars reasons keys).entry c) }
 {
-    if !rules::is_string(terms, c.terms, a) {
-        return false;
-    }
-    if !rules::is_string(terms, c.terms, b) {
-        return false;
-    }
-    classes::root_unchecked(terms, c.terms, a) == classes::root_unchecked(terms, c.terms, b)
+    rules::is_string(terms, c.terms, a)
+        && rules::is_string(terms, c.terms, b)
+        && classes::root_unchecked(terms, c.terms, a) == classes::root_unchecked(terms, c.terms, b)
 }
 
 // The reasons why two terms of one class are equal, after those that are there; one that is there is not added.

@@ -10,12 +10,10 @@ fn place_of(pairs: &[u32], n: usize, a: u32, b: u32) -> usize
     requires { 2 * n ≤ length pairs.now }
     ensures { Placed pairs.now n a b result }
 {
-    let mut i: usize = 0;
-    while i < n {
+    for i in 0..n {
         if put::pair_is_unchecked(pairs, i, a, b) {
             return i + 1;
         }
-        i += 1;
     }
     0
 }
@@ -25,13 +23,7 @@ fn is_at(pairs: &[u32], n: usize, place: usize, a: u32, b: u32) -> bool
     requires { 2 * n ≤ length pairs.now }
     ensures { Stands pairs.now n a b result }
 {
-    if place == 0 {
-        return false;
-    }
-    if n < place {
-        return false;
-    }
-    put::pair_is_unchecked(pairs, place - 1, a, b)
+    0 < place && place <= n && put::pair_is_unchecked(pairs, place - 1, a, b)
 }
 
 // Whether the first n reasons have this one. `places` has at `slot`, which an edge has to itself, where the edge's reason was found

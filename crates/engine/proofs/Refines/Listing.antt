@@ -9,7 +9,7 @@ use lib.Seq.{get_or-set_other}
 use borrow.Author.Tests.{lt-ltb}
 use Rattle.records.specs.View.{pair_at, pairs_view}
 use Rattle.records.specs.Make.{same_pair, is_listed}
-use Rattle.records.proofs.Lists.{clash, any-zero, any-turn, any-stays, any-stop, any-done}
+use Rattle.records.proofs.Lists.{any-zero, any-turn, any-stays, any-stop, any-done}
 use Rattle.engine.specs.Working.Listing.{Placed, Stands, Looked}
 
 -- the first i lack the pair
@@ -33,12 +33,9 @@ module _ (l : List ℕ) (n a b : ℕ) where
   unfolding is_listed
   place_none i h k e = record { is = any-done (same_pair (a, b)) (pair_at l) n i h k e.is; low = omega arith }
 
-  pub stands-not : Stands l n a b false
-  stands-not = record { is = λ e. clash e refl }
-
-  pub stands_by : (p : ℕ) (x : Bool) → (p ≡ 0 → ⊥) → p ≤ n → x ≡ same_pair (a, b) (pair_at l (p - 1)) → Stands l n a b x
+  pub stands_by : (p : ℕ) (x : Bool) → (0 < p) × (p ≤ n) → x ≡ same_pair (a, b) (pair_at l (p - 1)) → Stands l n a b x
   unfolding is_listed
-  stands_by p x d h e = record { is = λ t. any-stays (same_pair (a, b)) (pair_at l) n (p - 1) (omega arith) (sym e ∙ t) }
+  stands_by p x h e = record { is = λ t. any-stays (same_pair (a, b)) (pair_at l) n (p - 1) (omega arith) (sym e ∙ t) }
 
   module _ (places : List ℕ) (slot : ℕ) where
     pub looked_there : (x : Bool) → Stands l n a b x → x ≡ true → Looked l places places n a b slot true
