@@ -6,6 +6,8 @@ use Prim.Native.Nat.{ℕ}
 use native.Mathlib.Omega.{arith}
 use borrow.Author.Tests.{not-true, not-false}
 use Rattle.records.specs.declared.State.{State}
+use Rattle.records.specs.declared.refusal.Refusal.{Refusal}
+use Rattle.records.specs.Refusal.{number}
 use Rattle.records.specs.Store.{Store, Out, ok, stop, is_string, same_class, within, root_in, class_up, term_in}
 use Rattle.records.specs.View.{Lent, store_of, terms_view}
 use Rattle.records.specs.Lists.{Every}
@@ -19,7 +21,7 @@ use Rattle.records.proofs.LaterStores.{added-once}
 use Rattle.records.proofs.Passed.{ready_of}
 use Rattle.records.proofs.Doing.{working_same}
 use Rattle.records.proofs.Outcomes.{refused-by}
-use Rattle.records.proofs.Public.{call_unready, call-unfit, call_still, call_works, audit-idle}
+use Rattle.records.proofs.Public.{call_refused, call-unfit, call_still, call_works, audit-idle}
 use Rattle.records.proofs.Grown.{string-term}
 use Rattle.records.proofs.Climbs.{term-within, ready_roots}
 use Rattle.engine.specs.Explain.{find, find_arguments, explain, explain_arguments}
@@ -35,9 +37,6 @@ string_root {m} {c} t d e h = (term-within m c t (string-term (store_of m c) t (
 -- FIND
 
 module _ (m : Lent) (c : State) (t k : ℕ) (v : k ≡ audit m c) where
-  pub find_unready : (k ≡ 0 → ⊥) → Public (call (find_arguments t) (find t) m c) m m c (stop k)
-  find_unready d = call_unready (find_arguments t) (find t) m c k v d
-
   module _ (z : k ≡ 0) (b : Bool) (e : b ≡ within 3 (term_in (terms_view m.terms c.terms) t).kind) where
     pub find-unfit : not b ≡ true → Public (call (find_arguments t) (find t) m c) m m c (stop 5)
     find-unfit h = call-unfit (find_arguments t) (find t) m c k v z b e (not-true b h)
@@ -59,16 +58,17 @@ labelled s s' g =
     rw (ap (λ (x : Store). x.reasons) g.added.is, drop-append_seam s.reasons g.added.more)
     g.causes
 
-module _ (m : Lent) (c : State) (a b k : ℕ) (v : k ≡ audit m c) where
-  pub explain_unready : (k ≡ 0 → ⊥) → PublicExplain a b m m c (stop k)
-  explain_unready d = record {
-    is = call_unready (explain_arguments a b) (explain a b) m c k v d;
-    worth = λ s' e. let y : ◌≡◌ {A = ℕ} 0 1 = cc in absurd (omega arith);
-    once = λ s' e. let y : ◌≡◌ {A = ℕ} 0 1 = cc in absurd (omega arith);
-    edges = λ s' e. let y : ◌≡◌ {A = ℕ} 0 1 = cc in absurd (omega arith);
-    full = λ j e h. let y : k ≡ j = cc in absurd (h (subst writes_nothing y (audit-idle m c k v)));
-  }
+-- the audit's refusal is handed on
+pub explain_unready : (m : Lent) (c : State) (a b : ℕ) (u : Refusal) → number u ≡ audit m c → PublicExplain a b m m c (stop (number u))
+explain_unready m c a b u v = record {
+  is = call_refused (explain_arguments a b) (explain a b) m c u v;
+  worth = λ s' e. let y : ◌≡◌ {A = ℕ} 0 1 = cc in absurd (omega arith);
+  once = λ s' e. let y : ◌≡◌ {A = ℕ} 0 1 = cc in absurd (omega arith);
+  edges = λ s' e. let y : ◌≡◌ {A = ℕ} 0 1 = cc in absurd (omega arith);
+  full = λ j e h. let y : number u ≡ j = cc in absurd (h (subst writes_nothing y (audit-idle m c (number u) v)));
+}
 
+module _ (m : Lent) (c : State) (a b k : ℕ) (v : k ≡ audit m c) where
   module _ (z : k ≡ 0) (x : Bool) (e : x ≡ explain_arguments a b (store_of m c)) where
     pub explain-unfit : not x ≡ true → PublicExplain a b m m c (stop 5)
     explain-unfit h = record {

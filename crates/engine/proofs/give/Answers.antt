@@ -9,6 +9,6 @@ pub returns-then-push_reason_unchecked : goal.returns-then-push_reason_unchecked
 returns-then-push_reason_unchecked c =
     gives_one _ _ _ _ _ _ _ _ _ c.is_listed.ensures c.if-is_listed.false _ c.push_reason_unchecked.ensures c.if-push_reason_unchecked.true
 
-pub returns : goal.returns
-returns c =
+pub returns-else-push_reason_unchecked : goal.returns-else-push_reason_unchecked
+returns-else-push_reason_unchecked c =
     gives_refused _ _ _ _ _ _ _ _ _ c.is_listed.ensures c.if-is_listed.false _ c.push_reason_unchecked.ensures c.if-push_reason_unchecked.false
