@@ -36,9 +36,8 @@ fn push_all(
 {
     let mut d = c;
     let mut count: usize = 0;
-    let mut i: usize = 0;
-    while i < k {
-        let form = pushes::push(terms, cells, chars, reasons, keys, d, next[i], out, count);
+    for &a in &next[..k] {
+        let form = pushes::push(terms, cells, chars, reasons, keys, d, a, out, count);
         match form {
             Form::List(n, e) => {
                 count = n;
@@ -48,7 +47,6 @@ fn push_all(
                 return Form::Refused(e);
             }
         }
-        i += 1;
     }
     Form::List(count, d)
 }
@@ -148,8 +146,7 @@ fn rounds(
     let mut met: [u8; 513] = [0; 513];
     let mut d = c;
     let mut n = count;
-    let mut i: usize = 0;
-    while i < 64 {
+    for _ in 0..64usize {
         let turn = round(
             terms, cells, chars, reasons, keys, d, known, table, t, list, n, &mut met,
         );
@@ -162,7 +159,6 @@ fn rounds(
                 return answer;
             }
         }
-        i += 1;
     }
     DeepForm::List(n, d)
 }

@@ -18,10 +18,7 @@ use records::{State, rules};
 fn opens(terms: &[u32], n: usize, t: u32, a: u32) -> bool
     ensures { result ≡ opens_in (terms_view terms.now n) t a }
 {
-    if rules::kind_of(terms, n, a) != 3 {
-        return false;
-    }
-    a != t
+    rules::kind_of(terms, n, a) == 3 && a != t
 }
 
 // Whether an atom of the list is expanded.
@@ -29,14 +26,7 @@ pub(crate) fn any_opens(terms: &[u32], n: usize, t: u32, list: &[u32], count: us
     requires { count ≤ length list.now }
     ensures { result ≡ any (opens_in (terms_view terms.now n) t) (first_words list.now count) }
 {
-    let mut i: usize = 0;
-    while i < count {
-        if opens(terms, n, t, list[i]) {
-            return true;
-        }
-        i += 1;
-    }
-    false
+    list[..count].iter().any(|&a| opens(terms, n, t, a))
 }
 
 // The normal form of a concatenation after the first k words of the round's list.
@@ -135,17 +125,15 @@ pub(crate) fn expand(
 {
     let mut d = c;
     let mut k: usize = 0;
-    let mut i: usize = 0;
-    while i < count {
+    for &a in &list[..count] {
         let made = expand_one(
-            terms, cells, chars, reasons, keys, d, known, table, t, list[i], met, next, k,
+            terms, cells, chars, reasons, keys, d, known, table, t, a, met, next, k,
         );
         let DeepForm::List(n, e) = made else {
             return made;
         };
         k = n;
         d = e;
-        i += 1;
     }
     DeepForm::List(k, d)
 }

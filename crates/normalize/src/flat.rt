@@ -16,9 +16,10 @@ fn push_atom(out: &mut [u32], count: usize, t: u32) -> usize
 {
     if count < LIST_LIMIT {
         out[count] = t;
-        return count + 1;
+        count + 1
+    } else {
+        LIST_LIMIT + 1
     }
-    LIST_LIMIT + 1
 }
 
 // The atoms of t after the first `count` words. Nothing is walked past the first atom that does not fit.
@@ -41,15 +42,12 @@ pub fn flatten_unchecked(
     }
     let mut at = fields::first(terms, t);
     let mut k = count;
-    loop {
-        let link = chains::next_link(cells, at, m);
-        let Link::Cell(v, _, next) = link else {
-            return k;
-        };
+    while let Link::Cell(v, _, next) = chains::next_link(cells, at, m) {
         k = flatten_unchecked(terms, n, cells, m, v, out, k);
         if LIST_LIMIT < k {
             return k;
         }
         at = next;
     }
+    k
 }

@@ -50,10 +50,7 @@ pub enum Turn {
 fn can_form(terms: &[u32], c: State, known: &[u32], t: u32) -> bool
     ensures { result ≡ form_arguments known.now t (termed terms.now c) }
 {
-    if !rules::is_list(terms, c, known) {
-        return false;
-    }
-    rules::is_string(terms, c.terms, t)
+    rules::is_list(terms, c, known) && rules::is_string(terms, c.terms, t)
 }
 
 // After a refusal the index names no term that was made on the way.

@@ -13,10 +13,7 @@ use records::{classes, roots, rules};
 fn rep_rank(terms: &[u32], n: usize, t: u32) -> u32
     ensures { result ≡ rank (terms_view terms.now n) t }
 {
-    if rules::kind_of(terms, n, t) == 1 {
-        return 1;
-    }
-    0
+    u32::from(rules::kind_of(terms, n, t) == 1)
 }
 
 // One candidate more, of the class of this root.
@@ -27,13 +24,7 @@ fn put_node(terms: &[u32], n: usize, t: u32, root: u32, nodes: &mut [u32; 513])
 {
     let at = root as usize;
     let prev = nodes[at];
-    if prev == 0 {
-        nodes[at] = t;
-        return;
-    }
-    let old = rep_rank(terms, n, prev);
-    let new = rep_rank(terms, n, t);
-    if old < new {
+    if prev == 0 || rep_rank(terms, n, prev) < rep_rank(terms, n, t) {
         nodes[at] = t;
     }
 }
@@ -67,10 +58,8 @@ fn build_few(terms: &[u32], n: usize, known: &[u32], nodes: &mut [u32; 513])
     requires closed { Closed (class_up (terms_view terms.now n)) n }
     ensures { nodes.new ≡ with_nodes (terms_view terms.now n) known.now nodes.old }
 {
-    let mut i: usize = 0;
-    while i < known.len() {
-        add_node(terms, n, known[i], nodes);
-        i += 1;
+    for &t in known {
+        add_node(terms, n, t, nodes);
     }
 }
 
@@ -82,10 +71,8 @@ fn build_many(terms: &[u32], n: usize, known: &[u32], nodes: &mut [u32; 513])
     ensures { nodes.new ≡ with_nodes (terms_view terms.now n) known.now nodes.old }
 {
     let mut roots: [u32; 513] = [0; 513];
-    let mut i: usize = 0;
-    while i < known.len() {
-        keep_node(terms, n, known[i], nodes, &mut roots);
-        i += 1;
+    for &t in known {
+        keep_node(terms, n, t, nodes, &mut roots);
     }
 }
 
@@ -98,9 +85,9 @@ pub(crate) fn build_node_of(terms: &[u32], n: usize, known: &[u32], nodes: &mut 
 {
     if known.len() < 16 {
         build_few(terms, n, known, nodes);
-        return;
+    } else {
+        build_many(terms, n, known, nodes);
     }
-    build_many(terms, n, known, nodes);
 }
 
 // The representative of t's class, or t itself where the class has none.
@@ -112,8 +99,5 @@ pub(crate) fn rep(terms: &[u32], n: usize, nodes: &[u32; 513], t: u32) -> u32
 {
     let root = classes::root_unchecked(terms, n, t) as usize;
     let r = nodes[root];
-    if r == 0 {
-        return t;
-    }
-    r
+    if r == 0 { t } else { r }
 }

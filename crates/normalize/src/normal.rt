@@ -33,9 +33,10 @@ fn cite(
     ensures { Does (cite a r) (across terms cells chars (changing reasons) keys) c (added result) }
 {
     if r == a {
-        return Added::Counts(c);
+        Added::Counts(c)
+    } else {
+        explain_unchecked(terms, cells, chars, reasons, keys, c, a, r, places)
     }
-    explain_unchecked(terms, cells, chars, reasons, keys, c, a, r, places)
 }
 
 // The atom a as its representative r.
@@ -87,9 +88,7 @@ fn push_forms(
 {
     let mut d = c;
     let mut count: usize = 0;
-    let mut i: usize = 0;
-    while i < flat.len() {
-        let a = flat[i];
+    for &a in flat {
         let r = nodes::rep(terms, d.terms, table, a);
         let form = push_for(
             terms, cells, chars, reasons, keys, d, a, r, list, count, places,
@@ -103,7 +102,6 @@ fn push_forms(
                 return Form::Refused(k);
             }
         }
-        i += 1;
     }
     Form::List(count, d)
 }
@@ -128,28 +126,37 @@ fn form_atoms(
     requires list_limit_in_bounds { list_limit ≤ length list.old }
     ensures { Does (push_forms (known.now ++ flat.now) flat.now []) (across (changing terms) cells (changing chars) (changing reasons) keys) c (pushed result into changing list) }
 {
-    let mut own: [u32; 513] = *table;
+    let mut own = *table;
     nodes::build_node_of(terms, c.terms, flat, &mut own);
     if flat.len() < 8 {
-        let mut none: [u32; 0] = [];
-        return push_forms(
-            terms, cells, chars, reasons, keys, c, known, flat, &own, list, &mut none,
-        );
+        push_forms(
+            terms,
+            cells,
+            chars,
+            reasons,
+            keys,
+            c,
+            known,
+            flat,
+            &own,
+            list,
+            &mut [],
+        )
+    } else {
+        push_forms(
+            terms,
+            cells,
+            chars,
+            reasons,
+            keys,
+            c,
+            known,
+            flat,
+            &own,
+            list,
+            &mut [0; 513],
+        )
     }
-    let mut places: [u32; 513] = [0; 513];
-    push_forms(
-        terms,
-        cells,
-        chars,
-        reasons,
-        keys,
-        c,
-        known,
-        flat,
-        &own,
-        list,
-        &mut places,
-    )
 }
 
 // The normal form of t by way of its flattened atoms, whose list is cleared at each call.
@@ -212,11 +219,12 @@ pub(crate) fn form_by(
 {
     if rules::kind_of(terms, c.terms, t) != 3 {
         let one: [u32; 1] = [t];
-        return form_atoms(
+        form_atoms(
             terms, cells, chars, reasons, keys, c, known, table, &one, list,
-        );
+        )
+    } else {
+        form_flat(terms, cells, chars, reasons, keys, c, known, table, t, list)
     }
-    form_flat(terms, cells, chars, reasons, keys, c, known, table, t, list)
 }
 
 // The normal form of t over the known list, with the reasons of each atom that was replaced.

@@ -16,10 +16,7 @@ use records::{Made, State, fields, make, rules};
 fn is_empty(terms: &[u32], n: usize, t: u32) -> bool
     ensures { result ≡ is_empty_in (terms_view terms.now n) t }
 {
-    if rules::kind_of(terms, n, t) != 1 {
-        return false;
-    }
-    fields::second(terms, t) == 0
+    rules::kind_of(terms, n, t) == 1 && fields::second(terms, t) == 0
 }
 
 // Whether t and the last atom of the list are constants.
@@ -27,13 +24,7 @@ fn joins_with_last(terms: &[u32], n: usize, t: u32, list: &[u32], count: usize) 
     requires { count ≤ length list.now }
     ensures { result ≡ joins_in (terms_view terms.now n) t (reverse (first_words list.now count)) }
 {
-    if count == 0 {
-        return false;
-    }
-    if rules::kind_of(terms, n, t) != 1 {
-        return false;
-    }
-    rules::kind_of(terms, n, list[count - 1]) == 1
+    count != 0 && rules::kind_of(terms, n, t) == 1 && rules::kind_of(terms, n, list[count - 1]) == 1
 }
 
 // Joins t with the last atom, in its place.
@@ -84,11 +75,11 @@ pub(crate) fn push(
     ensures { Does (push t (reverse (first_words list.old count))) (across (changing terms) cells (changing chars) reasons keys) c (pushed result into changing list) }
 {
     if is_empty(terms, c.terms, t) {
-        return Form::List(count, c);
+        Form::List(count, c)
+    } else if joins_with_last(terms, c.terms, t, list, count) {
+        join_last(terms, cells, chars, reasons, keys, c, t, list, count)
+    } else {
+        list[count] = t;
+        Form::List(count + 1, c)
     }
-    if joins_with_last(terms, c.terms, t, list, count) {
-        return join_last(terms, cells, chars, reasons, keys, c, t, list, count);
-    }
-    list[count] = t;
-    Form::List(count + 1, c)
 }

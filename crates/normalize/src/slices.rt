@@ -9,11 +9,7 @@ pub(crate) fn append(to: &mut [u32], k: usize, from: &[u32], n: usize)
     requires fact_2 { k + n ≤ length to.old }
     ensures { first_words to.new (k + n) ≡ first_words to.old k ++ first_words from.now n }
 {
-    let mut i: usize = 0;
-    while i < n {
-        to[k + i] = from[i];
-        i += 1;
-    }
+    to[k..k + n].copy_from_slice(&from[..n]);
 }
 
 // Whether the first n words of `one` are the first k of `other`.
@@ -22,15 +18,5 @@ pub(crate) fn same_words(one: &[u32], n: usize, other: &[u32], k: usize) -> bool
     requires fact_2 { k ≤ length other.now }
     ensures { result ≡ same_word (first_words one.now n) (first_words other.now k) }
 {
-    if n != k {
-        return false;
-    }
-    let mut i: usize = 0;
-    while i < n {
-        if one[i] != other[i] {
-            return false;
-        }
-        i += 1;
-    }
-    true
+    one[..n] == other[..k]
 }

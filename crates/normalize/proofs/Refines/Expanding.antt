@@ -7,8 +7,8 @@ use mathlib.Core.Option.{Option, none, some}
 use Prim.Native.Nat.{ℕ, suc, ◌+◌, ◌*◌, ◌≤◌, ◌<◌}
 use native.Mathlib.Numerals.{add-one}
 use native.Mathlib.Omega.{arith}
-use lib.ListN.{length, drop, get_or, set, length-set, length-append, drop_of_length-le}
-use lib.Seq.{drop-cons, get_or-set_same, get_or-set_other}
+use lib.ListN.{length, length-take, take, drop, get_or, set, length-set, length-append, drop_of_length-le}
+use lib.Seq.{drop-cons, get_or-take, get_or-set_same, get_or-set_other}
 use lib.Dec.{eqb, ltb}
 use borrow.Author.Tests.{eqb-true, eqb-false, eq-eqb, ne_eqb, ltb-false, lt-ltb, le-ltb, not-true, not-false}
 use Rattle.records.specs.declared.State.{State}
@@ -286,21 +286,24 @@ walking_none {m} {c} known t l next table r = record {
 
 module _ (list : List ℕ) (count' : ℕ) {known : List ℕ} {t : ℕ} {next₀ table₀ : List ℕ} {m₀ m : Lent} {c d : State} {next : List ℕ} {k : ℕ} {table : List ℕ} {i : ℕ}
     (g : Walking known t (first_words list count') next₀ table₀ m₀ c m d next k table i) (nodes : List ℕ) (cs : Candidates (store_of m₀ c) known nodes)
-    (o : RoundOf (store_of m₀ c) list count' table₀ next₀) (h : i < count') where
+    (o : RoundOf (store_of m₀ c) list count' table₀ next₀) (h : i < length (take count' list)) where
   abbrev sw : Store
   sw = store_of m d
 
   abbrev at : ℕ
-  at = get_or list i 0
+  at = get_or (take count' list) i 0
 
   pub walk_candidates : Candidates sw known nodes
   walk_candidates = candidates_later cs g.carried.later
 
+  below : i < count'
+  below = omega (arith, length-take count' list)
+
   at_is : get_or (first_words list count') i 0 ≡ at
-  at_is = table_at_lem (λ j. get_or list j 0) count' i 0 h
+  at_is = table_at_lem (λ j. get_or list j 0) count' i 0 below ∙ sym (get_or-take count' list i 0 below)
 
   inside : i < length (first_words list count')
-  inside = let z = words-length list count' in omega arith
+  inside = let z = words-length list count' in let y = below in omega arith
 
   left_is : drop i (first_words list count') ≡ at ∷ drop (suc i) (first_words list count')
   left_is = drop-cons (first_words list count') i 0 inside ∙ ap (λ (x : ℕ). x ∷ drop (suc i) (first_words list count')) at_is
@@ -309,7 +312,7 @@ module _ (list : List ℕ) (count' : ℕ) {known : List ℕ} {t : ℕ} {next₀ 
   walk-string = subst (λ (x : ℕ). is_string sw x ≡ true) at_is (every_at (first_words list count') i 0 (strings-later g.carried.later.grown (all_every (is_string (store_of m₀ c)) _ o.strings)) inside)
 
   pub walk-low : k < 2 * deep_limit
-  walk-low = let l = g.low in let s = o.short in omega arith
+  walk-low = let b = below in let l = g.low in let s = o.short in omega arith
 
   module _ {m' : Lent} (next' table' : List ℕ) (x : DeepForm) (w : Expands known t (at ∷ []) next k table m m' d next' table' x) where
     one : (met : List ℕ) (z : Met table₀ met) → ExpandedTo (expand known t (at ∷ []) (record { list = first_words next k; met = (g.rest met z).now }) sw) m' next' table' x

@@ -8,8 +8,8 @@ use Prim.Native.Nat.{ℕ, suc, ◌+◌, ◌-◌, ◌≤◌, ◌<◌}
 use native.Mathlib.Nat.{zero-add}
 use native.Mathlib.Numerals.{add-one}
 use native.Mathlib.Omega.{arith}
-use lib.ListN.{length, drop, get_or, drop_of_length-le}
-use lib.Seq.{drop-cons}
+use lib.ListN.{length, length-take, take, drop, get_or, drop_of_length-le}
+use lib.Seq.{drop-cons, get_or-take}
 use lib.Dec.{ltb}
 use borrow.Author.Tests.{lt-ltb, le-ltb, not-true, not-false}
 use Rattle.records.specs.declared.State.{State}
@@ -51,17 +51,20 @@ all_left next n i out = push_all (drop i (first_words next n)) out
 
 module _ (next : List ℕ) (n : ℕ) {m₀ m : Lent} {c d : State} {out : List ℕ} {k i : ℕ} (g : Heaping (all_left next n) m₀ c m d out k i) where
   abbrev at : ℕ
-  at = get_or next i 0
+  at = get_or (take n next) i 0
 
   abbrev so : List ℕ
   so = reverse (first_words out k)
 
-  module _ (good : all (is_string (store_of m₀ c)) (first_words next n) ≡ true) (h : i < n) where
+  module _ (good : all (is_string (store_of m₀ c)) (first_words next n) ≡ true) (h : i < length (take n next)) where
+    below : i < n
+    below = omega (arith, length-take n next)
+
     at_is : get_or (first_words next n) i 0 ≡ at
-    at_is = table_at_lem (λ j. get_or next j 0) n i 0 h
+    at_is = table_at_lem (λ j. get_or next j 0) n i 0 below ∙ sym (get_or-take n next i 0 below)
 
     inside : i < length (first_words next n)
-    inside = let z = words-length next n in omega arith
+    inside = let z = words-length next n in let y = below in omega arith
 
     all-next : all_left next n i so (store_of m d) ≡ and_then (all_left next n (i + 1)) (push at so (store_of m d))
     unfolding push_all

@@ -5,9 +5,8 @@ use native.Mathlib.Omega.{arith}
 use borrow.Author.Rules.{rules}
 use Rattle.normalize.proofs.deeper.rounds.Goals as goal
 
-pub loop-i-init : goal.loop-i-init
-loop-i-init c = (
-  omega arith,
+pub loop-init : goal.loop-init
+loop-init c = (
   refl,
   refl,
   refl,
@@ -19,29 +18,28 @@ loop-i-init c = (
 pub round-turn-requires : goal.round-turn-requires
 round-turn-requires c =
     record {
-      ready = c.loop-i.invariant.5.carried.ready;
-      candidates = rounding_candidates c.loop-i.invariant.5 _ c.requires.candidates;
-      count_value = c.loop-i.invariant.5.strings;
-      count_le_deep_limit = (c.loop-i.invariant.5.short, (let e = c.loop-i.invariant.4 in let p = c.requires.count_le_deep_limit.1 in omega arith));
-      met_table = rounding_met c.loop-i.invariant.5 _ c.requires.candidates;
+      ready = c.loop.invariant.4.carried.ready;
+      candidates = rounding_candidates c.loop.invariant.4 _ c.requires.candidates;
+      count_value = c.loop.invariant.4.strings;
+      count_le_deep_limit = (c.loop.invariant.4.short, (let e = c.loop.invariant.3 in let p = c.requires.count_le_deep_limit.1 in omega arith));
+      met_table = rounding_met c.loop.invariant.4 _ c.requires.candidates;
     }
 
 pub returns-in-Ends : goal.returns-in-Ends
 returns-in-Ends c =
-    rounds-ended c.loop-i.invariant.5 _ c.requires.candidates c.loop-i-test.true _ _ _ c.round-turn.ensures _
+    rounds-ended c.loop.invariant.4 _ c.requires.candidates c.loop-test.true _ _ _ c.round-turn.ensures _
     c.in-Ends.is
 
-pub loop-i-preserved : goal.loop-i-preserved
-loop-i-preserved c = (
-  omega arith,
+pub loop-preserved : goal.loop-preserved
+loop-preserved c = (
   search rules,
   search rules,
   search rules,
   search rules,
-  rounding_turn c.loop-i.invariant.5 _ c.requires.candidates c.loop-i-test.true _ _ _ c.round-turn.ensures _ _
+  rounding_turn c.loop.invariant.4 _ c.requires.candidates c.loop-test.true _ _ _ c.round-turn.ensures _ _
       c.in-Again.is,
 )
 
 pub returns : goal.returns
 returns c =
-    rounds_done c.loop-i.invariant.5 _ c.requires.candidates c.loop-i-test.false
+    rounds_done c.loop.invariant.4 _ c.requires.candidates c.loop-test.false

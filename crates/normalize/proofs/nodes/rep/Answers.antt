@@ -9,6 +9,6 @@ pub returns-then-r-eq0 : goal.returns-then-r-eq0
 returns-then-r-eq0 c =
     at_none _ _ _ _ c.root_unchecked-root.ensures c.if-r-eq0.true
 
-pub returns : goal.returns
-returns c =
+pub returns-else-r-eq0 : goal.returns-else-r-eq0
+returns-else-r-eq0 c =
     at_some _ _ _ _ c.root_unchecked-root.ensures c.if-r-eq0.false

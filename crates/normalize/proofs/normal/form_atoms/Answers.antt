@@ -18,11 +18,6 @@ push_forms-requires c =
       list_limit_in_bounds = c.requires.list_limit_in_bounds;
     }
 
-pub push_forms-requires-2 : goal.push_forms-requires-2
-push_forms-requires-2 c =
-    record {
-      ready = c.requires.ready;
-      candidates = more-table c.requires.ready _ _ _ c.requires.candidates c.requires.flat_value _ c.build_node_of.ensures;
-      flat_len_bound = c.requires.flat_len_bound;
-      list_limit_in_bounds = c.requires.list_limit_in_bounds;
-    }
+pub push_forms-requires-else-flat-lt8-clause-candidates : goal.push_forms-requires-else-flat-lt8-clause-candidates
+push_forms-requires-else-flat-lt8-clause-candidates c =
+    more-table c.requires.ready _ _ _ c.requires.candidates c.requires.flat_value _ c.build_node_of.ensures

@@ -7,14 +7,14 @@ use native.Mathlib.Omega.{arith}
 use borrow.Author.Rules.{rules}
 use Rattle.normalize.proofs.normal.push_forms.Goals as goal
 
-pub loop-i-init : goal.loop-i-init
-loop-i-init c =
-    (omega arith, refl, refl, refl, refl, heaping_none _ _ c.requires.ready, refl)
+pub loop-a-init : goal.loop-a-init
+loop-a-init c =
+    (refl, refl, refl, refl, heaping_none _ _ c.requires.ready, refl)
 
 pub rep-r-requires : goal.rep-r-requires
 rep-r-requires c =
-    let h = forms-rep c.loop-i.invariant.5 _ c.requires.candidates (every_right c.args.known.now _ (all_every _ _ c.requires.candidates.strings))
-    c.loop-i-test.true in
+    let h = forms-rep c.loop-a.invariant.4 _ c.requires.candidates (every_right c.args.known.now _ (all_every _ _ c.requires.candidates.strings))
+    c.loop-a-test.true in
     record {
       fact_1 = h.0;
       fact_2 = h.1.0;
@@ -24,34 +24,29 @@ rep-r-requires c =
 pub push_for-form-requires : goal.push_for-form-requires
 push_for-form-requires c =
     record {
-      ready = c.loop-i.invariant.5.carried.ready;
-      c_value = for_arguments c.loop-i.invariant.5 _ c.requires.candidates
-          (every_right c.args.known.now _ (all_every _ _ c.requires.candidates.strings)) c.loop-i-test.true _ c.rep-r.ensures;
-      count_lt_list_limit = (let h = c.loop-i-test.true in let l = c.loop-i.invariant.5.low in let p = c.requires.flat_len_bound in omega arith);
-      list_limit_in_bounds = (let l = c.loop-i.invariant.4 in let p = c.requires.list_limit_in_bounds in omega arith);
+      ready = c.loop-a.invariant.4.carried.ready;
+      c_value = for_arguments c.loop-a.invariant.4 _ c.requires.candidates
+          (every_right c.args.known.now _ (all_every _ _ c.requires.candidates.strings)) c.loop-a-test.true _ c.rep-r.ensures;
+      count_lt_list_limit = (let h = c.loop-a-test.true in let l = c.loop-a.invariant.4.low in let p = c.requires.flat_len_bound in omega arith);
+      list_limit_in_bounds = (let l = c.loop-a.invariant.3 in let p = c.requires.list_limit_in_bounds in omega arith);
     }
 
 pub returns-in-Refused : goal.returns-in-Refused
 returns-in-Refused c =
-    forms_stopped c.loop-i.invariant.5 _ c.requires.candidates (every_right c.args.known.now _ (all_every _ _ c.requires.candidates.strings))
-    c.loop-i-test.true _ c.rep-r.ensures _ _ c.push_for-form.ensures _ c.in-Refused.is
+    forms_stopped c.loop-a.invariant.4 _ c.requires.candidates (every_right c.args.known.now _ (all_every _ _ c.requires.candidates.strings))
+    c.loop-a-test.true _ c.rep-r.ensures _ _ c.push_for-form.ensures _ c.in-Refused.is
 
-pub overflow_add-i : goal.overflow_add-i
-overflow_add-i c =
-    (let h = c.loop-i-test.true in let p = c.requires.flat_len_bound in omega arith)
-
-pub loop-i-preserved : goal.loop-i-preserved
-loop-i-preserved c = (
-  omega arith,
+pub loop-a-preserved : goal.loop-a-preserved
+loop-a-preserved c = (
   search rules,
   search rules,
   search rules,
   search rules,
-  forms_turn c.loop-i.invariant.5 _ c.requires.candidates (every_right c.args.known.now _ (all_every _ _ c.requires.candidates.strings))
-      c.loop-i-test.true _ c.rep-r.ensures _ _ c.push_for-form.ensures _ _ c.in-List.is,
+  forms_turn c.loop-a.invariant.4 _ c.requires.candidates (every_right c.args.known.now _ (all_every _ _ c.requires.candidates.strings))
+      c.loop-a-test.true _ c.rep-r.ensures _ _ c.push_for-form.ensures _ _ c.in-List.is,
   search rules,
 )
 
 pub returns : goal.returns
 returns c =
-    forms_done (c.args.known.now ++ c.args.flat.now) _ c.loop-i.invariant.5 c.loop-i-test.false
+    forms_done (c.args.known.now ++ c.args.flat.now) _ c.loop-a.invariant.4 c.loop-a-test.false

@@ -20,7 +20,7 @@ pub returns-then-joins_with_last : goal.returns-then-joins_with_last
 returns-then-joins_with_last c =
     push-joined c.requires.ready _ _ _ c.is_empty.ensures c.if-is_empty.false c.join_last.ensures
 
-pub returns : goal.returns
-returns c =
+pub returns-else-joins_with_last : goal.returns-else-joins_with_last
+returns-else-joins_with_last c =
     push-plain c.requires.ready _ _ _ c.is_empty.ensures c.if-is_empty.false c.args.list.now c.args.count refl
     (let h0 = c.requires.count_lt_list_limit in let h1 = c.requires.list_limit_in_bounds in omega arith) _ c.joins_with_last.ensures c.if-joins_with_last.false
