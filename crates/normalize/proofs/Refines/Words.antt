@@ -1,10 +1,8 @@
 -- The first words of a slice: one more put, appended, compared.
 use mathlib.Core.Path.{◌≡◌, refl, sym, ap, ◌∙◌}
-use mathlib.Core.Bool.{Bool, true, false, ◌&&◌, ◌||◌}
-use mathlib.Core.List.{List, [], ◌∷◌, ◌++◌, append_assoc, append-nil}
+use mathlib.Core.Bool.{Bool, ◌&&◌, ◌||◌}
+use mathlib.Core.List.{List, [], ◌∷◌, ◌++◌}
 use Prim.Native.Nat.{ℕ, suc, ◌+◌, ◌≤◌, ◌<◌}
-use native.Mathlib.Nat.{add-zero, le_antisymm}
-use native.Mathlib.Numerals.{add-one}
 use native.Mathlib.Omega.{arith}
 use lib.ListN.{length, take, get_or, set, length-append, length-take}
 use lib.Seq.{get_or-set_same, get_or-set_other, ext_get_or, get_or-take, length-take-le}
@@ -15,7 +13,6 @@ use lib.Pointwise.{pointwise}
 use Rattle.std.specs.List.{list_any}
 use Rattle.records.specs.Lists.{any, same_word, table}
 use Rattle.records.proofs.Lists.{table-length, table-suc, table_same, table_at_lem}
-use Rattle.records.proofs.Views.{table_is}
 use Rattle.normalize.specs.Calls.{first_words}
 
 pub words-length : (l : List ℕ) (n : ℕ) → length (first_words l n) ≡ n

@@ -1,5 +1,5 @@
 use Rattle.records.proofs.Public.{cut-asked, passed-ready}
-use Rattle.normalize.proofs.Refines.FormCalls.{deep_short, deep_unready, deep_unfit, form-ready, form-fit, deep_called, undone_deep}
+use Rattle.normalize.proofs.Refines.FormCalls.{deep_short, deep_unready, deep_unfit, form-ready, deep_called, undone_deep}
 use Rattle.normalize.proofs.deep_normal_form_cited.Goals as goal
 
 pub returns-then-list-lt-LIST_LIMIT : goal.returns-then-list-lt-LIST_LIMIT
@@ -14,23 +14,20 @@ pub returns-then-not-can_form : goal.returns-then-not-can_form
 returns-then-not-can_form c =
     deep_unfit _ _ _ _ c.args.list.now c.if-list-lt-LIST_LIMIT.false _ c.audit-k.ensures c.if-k-ne0.false _ c.can_form.ensures c.if-not-can_form.true-raw
 
-pub deep_normal_form_cited_unchecked-x-requires : goal.deep_normal_form_cited_unchecked-x-requires
-deep_normal_form_cited_unchecked-x-requires c =
-    record {
-      ready = form-ready c.args.known.now c.args.t _ _ c.args.list.now c.if-list-lt-LIST_LIMIT.false _ c.audit-k.ensures c.if-k-ne0.false _
-          c.can_form.ensures c.if-not-can_form.false-raw;
-      c_value = form-fit c.args.known.now c.args.t _ _ c.args.list.now c.if-list-lt-LIST_LIMIT.false _ c.audit-k.ensures c.if-k-ne0.false _
-          c.can_form.ensures c.if-not-can_form.false-raw;
-      list_limit_in_bounds = c.if-list-lt-LIST_LIMIT.false;
-    }
+pub deep_normal_form_cited_unchecked-x-requires-clause-ready : goal.deep_normal_form_cited_unchecked-x-requires-clause-ready
+deep_normal_form_cited_unchecked-x-requires-clause-ready c =
+    form-ready c.args.known.now c.args.t _ _ c.args.list.now c.if-list-lt-LIST_LIMIT.false _ c.audit-k.ensures c.if-k-ne0.false _
+    c.can_form.ensures c.if-not-can_form.false-raw
 
-pub cut_undeepened-requires : goal.cut_undeepened-requires
-cut_undeepened-requires c =
+pub cut_undeepened-requires-clause-fact_1 : goal.cut_undeepened-requires-clause-fact_1
+cut_undeepened-requires-clause-fact_1 c =
     let h = cut-asked (passed-ready _ _ _ c.audit-k.ensures c.if-k-ne0.false) c.deep_normal_form_cited_unchecked-x.auto.terms in
-    record {
-      fact_1 = h.0;
-      fact_2 = h.1;
-    }
+    h.0
+
+pub cut_undeepened-requires-clause-fact_2 : goal.cut_undeepened-requires-clause-fact_2
+cut_undeepened-requires-clause-fact_2 c =
+    let h = cut-asked (passed-ready _ _ _ c.audit-k.ensures c.if-k-ne0.false) c.deep_normal_form_cited_unchecked-x.auto.terms in
+    h.1
 
 pub returns : goal.returns
 returns c =

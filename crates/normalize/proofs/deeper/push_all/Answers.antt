@@ -1,4 +1,3 @@
-use lib.ListN.{length-take}
 use lib.Seq.{length-take-le}
 use mathlib.Core.Path.{refl}
 use Rattle.normalize.proofs.Refines.Heaping.{heaping_none}
@@ -10,14 +9,6 @@ use Rattle.normalize.proofs.deeper.push_all.Goals as goal
 pub loop-a-init : goal.loop-a-init
 loop-a-init c =
     (refl, refl, refl, heaping_none _ _ c.requires.ready)
-
-pub push-form-requires : goal.push-form-requires
-push-form-requires c =
-    record {
-      ready = c.loop-a.invariant.3.carried.ready;
-      count_lt_list_limit = (let h = c.loop-a-test.true in let l = c.loop-a.invariant.3.low in let p = c.requires.k_le_list_limit in let z = length-take c.args.k c.args.next.now in omega arith);
-      list_limit_in_bounds = (let l = c.loop-a.invariant.2 in let p = c.requires.list_limit_in_bounds in omega arith);
-    }
 
 pub returns-in-Refused : goal.returns-in-Refused
 returns-in-Refused c =

@@ -1,5 +1,4 @@
 use lib.ListN.{length}
-use Prim.Native.Nat.{◌-◌, ◌≤◌}
 use mathlib.Core.Path.{◌≡◌}
 use Rattle.records.specs.View.{lent}
 use Rattle.normalize.proofs.Refines.Heaping.{Heaping}

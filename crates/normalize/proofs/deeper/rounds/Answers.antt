@@ -1,7 +1,6 @@
 use lib.ListN.{replicate, get_or-replicate}
 use mathlib.Core.Path.{refl}
-use Rattle.normalize.proofs.Refines.Rounding.{rounding_none, rounding_candidates, rounding_met, rounds-ended, rounding_turn, rounds_done}
-use native.Mathlib.Omega.{arith}
+use Rattle.normalize.proofs.Refines.Rounding.{rounding_none, rounding_candidates, rounds-ended, rounding_turn, rounds_done}
 use borrow.Author.Rules.{rules}
 use Rattle.normalize.proofs.deeper.rounds.Goals as goal
 
@@ -15,15 +14,9 @@ loop-init c = (
       (λ i h. get_or-replicate 513 i 0 0 h),
 )
 
-pub round-turn-requires : goal.round-turn-requires
-round-turn-requires c =
-    record {
-      ready = c.loop.invariant.4.carried.ready;
-      candidates = rounding_candidates c.loop.invariant.4 _ c.requires.candidates;
-      count_value = c.loop.invariant.4.strings;
-      count_le_deep_limit = (c.loop.invariant.4.short, (let e = c.loop.invariant.3 in let p = c.requires.count_le_deep_limit.1 in omega arith));
-      met_table = rounding_met c.loop.invariant.4 _ c.requires.candidates;
-    }
+pub round-turn-requires-clause-candidates : goal.round-turn-requires-clause-candidates
+round-turn-requires-clause-candidates c =
+    rounding_candidates c.loop.invariant.4 _ c.requires.candidates
 
 pub returns-in-Ends : goal.returns-in-Ends
 returns-in-Ends c =

@@ -1,6 +1,6 @@
 use lib.Seq.{length-take-le}
-use mathlib.Core.Path.{refl, sym}
-use Rattle.normalize.proofs.Refines.Expanding.{walking_none, walk_candidates, walk-string, walk-low, walking_turn, walking_ended, walking_done}
+use mathlib.Core.Path.{refl}
+use Rattle.normalize.proofs.Refines.Expanding.{walking_none, walk_candidates, walk-string, walking_turn, walking_ended, walking_done}
 use native.Mathlib.Omega.{arith}
 use borrow.Author.Rules.{rules}
 use Rattle.normalize.proofs.expands.expand.Goals as goal
@@ -9,22 +9,15 @@ pub loop-a-init : goal.loop-a-init
 loop-a-init c =
     (refl, refl, refl, refl, walking_none _ _ _ _ _ c.requires.ready)
 
-pub slice_bounds-a-items-end : goal.slice_bounds-a-items-end
-slice_bounds-a-items-end c = sym (length-take-le _ c.args.list.now c.requires.round_of.within)
+pub expand_one-made-requires-clause-candidates : goal.expand_one-made-requires-clause-candidates
+expand_one-made-requires-clause-candidates c =
+    walk_candidates c.args.list.now c.args.count c.loop-a.invariant.4 _ c.requires.candidates c.requires.round_of
+    c.loop-a-test.true
 
-pub expand_one-made-requires : goal.expand_one-made-requires
-expand_one-made-requires c =
-    record {
-      ready = c.loop-a.invariant.4.carried.ready;
-      candidates = walk_candidates c.args.list.now c.args.count c.loop-a.invariant.4 _ c.requires.candidates c.requires.round_of
-          c.loop-a-test.true;
-      a_value = walk-string c.args.list.now c.args.count c.loop-a.invariant.4 _ c.requires.candidates c.requires.round_of
-          c.loop-a-test.true;
-      k_in_bounds = (let l = walk-low c.args.list.now c.args.count c.loop-a.invariant.4 _ c.requires.candidates c.requires.round_of
-          c.loop-a-test.true in
-          let r = c.requires.round_of.room in let e = c.loop-a.invariant.3 in omega arith);
-      deep_limit_in_bounds = (let r = c.requires.round_of.room in let e = c.loop-a.invariant.3 in omega arith);
-    }
+pub expand_one-made-requires-clause-a_value : goal.expand_one-made-requires-clause-a_value
+expand_one-made-requires-clause-a_value c =
+    walk-string c.args.list.now c.args.count c.loop-a.invariant.4 _ c.requires.candidates c.requires.round_of
+    c.loop-a-test.true
 
 pub returns-in_default : goal.returns-in_default
 returns-in_default c =

@@ -1,5 +1,4 @@
 use lib.ListN.{length}
-use Prim.Native.Nat.{◌-◌, ◌≤◌}
 use mathlib.Core.Path.{◌≡◌}
 use Rattle.normalize.specs.Calls.{first_words}
 use Rattle.records.specs.View.{lent}

@@ -1,16 +1,6 @@
 use Rattle.normalize.proofs.Refines.Expanding.{form-short, atom-none, atom-some, atom-stopped}
 use native.Mathlib.Omega.{arith}
-use borrow.Author.Rules.{rules}
 use Rattle.normalize.proofs.expands.expand_atom.Goals as goal
-
-pub form_by-made-requires : goal.form_by-made-requires
-form_by-made-requires c =
-    record {
-      ready = c.requires.ready;
-      candidates = c.requires.candidates;
-      t_value = c.requires.a_value;
-      list_limit_in_bounds = search rules;
-    }
 
 pub overflow_add-k : goal.overflow_add-k
 overflow_add-k c =
@@ -22,13 +12,6 @@ pub returns-then-k-n-gt-DEEP_NF_ATOM_CAP : goal.returns-then-k-n-gt-DEEP_NF_ATOM
 returns-then-k-n-gt-DEEP_NF_ATOM_CAP c =
     atom-none c.requires.ready _ _ c.requires.candidates _ c.requires.a_value _ c.form_by-made.new.list c.form_by-made.ensures
     c.args.next.now c.args.k _ _ c.in-List.is c.if-k-n-gt-DEEP_NF_ATOM_CAP.true
-
-pub append-requires : goal.append-requires
-append-requires c =
-    let h = c.if-k-n-gt-DEEP_NF_ATOM_CAP.false in
-    let l = c.requires.deep_limit_in_bounds in
-    let e = c.form_by-made.auto.list in
-    record { fact_1 = omega arith; fact_2 = omega arith }
 
 pub returns-else-k-n-gt-DEEP_NF_ATOM_CAP : goal.returns-else-k-n-gt-DEEP_NF_ATOM_CAP
 returns-else-k-n-gt-DEEP_NF_ATOM_CAP c =

@@ -22,16 +22,6 @@ bounds-met-a-2 c =
     c.args.k c.args.met.now _ c.opens.ensures in
     omega arith)
 
-pub expand_atom-requires : goal.expand_atom-requires
-expand_atom-requires c =
-    record {
-      ready = c.requires.ready;
-      candidates = c.requires.candidates;
-      a_value = c.requires.a_value;
-      k_in_bounds = c.requires.k_in_bounds;
-      deep_limit_in_bounds = c.requires.deep_limit_in_bounds;
-    }
-
 pub returns : goal.returns
 returns c =
     one-opened c.requires.ready _ _ _ c.requires.a_value _ _ _ _ c.opens.ensures c.if-not-opens.false-raw c.if-met-a-eq1.false _ _

@@ -13,13 +13,6 @@ pub loop-v-init : goal.loop-v-init
 loop-v-init t c =
     (refl, search begin)
 
-pub returns : goal.returns
-returns t c =
-    ended _ _ _ _ c.requires.nested c.loop-v.invariant.1 false
-    (words-none c.args.cells.now c.args.m _ c.requires.nested.ascends
-    (ap is_cell (sym c.next_link.ensures) ∙ other_tag c.next_link.result c.in_default.not-Cell))
-    refl
-
 pub flatten_unchecked-k-requires : goal.flatten_unchecked-k-requires
 flatten_unchecked-k-requires t c =
     let w = step_words_lem c.args.cells.now c.args.m _ c.in-Cell.v c.in-Cell.field-1 c.in-Cell.next
@@ -50,3 +43,10 @@ loop-v-preserved t c =
       part_done _ _ _ _ c.requires.nested c.loop-v.invariant.1 _ true w.counted refl w.value _ w.next _ _ c.flatten_unchecked-k.ensures
           c.if-k-gt-LIST_LIMIT.false,
     )
+
+pub returns : goal.returns
+returns t c =
+    ended _ _ _ _ c.requires.nested c.loop-v.invariant.1 false
+    (words-none c.args.cells.now c.args.m _ c.requires.nested.ascends
+    (ap is_cell (sym c.next_link.ensures) ∙ other_tag c.next_link.result c.in_default.not-Cell))
+    refl

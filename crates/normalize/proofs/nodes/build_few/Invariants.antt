@@ -1,5 +1,4 @@
-use lib.ListN.{length, drop}
-use Prim.Native.Nat.{◌-◌, ◌≤◌}
+use lib.ListN.{drop}
 use mathlib.Core.Path.{◌≡◌}
 use Rattle.normalize.specs.Working.Nodes.{with_nodes}
 use Rattle.records.specs.View.{terms_view}

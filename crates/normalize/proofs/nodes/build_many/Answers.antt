@@ -2,21 +2,15 @@ use mathlib.Core.Path.{refl}
 use Rattle.records.proofs.ClimbEnds.{ends-none}
 use Rattle.records.proofs.Lists.{every_at}
 use Rattle.normalize.proofs.Represents.{nodes-turn, nodes-done}
-use native.Mathlib.Omega.{arith}
 use Rattle.normalize.proofs.nodes.build_many.Goals as goal
 
 pub loop-t-init : goal.loop-t-init
 loop-t-init c =
     (refl, ends-none _ _ c.requires.n_le_term_limit)
 
-pub keep_node-requires : goal.keep_node-requires
-keep_node-requires c =
-    record {
-      n_le_term_limit = c.requires.n_le_term_limit;
-      t_value = every_at _ _ 0 c.requires.every c.loop-t-test.true;
-      rooting = c.requires.rooting;
-      ends = c.loop-t.invariant.1;
-    }
+pub keep_node-requires-clause-t_value : goal.keep_node-requires-clause-t_value
+keep_node-requires-clause-t_value c =
+    every_at _ _ 0 c.requires.every c.loop-t-test.true
 
 pub loop-t-preserved : goal.loop-t-preserved
 loop-t-preserved c =

@@ -6,12 +6,9 @@ pub bounds-roots-t : goal.bounds-roots-t
 bounds-roots-t c =
     term_place_lem _ _ c.requires.n_le_term_limit c.requires.t_value
 
-pub put_node-requires : goal.put_node-requires
-put_node-requires c =
-    record {
-      fact_1 = root-place c.args.terms.now _ _ _ c.requires.n_le_term_limit c.requires.t_value c.requires.rooting.stays c.kept_root_unchecked-root.ensures;
-      fact_2 = c.kept_root_unchecked-root.ensures;
-    }
+pub put_node-requires-clause-fact_1 : goal.put_node-requires-clause-fact_1
+put_node-requires-clause-fact_1 c =
+    root-place c.args.terms.now _ _ _ c.requires.n_le_term_limit c.requires.t_value c.requires.rooting.stays c.kept_root_unchecked-root.ensures
 
 pub returns : goal.returns
 returns c =

@@ -1,16 +1,9 @@
 use Rattle.normalize.proofs.Refines.Forming.{one-string, one-done}
-use native.Mathlib.Omega.{arith}
 use Rattle.normalize.proofs.normal.form_by.Goals as goal
 
-pub form_atoms-requires : goal.form_atoms-requires
-form_atoms-requires c =
-    record {
-      ready = c.requires.ready;
-      candidates = c.requires.candidates;
-      flat_value = one-string c.requires.ready _ c.requires.t_value;
-      flat_len_bound = omega arith;
-      list_limit_in_bounds = c.requires.list_limit_in_bounds;
-    }
+pub form_atoms-requires-clause-flat_value : goal.form_atoms-requires-clause-flat_value
+form_atoms-requires-clause-flat_value c =
+    one-string c.requires.ready _ c.requires.t_value
 
 pub returns-then-kind_of-ne3 : goal.returns-then-kind_of-ne3
 returns-then-kind_of-ne3 c =

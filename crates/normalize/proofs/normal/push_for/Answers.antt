@@ -1,13 +1,9 @@
 use Rattle.normalize.proofs.Refines.Replacing.{cited-ready, push_for-done, push_for-stopped}
 use Rattle.normalize.proofs.normal.push_for.Goals as goal
 
-pub push-requires : goal.push-requires
-push-requires c =
-    record {
-      ready = cited-ready c.requires.ready _ _ _ c.requires.c_value c.cite-cited.ensures _ c.in-Counts.is;
-      count_lt_list_limit = c.requires.count_lt_list_limit;
-      list_limit_in_bounds = c.requires.list_limit_in_bounds;
-    }
+pub push-requires-clause-ready : goal.push-requires-clause-ready
+push-requires-clause-ready c =
+    cited-ready c.requires.ready _ _ _ c.requires.c_value c.cite-cited.ensures _ c.in-Counts.is
 
 pub returns-in-Counts : goal.returns-in-Counts
 returns-in-Counts c =

@@ -3,7 +3,6 @@ use mathlib.Core.Path.{refl}
 use Rattle.records.proofs.Lists.{all_every, every_right}
 use Rattle.normalize.proofs.Refines.Heaping.{heaping_none}
 use Rattle.normalize.proofs.Refines.Replacing.{rep_requires as forms-rep, for_arguments, forms_turn, forms_stopped, forms_done}
-use native.Mathlib.Omega.{arith}
 use borrow.Author.Rules.{rules}
 use Rattle.normalize.proofs.normal.push_forms.Goals as goal
 
@@ -11,25 +10,22 @@ pub loop-a-init : goal.loop-a-init
 loop-a-init c =
     (refl, refl, refl, refl, heaping_none _ _ c.requires.ready, refl)
 
-pub rep-r-requires : goal.rep-r-requires
-rep-r-requires c =
+pub rep-r-requires-clause-fact_2 : goal.rep-r-requires-clause-fact_2
+rep-r-requires-clause-fact_2 c =
     let h = forms-rep c.loop-a.invariant.4 _ c.requires.candidates (every_right c.args.known.now _ (all_every _ _ c.requires.candidates.strings))
     c.loop-a-test.true in
-    record {
-      fact_1 = h.0;
-      fact_2 = h.1.0;
-      fact_3 = h.1.1;
-    }
+    h.1.0
 
-pub push_for-form-requires : goal.push_for-form-requires
-push_for-form-requires c =
-    record {
-      ready = c.loop-a.invariant.4.carried.ready;
-      c_value = for_arguments c.loop-a.invariant.4 _ c.requires.candidates
-          (every_right c.args.known.now _ (all_every _ _ c.requires.candidates.strings)) c.loop-a-test.true _ c.rep-r.ensures;
-      count_lt_list_limit = (let h = c.loop-a-test.true in let l = c.loop-a.invariant.4.low in let p = c.requires.flat_len_bound in omega arith);
-      list_limit_in_bounds = (let l = c.loop-a.invariant.3 in let p = c.requires.list_limit_in_bounds in omega arith);
-    }
+pub rep-r-requires-clause-fact_3 : goal.rep-r-requires-clause-fact_3
+rep-r-requires-clause-fact_3 c =
+    let h = forms-rep c.loop-a.invariant.4 _ c.requires.candidates (every_right c.args.known.now _ (all_every _ _ c.requires.candidates.strings))
+    c.loop-a-test.true in
+    h.1.1
+
+pub push_for-form-requires-clause-c_value : goal.push_for-form-requires-clause-c_value
+push_for-form-requires-clause-c_value c =
+    for_arguments c.loop-a.invariant.4 _ c.requires.candidates
+    (every_right c.args.known.now _ (all_every _ _ c.requires.candidates.strings)) c.loop-a-test.true _ c.rep-r.ensures
 
 pub returns-in-Refused : goal.returns-in-Refused
 returns-in-Refused c =

@@ -1,18 +1,9 @@
 use Rattle.normalize.proofs.Refines.Pushing.{pair-constants, join-made, join-stopped}
-use native.Mathlib.Omega.{arith}
 use Rattle.normalize.proofs.pushes.join_last.Goals as goal
 
-pub join_constants_unchecked-made-requires : goal.join_constants_unchecked-made-requires
-join_constants_unchecked-made-requires c =
-    record {
-      ready = c.requires.ready;
-      list_len_bound = omega arith;
-      list_value = pair-constants c.requires.ready _ _ c.args.list.now c.requires.count_nonzero c.requires.count_in_bounds c.requires.count_value;
-    }
-
-pub offset_bounds-list-last-in-Term : goal.offset_bounds-list-last-in-Term
-offset_bounds-list-last-in-Term c =
-    omega (arith, c.well_formed)
+pub join_constants_unchecked-made-requires-clause-list_value : goal.join_constants_unchecked-made-requires-clause-list_value
+join_constants_unchecked-made-requires-clause-list_value c =
+    pair-constants c.requires.ready _ _ c.args.list.now c.requires.count_nonzero c.requires.count_in_bounds c.requires.count_value
 
 pub returns-in-Term : goal.returns-in-Term
 returns-in-Term c =
