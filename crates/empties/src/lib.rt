@@ -32,18 +32,16 @@ pub enum Empties {
 // Whether a string term is of the class of "" or of a variable listed before.
 fn is_met(terms: &[u32], chars: &[u32], c: State, v: u32, e: u32, met: &[u32]) -> bool
     requires readable { Readable terms.now chars.now c }
-    requires met_value { all (is_string (read_in terms.now chars.now c)) (v ∷ e ∷ met.now) ≡ true }
+    requires strings { all (is_string (read_in terms.now chars.now c)) (v ∷ e ∷ met.now) ≡ true }
     ensures { result ≡ any (same_class (read_in terms.now chars.now c) v) (e ∷ met.now) }
 {
     if stripping::same_class_unchecked(terms, chars, c, v, e) {
         return true;
     }
-    let mut i: usize = 0;
-    while i < met.len() {
-        if stripping::same_class_unchecked(terms, chars, c, v, met[i]) {
+    for &m in met {
+        if stripping::same_class_unchecked(terms, chars, c, v, m) {
             return true;
         }
-        i += 1;
     }
     false
 }
@@ -59,15 +57,16 @@ fn put_unmet(
     n: usize,
 ) -> usize
     requires readable { Readable terms.now chars.now c }
-    requires list_value { all (is_string (read_in terms.now chars.now c)) (v ∷ e ∷ take n list.old) ≡ true }
+    requires strings { all (is_string (read_in terms.now chars.now c)) (v ∷ e ∷ take n list.old) ≡ true }
     requires n_in_bounds { n < length list.old }
     ensures { Starts list.new result (tried (read_in terms.now chars.now c) e (take n list.old) v) }
 {
     if is_met(terms, chars, c, v, e, &list[..n]) {
-        return n;
+        n
+    } else {
+        list[n] = v;
+        n + 1
     }
-    list[n] = v;
-    n + 1
 }
 
 // The variables of a side that are not of the class of e, the first of each class, as the first words of `list`.
@@ -80,15 +79,13 @@ fn list_unmet(
     list: &mut [u32],
 ) -> usize
     requires readable { Readable terms.now chars.now c }
-    requires side_value { all (is_string (read_in terms.now chars.now c)) (e ∷ side.now) ≡ true }
+    requires strings { all (is_string (read_in terms.now chars.now c)) (e ∷ side.now) ≡ true }
     requires side_in_bounds { length side.now ≤ length list.old }
     ensures { Starts list.new result (unmet (read_in terms.now chars.now c) (e ∷ []) side.now) }
 {
     let mut n: usize = 0;
-    let mut i: usize = 0;
-    while i < side.len() {
-        n = put_unmet(terms, chars, c, side[i], e, list, n);
-        i += 1;
+    for &v in side {
+        n = put_unmet(terms, chars, c, v, e, list, n);
     }
     n
 }
@@ -105,12 +102,11 @@ fn empties_unchecked(
     list: &mut [u32],
 ) -> Empties
     requires ready { Ready (lent terms.old cells.now chars.old reasons.now keys.now) c }
-    requires side_value { is_list (store_of (lent terms.old cells.now chars.old reasons.now keys.now) c) side.now ≡ true }
+    requires side_is_list { is_list (store_of (lent terms.old cells.now chars.old reasons.now keys.now) c) side.now ≡ true }
     requires list_limit_in_bounds { list_limit ≤ length list.old }
     ensures { Does (emptied side.now) (across (changing terms) cells (changing chars) reasons keys) c (listed result into changing list) }
 {
-    let word: [u32; 0] = [];
-    let empty = make::make_constant_unchecked(terms, cells, chars, reasons, keys, c, &word);
+    let empty = make::make_constant_unchecked(terms, cells, chars, reasons, keys, c, &[]);
     match empty {
         Made::Term(t, d) => {
             let n = list_unmet(terms, chars, d, side, t, list);
@@ -138,12 +134,12 @@ fn sides_unchecked(
     ensures { Does (sides lhs.now rhs.now) (across (changing terms) cells (changing chars) reasons keys) c (listed result into changing list) }
 {
     if propagate::is_emptied_unchecked(terms, c, lhs, rhs) {
-        return empties_unchecked(terms, cells, chars, reasons, keys, c, rhs, list);
+        empties_unchecked(terms, cells, chars, reasons, keys, c, rhs, list)
+    } else if propagate::is_emptied_unchecked(terms, c, rhs, lhs) {
+        empties_unchecked(terms, cells, chars, reasons, keys, c, lhs, list)
+    } else {
+        Empties::Parts(c, 0, 0, false)
     }
-    if propagate::is_emptied_unchecked(terms, c, rhs, lhs) {
-        return empties_unchecked(terms, cells, chars, reasons, keys, c, lhs, list);
-    }
-    Empties::Parts(c, 0, 0, false)
 }
 
 // Both lists flattened, left first, and their empty parts listed.

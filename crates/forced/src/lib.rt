@@ -31,42 +31,37 @@ pub enum Forced {
 // Whether a side has a variable, and all its variables are one class.
 fn has_one_class(terms: &[u32], chars: &[u32], c: State, side: &[u32]) -> bool
     requires readable { Readable terms.now chars.now c }
-    requires side_value { is_list (read_in terms.now chars.now c) side.now ≡ true }
+    requires side_is_list { is_list (read_in terms.now chars.now c) side.now ≡ true }
     ensures { let s = read_in terms.now chars.now c in result ≡ one_class s (variables s side.now) }
 {
     let i = spans::first_variable_unchecked(terms, c, side);
-    if side.len() <= i {
-        return false;
-    }
-    spans::all_agree_unchecked(terms, chars, c, &side[i + 1..side.len()], side[i])
+    i < side.len() && spans::all_agree_unchecked(terms, chars, c, &side[i + 1..], side[i])
 }
 
 // Whether one side is constants only and the other has one variable class.
 fn is_forced(terms: &[u32], chars: &[u32], c: State, word: &[u32], side: &[u32]) -> bool
     requires readable { Readable terms.now chars.now c }
-    requires side_value { is_list (read_in terms.now chars.now c) side.now ≡ true }
+    requires side_is_list { is_list (read_in terms.now chars.now c) side.now ≡ true }
     ensures { result ≡ is_forced (read_in terms.now chars.now c) word.now side.now }
 {
-    if !letters::is_fixed(terms, c, word) {
-        return false;
-    }
-    has_one_class(terms, chars, c, side)
+    letters::is_fixed(terms, c, word) && has_one_class(terms, chars, c, side)
 }
 
 // What the word's length leaves to each variable of the side.
 fn side_fit(terms: &[u32], chars: &[u32], c: State, word: &[u32], side: &[u32]) -> Forced
     requires readable { Readable terms.now chars.now c }
     requires both_lists { BothLists (read_in terms.now chars.now c) word.now side.now }
-    requires side_value { is_forced (read_in terms.now chars.now c) word.now side.now ≡ true }
+    requires is_forced { is_forced (read_in terms.now chars.now c) word.now side.now ≡ true }
     ensures { let s = read_in terms.now chars.now c in fitted result s ≡ ok s (side_fit s word.now side.now) }
 {
     let k = spans::variables_length(terms, c, side);
     let n = letters::letters_length_unchecked(terms, c, side);
     let l = letters::letters_length_unchecked(terms, c, word);
     if l < n {
-        return Forced::Shortage(k, n, l, n - l);
+        Forced::Shortage(k, n, l, n - l)
+    } else {
+        Forced::Spans(k, n, l, (l - n) / k, (l - n) % k)
     }
-    Forced::Spans(k, n, l, (l - n) / k, (l - n) % k)
 }
 
 // The two residual lists, whichever of them is constant.
@@ -85,12 +80,12 @@ fn sides_fit(
     ensures { Does (sides_fit lhs.now rhs.now) (across terms cells chars reasons keys) c (λ m. fitted result (store_of m c)) }
 {
     if is_forced(terms, chars, c, lhs, rhs) {
-        return side_fit(terms, chars, c, lhs, rhs);
+        side_fit(terms, chars, c, lhs, rhs)
+    } else if is_forced(terms, chars, c, rhs, lhs) {
+        side_fit(terms, chars, c, rhs, lhs)
+    } else {
+        Forced::Refused(11)
     }
-    if is_forced(terms, chars, c, rhs, lhs) {
-        return side_fit(terms, chars, c, rhs, lhs);
-    }
-    Forced::Refused(11)
 }
 
 // Same heads and then same tails are stripped, and no match is explained.
@@ -109,11 +104,8 @@ fn residual_fit(
     ensures { Does (residual_fit lhs.now rhs.now) (across terms cells chars reasons keys) c (λ m. fitted result (store_of m c)) }
 {
     let rest = stripping::find_rest_unchecked(terms, chars, c, lhs, rhs);
-    let from = rest.from;
-    let x = rest.lhs;
-    let y = rest.rhs;
-    let left = &lhs[from..x];
-    let right = &rhs[from..y];
+    let left = &lhs[rest.from..rest.lhs];
+    let right = &rhs[rest.from..rest.rhs];
     sides_fit(terms, cells, chars, reasons, keys, c, left, right)
 }
 

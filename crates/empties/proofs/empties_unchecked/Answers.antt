@@ -19,12 +19,12 @@ pub list_unmet-n-requires : goal.list_unmet-n-requires
 list_unmet-n-requires c =
     record {
       readable = empties_able c.args.side.now c.make_constant_unchecked-empty.ensures c.in-Term.is;
-      side_value = empties-strings c.args.side.now c.make_constant_unchecked-empty.ensures c.in-Term.is c.requires.ready
-          c.requires.side_value;
+      strings = empties-strings c.args.side.now c.make_constant_unchecked-empty.ensures c.in-Term.is c.requires.ready
+          c.requires.side_is_list;
       side_in_bounds = let a = list-short
           (store_of (lent c.args.terms.now c.args.cells.now c.args.chars.now c.args.reasons.now c.args.keys.now)
           c.args.c)
-          c.args.side.now c.requires.side_value in
+          c.args.side.now c.requires.side_is_list in
           let b = c.requires.list_limit_in_bounds in omega arith;
     }
 

@@ -16,7 +16,7 @@ use Rattle.records.specs.View.{char_limit, Lent, store_of, read_in, termed}
 use Rattle.records.specs.Rules.{audit, list_limit, is_list}
 use Rattle.records.specs.Working.Doing.{Working}
 use Rattle.records.specs.Working.Audited.{Ready}
-use Rattle.records.proofs.Lists.{table-length, both_left, both_right, both_true, and-stop, and-next, failed, passed, every_at, all_take, all_drop}
+use Rattle.records.proofs.Lists.{table-length, both_left, both_right, both_true, and-stop, and-next, every_at, all_take, all_drop}
 use Rattle.records.proofs.ListLaws.{list-short, list-strings, list_every}
 use Rattle.records.proofs.Public.{call_unready, call-unfit, call_still, passed-ready}
 use Rattle.records.proofs.Works.{stop-not}
@@ -73,13 +73,13 @@ module _ (t h : List ℕ) (c : State) (side : List ℕ) (i : ℕ) (x : FirstVari
 -- THE FORM
 
 module _ (t h : List ℕ) (c : State) (word side : List ℕ) (b : Bool) (e : b ≡ fixed (termed t c) word) where
-  pub form-not : not b ≡ true → false ≡ is_forced (read_in t h c) word side
+  pub form-not : b ≡ false → b ≡ is_forced (read_in t h c) word side
   unfolding fixed
-  form-not n = and-stop _ _ (failed _ b e n)
+  form-not n = n ∙ and-stop _ _ (sym e ∙ n)
 
-  pub form-is : not b ≡ false → (x : Bool) → x ≡ one_class (read_in t h c) (variables (read_in t h c) side) → x ≡ is_forced (read_in t h c) word side
+  pub form-is : b ≡ true → (x : Bool) → x ≡ one_class (read_in t h c) (variables (read_in t h c) side) → x ≡ is_forced (read_in t h c) word side
   unfolding fixed
-  form-is n x q = and-next _ _ x (passed _ b e n) q
+  form-is n x q = and-next _ _ x (sym e ∙ n) q
 
 -- THE FIT
 
