@@ -9,8 +9,9 @@ use native.Mathlib.Numerals.{add-one}
 use native.Mathlib.Omega.{arith}
 use lib.ListN.{length, take, drop, get_or, set, drop_of_length-le, length-drop}
 use lib.Seq.{drop-cons, drop-drop}
-use lib.Dec.{eqb, ltb, leb}
-use borrow.Author.Tests.{ltb-true, ltb-false, lt-ltb, le-ltb, le-leb, lt-leb, eq-eqb, ne_eqb, eqb-true, eqb-false}
+use lib.Dec.{eqb, ltb}
+use borrow.Author.Tests.{ltb-true, ltb-false, lt-ltb, le-ltb, le-leb, eq-eqb, ne_eqb, eqb-true, eqb-false}
+use Rattle.std.specs.Char.{is_ascii_digit}
 use Rattle.records.specs.Lists.{all, up_to}
 use Rattle.records.proofs.Lists.{decide, left_false, right-false, both_true, both_left, both_right}
 use Rattle.commands.specs.declared.Number.{Number}
@@ -19,7 +20,7 @@ use Rattle.commands.specs.declared.Listing.TheVariants as listing
 use Rattle.commands.specs.Texts.{both, space, with_first, parted, fields, is_digit, value_from, number_below, word_limit, numbers}
 use Rattle.commands.specs.Commands.{numbers_after}
 use Rattle.commands.specs.Working.Readings.{number_is, Listed}
-use Rattle.commands.proofs.Listings.{Filled, filled_none, filled-one, filled_all, filled_bad}
+use Rattle.commands.proofs.Listings.{Filled, filled-one, filled_all, filled_bad}
 
 -- DIGITS
 
@@ -83,17 +84,10 @@ read_none m w h k = record { below = h; rest = sym (read_whole m w h (some-lengt
     some-length [] z = absurd (z refl)
     some-length (b ∷ v) z = omega arith
 
-digit_is : (b : ℕ) → 48 ≤ b → b ≤ 57 → is_digit b ≡ true
+-- the library's test is the definition's
+digit_is : (b : ℕ) → is_ascii_digit b ≡ is_digit b
 unfolding is_digit
-digit_is b h k = both_true (leb 48 b) (leb b 57) (le-leb 48 b h) (le-leb b 57 k)
-
-digit_low : (b : ℕ) → b < 48 → is_digit b ≡ false
-unfolding is_digit
-digit_low b h = left_false (leb 48 b) (leb b 57) (lt-leb 48 b h)
-
-digit_high : (b : ℕ) → 57 < b → is_digit b ≡ false
-unfolding is_digit
-digit_high b h = right-false (leb 48 b) (leb b 57) (lt-leb b 57 h)
+digit_is b = refl
 
 module _ (m : ℕ) (w : List ℕ) (x i : ℕ) (f : Read m w x i) (h : i < length w) where
   cons : drop i w ≡ get_or w i 0 ∷ drop (suc i) w
@@ -102,20 +96,18 @@ module _ (m : ℕ) (w : List ℕ) (x i : ℕ) (f : Read m w x i) (h : i < length
   stop-here : is_digit (get_or w i 0) && ltb (10 * x + (get_or w i 0 - 48)) m ≡ false → none ≡ number_below m w
   stop-here e = sym (rw cons (read-stop m x (get_or w i 0) (drop (suc i) w) e)) ∙ f.rest
 
-  pub read_low : get_or w i 0 < 48 → none ≡ number_below m w
-  read_low k = stop-here (left_false (is_digit (get_or w i 0)) _ (digit_low (get_or w i 0) k))
+  pub read_odd : false ≡ is_ascii_digit (get_or w i 0) → none ≡ number_below m w
+  read_odd k = stop-here (left_false (is_digit (get_or w i 0)) _ (sym (k ∙ digit_is (get_or w i 0))))
 
-  pub read-high : 57 < get_or w i 0 → none ≡ number_below m w
-  read-high k = stop-here (left_false (is_digit (get_or w i 0)) _ (digit_high (get_or w i 0) k))
+  module _ (d : ℕ) (e : d ≡ get_or w i 0 - 48) where
+    pub read_past : m ≤ 10 * x + d → none ≡ number_below m w
+    read_past k = stop-here (right-false (is_digit (get_or w i 0)) _ (le-ltb _ m (omega arith)))
 
-  pub read_past : m ≤ 10 * x + (get_or w i 0 - 48) → none ≡ number_below m w
-  read_past k = stop-here (right-false (is_digit (get_or w i 0)) _ (le-ltb _ m k))
-
-  pub read_one : 48 ≤ get_or w i 0 → get_or w i 0 ≤ 57 → 10 * x + (get_or w i 0 - 48) < m → Read m w (10 * x + (get_or w i 0 - 48)) (i + 1)
-  read_one a b k = record {
-    below = k;
-    rest = rw (add-one i) (sym (rw cons (read_next m x (get_or w i 0) (drop (suc i) w) (both_true _ _ (digit_is (get_or w i 0) a b) (lt-ltb _ m k)))) ∙ f.rest);
-  }
+    pub read_one : true ≡ is_ascii_digit (get_or w i 0) → 10 * x + d < m → Read m w (10 * x + d) (i + 1)
+    read_one a k = record {
+      below = k;
+      rest = rw (add-one i, e) (sym (rw cons (read_next m x (get_or w i 0) (drop (suc i) w) (both_true _ _ (sym (a ∙ digit_is (get_or w i 0))) (lt-ltb _ m (omega arith))))) ∙ f.rest);
+    }
 
 pub read_all : (m : ℕ) (w : List ℕ) (x i : ℕ) → Read m w x i → length w ≤ i → some x ≡ number_below m w
 unfolding read_from
@@ -164,9 +156,6 @@ pub record Passed (l : List ℕ) (at i : ℕ) : Type 0 where
   pub high : i ≤ length l
   pub rest : i + length (up_to space (drop i l)) ≡ at + length (up_to space (drop at l))
 
-pub passed_none : (l : List ℕ) (at : ℕ) → at ≤ length l → Passed l at at
-passed_none l at h = record { low = omega arith; high = h; rest = refl }
-
 module _ (l : List ℕ) (at i : ℕ) (f : Passed l at i) where
   pub passed_here : i < length l → get_or l i 0 ≡ 32 → i ≡ at + length (up_to space (drop at l))
   passed_here h e =
@@ -182,12 +171,12 @@ module _ (l : List ℕ) (at i : ℕ) (f : Passed l at i) where
       let a = f.low in
       record { low = omega arith; high = omega arith; rest = rw (add-one i) (omega arith) }
 
-  pub passed_all : length l ≤ i → i ≡ at + length (up_to space (drop at l))
+  pub passed_all : length l ≤ i → length l ≡ at + length (up_to space (drop at l))
   unfolding up_to
   passed_all h =
       let g : up_to space (drop i l) ≡ [] = rw (drop_of_length-le l h) in
       let k : length (up_to space (drop i l)) ≡ 0 = ap length g in
-      let q = f.rest in omega arith
+      let q = f.rest in let b = f.high in omega arith
 
 -- a field ends within the line
 pub field_within : (l : List ℕ) (at e : ℕ) → at ≤ length l → e ≡ at + length (up_to space (drop at l)) → e ≤ length l
@@ -237,9 +226,6 @@ pub record Numbered (l out₀ out : List ℕ) (at n : ℕ) : Type 0 where
   pub low : n ≤ at
   pub within : at ≤ length l
   pub filled : Filled (numbers_after l) out₀ out n (numbers_after (drop at l))
-
-pub numbered_none : (l out : List ℕ) → Numbered l out out 0 0
-numbered_none l out = record { low = omega arith; within = omega arith; filled = filled_none out (numbers_after l) }
 
 module _ (l out₀ out : List ℕ) (at n : ℕ) (f : Numbered l out₀ out at n) (h : at < length l) where
   here : drop at l ≡ get_or l at 0 ∷ drop (suc at) l

@@ -6,7 +6,6 @@ use Prim.Native.Nat.{ℕ, suc, ◌+◌, ◌-◌, ◌<◌, ◌≤◌}
 use native.Mathlib.Numerals.{add-one}
 use native.Mathlib.Omega.{arith}
 use lib.ListN.{length, take, drop, get_or}
-use lib.Seq.{length-take-le}
 use lib.IntN.{ℤ}
 use mir.Syntax.{w32}
 use mir.Val.{SFits, to_z, of_z}
@@ -21,8 +20,8 @@ use Rattle.commands.specs.declared.Listing.{Listing}
 use Rattle.commands.specs.declared.Listing.TheVariants as listing
 use Rattle.commands.specs.Texts.{space, parted, fields, number_below, word_limit, guard_of}
 use Rattle.commands.specs.Utf8.{decode}
-use Rattle.commands.specs.Commands.{Command, equation, merge, resolve, line_limit, through, text_after, numbers_after, as_constant, as_variable, as_concatenation, as_known, as_equation, as_merge, as_resolve, resolve_by, by_letter, command}
-use Rattle.commands.specs.Working.Readings.{number_is, guard_is, listing_is, count_of, Listed}
+use Rattle.commands.specs.Commands.{Command, resolve, line_limit, through, text_after, numbers_after, as_constant, as_variable, as_concatenation, as_known, as_equation, as_merge, as_resolve, resolve_by, by_letter, command}
+use Rattle.commands.specs.Working.Readings.{number_is, guard_is, Listed}
 use Rattle.commands.proofs.Listings.{tail_is}
 use Rattle.commands.proofs.Numbering.{field_is, last_field, next_field}
 
@@ -48,61 +47,6 @@ module _ (l m : List ℕ) (z : length l ≡ 0 → ⊥) where
       split : (v : List ℕ) → (length v ≡ 0 → ⊥) → get_or v 0 0 ≡ 32 → decode (drop 1 v) ≡ text_after v
       split [] q k = absurd (q refl)
       split (b ∷ v) q k = rw (eq-eqb b 32 k, text_after)
-
--- what is made of a list that was read
-module _ (f : List ℕ → Option Command) (o : Option (List ℕ)) (r : Listing) (l : List ℕ) (h : Listed o r l) where
-  pub listed-bad : r ≡ listing.Bad → none ≡ through f o
-  listed-bad i = ap (through f) (ap (λ (q : Listing). listing_is q l) (sym i) ∙ h.says)
-
-  pub listed-count : (n : ℕ) → r ≡ listing.Count n → f (take n l) ≡ through f o
-  listed-count n i = ap (through f) (ap (λ (q : Listing). listing_is q l) (sym i) ∙ h.says)
-
-  pub count-within : (n : ℕ) → r ≡ listing.Count n → n ≤ length l
-  count-within n i = let p = h.fits in let q : count_of r ≡ n = ap count_of i in omega arith
-
-not-two : (l : List ℕ) → (length l ≡ 2 → ⊥) → none ≡ as_equation l
-not-two [] z = refl
-not-two (a ∷ []) z = refl
-not-two (a ∷ b ∷ []) z = absurd (z refl)
-not-two (a ∷ b ∷ c ∷ l) z = refl
-
-not_three : (l : List ℕ) → (length l ≡ 3 → ⊥) → none ≡ as_merge l
-not_three [] z = refl
-not_three (a ∷ []) z = refl
-not_three (a ∷ b ∷ []) z = refl
-not_three (a ∷ b ∷ c ∷ []) z = absurd (z refl)
-not_three (a ∷ b ∷ c ∷ d ∷ l) z = refl
-
-first_two : (l : List ℕ) → 2 ≤ length l → some (equation (get_or l 0 0) (get_or l 1 0)) ≡ as_equation (take 2 l)
-first_two [] h = absurd (omega arith)
-first_two (a ∷ []) h = absurd (omega arith)
-first_two (a ∷ b ∷ l) h = refl
-
-first_three : (l : List ℕ) → 3 ≤ length l → some (merge (get_or l 0 0) (get_or l 1 0) (get_or l 2 0)) ≡ as_merge (take 3 l)
-first_three [] h = absurd (omega arith)
-first_three (a ∷ []) h = absurd (omega arith)
-first_three (a ∷ b ∷ []) h = absurd (omega arith)
-first_three (a ∷ b ∷ c ∷ l) h = refl
-
-module _ (o : Option (List ℕ)) (r : Listing) (l : List ℕ) (h : Listed o r l) (n : ℕ) (i : r ≡ listing.Count n) where
-  long : length (take n l) ≡ n
-  long = length-take-le n l (count-within as_equation o r l h n i)
-
-  pub equation-not : (n ≡ 2 → ⊥) → none ≡ through as_equation o
-  equation-not z = not-two (take n l) (λ e. z (sym long ∙ e)) ∙ listed-count as_equation o r l h n i
-
-  pub equation-is : n ≡ 2 → some (equation (get_or l 0 0) (get_or l 1 0)) ≡ through as_equation o
-  equation-is e =
-      let k = count-within as_equation o r l h n i in
-      first_two l (omega arith) ∙ ap (λ (j : ℕ). as_equation (take j l)) (sym e) ∙ listed-count as_equation o r l h n i
-
-  pub merge-not : (n ≡ 3 → ⊥) → none ≡ through as_merge o
-  merge-not z = not_three (take n l) (λ e. z (sym long ∙ e)) ∙ listed-count as_merge o r l h n i
-
-  pub merge-is : n ≡ 3 → some (merge (get_or l 0 0) (get_or l 1 0) (get_or l 2 0)) ≡ through as_merge o
-  merge-is e =
-      let k = count-within as_equation o r l h n i in
-      first_three l (omega arith) ∙ ap (λ (j : ℕ). as_merge (take j l)) (sym e) ∙ listed-count as_merge o r l h n i
 
 -- a term and a guard
 pub resolve-none : (l : List ℕ) → length l ≡ 0 → none ≡ through as_resolve (fields l)

@@ -9,22 +9,19 @@ use crate::{Listing, Parsed};
 
 // A text or a name: what follows a command's letter and one space.
 fn read_text(rest: &[u8], list: &mut [u32]) -> Listing
-    requires fact_1 { length rest.now ≤ line_limit }
-    requires fact_2 { length rest.now ≤ length list.old }
+    requires in_line { length rest.now ≤ line_limit }
+    requires room { length rest.now ≤ length list.old }
     ensures { Listed (text_after rest.now) result list.new }
 {
-    if rest.len() == 0 {
+    let [b' ', text @ ..] = rest else {
         return Listing::Bad;
-    }
-    if rest[0] != 32 {
-        return Listing::Bad;
-    }
-    read_chars(&rest[1..], list)
+    };
+    read_chars(text, list)
 }
 
 fn read_constant(rest: &[u8], list: &mut [u32]) -> Parsed
-    requires fact_1 { length rest.now ≤ line_limit }
-    requires fact_2 { length rest.now ≤ length list.old }
+    requires in_line { length rest.now ≤ line_limit }
+    requires room { length rest.now ≤ length list.old }
     ensures { parsed_is result list.new ≡ through as_constant (text_after rest.now) }
 {
     let Listing::Count(n) = read_text(rest, list) else {
@@ -34,8 +31,8 @@ fn read_constant(rest: &[u8], list: &mut [u32]) -> Parsed
 }
 
 fn read_variable(rest: &[u8], list: &mut [u32]) -> Parsed
-    requires fact_1 { length rest.now ≤ line_limit }
-    requires fact_2 { length rest.now ≤ length list.old }
+    requires in_line { length rest.now ≤ line_limit }
+    requires room { length rest.now ≤ length list.old }
     ensures { parsed_is result list.new ≡ through as_variable (text_after rest.now) }
 {
     let Listing::Count(n) = read_text(rest, list) else {
@@ -92,18 +89,18 @@ fn read_merge(rest: &[u8], list: &mut [u32]) -> Parsed
 
 // By the line's letter.
 fn by_letter(letter: u8, rest: &[u8], list: &mut [u32]) -> Parsed
-    requires fact_1 { length rest.now ≤ line_limit }
-    requires fact_2 { length rest.now ≤ length list.old }
+    requires in_line { length rest.now ≤ line_limit }
+    requires room { length rest.now ≤ length list.old }
     ensures { parsed_is result list.new ≡ by_letter letter rest.now }
 {
     match letter {
-        67 => read_constant(rest, list),
-        86 => read_variable(rest, list),
-        80 => read_concatenation(rest, list),
-        69 => read_equation(rest, list),
-        77 => read_merge(rest, list),
-        75 => read_known(rest, list),
-        82 => read_resolve(rest),
+        b'C' => read_constant(rest, list),
+        b'V' => read_variable(rest, list),
+        b'P' => read_concatenation(rest, list),
+        b'E' => read_equation(rest, list),
+        b'M' => read_merge(rest, list),
+        b'K' => read_known(rest, list),
+        b'R' => read_resolve(rest),
         _ => Parsed::Bad,
     }
 }
@@ -112,11 +109,11 @@ fn by_letter(letter: u8, rest: &[u8], list: &mut [u32]) -> Parsed
 pub fn parse(line: &[u8], list: &mut [u32; 1024]) -> Parsed
     ensures { parsed_is result list.new ≡ command line.now }
 {
-    if line.len() == 0 {
+    let [letter, rest @ ..] = line else {
         return Parsed::Bad;
-    }
+    };
     if crate::LINE_LIMIT < line.len() {
         return Parsed::Bad;
     }
-    by_letter(line[0], &line[1..], list)
+    by_letter(*letter, rest, list)
 }

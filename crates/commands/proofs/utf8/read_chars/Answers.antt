@@ -6,21 +6,9 @@ pub loop-at-init : goal.loop-at-init
 loop-at-init c =
     decoded_none _ _
 
-pub shape_of-list-in_default : goal.shape_of-list-in_default
-shape_of-list-in_default c =
-    c.loop-at.invariant.filled.long
-
 pub returns-in_default : goal.returns-in_default
 returns-in_default c =
     decoded_bad _ _ _ _ _ c.loop-at.invariant c.loop-at-test.true _ c.char_at.ensures c.in_default.is
-
-pub bounds-list-n : goal.bounds-list-n
-bounds-list-n c =
-    let a = c.loop-at.invariant.low in let b = c.loop-at.invariant.filled.long in let t = c.loop-at-test.true in omega arith
-
-pub overflow_add-n : goal.overflow_add-n
-overflow_add-n c =
-    let a = c.loop-at.invariant.low in let t = c.loop-at-test.true in omega arith
 
 pub overflow_add-at : goal.overflow_add-at
 overflow_add-at c =
@@ -32,12 +20,8 @@ loop-at-smaller c =
 
 pub loop-at-preserved : goal.loop-at-preserved
 loop-at-preserved c =
-    decoded_one _ _ _ _ _ c.loop-at.invariant c.loop-at-test.true _ _ _ c.requires.fact_2 c.char_at.ensures c.in-Is.is
-
-pub shape_of-list : goal.shape_of-list
-shape_of-list c =
-    c.loop-at.invariant.filled.long
+    decoded_one _ _ _ _ _ c.loop-at.invariant c.loop-at-test.true _ _ _ c.requires.room c.char_at.ensures c.in-Is.is
 
 pub returns : goal.returns
 returns c =
-    decoded_all _ _ _ _ _ c.loop-at.invariant c.loop-at-test.false c.requires.fact_2
+    decoded_all _ _ _ _ _ c.loop-at.invariant c.loop-at-test.false c.requires.room
