@@ -1,4 +1,5 @@
 -- UTF-8: a byte's tests, a character by its first byte, and the loop over characters.
+use Rattle.std.specs.Prelude.{Some, None}
 use mathlib.Core.Path.{◌≡◌, refl, sym, ap, subst, ◌∙◌}
 use mathlib.Core.Bool.{Bool, true, false, ◌&&◌}
 use mathlib.Core.List.{List, [], ◌∷◌}
@@ -14,12 +15,9 @@ use borrow.Author.Tests.{ltb-true, ltb-false, lt-ltb, le-ltb}
 use Rattle.records.specs.Rules.{is_char}
 use Rattle.records.specs.Lists.{all}
 use Rattle.records.proofs.Lists.{both_left, both_right, decide, both_true}
-use Rattle.commands.specs.declared.Char.{Char}
-use Rattle.commands.specs.declared.Char.TheVariants as char
-use Rattle.commands.specs.declared.Listing.TheVariants as listing
 use Rattle.commands.specs.Texts.{onto}
 use Rattle.commands.specs.Utf8.{is_next, six_more, is_scalar, shaped, char_by, char_of, decode_by, decode}
-use Rattle.commands.specs.Working.Readings.{char_is, Listed}
+use Rattle.commands.specs.Working.Readings.{Listed}
 use Rattle.commands.proofs.Listings.{Filled, filled_none, filled-one, filled_all, filled_bad}
 
 -- ONE CHARACTER
@@ -116,9 +114,9 @@ char_at l at a b c d o p q r s e =
     let s' : d ≡ get_or (drop at l) 3 0 = s ∙ sym (get_or-drop at l 3 0) in
     e ∙ rw (p', q', r', s')
 
-pub char_size : (r : Char) (l : List ℕ) (k x : ℕ) → char_is r ≡ char_of l → r ≡ char.Is k x → (1 ≤ k) × (k ≤ 4)
+pub char_size : (l : List ℕ) (k x : ℕ) → some (k, x) ≡ char_of l → (1 ≤ k) × (k ≤ 4)
 unfolding char_of
-char_size r l k x s i = by_size (get_or l 0 0) (get_or l 1 0) (get_or l 2 0) (get_or l 3 0) k x (sym s ∙ ap char_is i)
+char_size l k x s = by_size (get_or l 0 0) (get_or l 1 0) (get_or l 2 0) (get_or l 3 0) k x (sym s)
 
 -- THE LOOP
 
@@ -149,33 +147,30 @@ module _ (l out₀ out : List ℕ) (at n : ℕ) (f : Decoded l out₀ out at n) 
   fuel : length l - n ≡ suc (length l - (n + 1))
   fuel = let g = f.low in omega arith
 
-  pub decoded_one : (r : Char) (k x : ℕ) → length l ≤ length out₀ → char_is r ≡ char_of (drop at l) → r ≡ char.Is k x → Decoded l out₀ (set out n x) (at + k) (n + 1)
-  decoded_one r k x b s i =
+  pub decoded_one : (k x : ℕ) → length l ≤ length out₀ → some (k, x) ≡ char_of (drop at l) → Decoded l out₀ (set out n x) (at + k) (n + 1)
+  decoded_one k x b e =
       let g = f.low in
-      let z = char_size r (drop at l) k x s i in
+      let z = char_size (drop at l) k x e in
       record {
         low = omega arith;
         within = omega arith;
         filled = filled-one (decode l) out₀ out n (decode_by (length l - n) (drop at l)) f.filled x (decode_by (length l - (n + 1)) (drop (at + k) l)) (omega arith) step;
       }
     where
-      e : some (k, x) ≡ char_of (drop at l)
-      e = ap char_is (sym i) ∙ s
-
       cons : drop at l ≡ get_or l at 0 ∷ drop (suc at) l
       cons = drop-cons l at 0 h
 
       step : decode_by (length l - n) (drop at l) ≡ onto x (decode_by (length l - (n + 1)) (drop (at + k) l))
       step = rw (fuel, ← drop-drop k at l, cons) (decode-next (length l - (n + 1)) (get_or l at 0) (drop (suc at) l) k x (ap char_of (sym cons) ∙ sym e))
 
-  pub decoded_bad : (r : Char) → char_is r ≡ char_of (drop at l) → r ≡ char.Bad → Listed (decode l) listing.Bad out
-  decoded_bad r s i = filled_bad (decode l) out₀ out n (decode_by (length l - n) (drop at l)) f.filled
-      (rw (fuel, cons) (decode-bad (length l - (n + 1)) (get_or l at 0) (drop (suc at) l) (ap char_of (sym cons) ∙ sym s ∙ ap char_is i)))
+  pub decoded_bad : none ≡ char_of (drop at l) → Listed (decode l) None out
+  decoded_bad s = filled_bad (decode l) out₀ out n (decode_by (length l - n) (drop at l)) f.filled
+      (rw (fuel, cons) (decode-bad (length l - (n + 1)) (get_or l at 0) (drop (suc at) l) (ap char_of (sym cons) ∙ sym s)))
     where
       cons : drop at l ≡ get_or l at 0 ∷ drop (suc at) l
       cons = drop-cons l at 0 h
 
-pub decoded_all : (l out₀ out : List ℕ) (at n : ℕ) → Decoded l out₀ out at n → length l ≤ at → length l ≤ length out₀ → Listed (decode l) (listing.Count n) out
+pub decoded_all : (l out₀ out : List ℕ) (at n : ℕ) → Decoded l out₀ out at n → length l ≤ at → length l ≤ length out₀ → Listed (decode l) (Some n) out
 decoded_all l out₀ out at n f h r =
     let g = f.within in
     filled_all (decode l) out₀ out n (decode_by (length l - n) (drop at l)) f.filled (omega arith) (rw (drop_of_length-le l h) (decode-end (length l - n)))

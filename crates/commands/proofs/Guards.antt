@@ -43,12 +43,12 @@ abbrev signed : List ℕ → Bool
 signed w = pointwise eqb (take 1 w) (45 ∷ [])
 
 guard-below : (w : List ℕ) → signed w ≡ true → guard_of w ≡ below (number_below 0x8000_0001 (drop 1 w))
-unfolding guard_of pointwise
+unfolding guard_of
 guard-below [] e = let z : ◌≡◌ {A = ℕ} 0 1 = cc in absurd (omega arith)
 guard-below (b ∷ w) e = rw (both_left (eqb b 45) true e, guard_of)
 
 guard-above : (w : List ℕ) → signed w ≡ false → guard_of w ≡ above (number_below 0x8000_0000 w)
-unfolding guard_of number_below pointwise
+unfolding guard_of number_below
 guard-above [] e = refl
 guard-above (b ∷ w) e = decide (eqb b 45)
     (λ t. let z : ◌≡◌ {A = Bool} true false = rw t at e in absurd (let y : ◌≡◌ {A = ℕ} 0 1 = cc in omega arith))

@@ -1,5 +1,6 @@
 -- Decimal numbers and fields: the loop over digits, the loop over bytes up to a space, the loop over fields.
 use Rattle.std.specs.Prelude.{if◌then◌else◌}
+use Rattle.std.specs.Prelude.{Some, None}
 use mathlib.Core.Path.{◌≡◌, refl, sym, ap, ◌∙◌}
 use mathlib.Core.Bool.{Bool, true, false, ◌&&◌}
 use mathlib.Core.List.{List, [], ◌∷◌}
@@ -14,12 +15,9 @@ use borrow.Author.Tests.{ltb-true, ltb-false, lt-ltb, le-ltb, le-leb, eq-eqb, ne
 use Rattle.std.specs.Char.{is_ascii_digit}
 use Rattle.records.specs.Lists.{all, up_to}
 use Rattle.records.proofs.Lists.{decide, left_false, right-false, both_true, both_left, both_right}
-use Rattle.commands.specs.declared.Number.{Number}
-use Rattle.commands.specs.declared.Number.TheVariants as number
-use Rattle.commands.specs.declared.Listing.TheVariants as listing
 use Rattle.commands.specs.Texts.{both, space, with_first, parted, fields, is_digit, value_from, number_below, word_limit, numbers}
 use Rattle.commands.specs.Commands.{numbers_after}
-use Rattle.commands.specs.Working.Readings.{number_is, Listed}
+use Rattle.commands.specs.Working.Readings.{Listed}
 use Rattle.commands.proofs.Listings.{Filled, filled-one, filled_all, filled_bad}
 
 -- DIGITS
@@ -231,7 +229,7 @@ module _ (l out₀ out : List ℕ) (at n : ℕ) (f : Numbered l out₀ out at n)
   here : drop at l ≡ get_or l at 0 ∷ drop (suc at) l
   here = drop-cons l at 0 h
 
-  pub numbered_odd : (get_or l at 0 ≡ 32 → ⊥) → Listed (numbers_after l) listing.Bad out
+  pub numbered_odd : (get_or l at 0 ≡ 32 → ⊥) → Listed (numbers_after l) None out
   unfolding fields
   numbered_odd z = filled_bad (numbers_after l) out₀ out n (numbers_after (drop at l)) f.filled (rw here (rw (ne_eqb (get_or l at 0) 32 z, fields)))
 
@@ -244,22 +242,21 @@ module _ (l out₀ out : List ℕ) (at n : ℕ) (f : Numbered l out₀ out at n)
     unfolding numbers
     turn = spaced ∙ ap numbers (field_is l (at + 1) e q) ∙ rw (numbers_after_lem (drop e l) (field_stops l (at + 1) e q))
 
-    module _ (r : Number) (s : number_is r ≡ number_below word_limit (take (e - (at + 1)) (drop (at + 1) l))) where
-      pub numbered_one : (x : ℕ) → r ≡ number.Fits x → length l ≤ length out₀ → Numbered l out₀ (set out n x) e (n + 1)
-      numbered_one x i k =
-          let a = f.low in
-          record {
-            low = omega arith;
-            within = field_within l (at + 1) e (omega arith) q;
-            filled = filled-one (numbers_after l) out₀ out n (numbers_after (drop at l)) f.filled x (numbers_after (drop e l)) (omega arith)
-                (turn ∙ ap (λ (o : Option ℕ). both o (numbers_after (drop e l))) (sym s ∙ ap number_is i));
-          }
+    pub numbered_one : (x : ℕ) → some x ≡ number_below word_limit (take (e - (at + 1)) (drop (at + 1) l)) → length l ≤ length out₀ → Numbered l out₀ (set out n x) e (n + 1)
+    numbered_one x s k =
+        let a = f.low in
+        record {
+          low = omega arith;
+          within = field_within l (at + 1) e (omega arith) q;
+          filled = filled-one (numbers_after l) out₀ out n (numbers_after (drop at l)) f.filled x (numbers_after (drop e l)) (omega arith)
+              (turn ∙ ap (λ (o : Option ℕ). both o (numbers_after (drop e l))) (sym s));
+        }
 
-      pub numbered_bad : r ≡ number.Bad → Listed (numbers_after l) listing.Bad out
-      numbered_bad i = filled_bad (numbers_after l) out₀ out n (numbers_after (drop at l)) f.filled
-          (turn ∙ ap (λ (o : Option ℕ). both o (numbers_after (drop e l))) (sym s ∙ ap number_is i))
+    pub numbered_bad : none ≡ number_below word_limit (take (e - (at + 1)) (drop (at + 1) l)) → Listed (numbers_after l) None out
+    numbered_bad s = filled_bad (numbers_after l) out₀ out n (numbers_after (drop at l)) f.filled
+        (turn ∙ ap (λ (o : Option ℕ). both o (numbers_after (drop e l))) (sym s))
 
-pub numbered_all : (l out₀ out : List ℕ) (at n : ℕ) → Numbered l out₀ out at n → length l ≤ at → length l ≤ length out₀ → Listed (numbers_after l) (listing.Count n) out
+pub numbered_all : (l out₀ out : List ℕ) (at n : ℕ) → Numbered l out₀ out at n → length l ≤ at → length l ≤ length out₀ → Listed (numbers_after l) (Some n) out
 unfolding fields numbers
 numbered_all l out₀ out at n f h r =
     let a = f.low in

@@ -1,4 +1,5 @@
 -- A line to a command: what the functions that read it make of a list, of two fields, and of the line's letter.
+use Rattle.std.specs.Prelude.{Option as RustOption, None}
 use mathlib.Core.Path.{◌≡◌, refl, sym, ap, ◌∙◌}
 use mathlib.Core.List.{List, [], ◌∷◌}
 use mathlib.Core.Option.{Option, none, some}
@@ -12,27 +13,21 @@ use mir.Val.{SFits, to_z, of_z}
 use mir.Facts.{to_z-of_z}
 use borrow.Author.Tests.{eq-eqb, ne_eqb, le-leb, lt-leb}
 use Rattle.records.specs.Lists.{up_to}
-use Rattle.commands.specs.declared.Number.{Number}
-use Rattle.commands.specs.declared.Number.TheVariants as number
-use Rattle.commands.specs.declared.Guard.{Guard}
-use Rattle.commands.specs.declared.Guard.TheVariants as guard
-use Rattle.commands.specs.declared.Listing.{Listing}
-use Rattle.commands.specs.declared.Listing.TheVariants as listing
 use Rattle.commands.specs.Texts.{space, parted, fields, number_below, word_limit, guard_of}
 use Rattle.commands.specs.Utf8.{decode}
 use Rattle.commands.specs.Commands.{Command, resolve, line_limit, through, text_after, numbers_after, as_constant, as_variable, as_concatenation, as_known, as_equation, as_merge, as_resolve, resolve_by, by_letter, command}
-use Rattle.commands.specs.Working.Readings.{number_is, guard_is, Listed}
+use Rattle.commands.specs.Working.Readings.{Listed}
 use Rattle.commands.proofs.Listings.{tail_is}
 use Rattle.commands.proofs.Numbering.{field_is, last_field, next_field}
 
 -- a text
-pub text-none : (l m : List ℕ) → length l ≡ 0 → Listed (text_after l) listing.Bad m
+pub text-none : (l m : List ℕ) → length l ≡ 0 → Listed (text_after l) None m
 unfolding text_after
 text-none [] m e = record { says = refl; fits = omega arith }
 text-none (b ∷ l) m e = absurd (omega arith)
 
 module _ (l m : List ℕ) (z : length l ≡ 0 → ⊥) where
-  pub text_odd : (get_or l 0 0 ≡ 32 → ⊥) → Listed (text_after l) listing.Bad m
+  pub text_odd : (get_or l 0 0 ≡ 32 → ⊥) → Listed (text_after l) None m
   unfolding text_after
   text_odd e = record { says = sym (split l z e); fits = omega arith }
     where
@@ -40,7 +35,7 @@ module _ (l m : List ℕ) (z : length l ≡ 0 → ⊥) where
       split [] q k = absurd (q refl)
       split (b ∷ v) q k = rw (ne_eqb b 32 k, text_after)
 
-  pub text_is : (r : Listing) → get_or l 0 0 ≡ 32 → Listed (decode (take (length l - 1) (drop 1 l))) r m → Listed (text_after l) r m
+  pub text_is : (r : RustOption ℕ) → get_or l 0 0 ≡ 32 → Listed (decode (take (length l - 1) (drop 1 l))) r m → Listed (text_after l) r m
   unfolding text_after
   text_is r e f = record { says = f.says ∙ ap decode (tail_is l) ∙ split l z e; fits = f.fits }
     where
@@ -92,22 +87,20 @@ module _ (l : List ℕ) (z : length l ≡ 0 → ⊥) where
         both-fields = spaced ∙ ap as_resolve (twice
             ∙ ap (λ (ws : List (List ℕ)). take (e - 1) (drop 1 l) ∷ ws) (last_field l (e + 1) f q k))
 
-        module _ (r : Number) (i : number_is r ≡ number_below word_limit (take (e - 1) (drop 1 l))) where
-          pub resolve-bad : r ≡ number.Bad → none ≡ through as_resolve (fields l)
-          resolve-bad a = sym (both-fields
-              ∙ ap (λ (o : Option ℕ). resolve_by o (guard_of (take (f - (e + 1)) (drop (e + 1) l)))) (sym i ∙ ap number_is a))
+        pub resolve-bad : none ≡ number_below word_limit (take (e - 1) (drop 1 l)) → none ≡ through as_resolve (fields l)
+        resolve-bad i = sym (both-fields ∙ ap (λ (o : Option ℕ). resolve_by o (guard_of (take (f - (e + 1)) (drop (e + 1) l)))) (sym i))
 
-          module _ (t : ℕ) (a : r ≡ number.Fits t) (u : Guard) (j : guard_is u ≡ guard_of (take (f - (e + 1)) (drop (e + 1) l))) where
-            termed : through as_resolve (fields l) ≡ resolve_by (some t) (guard_is u)
-            termed = both-fields
-                ∙ ap (λ (o : Option ℕ). resolve_by o (guard_of (take (f - (e + 1)) (drop (e + 1) l)))) (sym i ∙ ap number_is a)
-                ∙ ap (λ (o : Option ℤ). resolve_by (some t) o) (sym j)
+        module _ (t : ℕ) (i : some t ≡ number_below word_limit (take (e - 1) (drop 1 l))) (o : Option ℤ) (j : o ≡ guard_of (take (f - (e + 1)) (drop (e + 1) l))) where
+          termed : through as_resolve (fields l) ≡ resolve_by (some t) o
+          termed = both-fields
+              ∙ ap (λ (o : Option ℕ). resolve_by o (guard_of (take (f - (e + 1)) (drop (e + 1) l)))) (sym i)
+              ∙ ap (λ (o : Option ℤ). resolve_by (some t) o) (sym j)
 
-            pub resolve-free : u ≡ guard.Bad → none ≡ through as_resolve (fields l)
-            resolve-free b = sym (termed ∙ ap (λ (v : Guard). resolve_by (some t) (guard_is v)) b)
+          pub resolve-free : o ≡ none → none ≡ through as_resolve (fields l)
+          resolve-free b = sym (termed ∙ ap (resolve_by (some t)) b)
 
-            pub resolve-is : (g : ℤ) → u ≡ guard.Fits g → SFits w32 g → some (resolve t (to_z w32 (of_z w32 g))) ≡ through as_resolve (fields l)
-            resolve-is g b n = sym (termed ∙ ap (λ (v : Guard). resolve_by (some t) (guard_is v)) b ∙ ap (λ (z : ℤ). some (resolve t z)) (sym (to_z-of_z n)))
+          pub resolve-is : (g : ℤ) → o ≡ some g → SFits w32 g → some (resolve t (to_z w32 (of_z w32 g))) ≡ through as_resolve (fields l)
+          resolve-is g b n = sym (termed ∙ ap (resolve_by (some t)) b ∙ ap (λ (z : ℤ). some (resolve t z)) (sym (to_z-of_z n)))
 
 -- by the letter
 module _ (k : ℕ) (l : List ℕ) (o : Option Command) where

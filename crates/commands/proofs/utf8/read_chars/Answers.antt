@@ -6,21 +6,21 @@ pub loop-at-init : goal.loop-at-init
 loop-at-init c =
     decoded_none _ _
 
-pub returns-in_default : goal.returns-in_default
-returns-in_default c =
-    decoded_bad _ _ _ _ _ c.loop-at.invariant c.loop-at-test.true _ c.char_at.ensures c.in_default.is
+pub returns-in_err-k : goal.returns-in_err-k
+returns-in_err-k c =
+    rw c.from_residual.ensures (decoded_bad _ _ _ _ _ c.loop-at.invariant c.loop-at-test.true c.in_err-k.ensures)
 
 pub overflow_add-at : goal.overflow_add-at
 overflow_add-at c =
-    let z = char_size _ _ _ _ c.char_at.ensures c.in-Is.is in let t = c.loop-at-test.true in omega arith
+    let z = char_size _ _ _ c.in_ok-k.ensures in let t = c.loop-at-test.true in omega arith
 
 pub loop-at-smaller : goal.loop-at-smaller
 loop-at-smaller c =
-    let z = char_size _ _ _ _ c.char_at.ensures c.in-Is.is in let t = c.loop-at-test.true in omega arith
+    let z = char_size _ _ _ c.in_ok-k.ensures in let t = c.loop-at-test.true in omega arith
 
 pub loop-at-preserved : goal.loop-at-preserved
 loop-at-preserved c =
-    decoded_one _ _ _ _ _ c.loop-at.invariant c.loop-at-test.true _ _ _ c.requires.room c.char_at.ensures c.in-Is.is
+    decoded_one _ _ _ _ _ c.loop-at.invariant c.loop-at-test.true _ _ c.requires.room c.in_ok-k.ensures
 
 pub returns : goal.returns
 returns c =
