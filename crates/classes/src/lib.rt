@@ -17,11 +17,11 @@ use crate::links::link_unchecked;
 use crate::trail::{
     MARK_LIMIT, audit, record_join_unchecked, record_mark_unchecked, undo_to_unchecked,
 };
-use records::State;
 use records::classes::{root_unchecked, top_unchecked};
 use records::fields::{class_parent, forest_parent, wide, word};
 use records::put::{put_class_parent_unchecked, put_edge_unchecked};
 use records::rules::{is_number, is_string, is_within};
+use records::{Refusal, State};
 
 mod links;
 pub mod trail;
@@ -78,7 +78,7 @@ fn put_under_unchecked(terms: &mut [u32], child: u32, parent: u32, n: u32, stamp
     put_edge_unchecked(terms, child, parent, 1, n, stamp);
 }
 
-// Puts the child's class under the parent: 0, or the refusal. The caller's stamps count up.
+// Puts the child's class under the parent. The caller's stamps count up.
 pub fn merge(
     terms: &mut [u32],
     cells: &[u32],
@@ -90,18 +90,15 @@ pub fn merge(
     parent: u32,
     n: u32,
     stamp: u32,
-) -> u32
+) -> Result<(), Refusal>
     ensures { Between PublicMerge (across (changing terms) cells chars reasons keys) c child parent n stamp result }
 {
-    let k = records::audit(terms, cells, chars, reasons, keys, c);
-    if k != 0 {
-        return k;
-    }
+    records::audit(terms, cells, chars, reasons, keys, c)?;
     if !can_merge_unchecked(terms, cells, chars, reasons, keys, c, child, parent, n) {
-        return 5;
+        return Err(Refusal::Argument);
     }
     put_under_unchecked(terms, child, parent, n, stamp);
-    0
+    Ok(())
 }
 
 // How many marks stand, and how many joins were recorded since the first of them.
@@ -109,13 +106,6 @@ pub fn merge(
 pub struct Standing {
     pub marks: usize,
     pub joins: usize,
-}
-
-// What joining, setting a mark and going back answer: a number, with the counts after the call; or the refusal.
-#[derive(Clone, Copy)]
-pub enum Answer {
-    Given(u32, Standing),
-    Refused(u32),
 }
 
 // JOINING, MARKS, GOING BACK
@@ -232,6 +222,8 @@ pub fn go_back_unchecked(
 
 // THE CALLS
 
+// Each answers a number, with the counts after the call.
+
 // Joins two string terms under a reason: kind 1 asserted or 2 interface, and its number.
 pub fn join(
     terms: &mut [u32],
@@ -246,21 +238,17 @@ pub fn join(
     b: u32,
     kind: u32,
     number: u32,
-) -> Answer
+) -> Result<(u32, Standing), Refusal>
     ensures { Marked (PublicJoin a b kind number) (across (changing terms) cells chars reasons keys) (changing marks) c d result }
 {
-    let k = audit(terms, cells, chars, reasons, keys, c, marks, d);
-    if k != 0 {
-        return Answer::Refused(k);
-    }
+    audit(terms, cells, chars, reasons, keys, c, marks, d)?;
     if !can_join(terms, c, a, b, kind, number) {
-        return Answer::Refused(5);
+        return Err(Refusal::Argument);
     }
     let r = join_unchecked(
         terms, cells, chars, reasons, keys, c, marks, d, a, b, kind, number,
     );
-    let e = r.standing;
-    Answer::Given(r.answer, e)
+    Ok((r.answer, r.standing))
 }
 
 // Sets a mark and answers its number.
@@ -273,18 +261,15 @@ pub fn set_mark(
     c: State,
     marks: &mut [u32],
     d: Standing,
-) -> Answer
+) -> Result<(u32, Standing), Refusal>
     ensures { Marked (Tracks set_mark) (across terms cells chars reasons keys) (changing marks) c d result }
 {
-    let k = audit(terms, cells, chars, reasons, keys, c, marks, d);
-    if k != 0 {
-        return Answer::Refused(k);
-    }
+    audit(terms, cells, chars, reasons, keys, c, marks, d)?;
     if d.marks >= MARK_LIMIT {
-        return Answer::Refused(10);
+        return Err(Refusal::Mark);
     }
     let e = set_mark_unchecked(terms, cells, chars, reasons, keys, c, marks, d);
-    Answer::Given(e.marks as u32, e)
+    Ok((e.marks as u32, e))
 }
 
 // Goes back to a mark, which uses up that mark and later ones.
@@ -298,16 +283,13 @@ pub fn go_back(
     marks: &[u32],
     d: Standing,
     mark: u32,
-) -> Answer
+) -> Result<(u32, Standing), Refusal>
     ensures { Marked (Tracks (go_back mark)) (across (changing terms) cells chars reasons keys) marks c d result }
 {
-    let k = audit(terms, cells, chars, reasons, keys, c, marks, d);
-    if k != 0 {
-        return Answer::Refused(k);
-    }
+    audit(terms, cells, chars, reasons, keys, c, marks, d)?;
     if !is_within(d.marks, mark) {
-        return Answer::Refused(10);
+        return Err(Refusal::Mark);
     }
     let e = go_back_unchecked(terms, cells, chars, reasons, keys, c, marks, d, mark);
-    Answer::Given(mark, e)
+    Ok((mark, e))
 }

@@ -2,6 +2,8 @@
 ghost use Rattle.std.specs.Prelude.{◌≡◌, true, ◌&&◌, ◌+◌, ◌<◌, ◌≤◌, length, get_or, drop};
 ghost use Rattle.records.specs.Lists.{all, one_more, table};
 ghost use Rattle.records.specs.View.{term_limit, term_words, terms_view, chained, across, changing, lent};
+ghost use Rattle.records.specs.Refusal.{verdict};
+ghost use Rattle.records.specs.Store.{within};
 ghost use Rattle.records.specs.Rules.{classes_rule, congruences_rule};
 ghost use Rattle.classes.specs.Joins.{trace, undo_in};
 ghost use Rattle.classes.specs.Marks.{join_limit, mark_limit, trace_place, trace_at, trail_of, trail_sizes, undo_all, table_at, counts_rule, passes, marks_rule, audit_marks};
@@ -13,7 +15,7 @@ use crate::links::undo_unchecked;
 use records::classes::{classes_ok_unchecked, congruences_ok_unchecked};
 use records::fields::{wide, word};
 use records::rules::is_within;
-use records::{BUCKETS, State, TERM_SLICE, TERM_WIDTH};
+use records::{BUCKETS, Refusal, State, TERM_SLICE, TERM_WIDTH};
 
 pub const MARK_LIMIT: usize = 64;
 
@@ -220,7 +222,18 @@ fn marks_ok_unchecked(terms: &[u32], cells: &[u32], c: State, marks: &[u32], d: 
     tables_ok_unchecked(&mut table, cells, c, marks, d)
 }
 
-// The audit of store and marks: 0, or the first refusal of 1 to 4 that is due. Nothing is asked of the slices or of the counts.
+// Whether what the audit of the store found comes before what is wrong with the marks: 1, 2 or 3.
+fn comes_first(due: Result<(), Refusal>) -> bool
+    ensures { result ≡ within 3 (verdict due) }
+{
+    matches!(
+        due,
+        Err(Refusal::Sizes | Refusal::Records | Refusal::Classes)
+    )
+}
+
+// The audit of store and marks: the first refusal of 1 to 4 and 12 that is due, where 3 is the table's or the marks', before 4. Nothing is
+// asked of the slices or of the counts.
 pub fn audit(
     terms: &[u32],
     cells: &[u32],
@@ -230,18 +243,18 @@ pub fn audit(
     c: State,
     marks: &[u32],
     d: Standing,
-) -> u32
-    ensures { result ≡ audit_marks (across terms cells chars reasons keys).entry marks.now c d }
+) -> Result<(), Refusal>
+    ensures { verdict result ≡ audit_marks (across terms cells chars reasons keys).entry marks.now c d }
 {
     if !trail_sizes(marks, d) {
-        return 1;
+        return Err(Refusal::Sizes);
     }
-    let k = records::audit(terms, cells, chars, reasons, keys, c);
-    if is_within(3, k) {
-        return k;
+    let due = records::audit(terms, cells, chars, reasons, keys, c);
+    if comes_first(due) {
+        return due;
     }
     if !marks_ok_unchecked(terms, cells, c, marks, d) {
-        return 3;
+        return Err(Refusal::Classes);
     }
-    k
+    due
 }

@@ -1,15 +1,19 @@
 -- The code of merging meets its definition: the tests, the record written, and the three ways of the call.
+use Rattle.std.specs.Prelude.{Result, Ok, Err}
+use Rattle.records.specs.declared.refusal.Refusal.{Refusal}
+use Rattle.records.specs.declared.refusal.Refusal.TheVariants.{Argument}
+use Rattle.records.specs.Refusal.{number}
 use mathlib.Core.Path.{◌≡◌, refl, sym, ap, subst, ◌∙◌}
 use mathlib.Core.Bool.{Bool, true, false, not}
 use mathlib.Core.List.{List}
-use Prim.Native.Nat.{ℕ, zero, suc, ◌-◌, ◌≤◌, ◌<◌}
+use Prim.Native.Nat.{ℕ, ◌-◌, ◌≤◌, ◌<◌}
 use native.Mathlib.Omega.{arith}
 use lib.ListN.{length, set}
 use lib.Seq.{set-set}
 use lib.Dec.{eqb}
 use borrow.Author.Tests.{eq-eqb, ne_eqb, not-true, not-false}
 use Rattle.records.specs.declared.State.{State}
-use Rattle.records.specs.Store.{Term, Store, ok, stop, count, within, is_string, same_class, root_in, class_up, forest_up}
+use Rattle.records.specs.Store.{Term, Store, ok, count, within, is_string, same_class, root_in, class_up, forest_up}
 use Rattle.records.specs.View.{Lent, lent, store_of, term_at, terms_view, term_words, zero_term}
 use Rattle.records.specs.Working.Puts.{TermSet}
 use Rattle.records.specs.Index.{bucket}
@@ -20,10 +24,10 @@ use Rattle.records.specs.Calls.{call}
 use Rattle.records.proofs.Lists.{failed, passed, and-stop, and-next, five_1, five_2, five_3, five_4, five-last, within_low, within-high}
 use Rattle.records.proofs.IndexStores.{left-none, left-then, left_same, indexed-like}
 use Rattle.records.proofs.Passed.{ready_of, ready-after, audit-of}
-use Rattle.records.proofs.Public.{call_unready, call-unfit}
+use Rattle.records.proofs.Public.{call_refused, call-unfit}
 use Rattle.records.proofs.Grown.{string-term}
 use Rattle.records.proofs.Climbs.{view_term, view_count, view_class, view_forest, term-within, ready_roots}
-use Rattle.classes.specs.Merge.{is_root_in, can_merge, under, merge_in, merge_classes, merged, PublicMerge}
+use Rattle.classes.specs.Merge.{is_root_in, can_merge, under, merge_in, merge_classes, PublicMerge}
 use Rattle.classes.proofs.Alike.{bucket-like}
 use Rattle.classes.proofs.MergeKept.{mergeable, merge-like, merge-kept}
 
@@ -111,20 +115,19 @@ put_under l l₁ l₂ t p v s a b = subst (TermSet l l₂ t) (ap (λ (x : Term).
 
 -- THE CALL
 
+not-merged : {A : Type 0} {k : Refusal} → ◌≡◌ {A = Result (Unit {0}) Refusal} (Err k) (Ok tt) → A
+not-merged q = let z : ◌≡◌ {A = ℕ} 0 1 = cc in absurd (omega arith)
+
 child-within : (m : Lent) (c : State) (child parent n : ℕ) → can_merge child parent n (store_of m c) ≡ true → within c.terms child ≡ true
 child-within m c child parent n g = term-within m c child (string-term (store_of m c) child (mergeable (store_of m c) child parent n g).child_string)
 
-module _ (m : Lent) (c : State) (child parent n stamp k : ℕ) (v : k ≡ audit m c) where
-  pub merge_unready : (k ≡ 0 → ⊥) → PublicMerge m m c child parent n stamp k
-  merge_unready z = record { says = go k z ∙ (call_unready (can_merge child parent n) (merge_classes child parent n stamp) m c k v z).says; idle = λ e. refl; others = λ t d. refl; index = λ n. left_same left-none n; kept = λ e. absurd (z e) }
-    where
-      go : (j : ℕ) → (j ≡ 0 → ⊥) → merged j m c ≡ stop j
-      go zero q = absurd (q refl)
-      go (suc j) q = refl
+pub merge_unready : (m : Lent) (c : State) (child parent n stamp : ℕ) (e : Refusal) → number e ≡ audit m c → PublicMerge m m c child parent n stamp (Err e)
+merge_unready m c child parent n stamp e v = record { says = (call_refused (can_merge child parent n) (merge_classes child parent n stamp) m c e v).says; idle = λ j q. refl; others = λ t d. refl; index = λ n. left_same left-none n; kept = λ q. not-merged q }
 
+module _ (m : Lent) (c : State) (child parent n stamp k : ℕ) (v : k ≡ audit m c) where
   module _ (z : k ≡ 0) (b : Bool) (e : b ≡ can_merge child parent n (store_of m c)) where
-    pub merge-unfit : not b ≡ true → PublicMerge m m c child parent n stamp 5
-    merge-unfit h = record { says = (call-unfit (can_merge child parent n) (merge_classes child parent n stamp) m c k v z b e (not-true b h)).says; idle = λ q. refl; others = λ t d. refl; index = λ n. left_same left-none n; kept = λ q. absurd (omega arith) }
+    pub merge-unfit : not b ≡ true → PublicMerge m m c child parent n stamp (Err Argument)
+    merge-unfit h = record { says = (call-unfit (can_merge child parent n) (merge_classes child parent n stamp) m c k v z b e (not-true b h)).says; idle = λ j q. refl; others = λ t d. refl; index = λ n. left_same left-none n; kept = λ q. not-merged q }
 
     -- the child's record is within the slice
     pub merge-room : not b ≡ false → term_words child ≤ length m.terms
@@ -140,7 +143,7 @@ zero-away a h = let p = a.away 0 (λ e. omega arith) in let q = a.index.nexts 0 
 
 module _ (t e h r ks t' : List ℕ) (c : State) (child parent n stamp k : ℕ) (v : k ≡ audit (lent t e h r ks) c) (z : k ≡ 0)
     (b : Bool) (f : b ≡ can_merge child parent n (store_of (lent t e h r ks) c)) (y : not b ≡ false) where
-  pub merge-is : TermSet t t' child (under (term_at t child) parent n stamp) → PublicMerge (lent t e h r ks) (lent t' e h r ks) c child parent n stamp 0
+  pub merge-is : TermSet t t' child (under (term_at t child) parent n stamp) → PublicMerge (lent t e h r ks) (lent t' e h r ks) c child parent n stamp (Ok tt)
   unfolding call merge_classes
   merge-is j =
       let m = lent t e h r ks in
@@ -155,7 +158,7 @@ module _ (t e h r ks t' : List ℕ) (c : State) (child parent n stamp k : ℕ) (
       let k = merged_store p q y₀ in
       record {
         says = stored p q y₀ ∙ sym (rw (a, g));
-        idle = λ o. absurd (o refl);
+        idle = λ k o. not-merged (sym o);
         others = j.away;
         index = λ n. left_same j.index n;
         kept = λ o. audit-of (lent t' e h r ks) c (ready-after d q refl (subst Audited (sym k) (merge-kept (store_of m c) child parent n stamp d.audited g))
