@@ -7,7 +7,7 @@ use Prim.Native.Nat.{ℕ, ◌+◌, ◌≤◌, ◌<◌}
 use native.Mathlib.Numerals.{add-one}
 use native.Mathlib.Omega.{arith}
 use lib.ListN.{length, get_or, take, drop, take-append-drop, drop_of_length-le}
-use lib.Seq.{take-suc}
+use lib.Seq.{take-suc, take_all}
 use lib.Dec.{eqb, ltb}
 use borrow.Author.Tests.{not-true, eq-eqb, ne_eqb, ltb-true, ltb-false}
 use Rattle.records.specs.Lists.{all, any}
@@ -38,8 +38,8 @@ module _ (p : ℕ → Bool) (l : List ℕ) where
           rw add-one
           (ap (any p) (take-suc l i 0 b) ∙ any_append p (take i l) (get_or l i 0 ∷ []) ∙ ap (λ (y : Bool). any p (take i l) || y) (one t) ∙ or_none_lem (any p (take i l)) ∙ h)
 
-    pub first-none : i ≤ length l → length l ≤ i → First p l i
-    first-none b z = record { within = b; before = h; at = λ y. absurd (omega arith) }
+    pub first-none : length l ≤ i → First p l (length l)
+    first-none z = record { within = omega arith; before = ap (any p) (take_all (length l) l (omega arith) ∙ sym (take_all i l z)) ∙ h; at = λ y. absurd (omega arith) }
 
 -- WHAT IT SAYS
 

@@ -19,10 +19,7 @@ pub fn nf_equal_unchecked(terms: &[u32], chars: &[u32], c: State, lhs: &[u32], r
     requires rhs_value { all (is_string (read_in terms.now chars.now c)) rhs.now ≡ true }
     ensures { result ≡ nf_equal (read_in terms.now chars.now c) lhs.now rhs.now }
 {
-    if lhs.len() != rhs.len() {
-        return false;
-    }
-    stripping::count_same(terms, chars, c, lhs, rhs, false) == lhs.len()
+    lhs.len() == rhs.len() && stripping::count_same(terms, chars, c, lhs, rhs, false) == lhs.len()
 }
 
 // The reasons why two lists of equal length are equal, pair by pair.

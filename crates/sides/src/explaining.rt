@@ -53,19 +53,8 @@ pub(crate) fn explain_all_unchecked(
     }
     let mut d = c;
     let mut places: [u32; 513] = [0; 513];
-    let mut i: usize = 0;
-    while i < side.len() {
-        match explain_atom(
-            terms,
-            cells,
-            chars,
-            reasons,
-            keys,
-            d,
-            side[i],
-            v,
-            &mut places,
-        ) {
+    for &u in side {
+        match explain_atom(terms, cells, chars, reasons, keys, d, u, v, &mut places) {
             Added::Counts(e) => {
                 d = e;
             }
@@ -73,7 +62,6 @@ pub(crate) fn explain_all_unchecked(
                 return Added::Refused(k);
             }
         }
-        i += 1;
     }
     Added::Counts(d)
 }

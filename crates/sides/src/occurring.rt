@@ -19,10 +19,7 @@ fn own_count(terms: &[u32], c: State, a: u32) -> usize
     requires { Texts terms.now c }
     ensures { result ≡ own_count (termed terms.now c) a }
 {
-    if letters::is_full_unchecked(terms, c, a) {
-        return 1;
-    }
-    0
+    usize::from(letters::is_full_unchecked(terms, c, a))
 }
 
 // The non-empty constants of a list, counted.
@@ -31,10 +28,8 @@ fn count_full(terms: &[u32], c: State, l: &[u32]) -> usize
     ensures { result ≡ length (keep (is_full (termed terms.now c)) l.now) }
 {
     let mut n: usize = 0;
-    let mut i: usize = 0;
-    while i < l.len() {
-        n += own_count(terms, c, l[i]);
-        i += 1;
+    for &a in l {
+        n += own_count(terms, c, a);
     }
     n
 }
@@ -46,10 +41,7 @@ fn occurs_here(terms: &[u32], c: State, a: u32, x: u32, n: usize) -> bool
     requires a_value { within c.terms a ≡ true }
     ensures { result ≡ (eqb (root_in (terms_view terms.now c.terms) a) x && ltb (own_count (termed terms.now c) a) n) }
 {
-    if root_unchecked(terms, c.terms, a) != x {
-        return false;
-    }
-    own_count(terms, c, a) < n
+    root_unchecked(terms, c.terms, a) == x && own_count(terms, c, a) < n
 }
 
 // The place of the first occurrence; the list's length where there is none.
@@ -62,14 +54,12 @@ fn find(terms: &[u32], c: State, l: &[u32], x: u32) -> usize
 {
     let n = count_full(terms, c, l);
     let root = root_unchecked(terms, c.terms, x);
-    let mut i: usize = 0;
-    while i < l.len() {
-        if occurs_here(terms, c, l[i], root, n) {
+    for (i, &a) in l.iter().enumerate() {
+        if occurs_here(terms, c, a, root, n) {
             return i;
         }
-        i += 1;
     }
-    i
+    l.len()
 }
 
 // One side's lone atom in the other side.
@@ -87,10 +77,9 @@ fn occurs_in(
     requires both_lists { BothLists (store_of (lent terms.now cells.now chars.now reasons.old keys.now) c) lone.now side.now }
     ensures { Between (Tries (occurs lone.now side.now)) (across terms cells chars (changing reasons) keys) c result }
 {
-    if lone.len() != 1 {
+    let &[x] = lone else {
         return StepResult::Done(c);
-    }
-    let x = lone[0];
+    };
     if rules::kind_of(terms, c.terms, x) == 1 {
         return StepResult::Done(c);
     }

@@ -38,10 +38,7 @@ fn fits<'a>(
 {
     let l = letters::letters_length_unchecked(terms, c, word);
     let n = letters::letters_length_unchecked(terms, c, side);
-    if l < n {
-        return false;
-    }
-    if (l - n) % k != 0 {
+    if l < n || (l - n) % k != 0 {
         return false;
     }
     let m = (l - n) / k;
@@ -53,20 +50,15 @@ fn fits<'a>(
 fn variable_count(terms: &[u32], c: State, a: u32) -> usize
     ensures { result ≡ (if is_constant (termed terms.now c) a then 0 else 1) }
 {
-    if rules::kind_of(terms, c.terms, a) == 1 {
-        return 0;
-    }
-    1
+    usize::from(rules::kind_of(terms, c.terms, a) != 1)
 }
 
 pub fn variables_length(terms: &[u32], c: State, l: &[u32]) -> usize
     ensures { result ≡ length (variables (termed terms.now c) l.now) }
 {
     let mut total: usize = 0;
-    let mut i: usize = 0;
-    while i < l.len() {
-        total += variable_count(terms, c, l[i]);
-        i += 1;
+    for &a in l {
+        total += variable_count(terms, c, a);
     }
     total
 }
@@ -76,10 +68,7 @@ fn atom_agrees(terms: &[u32], chars: &[u32], c: State, a: u32, v: u32) -> bool
     requires fact_2 { Pair (read_in terms.now chars.now c) a v }
     ensures { result ≡ agrees (read_in terms.now chars.now c) v a }
 {
-    if rules::kind_of(terms, c.terms, a) == 1 {
-        return true;
-    }
-    stripping::same_unchecked(terms, chars, c, a, v)
+    rules::kind_of(terms, c.terms, a) == 1 || stripping::same_unchecked(terms, chars, c, a, v)
 }
 
 // Whether each variable of a list is the same as v.
@@ -89,12 +78,10 @@ pub fn all_agree_unchecked(terms: &[u32], chars: &[u32], c: State, l: &[u32], v:
     requires v_value { is_string (read_in terms.now chars.now c) v ≡ true }
     ensures { result ≡ all (agrees (read_in terms.now chars.now c) v) l.now }
 {
-    let mut i: usize = 0;
-    while i < l.len() {
-        if !atom_agrees(terms, chars, c, l[i], v) {
+    for &a in l {
+        if !atom_agrees(terms, chars, c, a, v) {
             return false;
         }
-        i += 1;
     }
     true
 }
@@ -113,11 +100,16 @@ fn is_unfit<'a>(
     ensures { let s = read_in terms.now chars.now c in result ≡ unfit s word.now side.now (get_or side.now i 0) (variables s (drop (suc i) side.now)) }
 {
     let later = &side[i + 1..side.len()];
-    if !all_agree_unchecked(terms, chars, c, later, side[i]) {
-        return false;
-    }
-    let k = variables_length(terms, c, later) + 1;
-    !fits(terms, chars, c, word, side, i, k)
+    all_agree_unchecked(terms, chars, c, later, side[i])
+        && !fits(
+            terms,
+            chars,
+            c,
+            word,
+            side,
+            i,
+            variables_length(terms, c, later) + 1,
+        )
 }
 
 // Step 5 on the constant side and the side against it. Departure B: each later variable is explained with the first.
@@ -136,10 +128,7 @@ fn tile_sides<'a>(
     ensures { let m = (across terms cells chars (changing reasons) keys).entry in let s = store_of m c in Tries (tile_by s word.now side.now (variables s side.now)) m (across terms cells chars (changing reasons) keys).exit c result }
 {
     let i = first_variable_unchecked(terms, c, side);
-    if side.len() <= i {
-        return StepResult::Done(c);
-    }
-    if !is_unfit(terms, chars, c, word, side, i) {
+    if side.len() <= i || !is_unfit(terms, chars, c, word, side, i) {
         return StepResult::Done(c);
     }
     let later = &side[i + 1..side.len()];

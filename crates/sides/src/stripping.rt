@@ -1,5 +1,5 @@
 // Step 1: same heads and same tails are stripped, class matches explained. Pairs are read from the fronts of two lists or from their ends.
-ghost use Rattle.std.specs.Prelude.{◌≡◌, true, ◌&&◌, [], min, ◌<◌, length, get_or, eqb};
+ghost use Rattle.std.specs.Prelude.{◌≡◌, true, ◌&&◌, [], ◌<◌, length, get_or, eqb};
 ghost use Rattle.records.specs.Lists.{all, same_word};
 ghost use Rattle.records.specs.Store.{term_in, is_constant, is_string, text, same_class};
 ghost use Rattle.records.specs.View.{store_of, terms_view, across, Between, read_in, changing, lent};
@@ -15,10 +15,7 @@ use records::{Added, State, classes, fields, rules, text};
 pub fn both_constant(terms: &[u32], n: usize, a: u32, b: u32) -> bool
     ensures { result ≡ (eqb (term_in (terms_view terms.now n) a).kind 1 && eqb (term_in (terms_view terms.now n) b).kind 1) }
 {
-    if rules::kind_of(terms, n, a) != 1 {
-        return false;
-    }
-    rules::kind_of(terms, n, b) == 1
+    rules::kind_of(terms, n, a) == 1 && rules::kind_of(terms, n, b) == 1
 }
 
 // Whether two constants have equal characters.
@@ -52,13 +49,12 @@ pub fn same_unchecked(terms: &[u32], chars: &[u32], c: State, a: u32, b: u32) ->
     requires fact_2 { Pair (read_in terms.now chars.now c) a b }
     ensures { result ≡ same (read_in terms.now chars.now c) a b }
 {
-    if a == b {
-        return true;
-    }
-    if both_constant(terms, c.terms, a, b) {
-        return same_text(terms, chars, c, a, b);
-    }
-    same_class_unchecked(terms, chars, c, a, b)
+    a == b
+        || if both_constant(terms, c.terms, a, b) {
+            same_text(terms, chars, c, a, b)
+        } else {
+            same_class_unchecked(terms, chars, c, a, b)
+        }
 }
 
 // Whether they are two constants of equal characters.
@@ -66,10 +62,7 @@ fn is_alike(terms: &[u32], chars: &[u32], c: State, a: u32, b: u32) -> bool
     requires { Readable terms.now chars.now c }
     ensures { let s = read_in terms.now chars.now c in result ≡ (is_constant s a && is_constant s b && same_word (text s a) (text s b)) }
 {
-    if !both_constant(terms, c.terms, a, b) {
-        return false;
-    }
-    same_text(terms, chars, c, a, b)
+    both_constant(terms, c.terms, a, b) && same_text(terms, chars, c, a, b)
 }
 
 // The atom at place i, from the list's end on where `tail` says so.
@@ -77,19 +70,7 @@ pub fn atom_unchecked(l: &[u32], i: usize, tail: bool) -> u32
     requires { i < length l.now }
     ensures { result ≡ get_or (way tail l.now) i 0 }
 {
-    if tail {
-        return l[l.len() - 1 - i];
-    }
-    l[i]
-}
-
-fn shorter(a: usize, b: usize) -> usize
-    ensures { result ≡ min a b }
-{
-    if a < b {
-        return a;
-    }
-    b
+    if tail { l[l.len() - 1 - i] } else { l[i] }
 }
 
 // How many heads of two lists are the same, or how many tails, from the ends on.
@@ -106,17 +87,15 @@ pub(crate) fn count_same(
     requires rhs_value { all (is_string (read_in terms.now chars.now c)) rhs.now ≡ true }
     ensures { result ≡ length (same_heads (read_in terms.now chars.now c) (way tail lhs.now) (way tail rhs.now)) }
 {
-    let n = shorter(lhs.len(), rhs.len());
-    let mut i: usize = 0;
-    while i < n {
+    let n = lhs.len().min(rhs.len());
+    for i in 0..n {
         let x = atom_unchecked(lhs, i, tail);
         let y = atom_unchecked(rhs, i, tail);
         if !same_unchecked(terms, chars, c, x, y) {
             return i;
         }
-        i += 1;
     }
-    i
+    n
 }
 
 // What is left of two lists of string terms without their same heads and then their same tails. It writes nothing.
@@ -127,11 +106,11 @@ pub fn find_rest_unchecked(terms: &[u32], chars: &[u32], c: State, lhs: &[u32], 
     ensures { Finds (read_in terms.now chars.now c) lhs.now rhs.now result }
 {
     let from = count_same(terms, chars, c, lhs, rhs, false);
-    let l = &lhs[from..lhs.len()];
-    let r = &rhs[from..rhs.len()];
+    let l = &lhs[from..];
+    let r = &rhs[from..];
     let n = count_same(terms, chars, c, l, r, true);
     Rest {
-        from: from,
+        from,
         lhs: lhs.len() - n,
         rhs: rhs.len() - n,
     }
@@ -153,13 +132,7 @@ fn explain_pair(
     requires fact_2 { Pair (read_in terms.now chars.now c) a b }
     ensures { Does (explain_pair a b) (across terms cells chars (changing reasons) keys) c (added result) }
 {
-    if a == b {
-        return Added::Counts(c);
-    }
-    if is_alike(terms, chars, c, a, b) {
-        return Added::Counts(c);
-    }
-    if !same_class_unchecked(terms, chars, c, a, b) {
+    if a == b || is_alike(terms, chars, c, a, b) || !same_class_unchecked(terms, chars, c, a, b) {
         return Added::Counts(c);
     }
     engine::explain_unchecked(terms, cells, chars, reasons, keys, c, a, b, places)
@@ -185,8 +158,7 @@ pub(crate) fn explain_pairs(
     ensures { Does (nf_explain (way tail lhs.now) (way tail rhs.now)) (across terms cells chars (changing reasons) keys) c (added result) }
 {
     let mut d = c;
-    let mut i: usize = 0;
-    while i < lhs.len() {
+    for i in 0..lhs.len() {
         let a = atom_unchecked(lhs, i, tail);
         let b = atom_unchecked(rhs, i, tail);
         match explain_pair(terms, cells, chars, reasons, keys, d, a, b, places) {
@@ -197,7 +169,6 @@ pub(crate) fn explain_pairs(
                 return Added::Refused(k);
             }
         }
-        i += 1;
     }
     Added::Counts(d)
 }
@@ -222,14 +193,12 @@ fn explain_stripped(
     ensures { let s = read_in terms.now chars.now c in Does (explain_matches (matches s lhs.now rhs.now)) (across terms cells chars (changing reasons) keys) c (added result) }
 {
     let from = rest.from;
-    let l = &lhs[0..from];
-    let r = &rhs[0..from];
+    let l = &lhs[..from];
+    let r = &rhs[..from];
     match explain_pairs(terms, cells, chars, reasons, keys, c, l, r, false, places) {
         Added::Counts(d) => {
-            let x = rest.lhs;
-            let y = rest.rhs;
-            let l = &lhs[x..lhs.len()];
-            let r = &rhs[y..rhs.len()];
+            let l = &lhs[rest.lhs..];
+            let r = &rhs[rest.rhs..];
             explain_pairs(terms, cells, chars, reasons, keys, d, l, r, true, places)
         }
         Added::Refused(k) => Added::Refused(k),
@@ -253,13 +222,9 @@ fn needs_reason(
     requires b_value { same (read_in terms.now chars.now c) a b ≡ true }
     ensures { result ≡ needs_reason (store_of (across terms cells chars reasons keys).entry c) (a, b) }
 {
-    if a == b {
-        return false;
-    }
-    if both_constant(terms, c.terms, a, b) {
-        return false;
-    }
-    engine::is_reasoned_unchecked(terms, cells, chars, reasons, keys, c, a, b, places)
+    a != b
+        && !both_constant(terms, c.terms, a, b)
+        && engine::is_reasoned_unchecked(terms, cells, chars, reasons, keys, c, a, b, places)
 }
 
 // Whether a pair of two lists that are atom by atom the same needs a reason, asked from their fronts or from their ends on.
@@ -281,14 +246,12 @@ fn pairs_need(
     requires rhs_value_2 { nf_equal (read_in terms.now chars.now c) (way tail lhs.now) (way tail rhs.now) ≡ true }
     ensures { let s = read_in terms.now chars.now c in Needs (across terms cells chars reasons keys).entry c (same_heads s (way tail lhs.now) (way tail rhs.now)) result }
 {
-    let mut i: usize = 0;
-    while i < lhs.len() {
+    for i in 0..lhs.len() {
         let u = atom_unchecked(lhs, i, tail);
         let v = atom_unchecked(rhs, i, tail);
         if needs_reason(terms, cells, chars, reasons, keys, c, u, v, places) {
             return true;
         }
-        i += 1;
     }
     false
 }
@@ -313,20 +276,16 @@ fn matches_need(
     ensures { Asked (across terms cells chars reasons keys).entry c lhs.now rhs.now rest.from rest.lhs rest.rhs result }
 {
     let from = rest.from;
-    if rest.lhs == from {
-        if rest.rhs == from {
-            return false;
-        }
+    if rest.lhs == from && rest.rhs == from {
+        return false;
     }
-    let l = &lhs[0..from];
-    let r = &rhs[0..from];
+    let l = &lhs[..from];
+    let r = &rhs[..from];
     if pairs_need(terms, cells, chars, reasons, keys, c, l, r, false, places) {
         return true;
     }
-    let x = rest.lhs;
-    let y = rest.rhs;
-    let l = &lhs[x..lhs.len()];
-    let r = &rhs[y..rhs.len()];
+    let l = &lhs[rest.lhs..];
+    let r = &rhs[rest.rhs..];
     pairs_need(terms, cells, chars, reasons, keys, c, l, r, true, places)
 }
 

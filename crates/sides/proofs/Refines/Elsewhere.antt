@@ -117,9 +117,9 @@ pub record Seeking (s : Store) (x : ℕ) (l : List ℕ) (i : ℕ) : Type 0 where
 pub seeking_none : (s : Store) (x : ℕ) (l : List ℕ) → Seeking s x l 0
 seeking_none s x l = record { within = omega arith; rest = refl }
 
-pub seeking_end : (s : Store) (x : ℕ) (l : List ℕ) (i : ℕ) → Seeking s x l i → length l ≤ i → occurrence s x [] l ≡ at_place l i
+pub seeking_end : (s : Store) (x : ℕ) (l : List ℕ) (i : ℕ) → Seeking s x l i → length l ≤ i → occurrence s x [] l ≡ at_place l (length l)
 unfolding occurrence
-seeking_end s x l i g q = sym g.rest ∙ (rw (drop_of_length-le l q) (sym (place-past l i q)))
+seeking_end s x l i g q = sym g.rest ∙ (rw (drop_of_length-le l q) (sym (place-past l (length l) (omega arith))))
 
 module _ (s : Store) (x : ℕ) (l : List ℕ) (i n r : ℕ) (b : Bool) (g : Seeking s x l i) (q : i < length l) (f : n ≡ length (keep (is_full s) l)) (z : r ≡ root s x)
     (e : b ≡ (eqb (root s (get_or l i 0)) r && ltb (own_count s (get_or l i 0)) n)) where

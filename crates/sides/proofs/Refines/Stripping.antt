@@ -70,10 +70,6 @@ module _ (l : List ℕ) where
   pub part-whole : (i : ℕ) → part l i (length l) ≡ drop i l
   part-whole i = take_all (length l - i) (drop i l) (rw (length-drop i l) (omega arith))
 
-  -- the part up to place i
-  part-front : (i : ℕ) → way false (part l 0 i) ≡ take i l
-  part-front i = let z : i - 0 ≡ i = omega arith in way-front (part l 0 i) ∙ ap (λ (x : ℕ). take x l) z
-
   -- the last n, from the end on, are the first n from the end on of the part from place f on
   part-back : (f n e : ℕ) → f + n ≤ length l → e ≡ length l - n → way true (part l e (length l)) ≡ take n (way true (drop f l))
   part-back f n e h i =
@@ -174,13 +170,14 @@ module _ (s : Store) (l r : List ℕ) (tail : Bool) where
     least : n ≡ min (length (way tail l)) (length (way tail r))
     least = rw (way-length tail l, way-length tail r) z
 
-    pub count_all : n ≤ i → i ≡ length (same_heads s (way tail l) (way tail r))
+    pub count_all : n ≤ i → n ≡ length (same_heads s (way tail l) (way tail r))
     count_all q =
         let m = least in
         let a = length-drop i (way tail l) in
         let b = length-drop i (way tail r) in
         let e = ap length (heads-none s (drop i (way tail l)) (drop i (way tail r)) (omega arith)) in
         let j = k.sum in
+        let h = heads-short s (way tail l) (way tail r) in
         omega arith
 
     module _ (h : i < n) {a b : ℕ} (p : a ≡ get_or (way tail l) i 0) (q : b ≡ get_or (way tail r) i 0) (x : Bool) (f : x ≡ same s a b) where
@@ -279,9 +276,9 @@ through s x y n e = rw e (record { equal = alone-equal s x y; pairs = heads-alon
 pub through-length : {s : Store} (tail : Bool) (l r : List ℕ) {ps : List (ℕ × ℕ)} → Throughout s (way tail l) (way tail r) ps → length l ≡ length r
 through-length {s} tail l r p = sym (way-length tail l) ∙ equal-lengths s (way tail l) (way tail r) p.equal ∙ way-length tail r
 
--- a part of a list of string terms
-pub part-strings : (p : ℕ → Bool) (l : List ℕ) (i e : ℕ) → all p l ≡ true → all p (part l i e) ≡ true
-part-strings p l i e h = all_take p (e - i) (drop i l) (all_drop p i l h)
+-- what is left of a list of string terms from a place on
+pub part-strings : (p : ℕ → Bool) (l : List ℕ) (i : ℕ) → all p l ≡ true → all p (part l i (length l)) ≡ true
+part-strings p l i h = all_take p (length l - i) (drop i l) (all_drop p i l h)
 
 module _ (l r : List ℕ) where
   pub heads-least : (s : Store) (n : ℕ) → n ≡ length (same_heads s (way false l) (way false r)) → (n ≤ length l) × (n ≤ length r)
@@ -318,8 +315,8 @@ module _ (l r : List ℕ) where
       places q = rw (q, p)
 
   module _ {s : Store} (x : Rest) (f : Finds s l r x) where
-    pub heads_through : Throughout s (way false (part l 0 x.from)) (way false (part r 0 x.from)) (same_heads s l r)
-    heads_through = rw (part-front l x.from, part-front r x.from) (through s l r x.from f.heads)
+    pub heads_through : Throughout s (way false (take x.from l)) (way false (take x.from r)) (same_heads s l r)
+    heads_through = rw (way-front (take x.from l), way-front (take x.from r)) (through s l r x.from f.heads)
 
     pub tails_through : Throughout s (way true (part l x.lhs (length l))) (way true (part r x.rhs (length r))) (same_tails s x.from l r)
     unfolding same_tails
@@ -334,7 +331,7 @@ module _ (l r : List ℕ) where
 
 module _ (t e h ks l r : List ℕ) {c : State} {rs rs₁ : List ℕ} (x : Rest) (f : Finds (read_in t h c) l r x) (ready : Ready (lent t e h rs ks) c) (strings : all (is_string (read_in t h c)) l ≡ true)
     (others : all (is_string (read_in t h c)) r ≡ true) (y : Answered)
-    (w : Working (nf_explain (way false (part l 0 x.from)) (way false (part r 0 x.from))) (lent t e h rs ks) (lent t e h rs₁ ks) c (added y (lent t e h rs₁ ks))) where
+    (w : Working (nf_explain (way false (take x.from l)) (way false (take x.from r))) (lent t e h rs ks) (lent t e h rs₁ ks) c (added y (lent t e h rs₁ ks))) where
   abbrev heads : List (ℕ × ℕ)
   heads = same_heads (read_in t h c) l r
 
@@ -342,22 +339,22 @@ module _ (t e h ks l r : List ℕ) {c : State} {rs rs₁ : List ℕ} (x : Rest) 
   tails = same_tails (read_in t h c) x.from l r
 
   -- the pairs of two parts, explained as matches
-  said : (tail : Bool) (i k : ℕ) (j n : ℕ) {ps : List (ℕ × ℕ)} → Throughout (read_in t h c) (way tail (part l i k)) (way tail (part r j n)) ps
-      → {d : State} {rs' : List ℕ} → Going t e h ks c rs d rs'
-      → explain_matches ps (store_of (lent t e h rs' ks) d) ≡ nf_explain (way tail (part l i k)) (way tail (part r j n)) (store_of (lent t e h rs' ks) d)
-  said tail i k j n p {d} {rs'} g =
-      ap (λ (m : List (ℕ × ℕ)). explain_matches m (store_of (lent t e h rs' ks) d)) (sym p.pairs)
-      ∙ pairs_match (read_in t h c) (way tail (part l i k)) (way tail (part r j n)) p.equal (store_of (lent t e h rs' ks) d) (going_same t e h ks g) g.ready.audited
-      (way_every tail (all_every _ _ (going_strings t e h ks g (part l i k) (part-strings _ l i k strings))))
-      (way_every tail (all_every _ _ (going_strings t e h ks g (part r j n) (part-strings _ r j n others))))
+  said : (tail : Bool) (p q : List ℕ) → all (is_string (read_in t h c)) p ≡ true → all (is_string (read_in t h c)) q ≡ true → {ps : List (ℕ × ℕ)}
+      → Throughout (read_in t h c) (way tail p) (way tail q) ps → {d : State} {rs' : List ℕ} → Going t e h ks c rs d rs'
+      → explain_matches ps (store_of (lent t e h rs' ks) d) ≡ nf_explain (way tail p) (way tail q) (store_of (lent t e h rs' ks) d)
+  said tail p q u v z {d} {rs'} g =
+      ap (λ (m : List (ℕ × ℕ)). explain_matches m (store_of (lent t e h rs' ks) d)) (sym z.pairs)
+      ∙ pairs_match (read_in t h c) (way tail p) (way tail q) z.equal (store_of (lent t e h rs' ks) d) (going_same t e h ks g) g.ready.audited
+      (way_every tail (all_every _ _ (going_strings t e h ks g p u)))
+      (way_every tail (all_every _ _ (going_strings t e h ks g q v)))
 
   -- heads and then tails
-  both-said : {o : Out (Unit {0})} → nf_explain (way false (part l 0 x.from)) (way false (part r 0 x.from)) (store_of (lent t e h rs ks) c) ≡ o
+  both-said : {o : Out (Unit {0})} → nf_explain (way false (take x.from l)) (way false (take x.from r)) (store_of (lent t e h rs ks) c) ≡ o
       → explain_matches (matches (read_in t h c) l r) (store_of (lent t e h rs ks) c) ≡ and_then (λ (u : Unit {0}). explain_matches tails) o
   both-said {o} q =
       ap (λ (n : ℕ). explain_matches (heads ++ same_tails (read_in t h c) n l r) (store_of (lent t e h rs ks) c)) (sym f.heads)
       ∙ matches-append heads tails (store_of (lent t e h rs ks) c)
-      ∙ ap (and_then (λ (u : Unit {0}). explain_matches tails)) (said false 0 x.from 0 x.from (heads_through l r x f) (going_none t e h ks ready) ∙ q)
+      ∙ ap (and_then (λ (u : Unit {0}). explain_matches tails)) (said false (take x.from l) (take x.from r) (all_take _ x.from l strings) (all_take _ x.from r others) (heads_through l r x f) (going_none t e h ks ready) ∙ q)
 
   pub both-refused : (k : ℕ) → y ≡ adding.Refused k → Working (explain_matches (matches (read_in t h c) l r)) (lent t e h rs ks) (lent t e h rs₁ ks) c (added (adding.Refused k) (lent t e h rs₁ ks))
   both-refused k j = working_stopped (both-said (added-at j w).says) w.kept
@@ -367,8 +364,8 @@ module _ (t e h ks l r : List ℕ) {c : State} {rs rs₁ : List ℕ} (x : Rest) 
     heads-going = record {
       ready = added-ready j w;
       added =
-          (explain-equal-gives (way false (part l 0 x.from)) (way false (part r 0 x.from)) (store_of (lent t e h rs ks) c) ready.audited
-          (way-all _ false _ (part-strings _ l 0 x.from strings)) (way-all _ false _ (part-strings _ r 0 x.from others)) (store_of (lent t e h rs₁ ks) d) tt (added-at j w).says).added;
+          (explain-equal-gives (way false (take x.from l)) (way false (take x.from r)) (store_of (lent t e h rs ks) c) ready.audited
+          (way-all _ false _ (all_take _ x.from l strings)) (way-all _ false _ (all_take _ x.from r others)) (store_of (lent t e h rs₁ ks) d) tt (added-at j w).says).added;
       kept = w.kept.store;
     }
 
@@ -376,7 +373,7 @@ module _ (t e h ks l r : List ℕ) {c : State} {rs rs₁ : List ℕ} (x : Rest) 
         → Working (nf_explain (way true (part l x.lhs (length l))) (way true (part r x.rhs (length r)))) (lent t e h rs₁ ks) (lent t e h rs₂ ks) d (added o (lent t e h rs₂ ks))
         → Working (explain_matches (matches (read_in t h c) l r)) (lent t e h rs ks) (lent t e h rs₂ ks) c (added o (lent t e h rs₂ ks))
     both-explained rs₂ o v = record {
-      says = both-said (added-at j w).says ∙ said true x.lhs (length l) x.rhs (length r) (tails_through l r x f) heads-going ∙ v.says;
+      says = both-said (added-at j w).says ∙ said true (part l x.lhs (length l)) (part r x.rhs (length r)) (part-strings _ l x.lhs strings) (part-strings _ r x.rhs others) (tails_through l r x f) heads-going ∙ v.says;
       kept = keeps-terms (kept_down t e h ks heads-going rs₂ v.kept.store) refl;
       ready = v.ready;
     }
@@ -401,7 +398,7 @@ module _ (t e h rs ks l r : List ℕ) (c : State) (x : Rest) (f : Finds (read_in
         ∙ ap (any (needs_reason (store_of lent_now c))) (sym (matches-by (store_of lent_now c) (read_in t h c) (same_read t e h ks rs c) l r));
   }
 
-  module _ (b : Bool) (p : Needs lent_now c (same_heads (read_in t h c) (way false (part l 0 x.from)) (way false (part r 0 x.from))) b) where
+  module _ (b : Bool) (p : Needs lent_now c (same_heads (read_in t h c) (way false (take x.from l)) (way false (take x.from r))) b) where
     heads_need : b ≡ any (needs_reason (store_of lent_now c)) (same_heads (read_in t h c) l r)
     heads_need = p.is ∙ ap (any (needs_reason (store_of lent_now c))) (heads_through l r x f).pairs
 

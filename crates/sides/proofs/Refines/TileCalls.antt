@@ -77,12 +77,12 @@ module _ (t h : List ℕ) (c : State) (word side : List ℕ) (i : ℕ) where
     classes : b ≡ all (λ u. same s u v) vs
     classes = e ∙ ap (all (agrees s v)) (after side i) ∙ agree-variables s v (drop (suc i) side)
 
-    pub unfit-apart : not b ≡ true → false ≡ unfit s word side v vs
-    unfit-apart n = and-stop _ _ (failed _ b classes n)
+    pub unfit-apart : b ≡ false → b ≡ unfit s word side v vs
+    unfit-apart n = n ∙ and-stop _ _ (sym classes ∙ n)
 
-    pub unfit-is : not b ≡ false → (n : ℕ) → n ≡ length (variables (termed t c) (part side (i + 1) (length side))) → (f : Bool) → f ≡ fits s (letters s word) side (n + 1) → not f ≡ unfit s word side v vs
+    pub unfit-is : b ≡ true → (n : ℕ) → n ≡ length (variables (termed t c) (part side (i + 1) (length side))) → (f : Bool) → f ≡ fits s (letters s word) side (n + 1) → not f ≡ unfit s word side v vs
     unfit-is o n g f j =
-        and-next _ _ (not f) (passed _ b classes o)
+        and-next _ _ (not f) (sym classes ∙ o)
         (ap not (j ∙ ap (λ (k : ℕ). fits s (letters s word) side k) (add-one n ∙ ap suc (g ∙ ap (λ (k : List ℕ). length (variables s k)) (after side i)))))
 
 -- THE STEP ON THE SIDES

@@ -74,8 +74,3 @@ fill_source s a side word = if is_constant s a then side else word
 pub record Tiling (w h : List ℕ) (c : State) (word : List ℕ) (v : Cursor) (m : ℕ) : Type 0 where
   pub known : Spelled w h c
   pub fits : m ≤ length (rest (read_in w h c) word v.atom v.place)
-
--- b: nothing of the side is left from atom i on, nor of the word from k on
-pub record Ended (w : List ℕ) (c : State) (word side : List ℕ) (i : ℕ) (k : Cursor) (b : Bool) : Type 0 where
-  pub before : i < length side → b ≡ false
-  pub after : (h : List ℕ) → length side ≤ i → b ≡ same_word [] (rest (read_in w h c) word k.atom k.place)

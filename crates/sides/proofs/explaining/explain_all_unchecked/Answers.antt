@@ -12,8 +12,8 @@ returns-then-side-eq0 c =
     c.args.v c.requires.ready)
     (let z = c.if-side-eq0.true in omega arith)
 
-pub loop-i-init : goal.loop-i-init
-loop-i-init c = (
+pub loop-u-init : goal.loop-u-init
+loop-u-init c = (
   omega arith,
   (
     refl,
@@ -25,39 +25,31 @@ loop-i-init c = (
 
 pub slice_bounds-explain_atom-end : goal.slice_bounds-explain_atom-end
 slice_bounds-explain_atom-end c =
-    sym c.loop-i.invariant.2
+    sym c.loop-u.invariant.2
 
 pub explain_atom-requires : goal.explain_atom-requires
 explain_atom-requires c =
     record {
-      ready = c.loop-i.invariant.1.1.going.ready;
+      ready = c.loop-u.invariant.1.1.going.ready;
       pair = citing-pair c.args.terms.now c.args.cells.now c.args.chars.now c.args.keys.now c.args.side.now
-          c.args.v c.loop-i.invariant.1.1 c.loop-i-test.true c.requires.every c.requires.every_2;
+          c.args.v c.loop-u.invariant.1.1 c.loop-u-test.true c.requires.every c.requires.every_2;
       one_class = citing-class c.args.terms.now c.args.cells.now c.args.chars.now c.args.keys.now c.args.side.now
-          c.args.v c.loop-i.invariant.1.1 c.loop-i-test.true c.requires.every c.requires.every_2;
+          c.args.v c.loop-u.invariant.1.1 c.loop-u-test.true c.requires.every c.requires.every_2;
     }
 
 pub returns-in-Refused : goal.returns-in-Refused
 returns-in-Refused c =
     citing-refused c.args.terms.now c.args.cells.now c.args.chars.now c.args.keys.now c.args.side.now
-    c.args.v c.loop-i.invariant.1.1 c.loop-i-test.true c.requires.every c.requires.every_2 _ _ c.explain_atom.ensures _
+    c.args.v c.loop-u.invariant.1.1 c.loop-u-test.true c.requires.every c.requires.every_2 _ _ c.explain_atom.ensures _
     c.in-Refused.is
 
-pub overflow_add-i : goal.overflow_add-i
-overflow_add-i c =
-    search (rules, c.loop-i-test.true, c.well_formed)
-
-pub loop-i-smaller : goal.loop-i-smaller
-loop-i-smaller c =
-    (let p = c.loop-i-test.true in omega arith)
-
-pub loop-i-preserved : goal.loop-i-preserved
-loop-i-preserved c = (
-  let p = c.loop-i-test.true in omega arith,
+pub loop-u-preserved : goal.loop-u-preserved
+loop-u-preserved c = (
+  let p = c.loop-u-test.true in omega arith,
   (
     search rules,
     citing-turn c.args.terms.now c.args.cells.now c.args.chars.now c.args.keys.now c.args.side.now
-        c.args.v c.loop-i.invariant.1.1 c.loop-i-test.true c.requires.every c.requires.every_2 _ _ c.explain_atom.ensures
+        c.args.v c.loop-u.invariant.1.1 c.loop-u-test.true c.requires.every c.requires.every_2 _ _ c.explain_atom.ensures
         _ c.in-Counts.is,
   ),
   search rules,
@@ -66,4 +58,4 @@ loop-i-preserved c = (
 pub returns : goal.returns
 returns c =
     citing-end c.args.terms.now c.args.cells.now c.args.chars.now c.args.keys.now c.args.side.now
-    c.args.v c.loop-i.invariant.1.1 c.loop-i-test.false
+    c.args.v c.loop-u.invariant.1.1 c.loop-u-test.false

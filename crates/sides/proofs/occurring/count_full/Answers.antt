@@ -3,8 +3,8 @@ use Rattle.records.proofs.Loops.{summing_none, summing_all}
 use native.Mathlib.Omega.{arith}
 use Rattle.sides.proofs.occurring.count_full.Goals as goal
 
-pub loop-i-init : goal.loop-i-init
-loop-i-init c =
+pub loop-a-init : goal.loop-a-init
+loop-a-init c =
     summing_none _ _ _
 
 pub own_count-n-requires : goal.own_count-n-requires
@@ -13,13 +13,13 @@ own_count-n-requires c =
 
 pub overflow_add-n : goal.overflow_add-n
 overflow_add-n c =
-    let z = fulls_turn _ _ _ _ _ c.loop-i.invariant c.loop-i-test.true c.own_count-n.ensures in
+    let z = fulls_turn _ _ _ _ _ c.loop-a.invariant c.loop-a-test.true c.own_count-n.ensures in
     let y = z.small in let x = z.within in let v = c.requires.1 in omega arith
 
-pub loop-i-preserved : goal.loop-i-preserved
-loop-i-preserved c =
-    fulls_turn _ _ _ _ _ c.loop-i.invariant c.loop-i-test.true c.own_count-n.ensures
+pub loop-a-preserved : goal.loop-a-preserved
+loop-a-preserved c =
+    fulls_turn _ _ _ _ _ c.loop-a.invariant c.loop-a-test.true c.own_count-n.ensures
 
 pub returns : goal.returns
 returns c =
-    summing_all _ _ _ _ _ c.loop-i.invariant (fulls_none _) c.loop-i-test.false
+    summing_all _ _ _ _ _ c.loop-a.invariant (fulls_none _) c.loop-a-test.false

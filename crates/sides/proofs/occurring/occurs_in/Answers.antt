@@ -1,15 +1,19 @@
+use native.Mathlib.Omega.{arith}
 use Rattle.sides.proofs.Refines.LoneAtom.{not_lone, lone_constant, texts-known, classes-known, lone_within, side_within, not_found, found_arguments, found-conflict, found-refused}
 use Rattle.sides.proofs.occurring.occurs_in.Goals as goal
 
-pub returns-then-lone-ne1 : goal.returns-then-lone-ne1
-returns-then-lone-ne1 c =
-    not_lone c.args.terms.now c.args.cells.now c.args.chars.now c.args.reasons.now c.args.keys.now c.args.c
-    c.args.lone.now c.args.side.now c.requires.ready c.if-lone-ne1.true
+pub returns-in_default : goal.returns-in_default
+returns-in_default c =
+    not_lone c.args.terms.now c.args.cells.now c.args.chars.now c.args.reasons.now c.args.keys.now c.args.c c.args.lone.now c.args.side.now c.requires.ready (λ z. absurd (omega arith))
+
+pub returns-in_default-2 : goal.returns-in_default-2
+returns-in_default-2 c =
+    not_lone c.args.terms.now c.args.cells.now c.args.chars.now c.args.reasons.now c.args.keys.now c.args.c c.args.lone.now c.args.side.now c.requires.ready (λ z. absurd (omega arith))
 
 pub returns-then-kind_of-eq1 : goal.returns-then-kind_of-eq1
 returns-then-kind_of-eq1 c =
     lone_constant c.args.terms.now c.args.cells.now c.args.chars.now c.args.reasons.now c.args.keys.now
-    c.args.c c.args.lone.now c.args.side.now c.if-lone-ne1.false _ c.kind_of.ensures c.requires.ready
+    c.args.c c.args.lone.now c.args.side.now (omega arith) _ c.kind_of.ensures c.requires.ready
     c.if-kind_of-eq1.true
 
 pub find-i-requires : goal.find-i-requires
@@ -20,7 +24,7 @@ find-i-requires c =
       closed = classes-known c.args.terms.now c.args.cells.now c.args.chars.now the-reasons c.args.keys.now c.args.c
           c.args.lone.now c.args.side.now c.requires.ready c.requires.both_lists;
       x_value = lone_within c.args.terms.now c.args.cells.now c.args.chars.now the-reasons c.args.keys.now c.args.c
-          c.args.lone.now c.args.side.now c.requires.ready c.requires.both_lists c.if-lone-ne1.false;
+          c.args.lone.now c.args.side.now c.requires.ready c.requires.both_lists (omega arith);
       l_value = side_within c.args.terms.now c.args.cells.now c.args.chars.now the-reasons c.args.keys.now c.args.c
           c.args.lone.now c.args.side.now c.requires.ready c.requires.both_lists;
     }
@@ -28,25 +32,25 @@ find-i-requires c =
 pub returns-then-side-i : goal.returns-then-side-i
 returns-then-side-i c =
     not_found c.args.terms.now c.args.cells.now c.args.chars.now c.args.reasons.now c.args.keys.now c.args.c
-    c.args.lone.now c.args.side.now c.requires.ready c.requires.both_lists c.if-lone-ne1.false _ c.kind_of.ensures
+    c.args.lone.now c.args.side.now c.requires.ready c.requires.both_lists (omega arith) _ c.kind_of.ensures
     c.if-kind_of-eq1.false _ c.find-i.ensures c.if-side-i.true
 
 pub explain_unchecked-requires : goal.explain_unchecked-requires
 explain_unchecked-requires c = (
   c.requires.ready,
   found_arguments c.args.terms.now c.args.cells.now c.args.chars.now c.args.reasons.now c.args.keys.now
-      c.args.c c.args.lone.now c.args.side.now c.requires.ready c.requires.both_lists c.if-lone-ne1.false _ c.kind_of.ensures
+      c.args.c c.args.lone.now c.args.side.now c.requires.ready c.requires.both_lists (omega arith) _ c.kind_of.ensures
       c.if-kind_of-eq1.false _ c.find-i.ensures c.if-side-i.false,
 )
 
 pub returns-in-Counts : goal.returns-in-Counts
 returns-in-Counts c =
     found-conflict c.args.terms.now c.args.cells.now c.args.chars.now c.args.reasons.now c.args.keys.now
-    c.args.c c.args.lone.now c.args.side.now c.requires.ready c.requires.both_lists c.if-lone-ne1.false _ c.kind_of.ensures
+    c.args.c c.args.lone.now c.args.side.now c.requires.ready c.requires.both_lists (omega arith) _ c.kind_of.ensures
     c.if-kind_of-eq1.false _ c.find-i.ensures c.if-side-i.false _ _ c.explain_unchecked.ensures _ c.in-Counts.is
 
 pub returns-in-Refused : goal.returns-in-Refused
 returns-in-Refused c =
     found-refused c.args.terms.now c.args.cells.now c.args.chars.now c.args.reasons.now c.args.keys.now
-    c.args.c c.args.lone.now c.args.side.now c.requires.ready c.requires.both_lists c.if-lone-ne1.false _ c.kind_of.ensures
+    c.args.c c.args.lone.now c.args.side.now c.requires.ready c.requires.both_lists (omega arith) _ c.kind_of.ensures
     c.if-kind_of-eq1.false _ c.find-i.ensures c.if-side-i.false _ _ c.explain_unchecked.ensures _ c.in-Refused.is

@@ -14,16 +14,20 @@ all_agree_unchecked-requires c =
           c.requires.fact.3;
     }
 
-pub returns-then-not-all_agree_unchecked : goal.returns-then-not-all_agree_unchecked
-returns-then-not-all_agree_unchecked c =
-    unfit-apart c.args.terms.now c.args.chars.now c.args.c c.args.word.now c.args.side.now c.args.i _
-    c.all_agree_unchecked.ensures c.if-not-all_agree_unchecked.true-raw
+pub returns-then-all_agree_unchecked : goal.returns-then-all_agree_unchecked
+returns-then-all_agree_unchecked c =
+    unfit-is c.args.terms.now c.args.chars.now c.args.c c.args.word.now c.args.side.now c.args.i _
+    c.all_agree_unchecked.ensures c.if-all_agree_unchecked.true _ c.variables_length.ensures _ c.fits.ensures
 
-pub overflow_add-k : goal.overflow_add-k
-overflow_add-k c =
-    (let z = after-short (termed c.args.terms.now c.args.c) c.args.side.now c.args.i _ c.requires.fact.3
-    c.variables_length-k.ensures in
-    let y = list-short (read_in c.args.terms.now c.args.chars.now c.args.c) c.args.side.now c.requires.fact.1 in omega arith)
+pub returns-else-all_agree_unchecked : goal.returns-else-all_agree_unchecked
+returns-else-all_agree_unchecked c =
+    unfit-apart c.args.terms.now c.args.chars.now c.args.c c.args.word.now c.args.side.now c.args.i _
+    c.all_agree_unchecked.ensures c.if-all_agree_unchecked.false
+
+pub overflow_add-variables_length : goal.overflow_add-variables_length
+overflow_add-variables_length c =
+    let z = after-short (termed c.args.terms.now c.args.c) c.args.side.now c.args.i _ c.requires.fact.3 c.variables_length.ensures in
+    let y = list-short (read_in c.args.terms.now c.args.chars.now c.args.c) c.args.side.now c.requires.fact.1 in omega arith
 
 pub fits-requires : goal.fits-requires
 fits-requires c = (
@@ -33,8 +37,3 @@ fits-requires c = (
   c.requires.fact.2,
   omega arith,
 )
-
-pub returns : goal.returns
-returns c =
-    unfit-is c.args.terms.now c.args.chars.now c.args.c c.args.word.now c.args.side.now c.args.i _
-    c.all_agree_unchecked.ensures c.if-not-all_agree_unchecked.false-raw _ c.variables_length-k.ensures _ c.fits.ensures

@@ -2,11 +2,11 @@ use Rattle.sides.proofs.Refines.TileCalls.{tile-none, tile-fits, tile-pairs, til
 use Rattle.records.proofs.ListLaws.{list-short}
 use Rattle.records.specs.View.{lent, store_of}
 use Rattle.sides.proofs.spans.tile_sides.Goals as goal
+use Rattle.sides.proofs.spans.tile_sides.Goals.{then-side-i-via-then-side-i, then-side-i-via-else-side-i+then-not-is_unfit}
 
 pub returns-then-side-i : goal.returns-then-side-i
 returns-then-side-i c =
-    tile-none c.args.terms.now c.args.cells.now c.args.chars.now c.args.reasons.now c.args.keys.now
-    c.args.c c.args.word.now c.args.side.now _ c.first_variable_unchecked-i.ensures c.requires.ready c.if-side-i.true
+    elim c.then-side-i.branch [ then-side-i-via-then-side-i w ↦ tile-none c.args.terms.now c.args.cells.now c.args.chars.now c.args.reasons.now c.args.keys.now c.args.c c.args.word.now c.args.side.now _ c.first_variable_unchecked-i.ensures c.requires.ready w.if-side-i.true | then-side-i-via-else-side-i+then-not-is_unfit w ↦ tile-fits c.args.terms.now c.args.cells.now c.args.chars.now c.args.reasons.now c.args.keys.now c.args.c c.args.word.now c.args.side.now _ c.first_variable_unchecked-i.ensures w.if-side-i.false _ w.is_unfit.ensures c.requires.ready w.if-not-is_unfit.true-raw ]
 
 pub is_unfit-requires : goal.is_unfit-requires
 is_unfit-requires c =
@@ -22,12 +22,6 @@ is_unfit-requires c =
         c.if-side-i.false,
       );
     }
-
-pub returns-then-not-is_unfit : goal.returns-then-not-is_unfit
-returns-then-not-is_unfit c =
-    tile-fits c.args.terms.now c.args.cells.now c.args.chars.now c.args.reasons.now c.args.keys.now
-    c.args.c c.args.word.now c.args.side.now _ c.first_variable_unchecked-i.ensures c.if-side-i.false _
-    c.is_unfit.ensures c.requires.ready c.if-not-is_unfit.true-raw
 
 pub explain_all_unchecked-requires : goal.explain_all_unchecked-requires
 explain_all_unchecked-requires c =

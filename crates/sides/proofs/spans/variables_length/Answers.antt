@@ -4,19 +4,19 @@ use Rattle.records.proofs.Loops.{summing_none, summing_all}
 use native.Mathlib.Omega.{arith}
 use Rattle.sides.proofs.spans.variables_length.Goals as goal
 
-pub loop-i-init : goal.loop-i-init
-loop-i-init c =
+pub loop-a-init : goal.loop-a-init
+loop-a-init c =
     summing_none _ _ _
 
 pub overflow_add-total : goal.overflow_add-total
 overflow_add-total c =
-    let z = tallied_one (termed c.args.terms.now c.args.c) _ _ _ _ c.loop-i.invariant c.loop-i-test.true c.variable_count-total.ensures in
+    let z = tallied_one (termed c.args.terms.now c.args.c) _ _ _ _ c.loop-a.invariant c.loop-a-test.true c.variable_count-total.ensures in
     let y = z.small in let x = z.within in omega (arith, c.well_formed)
 
-pub loop-i-preserved : goal.loop-i-preserved
-loop-i-preserved c =
-    tallied_one (termed c.args.terms.now c.args.c) _ _ _ _ c.loop-i.invariant c.loop-i-test.true c.variable_count-total.ensures
+pub loop-a-preserved : goal.loop-a-preserved
+loop-a-preserved c =
+    tallied_one (termed c.args.terms.now c.args.c) _ _ _ _ c.loop-a.invariant c.loop-a-test.true c.variable_count-total.ensures
 
 pub returns : goal.returns
 returns c =
-    summing_all _ _ _ _ _ c.loop-i.invariant (tally_none (termed c.args.terms.now c.args.c)) c.loop-i-test.false
+    summing_all _ _ _ _ _ c.loop-a.invariant (tally_none (termed c.args.terms.now c.args.c)) c.loop-a-test.false

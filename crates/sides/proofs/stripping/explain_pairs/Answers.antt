@@ -31,14 +31,6 @@ returns-in-Refused c =
     c.loop-i-test.true c.atom_unchecked-a.ensures c.atom_unchecked-b.ensures _ _ c.explain_pair.ensures _
     c.in-Refused.is
 
-pub overflow_add-i : goal.overflow_add-i
-overflow_add-i c =
-    search (rules, c.loop-i-test.true, c.well_formed)
-
-pub loop-i-smaller : goal.loop-i-smaller
-loop-i-smaller c =
-    let p = c.loop-i-test.true in omega arith
-
 pub loop-i-preserved : goal.loop-i-preserved
 loop-i-preserved c = (
   let p = c.loop-i-test.true in omega arith,

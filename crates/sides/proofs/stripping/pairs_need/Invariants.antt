@@ -9,6 +9,3 @@ use Rattle.sides.proofs.stripping.pairs_need.Given as goal
 
 abbrev pub invariant-loop-i : goal.invariant-loop-i
 invariant-loop-i l = (l.i ≤ length l.lhs) × Needing (lent l.terms l.cells l.chars l.reasons l.keys) l.c (same_heads (read_in l.terms l.chars l.c) (way l.tail l.lhs) (way l.tail l.rhs)) l.i × (length l.places ≡ length l.initial.places)
-
-abbrev pub decreases-loop-i : goal.decreases-loop-i
-decreases-loop-i l = length l.lhs - l.i
