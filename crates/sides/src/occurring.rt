@@ -12,7 +12,7 @@ ghost use Rattle.sides.specs.Working.Occurring.{at_place, own_count};
 
 use crate::{StepResult, letters};
 use records::classes::root_unchecked;
-use records::{Added, State, rules};
+use records::{Refusal, State, rules};
 
 // 1 for a non-empty constant, 0 for any other atom.
 fn own_count(terms: &[u32], c: State, a: u32) -> usize
@@ -72,23 +72,23 @@ fn occurs_in(
     c: State,
     lone: &[u32],
     side: &[u32],
-) -> StepResult
+) -> Result<StepResult, Refusal>
     requires ready { Ready (lent terms.now cells.now chars.now reasons.old keys.now) c }
     requires both_lists { BothLists (store_of (lent terms.now cells.now chars.now reasons.old keys.now) c) lone.now side.now }
     ensures { Between (Tries (occurs lone.now side.now)) (across terms cells chars (changing reasons) keys) c result }
 {
     let &[x] = lone else {
-        return StepResult::Done(c);
+        return Ok(StepResult::Done(c));
     };
     if rules::kind_of(terms, c.terms, x) == 1 {
-        return StepResult::Done(c);
+        return Ok(StepResult::Done(c));
     }
     let i = find(terms, c, side, x);
     if side.len() <= i {
-        return StepResult::Done(c);
+        return Ok(StepResult::Done(c));
     }
     let mut places: [u32; 0] = [];
-    match engine::explain_unchecked(
+    let d = engine::explain_unchecked(
         terms,
         cells,
         chars,
@@ -98,10 +98,8 @@ fn occurs_in(
         side[i],
         x,
         &mut places,
-    ) {
-        Added::Counts(d) => StepResult::Conflict(d),
-        Added::Refused(k) => StepResult::Refused(k),
-    }
+    )?;
+    Ok(StepResult::Conflict(d))
 }
 
 // Step 2, left single first.
@@ -114,14 +112,14 @@ pub fn occurs_unchecked(
     c: State,
     lhs: &[u32],
     rhs: &[u32],
-) -> StepResult
+) -> Result<StepResult, Refusal>
     requires ready { Ready (lent terms.now cells.now chars.now reasons.old keys.now) c }
     requires both_lists { BothLists (store_of (lent terms.now cells.now chars.now reasons.old keys.now) c) lhs.now rhs.now }
     ensures { Between (Tries (occurs lhs.now rhs.now or_else occurs rhs.now lhs.now)) (across terms cells chars (changing reasons) keys) c result }
 {
-    let o = occurs_in(terms, cells, chars, reasons, keys, c, lhs, rhs);
+    let o = occurs_in(terms, cells, chars, reasons, keys, c, lhs, rhs)?;
     let StepResult::Done(d) = o else {
-        return o;
+        return Ok(o);
     };
     occurs_in(terms, cells, chars, reasons, keys, d, rhs, lhs)
 }

@@ -13,7 +13,7 @@ ghost use Rattle.sides.specs.Working.Spans.{FirstVariable, agrees, unfit};
 
 use crate::letters::Cursor;
 use crate::{StepResult, explaining, letters, stripping};
-use records::{Added, State, rules};
+use records::{Refusal, State, rules};
 
 pub fn first_variable_unchecked(terms: &[u32], c: State, side: &[u32]) -> usize
     ensures { FirstVariable (termed terms.now c) side.now result }
@@ -122,20 +122,20 @@ fn tile_sides<'a>(
     c: State,
     word: &'a [u32],
     side: &'a [u32],
-) -> StepResult
+) -> Result<StepResult, Refusal>
     requires ready { Ready (lent terms.now cells.now chars.now reasons.old keys.now) c }
     requires both_lists { BothLists (store_of (lent terms.now cells.now chars.now reasons.old keys.now) c) word.now side.now }
     ensures { let m = (across terms cells chars (changing reasons) keys).entry in let s = store_of m c in Tries (tile_by s word.now side.now (variables s side.now)) m (across terms cells chars (changing reasons) keys).exit c result }
 {
     let i = first_variable_unchecked(terms, c, side);
     if side.len() <= i || !is_unfit(terms, chars, c, word, side, i) {
-        return StepResult::Done(c);
+        return Ok(StepResult::Done(c));
     }
     let later = &side[i + 1..side.len()];
-    match explaining::explain_all_unchecked(terms, cells, chars, reasons, keys, c, later, side[i]) {
-        Added::Counts(d) => StepResult::Conflict(d),
-        Added::Refused(k) => StepResult::Refused(k),
-    }
+    let d = explaining::explain_all_unchecked(
+        terms, cells, chars, reasons, keys, c, later, side[i],
+    )?;
+    Ok(StepResult::Conflict(d))
 }
 
 // Step 5 from the left, then from the right. The constant side is picked from the two lists and handed on as it was lent.
@@ -148,7 +148,7 @@ pub fn tile_unchecked<'a>(
     c: State,
     lhs: &'a [u32],
     rhs: &'a [u32],
-) -> StepResult
+) -> Result<StepResult, Refusal>
     requires ready { Ready (lent terms.now cells.now chars.now reasons.old keys.now) c }
     requires both_lists { BothLists (store_of (lent terms.now cells.now chars.now reasons.old keys.now) c) lhs.now rhs.now }
     ensures { Between (Tries (tile lhs.now rhs.now or_else tile rhs.now lhs.now)) (across terms cells chars (changing reasons) keys) c result }

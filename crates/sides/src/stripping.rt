@@ -10,7 +10,7 @@ ghost use Rattle.sides.specs.Wordeq.{same, same_heads, matches, explain_matches,
 ghost use Rattle.sides.specs.Working.Stripping.{Readable, Pair, way, Finds, Strips, Needs, Asked};
 
 use crate::{Rest, Stripped};
-use records::{Added, State, classes, fields, rules, text};
+use records::{Refusal, State, classes, fields, rules, text};
 
 pub fn both_constant(terms: &[u32], n: usize, a: u32, b: u32) -> bool
     ensures { result ≡ (eqb (term_in (terms_view terms.now n) a).kind 1 && eqb (term_in (terms_view terms.now n) b).kind 1) }
@@ -127,13 +127,13 @@ fn explain_pair(
     a: u32,
     b: u32,
     places: &mut [u32],
-) -> Added
+) -> Result<State, Refusal>
     requires fact_1 { Ready (lent terms.now cells.now chars.now reasons.old keys.now) c }
     requires fact_2 { Pair (read_in terms.now chars.now c) a b }
     ensures { Does (explain_pair a b) (across terms cells chars (changing reasons) keys) c (added result) }
 {
     if a == b || is_alike(terms, chars, c, a, b) || !same_class_unchecked(terms, chars, c, a, b) {
-        return Added::Counts(c);
+        return Ok(c);
     }
     engine::explain_unchecked(terms, cells, chars, reasons, keys, c, a, b, places)
 }
@@ -150,7 +150,7 @@ pub(crate) fn explain_pairs(
     rhs: &[u32],
     tail: bool,
     places: &mut [u32],
-) -> Added
+) -> Result<State, Refusal>
     requires ready { Ready (lent terms.now cells.now chars.now reasons.old keys.now) c }
     requires lhs_value { all (is_string (read_in terms.now chars.now c)) lhs.now ≡ true }
     requires rhs_value { all (is_string (read_in terms.now chars.now c)) rhs.now ≡ true }
@@ -161,16 +161,9 @@ pub(crate) fn explain_pairs(
     for i in 0..lhs.len() {
         let a = atom_unchecked(lhs, i, tail);
         let b = atom_unchecked(rhs, i, tail);
-        match explain_pair(terms, cells, chars, reasons, keys, d, a, b, places) {
-            Added::Counts(e) => {
-                d = e;
-            }
-            Added::Refused(k) => {
-                return Added::Refused(k);
-            }
-        }
+        d = explain_pair(terms, cells, chars, reasons, keys, d, a, b, places)?;
     }
-    Added::Counts(d)
+    Ok(d)
 }
 
 // The reasons of the matches outside `rest`: heads in order, then tails from the ends on.
@@ -185,7 +178,7 @@ fn explain_stripped(
     rhs: &[u32],
     rest: Rest,
     places: &mut [u32],
-) -> Added
+) -> Result<State, Refusal>
     requires ready { Ready (lent terms.now cells.now chars.now reasons.old keys.now) c }
     requires lhs_value { all (is_string (read_in terms.now chars.now c)) lhs.now ≡ true }
     requires rhs_value { all (is_string (read_in terms.now chars.now c)) rhs.now ≡ true }
@@ -195,14 +188,10 @@ fn explain_stripped(
     let from = rest.from;
     let l = &lhs[..from];
     let r = &rhs[..from];
-    match explain_pairs(terms, cells, chars, reasons, keys, c, l, r, false, places) {
-        Added::Counts(d) => {
-            let l = &lhs[rest.lhs..];
-            let r = &rhs[rest.rhs..];
-            explain_pairs(terms, cells, chars, reasons, keys, d, l, r, true, places)
-        }
-        Added::Refused(k) => Added::Refused(k),
-    }
+    let d = explain_pairs(terms, cells, chars, reasons, keys, c, l, r, false, places)?;
+    let l = &lhs[rest.lhs..];
+    let r = &rhs[rest.rhs..];
+    explain_pairs(terms, cells, chars, reasons, keys, d, l, r, true, places)
 }
 
 // Whether a match needs a reason: one number and two constants need none.
@@ -301,7 +290,7 @@ fn strip_by(
     rhs: &[u32],
     rest: Rest,
     places: &mut [u32],
-) -> Stripped
+) -> Result<Stripped, Refusal>
     requires ready { Ready (lent terms.now cells.now chars.now reasons.old keys.now) c }
     requires lhs_value { all (is_string (read_in terms.now chars.now c)) lhs.now ≡ true }
     requires rhs_value { all (is_string (read_in terms.now chars.now c)) rhs.now ≡ true }
@@ -311,12 +300,14 @@ fn strip_by(
     let needed = matches_need(
         terms, cells, chars, reasons, keys, c, lhs, rhs, rest, places,
     );
-    match explain_stripped(
+    let counts = explain_stripped(
         terms, cells, chars, reasons, keys, c, lhs, rhs, rest, places,
-    ) {
-        Added::Counts(d) => Stripped::Parts(d, rest.from, rest.lhs, rest.rhs, needed),
-        Added::Refused(k) => Stripped::Refused(k),
-    }
+    )?;
+    Ok(Stripped {
+        counts,
+        rest,
+        needed,
+    })
 }
 
 // Step 1 on two lists of string terms: what is left is found, and then each match is explained. To clear the table of places costs more than
@@ -330,7 +321,7 @@ pub fn strip_unchecked(
     c: State,
     lhs: &[u32],
     rhs: &[u32],
-) -> Stripped
+) -> Result<Stripped, Refusal>
     requires ready { Ready (lent terms.now cells.now chars.now reasons.old keys.now) c }
     requires lhs_value { all (is_string (read_in terms.now chars.now c)) lhs.now ≡ true }
     requires rhs_value { all (is_string (read_in terms.now chars.now c)) rhs.now ≡ true }

@@ -10,7 +10,8 @@ use lib.Seq.{take_all, drop-cons, drop-drop}
 use lib.Dec.{eqb}
 use borrow.Author.Tests.{not-true, not-false, eq-eqb, ne_eqb}
 use Rattle.records.specs.declared.State.{State}
-use Rattle.records.specs.declared.Added.TheVariants as adding
+use Rattle.std.specs.Prelude.{Result, Ok, Err}
+use Rattle.records.specs.declared.refusal.Refusal.{Refusal}
 use Rattle.records.specs.Lists.{all, any}
 use Rattle.records.specs.Store.{Store, Out, ok, and_then, give, is_constant, is_string}
 use Rattle.records.specs.View.{Lent, lent, store_of, read_in}
@@ -21,17 +22,14 @@ use Rattle.records.proofs.IndexStores.{keeps-terms}
 use Rattle.records.proofs.Lists.{both_true, decide, all_every, every_at, all_take, all_drop, any_append, or_left, clash, drop_head}
 use Rattle.records.proofs.Doing.{working_stopped, working_at, working_is, working_answer}
 use Rattle.records.proofs.Works.{one_store}
-use Rattle.records.proofs.Sequence.{added-at, added-ready}
 use Rattle.engine.specs.Explain.{explain_arguments, is_reasoned}
 use Rattle.sides.specs.declared.Rest.{Rest}
-use Rattle.sides.specs.declared.Stripped.TheVariants.{Parts, Refused}
 use Rattle.sides.specs.Wordeq.{same, same_heads, same_tails, matches, inner, rest, explain_matches, needs_reason, is_bare, strip, nf_equal, nf_explain}
 use Rattle.sides.specs.Working.Stripping.{Pair, way, part, Finds, Strips, Needs, Asked}
 use Rattle.sides.proofs.FrontOrEnd.{way-front, way_back, way-length, way_twice, way_every, way-all, way-take, way-drop}
 use Rattle.sides.proofs.Strip.{plainly, same_class_lem, matches-append, off_heads, Match}
 use Rattle.sides.proofs.Equal.{pairs_match, equal-lengths, equal-heads, heads-all, heads-alone, alone-equal, explain-equal-gives}
 use Rattle.sides.proofs.Refines.AddingReasons.{Going, going_none, going_strings, going_same, kept_down}
-use Rattle.records.specs.declared.Added.{Added as Answered}
 
 -- what is the same is read in the terms and the characters
 pub same_read : (t e h ks rs : List ℕ) (c : State) (a b : ℕ) → same (store_of (lent t e h rs ks) c) a b ≡ same (read_in t h c) a b
@@ -329,9 +327,8 @@ module _ (l r : List ℕ) where
 
 -- HEADS, THEN TAILS
 
-module _ (t e h ks l r : List ℕ) {c : State} {rs rs₁ : List ℕ} (x : Rest) (f : Finds (read_in t h c) l r x) (ready : Ready (lent t e h rs ks) c) (strings : all (is_string (read_in t h c)) l ≡ true)
-    (others : all (is_string (read_in t h c)) r ≡ true) (y : Answered)
-    (w : Working (nf_explain (way false (take x.from l)) (way false (take x.from r))) (lent t e h rs ks) (lent t e h rs₁ ks) c (added y (lent t e h rs₁ ks))) where
+module _ (t e h ks l r : List ℕ) {c : State} {rs : List ℕ} (x : Rest) (f : Finds (read_in t h c) l r x) (ready : Ready (lent t e h rs ks) c) (strings : all (is_string (read_in t h c)) l ≡ true)
+    (others : all (is_string (read_in t h c)) r ≡ true) where
   abbrev heads : List (ℕ × ℕ)
   heads = same_heads (read_in t h c) l r
 
@@ -356,27 +353,32 @@ module _ (t e h ks l r : List ℕ) {c : State} {rs rs₁ : List ℕ} (x : Rest) 
       ∙ matches-append heads tails (store_of (lent t e h rs ks) c)
       ∙ ap (and_then (λ (u : Unit {0}). explain_matches tails)) (said false (take x.from l) (take x.from r) (all_take _ x.from l strings) (all_take _ x.from r others) (heads_through l r x f) (going_none t e h ks ready) ∙ q)
 
-  pub both-refused : (k : ℕ) → y ≡ adding.Refused k → Working (explain_matches (matches (read_in t h c) l r)) (lent t e h rs ks) (lent t e h rs₁ ks) c (added (adding.Refused k) (lent t e h rs₁ ks))
-  both-refused k j = working_stopped (both-said (added-at j w).says) w.kept
+  abbrev first : State → Out (Unit {0}) → List ℕ → Type 0
+  first d o rs₁ = Working (nf_explain (way false (take x.from l)) (way false (take x.from r))) (lent t e h rs ks) (lent t e h rs₁ ks) d o
 
-  module _ (d : State) (j : y ≡ adding.Counts d) where
-    pub heads-going : Going t e h ks c rs d rs₁
-    heads-going = record {
-      ready = added-ready j w;
-      added =
-          (explain-equal-gives (way false (take x.from l)) (way false (take x.from r)) (store_of (lent t e h rs ks) c) ready.audited
-          (way-all _ false _ (all_take _ x.from l strings)) (way-all _ false _ (all_take _ x.from r others)) (store_of (lent t e h rs₁ ks) d) tt (added-at j w).says).added;
-      kept = w.kept.store;
-    }
+  module _ (rs₁ : List ℕ) where
+    pub both-refused : (k : Refusal) → first c (added (Err k) (lent t e h rs₁ ks)) rs₁
+        → Working (explain_matches (matches (read_in t h c) l r)) (lent t e h rs ks) (lent t e h rs₁ ks) c (added (Err k) (lent t e h rs₁ ks))
+    both-refused k w = working_stopped (both-said w.says) w.kept
 
-    pub both-explained : (rs₂ : List ℕ) (o : Answered)
-        → Working (nf_explain (way true (part l x.lhs (length l))) (way true (part r x.rhs (length r)))) (lent t e h rs₁ ks) (lent t e h rs₂ ks) d (added o (lent t e h rs₂ ks))
-        → Working (explain_matches (matches (read_in t h c) l r)) (lent t e h rs ks) (lent t e h rs₂ ks) c (added o (lent t e h rs₂ ks))
-    both-explained rs₂ o v = record {
-      says = both-said (added-at j w).says ∙ said true (part l x.lhs (length l)) (part r x.rhs (length r)) (part-strings _ l x.lhs strings) (part-strings _ r x.rhs others) (tails_through l r x f) heads-going ∙ v.says;
-      kept = keeps-terms (kept_down t e h ks heads-going rs₂ v.kept.store) refl;
-      ready = v.ready;
-    }
+    module _ (d : State) (w : first c (added (Ok d) (lent t e h rs₁ ks)) rs₁) where
+      pub heads-going : Going t e h ks c rs d rs₁
+      heads-going = record {
+        ready = w.ready d tt refl;
+        added =
+            (explain-equal-gives (way false (take x.from l)) (way false (take x.from r)) (store_of (lent t e h rs ks) c) ready.audited
+            (way-all _ false _ (all_take _ x.from l strings)) (way-all _ false _ (all_take _ x.from r others)) (store_of (lent t e h rs₁ ks) d) tt w.says).added;
+        kept = w.kept.store;
+      }
+
+      pub both-explained : (rs₂ : List ℕ) (o : Result State Refusal)
+          → Working (nf_explain (way true (part l x.lhs (length l))) (way true (part r x.rhs (length r)))) (lent t e h rs₁ ks) (lent t e h rs₂ ks) d (added o (lent t e h rs₂ ks))
+          → Working (explain_matches (matches (read_in t h c) l r)) (lent t e h rs ks) (lent t e h rs₂ ks) c (added o (lent t e h rs₂ ks))
+      both-explained rs₂ o v = record {
+        says = both-said w.says ∙ said true (part l x.lhs (length l)) (part r x.rhs (length r)) (part-strings _ l x.lhs strings) (part-strings _ r x.rhs others) (tails_through l r x f) heads-going ∙ v.says;
+        kept = keeps-terms (kept_down t e h ks heads-going rs₂ v.kept.store) refl;
+        ready = v.ready;
+      }
 
 -- WHETHER A MATCH NEEDS A REASON
 
@@ -414,24 +416,26 @@ module _ (t e h rs ks l r : List ℕ) (c : State) (x : Rest) (f : Finds (read_in
 
 -- STEP 1
 
-module _ (t e h ks l r : List ℕ) {c : State} {rs rs₁ : List ℕ} (x : Rest) (f : Finds (read_in t h c) l r x) (y : Answered)
-    (w : Working (explain_matches (matches (read_in t h c) l r)) (lent t e h rs ks) (lent t e h rs₁ ks) c (added y (lent t e h rs₁ ks))) where
+module _ (t e h ks l r : List ℕ) (c : State) (rs rs₁ : List ℕ) (x : Rest) (f : Finds (read_in t h c) l r x) where
   abbrev entry : Store
   entry = store_of (lent t e h rs ks) c
 
-  explained : {z : Answered} → y ≡ z → Working (explain_matches (matches entry l r)) (lent t e h rs ks) (lent t e h rs₁ ks) c (added z (lent t e h rs₁ ks))
-  explained j = working_is (ap (λ (m : List (ℕ × ℕ)). explain_matches m entry) (matches-by entry (read_in t h c) (same_read t e h ks rs c) l r)) (added-at j w)
+  abbrev given : Result State Refusal → Type 0
+  given y = Working (explain_matches (matches (read_in t h c) l r)) (lent t e h rs ks) (lent t e h rs₁ ks) c (added y (lent t e h rs₁ ks))
 
-  stripping : {z : Answered} → y ≡ z → Working (strip l r) (lent t e h rs ks) (lent t e h rs₁ ks) c (and_then (λ u. give (rest entry l r)) (added z (lent t e h rs₁ ks)))
+  explained : (y : Result State Refusal) → given y → Working (explain_matches (matches entry l r)) (lent t e h rs ks) (lent t e h rs₁ ks) c (added y (lent t e h rs₁ ks))
+  explained y w = working_is (ap (λ (m : List (ℕ × ℕ)). explain_matches m entry) (matches-by entry (read_in t h c) (same_read t e h ks rs c) l r)) w
+
+  stripping : (y : Result State Refusal) → given y → Working (strip l r) (lent t e h rs ks) (lent t e h rs₁ ks) c (and_then (λ u. give (rest entry l r)) (added y (lent t e h rs₁ ks)))
   unfolding strip
-  stripping j = working_is refl (working_answer (λ u. give (rest entry l r)) (λ u s s' x i. one_store i) (explained j))
+  stripping y w = working_is refl (working_answer (λ u. give (rest entry l r)) (λ u s s' x i. one_store i) (explained y w))
 
-  pub strip-refused : (k : ℕ) → y ≡ adding.Refused k → Strips (lent t e h rs ks) (lent t e h rs₁ ks) c l r (Refused k)
-  strip-refused k j = record { is = stripping j; inside = tt; needs = tt }
+  pub strip-refused : (k : Refusal) → given (Err k) → Strips (lent t e h rs ks) (lent t e h rs₁ ks) c l r (Err k)
+  strip-refused k w = record { is = stripping (Err k) w; inside = tt; needs = tt }
 
-  pub strip-parts : (d : State) → y ≡ adding.Counts d → (b : Bool) → Asked (lent t e h rs ks) c l r x.from x.lhs x.rhs b → Strips (lent t e h rs ks) (lent t e h rs₁ ks) c l r (Parts d x.from x.lhs x.rhs b)
-  strip-parts d j b a = record {
-    is = working_at (ap (ok (store_of (lent t e h rs₁ ks) d)) (rest-by entry (read_in t h c) (same_read t e h ks rs c) l r ∙ f.is)) (stripping j);
+  pub strip-parts : (d : State) → given (Ok d) → (b : Bool) → Asked (lent t e h rs ks) c l r x.from x.lhs x.rhs b → Strips (lent t e h rs ks) (lent t e h rs₁ ks) c l r (Ok (record { counts = d; rest = x; needed = b }))
+  strip-parts d w b a = record {
+    is = working_at (ap (ok (store_of (lent t e h rs₁ ks) d)) (rest-by entry (read_in t h c) (same_read t e h ks rs c) l r ∙ f.is)) (stripping (Ok d) w);
     inside = f.inside;
     needs = a;
   }

@@ -1,16 +1,18 @@
-use mathlib.Core.Path.{refl, sym}
+use mathlib.Core.Path.{refl, sym, ◌∙◌}
+use borrow.Author.Tests.{eqb-true}
 use Rattle.sides.proofs.Refines.ExplainingEach.{citing-none, citing-end, citing-pair, citing-class, citing-refused, citing-turn}
+use Rattle.records.proofs.Public.{handed}
 use native.Mathlib.Omega.{arith}
 use borrow.Author.Rules.{rules}
 use Rattle.sides.proofs.explaining.explain_all_unchecked.Goals as goal
 
-pub returns-then-side-eq0 : goal.returns-then-side-eq0
-returns-then-side-eq0 c =
+pub returns-then-is_empty : goal.returns-then-is_empty
+returns-then-is_empty c =
     citing-end c.args.terms.now c.args.cells.now c.args.chars.now c.args.keys.now c.args.side.now
     c.args.v
     (citing-none c.args.terms.now c.args.cells.now c.args.chars.now c.args.keys.now c.args.side.now
     c.args.v c.requires.ready)
-    (let z = c.if-side-eq0.true in omega arith)
+    (let z = eqb-true _ 0 (sym c.is_empty.ensures ∙ c.if-is_empty.true) in omega arith)
 
 pub loop-u-init : goal.loop-u-init
 loop-u-init c = (
@@ -37,11 +39,11 @@ explain_atom-requires c =
           c.args.v c.loop-u.invariant.1.1 c.loop-u-test.true c.requires.every c.requires.every_2;
     }
 
-pub returns-in-Refused : goal.returns-in-Refused
-returns-in-Refused c =
-    citing-refused c.args.terms.now c.args.cells.now c.args.chars.now c.args.keys.now c.args.side.now
-    c.args.v c.loop-u.invariant.1.1 c.loop-u-test.true c.requires.every c.requires.every_2 _ _ c.explain_atom.ensures _
-    c.in-Refused.is
+pub returns-in_err-d : goal.returns-in_err-d
+returns-in_err-d c =
+    rw (handed _ c.from_residual.ensures.1)
+    (citing-refused c.args.terms.now c.args.cells.now c.args.chars.now c.args.keys.now c.args.side.now
+    c.args.v c.loop-u.invariant.1.1 c.loop-u-test.true c.requires.every c.requires.every_2 _ _ c.in_err-d.ensures)
 
 pub loop-u-preserved : goal.loop-u-preserved
 loop-u-preserved c = (
@@ -49,8 +51,7 @@ loop-u-preserved c = (
   (
     search rules,
     citing-turn c.args.terms.now c.args.cells.now c.args.chars.now c.args.keys.now c.args.side.now
-        c.args.v c.loop-u.invariant.1.1 c.loop-u-test.true c.requires.every c.requires.every_2 _ _ c.explain_atom.ensures
-        _ c.in-Counts.is,
+        c.args.v c.loop-u.invariant.1.1 c.loop-u-test.true c.requires.every c.requires.every_2 _ _ c.in_ok-d.ensures,
   ),
   search rules,
 )

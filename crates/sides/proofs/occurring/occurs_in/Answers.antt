@@ -1,4 +1,5 @@
 use native.Mathlib.Omega.{arith}
+use Rattle.records.proofs.Public.{handed}
 use Rattle.sides.proofs.Refines.LoneAtom.{not_lone, lone_constant, texts-known, classes-known, lone_within, side_within, not_found, found_arguments, found-conflict, found-refused}
 use Rattle.sides.proofs.occurring.occurs_in.Goals as goal
 
@@ -43,14 +44,15 @@ explain_unchecked-requires c = (
       c.if-kind_of-eq1.false _ c.find-i.ensures c.if-side-i.false,
 )
 
-pub returns-in-Counts : goal.returns-in-Counts
-returns-in-Counts c =
+pub returns-in_err-d : goal.returns-in_err-d
+returns-in_err-d c =
+    rw (handed _ c.from_residual.ensures.1)
+    (found-refused c.args.terms.now c.args.cells.now c.args.chars.now c.args.reasons.now c.args.keys.now
+    c.args.c c.args.lone.now c.args.side.now c.requires.ready c.requires.both_lists (omega arith) _ c.kind_of.ensures
+    c.if-kind_of-eq1.false _ c.find-i.ensures c.if-side-i.false _ _ c.in_err-d.ensures)
+
+pub returns : goal.returns
+returns c =
     found-conflict c.args.terms.now c.args.cells.now c.args.chars.now c.args.reasons.now c.args.keys.now
     c.args.c c.args.lone.now c.args.side.now c.requires.ready c.requires.both_lists (omega arith) _ c.kind_of.ensures
-    c.if-kind_of-eq1.false _ c.find-i.ensures c.if-side-i.false _ _ c.explain_unchecked.ensures _ c.in-Counts.is
-
-pub returns-in-Refused : goal.returns-in-Refused
-returns-in-Refused c =
-    found-refused c.args.terms.now c.args.cells.now c.args.chars.now c.args.reasons.now c.args.keys.now
-    c.args.c c.args.lone.now c.args.side.now c.requires.ready c.requires.both_lists (omega arith) _ c.kind_of.ensures
-    c.if-kind_of-eq1.false _ c.find-i.ensures c.if-side-i.false _ _ c.explain_unchecked.ensures _ c.in-Refused.is
+    c.if-kind_of-eq1.false _ c.find-i.ensures c.if-side-i.false _ _ c.in_ok-d.ensures

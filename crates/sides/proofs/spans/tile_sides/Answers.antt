@@ -1,3 +1,4 @@
+use Rattle.records.proofs.Public.{handed}
 use Rattle.sides.proofs.Refines.TileCalls.{tile-none, tile-fits, tile-pairs, tile-classes, tile-conflict, tile-refused}
 use Rattle.records.proofs.ListLaws.{list-short}
 use Rattle.records.specs.View.{lent, store_of}
@@ -35,14 +36,15 @@ explain_all_unchecked-requires c =
           c.is_unfit.ensures c.if-not-is_unfit.false-raw;
     }
 
-pub returns-in-Counts : goal.returns-in-Counts
-returns-in-Counts c =
+pub returns-in_err-d : goal.returns-in_err-d
+returns-in_err-d c =
+    rw (handed _ c.from_residual.ensures.1)
+    (tile-refused c.args.terms.now c.args.cells.now c.args.chars.now c.args.reasons.now c.args.keys.now
+    c.args.c c.args.word.now c.args.side.now _ c.first_variable_unchecked-i.ensures c.if-side-i.false _
+    c.is_unfit.ensures c.if-not-is_unfit.false-raw _ _ c.in_err-d.ensures)
+
+pub returns : goal.returns
+returns c =
     tile-conflict c.args.terms.now c.args.cells.now c.args.chars.now c.args.reasons.now c.args.keys.now
     c.args.c c.args.word.now c.args.side.now _ c.first_variable_unchecked-i.ensures c.if-side-i.false _
-    c.is_unfit.ensures c.if-not-is_unfit.false-raw _ _ c.explain_all_unchecked.ensures _ c.in-Counts.is
-
-pub returns-in-Refused : goal.returns-in-Refused
-returns-in-Refused c =
-    tile-refused c.args.terms.now c.args.cells.now c.args.chars.now c.args.reasons.now c.args.keys.now
-    c.args.c c.args.word.now c.args.side.now _ c.first_variable_unchecked-i.ensures c.if-side-i.false _
-    c.is_unfit.ensures c.if-not-is_unfit.false-raw _ _ c.explain_all_unchecked.ensures _ c.in-Refused.is
+    c.is_unfit.ensures c.if-not-is_unfit.false-raw _ _ c.in_ok-d.ensures

@@ -1,5 +1,6 @@
 use mathlib.Core.Path.{refl}
 use Rattle.sides.proofs.Refines.Pairs.{pairing_none, pairing_end, pairing_pair, pairing_refused, pairing_turn}
+use Rattle.records.proofs.Public.{handed}
 use native.Mathlib.Omega.{arith}
 use borrow.Author.Rules.{rules}
 use Rattle.sides.proofs.stripping.explain_pairs.Goals as goal
@@ -24,12 +25,12 @@ explain_pair-requires c =
           c.loop-i-test.true c.atom_unchecked-a.ensures c.atom_unchecked-b.ensures;
     }
 
-pub returns-in-Refused : goal.returns-in-Refused
-returns-in-Refused c =
-    pairing_refused c.args.terms.now c.args.cells.now c.args.chars.now c.args.keys.now c.args.lhs.now
+pub returns-in_err-d : goal.returns-in_err-d
+returns-in_err-d c =
+    rw (handed _ c.from_residual.ensures.1)
+    (pairing_refused c.args.terms.now c.args.cells.now c.args.chars.now c.args.keys.now c.args.lhs.now
     c.args.rhs.now c.args.tail c.loop-i.invariant.1.1 c.requires.lhs_len c.requires.lhs_value c.requires.rhs_value
-    c.loop-i-test.true c.atom_unchecked-a.ensures c.atom_unchecked-b.ensures _ _ c.explain_pair.ensures _
-    c.in-Refused.is
+    c.loop-i-test.true c.atom_unchecked-a.ensures c.atom_unchecked-b.ensures _ _ c.in_err-d.ensures)
 
 pub loop-i-preserved : goal.loop-i-preserved
 loop-i-preserved c = (
@@ -38,8 +39,7 @@ loop-i-preserved c = (
     search rules,
     pairing_turn c.args.terms.now c.args.cells.now c.args.chars.now c.args.keys.now c.args.lhs.now
         c.args.rhs.now c.args.tail c.loop-i.invariant.1.1 c.requires.lhs_len c.requires.lhs_value c.requires.rhs_value
-        c.loop-i-test.true c.atom_unchecked-a.ensures c.atom_unchecked-b.ensures _ _
-        c.explain_pair.ensures _ c.in-Counts.is,
+        c.loop-i-test.true c.atom_unchecked-a.ensures c.atom_unchecked-b.ensures _ _ c.in_ok-d.ensures,
   ),
   search rules,
 )

@@ -1,6 +1,7 @@
 use mathlib.Core.Bool.{true, false}
 use lib.ListN.{length, take}
 use Rattle.sides.specs.Working.Stripping.{part}
+use Rattle.records.proofs.Public.{handed}
 use Rattle.records.proofs.Lists.{all_take}
 use Rattle.sides.proofs.Refines.Stripping.{both-refused, heads-going, both-explained, through-length, heads_through, tails_through, part-strings}
 use Rattle.sides.proofs.Refines.AddingReasons.{going_strings}
@@ -16,11 +17,11 @@ explain_pairs-requires c =
           (heads_through c.args.lhs.now c.args.rhs.now c.args.rest c.requires.finds);
     }
 
-pub explain_pairs-requires-in-Counts : goal.explain_pairs-requires-in-Counts
-explain_pairs-requires-in-Counts c =
+pub explain_pairs-requires-2 : goal.explain_pairs-requires-2
+explain_pairs-requires-2 c =
     let going = heads-going c.args.terms.now c.args.cells.now c.args.chars.now c.args.keys.now c.args.lhs.now
-    c.args.rhs.now c.args.rest c.requires.finds c.requires.ready c.requires.lhs_value c.requires.rhs_value _
-    c.explain_pairs.ensures _ c.in-Counts.is in
+    c.args.rhs.now c.args.rest c.requires.finds c.requires.ready c.requires.lhs_value c.requires.rhs_value _ _
+    c.in_ok-d.ensures in
     record {
       ready = going.ready;
       lhs_value = going_strings c.args.terms.now c.args.cells.now c.args.chars.now c.args.keys.now going _
@@ -31,14 +32,13 @@ explain_pairs-requires-in-Counts c =
           (tails_through c.args.lhs.now c.args.rhs.now c.args.rest c.requires.finds);
     }
 
-pub returns-in-Counts : goal.returns-in-Counts
-returns-in-Counts c =
-    both-explained c.args.terms.now c.args.cells.now c.args.chars.now c.args.keys.now c.args.lhs.now
-    c.args.rhs.now c.args.rest c.requires.finds c.requires.ready c.requires.lhs_value c.requires.rhs_value _
-    c.explain_pairs.ensures _ c.in-Counts.is _ c.explain_pairs-in-Counts.result c.explain_pairs-in-Counts.ensures
+pub returns-in_err-d : goal.returns-in_err-d
+returns-in_err-d c =
+    rw (handed _ c.from_residual.ensures.1)
+    (both-refused c.args.terms.now c.args.cells.now c.args.chars.now c.args.keys.now c.args.lhs.now
+    c.args.rhs.now c.args.rest c.requires.finds c.requires.ready c.requires.lhs_value c.requires.rhs_value _ _ c.in_err-d.ensures)
 
-pub returns-in-Refused : goal.returns-in-Refused
-returns-in-Refused c =
-    both-refused c.args.terms.now c.args.cells.now c.args.chars.now c.args.keys.now c.args.lhs.now
-    c.args.rhs.now c.args.rest c.requires.finds c.requires.ready c.requires.lhs_value c.requires.rhs_value _
-    c.explain_pairs.ensures _ c.in-Refused.is
+pub returns : goal.returns
+returns c =
+    both-explained c.args.terms.now c.args.cells.now c.args.chars.now c.args.keys.now c.args.lhs.now
+    c.args.rhs.now c.args.rest c.requires.finds c.requires.ready c.requires.lhs_value c.requires.rhs_value _ _ c.in_ok-d.ensures _ c.explain_pairs-2.result c.explain_pairs-2.ensures

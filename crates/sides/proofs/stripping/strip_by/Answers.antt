@@ -1,3 +1,4 @@
+use Rattle.records.proofs.Public.{handed}
 use Rattle.sides.proofs.Refines.Stripping.{strip-refused, strip-parts}
 use Rattle.sides.proofs.stripping.strip_by.Goals as goal
 
@@ -19,13 +20,13 @@ explain_stripped-requires c =
       finds = c.requires.finds;
     }
 
-pub returns-in-Counts : goal.returns-in-Counts
-returns-in-Counts c =
-    strip-parts c.args.terms.now c.args.cells.now c.args.chars.now c.args.keys.now c.args.lhs.now
-    c.args.rhs.now _ c.requires.finds _ c.explain_stripped.ensures _ c.in-Counts.is _
-    c.matches_need-needed.ensures
+pub returns-in_err-counts : goal.returns-in_err-counts
+returns-in_err-counts c =
+    rw (handed _ c.from_residual.ensures.1)
+    (strip-refused c.args.terms.now c.args.cells.now c.args.chars.now c.args.keys.now c.args.lhs.now
+    c.args.rhs.now _ _ _ _ c.requires.finds _ c.in_err-counts.ensures)
 
-pub returns-in-Refused : goal.returns-in-Refused
-returns-in-Refused c =
-    strip-refused c.args.terms.now c.args.cells.now c.args.chars.now c.args.keys.now c.args.lhs.now
-    c.args.rhs.now _ c.requires.finds _ c.explain_stripped.ensures _ c.in-Refused.is
+pub returns : goal.returns
+returns c =
+    strip-parts c.args.terms.now c.args.cells.now c.args.chars.now c.args.keys.now c.args.lhs.now
+    c.args.rhs.now _ _ _ _ c.requires.finds _ c.in_ok-counts.ensures _ c.matches_need-needed.ensures
