@@ -81,7 +81,7 @@ fn right_form(
     incoming: usize,
 ) -> Outcome
     requires ready { (Ready (lent terms.old cells.old chars.old reasons.old keys.old) c) × (Candidates (store_of (lent terms.old cells.old chars.old reasons.old keys.old) c) known.now table.now) }
-    requires c_value { form_arguments known.now t (store_of (lent terms.old cells.old chars.old reasons.old keys.old) c) ≡ true }
+    requires arguments { form_arguments known.now t (store_of (lent terms.old cells.old chars.old reasons.old keys.old) c) ≡ true }
     requires lhs_value { is_list (store_of (lent terms.old cells.old chars.old reasons.old keys.old) c) lhs.now ≡ true }
     requires guard_value { is_guard guard ≡ true }
     requires list_limit_in_bounds { (list_limit ≤ length list.old) × (incoming ≤ c.reasons) }
@@ -158,16 +158,10 @@ pub fn step_unchecked(
 fn can_step(terms: &[u32], c: State, known: &[u32], e: u32, guard: i32) -> bool
     ensures { result ≡ step_arguments known.now e guard (termed terms.now c) }
 {
-    if !rules::is_list(terms, c, known) {
-        return false;
-    }
-    if rules::kind_of(terms, c.terms, e) != 5 {
-        return false;
-    }
-    if !rules::is_string(terms, c.terms, fields::first(terms, e)) {
-        return false;
-    }
-    wordeq::is_guard(guard)
+    rules::is_list(terms, c, known)
+        && rules::kind_of(terms, c.terms, e) == 5
+        && rules::is_string(terms, c.terms, fields::first(terms, e))
+        && wordeq::is_guard(guard)
 }
 
 // One step over the equation e, with the known list: the deep forms of both sides, then wordeq, its atoms in the first words of `list`.

@@ -52,13 +52,13 @@ fn put_atoms(
 {
     if letters::is_full_unchecked(terms, c, b) {
         let x = first_letter(terms, chars, c, b);
-        return splits::split_character_unchecked(terms, cells, chars, reasons, keys, c, a, x, list);
-    }
-    if letters::is_full_unchecked(terms, c, a) {
+        splits::split_character_unchecked(terms, cells, chars, reasons, keys, c, a, x, list)
+    } else if letters::is_full_unchecked(terms, c, a) {
         let y = first_letter(terms, chars, c, a);
-        return splits::split_character_unchecked(terms, cells, chars, reasons, keys, c, b, y, list);
+        splits::split_character_unchecked(terms, cells, chars, reasons, keys, c, b, y, list)
+    } else {
+        splits::split_heads_unchecked(terms, cells, chars, reasons, keys, c, a, b, list)
     }
-    splits::split_heads_unchecked(terms, cells, chars, reasons, keys, c, a, b, list)
 }
 
 // Two heads whose pair is no key: the key, then the atoms and how many terms they took.
@@ -119,10 +119,7 @@ pub(crate) fn split_unchecked(
     requires list_limit_in_bounds { list_limit ≤ length list.old }
     ensures { let l = lhs.now in let r = rhs.now in Does (clashes l r or_else splits guard needed l r) (across (changing terms) (changing cells) (changing chars) reasons (changing keys)) c (tried result into changing list) }
 {
-    if lhs.len() == 0 {
-        return StepResult::Done(c);
-    }
-    if rhs.len() == 0 {
+    if lhs.is_empty() || rhs.is_empty() {
         return StepResult::Done(c);
     }
     let a = lhs[0];
@@ -133,10 +130,7 @@ pub(crate) fn split_unchecked(
     if stripping::both_constant(terms, c.terms, a, b) {
         return StepResult::Done(c);
     }
-    if needed {
-        return StepResult::Saturated(c);
-    }
-    if put::is_key_unchecked(keys, c.keys, a, b) {
+    if needed || put::is_key_unchecked(keys, c.keys, a, b) {
         return StepResult::Saturated(c);
     }
     split_new(terms, cells, chars, reasons, keys, c, a, b, guard, list)

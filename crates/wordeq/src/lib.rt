@@ -30,20 +30,14 @@ pub enum Equality {
 pub fn are_lists(terms: &[u32], c: State, lhs: &[u32], rhs: &[u32]) -> bool
     ensures { result ≡ equal_arguments lhs.now rhs.now (termed terms.now c) }
 {
-    if !rules::is_list(terms, c, lhs) {
-        return false;
-    }
-    rules::is_list(terms, c, rhs)
+    rules::is_list(terms, c, lhs) && rules::is_list(terms, c, rhs)
 }
 
 // Two such lists of equal length.
 fn can_pair(terms: &[u32], c: State, lhs: &[u32], rhs: &[u32]) -> bool
     ensures { result ≡ nf_arguments lhs.now rhs.now (termed terms.now c) }
 {
-    if !are_lists(terms, c, lhs, rhs) {
-        return false;
-    }
-    lhs.len() == rhs.len()
+    are_lists(terms, c, lhs, rhs) && lhs.len() == rhs.len()
 }
 
 // Whether two lists are atom by atom the same.
@@ -96,23 +90,14 @@ pub fn nf_equal_explain(
 pub fn is_guard(g: i32) -> bool
     ensures { result ≡ is_guard g }
 {
-    if g == 0 {
-        return false;
-    }
-    if g == -2147483648 {
-        return false;
-    }
-    true
+    g != 0 && g != i32::MIN
 }
 
 // Two lists of string terms, and a guard.
 fn can_resolve(terms: &[u32], c: State, lhs: &[u32], rhs: &[u32], guard: i32) -> bool
     ensures { result ≡ resolve_arguments lhs.now rhs.now guard (termed terms.now c) }
 {
-    if !are_lists(terms, c, lhs, rhs) {
-        return false;
-    }
-    is_guard(guard)
+    are_lists(terms, c, lhs, rhs) && is_guard(guard)
 }
 
 // The word equation between two lists; a Split's atoms are the first words of `list`.

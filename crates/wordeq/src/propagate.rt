@@ -40,49 +40,31 @@ fn is_alias(terms: &[u32], chars: &[u32], c: State, l: &[u32], r: &[u32]) -> boo
     requires { Spelled terms.now chars.now c }
     ensures { result ≡ aliased (read_in terms.now chars.now c) l.now r.now }
 {
-    if l.len() != 1 {
-        return false;
-    }
-    if r.len() != 1 {
-        return false;
-    }
-    if !letters::is_plain_unchecked(terms, chars, c, l[0]) {
-        return false;
-    }
-    letters::is_plain_unchecked(terms, chars, c, r[0])
+    l.len() == 1
+        && r.len() == 1
+        && letters::is_plain_unchecked(terms, chars, c, l[0])
+        && letters::is_plain_unchecked(terms, chars, c, r[0])
 }
 
 // Whether all atoms are variables.
 fn are_variables(terms: &[u32], c: State, l: &[u32]) -> bool
     ensures { result ≡ all (is_variable (termed terms.now c)) l.now }
 {
-    letters::first_of_kind_unchecked(terms, c, l, 2, false) == l.len()
+    l.iter().all(|&a| rules::kind_of(terms, c.terms, a) == 2)
 }
 
 // An empty side against two or more variables.
 pub fn is_emptied_unchecked(terms: &[u32], c: State, l: &[u32], r: &[u32]) -> bool
     ensures { result ≡ emptied (termed terms.now c) l.now r.now }
 {
-    if l.len() != 0 {
-        return false;
-    }
-    if r.len() < 2 {
-        return false;
-    }
-    are_variables(terms, c, r)
+    l.is_empty() && r.len() >= 2 && are_variables(terms, c, r)
 }
 
 // A lone variable against constants.
 fn is_assigned(terms: &[u32], c: State, l: &[u32], r: &[u32]) -> bool
     ensures { result ≡ assigned (termed terms.now c) l.now r.now }
 {
-    if l.len() != 1 {
-        return false;
-    }
-    if rules::kind_of(terms, c.terms, l[0]) != 2 {
-        return false;
-    }
-    letters::is_fixed(terms, c, r)
+    l.len() == 1 && rules::kind_of(terms, c.terms, l[0]) == 2 && letters::is_fixed(terms, c, r)
 }
 
 // The first variable that is not the same as the word is propagated to it.
@@ -91,13 +73,10 @@ fn link_first(terms: &[u32], chars: &[u32], c: State, side: &[u32], word: u32) -
     requires every { Every (λ v. Pair (read_in terms.now chars.now c) v word) side.now }
     ensures { result ≡ linked c word (first_of (λ v. not (same (read_in terms.now chars.now c) v word)) side.now) }
 {
-    let mut i: usize = 0;
-    while i < side.len() {
-        let v = side[i];
+    for &v in side {
         if !stripping::same_unchecked(terms, chars, c, v, word) {
             return StepResult::Propagate(c, v, word, true);
         }
-        i += 1;
     }
     StepResult::Done(c)
 }
@@ -163,19 +142,16 @@ pub(crate) fn propagate_unchecked(
     ensures { let l = lhs.now in let r = rhs.now in Between (Tries (alias l r or_else empties l r or_else empties r l or_else assigns l r or_else assigns r l)) (across (changing terms) cells (changing chars) reasons keys) c result }
 {
     if is_alias(terms, chars, c, lhs, rhs) {
-        return StepResult::Propagate(c, lhs[0], rhs[0], false);
+        StepResult::Propagate(c, lhs[0], rhs[0], false)
+    } else if is_emptied_unchecked(terms, c, lhs, rhs) {
+        empties_unchecked(terms, cells, chars, reasons, keys, c, rhs)
+    } else if is_emptied_unchecked(terms, c, rhs, lhs) {
+        empties_unchecked(terms, cells, chars, reasons, keys, c, lhs)
+    } else if is_assigned(terms, c, lhs, rhs) {
+        assigns_unchecked(terms, cells, chars, reasons, keys, c, lhs[0], rhs)
+    } else if is_assigned(terms, c, rhs, lhs) {
+        assigns_unchecked(terms, cells, chars, reasons, keys, c, rhs[0], lhs)
+    } else {
+        StepResult::Done(c)
     }
-    if is_emptied_unchecked(terms, c, lhs, rhs) {
-        return empties_unchecked(terms, cells, chars, reasons, keys, c, rhs);
-    }
-    if is_emptied_unchecked(terms, c, rhs, lhs) {
-        return empties_unchecked(terms, cells, chars, reasons, keys, c, lhs);
-    }
-    if is_assigned(terms, c, lhs, rhs) {
-        return assigns_unchecked(terms, cells, chars, reasons, keys, c, lhs[0], rhs);
-    }
-    if is_assigned(terms, c, rhs, lhs) {
-        return assigns_unchecked(terms, cells, chars, reasons, keys, c, rhs[0], lhs);
-    }
-    StepResult::Done(c)
 }

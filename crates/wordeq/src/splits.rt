@@ -28,12 +28,11 @@ fn make_named(
 ) -> Made
     requires ready { Ready (lent terms.old cells.now chars.old reasons.now keys.now) c }
     requires len_bound { len ≤ 15 }
-    requires c_value { variable_arguments (take len name.now) (store_of (lent terms.old cells.now chars.old reasons.now keys.now) c) ≡ true }
-    requires c_value_2 { lookup (named (take len name.now)) (store_of (lent terms.old cells.now chars.old reasons.now keys.now) c) ≡ none }
+    requires is_name { variable_arguments (take len name.now) (store_of (lent terms.old cells.now chars.old reasons.now keys.now) c) ≡ true }
+    requires is_new { lookup (named (take len name.now)) (store_of (lent terms.old cells.now chars.old reasons.now keys.now) c) ≡ none }
     ensures { Does (make_variable (take len name.now)) (across (changing terms) cells (changing chars) reasons keys) c (made result) }
 {
-    let all: &[u32] = name;
-    make::make_new_variable_unchecked(terms, cells, chars, reasons, keys, c, &all[..len])
+    make::make_new_variable_unchecked(terms, cells, chars, reasons, keys, c, &name[..len])
 }
 
 // A variable of the next free name.
@@ -52,7 +51,6 @@ pub(crate) fn fresh_str_unchecked(
     if named.code != 0 {
         return Made::Refused(named.code);
     }
-    let name = named.name;
     make_named(
         terms,
         cells,
@@ -60,7 +58,7 @@ pub(crate) fn fresh_str_unchecked(
         reasons,
         keys,
         named.state,
-        &name,
+        &named.name,
         named.len,
     )
 }

@@ -34,9 +34,10 @@ fn conflicts_unchecked<'a>(
         return o;
     };
     if lacking::constants_unchecked(terms, chars, d, lhs, rhs) {
-        return StepResult::Conflict(d);
+        StepResult::Conflict(d)
+    } else {
+        StepResult::Done(d)
     }
-    StepResult::Done(d)
 }
 
 // Steps 2 to 7 on what step 1 left; needed: a match that it stripped needs a reason.
@@ -80,10 +81,7 @@ pub(crate) fn after_unchecked<'a>(
 fn is_bare(l: &[u32], r: &[u32]) -> bool
     ensures { result ≡ is_bare l.now r.now }
 {
-    if l.len() != 0 {
-        return false;
-    }
-    r.len() == 0
+    l.is_empty() && r.is_empty()
 }
 
 // Steps 1 to 8: Done where step 1 leaves nothing, or where no step answers.

@@ -9,16 +9,16 @@ use lib.ListN.{length, take, get_or, length-take}
 use lib.Seq.{ext_get_or, get_or-take}
 use lib.IntN.{ℤ}
 use lib.Dec.{leb}
-use borrow.Author.Tests.{eq-eqb, ne_eqb, eqb-true, le-leb, not-true, not-false}
+use borrow.Author.Tests.{eqb-true, le-leb, not-false}
 use Rattle.records.specs.declared.State.{State}
 use Rattle.records.specs.Lists.{all}
 use Rattle.records.specs.Store.{Term, Room, Store, Out, ok, stop, Work, and_then, ◌>>=◌, term, kind, is_string, is_equation}
-use Rattle.records.specs.View.{Lent, lent, store_of, term_at, pair_at, pairs_view, reasons_at}
+use Rattle.records.specs.View.{termed, Lent, lent, store_of, term_at, pair_at, pairs_view, reasons_at}
 use Rattle.records.specs.Rules.{audit, reason_rule, list_limit, is_list}
 use Rattle.records.specs.Make.{with_reasons}
 use Rattle.records.specs.Working.Audited.{Audited, Ready}
 use Rattle.records.specs.Working.Doing.{ReadyFor, Working, CutRefused}
-use Rattle.records.proofs.Lists.{both_left, both_right, both_true, left_false, right-false, and-next, all_every, every_all, table_same, table-length, table_at_lem, all-table, below_at, below_all}
+use Rattle.records.proofs.Lists.{both_left, both_right, both_true, all_every, every_all, table_same, table-length, table_at_lem, all-table, below_at, below_all}
 use Rattle.records.proofs.Works.{stop-not, one_store, via}
 use Rattle.records.proofs.Beside.{audited-beside}
 use Rattle.records.proofs.IndexStores.{records_same-but}
@@ -341,32 +341,9 @@ module _ (known : List ℕ) (e : ℕ) (g : ℤ) (m : Lent) (c : State) (l : List
 
 -- THE ARGUMENTS
 
-module _ (l : List ℕ) (c : State) (known : List ℕ) (e : ℕ) (g : ℤ) (b : Bool) (i : b ≡ is_list (store_of (lent l [] [] [] []) c) known) where
-  abbrev here : Store
-  here = store_of (lent l [] [] [] []) c
-
-  pub steps_no_list : not b ≡ true → false ≡ step_arguments known e g here
-  steps_no_list n = sym (left_false _ _ (left_false _ _ (left_false _ _ (sym i ∙ not-true b n))))
-
-  module _ (n : not b ≡ false) (k : ℕ) (j : k ≡ kind here e) where
-    pub steps_no_equation : (k ≡ 5 → ⊥) → false ≡ step_arguments known e g here
-    steps_no_equation d = sym (left_false _ _ (left_false _ _ (right-false (is_list here known) _ (ne_eqb (kind here e) 5 (λ q. d (j ∙ q))))))
-
-    module _ (d : k ≡ 5) (a : ℕ) (p : a ≡ (term_at l e).first) (x : Bool) (q : x ≡ is_string here a) where
-      equation : is_equation here e ≡ true
-      equation = eq-eqb (kind here e) 5 (sym j ∙ d)
-
-      first_is : a ≡ (term here e).first
-      first_is = p ∙ ap (λ (y : Term). y.first) (sym (view_term l c.terms e (term-within (lent l [] [] [] []) c e (kind-term here e 4 (sym j ∙ d)))))
-
-      string-is : x ≡ is_string here (term here e).first
-      string-is = q ∙ ap (is_string here) first_is
-
-      both : is_list here known && is_equation here e ≡ true
-      both = both_true (is_list here known) _ (sym i ∙ not-false b n) equation
-
-      pub steps_no_string : not x ≡ true → false ≡ step_arguments known e g here
-      steps_no_string h = sym (left_false _ _ (right-false (is_list here known && is_equation here e) _ (sym string-is ∙ not-true x h)))
-
-      pub steps-last : not x ≡ false → (y : Bool) → y ≡ is_guard g → y ≡ step_arguments known e g here
-      steps-last h y z = and-next (is_list here known && is_equation here e && is_string here (term here e).first) (is_guard g) y (both_true (is_list here known && is_equation here e) _ both (sym string-is ∙ not-false x h)) z
+module _ (l : List ℕ) (c : State) (known : List ℕ) (e : ℕ) (v : Bool) (x : v ≡ (is_list (termed l c) known && is_equation (termed l c) e)) where
+  -- the side of an equation that is read
+  pub equation-first : v ≡ true → (a : ℕ) → a ≡ (term_at l e).first → (b : Bool) → b ≡ is_string (termed l c) a → b ≡ (v && is_string (termed l c) (term (termed l c) e).first)
+  equation-first h a p b q =
+      let i = eqb-true (kind (termed l c) e) 5 (both_right (is_list (termed l c) known) _ (sym x ∙ h)) in
+      rw h (q ∙ ap (is_string (termed l c)) (p ∙ ap (λ (y : Term). y.first) (sym (view_term l c.terms e (term-within (lent l [] [] [] []) c e (kind-term (termed l c) e 4 i))))))

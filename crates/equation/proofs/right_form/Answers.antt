@@ -13,19 +13,19 @@ deep_form_by_unchecked-requires c =
     record {
       ready = c.requires.ready.0;
       candidates = c.requires.ready.1;
-      t_value = term-string c.requires.ready.0 c.args.known.now c.args.t c.requires.c_value;
+      t_value = term-string c.requires.ready.0 c.args.known.now c.args.t c.requires.arguments;
       list_limit_in_bounds = omega arith;
     }
 
 pub slice_bounds-right-end : goal.slice_bounds-right-end
 slice_bounds-right-end c =
-    (let h = form-short c.deep_form_by_unchecked.new.list c.args.known.now c.args.t _ c.requires.ready.0 c.requires.c_value
+    (let h = form-short c.deep_form_by_unchecked.new.list c.args.known.now c.args.t _ c.requires.ready.0 c.requires.arguments
     c.deep_form_by_unchecked.ensures c.in-List.is in
     let k = c.deep_form_by_unchecked.auto.list in omega arith)
 
 pub slice_bounds-resolve_forms-end : goal.slice_bounds-resolve_forms-end
 slice_bounds-resolve_forms-end c =
-    (let h = form-short c.deep_form_by_unchecked.new.list c.args.known.now c.args.t _ c.requires.ready.0 c.requires.c_value
+    (let h = form-short c.deep_form_by_unchecked.new.list c.args.known.now c.args.t _ c.requires.ready.0 c.requires.arguments
     c.deep_form_by_unchecked.ensures c.in-List.is in
     let k = c.deep_form_by_unchecked.auto.list in sym (length-take-le _ c.deep_form_by_unchecked.new.list (omega arith)))
 
@@ -34,34 +34,34 @@ resolve_forms-requires c =
     let the-deep-form = c.deep_form_by_unchecked.new.list in
     let the-deep-form-ensures = c.deep_form_by_unchecked.ensures in
     record {
-      ready = form-ready the-deep-form c.args.known.now c.args.t _ c.requires.ready.0 c.requires.c_value the-deep-form-ensures c.in-List.is;
-      both_lists = record { left = form-keeps the-deep-form c.args.known.now c.args.t _ c.requires.ready.0 c.requires.c_value the-deep-form-ensures c.in-List.is c.args.lhs.now c.requires.lhs_value; right = form-list the-deep-form c.args.known.now c.args.t _ c.requires.ready.0 c.requires.c_value the-deep-form-ensures c.in-List.is (first_part the-deep-form _ (let h = form-short the-deep-form c.args.known.now c.args.t _ c.requires.ready.0 c.requires.c_value the-deep-form-ensures c.in-List.is in let k = c.deep_form_by_unchecked.auto.list in omega arith)) };
+      ready = form-ready the-deep-form c.args.known.now c.args.t _ c.requires.ready.0 c.requires.arguments the-deep-form-ensures c.in-List.is;
+      both_lists = record { left = form-keeps the-deep-form c.args.known.now c.args.t _ c.requires.ready.0 c.requires.arguments the-deep-form-ensures c.in-List.is c.args.lhs.now c.requires.lhs_value; right = form-list the-deep-form c.args.known.now c.args.t _ c.requires.ready.0 c.requires.arguments the-deep-form-ensures c.in-List.is (first_part the-deep-form _ (let h = form-short the-deep-form c.args.known.now c.args.t _ c.requires.ready.0 c.requires.arguments the-deep-form-ensures c.in-List.is in let k = c.deep_form_by_unchecked.auto.list in omega arith)) };
       guard_value = ap is_guard (to_z-of_z w32 c.args.guard c.ranges.guard) ∙ c.requires.guard_value;
       list_limit_in_bounds = (
         c.requires.list_limit_in_bounds.0,
-        form-incoming the-deep-form c.args.known.now c.args.t _ c.requires.ready.0 c.requires.c_value the-deep-form-ensures c.in-List.is c.requires.list_limit_in_bounds.1,
+        form-incoming the-deep-form c.args.known.now c.args.t _ c.requires.ready.0 c.requires.arguments the-deep-form-ensures c.in-List.is c.requires.list_limit_in_bounds.1,
       );
     }
 
 pub returns-in-List : goal.returns-in-List
 returns-in-List c =
     right-some c.deep_form_by_unchecked.new.list c.args.known.now c.args.t c.args.incoming _
-    c.args.guard c.args.lhs.now c.requires.list_limit_in_bounds.1 c.requires.ready.0 c.requires.c_value c.deep_form_by_unchecked.ensures
+    c.args.guard c.args.lhs.now c.requires.list_limit_in_bounds.1 c.requires.ready.0 c.requires.arguments c.deep_form_by_unchecked.ensures
     c.in-List.is
     (first_part c.deep_form_by_unchecked.new.list _
     (let h = form-short c.deep_form_by_unchecked.new.list c.args.known.now c.args.t _ c.requires.ready.0
-    c.requires.c_value c.deep_form_by_unchecked.ensures c.in-List.is in
+    c.requires.arguments c.deep_form_by_unchecked.ensures c.in-List.is in
     let k = c.deep_form_by_unchecked.auto.list in omega arith))
     _ (to_z-of_z w32 c.args.guard c.ranges.guard) c.resolve_forms.ensures
 
 pub returns-in-None : goal.returns-in-None
 returns-in-None c =
     right-none c.deep_form_by_unchecked.new.list c.args.known.now c.args.t c.args.incoming _
-    c.args.guard c.args.lhs.now c.requires.list_limit_in_bounds.1 c.requires.ready.0 c.requires.c_value c.deep_form_by_unchecked.ensures
+    c.args.guard c.args.lhs.now c.requires.list_limit_in_bounds.1 c.requires.ready.0 c.requires.arguments c.deep_form_by_unchecked.ensures
     c.in-None.is c.with_reasons.ensures
 
 pub returns-in-Refused : goal.returns-in-Refused
 returns-in-Refused c =
     right-stop c.deep_form_by_unchecked.new.list c.args.known.now c.args.t c.args.incoming _
-    c.args.guard c.args.lhs.now c.requires.list_limit_in_bounds.1 c.requires.ready.0 c.requires.c_value c.deep_form_by_unchecked.ensures
+    c.args.guard c.args.lhs.now c.requires.list_limit_in_bounds.1 c.requires.ready.0 c.requires.arguments c.deep_form_by_unchecked.ensures
     c.in-Refused.is

@@ -50,7 +50,7 @@ right_form-requires c =
         form-ready the-deep-form c.args.known.now c.first-a.result _ c.requires.ready by-left-fits the-deep-form-ensures c.in-List.is,
         form_candidates the-deep-form c.args.known.now c.first-a.result _ c.requires.ready by-left-fits the-deep-form-ensures c.in-List.is c.known_table_unchecked-table.ensures,
       );
-      c_value = right-fits c.args.known.now c.args.e c.args.guard _ _ c.requires.ready c.requires.c_value the-deep-form _
+      arguments = right-fits c.args.known.now c.args.e c.args.guard _ _ c.requires.ready c.requires.c_value the-deep-form _
           c.first-a.result c.second-b.result c.first-a.ensures c.second-b.ensures the-deep-form-ensures c.in-List.is;
       lhs_value = form-list the-deep-form c.args.known.now c.first-a.result _ c.requires.ready by-left-fits the-deep-form-ensures c.in-List.is
           (first_part the-deep-form _

@@ -30,8 +30,8 @@ use Rattle.wordeq.specs.Working.Resolving.{soft, flat_steps, ran}
 -- SOME ATOM IS A CONCATENATION
 
 module _ (s : Store) (l r : List ℕ) (b : Bool) (e : b ≡ any (is_concat s) l) where
-  pub either_left : b ≡ true → true ≡ any (is_concat s) (l ++ r)
-  either_left h = sym (any_append (is_concat s) l r ∙ ap (λ (x : Bool). x || any (is_concat s) r) (sym e ∙ h))
+  pub either_left : b ≡ true → b ≡ any (is_concat s) (l ++ r)
+  either_left h = h ∙ sym (any_append (is_concat s) l r ∙ ap (λ (x : Bool). x || any (is_concat s) r) (sym e ∙ h))
 
   pub either_right : b ≡ false → (x : Bool) → x ≡ any (is_concat s) r → x ≡ any (is_concat s) (l ++ r)
   either_right h x q = q ∙ sym (any_append (is_concat s) l r ∙ ap (λ (y : Bool). y || any (is_concat s) r) (sym e ∙ h))

@@ -7,7 +7,7 @@ use Prim.Native.Nat.{ℕ, ◌+◌, ◌≤◌, ◌<◌}
 use native.Mathlib.Omega.{arith}
 use lib.ListN.{length, get_or, drop, drop_of_length-le}
 use lib.Dec.{eqb, leb}
-use borrow.Author.Tests.{eqb-true, eq-eqb, ne_eqb, leb-true, le-leb, lt-leb}
+use borrow.Author.Tests.{eqb-true, leb-true}
 use Rattle.records.specs.declared.State.{State}
 use Rattle.records.specs.declared.Made.{Made}
 use Rattle.records.specs.declared.Made.TheVariants.{Term, Refused}
@@ -26,49 +26,12 @@ use Rattle.records.proofs.Works.{one_store}
 use Rattle.records.proofs.Sequence.{made_at}
 use Rattle.sides.specs.declared.StepResult.{StepResult}
 use Rattle.sides.specs.declared.StepResult.TheVariants as step
-use Rattle.sides.specs.Wordeq.{Answer, Tried, same, fixed, letters, is_plain, empties, empties_at, assigns}
+use Rattle.sides.specs.Wordeq.{Answer, Tried, same, fixed, letters, empties, empties_at, assigns}
 use Rattle.sides.specs.Working.Results.{tried, Tries}
 use Rattle.sides.specs.Working.Stripping.{Pair}
-use Rattle.wordeq.specs.Working.Propagates.{aliased, emptied, assigned, linked}
+use Rattle.wordeq.specs.Working.Propagates.{emptied, linked}
 use Rattle.wordeq.proofs.Refines.SplitAtoms.{no_characters}
 use Rattle.wordeq.proofs.Refines.PropagateMakes.{assigns-made}
-
--- THE TESTS
-
-module _ (s : Store) (l r : List ℕ) where
-  pub aliased-left : (length l ≡ 1 → ⊥) → false ≡ aliased s l r
-  aliased-left n = rw (ne_eqb (length l) 1 n)
-
-  module _ (e : length l ≡ 1) where
-    pub aliased-right : (length r ≡ 1 → ⊥) → false ≡ aliased s l r
-    aliased-right n = rw (eq-eqb (length l) 1 e, ne_eqb (length r) 1 n)
-
-    module _ (f : length r ≡ 1) (x : Bool) (i : x ≡ is_plain s (get_or l 0 0)) where
-      pub aliased-first : not x ≡ true → false ≡ aliased s l r
-      aliased-first n = rw (eq-eqb (length l) 1 e, eq-eqb (length r) 1 f, failed _ x i n)
-
-      pub aliased-last : not x ≡ false → (y : Bool) → y ≡ is_plain s (get_or r 0 0) → y ≡ aliased s l r
-      aliased-last n y j = rw (eq-eqb (length l) 1 e, eq-eqb (length r) 1 f, passed _ x i n) j
-
-  pub emptied-left : (length l ≡ 0 → ⊥) → false ≡ emptied s l r
-  emptied-left n = rw (ne_eqb (length l) 0 n)
-
-  module _ (e : length l ≡ 0) where
-    pub emptied-short : length r < 2 → false ≡ emptied s l r
-    emptied-short n = rw (eq-eqb (length l) 0 e, lt-leb 2 (length r) n)
-
-    pub emptied-last : 2 ≤ length r → (y : Bool) → y ≡ all (is_variable s) r → y ≡ emptied s l r
-    emptied-last n y j = rw (eq-eqb (length l) 0 e, le-leb 2 (length r) n) j
-
-  pub assigned-left : (length l ≡ 1 → ⊥) → false ≡ assigned s l r
-  assigned-left n = rw (ne_eqb (length l) 1 n)
-
-  module _ (e : length l ≡ 1) (k : ℕ) (i : k ≡ kind s (get_or l 0 0)) where
-    pub assigned-kind : (k ≡ 2 → ⊥) → false ≡ assigned s l r
-    assigned-kind n = rw (eq-eqb (length l) 1 e, ne_eqb (kind s (get_or l 0 0)) 2 (λ z. n (i ∙ z)))
-
-    pub assigned-last : k ≡ 2 → (y : Bool) → y ≡ fixed s r → y ≡ assigned s l r
-    assigned-last n y j = rw (eq-eqb (length l) 1 e, eq-eqb (kind s (get_or l 0 0)) 2 (sym i ∙ n)) j
 
 -- THE FIRST VARIABLE THAT IS NOT THE SAME
 

@@ -7,7 +7,8 @@ use Prim.Native.Nat.{ℕ, suc, ◌-◌, ◌≤◌, ◌<◌}
 use native.Mathlib.Omega.{arith}
 use lib.ListN.{length, take}
 use lib.IntN.{ℤ, pos, negsuc}
-use borrow.Author.Tests.{not-true, not-false, eq-eqb, ne_eqb}
+use borrow.Author.Tests.{not-false, eqb-true, eq-eqb, ne_eqb}
+use lib.Dec.{eqb}
 use mir.Syntax.{w32}
 use mir.Val.{to_z, of_z, SFits}
 use mir.ValLaws.{to_z-of_z}
@@ -20,7 +21,7 @@ use Rattle.records.specs.Make.{with_reasons}
 use Rattle.records.specs.Rules.{audit, list_limit, is_list}
 use Rattle.records.specs.Working.Audited.{Ready}
 use Rattle.records.specs.Working.Doing.{ReadyFor, Working, CutRefused}
-use Rattle.records.proofs.Lists.{both_left, both_right, left_false, and-next, all_every}
+use Rattle.records.proofs.Lists.{both_left, both_right, all_every, same_test}
 use Rattle.records.proofs.Works.{stop-not, one_store}
 use Rattle.records.proofs.Outcomes.{refused_wider}
 use Rattle.records.proofs.IndexStores.{records_same-but}
@@ -40,9 +41,6 @@ use Rattle.sides.proofs.Resolve.{resolve-gives, resolve-grows, resolve-kept, res
 use Rattle.sides.proofs.Decided.{resolve-decides}
 
 -- CLOSED
-
-pub split-same : {d d' : State} {n j : ℕ} {g g' : ℤ} → d ≡ d' → g ≡ g' → step.Split d n g j ≡ step.Split d' n g' j
-split-same p q = cc
 
 module _ (m m' : Lent) (c : State) (k : List ℕ) (kept : store_of m' c ≡ store_of m c) where
   -- the incoming reasons are still there
@@ -89,30 +87,24 @@ resolve-closed m c l r g ready lists f {m'} k o w x i =
 -- ARGUMENTS
 
 -- a guard by its bits
-pub guard-zero : (g : ℤ) → SFits w32 g → of_z w32 g ≡ 0 → false ≡ is_guard g
+pub guard-zero : (g : ℤ) → SFits w32 g → of_z w32 g ≡ 0 → not (eqb (of_z w32 g) 0) ≡ is_guard g
 unfolding is_guard
-guard-zero (pos n) f e = sym (ap not (eq-eqb n 0 e))
+guard-zero (pos n) f e = refl
 guard-zero (negsuc n) f e = let h : n < 0x8000_0000 = f.sfits in let k : 0x1_0000_0000 - suc n ≡ 0 = e in absurd (omega arith)
 
-pub guard-lowest : (g : ℤ) → SFits w32 g → of_z w32 g ≡ 0x8000_0000 → false ≡ is_guard g
+pub guard-other : (g : ℤ) → SFits w32 g → (of_z w32 g ≡ 0 → ⊥) → not (eqb (of_z w32 g) 0x8000_0000) ≡ is_guard g
 unfolding is_guard
-guard-lowest (pos n) f e = let h : n < 0x8000_0000 = f.sfits in let k : n ≡ 0x8000_0000 = e in absurd (omega arith)
-guard-lowest (negsuc n) f e = let h : n < 0x8000_0000 = f.sfits in let k : 0x1_0000_0000 - suc n ≡ 0x8000_0000 = e in sym (ap not (eq-eqb n 0x7FFF_FFFF (omega arith)))
-
-pub guard_good : (g : ℤ) → SFits w32 g → (of_z w32 g ≡ 0 → ⊥) → (of_z w32 g ≡ 0x8000_0000 → ⊥) → true ≡ is_guard g
-unfolding is_guard
-guard_good (pos n) f p q = sym (ap not (ne_eqb n 0 p))
-guard_good (negsuc n) f p q = sym (ap not (ne_eqb n 0x7FFF_FFFF (λ e. q (at n e))))
+guard-other (pos n) f p = let h : n < 0x8000_0000 = f.sfits in ap not (ne_eqb n 0x8000_0000 (λ e. omega arith) ∙ sym (ne_eqb n 0 p))
+guard-other (negsuc n) f p =
+    ap not (same_test (eqb (0x1_0000_0000 - suc n) 0x8000_0000) (eqb n 0x7FFF_FFFF)
+    (λ e. let k = eqb-true (0x1_0000_0000 - suc n) 0x8000_0000 e in eq-eqb n 0x7FFF_FFFF (at n k))
+    (λ e. let k = eqb-true n 0x7FFF_FFFF e in eq-eqb (0x1_0000_0000 - suc n) 0x8000_0000 (back n k)))
   where
-    at : (n : ℕ) → n ≡ 0x7FFF_FFFF → 0x1_0000_0000 - suc n ≡ 0x8000_0000
+    at : (n : ℕ) → 0x1_0000_0000 - suc n ≡ 0x8000_0000 → n ≡ 0x7FFF_FFFF
     at n e = omega arith
 
-module _ (s : Store) (l r : List ℕ) (g : ℤ) (b : Bool) (e : b ≡ equal_arguments l r s) where
-  pub guard-stop : not b ≡ true → false ≡ resolve_arguments l r g s
-  guard-stop h = sym (left_false _ _ (sym e ∙ not-true b h))
-
-  pub guard-last : not b ≡ false → SFits w32 g → (x : Bool) → x ≡ is_guard (to_z w32 (of_z w32 g)) → x ≡ resolve_arguments l r g s
-  guard-last h f x q = and-next (equal_arguments l r s) (is_guard g) x (sym e ∙ not-false b h) (q ∙ ap is_guard (to_z-of_z w32 g f))
+    back : (n : ℕ) → n ≡ 0x7FFF_FFFF → 0x1_0000_0000 - suc n ≡ 0x8000_0000
+    back n e = omega arith
 
 -- RESOLVE_EQUATION
 

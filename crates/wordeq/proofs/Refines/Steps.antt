@@ -2,14 +2,14 @@
 use Rattle.std.specs.Prelude.{if◌then◌else◌}
 use mathlib.Core.Path.{◌≡◌, refl, sym, ap, subst, ◌∙◌}
 use mathlib.Core.Bool.{Bool, true, false}
-use mathlib.Core.List.{List, [], ◌∷◌}
+use mathlib.Core.List.{List}
 use mathlib.Core.Option.{Option, none, some}
 use Prim.Native.Nat.{ℕ, ◌-◌, ◌*◌, ◌^◌, ◌≤◌, ◌<◌}
 use native.Mathlib.Omega.{arith}
 use lib.ListN.{length, drop, length-append, length-take, length-drop}
 use lib.IntN.{ℤ}
-use lib.Dec.{eqb, leb}
-use borrow.Author.Tests.{ne_eqb, le-leb}
+use lib.Dec.{leb}
+use borrow.Author.Tests.{le-leb}
 use Rattle.records.specs.declared.State.{State}
 use Rattle.records.specs.Lists.{all, any}
 use Rattle.records.specs.Store.{Store, Out, ok, and_then, is_string}
@@ -81,15 +81,6 @@ module _ (l r : List ℕ) (g : ℤ) (needed : Bool) where
             (subst (λ (z : ℤ). Working (clashes l r or_else splits z needed l r) m₃ m₄ f o) q v))))
 
 -- STEP 1 FIRST
-
-pub not-bare : (l r : List ℕ) → (length l ≡ 0 → ⊥) → false ≡ is_bare l r
-not-bare [] r z = absurd (z refl)
-not-bare (a ∷ l) r z = refl
-
-pub bare-right : (l r : List ℕ) → length l ≡ 0 → eqb (length r) 0 ≡ is_bare l r
-bare-right [] [] z = refl
-bare-right [] (b ∷ r) z = ne_eqb (length (b ∷ r)) 0 (λ e. omega arith)
-bare-right (a ∷ l) r z = absurd (omega arith)
 
 higher-added : {s s₁ : Store} → Added s s₁ → Higher s s₁
 higher-added {s} a =

@@ -25,13 +25,13 @@ returns-then-is_full_unchecked c =
     atoms-right c.args.a c.args.b _ _ (full_at c.args.b c.requires.ready c.is_full_unchecked.ensures c.if-is_full_unchecked.true)
     c.first_letter-x.ensures c.split_character_unchecked.ensures
 
-pub is_full_unchecked-requires-2 : goal.is_full_unchecked-requires-2
-is_full_unchecked-requires-2 c =
+pub is_full_unchecked-requires-else-is_full_unchecked : goal.is_full_unchecked-requires-else-is_full_unchecked
+is_full_unchecked-requires-else-is_full_unchecked c =
     texts-of c.requires.ready
 
 pub first_letter-y-requires : goal.first_letter-y-requires
 first_letter-y-requires c =
-    (read_in-of c.requires.ready, sym c.is_full_unchecked-2.ensures ∙ c.if-is_full_unchecked-2.true)
+    (read_in-of c.requires.ready, sym c.is_full_unchecked-else-is_full_unchecked.ensures ∙ c.if-is_full_unchecked-2.true)
 
 pub split_character_unchecked-requires-then-is_full_unchecked-2 : goal.split_character_unchecked-requires-then-is_full_unchecked-2
 split_character_unchecked-requires-then-is_full_unchecked-2 c =
@@ -45,7 +45,7 @@ split_character_unchecked-requires-then-is_full_unchecked-2 c =
 pub returns-then-is_full_unchecked-2 : goal.returns-then-is_full_unchecked-2
 returns-then-is_full_unchecked-2 c =
     atoms-left c.args.a c.args.b c.requires.head_pair _ _
-    (full_at c.args.a c.requires.ready c.is_full_unchecked-2.ensures c.if-is_full_unchecked-2.true) c.first_letter-y.ensures
+    (full_at c.args.a c.requires.ready c.is_full_unchecked-else-is_full_unchecked.ensures c.if-is_full_unchecked-2.true) c.first_letter-y.ensures
     c.split_character_unchecked-then-is_full_unchecked-2.ensures
 
 pub split_heads_unchecked-requires : goal.split_heads_unchecked-requires
@@ -57,7 +57,7 @@ split_heads_unchecked-requires c =
       in_bounds = c.requires.in_bounds;
     }
 
-pub returns : goal.returns
-returns c =
+pub returns-else-is_full_unchecked-2 : goal.returns-else-is_full_unchecked-2
+returns-else-is_full_unchecked-2 c =
     atoms-heads c.args.a c.args.b (full_at c.args.b c.requires.ready c.is_full_unchecked.ensures c.if-is_full_unchecked.false)
-    (full_at c.args.a c.requires.ready c.is_full_unchecked-2.ensures c.if-is_full_unchecked-2.false) c.split_heads_unchecked.ensures
+    (full_at c.args.a c.requires.ready c.is_full_unchecked-else-is_full_unchecked.ensures c.if-is_full_unchecked-2.false) c.split_heads_unchecked.ensures

@@ -47,14 +47,14 @@ empties_unchecked-requires-then-is_emptied_unchecked-2 c =
     record {
       ready = c.requires.ready;
       side_value = emptied-bare (termed c.args.terms.now c.args.c) c.args.rhs.now c.args.lhs.now _ c.if-is_emptied_unchecked-2.true
-          c.is_emptied_unchecked-2.ensures;
+          c.is_emptied_unchecked-else-is_emptied_unchecked.ensures;
     }
 
 pub returns-then-is_emptied_unchecked-2 : goal.returns-then-is_emptied_unchecked-2
 returns-then-is_emptied_unchecked-2 c =
     choice_right (lent c.args.terms.now c.args.cells.now c.args.chars.now c.args.reasons.now c.args.keys.now)
     c.args.c c.args.lhs.now c.args.rhs.now _ c.is_alias.ensures c.if-is_alias.false _ c.is_emptied_unchecked.ensures
-    c.if-is_emptied_unchecked.false _ c.is_emptied_unchecked-2.ensures c.if-is_emptied_unchecked-2.true c.empties_unchecked-then-is_emptied_unchecked-2.ensures
+    c.if-is_emptied_unchecked.false _ c.is_emptied_unchecked-else-is_emptied_unchecked.ensures c.if-is_emptied_unchecked-2.true c.empties_unchecked-then-is_emptied_unchecked-2.ensures
 
 pub bounds-lhs-0-then-is_assigned : goal.bounds-lhs-0-then-is_assigned
 bounds-lhs-0-then-is_assigned c =
@@ -78,13 +78,13 @@ pub returns-then-is_assigned : goal.returns-then-is_assigned
 returns-then-is_assigned c =
     choice_first (lent c.args.terms.now c.args.cells.now c.args.chars.now c.args.reasons.now c.args.keys.now)
     c.args.c c.args.lhs.now c.args.rhs.now _ c.is_alias.ensures c.if-is_alias.false _ c.is_emptied_unchecked.ensures
-    c.if-is_emptied_unchecked.false _ c.is_emptied_unchecked-2.ensures c.if-is_emptied_unchecked-2.false _ c.is_assigned.ensures c.if-is_assigned.true
+    c.if-is_emptied_unchecked.false _ c.is_emptied_unchecked-else-is_emptied_unchecked.ensures c.if-is_emptied_unchecked-2.false _ c.is_assigned.ensures c.if-is_assigned.true
     c.assigns_unchecked.ensures
 
 pub bounds-rhs-0-then-is_assigned-2 : goal.bounds-rhs-0-then-is_assigned-2
 bounds-rhs-0-then-is_assigned-2 c =
     (let n = assigned-length (termed c.args.terms.now c.args.c) c.args.rhs.now c.args.lhs.now _ c.if-is_assigned-2.true
-    c.is_assigned-2.ensures in
+    c.is_assigned-else-is_assigned.ensures in
     omega arith)
 
 pub assigns_unchecked-requires-then-is_assigned-2 : goal.assigns_unchecked-requires-then-is_assigned-2
@@ -96,19 +96,19 @@ assigns_unchecked-requires-then-is_assigned-2 c =
           c.args.c)
           c.args.lhs.now c.requires.both_lists.left;
       side_value = assigned-both (termed c.args.terms.now c.args.c) c.args.rhs.now c.args.lhs.now _ c.if-is_assigned-2.true
-          c.is_assigned-2.ensures;
+          c.is_assigned-else-is_assigned.ensures;
     }
 
 pub returns-then-is_assigned-2 : goal.returns-then-is_assigned-2
 returns-then-is_assigned-2 c =
     choice_last (lent c.args.terms.now c.args.cells.now c.args.chars.now c.args.reasons.now c.args.keys.now)
     c.args.c c.args.lhs.now c.args.rhs.now _ c.is_alias.ensures c.if-is_alias.false _ c.is_emptied_unchecked.ensures
-    c.if-is_emptied_unchecked.false _ c.is_emptied_unchecked-2.ensures c.if-is_emptied_unchecked-2.false _ c.is_assigned.ensures c.if-is_assigned.false _
-    c.is_assigned-2.ensures c.if-is_assigned-2.true c.assigns_unchecked-then-is_assigned-2.ensures
+    c.if-is_emptied_unchecked.false _ c.is_emptied_unchecked-else-is_emptied_unchecked.ensures c.if-is_emptied_unchecked-2.false _ c.is_assigned.ensures c.if-is_assigned.false _
+    c.is_assigned-else-is_assigned.ensures c.if-is_assigned-2.true c.assigns_unchecked-then-is_assigned-2.ensures
 
-pub returns : goal.returns
-returns c =
+pub returns-else-is_assigned-2 : goal.returns-else-is_assigned-2
+returns-else-is_assigned-2 c =
     choice_none (lent c.args.terms.now c.args.cells.now c.args.chars.now c.args.reasons.now c.args.keys.now)
     c.args.c c.args.lhs.now c.args.rhs.now _ c.is_alias.ensures c.if-is_alias.false _ c.is_emptied_unchecked.ensures
-    c.if-is_emptied_unchecked.false _ c.is_emptied_unchecked-2.ensures c.if-is_emptied_unchecked-2.false _ c.is_assigned.ensures c.if-is_assigned.false _
-    c.is_assigned-2.ensures c.requires.ready c.if-is_assigned-2.false
+    c.if-is_emptied_unchecked.false _ c.is_emptied_unchecked-else-is_emptied_unchecked.ensures c.if-is_emptied_unchecked-2.false _ c.is_assigned.ensures c.if-is_assigned.false _
+    c.is_assigned-else-is_assigned.ensures c.requires.ready c.if-is_assigned-2.false

@@ -2,8 +2,8 @@ use Rattle.wordeq.proofs.Refines.ResolveCalls.{resolve-closed}
 use Rattle.wordeq.proofs.Refines.Flattening.{guard_passed}
 use Rattle.wordeq.proofs.resolving.resolve_unchecked.Goals as goal
 
-pub run-requires : goal.run-requires
-run-requires c =
+pub run-o-requires : goal.run-o-requires
+run-o-requires c =
     record {
       ready = c.requires.ready;
       both_lists = c.requires.both_lists;
@@ -14,4 +14,4 @@ run-requires c =
 pub returns : goal.returns
 returns c =
     resolve-closed _ _ c.args.lhs.now c.args.rhs.now c.args.guard c.requires.ready c.requires.both_lists c.ranges.guard _
-    c.run.result c.run.ensures _ c.close.ensures
+    c.run-o.result c.run-o.ensures _ c.close.ensures

@@ -24,7 +24,7 @@ steps_unchecked-requires c =
       list_limit_in_bounds = c.requires.list_limit_in_bounds;
     }
 
-pub returns : goal.returns
-returns c =
+pub returns-else-either_concat : goal.returns-else-either_concat
+returns-else-either_concat c =
     ran-plain _ _ c.args.lhs.now c.args.rhs.now c.args.guard _ c.either_concat.ensures c.if-either_concat.false
     c.ranges.guard c.steps_unchecked.ensures

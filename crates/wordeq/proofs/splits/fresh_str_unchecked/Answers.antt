@@ -10,8 +10,8 @@ make_named-requires c =
     record {
       ready = c.next_name_unchecked-named.ensures.ready;
       len_bound = c.next_name_unchecked-named.ensures.fits;
-      c_value = named_arguments _ c.next_name_unchecked-named.ensures c.if-named-ne0.false;
-      c_value_2 = named_new _ c.next_name_unchecked-named.ensures c.if-named-ne0.false;
+      is_name = named_arguments _ c.next_name_unchecked-named.ensures c.if-named-ne0.false;
+      is_new = named_new _ c.next_name_unchecked-named.ensures c.if-named-ne0.false;
     }
 
 pub returns : goal.returns

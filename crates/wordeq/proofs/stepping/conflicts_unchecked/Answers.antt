@@ -19,7 +19,7 @@ returns-then-constants_unchecked c =
     conflicts-found c.args.lhs.now c.args.rhs.now c.occurs_unchecked-o.ensures c.in-Done.is c.constants_unchecked.result
     c.constants_unchecked.ensures c.if-constants_unchecked.true
 
-pub returns : goal.returns
-returns c =
+pub returns-else-constants_unchecked : goal.returns-else-constants_unchecked
+returns-else-constants_unchecked c =
     conflicts-none c.args.lhs.now c.args.rhs.now c.occurs_unchecked-o.ensures c.in-Done.is c.constants_unchecked.result
     c.constants_unchecked.ensures c.if-constants_unchecked.false
