@@ -11,8 +11,8 @@ ghost use Rattle.normalize.specs.Working.Pushes.{Candidates};
 ghost use Rattle.normalize.specs.Calls.{first_words, deepened};
 ghost use Rattle.normalize.specs.Working.Deeps.{opens_in, RoundOf, expand_atom, Expands};
 
-use crate::{DEEP_NF_ATOM_CAP, DeepForm, Form, normal, slices};
-use records::{State, rules};
+use crate::{DEEP_NF_ATOM_CAP, normal, slices};
+use records::{Refusal, State, rules};
 
 // Whether a is expanded: a concatenation, and not the term itself.
 fn opens(terms: &[u32], n: usize, t: u32, a: u32) -> bool
@@ -42,7 +42,7 @@ fn expand_atom(
     a: u32,
     next: &mut [u32],
     k: usize,
-) -> DeepForm
+) -> Result<(Option<usize>, State), Refusal>
     requires ready { Ready (lent terms.old cells.now chars.old reasons.old keys.now) c }
     requires candidates { Candidates (store_of (lent terms.old cells.now chars.old reasons.old keys.now) c) known.now table.now }
     requires a_value { is_string (store_of (lent terms.old cells.now chars.old reasons.old keys.now) c) a ≡ true }
@@ -51,19 +51,14 @@ fn expand_atom(
     ensures { Does (expand_atom known.now a (first_words next.old k)) (across (changing terms) cells (changing chars) (changing reasons) keys) c (deepened result into changing next) }
 {
     let mut form: [u32; 1024] = [0; 1024];
-    let made = normal::form_by(
+    let (n, d) = normal::form_by(
         terms, cells, chars, reasons, keys, c, known, table, a, &mut form,
-    );
-    match made {
-        Form::List(n, d) => {
-            if DEEP_NF_ATOM_CAP < k + n {
-                return DeepForm::None(d);
-            }
-            slices::append(next, k, &form, n);
-            DeepForm::List(k + n, d)
-        }
-        Form::Refused(e) => DeepForm::Refused(e),
+    )?;
+    if DEEP_NF_ATOM_CAP < k + n {
+        return Ok((None, d));
     }
+    slices::append(next, k, &form, n);
+    Ok((Some(k + n), d))
 }
 
 // One atom of a round: as it stands, or expanded. A concatenation met again gives None.
@@ -81,7 +76,7 @@ fn expand_one(
     met: &mut [u8; 513],
     next: &mut [u32],
     k: usize,
-) -> DeepForm
+) -> Result<(Option<usize>, State), Refusal>
     requires ready { Ready (lent terms.old cells.now chars.old reasons.old keys.now) c }
     requires candidates { Candidates (store_of (lent terms.old cells.now chars.old reasons.old keys.now) c) known.now table.now }
     requires a_value { is_string (store_of (lent terms.old cells.now chars.old reasons.old keys.now) c) a ≡ true }
@@ -91,10 +86,10 @@ fn expand_one(
 {
     if !opens(terms, c.terms, t, a) {
         next[k] = a;
-        return DeepForm::List(k + 1, c);
+        return Ok((Some(k + 1), c));
     }
     if met[a as usize] == 1 {
-        return DeepForm::None(c);
+        return Ok((None, c));
     }
     met[a as usize] = 1;
     expand_atom(
@@ -117,7 +112,7 @@ pub(crate) fn expand(
     count: usize,
     met: &mut [u8; 513],
     next: &mut [u32],
-) -> DeepForm
+) -> Result<(Option<usize>, State), Refusal>
     requires ready { Ready (lent terms.old cells.now chars.old reasons.old keys.now) c }
     requires candidates { Candidates (store_of (lent terms.old cells.now chars.old reasons.old keys.now) c) known.now table.now }
     requires round_of { RoundOf (store_of (lent terms.old cells.now chars.old reasons.old keys.now) c) list.now count met.old next.old }
@@ -126,14 +121,14 @@ pub(crate) fn expand(
     let mut d = c;
     let mut k: usize = 0;
     for &a in &list[..count] {
-        let made = expand_one(
+        let (made, e) = expand_one(
             terms, cells, chars, reasons, keys, d, known, table, t, a, met, next, k,
-        );
-        let DeepForm::List(n, e) = made else {
-            return made;
+        )?;
+        let Some(n) = made else {
+            return Ok((None, e));
         };
         k = n;
         d = e;
     }
-    DeepForm::List(k, d)
+    Ok((Some(k), d))
 }

@@ -9,8 +9,7 @@ ghost use Rattle.records.specs.Rules.{list_limit};
 ghost use Rattle.normalize.specs.Working.Pushes.{is_empty_in, joins_in, pushed};
 ghost use Rattle.normalize.specs.Calls.{first_words};
 
-use crate::Form;
-use records::{Made, State, fields, make, rules};
+use records::{Refusal, State, fields, make, rules};
 
 // Whether t is "".
 fn is_empty(terms: &[u32], n: usize, t: u32) -> bool
@@ -38,7 +37,7 @@ fn join_last(
     t: u32,
     list: &mut [u32],
     count: usize,
-) -> Form
+) -> Result<(usize, State), Refusal>
     requires ready { Ready (lent terms.old cells.now chars.old reasons.now keys.now) c }
     requires count_value { joins_in (terms_view terms.old c.terms) t (reverse (first_words list.old count)) ≡ true }
     requires count_nonzero { 0 < count }
@@ -47,14 +46,9 @@ fn join_last(
 {
     let last = count - 1;
     let pair: [u32; 2] = [list[last], t];
-    let made = make::join_constants_unchecked(terms, cells, chars, reasons, keys, c, &pair);
-    match made {
-        Made::Term(u, d) => {
-            list[last] = u;
-            Form::List(count, d)
-        }
-        Made::Refused(k) => Form::Refused(k),
-    }
+    let (u, d) = make::join_constants_unchecked(terms, cells, chars, reasons, keys, c, &pair)?;
+    list[last] = u;
+    Ok((count, d))
 }
 
 // One atom more.
@@ -68,18 +62,18 @@ pub(crate) fn push(
     t: u32,
     list: &mut [u32],
     count: usize,
-) -> Form
+) -> Result<(usize, State), Refusal>
     requires ready { Ready (lent terms.old cells.now chars.old reasons.now keys.now) c }
     requires count_lt_list_limit { count < list_limit }
     requires list_limit_in_bounds { list_limit ≤ length list.old }
     ensures { Does (push t (reverse (first_words list.old count))) (across (changing terms) cells (changing chars) reasons keys) c (pushed result into changing list) }
 {
     if is_empty(terms, c.terms, t) {
-        Form::List(count, c)
+        Ok((count, c))
     } else if joins_with_last(terms, c.terms, t, list, count) {
         join_last(terms, cells, chars, reasons, keys, c, t, list, count)
     } else {
         list[count] = t;
-        Form::List(count + 1, c)
+        Ok((count + 1, c))
     }
 }

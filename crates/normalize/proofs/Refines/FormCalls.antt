@@ -7,7 +7,11 @@ use Prim.Native.Nat.{ℕ, ◌≤◌, ◌<◌}
 use native.Mathlib.Omega.{arith}
 use lib.ListN.{length}
 use borrow.Author.Tests.{not-true, not-false}
+use Rattle.std.specs.Prelude.{Result, Ok, Err}
+use Rattle.std.specs.Prelude as code
 use Rattle.records.specs.declared.State.{State}
+use Rattle.records.specs.declared.refusal.Refusal.{Refusal}
+use Rattle.records.specs.Refusal.{number}
 use Rattle.records.specs.Store.{Store, Out, stop, is_string}
 use Rattle.records.specs.View.{Lent, lent, store_of}
 use Rattle.records.specs.Rules.{audit, list_limit, is_list}
@@ -18,12 +22,7 @@ use Rattle.records.proofs.Outcomes.{refused_wider}
 use Rattle.records.proofs.Public.{Undone, given, cut, undone-is, passed-ready}
 use Rattle.records.proofs.Works.{stop-not}
 use Rattle.normalize.specs.Normalize.{normal_form, deep_form, form_arguments}
-use Rattle.normalize.specs.declared.Form.{Form}
-use Rattle.normalize.specs.declared.Form.TheVariants as form
-use Rattle.normalize.specs.declared.DeepForm.{DeepForm}
-use Rattle.normalize.specs.declared.DeepForm.TheVariants as deep
 use Rattle.normalize.specs.Calls.{formed, deepened, PublicForm, PublicDeepForm}
-use Rattle.normalize.specs.Working.Cuts.{unformed, undeepened}
 use Rattle.normalize.proofs.ListCalls.{listed-short, listed_unready, listed-unfit, listed-works}
 use Rattle.normalize.proofs.Formed.{form-stops, form-sound, form-kept}
 use Rattle.normalize.proofs.Deep.{deep_stops, deep_sound, deep_kept}
@@ -41,14 +40,13 @@ module _ (s : Store) (known : List ℕ) (t : ℕ) (b : Bool) (e : b ≡ is_list 
 
 -- an answer handed on: after a refusal the index is cut
 module _ {t t' : List ℕ} (e h r ks : List ℕ) {n : ℕ} (l : List ℕ) where
-  pub undone-form : (x : Form) {o : Form} → CutRefused unformed t t' n x o → Undone (lent t e h r ks) (lent t' e h r ks) n (formed x (lent t e h r ks) l) (formed o (lent t' e h r ks) l)
-  undone-form (form.List k d) p = given _ _ refl (rw (p.same, p.given refl)) (ap (λ (w : List ℕ). lent w e h r ks) (p.given refl))
-  undone-form (form.Refused k) p = cut k refl (rw p.same) (p.refused refl) (record { cells = refl; chars = refl; reasons = refl; keys = refl })
+  pub undone-form : (x : Result (ℕ × State) Refusal) {o : Result (ℕ × State) Refusal} → CutRefused t t' n x o → Undone (lent t e h r ks) (lent t' e h r ks) n (formed x (lent t e h r ks) l) (formed o (lent t' e h r ks) l)
+  undone-form (Ok y) p = given _ _ refl (rw (p.same, p.given refl)) (ap (λ (w : List ℕ). lent w e h r ks) (p.given refl))
+  undone-form (Err k) p = cut (number k) refl (rw p.same) (p.refused refl) (record { cells = refl; chars = refl; reasons = refl; keys = refl })
 
-  pub undone_deep : (x : DeepForm) {o : DeepForm} → CutRefused undeepened t t' n x o → Undone (lent t e h r ks) (lent t' e h r ks) n (deepened x (lent t e h r ks) l) (deepened o (lent t' e h r ks) l)
-  undone_deep (deep.List k d) p = given _ _ refl (rw (p.same, p.given refl)) (ap (λ (w : List ℕ). lent w e h r ks) (p.given refl))
-  undone_deep (deep.None d) p = given _ _ refl (rw (p.same, p.given refl)) (ap (λ (w : List ℕ). lent w e h r ks) (p.given refl))
-  undone_deep (deep.Refused k) p = cut k refl (rw p.same) (p.refused refl) (record { cells = refl; chars = refl; reasons = refl; keys = refl })
+  pub undone_deep : (x : Result (code.Option ℕ × State) Refusal) {o : Result (code.Option ℕ × State) Refusal} → CutRefused t t' n x o → Undone (lent t e h r ks) (lent t' e h r ks) n (deepened x (lent t e h r ks) l) (deepened o (lent t' e h r ks) l)
+  undone_deep (Ok y) p = given _ _ refl (rw (p.same, p.given refl)) (ap (λ (w : List ℕ). lent w e h r ks) (p.given refl))
+  undone_deep (Err k) p = cut (number k) refl (rw p.same) (p.refused refl) (record { cells = refl; chars = refl; reasons = refl; keys = refl })
 
 module _ (known : List ℕ) (t : ℕ) (m : Lent) (c : State) (l : List ℕ) where
   pub form-short : length l < list_limit → PublicForm known t m m l l c (stop 1)

@@ -7,7 +7,9 @@ use native.Mathlib.Omega.{arith}
 use lib.ListN.{length, take, get_or, length-take}
 use lib.Dec.{leb}
 use borrow.Author.Tests.{ne_eqb}
+use Rattle.std.specs.Prelude.{Result, Ok, Err}
 use Rattle.records.specs.declared.State.{State}
+use Rattle.records.specs.declared.refusal.Refusal.{Refusal}
 use Rattle.records.specs.Lists.{all, concat_map, Every, none_left, and}
 use Rattle.records.specs.Store.{Store, ok, stop, and_then, ◌>>=◌, give, kind, count, within, root_in, is_string}
 use Rattle.records.specs.View.{Lent, store_of, terms_view, term_limit}
@@ -19,8 +21,6 @@ use Rattle.records.proofs.Climbs.{root-term, view_count, term-within, ready_root
 use Rattle.records.proofs.IndexStores.{keeps_same}
 use Rattle.records.proofs.Doing.{working_stopped, working_is, working_left}
 use Rattle.records.proofs.Sequence.{working_stop}
-use Rattle.normalize.specs.declared.Form.{Form}
-use Rattle.normalize.specs.declared.Form.TheVariants as form
 use Rattle.normalize.specs.Normalize.{atoms, push_forms, normal_form, form_arguments}
 use Rattle.records.specs.Rules.{list_limit, is_list}
 use Rattle.normalize.specs.Working.Flat.{bare, Appended}
@@ -70,20 +70,20 @@ module _ {m : Lent} {c : State} (ready : Ready m c) where
   }
 
   -- from the atoms on, where they are within the limit
-  atoms-done : {m' : Lent} (known : List ℕ) (t : ℕ) (flat list : List ℕ) (x : Form) → concat_map (atoms s) (t ∷ []) ≡ flat → length flat ≤ list_limit → Working (push_forms (known ++ flat) flat []) m m' c (pushed x m' list) → Working (normal_form known t) m m' c (formed x m' list)
+  atoms-done : {m' : Lent} (known : List ℕ) (t : ℕ) (flat list : List ℕ) (x : Result (ℕ × State) Refusal) → concat_map (atoms s) (t ∷ []) ≡ flat → length flat ≤ list_limit → Working (push_forms (known ++ flat) flat []) m m' c (pushed x m' list) → Working (normal_form known t) m m' c (formed x m' list)
   unfolding normal_form
   atoms-done {m'} known t flat list x e h w =
       working_is (ap (and_then (λ l. push_forms (known ++ l) l [] >>= (λ out. give (reverse out)))) (flatten-fits (t ∷ []) s (let k = ap length e in omega arith) ∙ ap (λ (l : List ℕ). ok s l) e)) (turned x w)
     where
-      turned : (y : Form) → Working (push_forms (known ++ flat) flat []) m m' c (pushed y m' list) → Working (push_forms (known ++ flat) flat [] >>= (λ out. give (reverse out))) m m' c (formed y m' list)
-      turned (form.List k d) v = working_left (v.ready d _ refl) (ap (and_then (λ out. give (reverse out))) v.says ∙ ap (λ (z : List ℕ). ok (store_of m' d) z) (reverse-reverse (first_words list k))) v.kept
-      turned (form.Refused k) v = working_stop (λ out. give (reverse out)) v
+      turned : (y : Result (ℕ × State) Refusal) → Working (push_forms (known ++ flat) flat []) m m' c (pushed y m' list) → Working (push_forms (known ++ flat) flat [] >>= (λ out. give (reverse out))) m m' c (formed y m' list)
+      turned (Ok y) v = working_left (v.ready y.1 _ refl) (ap (and_then (λ out. give (reverse out))) v.says ∙ ap (λ (z : List ℕ). ok (store_of m' y.1) z) (reverse-reverse (first_words list y.0))) v.kept
+      turned (Err e) v = working_stop (λ out. give (reverse out)) v
 
   -- a term that is no concatenation
   pub one-string : (t : ℕ) → is_string s t ≡ true → all (is_string s) (t ∷ []) ≡ true
   one-string t e = every_all (and e none_left)
 
-  pub one-done : {m' : Lent} (known : List ℕ) (t : ℕ) (list : List ℕ) (x : Form) (k : ℕ) → k ≡ kind s t → (k ≡ 3 → ⊥) → Working (push_forms (known ++ t ∷ []) (t ∷ []) []) m m' c (pushed x m' list) → Working (normal_form known t) m m' c (formed x m' list)
+  pub one-done : {m' : Lent} (known : List ℕ) (t : ℕ) (list : List ℕ) (x : Result (ℕ × State) Refusal) (k : ℕ) → k ≡ kind s t → (k ≡ 3 → ⊥) → Working (push_forms (known ++ t ∷ []) (t ∷ []) []) m m' c (pushed x m' list) → Working (normal_form known t) m m' c (formed x m' list)
   unfolding concat_map
   one-done known t list x k i d = atoms-done known t (t ∷ []) list x (append-nil (atoms s t) ∙ atoms-plain s t (ne_eqb (kind s t) 3 (λ q. d (i ∙ q)))) (omega arith)
 
@@ -111,5 +111,5 @@ module _ {m : Lent} {c : State} (ready : Ready m c) where
       unfolding concat_map
       flat-strings e = every_all (subst (Every (λ x. is_string s x ≡ true)) flat-is (subst (Every (λ x. is_string s x ≡ true)) (sym (append-nil (atoms s t))) (every_map (λ x i. i.string) (atoms-strings s ready.audited t e))))
 
-      pub form-done : {m' : Lent} (known list : List ℕ) (x : Form) → Working (push_forms (known ++ take n l') (take n l') []) m m' c (pushed x m' list) → Working (normal_form known t) m m' c (formed x m' list)
+      pub form-done : {m' : Lent} (known list : List ℕ) (x : Result (ℕ × State) Refusal) → Working (push_forms (known ++ take n l') (take n l') []) m m' c (pushed x m' list) → Working (normal_form known t) m m' c (formed x m' list)
       form-done known list x w = atoms-done known t (take n l') list x flat-is flat-length w

@@ -9,20 +9,16 @@ use lib.ListN.{length, get_or, set}
 use lib.Dec.{eqb}
 use borrow.Author.Tests.{eqb-true, eq-eqb, ne_eqb}
 use Rattle.records.specs.declared.State.{State}
-use Rattle.records.specs.declared.Made.{Made}
-use Rattle.records.specs.declared.Made.TheVariants.{Term, Refused}
 use Rattle.records.specs.Lists.{all, concat_map, table}
 use Rattle.records.specs.Store.{Store, Term as TermOf, Out, ok, stop, Work, and_then, give, within, kind, term, term_in, is_constant, text}
 use Rattle.records.specs.View.{Lent, store_of, terms_view, term_at}
 use Rattle.records.specs.Make.{make_constant}
 use Rattle.records.specs.Working.Audited.{Ready}
-use Rattle.records.specs.Calls.{made}
 use Rattle.records.specs.Working.Doing.{Working}
 use Rattle.records.proofs.Lists.{both_left, both_right, both_true, left_false, clash, decide, table-length, table-suc}
 use Rattle.records.proofs.Views.{second_at, text-span}
 use Rattle.records.proofs.Grown.{kind-term}
 use Rattle.records.proofs.Doing.{working_same, working_stopped, working_is, working_left}
-use Rattle.records.proofs.Sequence.{made-is, made-stops}
 use Rattle.normalize.specs.Normalize.{join, push}
 use Rattle.normalize.specs.Working.Flat.{bare}
 use Rattle.normalize.specs.Working.Pushes.{is_empty_in, joins_in}
@@ -105,11 +101,11 @@ module _ {m : Lent} {c : State} (ready : Ready m c) (t n : ℕ) (l : List ℕ) (
   says : (o : Out ℕ) → w (store_of m c) ≡ o → join t (reverse (first_words l n)) (store_of m c) ≡ and_then (λ (x : ℕ). give (x ∷ reverse (first_words l (n - 1)))) o
   says o e = ap (λ (k : List ℕ). join t k (store_of m c)) (last-first l n p) ∙ join_is (store_of m c) t (get_or l (n - 1) 0) _ split ∙ ap (and_then (λ (x : ℕ). give (x ∷ reverse (first_words l (n - 1))))) e
 
-  pub join-made : {m' : Lent} (r : Made) (x : ℕ) (d : State) → Working w m m' c (made r m') → r ≡ Term x d → Working (join t (reverse (first_words l n))) m m' c (ok (store_of m' d) (reverse (first_words (set l (n - 1) x) n)))
-  join-made r x d o e = let u = made-is e o in working_left (u.ready d x refl) (rw (put_last l n x p q) (says _ u.says)) u.kept
+  pub join-made : {m' : Lent} (x : ℕ) (d : State) → Working w m m' c (ok (store_of m' d) x) → Working (join t (reverse (first_words l n))) m m' c (ok (store_of m' d) (reverse (first_words (set l (n - 1) x) n)))
+  join-made x d u = working_left (u.ready d x refl) (rw (put_last l n x p q) (says _ u.says)) u.kept
 
-  pub join-stopped : {m' : Lent} (r : Made) (k : ℕ) → Working w m m' c (made r m') → r ≡ Refused k → Working (join t (reverse (first_words l n))) m m' c (stop k)
-  join-stopped r k o e = working_stopped (says _ (made-stops e o).says) o.kept
+  pub join-stopped : {m' : Lent} {k : ℕ} → Working w m m' c (stop k) → Working (join t (reverse (first_words l n))) m m' c (stop k)
+  join-stopped u = working_stopped (says _ u.says) u.kept
 
 -- PUSHING
 

@@ -1,3 +1,4 @@
+use Rattle.records.proofs.Public.{handed}
 use lib.Seq.{length-take-le}
 use mathlib.Core.Path.{refl}
 use Rattle.normalize.proofs.Refines.Heaping.{heaping_none}
@@ -10,18 +11,18 @@ pub loop-a-init : goal.loop-a-init
 loop-a-init c =
     (refl, refl, refl, heaping_none _ _ c.requires.ready)
 
-pub returns-in-Refused : goal.returns-in-Refused
-returns-in-Refused c =
-    all-stopped c.args.next.now c.args.k c.loop-a.invariant.3 c.requires.k_value c.loop-a-test.true _ _
-    c.push-form.ensures _ c.in-Refused.is
+pub returns-in_err-count : goal.returns-in_err-count
+returns-in_err-count c =
+    rw (handed _ c.from_residual.ensures.1)
+    (all-stopped c.args.next.now c.args.k c.loop-a.invariant.3 c.requires.k_value c.loop-a-test.true c.in_err-count.ensures)
 
 pub loop-a-preserved : goal.loop-a-preserved
 loop-a-preserved c = (
   search rules,
   search rules,
   search rules,
-  all-turn c.args.next.now c.args.k c.loop-a.invariant.3 c.requires.k_value c.loop-a-test.true _ _
-      c.push-form.ensures _ _ c.in-List.is,
+  all-turn c.args.next.now c.args.k c.loop-a.invariant.3 c.requires.k_value c.loop-a-test.true c.push.new.list _ _
+      c.in_ok-count.ensures,
 )
 
 pub returns : goal.returns

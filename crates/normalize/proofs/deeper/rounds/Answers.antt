@@ -1,6 +1,7 @@
+use Rattle.records.proofs.Public.{handed}
 use lib.ListN.{replicate, get_or-replicate}
 use mathlib.Core.Path.{refl}
-use Rattle.normalize.proofs.Refines.Rounding.{rounding_none, rounding_candidates, rounds-ended, rounding_turn, rounds_done}
+use Rattle.normalize.proofs.Refines.Rounding.{rounding_none, rounding_candidates, rounds-ended, rounds-stopped, rounding_turn, rounds_done}
 use borrow.Author.Rules.{rules}
 use Rattle.normalize.proofs.deeper.rounds.Goals as goal
 
@@ -14,14 +15,18 @@ loop-init c = (
       (λ i h. get_or-replicate 513 i 0 0 h),
 )
 
-pub round-turn-requires-clause-candidates : goal.round-turn-requires-clause-candidates
-round-turn-requires-clause-candidates c =
+pub round-requires-clause-candidates : goal.round-requires-clause-candidates
+round-requires-clause-candidates c =
     rounding_candidates c.loop.invariant.4 _ c.requires.candidates
+
+pub returns-in_err-turn : goal.returns-in_err-turn
+returns-in_err-turn c =
+    rw (handed _ c.from_residual.ensures.1)
+    (rounds-stopped c.loop.invariant.4 _ c.requires.candidates c.loop-test.true c.round.new.list c.round.new.met c.in_err-turn.ensures)
 
 pub returns-in-Ends : goal.returns-in-Ends
 returns-in-Ends c =
-    rounds-ended c.loop.invariant.4 _ c.requires.candidates c.loop-test.true _ _ _ c.round-turn.ensures _
-    c.in-Ends.is
+    rounds-ended c.loop.invariant.4 _ c.requires.candidates c.loop-test.true c.round.new.list c.round.new.met _ _ (rw c.in-Ends.is at c.in_ok-turn.ensures)
 
 pub loop-preserved : goal.loop-preserved
 loop-preserved c = (
@@ -29,8 +34,7 @@ loop-preserved c = (
   search rules,
   search rules,
   search rules,
-  rounding_turn c.loop.invariant.4 _ c.requires.candidates c.loop-test.true _ _ _ c.round-turn.ensures _ _
-      c.in-Again.is,
+  rounding_turn c.loop.invariant.4 _ c.requires.candidates c.loop-test.true c.round.new.list c.round.new.met _ _ (rw c.in-Again.is at c.in_ok-turn.ensures),
 )
 
 pub returns : goal.returns

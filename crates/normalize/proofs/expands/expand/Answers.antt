@@ -1,6 +1,7 @@
+use Rattle.records.proofs.Public.{handed}
 use lib.Seq.{length-take-le}
 use mathlib.Core.Path.{refl}
-use Rattle.normalize.proofs.Refines.Expanding.{walking_none, walk_candidates, walk-string, walking_turn, walking_ended, walking_done}
+use Rattle.normalize.proofs.Refines.Expanding.{walking_none, walk_candidates, walk-string, walking_turn, walking_ended, walking_stopped, walking_done}
 use native.Mathlib.Omega.{arith}
 use borrow.Author.Rules.{rules}
 use Rattle.normalize.proofs.expands.expand.Goals as goal
@@ -9,20 +10,25 @@ pub loop-a-init : goal.loop-a-init
 loop-a-init c =
     (refl, refl, refl, refl, walking_none _ _ _ _ _ c.requires.ready)
 
-pub expand_one-made-requires-clause-candidates : goal.expand_one-made-requires-clause-candidates
-expand_one-made-requires-clause-candidates c =
+pub expand_one-requires-clause-candidates : goal.expand_one-requires-clause-candidates
+expand_one-requires-clause-candidates c =
     walk_candidates c.args.list.now c.args.count c.loop-a.invariant.4 _ c.requires.candidates c.requires.round_of
     c.loop-a-test.true
 
-pub expand_one-made-requires-clause-a_value : goal.expand_one-made-requires-clause-a_value
-expand_one-made-requires-clause-a_value c =
+pub expand_one-requires-clause-a_value : goal.expand_one-requires-clause-a_value
+expand_one-requires-clause-a_value c =
     walk-string c.args.list.now c.args.count c.loop-a.invariant.4 _ c.requires.candidates c.requires.round_of
     c.loop-a-test.true
 
+pub returns-in_err-made : goal.returns-in_err-made
+returns-in_err-made c =
+    rw (handed _ c.from_residual.ensures.1)
+    (walking_stopped c.args.list.now c.args.count c.loop-a.invariant.4 _ c.requires.candidates c.requires.round_of c.loop-a-test.true c.expand_one.new.next c.expand_one.new.met c.in_err-made.ensures)
+
 pub returns-in_default : goal.returns-in_default
 returns-in_default c =
-    walking_ended c.args.list.now c.args.count c.loop-a.invariant.4 _ c.requires.candidates c.requires.round_of
-    c.loop-a-test.true _ _ _ c.expand_one-made.ensures c.in_default.not-List
+    walking_ended c.args.list.now c.args.count c.loop-a.invariant.4 _ c.requires.candidates c.requires.round_of c.loop-a-test.true c.expand_one.new.next c.expand_one.new.met
+    (rw c.in_default.is at c.in_ok-made.ensures)
 
 pub loop-a-preserved : goal.loop-a-preserved
 loop-a-preserved c = (
@@ -31,7 +37,7 @@ loop-a-preserved c = (
   search rules,
   search rules,
   walking_turn c.args.list.now c.args.count c.loop-a.invariant.4 _ c.requires.candidates c.requires.round_of
-      c.loop-a-test.true _ _ _ c.expand_one-made.ensures _ _ c.in-List.is,
+      c.loop-a-test.true c.expand_one.new.next c.expand_one.new.met _ _ (rw c.in-Some.is at c.in_ok-made.ensures),
 )
 
 pub returns : goal.returns

@@ -1,3 +1,4 @@
+use Rattle.records.proofs.Public.{handed}
 use mathlib.Core.List.{◌++◌}
 use mathlib.Core.Path.{refl}
 use Rattle.records.proofs.Lists.{all_every, every_right}
@@ -22,15 +23,16 @@ rep-r-requires-clause-fact_3 c =
     c.loop-a-test.true in
     h.1.1
 
-pub push_for-form-requires-clause-c_value : goal.push_for-form-requires-clause-c_value
-push_for-form-requires-clause-c_value c =
+pub push_for-requires-clause-c_value : goal.push_for-requires-clause-c_value
+push_for-requires-clause-c_value c =
     for_arguments c.loop-a.invariant.4 _ c.requires.candidates
     (every_right c.args.known.now _ (all_every _ _ c.requires.candidates.strings)) c.loop-a-test.true _ c.rep-r.ensures
 
-pub returns-in-Refused : goal.returns-in-Refused
-returns-in-Refused c =
-    forms_stopped c.loop-a.invariant.4 _ c.requires.candidates (every_right c.args.known.now _ (all_every _ _ c.requires.candidates.strings))
-    c.loop-a-test.true _ c.rep-r.ensures _ _ c.push_for-form.ensures _ c.in-Refused.is
+pub returns-in_err-count : goal.returns-in_err-count
+returns-in_err-count c =
+    rw (handed _ c.from_residual.ensures.1)
+    (forms_stopped c.loop-a.invariant.4 _ c.requires.candidates (every_right c.args.known.now _ (all_every _ _ c.requires.candidates.strings))
+    c.loop-a-test.true _ c.rep-r.ensures c.in_err-count.ensures)
 
 pub loop-a-preserved : goal.loop-a-preserved
 loop-a-preserved c = (
@@ -39,7 +41,7 @@ loop-a-preserved c = (
   search rules,
   search rules,
   forms_turn c.loop-a.invariant.4 _ c.requires.candidates (every_right c.args.known.now _ (all_every _ _ c.requires.candidates.strings))
-      c.loop-a-test.true _ c.rep-r.ensures _ _ c.push_for-form.ensures _ _ c.in-List.is,
+      c.loop-a-test.true _ c.rep-r.ensures c.push_for.new.list _ _ c.in_ok-count.ensures,
   search rules,
 )
 
