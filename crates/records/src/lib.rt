@@ -11,6 +11,7 @@ pub mod classes;
 pub mod fields;
 mod heights;
 pub mod index;
+pub mod kind;
 pub mod make;
 pub mod names;
 pub mod put;
@@ -20,6 +21,7 @@ pub mod rules;
 pub mod text;
 mod unique;
 
+pub use kind::Kind;
 pub use refusal::Refusal;
 
 // The heads of the index, which stand before record 0 of terms.

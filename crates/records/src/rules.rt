@@ -1,5 +1,6 @@
 // The audit of sizes and records (refusals 1 and 2).
-ghost use Rattle.std.specs.Prelude.{[], ◌≡◌, true, ◌&&◌, ◌+◌, ◌*◌, ◌<◌, ◌≤◌, length, leb};
+ghost use Rattle.std.specs.Prelude.{[], ◌≡◌, eqb, true, ◌&&◌, ◌+◌, ◌*◌, ◌<◌, ◌≤◌, length, leb};
+ghost use Rattle.records.specs.Kind.{kind_number};
 ghost use Rattle.records.specs.Lists.{all};
 ghost use Rattle.records.specs.Store.{term_in, within, cell, chain};
 ghost use Rattle.records.specs.View.{store_of, terms_view, chars_view, pairs_view, across, termed, read_in, chained, records_in, lent};
@@ -12,7 +13,7 @@ ghost use Rattle.records.specs.Working.Audited.{Sized};
 
 use crate::unique::variable_ok;
 use crate::{
-    BUCKETS, CELL_LIMIT, CELL_WIDTH, CHAR_LIMIT, REASON_LIMIT, State, TERM_LIMIT, TERM_WIDTH,
+    BUCKETS, CELL_LIMIT, CELL_WIDTH, CHAR_LIMIT, Kind, REASON_LIMIT, State, TERM_LIMIT, TERM_WIDTH,
     fields,
 };
 
@@ -39,6 +40,13 @@ pub fn kind_of(terms: &[u32], n: usize, t: u32) -> u32
         return 0;
     }
     fields::kind(terms, t)
+}
+
+// Whether term t of the first n is of a kind.
+pub fn is_a(terms: &[u32], n: usize, t: u32, kind: Kind) -> bool
+    ensures { result ≡ eqb (term_in (terms_view terms.now n) t).kind (kind_number kind) }
+{
+    kind_of(terms, n, t) == u32::from(kind)
 }
 
 pub fn is_string(terms: &[u32], n: usize, t: u32) -> bool
