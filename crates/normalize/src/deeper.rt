@@ -12,7 +12,7 @@ ghost use Rattle.normalize.specs.Working.Pushes.{pushed, Candidates};
 ghost use Rattle.normalize.specs.Calls.{first_words, deepened};
 ghost use Rattle.normalize.specs.Working.Deeps.{MetTable, Settles, Turns};
 
-use crate::{DEEP_NF_ATOM_CAP, Turn, expands, nodes, normal, pushes, slices};
+use crate::{DEEP_NF_ATOM_CAP, Turn, expands, nodes, normal, pushes};
 use records::{Refusal, State};
 
 // The atoms of a round's list, dropped and joined again.
@@ -28,7 +28,7 @@ fn push_all(
     out: &mut [u32],
 ) -> Result<(usize, State), Refusal>
     requires ready { Ready (lent terms.old cells.now chars.old reasons.now keys.now) c }
-    requires k_value { all (is_string (store_of (lent terms.old cells.now chars.old reasons.now keys.now) c)) (first_words next.now k) ≡ true }
+    requires strings { all (is_string (store_of (lent terms.old cells.now chars.old reasons.now keys.now) c)) (first_words next.now k) ≡ true }
     requires k_in_bounds { k ≤ length next.now }
     requires k_le_list_limit { k ≤ list_limit }
     requires list_limit_in_bounds { list_limit ≤ length out.old }
@@ -56,7 +56,7 @@ fn settle(
     count: usize,
 ) -> Result<Turn, Refusal>
     requires ready { Ready (lent terms.old cells.now chars.old reasons.now keys.now) c }
-    requires k_value { all (is_string (store_of (lent terms.old cells.now chars.old reasons.now keys.now) c)) (first_words next.now k) ≡ true }
+    requires strings { all (is_string (store_of (lent terms.old cells.now chars.old reasons.now keys.now) c)) (first_words next.now k) ≡ true }
     requires k_in_bounds { (k ≤ length next.now) × (k ≤ list_limit) }
     requires count_in_bounds { count ≤ length list.old }
     requires deep_limit_in_bounds { deep_limit ≤ length list.old }
@@ -67,10 +67,10 @@ fn settle(
     if DEEP_NF_ATOM_CAP < n {
         return Ok(Turn::Ends(None, d));
     }
-    if slices::same_words(&out, n, list, count) {
+    if out[..n] == list[..count] {
         return Ok(Turn::Ends(Some(count), d));
     }
-    slices::append(list, 0, &out, n);
+    list[..n].copy_from_slice(&out[..n]);
     Ok(Turn::Again(n, d))
 }
 
@@ -91,7 +91,7 @@ fn round(
 ) -> Result<Turn, Refusal>
     requires ready { Ready (lent terms.old cells.now chars.old reasons.old keys.now) c }
     requires candidates { Candidates (store_of (lent terms.old cells.now chars.old reasons.old keys.now) c) known.now table.now }
-    requires count_value { all (is_string (store_of (lent terms.old cells.now chars.old reasons.old keys.now) c)) (first_words list.old count) ≡ true }
+    requires strings { all (is_string (store_of (lent terms.old cells.now chars.old reasons.old keys.now) c)) (first_words list.old count) ≡ true }
     requires count_le_deep_limit { (count ≤ deep_limit) × (list_limit ≤ length list.old) }
     requires met_table { MetTable met.old }
     ensures { let l = first_words list.old count in Between (Turns known.now t l met.old) (across (changing terms) cells (changing chars) (changing reasons) keys) c list.new met.new result }
@@ -125,7 +125,7 @@ fn rounds(
 ) -> Result<(Option<usize>, State), Refusal>
     requires ready { Ready (lent terms.old cells.now chars.old reasons.old keys.now) c }
     requires candidates { Candidates (store_of (lent terms.old cells.now chars.old reasons.old keys.now) c) known.now table.now }
-    requires count_value { all (is_string (store_of (lent terms.old cells.now chars.old reasons.old keys.now) c)) (first_words list.old count) ≡ true }
+    requires strings { all (is_string (store_of (lent terms.old cells.now chars.old reasons.old keys.now) c)) (first_words list.old count) ≡ true }
     requires count_le_deep_limit { (count ≤ deep_limit) × (list_limit ≤ length list.old) }
     ensures { Does (rounds 64 known.now t [] (first_words list.old count)) (across (changing terms) cells (changing chars) (changing reasons) keys) c (deepened result into changing list) }
 {
@@ -204,7 +204,7 @@ pub(crate) fn deep_normal_form_cited_unchecked(
     list: &mut [u32],
 ) -> Result<(Option<usize>, State), Refusal>
     requires ready { Ready (lent terms.old cells.now chars.old reasons.old keys.now) c }
-    requires c_value { form_arguments known.now t (store_of (lent terms.old cells.now chars.old reasons.old keys.now) c) ≡ true }
+    requires arguments { form_arguments known.now t (store_of (lent terms.old cells.now chars.old reasons.old keys.now) c) ≡ true }
     requires list_limit_in_bounds { list_limit ≤ length list.old }
     ensures { Does (deep_form known.now t) (across (changing terms) cells (changing chars) (changing reasons) keys) c (deepened result into changing list) }
 {

@@ -11,7 +11,7 @@ ghost use Rattle.normalize.specs.Working.Pushes.{Candidates};
 ghost use Rattle.normalize.specs.Calls.{first_words, deepened};
 ghost use Rattle.normalize.specs.Working.Deeps.{opens_in, RoundOf, expand_atom, Expands};
 
-use crate::{DEEP_NF_ATOM_CAP, normal, slices};
+use crate::{DEEP_NF_ATOM_CAP, normal};
 use records::{Refusal, State, rules};
 
 // Whether a is expanded: a concatenation, and not the term itself.
@@ -45,7 +45,7 @@ fn expand_atom(
 ) -> Result<(Option<usize>, State), Refusal>
     requires ready { Ready (lent terms.old cells.now chars.old reasons.old keys.now) c }
     requires candidates { Candidates (store_of (lent terms.old cells.now chars.old reasons.old keys.now) c) known.now table.now }
-    requires a_value { is_string (store_of (lent terms.old cells.now chars.old reasons.old keys.now) c) a ≡ true }
+    requires a_string { is_string (store_of (lent terms.old cells.now chars.old reasons.old keys.now) c) a ≡ true }
     requires k_in_bounds { k < length next.old }
     requires deep_limit_in_bounds { deep_limit ≤ length next.old }
     ensures { Does (expand_atom known.now a (first_words next.old k)) (across (changing terms) cells (changing chars) (changing reasons) keys) c (deepened result into changing next) }
@@ -57,7 +57,7 @@ fn expand_atom(
     if DEEP_NF_ATOM_CAP < k + n {
         return Ok((None, d));
     }
-    slices::append(next, k, &form, n);
+    next[k..k + n].copy_from_slice(&form[..n]);
     Ok((Some(k + n), d))
 }
 
@@ -79,7 +79,7 @@ fn expand_one(
 ) -> Result<(Option<usize>, State), Refusal>
     requires ready { Ready (lent terms.old cells.now chars.old reasons.old keys.now) c }
     requires candidates { Candidates (store_of (lent terms.old cells.now chars.old reasons.old keys.now) c) known.now table.now }
-    requires a_value { is_string (store_of (lent terms.old cells.now chars.old reasons.old keys.now) c) a ≡ true }
+    requires a_string { is_string (store_of (lent terms.old cells.now chars.old reasons.old keys.now) c) a ≡ true }
     requires k_in_bounds { k < length next.old }
     requires deep_limit_in_bounds { deep_limit ≤ length next.old }
     ensures { Between (Expands known.now t (a ∷ []) next.old k met.old) (across (changing terms) cells (changing chars) (changing reasons) keys) c next.new met.new result }

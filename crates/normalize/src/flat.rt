@@ -10,8 +10,8 @@ use records::{LIST_LIMIT, fields, rules};
 
 // One atom more; a list that is full passes the limit.
 fn push_atom(out: &mut [u32], count: usize, t: u32) -> usize
-    requires fact_1 { count ≤ list_limit }
-    requires fact_2 { list_limit ≤ length out.old }
+    requires count_le_list_limit { count ≤ list_limit }
+    requires list_limit_in_bounds { list_limit ≤ length out.old }
     ensures { Appended out.old out.new count (t ∷ []) result }
 {
     if count < LIST_LIMIT {

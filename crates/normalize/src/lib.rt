@@ -18,7 +18,6 @@ pub mod flat;
 pub mod nodes;
 pub mod normal;
 pub mod pushes;
-pub mod slices;
 
 pub const DEEP_NF_ATOM_CAP: usize = 256;
 

@@ -18,8 +18,8 @@ fn rep_rank(terms: &[u32], n: usize, t: u32) -> u32
 
 // One candidate more, of the class of this root.
 fn put_node(terms: &[u32], n: usize, t: u32, root: u32, nodes: &mut [u32; 513])
-    requires fact_1 { root < 513 }
-    requires fact_2 { root ≡ root_in (terms_view terms.now n) t }
+    requires root_in_bounds { root < 513 }
+    requires root_of_t { root ≡ root_in (terms_view terms.now n) t }
     ensures { nodes.new ≡ with_node (terms_view terms.now n) t nodes.old }
 {
     let at = root as usize;
@@ -30,9 +30,9 @@ fn put_node(terms: &[u32], n: usize, t: u32, root: u32, nodes: &mut [u32; 513])
 }
 
 fn add_node(terms: &[u32], n: usize, t: u32, nodes: &mut [u32; 513])
-    requires fact_1 { n ≤ term_limit }
-    requires fact_2 { within n t ≡ true }
-    requires fact_3 { Closed (class_up (terms_view terms.now n)) n }
+    requires n_le_term_limit { n ≤ term_limit }
+    requires t_counted { within n t ≡ true }
+    requires closed { Closed (class_up (terms_view terms.now n)) n }
     ensures { nodes.new ≡ with_node (terms_view terms.now n) t nodes.old }
 {
     let root = classes::root_unchecked(terms, n, t);
@@ -42,7 +42,7 @@ fn add_node(terms: &[u32], n: usize, t: u32, nodes: &mut [u32; 513])
 // The same as add_node, and the root is kept.
 fn keep_node(terms: &[u32], n: usize, t: u32, nodes: &mut [u32; 513], roots: &mut [u32; 513])
     requires n_le_term_limit { n ≤ term_limit }
-    requires t_value { within n t ≡ true }
+    requires t_counted { within n t ≡ true }
     requires rooting { Rooting (terms_view terms.now n) n }
     requires ends { Ends (class_up (terms_view terms.now n)) n roots.old }
     ensures { Keeps (terms_view terms.now n) n t nodes.old nodes.new roots.new }
@@ -92,9 +92,9 @@ pub(crate) fn build_node_of(terms: &[u32], n: usize, known: &[u32], nodes: &mut 
 
 // The representative of t's class, or t itself where the class has none.
 pub(crate) fn rep(terms: &[u32], n: usize, nodes: &[u32; 513], t: u32) -> u32
-    requires fact_1 { n ≤ term_limit }
-    requires fact_2 { within n t ≡ true }
-    requires fact_3 { Closed (class_up (terms_view terms.now n)) n }
+    requires n_le_term_limit { n ≤ term_limit }
+    requires t_counted { within n t ≡ true }
+    requires closed { Closed (class_up (terms_view terms.now n)) n }
     ensures { result ≡ node_at (terms_view terms.now n) nodes.now t }
 {
     let root = classes::root_unchecked(terms, n, t) as usize;

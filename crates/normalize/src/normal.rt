@@ -12,7 +12,7 @@ ghost use Rattle.records.specs.Rules.{list_limit};
 ghost use Rattle.normalize.specs.Working.Pushes.{pushed, cite, push_for, Candidates};
 ghost use Rattle.normalize.specs.Calls.{first_words, formed};
 
-use crate::{flat, nodes, pushes};
+use crate::{deeper, flat, nodes, pushes};
 use engine::explain_unchecked;
 use records::{LIST_LIMIT, Refusal, State, rules};
 
@@ -29,7 +29,7 @@ fn cite(
     places: &mut [u32],
 ) -> Result<State, Refusal>
     requires ready { Ready (lent terms.now cells.now chars.now reasons.old keys.now) c }
-    requires c_value { explain_arguments a r (store_of (lent terms.now cells.now chars.now reasons.old keys.now) c) ≡ true }
+    requires explainable { explain_arguments a r (store_of (lent terms.now cells.now chars.now reasons.old keys.now) c) ≡ true }
     ensures { Does (cite a r) (across terms cells chars (changing reasons) keys) c (added result) }
 {
     if r == a {
@@ -54,7 +54,7 @@ fn push_for(
     places: &mut [u32],
 ) -> Result<(usize, State), Refusal>
     requires ready { Ready (lent terms.old cells.now chars.old reasons.old keys.now) c }
-    requires c_value { explain_arguments a r (store_of (lent terms.old cells.now chars.old reasons.old keys.now) c) ≡ true }
+    requires explainable { explain_arguments a r (store_of (lent terms.old cells.now chars.old reasons.old keys.now) c) ≡ true }
     requires count_lt_list_limit { count < list_limit }
     requires list_limit_in_bounds { list_limit ≤ length list.old }
     ensures { Does (push_for a r (reverse (first_words list.old count))) (across (changing terms) cells (changing chars) (changing reasons) keys) c (pushed result into changing list) }
@@ -109,7 +109,7 @@ fn form_atoms(
 ) -> Result<(usize, State), Refusal>
     requires ready { Ready (lent terms.old cells.now chars.old reasons.old keys.now) c }
     requires candidates { Candidates (store_of (lent terms.old cells.now chars.old reasons.old keys.now) c) known.now table.now }
-    requires flat_value { all (is_string (store_of (lent terms.old cells.now chars.old reasons.old keys.now) c)) flat.now ≡ true }
+    requires flat_strings { all (is_string (store_of (lent terms.old cells.now chars.old reasons.old keys.now) c)) flat.now ≡ true }
     requires flat_len_bound { length flat.now ≤ list_limit }
     requires list_limit_in_bounds { list_limit ≤ length list.old }
     ensures { Does (push_forms (known.now ++ flat.now) flat.now []) (across (changing terms) cells (changing chars) (changing reasons) keys) c (pushed result into changing list) }
@@ -162,7 +162,7 @@ fn form_flat(
 ) -> Result<(usize, State), Refusal>
     requires ready { Ready (lent terms.old cells.now chars.old reasons.old keys.now) c }
     requires candidates { Candidates (store_of (lent terms.old cells.now chars.old reasons.old keys.now) c) known.now table.now }
-    requires t_value { is_string (store_of (lent terms.old cells.now chars.old reasons.old keys.now) c) t ≡ true }
+    requires t_string { is_string (store_of (lent terms.old cells.now chars.old reasons.old keys.now) c) t ≡ true }
     requires list_limit_in_bounds { list_limit ≤ length list.old }
     ensures { Does (normal_form known.now t) (across (changing terms) cells (changing chars) (changing reasons) keys) c (formed result into changing list) }
 {
@@ -201,7 +201,7 @@ pub(crate) fn form_by(
 ) -> Result<(usize, State), Refusal>
     requires ready { Ready (lent terms.old cells.now chars.old reasons.old keys.now) c }
     requires candidates { Candidates (store_of (lent terms.old cells.now chars.old reasons.old keys.now) c) known.now table.now }
-    requires t_value { is_string (store_of (lent terms.old cells.now chars.old reasons.old keys.now) c) t ≡ true }
+    requires t_string { is_string (store_of (lent terms.old cells.now chars.old reasons.old keys.now) c) t ≡ true }
     requires list_limit_in_bounds { list_limit ≤ length list.old }
     ensures { Does (normal_form known.now t) (across (changing terms) cells (changing chars) (changing reasons) keys) c (formed result into changing list) }
 {
@@ -228,12 +228,11 @@ pub(crate) fn normal_form_cited_unchecked(
     list: &mut [u32],
 ) -> Result<(usize, State), Refusal>
     requires ready { Ready (lent terms.old cells.now chars.old reasons.old keys.now) c }
-    requires c_value { form_arguments known.now t (store_of (lent terms.old cells.now chars.old reasons.old keys.now) c) ≡ true }
+    requires arguments { form_arguments known.now t (store_of (lent terms.old cells.now chars.old reasons.old keys.now) c) ≡ true }
     requires list_limit_in_bounds { list_limit ≤ length list.old }
     ensures { Does (normal_form known.now t) (across (changing terms) cells (changing chars) (changing reasons) keys) c (formed result into changing list) }
 {
-    let mut table: [u32; 513] = [0; 513];
-    nodes::build_node_of(terms, c.terms, known, &mut table);
+    let table = deeper::known_table_unchecked(terms, cells, chars, reasons, keys, c, known);
     form_by(
         terms, cells, chars, reasons, keys, c, known, &table, t, list,
     )

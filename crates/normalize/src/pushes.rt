@@ -39,7 +39,7 @@ fn join_last(
     count: usize,
 ) -> Result<(usize, State), Refusal>
     requires ready { Ready (lent terms.old cells.now chars.old reasons.now keys.now) c }
-    requires count_value { joins_in (terms_view terms.old c.terms) t (reverse (first_words list.old count)) ≡ true }
+    requires joins { joins_in (terms_view terms.old c.terms) t (reverse (first_words list.old count)) ≡ true }
     requires count_nonzero { 0 < count }
     requires count_in_bounds { count ≤ length list.old }
     ensures { Does (join t (reverse (first_words list.old count))) (across (changing terms) cells (changing chars) reasons keys) c (pushed result into changing list) }

@@ -46,7 +46,11 @@ words-take l n h =
     let m = words-length l n in
     ext_get_or 0 _ _ (simp length-take (omega arith)) (λ i q. let r : i < n = omega arith in table_at_lem (λ j. get_or l j 0) n i 0 r ∙ sym (get_or-take n l i 0 r))
 
--- the first words of a list after k words of a slice
+-- the library's comparison of the first words of two slices
+pub words_same : (one other : List ℕ) (n k : ℕ) → n ≤ length one → k ≤ length other → pointwise eqb (take n one) (take k other) ≡ same_word (first_words one n) (first_words other k)
+words_same one other n k h i = rw (words-take one n h, words-take other k i) (words_compared (take n one) (take k other))
+
+-- the library's copy of the first words of a list after k words of a slice
 pub words-part : (to from new : List ℕ) (k n j : ℕ) → n ≤ length from → k + n ≤ length to → new ≡ take n from → first_words (put_mid k j to new) (k + n) ≡ first_words to k ++ first_words from n
 words-part to from new k n j h i e =
     let l : length new ≡ n = ap length e ∙ length-take-le n from h in

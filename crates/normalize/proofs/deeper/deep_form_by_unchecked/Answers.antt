@@ -19,8 +19,8 @@ pub rounds-requires-clause-candidates : goal.rounds-requires-clause-candidates
 rounds-requires-clause-candidates c =
     deep_candidates _ _ c.requires.ready c.form_by.new.list _ _ c.in_ok-n.ensures _ c.requires.candidates c.requires.t_value
 
-pub rounds-requires-clause-count_value : goal.rounds-requires-clause-count_value
-rounds-requires-clause-count_value c =
+pub rounds-requires-clause-strings : goal.rounds-requires-clause-strings
+rounds-requires-clause-strings c =
     deep_strings _ _ c.requires.ready c.form_by.new.list _ _ c.in_ok-n.ensures _ c.requires.candidates c.requires.t_value
 
 pub returns : goal.returns

@@ -9,23 +9,19 @@ use Rattle.normalize.proofs.deeper.push_all.Goals as goal
 
 pub loop-a-init : goal.loop-a-init
 loop-a-init c =
-    (refl, refl, refl, heaping_none _ _ c.requires.ready)
+    heaping_none _ _ c.requires.ready
 
 pub returns-in_err-count : goal.returns-in_err-count
 returns-in_err-count c =
     rw (handed _ c.from_residual.ensures.1)
-    (all-stopped c.args.next.now c.args.k c.loop-a.invariant.3 c.requires.k_value c.loop-a-test.true c.in_err-count.ensures)
+    (all-stopped c.args.next.now c.args.k c.loop-a.invariant c.requires.strings c.loop-a-test.true c.in_err-count.ensures)
 
 pub loop-a-preserved : goal.loop-a-preserved
-loop-a-preserved c = (
-  search rules,
-  search rules,
-  search rules,
-  all-turn c.args.next.now c.args.k c.loop-a.invariant.3 c.requires.k_value c.loop-a-test.true c.push.new.list _ _
-      c.in_ok-count.ensures,
-)
+loop-a-preserved c =
+    all-turn c.args.next.now c.args.k c.loop-a.invariant c.requires.strings c.loop-a-test.true c.push.new.list _ _
+      c.in_ok-count.ensures
 
 pub returns : goal.returns
 returns c =
-    all_done c.args.next.now c.args.k c.loop-a.invariant.3
+    all_done c.args.next.now c.args.k c.loop-a.invariant
     (let l = length-take-le _ c.args.next.now c.requires.k_in_bounds in let h = c.loop-a-test.false in omega arith)

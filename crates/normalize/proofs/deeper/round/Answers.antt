@@ -23,16 +23,16 @@ pub settle-requires-clause-ready : goal.settle-requires-clause-ready
 settle-requires-clause-ready c =
     expanded-ready (rw c.in-Some.is at c.in_ok-made.ensures)
 
-pub settle-requires-clause-k_value : goal.settle-requires-clause-k_value
-settle-requires-clause-k_value c =
+pub settle-requires-clause-strings : goal.settle-requires-clause-strings
+settle-requires-clause-strings c =
     round-strings c.requires.ready _ _ c.requires.candidates _ {list = c.args.list.now} {next = replicate 512 0} {n = c.args.count}
-    (record { strings = c.requires.count_value; short = c.requires.count_le_deep_limit.0; within = (let p = c.requires.count_le_deep_limit in omega arith); told = c.requires.met_table; room = lit≤ tt })
+    (record { strings = c.requires.strings; short = c.requires.count_le_deep_limit.0; within = (let p = c.requires.count_le_deep_limit in omega arith); told = c.requires.met_table; room = lit≤ tt })
     _ _ (rw c.in-Some.is at c.in_ok-made.ensures)
 
 pub settle-requires-clause-k_in_bounds : goal.settle-requires-clause-k_in_bounds
 settle-requires-clause-k_in_bounds c =
     (let s = round-short c.requires.ready _ _ c.requires.candidates _ {list = c.args.list.now} {next = replicate 512 0} {n = c.args.count}
-    (record { strings = c.requires.count_value; short = c.requires.count_le_deep_limit.0; within = (let p = c.requires.count_le_deep_limit in omega arith); told = c.requires.met_table; room = lit≤ tt })
+    (record { strings = c.requires.strings; short = c.requires.count_le_deep_limit.0; within = (let p = c.requires.count_le_deep_limit in omega arith); told = c.requires.met_table; room = lit≤ tt })
     _ _ (rw c.in-Some.is at c.in_ok-made.ensures) in
     let e = c.expand.auto.next in (omega arith, omega arith))
 
@@ -40,6 +40,6 @@ pub returns : goal.returns
 returns c =
     round-settled _ _ c.args.list.now c.args.count _ _ c.any_opens.ensures c.if-not-any_opens.false-raw (replicate 512 0) c.expand.new.next c.expand.new.met _ _ (rw c.in-Some.is at c.in_ok-made.ensures)
     (round-carried c.requires.ready _ _ c.requires.candidates _ {list = c.args.list.now} {next = replicate 512 0} {n = c.args.count}
-    (record { strings = c.requires.count_value; short = c.requires.count_le_deep_limit.0; within = (let p = c.requires.count_le_deep_limit in omega arith); told = c.requires.met_table; room = lit≤ tt })
+    (record { strings = c.requires.strings; short = c.requires.count_le_deep_limit.0; within = (let p = c.requires.count_le_deep_limit in omega arith); told = c.requires.met_table; room = lit≤ tt })
     _ _ (rw c.in-Some.is at c.in_ok-made.ensures))
     _ _ c.settle.ensures

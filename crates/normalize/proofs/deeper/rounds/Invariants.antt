@@ -6,4 +6,4 @@ use Rattle.normalize.proofs.Refines.Rounding.{Rounding}
 use Rattle.normalize.proofs.deeper.rounds.Given as goal
 
 abbrev pub invariant-loop : goal.invariant-loop
-invariant-loop l = (length l.terms ≡ length l.initial.terms) × (length l.chars ≡ length l.initial.chars) × (length l.reasons ≡ length l.initial.reasons) × (length l.list ≡ length l.initial.list) × Rounding l.known l.t (first_words l.initial.list l.count) (lent l.initial.terms l.cells l.initial.chars l.initial.reasons l.keys) l.initial.d (lent l.terms l.cells l.chars l.reasons l.keys) l.d l.list l.n l.met l.counter
+invariant-loop l = Rounding l.known l.t (first_words l.initial.list l.count) (lent l.initial.terms l.cells l.initial.chars l.initial.reasons l.keys) l.initial.d (lent l.terms l.cells l.chars l.reasons l.keys) l.d l.list l.n l.met l.counter

@@ -6,4 +6,4 @@ use Rattle.normalize.proofs.Refines.Expanding.{Walking}
 use Rattle.normalize.proofs.expands.expand.Given as goal
 
 abbrev pub invariant-loop-a : goal.invariant-loop-a
-invariant-loop-a l = (length l.terms ≡ length l.initial.terms) × (length l.chars ≡ length l.initial.chars) × (length l.reasons ≡ length l.initial.reasons) × (length l.next ≡ length l.initial.next) × Walking l.known l.t (first_words l.list l.count) l.initial.next l.initial.met (lent l.initial.terms l.cells l.initial.chars l.initial.reasons l.keys) l.initial.d (lent l.terms l.cells l.chars l.reasons l.keys) l.d l.next l.k l.met l.a-index
+invariant-loop-a l = Walking l.known l.t (first_words l.list l.count) l.initial.next l.initial.met (lent l.initial.terms l.cells l.initial.chars l.initial.reasons l.keys) l.initial.d (lent l.terms l.cells l.chars l.reasons l.keys) l.d l.next l.k l.met l.a-index

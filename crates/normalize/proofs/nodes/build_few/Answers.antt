@@ -3,8 +3,8 @@ use Rattle.records.proofs.Lists.{every_at}
 use Rattle.normalize.proofs.Represents.{nodes-turn, nodes-done}
 use Rattle.normalize.proofs.nodes.build_few.Goals as goal
 
-pub add_node-requires-clause-fact_2 : goal.add_node-requires-clause-fact_2
-add_node-requires-clause-fact_2 c =
+pub add_node-requires-clause-t_counted : goal.add_node-requires-clause-t_counted
+add_node-requires-clause-t_counted c =
     every_at _ _ 0 c.requires.every c.loop-t-test.true
 
 pub loop-t-preserved : goal.loop-t-preserved

@@ -8,8 +8,8 @@ pub loop-t-init : goal.loop-t-init
 loop-t-init c =
     (refl, ends-none _ _ c.requires.n_le_term_limit)
 
-pub keep_node-requires-clause-t_value : goal.keep_node-requires-clause-t_value
-keep_node-requires-clause-t_value c =
+pub keep_node-requires-clause-t_counted : goal.keep_node-requires-clause-t_counted
+keep_node-requires-clause-t_counted c =
     every_at _ _ 0 c.requires.every c.loop-t-test.true
 
 pub loop-t-preserved : goal.loop-t-preserved

@@ -10,9 +10,9 @@ pub returns-then-n-gt-LIST_LIMIT : goal.returns-then-n-gt-LIST_LIMIT
 returns-then-n-gt-LIST_LIMIT c =
     form-passes c.requires.ready _ _ _ _ c.flatten_unchecked-n.ensures c.if-n-gt-LIST_LIMIT.true _
 
-pub form_atoms-requires-clause-flat_value : goal.form_atoms-requires-clause-flat_value
-form_atoms-requires-clause-flat_value c =
-    flat-strings c.requires.ready _ _ _ _ c.flatten_unchecked-n.ensures c.if-n-gt-LIST_LIMIT.false c.requires.t_value
+pub form_atoms-requires-clause-flat_strings : goal.form_atoms-requires-clause-flat_strings
+form_atoms-requires-clause-flat_strings c =
+    flat-strings c.requires.ready _ _ _ _ c.flatten_unchecked-n.ensures c.if-n-gt-LIST_LIMIT.false c.requires.t_string
 
 pub returns : goal.returns
 returns c =

@@ -13,4 +13,4 @@ push-requires-clause-ready c =
 
 pub returns : goal.returns
 returns c =
-    push_for-done _ _ _ c.requires.ready c.requires.c_value _ c.in_ok-d.ensures c.push.ensures
+    push_for-done _ _ _ c.requires.ready c.requires.explainable _ c.in_ok-d.ensures c.push.ensures

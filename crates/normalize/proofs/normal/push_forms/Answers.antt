@@ -9,42 +9,36 @@ use Rattle.normalize.proofs.normal.push_forms.Goals as goal
 
 pub loop-a-init : goal.loop-a-init
 loop-a-init c =
-    (refl, refl, refl, refl, heaping_none _ _ c.requires.ready, refl)
+    heaping_none _ _ c.requires.ready
 
-pub rep-r-requires-clause-fact_2 : goal.rep-r-requires-clause-fact_2
-rep-r-requires-clause-fact_2 c =
-    let h = forms-rep c.loop-a.invariant.4 _ c.requires.candidates (every_right c.args.known.now _ (all_every _ _ c.requires.candidates.strings))
+pub rep-r-requires-clause-t_counted : goal.rep-r-requires-clause-t_counted
+rep-r-requires-clause-t_counted c =
+    let h = forms-rep c.loop-a.invariant _ c.requires.candidates (every_right c.args.known.now _ (all_every _ _ c.requires.candidates.strings))
     c.loop-a-test.true in
     h.1.0
 
-pub rep-r-requires-clause-fact_3 : goal.rep-r-requires-clause-fact_3
-rep-r-requires-clause-fact_3 c =
-    let h = forms-rep c.loop-a.invariant.4 _ c.requires.candidates (every_right c.args.known.now _ (all_every _ _ c.requires.candidates.strings))
+pub rep-r-requires-clause-closed : goal.rep-r-requires-clause-closed
+rep-r-requires-clause-closed c =
+    let h = forms-rep c.loop-a.invariant _ c.requires.candidates (every_right c.args.known.now _ (all_every _ _ c.requires.candidates.strings))
     c.loop-a-test.true in
     h.1.1
 
-pub push_for-requires-clause-c_value : goal.push_for-requires-clause-c_value
-push_for-requires-clause-c_value c =
-    for_arguments c.loop-a.invariant.4 _ c.requires.candidates
+pub push_for-requires-clause-explainable : goal.push_for-requires-clause-explainable
+push_for-requires-clause-explainable c =
+    for_arguments c.loop-a.invariant _ c.requires.candidates
     (every_right c.args.known.now _ (all_every _ _ c.requires.candidates.strings)) c.loop-a-test.true _ c.rep-r.ensures
 
 pub returns-in_err-count : goal.returns-in_err-count
 returns-in_err-count c =
     rw (handed _ c.from_residual.ensures.1)
-    (forms_stopped c.loop-a.invariant.4 _ c.requires.candidates (every_right c.args.known.now _ (all_every _ _ c.requires.candidates.strings))
+    (forms_stopped c.loop-a.invariant _ c.requires.candidates (every_right c.args.known.now _ (all_every _ _ c.requires.candidates.strings))
     c.loop-a-test.true _ c.rep-r.ensures c.in_err-count.ensures)
 
 pub loop-a-preserved : goal.loop-a-preserved
-loop-a-preserved c = (
-  search rules,
-  search rules,
-  search rules,
-  search rules,
-  forms_turn c.loop-a.invariant.4 _ c.requires.candidates (every_right c.args.known.now _ (all_every _ _ c.requires.candidates.strings))
-      c.loop-a-test.true _ c.rep-r.ensures c.push_for.new.list _ _ c.in_ok-count.ensures,
-  search rules,
-)
+loop-a-preserved c =
+    forms_turn c.loop-a.invariant _ c.requires.candidates (every_right c.args.known.now _ (all_every _ _ c.requires.candidates.strings))
+      c.loop-a-test.true _ c.rep-r.ensures c.push_for.new.list _ _ c.in_ok-count.ensures
 
 pub returns : goal.returns
 returns c =
-    forms_done (c.args.known.now ++ c.args.flat.now) _ c.loop-a.invariant.4 c.loop-a-test.false
+    forms_done (c.args.known.now ++ c.args.flat.now) _ c.loop-a.invariant c.loop-a-test.false
