@@ -15,11 +15,11 @@ use borrow.Author.Tests.{eqb-true, eqb-false, eq-eqb, ne_eqb, ltb-false, lt-ltb,
 use Rattle.records.specs.declared.State.{State}
 use Rattle.records.specs.declared.refusal.Refusal.{Refusal}
 use Rattle.records.specs.Lists.{all, any, is_in, none_left, and}
-use Rattle.records.specs.Store.{Term, Store, Out, ok, stop, Work, and_then, give, count, term_in, is_string}
+use Rattle.records.specs.Store.{Store, Out, ok, stop, Work, and_then, give, count, is_string}
 use Rattle.records.specs.View.{Lent, store_of, term_limit}
 use Rattle.records.specs.Working.Audited.{Ready}
 use Rattle.records.specs.Working.Doing.{Working}
-use Rattle.records.proofs.Lists.{decide, left_false, all_every, every_all, every_at, table_at_lem, within-high}
+use Rattle.records.proofs.Lists.{decide, all_every, every_all, every_at, table_at_lem, within-high}
 use Rattle.records.proofs.Works.{via}
 use Rattle.records.proofs.Grown.{string-term, Strings, strings-later}
 use Rattle.records.proofs.Climbs.{view_count}
@@ -37,15 +37,6 @@ use Rattle.normalize.proofs.Deep.{expand-ends}
 use Rattle.normalize.proofs.Carried.{Carried, carried_none, carried-kept, carried-then}
 use Rattle.normalize.proofs.Candidates.{candidates_later}
 use Rattle.normalize.proofs.Refines.Words.{words-length, words-none, words-put}
-
--- WHAT IS EXPANDED
-
-module _ (ts : List Term) (t a k : ℕ) (e : k ≡ (term_in ts a).kind) where
-  pub opens-other : (k ≡ 3 → ⊥) → false ≡ opens_in ts t a
-  opens-other d = sym (left_false _ _ (ne_eqb (term_in ts a).kind 3 (λ q. d (e ∙ q))))
-
-  pub opens-concat : k ≡ 3 → not (eqb a t) ≡ opens_in ts t a
-  opens-concat d = rw (eq-eqb (term_in ts a).kind 3 (sym e ∙ d))
 
 -- ONE EXPANSION
 
@@ -304,9 +295,6 @@ module _ (list : List ℕ) (count' : ℕ) {known : List ℕ} {t : ℕ} {next₀ 
 
   pub walk-string : is_string sw at ≡ true
   walk-string = subst (λ (x : ℕ). is_string sw x ≡ true) at_is (every_at (first_words list count') i 0 (strings-later g.carried.later.grown (all_every (is_string (store_of m₀ c)) _ o.strings)) inside)
-
-  pub walk-low : k < 2 * deep_limit
-  walk-low = let b = below in let l = g.low in let s = o.short in omega arith
 
   module _ {m' : Lent} (next' table' : List ℕ) (x : Result (code.Option ℕ × State) Refusal) (w : Expands known t (at ∷ []) next k table m m' d next' table' x) where
     one : (met : List ℕ) (z : Met table₀ met) → ExpandedTo (expand known t (at ∷ []) (record { list = first_words next k; met = (g.rest met z).now }) sw) m' next' table' x

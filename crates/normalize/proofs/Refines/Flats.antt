@@ -1,12 +1,10 @@
--- The ways of flattening: an atom appended, and the loop over a chain.
+-- The ways of flattening: the loop over a chain.
 use mathlib.Core.Path.{◌≡◌, refl, sym, ap, subst, ◌∙◌}
 use mathlib.Core.Bool.{Bool, true, false}
 use mathlib.Core.List.{List, [], ◌∷◌, ◌++◌, append-nil, append_assoc}
-use Prim.Native.Nat.{ℕ, suc, ◌+◌, ◌≤◌, ◌<◌}
-use native.Mathlib.Numerals.{add-one}
+use Prim.Native.Nat.{ℕ, suc, ◌≤◌, ◌<◌}
 use native.Mathlib.Omega.{arith}
-use lib.ListN.{length, take, set, length-append, length-take}
-use lib.Seq.{take-suc-set}
+use lib.ListN.{length, take, length-append, length-take}
 use borrow.Author.Tests.{eq-eqb, ne_eqb}
 use Rattle.records.specs.Lists.{concat_map, firsts, Every, and}
 use Rattle.records.specs.Store.{Store, within, kind, is_term, cell_in, is_concat, chain, parts}
@@ -19,14 +17,6 @@ use Rattle.normalize.specs.Normalize.{atoms}
 use Rattle.records.specs.Rules.{list_limit}
 use Rattle.normalize.specs.Working.Flat.{bare, Nested, Appended}
 use Rattle.normalize.proofs.Atoms.{atoms-plain, nested_atoms}
-
--- APPENDING
-
-pub atom-fits : (l : List ℕ) (n t : ℕ) → n < list_limit → list_limit ≤ length l → Appended l (set l n t) n (t ∷ []) (n + 1)
-atom-fits l n t h k = record { fits = λ i. rw add-one (take-suc-set l n t (omega arith)); passes = λ i. absurd (omega arith) }
-
-pub atom-passes : (l : List ℕ) (n t : ℕ) → list_limit ≤ n → Appended l l n (t ∷ []) (list_limit + 1)
-atom-passes l n t h = record { fits = λ i. absurd (omega arith); passes = λ i. omega arith }
 
 module _ (l : List ℕ) (n : ℕ) (e : List ℕ) (m : ℕ) where
   abbrev s : Store

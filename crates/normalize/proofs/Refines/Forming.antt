@@ -21,14 +21,13 @@ use Rattle.records.proofs.Climbs.{root-term, view_count, term-within, ready_root
 use Rattle.records.proofs.IndexStores.{keeps_same}
 use Rattle.records.proofs.Doing.{working_stopped, working_is, working_left}
 use Rattle.records.proofs.Sequence.{working_stop}
-use Rattle.normalize.specs.Normalize.{atoms, push_forms, normal_form, form_arguments}
+use Rattle.normalize.specs.Normalize.{atoms, push_forms, normal_form}
 use Rattle.records.specs.Rules.{list_limit, is_list}
 use Rattle.normalize.specs.Working.Flat.{bare, Appended}
 use Rattle.normalize.specs.Working.Nodes.{NodeOf, with_nodes, Rooting}
 use Rattle.normalize.specs.Working.Pushes.{pushed, Candidates}
 use Rattle.normalize.specs.Calls.{first_words, formed}
 use Rattle.normalize.proofs.Atoms.{same-atoms, atoms-plain, atoms-strings, flatten-fits, flatten-full}
-use Rattle.normalize.proofs.FormReady.{known-list}
 use Rattle.normalize.proofs.Represents.{nodes-more, nodes-none}
 
 module _ {m : Lent} {c : State} (ready : Ready m c) where
@@ -52,9 +51,6 @@ module _ {m : Lent} {c : State} (ready : Ready m c) where
 
   pub list-strings : (known : List ℕ) → is_list s known ≡ true → all (is_string s) known ≡ true
   list-strings known e = both_right (leb (length known) list_limit) _ e
-
-  pub known-strings : (known : List ℕ) (t : ℕ) → form_arguments known t s ≡ true → all (is_string s) known ≡ true
-  known-strings known t e = list-strings known (known-list ready known t e)
 
   -- the table of the known list, and of it and more
   pub known-table : (known table : List ℕ) → is_list s known ≡ true → length table ≡ 513 → ((i : ℕ) → i < length table → get_or table i 0 ≡ 0) → (after : List ℕ) → after ≡ with_nodes s.terms known table → Candidates s known after

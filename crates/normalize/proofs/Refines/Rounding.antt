@@ -28,7 +28,6 @@ use Rattle.normalize.specs.Normalize.{deep_limit, normal_form, push, push_all, e
 use Rattle.normalize.specs.Working.Pushes.{Candidates}
 use Rattle.normalize.specs.Calls.{first_words, deepened}
 use Rattle.normalize.specs.Working.Deeps.{opens_in, Met, MetTable, expanded, Expands, settled, settling, Settles, round_then, TurnedTo, Turns}
-use Rattle.records.proofs.Works.{stop-not}
 use Rattle.records.proofs.IndexStores.{keeps_same}
 use Rattle.records.proofs.Doing.{working_is, ready_for, working_left}
 use Rattle.records.proofs.Sequence.{working_stop}
@@ -88,9 +87,6 @@ module _ (next : List ℕ) (n : ℕ) {m₀ m : Lent} {c d : State} {out : List �
 -- THE END OF A ROUND
 
 module _ {m m' : Lent} {c : State} (before list : List ℕ) where
-  pub settle-stopped : {j : Refusal} → Working (push_all list []) m m' c (stop (number j)) → (l : List ℕ) → Settles before list m m' c l (Err j)
-  settle-stopped w l = record { kept = w.kept; ready = λ d a q. stop-not q; is = λ more. ap (and_then (λ u. settle before more (reverse u))) w.says }
-
   module _ (out : List ℕ) (n : ℕ) (d : State) (w : Working (push_all list []) m m' c (ok (store_of m' d) (reverse (first_words out n)))) where
     joined_says : (more : List ℕ → Work (Option (List ℕ))) → settling before list more (store_of m c) ≡ settle before more (first_words out n) (store_of m' d)
     joined_says more =

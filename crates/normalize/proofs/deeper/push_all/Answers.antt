@@ -1,10 +1,8 @@
 use Rattle.records.proofs.Public.{handed}
 use lib.Seq.{length-take-le}
-use mathlib.Core.Path.{refl}
 use Rattle.normalize.proofs.Refines.Heaping.{heaping_none}
 use Rattle.normalize.proofs.Refines.Rounding.{all-turn, all-stopped, all_done}
 use native.Mathlib.Omega.{arith}
-use borrow.Author.Rules.{rules}
 use Rattle.normalize.proofs.deeper.push_all.Goals as goal
 
 pub loop-a-init : goal.loop-a-init
@@ -19,7 +17,7 @@ returns-in_err-count c =
 pub loop-a-preserved : goal.loop-a-preserved
 loop-a-preserved c =
     all-turn c.args.next.now c.args.k c.loop-a.invariant c.requires.strings c.loop-a-test.true c.push.new.list _ _
-      c.in_ok-count.ensures
+    c.in_ok-count.ensures
 
 pub returns : goal.returns
 returns c =

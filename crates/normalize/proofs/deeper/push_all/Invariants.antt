@@ -1,5 +1,3 @@
-use lib.ListN.{length}
-use mathlib.Core.Path.{◌≡◌}
 use Rattle.records.specs.View.{lent}
 use Rattle.normalize.proofs.Refines.Heaping.{Heaping}
 use Rattle.normalize.proofs.Refines.Rounding.{all_left}

@@ -2,13 +2,12 @@ use Rattle.records.proofs.Public.{handed}
 use lib.ListN.{replicate, get_or-replicate}
 use mathlib.Core.Path.{refl}
 use Rattle.normalize.proofs.Refines.Rounding.{rounding_none, rounding_candidates, rounds-ended, rounds-stopped, rounding_turn, rounds_done}
-use borrow.Author.Rules.{rules}
 use Rattle.normalize.proofs.deeper.rounds.Goals as goal
 
 pub loop-init : goal.loop-init
 loop-init c =
     rounding_none _ _ c.args.list.now c.args.count (replicate 513 0) c.requires.ready c.requires.strings c.requires.count_le_deep_limit.0 refl
-      (λ i h. get_or-replicate 513 i 0 0 h)
+    (λ i h. get_or-replicate 513 i 0 0 h)
 
 pub round-requires-clause-candidates : goal.round-requires-clause-candidates
 round-requires-clause-candidates c =

@@ -1,5 +1,3 @@
-use lib.ListN.{length}
-use mathlib.Core.Path.{◌≡◌}
 use Rattle.normalize.specs.Calls.{first_words}
 use Rattle.records.specs.View.{lent}
 use Rattle.normalize.proofs.Refines.Rounding.{Rounding}

@@ -1,9 +1,7 @@
 use Rattle.records.proofs.Public.{handed}
 use lib.Seq.{length-take-le}
-use mathlib.Core.Path.{refl}
 use Rattle.normalize.proofs.Refines.Expanding.{walking_none, walk_candidates, walk-string, walking_turn, walking_ended, walking_stopped, walking_done}
 use native.Mathlib.Omega.{arith}
-use borrow.Author.Rules.{rules}
 use Rattle.normalize.proofs.expands.expand.Goals as goal
 
 pub loop-a-init : goal.loop-a-init
@@ -33,7 +31,7 @@ returns-in_default c =
 pub loop-a-preserved : goal.loop-a-preserved
 loop-a-preserved c =
     walking_turn c.args.list.now c.args.count c.loop-a.invariant _ c.requires.candidates c.requires.round_of
-      c.loop-a-test.true c.expand_one.new.next c.expand_one.new.met _ _ (rw c.in-Some.is at c.in_ok-made.ensures)
+    c.loop-a-test.true c.expand_one.new.next c.expand_one.new.met _ _ (rw c.in-Some.is at c.in_ok-made.ensures)
 
 pub returns : goal.returns
 returns c =

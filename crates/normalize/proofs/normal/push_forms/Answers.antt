@@ -1,10 +1,8 @@
 use Rattle.records.proofs.Public.{handed}
 use mathlib.Core.List.{◌++◌}
-use mathlib.Core.Path.{refl}
 use Rattle.records.proofs.Lists.{all_every, every_right}
 use Rattle.normalize.proofs.Refines.Heaping.{heaping_none}
 use Rattle.normalize.proofs.Refines.Replacing.{rep_requires as forms-rep, for_arguments, forms_turn, forms_stopped, forms_done}
-use borrow.Author.Rules.{rules}
 use Rattle.normalize.proofs.normal.push_forms.Goals as goal
 
 pub loop-a-init : goal.loop-a-init
@@ -37,7 +35,7 @@ returns-in_err-count c =
 pub loop-a-preserved : goal.loop-a-preserved
 loop-a-preserved c =
     forms_turn c.loop-a.invariant _ c.requires.candidates (every_right c.args.known.now _ (all_every _ _ c.requires.candidates.strings))
-      c.loop-a-test.true _ c.rep-r.ensures c.push_for.new.list _ _ c.in_ok-count.ensures
+    c.loop-a-test.true _ c.rep-r.ensures c.push_for.new.list _ _ c.in_ok-count.ensures
 
 pub returns : goal.returns
 returns c =

@@ -1,6 +1,4 @@
-use lib.ListN.{length}
 use mathlib.Core.List.{◌++◌}
-use mathlib.Core.Path.{◌≡◌}
 use Rattle.records.specs.View.{lent}
 use Rattle.normalize.proofs.Refines.Heaping.{Heaping}
 use Rattle.normalize.proofs.Refines.Replacing.{forms_left}
