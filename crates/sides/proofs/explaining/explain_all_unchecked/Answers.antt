@@ -25,19 +25,15 @@ loop-u-init c = (
   refl,
 )
 
-pub slice_bounds-explain_atom-end : goal.slice_bounds-explain_atom-end
-slice_bounds-explain_atom-end c =
-    sym c.loop-u.invariant.2
+pub explain_atom-requires-clause-pair : goal.explain_atom-requires-clause-pair
+explain_atom-requires-clause-pair c =
+    citing-pair c.args.terms.now c.args.cells.now c.args.chars.now c.args.keys.now c.args.side.now
+          c.args.v c.loop-u.invariant.1.1 c.loop-u-test.true c.requires.every c.requires.every_2
 
-pub explain_atom-requires : goal.explain_atom-requires
-explain_atom-requires c =
-    record {
-      ready = c.loop-u.invariant.1.1.going.ready;
-      pair = citing-pair c.args.terms.now c.args.cells.now c.args.chars.now c.args.keys.now c.args.side.now
-          c.args.v c.loop-u.invariant.1.1 c.loop-u-test.true c.requires.every c.requires.every_2;
-      one_class = citing-class c.args.terms.now c.args.cells.now c.args.chars.now c.args.keys.now c.args.side.now
-          c.args.v c.loop-u.invariant.1.1 c.loop-u-test.true c.requires.every c.requires.every_2;
-    }
+pub explain_atom-requires-clause-one_class : goal.explain_atom-requires-clause-one_class
+explain_atom-requires-clause-one_class c =
+    citing-class c.args.terms.now c.args.cells.now c.args.chars.now c.args.keys.now c.args.side.now
+          c.args.v c.loop-u.invariant.1.1 c.loop-u-test.true c.requires.every c.requires.every_2
 
 pub returns-in_err-d : goal.returns-in_err-d
 returns-in_err-d c =

@@ -6,13 +6,6 @@ returns-then-kind_of-eq1 c =
     atom-constant c.args.terms.now c.args.cells.now c.args.chars.now c.args.reasons.now c.args.keys.now
     c.args.c _ _ _ c.kind_of.ensures c.requires.ready c.if-kind_of-eq1.true
 
-pub explain_unchecked-requires : goal.explain_unchecked-requires
-explain_unchecked-requires c = (
-  c.requires.ready,
-  atom_arguments c.args.terms.now c.args.cells.now c.args.chars.now c.args.reasons.now c.args.keys.now
-      c.args.c _ _ _ c.kind_of.ensures c.if-kind_of-eq1.false c.requires.pair c.requires.one_class,
-)
-
 pub returns : goal.returns
 returns c =
     atom-explained c.args.terms.now c.args.cells.now c.args.chars.now c.args.reasons.now c.args.keys.now

@@ -12,7 +12,3 @@ returns-then-used_at c =
 pub loop-i-preserved : goal.loop-i-preserved
 loop-i-preserved c =
     unseen_one _ _ _ _ _ c.loop-i.invariant _ c.used_at.ensures c.loop-i-test.true c.if-used_at.false
-
-pub returns : goal.returns
-returns c =
-    unseen_done _ _ _ _ _ c.loop-i.invariant c.loop-i-test.false

@@ -2,14 +2,6 @@ use Rattle.sides.proofs.Refines.LackingSides.{found_none, found-stop, found-one,
 use mathlib.Core.Path.{◌∙◌}
 use Rattle.sides.proofs.lacking.lacks_side.Goals as goal
 
-pub loop-a-init : goal.loop-a-init
-loop-a-init c =
-    found_none _ _ _ _ _
-
-pub lacks_atom-requires : goal.lacks_atom-requires
-lacks_atom-requires c =
-    (c.requires.0, c.loop-a.invariant.size ∙ c.requires.1)
-
 pub returns-then-lacks_atom : goal.returns-then-lacks_atom
 returns-then-lacks_atom c =
     found-stop _ _ _ _ _ _ _ c.loop-a.invariant _ _ c.loop-a-test.true c.lacks_atom.ensures c.if-lacks_atom.true

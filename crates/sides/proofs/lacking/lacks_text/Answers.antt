@@ -13,7 +13,3 @@ pub loop-j-preserved : goal.loop-j-preserved
 loop-j-preserved c =
     looked_one _ _ _ _ _ _ _ c.loop-j.invariant _ c.is_known.ensures c.loop-j-test.true c.requires.2 c.requires.1 c.requires.3
     c.if-not-is_known.false-raw
-
-pub returns : goal.returns
-returns c =
-    looked_done _ _ _ _ _ _ _ c.loop-j.invariant c.loop-j-test.false

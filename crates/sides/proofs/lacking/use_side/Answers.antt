@@ -2,14 +2,6 @@ use Rattle.sides.proofs.Refines.LackingSides.{using_side_none, using_side_one, u
 use mathlib.Core.Path.{◌∙◌}
 use Rattle.sides.proofs.lacking.use_side.Goals as goal
 
-pub loop-a-init : goal.loop-a-init
-loop-a-init c =
-    using_side_none _ _ _ _
-
-pub use_atom-requires : goal.use_atom-requires
-use_atom-requires c =
-    (c.requires.0, c.loop-a.invariant.size ∙ c.requires.1)
-
 pub loop-a-preserved : goal.loop-a-preserved
 loop-a-preserved c =
     using_side_one _ _ _ _ _ _ c.loop-a.invariant _ c.loop-a-test.true c.use_atom.ensures

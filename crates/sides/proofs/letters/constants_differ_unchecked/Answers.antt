@@ -4,11 +4,6 @@ use Rattle.sides.proofs.Refines.SideTexts.{one-room, other-room, differ-is, diff
 use native.Mathlib.Omega.{arith}
 use Rattle.sides.proofs.letters.constants_differ_unchecked.Goals as goal
 
-pub returns-then-not-both_constant : goal.returns-then-not-both_constant
-returns-then-not-both_constant c =
-    differ-not c.args.terms.now c.args.chars.now c.args.c c.args.a c.args.b _ c.both_constant.ensures
-    c.if-not-both_constant.true-raw
-
 pub spans_differ-requires : goal.spans_differ-requires
 spans_differ-requires c =
     let y = passed _ _ c.both_constant.ensures c.if-not-both_constant.false-raw in

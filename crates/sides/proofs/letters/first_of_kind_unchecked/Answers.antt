@@ -6,14 +6,6 @@ pub loop-i-init : goal.loop-i-init
 loop-i-init c =
     first-start _ c.args.l.now
 
-pub returns-then-is_kind : goal.returns-then-is_kind
-returns-then-is_kind c =
-    first-here _ _ c.loop-i.invariant c.loop-i-test.true _ c.is_kind.ensures c.if-is_kind.true
-
 pub loop-i-preserved : goal.loop-i-preserved
 loop-i-preserved c =
     first-turn _ _ c.loop-i.invariant c.loop-i-test.true _ c.is_kind.ensures c.if-is_kind.false
-
-pub returns : goal.returns
-returns c =
-    first-none _ _ c.loop-i.invariant c.loop-i-test.false

@@ -2,30 +2,10 @@ use mathlib.Core.Path.{refl}
 use Rattle.sides.proofs.Refines.TileWalk.{walked_none, filling_start, filling_one, filling_end, filling_differs, word_limit_lem, source_limit, walked_end}
 use Rattle.sides.proofs.letters.is_tiled.Goals as goal
 
-pub loop-i-init : goal.loop-i-init
-loop-i-init c =
-    walked_none _ _ _ _ _ _ _
-
-pub fill_count-n-requires : goal.fill_count-n-requires
-fill_count-n-requires c =
-    c.requires.known.texts
-
 pub loop-init : goal.loop-init
 loop-init c =
     filling_start _ _ _ _ _ _ _ _ _ _ _ _ _ c.loop-i.invariant c.requires c.loop-i-test.true refl c.fill_count-n.ensures
     c.fill_start-x.ensures c.fill_source-source.ensures
-
-pub settle-k-requires : goal.settle-k-requires
-settle-k-requires c =
-    c.requires.known.texts
-
-pub settle-x-requires : goal.settle-x-requires
-settle-x-requires c =
-    c.requires.known.texts
-
-pub same_letter-requires : goal.same_letter-requires
-same_letter-requires c =
-    (c.requires.known, c.settle-k.ensures.at, c.settle-x.ensures.at)
 
 pub onward-k-requires : goal.onward-k-requires
 onward-k-requires c =
@@ -45,10 +25,6 @@ loop-preserved c =
 pub loop-i-preserved : goal.loop-i-preserved
 loop-i-preserved c =
     filling_end _ _ _ _ _ _ _ _ _ _ _ _ _ c.loop.invariant c.loop-test.false
-
-pub settle-requires : goal.settle-requires
-settle-requires c =
-    c.requires.known.texts
 
 pub returns-then-not-same_letter : goal.returns-then-not-same_letter
 returns-then-not-same_letter c =

@@ -1,14 +1,6 @@
 use Rattle.sides.proofs.Refines.SideWalk.{onward-none, onward-here, onward-atom, onward-end}
 use Rattle.sides.proofs.letters.settle.Goals as goal
 
-pub loop-i-init : goal.loop-i-init
-loop-i-init c =
-    onward-none _ _ _ _ _
-
-pub returns-then-j-n : goal.returns-then-j-n
-returns-then-j-n c =
-    onward-here _ _ _ _ _ _ c.loop-i.invariant _ c.letter_count-n.ensures c.if-j-n.true
-
 pub loop-i-preserved : goal.loop-i-preserved
 loop-i-preserved c =
     onward-atom _ _ _ c.args.k _ _ c.loop-i.invariant _ c.letter_count-n.ensures c.requires c.loop-i-test.true c.if-j-n.false

@@ -3,19 +3,6 @@ use Rattle.records.proofs.Loops.{summing_none, summing_all}
 use native.Mathlib.Omega.{arith}
 use Rattle.sides.proofs.occurring.count_full.Goals as goal
 
-pub loop-a-init : goal.loop-a-init
-loop-a-init c =
-    summing_none _ _ _
-
-pub own_count-n-requires : goal.own_count-n-requires
-own_count-n-requires c =
-    c.requires.0
-
-pub overflow_add-n : goal.overflow_add-n
-overflow_add-n c =
-    let z = fulls_turn _ _ _ _ _ c.loop-a.invariant c.loop-a-test.true c.own_count-n.ensures in
-    let y = z.small in let x = z.within in let v = c.requires.1 in omega arith
-
 pub loop-a-preserved : goal.loop-a-preserved
 loop-a-preserved c =
     fulls_turn _ _ _ _ _ c.loop-a.invariant c.loop-a-test.true c.own_count-n.ensures

@@ -6,17 +6,10 @@ use mathlib.Core.Path.{refl}
 use native.Mathlib.Omega.{arith}
 use Rattle.sides.proofs.spans.all_agree_unchecked.Goals as goal
 
-pub loop-a-init : goal.loop-a-init
-loop-a-init c =
-    refl
-
-pub atom_agrees-requires : goal.atom_agrees-requires
-atom_agrees-requires c =
-    record {
-      fact_1 = c.requires.readable;
-      fact_2 = pair_at_lem (read_in c.args.terms.now c.args.chars.now c.args.c) c.args.l.now c.requires.l_value c.args.v
-          c.requires.v_value _ c.loop-a-test.true;
-    }
+pub atom_agrees-requires-clause-fact_2 : goal.atom_agrees-requires-clause-fact_2
+atom_agrees-requires-clause-fact_2 c =
+    pair_at_lem (read_in c.args.terms.now c.args.chars.now c.args.c) c.args.l.now c.requires.l_value c.args.v
+          c.requires.v_value _ c.loop-a-test.true
 
 pub returns-then-not-atom_agrees : goal.returns-then-not-atom_agrees
 returns-then-not-atom_agrees c =

@@ -4,15 +4,15 @@ use Rattle.records.proofs.ListLaws.{list-short}
 use native.Mathlib.Omega.{arith}
 use Rattle.sides.proofs.spans.is_unfit.Goals as goal
 
-pub all_agree_unchecked-requires : goal.all_agree_unchecked-requires
-all_agree_unchecked-requires c =
-    record {
-      readable = c.requires.readable;
-      l_value = after-strings (read_in c.args.terms.now c.args.chars.now c.args.c) c.args.side.now c.args.i
-          c.requires.fact.1;
-      v_value = list-string (read_in c.args.terms.now c.args.chars.now c.args.c) c.args.side.now c.requires.fact.1 c.args.i
-          c.requires.fact.3;
-    }
+pub all_agree_unchecked-requires-clause-l_value : goal.all_agree_unchecked-requires-clause-l_value
+all_agree_unchecked-requires-clause-l_value c =
+    after-strings (read_in c.args.terms.now c.args.chars.now c.args.c) c.args.side.now c.args.i
+          c.requires.fact.1
+
+pub all_agree_unchecked-requires-clause-v_value : goal.all_agree_unchecked-requires-clause-v_value
+all_agree_unchecked-requires-clause-v_value c =
+    list-string (read_in c.args.terms.now c.args.chars.now c.args.c) c.args.side.now c.requires.fact.1 c.args.i
+          c.requires.fact.3
 
 pub returns-then-all_agree_unchecked : goal.returns-then-all_agree_unchecked
 returns-then-all_agree_unchecked c =

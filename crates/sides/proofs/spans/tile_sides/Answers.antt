@@ -9,32 +9,17 @@ pub returns-then-side-i : goal.returns-then-side-i
 returns-then-side-i c =
     elim c.then-side-i.branch [ then-side-i-via-then-side-i w ↦ tile-none c.args.terms.now c.args.cells.now c.args.chars.now c.args.reasons.now c.args.keys.now c.args.c c.args.word.now c.args.side.now _ c.first_variable_unchecked-i.ensures c.requires.ready w.if-side-i.true | then-side-i-via-else-side-i+then-not-is_unfit w ↦ tile-fits c.args.terms.now c.args.cells.now c.args.chars.now c.args.reasons.now c.args.keys.now c.args.c c.args.word.now c.args.side.now _ c.first_variable_unchecked-i.ensures w.if-side-i.false _ w.is_unfit.ensures c.requires.ready w.if-not-is_unfit.true-raw ]
 
-pub is_unfit-requires : goal.is_unfit-requires
-is_unfit-requires c =
-    record {
-      readable = record { cells = c.args.cells.now; reasons = c.args.reasons.now; keys = c.args.keys.now; ready = c.requires.ready };
-      fact = (
-        list-short
-            (store_of (lent c.args.terms.now c.args.cells.now c.args.chars.now c.args.reasons.now c.args.keys.now)
-            c.args.c)
-            c.args.word.now c.requires.both_lists.left,
-        c.requires.both_lists.right,
-        c.first_variable_unchecked-i.ensures,
-        c.if-side-i.false,
-      );
-    }
+pub explain_all_unchecked-requires-clause-every : goal.explain_all_unchecked-requires-clause-every
+explain_all_unchecked-requires-clause-every c =
+    tile-pairs c.args.terms.now c.args.cells.now c.args.chars.now c.args.reasons.now c.args.keys.now
+          c.args.c c.args.word.now c.args.side.now _ c.first_variable_unchecked-i.ensures c.if-side-i.false _
+          c.is_unfit.ensures c.if-not-is_unfit.false-raw c.requires.both_lists.right
 
-pub explain_all_unchecked-requires : goal.explain_all_unchecked-requires
-explain_all_unchecked-requires c =
-    record {
-      ready = c.requires.ready;
-      every = tile-pairs c.args.terms.now c.args.cells.now c.args.chars.now c.args.reasons.now c.args.keys.now
+pub explain_all_unchecked-requires-clause-every_2 : goal.explain_all_unchecked-requires-clause-every_2
+explain_all_unchecked-requires-clause-every_2 c =
+    tile-classes c.args.terms.now c.args.cells.now c.args.chars.now c.args.reasons.now c.args.keys.now
           c.args.c c.args.word.now c.args.side.now _ c.first_variable_unchecked-i.ensures c.if-side-i.false _
-          c.is_unfit.ensures c.if-not-is_unfit.false-raw c.requires.both_lists.right;
-      every_2 = tile-classes c.args.terms.now c.args.cells.now c.args.chars.now c.args.reasons.now c.args.keys.now
-          c.args.c c.args.word.now c.args.side.now _ c.first_variable_unchecked-i.ensures c.if-side-i.false _
-          c.is_unfit.ensures c.if-not-is_unfit.false-raw;
-    }
+          c.is_unfit.ensures c.if-not-is_unfit.false-raw
 
 pub returns-in_err-d : goal.returns-in_err-d
 returns-in_err-d c =

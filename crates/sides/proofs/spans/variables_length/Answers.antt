@@ -4,15 +4,6 @@ use Rattle.records.proofs.Loops.{summing_none, summing_all}
 use native.Mathlib.Omega.{arith}
 use Rattle.sides.proofs.spans.variables_length.Goals as goal
 
-pub loop-a-init : goal.loop-a-init
-loop-a-init c =
-    summing_none _ _ _
-
-pub overflow_add-total : goal.overflow_add-total
-overflow_add-total c =
-    let z = tallied_one (termed c.args.terms.now c.args.c) _ _ _ _ c.loop-a.invariant c.loop-a-test.true c.variable_count-total.ensures in
-    let y = z.small in let x = z.within in omega (arith, c.well_formed)
-
 pub loop-a-preserved : goal.loop-a-preserved
 loop-a-preserved c =
     tallied_one (termed c.args.terms.now c.args.c) _ _ _ _ c.loop-a.invariant c.loop-a-test.true c.variable_count-total.ensures

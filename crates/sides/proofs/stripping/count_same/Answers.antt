@@ -4,21 +4,11 @@ use Rattle.sides.proofs.Refines.Stripping.{counted_none, count_all, count_stop, 
 use native.Mathlib.Omega.{arith}
 use Rattle.sides.proofs.stripping.count_same.Goals as goal
 
-pub loop-i-init : goal.loop-i-init
-loop-i-init c = (
-  omega arith,
-  counted_none (read_in c.args.terms.now c.args.chars.now c.args.c) c.args.lhs.now c.args.rhs.now
-      c.args.tail,
-)
-
-pub same_unchecked-requires : goal.same_unchecked-requires
-same_unchecked-requires c =
-    record {
-      fact_1 = c.requires.readable;
-      fact_2 = pair_at_lem (read_in c.args.terms.now c.args.chars.now c.args.c) c.args.tail c.args.lhs.now
+pub same_unchecked-requires-clause-fact_2 : goal.same_unchecked-requires-clause-fact_2
+same_unchecked-requires-clause-fact_2 c =
+    pair_at_lem (read_in c.args.terms.now c.args.chars.now c.args.c) c.args.tail c.args.lhs.now
           c.args.rhs.now c.requires.lhs_value c.requires.rhs_value (below_left _ _ _ _ c.min-n.ensures c.loop-i-test.true)
-          (below_right _ _ _ _ c.min-n.ensures c.loop-i-test.true) c.atom_unchecked-x.ensures c.atom_unchecked-y.ensures;
-    }
+          (below_right _ _ _ _ c.min-n.ensures c.loop-i-test.true) c.atom_unchecked-x.ensures c.atom_unchecked-y.ensures
 
 pub returns-then-not-same_unchecked : goal.returns-then-not-same_unchecked
 returns-then-not-same_unchecked c =

@@ -16,14 +16,11 @@ loop-i-init c = (
   refl,
 )
 
-pub explain_pair-requires : goal.explain_pair-requires
-explain_pair-requires c =
-    record {
-      fact_1 = c.loop-i.invariant.1.1.going.ready;
-      fact_2 = pairing_pair c.args.terms.now c.args.cells.now c.args.chars.now c.args.keys.now c.args.lhs.now
+pub explain_pair-requires-clause-fact_2 : goal.explain_pair-requires-clause-fact_2
+explain_pair-requires-clause-fact_2 c =
+    pairing_pair c.args.terms.now c.args.cells.now c.args.chars.now c.args.keys.now c.args.lhs.now
           c.args.rhs.now c.args.tail c.loop-i.invariant.1.1 c.requires.lhs_len c.requires.lhs_value c.requires.rhs_value
-          c.loop-i-test.true c.atom_unchecked-a.ensures c.atom_unchecked-b.ensures;
-    }
+          c.loop-i-test.true c.atom_unchecked-a.ensures c.atom_unchecked-b.ensures
 
 pub returns-in_err-d : goal.returns-in_err-d
 returns-in_err-d c =

@@ -7,15 +7,13 @@ use Rattle.sides.proofs.Refines.Stripping.{both-refused, heads-going, both-expla
 use Rattle.sides.proofs.Refines.AddingReasons.{going_strings}
 use Rattle.sides.proofs.stripping.explain_stripped.Goals as goal
 
-pub explain_pairs-requires : goal.explain_pairs-requires
-explain_pairs-requires c =
-    record {
-      ready = c.requires.ready;
-      lhs_value = all_take _ c.args.rest.from c.args.lhs.now c.requires.lhs_value;
-      rhs_value = all_take _ c.args.rest.from c.args.rhs.now c.requires.rhs_value;
-      lhs_len = through-length false (take c.args.rest.from c.args.lhs.now) (take c.args.rest.from c.args.rhs.now)
-          (heads_through c.args.lhs.now c.args.rhs.now c.args.rest c.requires.finds);
-    }
+pub explain_pairs-requires-clause-lhs_value : goal.explain_pairs-requires-clause-lhs_value
+explain_pairs-requires-clause-lhs_value c =
+    all_take _ c.args.rest.from c.args.lhs.now c.requires.lhs_value
+
+pub explain_pairs-requires-clause-rhs_value : goal.explain_pairs-requires-clause-rhs_value
+explain_pairs-requires-clause-rhs_value c =
+    all_take _ c.args.rest.from c.args.rhs.now c.requires.rhs_value
 
 pub explain_pairs-requires-2 : goal.explain_pairs-requires-2
 explain_pairs-requires-2 c =

@@ -6,15 +6,6 @@ use native.Mathlib.Omega.{arith}
 use borrow.Author.Rules.{rules}
 use Rattle.sides.proofs.stripping.pairs_need.Goals as goal
 
-pub loop-i-init : goal.loop-i-init
-loop-i-init c = (
-  omega arith,
-  needing_none (lent c.args.terms.now c.args.cells.now c.args.chars.now c.args.reasons.now c.args.keys.now)
-      c.args.c (read_in c.args.terms.now c.args.chars.now c.args.c) c.args.lhs.now c.args.rhs.now
-      c.args.tail c.requires.rhs_value_2,
-  refl,
-)
-
 pub atom_unchecked-v-requires : goal.atom_unchecked-v-requires
 atom_unchecked-v-requires c =
     equal-within (lent c.args.terms.now c.args.cells.now c.args.chars.now c.args.reasons.now c.args.keys.now)

@@ -2,24 +2,6 @@ use Rattle.records.proofs.Public.{handed}
 use Rattle.sides.proofs.Refines.Stripping.{strip-refused, strip-parts}
 use Rattle.sides.proofs.stripping.strip_by.Goals as goal
 
-pub matches_need-needed-requires : goal.matches_need-needed-requires
-matches_need-needed-requires c =
-    record {
-      ready = c.requires.ready;
-      lhs_value = c.requires.lhs_value;
-      rhs_value = c.requires.rhs_value;
-      finds = c.requires.finds;
-    }
-
-pub explain_stripped-requires : goal.explain_stripped-requires
-explain_stripped-requires c =
-    record {
-      ready = c.requires.ready;
-      lhs_value = c.requires.lhs_value;
-      rhs_value = c.requires.rhs_value;
-      finds = c.requires.finds;
-    }
-
 pub returns-in_err-counts : goal.returns-in_err-counts
 returns-in_err-counts c =
     rw (handed _ c.from_residual.ensures.1)
