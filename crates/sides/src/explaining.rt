@@ -44,8 +44,8 @@ pub(crate) fn explain_all_unchecked(
     v: u32,
 ) -> Result<State, Refusal>
     requires ready { Ready (lent terms.now cells.now chars.now reasons.old keys.now) c }
-    requires every { Every (λ u. Pair (read_in terms.now chars.now c) u v) side.now }
-    requires every_2 { Every (λ u. OneClass (terms_view terms.now c.terms) u v) side.now }
+    requires pairs { Every (λ u. Pair (read_in terms.now chars.now c) u v) side.now }
+    requires one_class { Every (λ u. OneClass (terms_view terms.now c.terms) u v) side.now }
     ensures { Does (explain_all (variables (read_in terms.now chars.now c) side.now) v) (across terms cells chars (changing reasons) keys) c (added result) }
 {
     if side.is_empty() {

@@ -168,8 +168,8 @@ fn same_letter(
 // TWO TEXTS
 
 fn spans_differ(chars: &[u32], p: usize, n: usize, q: usize, m: usize) -> bool
-    requires fact_1 { p + n ≤ length chars.now }
-    requires fact_2 { q + m ≤ length chars.now }
+    requires one_inside { p + n ≤ length chars.now }
+    requires other_inside { q + m ≤ length chars.now }
     ensures { result ≡ differ (span chars.now p n) (span chars.now q m) }
 {
     for j in 0..n.min(m) {

@@ -42,7 +42,7 @@ fn fits<'a>(
         return false;
     }
     let m = (l - n) / k;
-    let place = letters::letters_length_unchecked(terms, c, &side[0..i]);
+    let place = letters::letters_length_unchecked(terms, c, &side[..i]);
     letters::is_tiled(terms, chars, c, word, side, Cursor { atom: 0, place }, m)
 }
 
@@ -64,8 +64,8 @@ pub fn variables_length(terms: &[u32], c: State, l: &[u32]) -> usize
 }
 
 fn atom_agrees(terms: &[u32], chars: &[u32], c: State, a: u32, v: u32) -> bool
-    requires fact_1 { Readable terms.now chars.now c }
-    requires fact_2 { Pair (read_in terms.now chars.now c) a v }
+    requires readable { Readable terms.now chars.now c }
+    requires pair { Pair (read_in terms.now chars.now c) a v }
     ensures { result ≡ agrees (read_in terms.now chars.now c) v a }
 {
     rules::kind_of(terms, c.terms, a) == 1 || stripping::same_unchecked(terms, chars, c, a, v)
@@ -96,10 +96,10 @@ fn is_unfit<'a>(
     i: usize,
 ) -> bool
     requires readable { Readable terms.now chars.now c }
-    requires fact { let r = side.now in (length word.now ≤ list_limit) × (is_list (read_in terms.now chars.now c) r ≡ true) × FirstVariable (termed terms.now c) r i × (i < length r) }
+    requires lists { let r = side.now in (length word.now ≤ list_limit) × (is_list (read_in terms.now chars.now c) r ≡ true) × FirstVariable (termed terms.now c) r i × (i < length r) }
     ensures { let s = read_in terms.now chars.now c in result ≡ unfit s word.now side.now (get_or side.now i 0) (variables s (drop (suc i) side.now)) }
 {
-    let later = &side[i + 1..side.len()];
+    let later = &side[i + 1..];
     all_agree_unchecked(terms, chars, c, later, side[i])
         && !fits(
             terms,
@@ -131,7 +131,7 @@ fn tile_sides<'a>(
     if side.len() <= i || !is_unfit(terms, chars, c, word, side, i) {
         return Ok(StepResult::Done(c));
     }
-    let later = &side[i + 1..side.len()];
+    let later = &side[i + 1..];
     let d = explaining::explain_all_unchecked(
         terms, cells, chars, reasons, keys, c, later, side[i],
     )?;

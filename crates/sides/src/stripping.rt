@@ -21,7 +21,7 @@ pub fn both_constant(terms: &[u32], n: usize, a: u32, b: u32) -> bool
 // Whether two constants have equal characters.
 pub(crate) fn same_text(terms: &[u32], chars: &[u32], c: State, a: u32, b: u32) -> bool
     requires readable { Readable terms.now chars.now c }
-    requires b_value { is_constant (read_in terms.now chars.now c) a && is_constant (read_in terms.now chars.now c) b ≡ true }
+    requires constants { is_constant (read_in terms.now chars.now c) a && is_constant (read_in terms.now chars.now c) b ≡ true }
     ensures { result ≡ same_word (text (read_in terms.now chars.now c) a) (text (read_in terms.now chars.now c) b) }
 {
     let k = fields::second(terms, a);
@@ -83,8 +83,8 @@ pub(crate) fn count_same(
     tail: bool,
 ) -> usize
     requires readable { Readable terms.now chars.now c }
-    requires lhs_value { all (is_string (read_in terms.now chars.now c)) lhs.now ≡ true }
-    requires rhs_value { all (is_string (read_in terms.now chars.now c)) rhs.now ≡ true }
+    requires lhs_strings { all (is_string (read_in terms.now chars.now c)) lhs.now ≡ true }
+    requires rhs_strings { all (is_string (read_in terms.now chars.now c)) rhs.now ≡ true }
     ensures { result ≡ length (same_heads (read_in terms.now chars.now c) (way tail lhs.now) (way tail rhs.now)) }
 {
     let n = lhs.len().min(rhs.len());
@@ -128,8 +128,8 @@ fn explain_pair(
     b: u32,
     places: &mut [u32],
 ) -> Result<State, Refusal>
-    requires fact_1 { Ready (lent terms.now cells.now chars.now reasons.old keys.now) c }
-    requires fact_2 { Pair (read_in terms.now chars.now c) a b }
+    requires ready { Ready (lent terms.now cells.now chars.now reasons.old keys.now) c }
+    requires pair { Pair (read_in terms.now chars.now c) a b }
     ensures { Does (explain_pair a b) (across terms cells chars (changing reasons) keys) c (added result) }
 {
     if a == b || is_alike(terms, chars, c, a, b) || !same_class_unchecked(terms, chars, c, a, b) {
@@ -152,9 +152,9 @@ pub(crate) fn explain_pairs(
     places: &mut [u32],
 ) -> Result<State, Refusal>
     requires ready { Ready (lent terms.now cells.now chars.now reasons.old keys.now) c }
-    requires lhs_value { all (is_string (read_in terms.now chars.now c)) lhs.now ≡ true }
-    requires rhs_value { all (is_string (read_in terms.now chars.now c)) rhs.now ≡ true }
-    requires lhs_len { length lhs.now ≡ length rhs.now }
+    requires lhs_strings { all (is_string (read_in terms.now chars.now c)) lhs.now ≡ true }
+    requires rhs_strings { all (is_string (read_in terms.now chars.now c)) rhs.now ≡ true }
+    requires one_length { length lhs.now ≡ length rhs.now }
     ensures { Does (nf_explain (way tail lhs.now) (way tail rhs.now)) (across terms cells chars (changing reasons) keys) c (added result) }
 {
     let mut d = c;
@@ -180,8 +180,8 @@ fn explain_stripped(
     places: &mut [u32],
 ) -> Result<State, Refusal>
     requires ready { Ready (lent terms.now cells.now chars.now reasons.old keys.now) c }
-    requires lhs_value { all (is_string (read_in terms.now chars.now c)) lhs.now ≡ true }
-    requires rhs_value { all (is_string (read_in terms.now chars.now c)) rhs.now ≡ true }
+    requires lhs_strings { all (is_string (read_in terms.now chars.now c)) lhs.now ≡ true }
+    requires rhs_strings { all (is_string (read_in terms.now chars.now c)) rhs.now ≡ true }
     requires finds { Finds (read_in terms.now chars.now c) lhs.now rhs.now rest }
     ensures { let s = read_in terms.now chars.now c in Does (explain_matches (matches s lhs.now rhs.now)) (across terms cells chars (changing reasons) keys) c (added result) }
 {
@@ -208,7 +208,7 @@ fn needs_reason(
 ) -> bool
     requires ready { Ready (lent terms.now cells.now chars.now reasons.now keys.now) c }
     requires pair { Pair (read_in terms.now chars.now c) a b }
-    requires b_value { same (read_in terms.now chars.now c) a b ≡ true }
+    requires alike { same (read_in terms.now chars.now c) a b ≡ true }
     ensures { result ≡ needs_reason (store_of (across terms cells chars reasons keys).entry c) (a, b) }
 {
     a != b
@@ -230,9 +230,9 @@ fn pairs_need(
     places: &mut [u32],
 ) -> bool
     requires ready { Ready (lent terms.now cells.now chars.now reasons.now keys.now) c }
-    requires lhs_value { all (is_string (read_in terms.now chars.now c)) lhs.now ≡ true }
-    requires rhs_value { all (is_string (read_in terms.now chars.now c)) rhs.now ≡ true }
-    requires rhs_value_2 { nf_equal (read_in terms.now chars.now c) (way tail lhs.now) (way tail rhs.now) ≡ true }
+    requires lhs_strings { all (is_string (read_in terms.now chars.now c)) lhs.now ≡ true }
+    requires rhs_strings { all (is_string (read_in terms.now chars.now c)) rhs.now ≡ true }
+    requires equal { nf_equal (read_in terms.now chars.now c) (way tail lhs.now) (way tail rhs.now) ≡ true }
     ensures { let s = read_in terms.now chars.now c in Needs (across terms cells chars reasons keys).entry c (same_heads s (way tail lhs.now) (way tail rhs.now)) result }
 {
     for i in 0..lhs.len() {
@@ -259,8 +259,8 @@ fn matches_need(
     places: &mut [u32],
 ) -> bool
     requires ready { Ready (lent terms.now cells.now chars.now reasons.now keys.now) c }
-    requires lhs_value { all (is_string (read_in terms.now chars.now c)) lhs.now ≡ true }
-    requires rhs_value { all (is_string (read_in terms.now chars.now c)) rhs.now ≡ true }
+    requires lhs_strings { all (is_string (read_in terms.now chars.now c)) lhs.now ≡ true }
+    requires rhs_strings { all (is_string (read_in terms.now chars.now c)) rhs.now ≡ true }
     requires finds { Finds (read_in terms.now chars.now c) lhs.now rhs.now rest }
     ensures { Asked (across terms cells chars reasons keys).entry c lhs.now rhs.now rest.from rest.lhs rest.rhs result }
 {
@@ -292,8 +292,8 @@ fn strip_by(
     places: &mut [u32],
 ) -> Result<Stripped, Refusal>
     requires ready { Ready (lent terms.now cells.now chars.now reasons.old keys.now) c }
-    requires lhs_value { all (is_string (read_in terms.now chars.now c)) lhs.now ≡ true }
-    requires rhs_value { all (is_string (read_in terms.now chars.now c)) rhs.now ≡ true }
+    requires lhs_strings { all (is_string (read_in terms.now chars.now c)) lhs.now ≡ true }
+    requires rhs_strings { all (is_string (read_in terms.now chars.now c)) rhs.now ≡ true }
     requires finds { Finds (read_in terms.now chars.now c) lhs.now rhs.now rest }
     ensures { Between Strips (across terms cells chars (changing reasons) keys) c lhs.now rhs.now result }
 {

@@ -152,15 +152,14 @@ module _ (w h : List ℕ) (c : State) (word side : List ℕ) (k l n : ℕ) (x : 
     even : (l - n) % k ≡ 0 → k * forced s (letters s word) side k + length (letters s side) ≡ length (letters s word)
     even f = let a = long in let b = wide in more _ _ _ (omega arith) (sym product ∙ no_rest _ _ _ (div-add-mod' (l - n) k) f ∙ apart)
 
-    module _ (i : ℕ) (first : FirstVariable (termed w c) side i) (place : ℕ) (g : place ≡ length (letters (termed w c) (take (i - 0) (drop 0 side)))) where
+    module _ (i : ℕ) (first : FirstVariable (termed w c) side i) (place : ℕ) (g : place ≡ length (letters (termed w c) (take i side))) where
       read_in-first : FirstVariable s side i
       unfolding fixed
       read_in-first = record { within = first.within; before = first.before; at = first.at }
 
       place_is : place ≡ length (lead s side)
       place_is =
-          let e : i - 0 ≡ i = omega arith in
-          g ∙ ap (λ (y : ℕ). length (letters (termed w c) (take y side))) e
+          g
           ∙ length_whole (lent w [] h [] []) c x.texts (take i side) ∙ ap length (sym (lead_is s side i read_in-first))
 
       pub span-there : Tiling w h c word (record { atom = 0; place = place }) ((l - n) / k)

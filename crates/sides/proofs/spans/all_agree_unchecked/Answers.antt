@@ -6,10 +6,10 @@ use mathlib.Core.Path.{refl}
 use native.Mathlib.Omega.{arith}
 use Rattle.sides.proofs.spans.all_agree_unchecked.Goals as goal
 
-pub atom_agrees-requires-clause-fact_2 : goal.atom_agrees-requires-clause-fact_2
-atom_agrees-requires-clause-fact_2 c =
+pub atom_agrees-requires-clause-pair : goal.atom_agrees-requires-clause-pair
+atom_agrees-requires-clause-pair c =
     pair_at_lem (read_in c.args.terms.now c.args.chars.now c.args.c) c.args.l.now c.requires.l_value c.args.v
-          c.requires.v_value _ c.loop-a-test.true
+    c.requires.v_value _ c.loop-a-test.true
 
 pub returns-then-not-atom_agrees : goal.returns-then-not-atom_agrees
 returns-then-not-atom_agrees c =

@@ -7,12 +7,12 @@ use Rattle.sides.proofs.spans.is_unfit.Goals as goal
 pub all_agree_unchecked-requires-clause-l_value : goal.all_agree_unchecked-requires-clause-l_value
 all_agree_unchecked-requires-clause-l_value c =
     after-strings (read_in c.args.terms.now c.args.chars.now c.args.c) c.args.side.now c.args.i
-          c.requires.fact.1
+    c.requires.lists.1
 
 pub all_agree_unchecked-requires-clause-v_value : goal.all_agree_unchecked-requires-clause-v_value
 all_agree_unchecked-requires-clause-v_value c =
-    list-string (read_in c.args.terms.now c.args.chars.now c.args.c) c.args.side.now c.requires.fact.1 c.args.i
-          c.requires.fact.3
+    list-string (read_in c.args.terms.now c.args.chars.now c.args.c) c.args.side.now c.requires.lists.1 c.args.i
+    c.requires.lists.3
 
 pub returns-then-all_agree_unchecked : goal.returns-then-all_agree_unchecked
 returns-then-all_agree_unchecked c =
@@ -26,14 +26,14 @@ returns-else-all_agree_unchecked c =
 
 pub overflow_add-variables_length : goal.overflow_add-variables_length
 overflow_add-variables_length c =
-    let z = after-short (termed c.args.terms.now c.args.c) c.args.side.now c.args.i _ c.requires.fact.3 c.variables_length.ensures in
-    let y = list-short (read_in c.args.terms.now c.args.chars.now c.args.c) c.args.side.now c.requires.fact.1 in omega arith
+    let z = after-short (termed c.args.terms.now c.args.c) c.args.side.now c.args.i _ c.requires.lists.3 c.variables_length.ensures in
+    let y = list-short (read_in c.args.terms.now c.args.chars.now c.args.c) c.args.side.now c.requires.lists.1 in omega arith
 
 pub fits-requires : goal.fits-requires
 fits-requires c = (
   readable_read_in c.args.terms.now c.args.chars.now c.args.c c.requires.readable,
-  c.requires.fact.0,
-  list-short (read_in c.args.terms.now c.args.chars.now c.args.c) c.args.side.now c.requires.fact.1,
-  c.requires.fact.2,
+  c.requires.lists.0,
+  list-short (read_in c.args.terms.now c.args.chars.now c.args.c) c.args.side.now c.requires.lists.1,
+  c.requires.lists.2,
   omega arith,
 )

@@ -5,8 +5,8 @@ use Rattle.sides.proofs.spans.tile_unchecked.Goals as goal
 pub tile_sides-requires-clause-both_lists : goal.tile_sides-requires-clause-both_lists
 tile_sides-requires-clause-both_lists c =
     sides-lists (lent c.args.terms.now c.args.cells.now c.args.chars.now c.args.reasons.now c.args.keys.now)
-          c.args.c c.args.lhs.now c.args.rhs.now _ _ _ c.which_fixed-which.ensures c.pick-word.ensures
-          c.pick-side.ensures c.requires.both_lists
+    c.args.c c.args.lhs.now c.args.rhs.now _ _ _ c.which_fixed-which.ensures c.pick-word.ensures
+    c.pick-side.ensures c.requires.both_lists
 
 pub returns : goal.returns
 returns c =

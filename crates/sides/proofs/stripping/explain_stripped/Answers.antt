@@ -7,26 +7,26 @@ use Rattle.sides.proofs.Refines.Stripping.{both-refused, heads-going, both-expla
 use Rattle.sides.proofs.Refines.AddingReasons.{going_strings}
 use Rattle.sides.proofs.stripping.explain_stripped.Goals as goal
 
-pub explain_pairs-requires-clause-lhs_value : goal.explain_pairs-requires-clause-lhs_value
-explain_pairs-requires-clause-lhs_value c =
-    all_take _ c.args.rest.from c.args.lhs.now c.requires.lhs_value
+pub explain_pairs-requires-clause-lhs_strings : goal.explain_pairs-requires-clause-lhs_strings
+explain_pairs-requires-clause-lhs_strings c =
+    all_take _ c.args.rest.from c.args.lhs.now c.requires.lhs_strings
 
-pub explain_pairs-requires-clause-rhs_value : goal.explain_pairs-requires-clause-rhs_value
-explain_pairs-requires-clause-rhs_value c =
-    all_take _ c.args.rest.from c.args.rhs.now c.requires.rhs_value
+pub explain_pairs-requires-clause-rhs_strings : goal.explain_pairs-requires-clause-rhs_strings
+explain_pairs-requires-clause-rhs_strings c =
+    all_take _ c.args.rest.from c.args.rhs.now c.requires.rhs_strings
 
 pub explain_pairs-requires-2 : goal.explain_pairs-requires-2
 explain_pairs-requires-2 c =
     let going = heads-going c.args.terms.now c.args.cells.now c.args.chars.now c.args.keys.now c.args.lhs.now
-    c.args.rhs.now c.args.rest c.requires.finds c.requires.ready c.requires.lhs_value c.requires.rhs_value _ _
+    c.args.rhs.now c.args.rest c.requires.finds c.requires.ready c.requires.lhs_strings c.requires.rhs_strings _ _
     c.in_ok-d.ensures in
     record {
       ready = going.ready;
-      lhs_value = going_strings c.args.terms.now c.args.cells.now c.args.chars.now c.args.keys.now going _
-          (part-strings _ c.args.lhs.now c.args.rest.lhs c.requires.lhs_value);
-      rhs_value = going_strings c.args.terms.now c.args.cells.now c.args.chars.now c.args.keys.now going _
-          (part-strings _ c.args.rhs.now c.args.rest.rhs c.requires.rhs_value);
-      lhs_len = through-length true (part c.args.lhs.now c.args.rest.lhs (length c.args.lhs.now)) (part c.args.rhs.now c.args.rest.rhs (length c.args.rhs.now))
+      lhs_strings = going_strings c.args.terms.now c.args.cells.now c.args.chars.now c.args.keys.now going _
+          (part-strings _ c.args.lhs.now c.args.rest.lhs c.requires.lhs_strings);
+      rhs_strings = going_strings c.args.terms.now c.args.cells.now c.args.chars.now c.args.keys.now going _
+          (part-strings _ c.args.rhs.now c.args.rest.rhs c.requires.rhs_strings);
+      one_length = through-length true (part c.args.lhs.now c.args.rest.lhs (length c.args.lhs.now)) (part c.args.rhs.now c.args.rest.rhs (length c.args.rhs.now))
           (tails_through c.args.lhs.now c.args.rhs.now c.args.rest c.requires.finds);
     }
 
@@ -34,9 +34,9 @@ pub returns-in_err-d : goal.returns-in_err-d
 returns-in_err-d c =
     rw (handed _ c.from_residual.ensures.1)
     (both-refused c.args.terms.now c.args.cells.now c.args.chars.now c.args.keys.now c.args.lhs.now
-    c.args.rhs.now c.args.rest c.requires.finds c.requires.ready c.requires.lhs_value c.requires.rhs_value _ _ c.in_err-d.ensures)
+    c.args.rhs.now c.args.rest c.requires.finds c.requires.ready c.requires.lhs_strings c.requires.rhs_strings _ _ c.in_err-d.ensures)
 
 pub returns : goal.returns
 returns c =
     both-explained c.args.terms.now c.args.cells.now c.args.chars.now c.args.keys.now c.args.lhs.now
-    c.args.rhs.now c.args.rest c.requires.finds c.requires.ready c.requires.lhs_value c.requires.rhs_value _ _ c.in_ok-d.ensures _ c.explain_pairs-2.result c.explain_pairs-2.ensures
+    c.args.rhs.now c.args.rest c.requires.finds c.requires.ready c.requires.lhs_strings c.requires.rhs_strings _ _ c.in_ok-d.ensures _ c.explain_pairs-2.result c.explain_pairs-2.ensures

@@ -28,12 +28,12 @@ pub slice_bounds-r-start : goal.slice_bounds-r-start
 slice_bounds-r-start c =
     let p = (heads-least c.args.lhs.now c.args.rhs.now (read_in c.args.terms.now c.args.chars.now c.args.c) _ c.count_same-from.ensures).1 in omega arith
 
-pub count_same-n-requires-clause-lhs_value : goal.count_same-n-requires-clause-lhs_value
-count_same-n-requires-clause-lhs_value c =
+pub count_same-n-requires-clause-lhs_strings : goal.count_same-n-requires-clause-lhs_strings
+count_same-n-requires-clause-lhs_strings c =
     part-strings _ c.args.lhs.now c.count_same-from.result c.requires.lhs_value
 
-pub count_same-n-requires-clause-rhs_value : goal.count_same-n-requires-clause-rhs_value
-count_same-n-requires-clause-rhs_value c =
+pub count_same-n-requires-clause-rhs_strings : goal.count_same-n-requires-clause-rhs_strings
+count_same-n-requires-clause-rhs_strings c =
     part-strings _ c.args.rhs.now c.count_same-from.result c.requires.rhs_value
 
 pub overflow_sub-result : goal.overflow_sub-result

@@ -12,7 +12,7 @@ is_reasoned_unchecked-requires c = (
   c.requires.ready,
   elim c.if-a-b.branch [
     | then-a-b w ↦ need_arguments c.args.terms.now c.args.cells.now c.args.chars.now c.args.reasons.now c.args.keys.now
-        c.args.c _ _ w.if-a-b.true _ w.both_constant.ensures (not-true _ (sym w.value-is ∙ c.if-not-both_constant.true)) c.requires.pair c.requires.b_value
+        c.args.c _ _ w.if-a-b.true _ w.both_constant.ensures (not-true _ (sym w.value-is ∙ c.if-not-both_constant.true)) c.requires.pair c.requires.alike
     | else-a-b w ↦ clash (eq-eqb _ _ w.if-a-b.false) (not-true _ (sym w.value-is ∙ c.if-not-both_constant.true))
   ],
 )
