@@ -25,7 +25,7 @@ use Rattle.records.specs.declared.refusal.Refusal.TheVariants.{Names}
 use Rattle.records.specs.Working.Doing.{Taken}
 use Rattle.records.specs.Working.Leaves.{Free}
 use Rattle.records.specs.Working.Puts.{Written}
-use Rattle.records.proofs.Lists.{clash, first-same}
+use Rattle.records.proofs.Lists.{first-same}
 use Rattle.records.proofs.Doing.{ready-names}
 use Rattle.records.proofs.Refines.Making.{texts-within, found-text}
 

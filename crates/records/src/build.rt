@@ -4,18 +4,20 @@ ghost use Rattle.records.specs.Lists.{same_word, firsts, first_below};
 ghost use Rattle.records.specs.Store.{chain_in};
 ghost use Rattle.records.specs.View.{cells_view, store_of, across, changing, lent};
 ghost use Rattle.records.specs.Index.{bucket_of};
+ghost use Rattle.records.specs.Kind.{kind_number};
 ghost use Rattle.records.specs.Make.{number_of, make_concat, make_length, make_equation, concat_arguments, length_arguments, equation_arguments};
-ghost use Rattle.records.specs.Working.Indexing.{Walkable, Searchable, FirstIn};
+ghost use Rattle.records.specs.Working.Indexing.{Searchable};
 ghost use Rattle.records.specs.Working.Leaves.{append_parts, has_parts, has_sides, make_sides};
 ghost use Rattle.records.specs.Working.Audited.{Ready, Ascends};
 ghost use Rattle.records.specs.Calls.{made, Answers};
 ghost use Rattle.records.specs.Working.Doing.{Does, Builds};
 
-use crate::fields::{first, kind, next, second, value};
-use crate::index::{bucket_of, bucket_of_sides, cut_refused, head, next_term};
+use crate::fields::{first, is_a, next, second, value};
+use crate::index::{bucket_of, bucket_of_sides, cut_refused};
+use crate::make::first_in;
 use crate::put::{cells_fit, put_chain_unchecked, put_term_unchecked, term_fits};
 use crate::rules::{is_equatable, is_list, is_string, is_within};
-use crate::{Refusal, State};
+use crate::{Kind, Refusal, State};
 
 // Whether the values of the chain from cell c on are l: a chain that goes on past l's end has more of them.
 fn chain_is(cells: &[u32], n: usize, c: u32, l: &[u32]) -> bool
@@ -42,35 +44,17 @@ fn has_parts(terms: &[u32], cells: &[u32], n: usize, t: u32, l: &[u32]) -> bool
     requires { Ascends (cells_view cells.now n) }
     ensures { result ≡ has_parts terms.now (cells_view cells.now n) l.now t }
 {
-    if kind(terms, t) != 3 {
-        return false;
-    }
-    chain_is(cells, n, first(terms, t), l)
+    is_a(terms, t, Kind::Concatenation) && chain_is(cells, n, first(terms, t), l)
 }
 
-// The first term of the chain of bucket b, of n terms, that is a concatenation of l, of k cells; 0 where there is none.
-fn walk_parts(terms: &[u32], cells: &[u32], n: usize, k: usize, b: usize, l: &[u32]) -> u32
-    requires fact_1 { Ascends (cells_view cells.now k) }
-    requires fact_2 { Walkable terms.now n b }
-    ensures { FirstIn terms.now b (has_parts terms.now (cells_view cells.now k) l.now) result }
-{
-    let mut t = head(terms, b);
-    while t != 0 {
-        if has_parts(terms, cells, k, t, l) {
-            return t;
-        }
-        t = next_term(terms, t);
-    }
-    0
-}
-
-// The lowest-numbered of n terms that is a concatenation of l; 0 where there is none.
+// The lowest-numbered of n terms that is a concatenation of l, of k cells; 0 where there is none.
 fn find_parts(terms: &[u32], cells: &[u32], n: usize, k: usize, l: &[u32]) -> u32
     requires ascends { Ascends (cells_view cells.now k) }
     requires searchable { Searchable terms.now n (bucket_of 3 l.now) (has_parts terms.now (cells_view cells.now k) l.now) }
     ensures { result ≡ number_of (first_below (λ i. has_parts terms.now (cells_view cells.now k) l.now (suc i)) n) }
 {
-    walk_parts(terms, cells, n, k, bucket_of(3, l), l)
+    let b = bucket_of(Kind::Concatenation.into(), l);
+    first_in(terms, n, b, |t| has_parts(terms, cells, k, t, l))
 }
 
 // A new concatenation of l. Both rooms are tested before a word is written.
@@ -95,7 +79,14 @@ fn append_parts(
         return Err(Refusal::Room);
     }
     put_chain_unchecked(cells, k, l);
-    put_term_unchecked(terms, n, 3, (k + 1) as u32, 0, bucket_of(3, l));
+    put_term_unchecked(
+        terms,
+        n,
+        Kind::Concatenation.into(),
+        (k + 1) as u32,
+        0,
+        bucket_of(Kind::Concatenation.into(), l),
+    );
     Ok(((n + 1) as u32, c.with_cells(l.len()).with_term()))
 }
 
@@ -120,39 +111,18 @@ pub fn make_concatenation_unchecked(
 }
 
 // Whether term t is of kind k and has these two words.
-fn has_sides(terms: &[u32], t: u32, k: u32, a: u32, b: u32) -> bool
-    ensures { result ≡ has_sides terms.now k a b t }
+fn has_sides(terms: &[u32], t: u32, k: Kind, a: u32, b: u32) -> bool
+    ensures { result ≡ has_sides terms.now (kind_number k) a b t }
 {
-    if kind(terms, t) != k {
-        return false;
-    }
-    if first(terms, t) != a {
-        return false;
-    }
-    second(terms, t) == b
-}
-
-// The first term of the chain of bucket at, of n terms, that is of kind k and has these two words; 0 where there is none.
-fn walk_sides(terms: &[u32], n: usize, at: usize, k: u32, a: u32, b: u32) -> u32
-    requires { Walkable terms.now n at }
-    ensures { FirstIn terms.now at (has_sides terms.now k a b) result }
-{
-    let mut t = head(terms, at);
-    while t != 0 {
-        if has_sides(terms, t, k, a, b) {
-            return t;
-        }
-        t = next_term(terms, t);
-    }
-    0
+    is_a(terms, t, k) && first(terms, t) == a && second(terms, t) == b
 }
 
 // The lowest-numbered of n terms that is of kind k and has these two words, which lies in bucket at; 0 where there is none.
-fn find_sides(terms: &[u32], n: usize, at: usize, k: u32, a: u32, b: u32) -> u32
-    requires { Searchable terms.now n at (has_sides terms.now k a b) }
-    ensures { result ≡ number_of (first_below (λ i. has_sides terms.now k a b (suc i)) n) }
+fn find_sides(terms: &[u32], n: usize, at: usize, k: Kind, a: u32, b: u32) -> u32
+    requires { Searchable terms.now n at (has_sides terms.now (kind_number k) a b) }
+    ensures { result ≡ number_of (first_below (λ i. has_sides terms.now (kind_number k) a b (suc i)) n) }
 {
-    walk_sides(terms, n, at, k, a, b)
+    first_in(terms, n, at, |t| has_sides(terms, t, k, a, b))
 }
 
 // The length (kind 4) of a, its second word 0, or the equation (kind 5) of a and b.
@@ -163,22 +133,22 @@ fn make_sides(
     reasons: &[u32],
     keys: &[u32],
     c: State,
-    k: u32,
+    k: Kind,
     a: u32,
     b: u32,
 ) -> Result<(u32, State), Refusal>
     requires fact_1 { Ready (lent terms.old cells.now chars.now reasons.now keys.now) c }
-    requires fact_2 { ((k ≡ 4) × (b ≡ 0)) ⊎ (k ≡ 5) }
-    ensures { Builds (make_sides k a b) (across (changing terms) cells chars reasons keys) c (made result) }
+    requires fact_2 { ((k ≡ Kind.Length) × (b ≡ 0)) ⊎ (k ≡ Kind.Equation) }
+    ensures { Builds (make_sides (kind_number k) a b) (across (changing terms) cells chars reasons keys) c (made result) }
 {
-    let at = bucket_of_sides(k, a, b);
+    let at = bucket_of_sides(k.into(), a, b);
     let t = find_sides(terms, c.terms, at, k, a, b);
     if t != 0 {
         return Ok((t, c));
     }
     let n = c.terms;
     if term_fits(terms, n) {
-        put_term_unchecked(terms, n, k, a, b, at);
+        put_term_unchecked(terms, n, k.into(), a, b, at);
         return Ok(((n + 1) as u32, c.with_term()));
     }
     Err(Refusal::Room)
@@ -197,7 +167,7 @@ pub fn make_length_unchecked(
     requires c_value { length_arguments t (store_of (lent terms.old cells.now chars.now reasons.now keys.now) c) ≡ true }
     ensures { Does (make_length t) (across (changing terms) cells chars reasons keys) c (made result) }
 {
-    make_sides(terms, cells, chars, reasons, keys, c, 4, t, 0)
+    make_sides(terms, cells, chars, reasons, keys, c, Kind::Length, t, 0)
 }
 
 pub fn make_equation_unchecked(
@@ -214,7 +184,7 @@ pub fn make_equation_unchecked(
     requires c_value { equation_arguments a b (store_of (lent terms.old cells.now chars.now reasons.now keys.now) c) ≡ true }
     ensures { Does (make_equation a b) (across (changing terms) cells chars reasons keys) c (made result) }
 {
-    make_sides(terms, cells, chars, reasons, keys, c, 5, a, b)
+    make_sides(terms, cells, chars, reasons, keys, c, Kind::Equation, a, b)
 }
 
 // The public calls: the audit, the arguments, then the work.

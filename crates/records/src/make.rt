@@ -1,50 +1,38 @@
 // Making terms: the lowest-numbered equal record, else one appended.
-ghost use Rattle.std.specs.Prelude.{true, ◌≡◌, suc, ◌+◌, ◌≤◌, leb, length};
+ghost use Rattle.std.specs.Prelude.{ℕ, Bool, true, ◌≡◌, suc, ◌+◌, ◌≤◌, leb, length};
 ghost use Rattle.std.proofs.Math.Option.{none};
 ghost use Rattle.records.specs.Lists.{all, concat_map, first_below};
 ghost use Rattle.records.specs.Store.{within, is_constant, text};
 ghost use Rattle.records.specs.View.{term_limit, term_words, char_limit, char_room, store_of, text_at, lengths, across, changing, lent};
 ghost use Rattle.records.specs.Index.{bucket_of};
+ghost use Rattle.records.specs.Kind.{kind_number};
 ghost use Rattle.records.specs.Rules.{list_limit, named};
 ghost use Rattle.records.specs.Make.{number_of, lookup, make_constant, make_variable, constant_arguments, variable_arguments};
-ghost use Rattle.records.specs.Working.Indexing.{Walkable, Searchable, FirstIn};
+ghost use Rattle.records.specs.Working.Indexing.{Walkable, Searchable, Tests, FirstIn};
 ghost use Rattle.records.specs.Working.Leaves.{has_text, append_text, make_text};
 ghost use Rattle.records.specs.Working.Puts.{TextsWithin};
 ghost use Rattle.records.specs.Working.Audited.{Ready};
 ghost use Rattle.records.specs.Calls.{made, Answers};
 ghost use Rattle.records.specs.Working.Doing.{Does, Builds};
 
-use crate::fields::{first, kind, second};
+use crate::fields::{first, is_a, second};
 use crate::index::{bucket_of, bucket_of_joined, cut_refused, head, next_term};
 use crate::put::{put_term_unchecked, term_fits};
 use crate::rules::chars_ok;
 use crate::text::{
     joined_is_unchecked, joined_length_unchecked, put_joined_unchecked, put_text_unchecked, text_is,
 };
-use crate::{Refusal, State};
+use crate::{Kind, Refusal, State};
 
-// Whether term t is of kind k and its text is w. Only texts of one length are compared.
-pub(crate) fn has_text(terms: &[u32], chars: &[u32], t: u32, k: u32, w: &[u32]) -> bool
-    ensures { result ≡ has_text terms.now chars.now k w.now t }
-{
-    if kind(terms, t) != k {
-        return false;
-    }
-    let n = second(terms, t) as usize;
-    if n != w.len() {
-        return false;
-    }
-    text_is(chars, first(terms, t), w)
-}
-
-// The first term of the chain of bucket b, of n terms, that is of kind k and whose text is w; 0 where there is none.
-fn walk_text(terms: &[u32], chars: &[u32], n: usize, b: usize, k: u32, w: &[u32]) -> u32
-    requires { Walkable terms.now n b }
-    ensures { FirstIn terms.now b (has_text terms.now chars.now k w.now) result }
+// The first term of the chain of bucket b, of n terms, that passes: the lowest-numbered that lies there. 0 where none passes.
+pub(crate) fn first_in<F: Fn(u32) -> bool>(terms: &[u32], n: usize, b: usize, passes: F) -> u32
+    requires callable { F.IsAlwaysCallable passes }
+    requires walkable { Walkable terms.now n b }
+    ensures { (p : ℕ → Bool) → Tests (F.post passes) p → FirstIn terms.now b p result }
 {
     let mut t = head(terms, b);
     while t != 0 {
-        if has_text(terms, chars, t, k, w) {
+        if passes(t) {
             return t;
         }
         t = next_term(terms, t);
@@ -52,12 +40,20 @@ fn walk_text(terms: &[u32], chars: &[u32], n: usize, b: usize, k: u32, w: &[u32]
     0
 }
 
-// The lowest-numbered of n terms that is of kind k and whose text is w; 0 where there is none.
-pub(crate) fn find_text_unchecked(terms: &[u32], chars: &[u32], n: usize, k: u32, w: &[u32]) -> u32
-    requires { Searchable terms.now n (bucket_of k w.now) (has_text terms.now chars.now k w.now) }
-    ensures { result ≡ number_of (first_below (λ i. has_text terms.now chars.now k w.now (suc i)) n) }
+// Whether term t is of kind k and its text is w. Only texts of one length are compared.
+pub(crate) fn has_text(terms: &[u32], chars: &[u32], t: u32, k: Kind, w: &[u32]) -> bool
+    ensures { result ≡ has_text terms.now chars.now (kind_number k) w.now t }
 {
-    walk_text(terms, chars, n, bucket_of(k, w), k, w)
+    is_a(terms, t, k) && second(terms, t) as usize == w.len() && text_is(chars, first(terms, t), w)
+}
+
+// The lowest-numbered of n terms that is of kind k and whose text is w; 0 where there is none.
+pub(crate) fn find_text_unchecked(terms: &[u32], chars: &[u32], n: usize, k: Kind, w: &[u32]) -> u32
+    requires { Searchable terms.now n (bucket_of (kind_number k) w.now) (has_text terms.now chars.now (kind_number k) w.now) }
+    ensures { result ≡ number_of (first_below (λ i. has_text terms.now chars.now (kind_number k) w.now (suc i)) n) }
+{
+    let b = bucket_of(k.into(), w);
+    first_in(terms, n, b, |t| has_text(terms, chars, t, k, w))
 }
 
 // k characters more fit.
@@ -79,12 +75,12 @@ fn append_text(
     reasons: &[u32],
     keys: &[u32],
     c: State,
-    k: u32,
+    k: Kind,
     w: &[u32],
 ) -> Result<(u32, State), Refusal>
     requires fact_1 { Ready (lent terms.old cells.now chars.old reasons.now keys.now) c }
-    requires fact_2 { within 2 k ≡ true }
-    ensures { Builds (append_text k w.now) (across (changing terms) cells (changing chars) reasons keys) c (made result) }
+    requires fact_2 { within 2 (kind_number k) ≡ true }
+    ensures { Builds (append_text (kind_number k) w.now) (across (changing terms) cells (changing chars) reasons keys) c (made result) }
 {
     if !text_fits(chars, c.chars, w.len()) {
         return Err(Refusal::Room);
@@ -94,7 +90,14 @@ fn append_text(
     }
     let n = c.terms;
     put_text_unchecked(chars, c.chars, w);
-    put_term_unchecked(terms, n, k, c.chars as u32, w.len() as u32, bucket_of(k, w));
+    put_term_unchecked(
+        terms,
+        n,
+        k.into(),
+        c.chars as u32,
+        w.len() as u32,
+        bucket_of(k.into(), w),
+    );
     let d = c.with_chars(w.len());
     Ok(((n + 1) as u32, d.with_term()))
 }
@@ -107,12 +110,12 @@ fn make_text(
     reasons: &[u32],
     keys: &[u32],
     c: State,
-    k: u32,
+    k: Kind,
     w: &[u32],
 ) -> Result<(u32, State), Refusal>
     requires fact_1 { Ready (lent terms.old cells.now chars.old reasons.now keys.now) c }
-    requires fact_2 { within 2 k ≡ true }
-    ensures { Builds (make_text k w.now) (across (changing terms) cells (changing chars) reasons keys) c (made result) }
+    requires fact_2 { within 2 (kind_number k) ≡ true }
+    ensures { Builds (make_text (kind_number k) w.now) (across (changing terms) cells (changing chars) reasons keys) c (made result) }
 {
     let t = find_text_unchecked(terms, chars, c.terms, k, w);
     if t != 0 {
@@ -134,7 +137,7 @@ pub fn make_constant_unchecked(
     requires c_value { constant_arguments w.now (store_of (lent terms.old cells.now chars.old reasons.now keys.now) c) ≡ true }
     ensures { Does (make_constant w.now) (across (changing terms) cells (changing chars) reasons keys) c (made result) }
 {
-    make_text(terms, cells, chars, reasons, keys, c, 1, w)
+    make_text(terms, cells, chars, reasons, keys, c, Kind::Constant, w)
 }
 
 pub(crate) fn make_variable_unchecked(
@@ -150,7 +153,7 @@ pub(crate) fn make_variable_unchecked(
     requires c_value { variable_arguments w.now (store_of (lent terms.old cells.now chars.old reasons.now keys.now) c) ≡ true }
     ensures { Does (make_variable w.now) (across (changing terms) cells (changing chars) reasons keys) c (made result) }
 {
-    make_text(terms, cells, chars, reasons, keys, c, 2, w)
+    make_text(terms, cells, chars, reasons, keys, c, Kind::Variable, w)
 }
 
 // The variable of a name that no variable has: it is not looked for.
@@ -168,7 +171,7 @@ pub fn make_new_variable_unchecked(
     requires c_value_2 { lookup (named w.now) (store_of (lent terms.old cells.now chars.old reasons.now keys.now) c) ≡ none }
     ensures { Does (make_variable w.now) (across (changing terms) cells (changing chars) reasons keys) c (made result) }
 {
-    append_text(terms, cells, chars, reasons, keys, c, 2, w)
+    append_text(terms, cells, chars, reasons, keys, c, Kind::Variable, w)
 }
 
 // Whether term t is the constant of the joined texts of a list, of `total` characters. Only texts of one length are compared.
@@ -178,32 +181,9 @@ fn has_joined(terms: &[u32], chars: &[u32], t: u32, list: &[u32], total: usize) 
     requires total_value { total ≡ lengths terms.now list.now }
     ensures { result ≡ has_text terms.now chars.now 1 (concat_map (text_at terms.now chars.now) list.now) t }
 {
-    if kind(terms, t) != 1 {
-        return false;
-    }
-    let n = second(terms, t) as usize;
-    if n != total {
-        return false;
-    }
-    joined_is_unchecked(terms, chars, first(terms, t), list)
-}
-
-// The first term of the chain of bucket b, of n terms, that is the constant of the joined texts of a list; 0 where there is none.
-fn walk_joined(terms: &[u32], chars: &[u32], n: usize, b: usize, list: &[u32], total: usize) -> u32
-    requires walkable { Walkable terms.now n b }
-    requires list_len_bound { length list.now ≤ list_limit }
-    requires texts_within { TextsWithin terms.now (length chars.now) list.now }
-    requires total_value { total ≡ lengths terms.now list.now }
-    ensures { let w = concat_map (text_at terms.now chars.now) list.now in FirstIn terms.now b (has_text terms.now chars.now 1 w) result }
-{
-    let mut t = head(terms, b);
-    while t != 0 {
-        if has_joined(terms, chars, t, list, total) {
-            return t;
-        }
-        t = next_term(terms, t);
-    }
-    0
+    is_a(terms, t, Kind::Constant)
+        && second(terms, t) as usize == total
+        && joined_is_unchecked(terms, chars, first(terms, t), list)
 }
 
 // The lowest-numbered of n terms that is the constant of the joined texts of a list, which lies in bucket b; 0 where there is none.
@@ -214,7 +194,7 @@ fn find_joined(terms: &[u32], chars: &[u32], n: usize, b: usize, list: &[u32], t
     requires total_value { total ≡ lengths terms.now list.now }
     ensures { let w = concat_map (text_at terms.now chars.now) list.now in result ≡ number_of (first_below (λ i. has_text terms.now chars.now 1 w (suc i)) n) }
 {
-    walk_joined(terms, chars, n, b, list, total)
+    first_in(terms, n, b, |t| has_joined(terms, chars, t, list, total))
 }
 
 // The constant of the joined texts of a list of constants. It is looked for first; a joined word that does not fit is never built. It is built in the
@@ -247,7 +227,14 @@ pub fn join_constants_unchecked(
     }
     let n = c.terms;
     put_joined_unchecked(terms, chars, list, c.chars);
-    put_term_unchecked(terms, n, 1, c.chars as u32, total as u32, b);
+    put_term_unchecked(
+        terms,
+        n,
+        Kind::Constant.into(),
+        c.chars as u32,
+        total as u32,
+        b,
+    );
     let d = c.with_chars(total);
     Ok(((n + 1) as u32, d.with_term()))
 }

@@ -8,7 +8,7 @@ ghost use Rattle.records.specs.Working.Doing.{Taken};
 ghost use Rattle.records.specs.Working.Leaves.{Free};
 
 use crate::make::find_text_unchecked;
-use crate::{Named, Refusal, State};
+use crate::{Kind, Named, Refusal, State};
 
 // The number x in decimal from place `at` on, n digits at most: the higher digits first, then the last. Answers the place after it.
 fn put_decimal(name: &mut [u32], at: usize, n: usize, x: u32) -> usize
@@ -55,7 +55,7 @@ fn is_taken(
 {
     let mut name: [u32; 15] = [0; 15];
     let len = put_name(&mut name, x);
-    find_text_unchecked(terms, chars, c.terms, 2, &name[..len]) != 0
+    find_text_unchecked(terms, chars, c.terms, Kind::Variable, &name[..len]) != 0
 }
 
 // The first counter from c's on whose name no variable has; the limit where there is none below it.

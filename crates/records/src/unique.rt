@@ -9,7 +9,7 @@ ghost use Rattle.records.specs.Working.Hashes.{hash_from, hash, Hashed, Tables, 
 
 use crate::make::has_text;
 use crate::rules::text_ok;
-use crate::{State, fields};
+use crate::{Kind, State, fields};
 
 fn text_hash(chars: &[u32], p: usize, n: usize) -> u32
     requires { p + n ≤ length chars.now }
@@ -43,7 +43,7 @@ fn is_named(terms: &[u32], chars: &[u32], c: State, hashes: &[u32], m: u32, t: u
     }
     let p = fields::wide(fields::first(terms, t));
     let n = fields::wide(fields::second(terms, t));
-    has_text(terms, chars, u, 2, &chars[p..p + n])
+    has_text(terms, chars, u, Kind::Variable, &chars[p..p + n])
 }
 
 // t's name has a character, and no lower variable has it; m is the hash of t.

@@ -14,6 +14,9 @@ use Rattle.records.specs.Lists.{same_word, firsts, first_below}
 use Rattle.records.specs.declared.State.{State}
 use Rattle.std.specs.Prelude.{Ok, Err}
 use Rattle.records.specs.declared.refusal.Refusal.TheVariants.{Room}
+use Rattle.records.specs.declared.kind.Kind.{Kind}
+use Rattle.records.specs.declared.kind.Kind.TheVariants as kinds
+use Rattle.records.specs.Kind.{kind_number}
 use Rattle.records.specs.Store.{Term as Record, Cell, Store, Out, ok, stop, Work, term, kind, count, within, chain_in}
 use Rattle.records.specs.View.{Lent, lent, store_of, term_words, cell_words, term_limit, cell_limit, term_room, cell_room, term_at, cell_at, cells_view, chars_view, one_term, more_cells}
 use Rattle.records.specs.Index.{bucket_of, bucket}
@@ -24,7 +27,7 @@ use Rattle.records.specs.Working.Puts.{TermPut, ChainPut}
 use Rattle.records.specs.Working.Audited.{Ready, Sized, Recorded, Ascends}
 use Rattle.records.specs.Calls.{made}
 use Rattle.records.specs.Working.Doing.{Working, Building}
-use Rattle.records.proofs.Lists.{left_false, right-false, both_left, both_right, decide, within_low, within-high, table-length, first-same, word_is}
+use Rattle.records.proofs.Lists.{left_false, both_left, both_right, decide, within_low, within-high, table-length, first-same, word_is}
 use Rattle.records.proofs.Works.{one_store}
 use Rattle.records.proofs.Append.{grow}
 use Rattle.records.proofs.IndexSays.{bucket-small}
@@ -66,23 +69,6 @@ module _ (t e h r ks : List ℕ) (c : State) (k a b : ℕ) (fits : Bool) (room :
 
 -- LENGTHS AND EQUATIONS
 
-module _ (l : List ℕ) (k a b t x : ℕ) (ex : x ≡ (term_at l t).kind) where
-  pub sides-kind : (x ≡ k → ⊥) → false ≡ has_sides l k a b t
-  unfolding has_sides
-  sides-kind d = sym (left_false _ (eqb (term_at l t).second b) (left_false _ (eqb (term_at l t).first a) (ne_eqb (term_at l t).kind k (λ e. d (ex ∙ e)))))
-
-  module _ (y : ℕ) (ey : y ≡ (term_at l t).first) where
-    pub sides_first : (y ≡ a → ⊥) → false ≡ has_sides l k a b t
-    unfolding has_sides
-    sides_first d = sym (left_false _ (eqb (term_at l t).second b) (right-false (eqb (term_at l t).kind k) _ (ne_eqb (term_at l t).first a (λ e. d (ey ∙ e)))))
-
-    pub sides-second : (z : ℕ) → x ≡ k → y ≡ a → z ≡ (term_at l t).second → eqb z b ≡ has_sides l k a b t
-    unfolding has_sides
-    sides-second z e f g =
-        let p : eqb (term_at l t).kind k ≡ true = eq-eqb _ _ (sym ex ∙ e) in
-        let q : eqb (term_at l t).first a ≡ true = eq-eqb _ _ (sym ey ∙ f) in
-        rw (p, q, g)
-
 module _ (m : Lent) (c : State) where
   sides-found : (k a b : ℕ) → first_below (λ i. has_sides m.terms k a b (suc i)) c.terms ≡ lookup (sides_of k a b) (store_of m c)
   unfolding lookup has_sides sides_of
@@ -90,6 +76,11 @@ module _ (m : Lent) (c : State) where
       rw (table-length (λ i. term_at m.terms (suc i)) c.terms)
       (first-same (λ i. has_sides m.terms k a b (suc i)) (λ i. sides_of k a b (store_of m c) (suc i)) c.terms (λ i h.
       ap (λ (y : Record). eqb y.kind k && eqb y.first a && eqb y.second b) (sym (term_is m.terms c.terms (suc i) (omega arith) h))))
+
+-- the two kinds that have two words, by their numbers
+pub sided : {k : Kind} {b : ℕ} → ((k ≡ kinds.Length) × (b ≡ 0)) ⊎ (k ≡ kinds.Equation) → ((kind_number k ≡ 4) × (b ≡ 0)) ⊎ (kind_number k ≡ 5)
+sided (inl o) = inl (ap kind_number o.0, o.1)
+sided (inr o) = inr (ap kind_number o)
 
 -- a length or an equation that has these words lies in their bucket: a length's second word is 0
 pub sides_searchable : (m : Lent) (c : State) (k a b x : ℕ) → Ready m c → ((k ≡ 4) × (b ≡ 0)) ⊎ (k ≡ 5) → x ≡ bucket_of k (a ∷ b ∷ []) → Searchable m.terms c.terms x (has_sides m.terms k a b)
@@ -210,17 +201,6 @@ module _ (e : List ℕ) (n : ℕ) (w : List ℕ) (c at i : ℕ) (up : Ascends (c
       (λ f. let z : same_word (firsts (chain_in (cells_view e n) at)) (drop i w) ≡ true = rw (none_here f, drop_of_length-le w {i = i} l) in rw f (sym z ∙ h.rest))
 
 -- CONCATENATIONS
-
-module _ (l : List ℕ) (cs : List Cell) (w : List ℕ) (t x : ℕ) (ex : x ≡ (term_at l t).kind) where
-  pub parts-kind : (x ≡ 3 → ⊥) → false ≡ has_parts l cs w t
-  unfolding has_parts
-  parts-kind d = sym (left_false _ _ (ne_eqb _ _ (λ e. d (ex ∙ e))))
-
-  pub parts_are : (y : ℕ) (b : Bool) → x ≡ 3 → y ≡ (term_at l t).first → b ≡ same_word (firsts (chain_in cs y)) w → b ≡ has_parts l cs w t
-  unfolding has_parts
-  parts_are y b e f q =
-      let p : eqb (term_at l t).kind 3 ≡ true = eq-eqb _ _ (sym ex ∙ e) in
-      rw (p, ← f) q
 
 module _ (m : Lent) (c : State) (w : List ℕ) where
   parts-found : first_below (λ i. has_parts m.terms (cells_view m.cells c.cells) w (suc i)) c.terms ≡ lookup (concat_of w) (store_of m c)

@@ -186,7 +186,7 @@ seen-term l c t = ap (λ n. within n t) (view_count l c.terms)
 
 module _ (l : List ℕ) (c : State) (t : ℕ) (w : within c.terms t ≡ true) where
   -- a parent that was read names a term where the number read does
-  parent-term : (forest : Bool) (p : ℕ) → p ≡ parent_of forest (term_at l t) → is_term (termed l c) (up_in forest (terms_view l c.terms) t) ≡ within c.terms p
+  pub parent-term : (forest : Bool) (p : ℕ) → p ≡ parent_of forest (term_at l t) → is_term (termed l c) (up_in forest (terms_view l c.terms) t) ≡ within c.terms p
   parent-term forest p e = ap (is_term (termed l c)) (sym (view_up l c.terms forest t p w e)) ∙ seen-term l c p
 
   pub parents_stop : (p : ℕ) (b : Bool) → p ≡ (term_at l t).class_parent → b ≡ within c.terms p → not b ≡ true → false ≡ parents_rule (termed l c) t

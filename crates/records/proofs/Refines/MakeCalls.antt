@@ -23,7 +23,7 @@ use Rattle.records.proofs.Lists.{table_at_lem, table-length, left_false, both_tr
 use Rattle.records.proofs.Kept.{constant-stops, variable-stops}
 use Rattle.records.proofs.Outcomes
 use Rattle.records.proofs.Outcomes.{refused-by}
-use Rattle.records.proofs.Public.{Undone, given, cut, call_unready, call-unfit, call_undone}
+use Rattle.records.proofs.Public.{Undone, given, cut, call-unfit, call_undone}
 
 -- the whole of a word
 pub whole_word : (w : List ℕ) → chars_view w (length w) ≡ w

@@ -8,13 +8,13 @@ use native.Mathlib.Numerals.{add-one}
 use native.Mathlib.Omega.{arith}
 use lib.ListN.{length, get_or}
 use lib.Dec.{eqb, ltb, leb}
-use borrow.Author.Tests.{not-true, not-false, leb-true, le-leb, eqb-true, eq-eqb, ne_eqb}
+use borrow.Author.Tests.{not-true, not-false, leb-true, le-leb, eqb-true}
 use Rattle.records.specs.Lists.{same_word, first_below}
 use Rattle.records.specs.declared.State.{State}
 use Rattle.records.specs.Store.{Term as Record, Store, Out, ok, stop, Work, count, within, term, kind, term_in, text_in}
 use Rattle.std.specs.Prelude.{Ok, Err}
 use Rattle.records.specs.declared.refusal.Refusal.TheVariants.{Room}
-use Rattle.records.specs.View.{buckets, lent, term_words, term_limit, char_limit, char_room, term_room, one_term, more_chars, Lent, store_of, term_at, terms_view, chars_view, span}
+use Rattle.records.specs.View.{buckets, lent, term_words, term_limit, char_limit, char_room, term_room, one_term, more_chars, Lent, store_of, term_at, terms_view, chars_view, span, text_at}
 use Rattle.records.specs.Working.Audited.{Ready, Sized}
 use Rattle.records.specs.Calls.{made}
 use Rattle.records.specs.Working.Doing.{Working, Building}
@@ -32,28 +32,19 @@ use Rattle.records.proofs.IndexSays.{bucket-small}
 use Rattle.records.proofs.IndexLaws.{index_walkable}
 use Rattle.records.proofs.IndexStores.{bucket-text}
 use Rattle.records.proofs.Doing.{works, building_is, building_stopped, building_found, indexed-made, made-text, ready-index, made-good, constant-fit, variable-fit}
-use Rattle.records.proofs.Lists.{same_test, decide, within_low, within-high, first-same, both_left, both_right, left_false, right-false, word_is, word-differs, table-length}
+use Rattle.records.proofs.Lists.{same_test, decide, within_low, within-high, first-same, both_left, both_right, word_is, word-differs, table-length}
 
 -- WHETHER A TERM HAS A TEXT
 
-module _ (l h : List ℕ) (k : ℕ) (w : List ℕ) (t x : ℕ) (ex : x ≡ (term_at l t).kind) where
-  pub other-kind : (x ≡ k → ⊥) → false ≡ has_text l h k w t
-  unfolding has_text
-  other-kind d = sym (left_false _ _ (ne_eqb _ _ (λ e. d (ex ∙ e))))
+module _ (l h : List ℕ) (w : List ℕ) (t : ℕ) where
+  -- a text of another length is another
+  pub word_long : ((term_at l t).second ≡ length w → ⊥) → same_word (text_at l h t) w ≡ false
+  word_long d =
+      word-differs _ w (λ e. d (sym (table-length (λ i. get_or h ((term_at l t).first + i) 0) (term_at l t).second) ∙ ap length e))
 
-  module _ (y : ℕ) (ey : y ≡ (term_at l t).second) where
-    pub other_length : (y ≡ length w → ⊥) → false ≡ has_text l h k w t
-    unfolding has_text
-    other_length d =
-        sym (right-false (eqb (term_at l t).kind k) _ (word-differs _ w (λ e.
-        d (ey ∙ sym (table-length (λ i. get_or h ((term_at l t).first + i) 0) (term_at l t).second) ∙ ap length e))))
-
-    pub same_kind : (z : ℕ) (b : Bool) → x ≡ k → y ≡ length w → z ≡ (term_at l t).first → b ≡ same_word (span h z (length w)) w → b ≡ has_text l h k w t
-    unfolding has_text
-    same_kind z b e q ez r =
-        let a : eqb (term_at l t).kind k ≡ true = eq-eqb _ _ (sym ex ∙ e) in
-        let v : length w ≡ (term_at l t).second = sym q ∙ ey in
-        rw (a, ← v, ← ez) r
+  -- of one of the same length the characters are looked at
+  pub word_spelled : (term_at l t).second ≡ length w → same_word (text_at l h t) w ≡ same_word (span h (term_at l t).first (length w)) w
+  word_spelled e = rw e refl
 
 -- THE LOWEST-NUMBERED in the store
 

@@ -36,7 +36,7 @@ pub put_term_unchecked-requires : goal.put_term_unchecked-requires
 put_term_unchecked-requires c =
     let t = c.args.terms.now in
     let p = c.term_fits.ensures in
-    let h = walk-to 3 _ c.requires _ c.bucket_of.ensures in
+    let h = walk-to 3 _ c.requires _ (rw c.into-2.ensures at c.bucket_of.ensures) in
     record {
       fact_1 = one-limit t _ _ p c.if-not-term_fits.false-raw;
       fact_2 = one-words t _ _ p c.if-not-term_fits.false-raw;
@@ -55,5 +55,5 @@ with_term-requires c =
 pub returns : goal.returns
 returns c =
     append-made _ _ _ _ _ _ _ _ c.cells_fit.ensures c.if-not-cells_fit.false-raw _ c.term_fits.ensures c.requires _ _ _ _ _ c.if-not-term_fits.false-raw
-    c.bucket_of.ensures c.put_chain_unchecked.ensures c.put_chain_unchecked.auto.cells
-    c.put_term_unchecked.ensures c.put_term_unchecked.auto.terms c.with_cells.ensures c.with_term.ensures
+    (rw c.into-2.ensures at c.bucket_of.ensures) c.put_chain_unchecked.ensures c.put_chain_unchecked.auto.cells
+    (rw c.into.ensures at c.put_term_unchecked.ensures) c.put_term_unchecked.auto.terms c.with_cells.ensures c.with_term.ensures

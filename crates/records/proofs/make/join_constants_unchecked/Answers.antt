@@ -87,5 +87,5 @@ returns c =
     (text-made 1 _ _ (total_long c.requires.ready _ _ c.joined_length_unchecked-total.ensures) _ c.text_fits.ensures
     c.if-not-text_fits.false-raw _ c.term_fits.ensures c.requires.ready refl _ c.bucket_of_joined-b.ensures c.if-not-term_fits.false-raw
     c.put_joined_unchecked.ensures
-    c.put_joined_unchecked.auto.chars c.put_term_unchecked.ensures c.put_term_unchecked.auto.terms
+    c.put_joined_unchecked.auto.chars (rw c.into.ensures at c.put_term_unchecked.ensures) c.put_term_unchecked.auto.terms
     c.with_chars-d.ensures c.with_term.ensures))

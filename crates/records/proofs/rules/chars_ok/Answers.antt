@@ -6,23 +6,17 @@ use native.Mathlib.Omega.{arith}
 use Rattle.records.proofs.rules.chars_ok.Goals as goal
 
 pub loop-i-init : goal.loop-i-init
-loop-i-init c =
-    (omega arith, below-zero _)
+loop-i-init c = below-zero _
 
 pub returns-then-not-is_char : goal.returns-then-not-is_char
 returns-then-not-is_char c =
     let a = c.args in
-    table-stop is_char (λ j. get_or a.chars.now j 0) a.n c.loop-i.i _ (c.is_char.ensures ∙ ap is_char c.word.ensures) c.if-not-is_char.true-raw
-    c.loop-i-test.true
+    table-stop is_char (λ j. get_or a.chars.now j 0) a.n c.loop-i.i _ (c.is_char.ensures ∙ ap is_char c.word.ensures) c.if-not-is_char.true c.loop-i-test.true
 
 pub loop-i-preserved : goal.loop-i-preserved
 loop-i-preserved c =
-    let o = c.loop-i in (
-      omega arith,
-      below-turn (λ j. is_char (get_or c.args.chars.now j 0)) o.i _ (c.is_char.ensures ∙ ap is_char c.word.ensures) c.if-not-is_char.false-raw
-          o.invariant.1,
-    )
+    below-turn (λ j. is_char (get_or c.args.chars.now j 0)) c.loop-i.i _ (c.is_char.ensures ∙ ap is_char c.word.ensures) c.if-not-is_char.false c.loop-i.invariant
 
 pub returns : goal.returns
 returns c =
-    let a = c.args in let o = c.loop-i in table_done is_char (λ j. get_or a.chars.now j 0) a.n o.i o.invariant.0 c.loop-i-test.false o.invariant.1
+    let a = c.args in table_done is_char (λ j. get_or a.chars.now j 0) a.n c.loop-i.i (omega arith) c.loop-i-test.false c.loop-i.invariant
