@@ -132,11 +132,7 @@ impl State {
     {
         State {
             terms: self.terms + 1,
-            cells: self.cells,
-            chars: self.chars,
-            reasons: self.reasons,
-            keys: self.keys,
-            names: self.names,
+            ..self
         }
     }
 
@@ -145,12 +141,8 @@ impl State {
         ensures { result ≡ more_cells self n }
     {
         State {
-            terms: self.terms,
             cells: self.cells + n,
-            chars: self.chars,
-            reasons: self.reasons,
-            keys: self.keys,
-            names: self.names,
+            ..self
         }
     }
 
@@ -159,26 +151,15 @@ impl State {
         ensures { result ≡ more_chars self n }
     {
         State {
-            terms: self.terms,
-            cells: self.cells,
             chars: self.chars + n,
-            reasons: self.reasons,
-            keys: self.keys,
-            names: self.names,
+            ..self
         }
     }
 
     pub fn with_reasons(self, n: usize) -> State
         ensures { result ≡ reasons_at self n }
     {
-        State {
-            terms: self.terms,
-            cells: self.cells,
-            chars: self.chars,
-            reasons: n,
-            keys: self.keys,
-            names: self.names,
-        }
+        State { reasons: n, ..self }
     }
 
     pub fn with_reason_unchecked(self) -> State
@@ -186,12 +167,8 @@ impl State {
         ensures { result ≡ one_reason self }
     {
         State {
-            terms: self.terms,
-            cells: self.cells,
-            chars: self.chars,
             reasons: self.reasons + 1,
-            keys: self.keys,
-            names: self.names,
+            ..self
         }
     }
 
@@ -200,25 +177,14 @@ impl State {
         ensures { result ≡ one_key self }
     {
         State {
-            terms: self.terms,
-            cells: self.cells,
-            chars: self.chars,
-            reasons: self.reasons,
             keys: self.keys + 1,
-            names: self.names,
+            ..self
         }
     }
 
     pub fn with_names(self, names: u32) -> State
         ensures { result ≡ names_at self names }
     {
-        State {
-            terms: self.terms,
-            cells: self.cells,
-            chars: self.chars,
-            reasons: self.reasons,
-            keys: self.keys,
-            names: names,
-        }
+        State { names, ..self }
     }
 }
