@@ -15,10 +15,7 @@ pub fn wide(x: u32) -> usize
 pub fn word(s: &[u32], i: usize) -> u32
     ensures { result ≡ get_or s.now i 0 }
 {
-    if i < s.len() {
-        return s[i];
-    }
-    0
+    s.get(i).copied().unwrap_or(0)
 }
 
 pub fn kind(terms: &[u32], t: u32) -> u32

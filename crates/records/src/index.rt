@@ -53,10 +53,8 @@ pub(crate) fn bucket_of(k: u32, l: &[u32]) -> usize
     ensures { result ≡ bucket_of k l.now }
 {
     let mut b = fields::wide(k) % BUCKETS;
-    let mut i: usize = 0;
-    while i < l.len() {
-        b = added(b, l[i]);
-        i += 1;
+    for &x in l {
+        b = added(b, x);
     }
     b
 }
@@ -82,12 +80,10 @@ pub(crate) fn bucket_of_joined(terms: &[u32], chars: &[u32], list: &[u32]) -> us
     ensures { result ≡ bucket_of 1 (concat_map (text_at terms.now chars.now) list.now) }
 {
     let mut b: usize = 1;
-    let mut i: usize = 0;
-    while i < list.len() {
-        let p = fields::wide(fields::first(terms, list[i]));
-        let n = fields::wide(fields::second(terms, list[i]));
+    for &t in list {
+        let p = fields::wide(fields::first(terms, t));
+        let n = fields::wide(fields::second(terms, t));
         b = (b + bucket_of_text(chars, 0, p, n)) % BUCKETS;
-        i += 1;
     }
     b
 }
@@ -173,14 +169,10 @@ pub fn cut_unchecked(terms: &mut [u32], n: usize)
     requires fact_2 { term_words n ≤ length terms.old }
     ensures { Cut terms.old terms.new n }
 {
-    let mut b: usize = 0;
-    while b < BUCKETS {
+    for b in 0..BUCKETS {
         cut_word(terms, b, n);
-        b += 1;
     }
-    let mut t: usize = 0;
-    while t < n {
-        t += 1;
+    for t in 1..=n {
         cut_word(terms, BUCKETS + TERM_WIDTH * t + 8, n);
     }
 }
@@ -204,9 +196,10 @@ fn word_after(terms: &[u32], b: usize, t: u32) -> u32
     ensures { result ≡ word_after terms.now b t }
 {
     if t == 0 {
-        return head(terms, b);
+        head(terms, b)
+    } else {
+        next_term(terms, t)
     }
-    next_term(terms, t)
 }
 
 // Each term stands where its bucket has come to. `ends` has the last term of each bucket that was met, 0 where none was.
@@ -217,15 +210,12 @@ fn terms_linked(terms: &[u32], cells: &[u32], chars: &[u32], c: State, ends: &mu
     requires none_met { NoneMet ends.old }
     ensures { LinksRead terms.now (bucket (records_in terms.now cells.now chars.now c)) c.terms ends.new result }
 {
-    let mut i: usize = 0;
-    while i < c.terms {
-        let t = (i + 1) as u32;
+    for t in 1..=c.terms as u32 {
         let b = bucket_of_term(terms, cells, chars, c, t);
         if word_after(terms, b, ends[b]) != t {
             return false;
         }
         ends[b] = t;
-        i += 1;
     }
     true
 }
@@ -234,12 +224,10 @@ fn terms_linked(terms: &[u32], cells: &[u32], chars: &[u32], c: State, ends: &mu
 fn chains_end(terms: &[u32], ends: &[u32; 64]) -> bool
     ensures { result ≡ all_below (λ b. eqb (word_after terms.now b (get_or ends.now b 0)) 0) buckets }
 {
-    let mut b: usize = 0;
-    while b < BUCKETS {
+    for b in 0..BUCKETS {
         if word_after(terms, b, ends[b]) != 0 {
             return false;
         }
-        b += 1;
     }
     true
 }
@@ -252,8 +240,5 @@ pub(crate) fn index_ok(terms: &[u32], cells: &[u32], chars: &[u32], c: State) ->
     ensures { result ≡ index_rule terms.now (records_in terms.now cells.now chars.now c) }
 {
     let mut ends: [u32; 64] = [0; 64];
-    if !terms_linked(terms, cells, chars, c, &mut ends) {
-        return false;
-    }
-    chains_end(terms, &ends)
+    terms_linked(terms, cells, chars, c, &mut ends) && chains_end(terms, &ends)
 }

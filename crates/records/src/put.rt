@@ -17,10 +17,7 @@ use crate::{BUCKETS, CELL_WIDTH, Refusal, State, TERM_WIDTH};
 pub(crate) fn term_fits(terms: &[u32], n: usize) -> bool
     ensures { result ≡ ltb n (term_room terms.now) }
 {
-    if n < crate::TERM_LIMIT {
-        return BUCKETS + TERM_WIDTH * (n + 2) <= terms.len();
-    }
-    false
+    n < crate::TERM_LIMIT && BUCKETS + TERM_WIDTH * (n + 2) <= terms.len()
 }
 
 // Record n + 1, which is its own class, at the end of the chain of bucket b: the words above the count are free, so all nine are written.
@@ -87,10 +84,7 @@ pub(crate) fn cells_fit(cells: &[u32], n: usize, k: usize) -> bool
     requires fact_2 { cell_words n ≤ length cells.now }
     ensures { result ≡ leb (n + k) (cell_room cells.now) }
 {
-    if k <= crate::CELL_LIMIT - n {
-        return CELL_WIDTH * (n + k + 1) <= cells.len();
-    }
-    false
+    k <= crate::CELL_LIMIT - n && CELL_WIDTH * (n + k + 1) <= cells.len()
 }
 
 fn put_cell(cells: &mut [u32], n: usize, value: u32, next: u32)
@@ -110,14 +104,12 @@ pub(crate) fn put_chain_unchecked(cells: &mut [u32], n: usize, l: &[u32])
     requires fact_2 { cell_words (n + length l.now) ≤ length cells.old }
     ensures { ChainPut cells.old cells.new n l.now }
 {
-    if l.len() == 0 {
+    if l.is_empty() {
         return;
     }
     let last = l.len() - 1;
-    let mut i: usize = 0;
-    while i < last {
+    for i in 0..last {
         put_cell(cells, n + i, l[i], (n + i + 2) as u32);
-        i += 1;
     }
     put_cell(cells, n + last, l[last], 0);
 }
@@ -126,10 +118,7 @@ pub(crate) fn put_chain_unchecked(cells: &mut [u32], n: usize, l: &[u32])
 fn pair_fits(pairs: &[u32], limit: usize, n: usize) -> bool
     ensures { result ≡ ltb n (min limit (length pairs.now / 2)) }
 {
-    if n < limit {
-        return n < pairs.len() / 2;
-    }
-    false
+    n < limit.min(pairs.len() / 2)
 }
 
 fn push_pair(pairs: &mut [u32], n: usize, a: u32, b: u32)
@@ -144,11 +133,11 @@ fn push_pair(pairs: &mut [u32], n: usize, a: u32, b: u32)
 pub fn push_reason_unchecked(reasons: &mut [u32], n: usize, kind: u32, value: u32) -> bool
     ensures { Pushed reasons.old reasons.new n kind value result }
 {
-    if pair_fits(reasons, crate::REASON_LIMIT, n) {
+    let fits = pair_fits(reasons, crate::REASON_LIMIT, n);
+    if fits {
         push_pair(reasons, n, kind, value);
-        return true;
     }
-    false
+    fits
 }
 
 fn lower(a: u32, b: u32) -> u32
@@ -194,22 +183,17 @@ pub fn pair_is_unchecked(pairs: &[u32], i: usize, a: u32, b: u32) -> bool
     requires { 2 * i + 2 ≤ length pairs.now }
     ensures { result ≡ same_pair (a, b) (pair_at pairs.now i) }
 {
-    if b == pairs[2 * i + 1] {
-        return a == pairs[2 * i];
-    }
-    false
+    b == pairs[2 * i + 1] && a == pairs[2 * i]
 }
 
 fn has_pair(pairs: &[u32], n: usize, a: u32, b: u32) -> bool
     requires { 2 * n ≤ length pairs.now }
     ensures { result ≡ any (same_pair (a, b)) (pairs_view pairs.now n) }
 {
-    let mut i: usize = 0;
-    while i < n {
+    for i in 0..n {
         if pair_is_unchecked(pairs, i, a, b) {
             return true;
         }
-        i += 1;
     }
     false
 }
@@ -218,5 +202,5 @@ pub fn is_key_unchecked(keys: &[u32], n: usize, a: u32, b: u32) -> bool
     requires { 2 * n ≤ length keys.now }
     ensures { result ≡ any (same_pair (ordered a b)) (pairs_view keys.now n) }
 {
-    has_pair(keys, n, lower(a, b), higher(a, b))
+    has_pair(keys, n, a.min(b), a.max(b))
 }

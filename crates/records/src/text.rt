@@ -44,12 +44,10 @@ fn text_past(chars: &[u32], at: usize, w: &[u32]) -> bool
     requires { at + length w.now ≤ 0x7FFF_FFFF_FFFF_FFFF }
     ensures { result ≡ same_word (span chars.now at (length w.now)) w.now }
 {
-    let mut i: usize = 0;
-    while i < w.len() {
-        if word(chars, at + i) != w[i] {
+    for (i, &x) in w.iter().enumerate() {
+        if word(chars, at + i) != x {
             return false;
         }
-        i += 1;
     }
     true
 }
@@ -59,11 +57,7 @@ pub(crate) fn put_text_unchecked(chars: &mut [u32], at: usize, w: &[u32])
     requires { at + length w.now ≤ length chars.old }
     ensures { CharsPut chars.old chars.new at w.now }
 {
-    let mut i: usize = 0;
-    while i < w.len() {
-        chars[at + i] = w[i];
-        i += 1;
-    }
+    chars[at..at + w.len()].copy_from_slice(w);
 }
 
 // The characters of a list of terms, counted.
@@ -72,11 +66,8 @@ pub(crate) fn joined_length_unchecked(terms: &[u32], list: &[u32]) -> usize
     ensures { result ≡ lengths terms.now list.now }
 {
     let mut total: usize = 0;
-    let mut i: usize = 0;
-    while i < list.len() {
-        let n = second(terms, list[i]) as usize;
-        total += n;
-        i += 1;
+    for &t in list {
+        total += second(terms, t) as usize;
     }
     total
 }
@@ -97,16 +88,13 @@ pub(crate) fn joined_is_unchecked(terms: &[u32], chars: &[u32], p: u32, list: &[
     ensures { let w = concat_map (text_at terms.now chars.now) list.now in result ≡ same_word (span chars.now p (lengths terms.now list.now)) w }
 {
     let mut at = p as usize;
-    let mut i: usize = 0;
-    while i < list.len() {
-        let t = list[i];
+    for &t in list {
         let from = first(terms, t) as usize;
         let n = second(terms, t) as usize;
         if !spans_agree(chars, at, from, n) {
             return false;
         }
         at += n;
-        i += 1;
     }
     true
 }
@@ -117,10 +105,8 @@ fn copy_text(chars: &mut [u32], from: usize, n: usize, at: usize)
     requires fact_2 { at + n ≤ length chars.old }
     ensures { CharsPut chars.old chars.new at (span chars.old from n) }
 {
-    let mut i: usize = 0;
-    while i < n {
+    for i in 0..n {
         chars[at + i] = chars[from + i];
-        i += 1;
     }
 }
 
@@ -155,9 +141,7 @@ pub(crate) fn put_joined_unchecked(terms: &[u32], chars: &mut [u32], list: &[u32
     ensures { CharsPut chars.old chars.new to (concat_map (text_at terms.now chars.old) list.now) }
 {
     let mut held: usize = 0;
-    let mut i: usize = 0;
-    while i < list.len() {
+    for i in 0..list.len() {
         held = add_part_unchecked(terms, chars, list, i, to, held);
-        i += 1;
     }
 }

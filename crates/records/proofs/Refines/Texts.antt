@@ -7,8 +7,10 @@ use Prim.Native.Nat.{ℕ, ◌+◌, ◌<◌, ◌≤◌}
 use native.Mathlib.Numerals.{add-one}
 use native.Mathlib.Nat.{le_antisymm, eq-or-lt_of_le}
 use native.Mathlib.Omega.{arith}
-use lib.ListN.{length, get_or, set, length-set}
-use lib.Seq.{ext_get_or, get_or-set_same, get_or-set_other}
+use lib.ListN.{length, take, get_or, set, length-set, length-append, length-take}
+use borrow.Rule.Slice.PartMut.{put_mid, post_of}
+use Rattle.std.proofs.lemmas.Slice.{take-put_mid, take-put_mid_below}
+use lib.Seq.{ext_get_or, get_or-take, get_or-set_same, get_or-set_other, length-take-le}
 use lib.Dec.{eqb}
 use borrow.Author.Tests.{eqb-true, eqb-false, eq-eqb, ne_eqb}
 use Rattle.records.specs.Lists.{same_word, all_below}
@@ -75,6 +77,25 @@ module _ (l w : List ℕ) (p : ℕ) where
         (λ e. e ∙ disagree i a k (eqb-false _ _ e))
 
 -- COPYING
+
+view-take : (l : List ℕ) (n : ℕ) → n ≤ length l → chars_view l n ≡ take n l
+view-take l n h =
+    let m = table-length (λ i. get_or l i 0) n in
+    ext_get_or 0 _ _ (simp (length-take, table-length) (omega arith)) (λ i q.
+    let r : i < n = omega arith in
+    table_at_lem (λ j. get_or l j 0) n i 0 r ∙ sym (get_or-take n l i 0 r))
+
+-- a word copied over a part of a slice, which the library writes so
+pub part-put : (l w : List ℕ) (n j : ℕ) → n + length w ≤ length l → CharsPut l (put_mid n j l w) n w
+part-put l w n j h =
+    let m = length-take-le n l (omega arith) in
+    let a = length-append (take n l) (w ++ post_of n j l) in
+    let b = length-append w (post_of n j l) in
+    let k = view-take l n (omega arith) in
+    record {
+      grown = view-take (put_mid n j l w) (n + length w) (omega arith) ∙ take-put_mid n j l w (n + length w) refl (omega arith) ∙ ap (λ (x : List ℕ). x ++ w) (sym k);
+      kept = view-take (put_mid n j l w) n (omega arith) ∙ take-put_mid_below n j l w n (omega arith) (omega arith) ∙ sym k;
+    }
 
 -- the first i characters of w stand from place n on, and what was below n is there still
 pub record Copied (l l' : List ℕ) (n : ℕ) (w : List ℕ) (i : ℕ) : Type 0 where

@@ -5,6 +5,3 @@ use Rattle.records.proofs.text.copy_text.Given as goal
 
 abbrev pub invariant-loop-i : goal.invariant-loop-i
 invariant-loop-i l = Copied l.initial.chars l.chars l.at (span l.initial.chars l.from l.n) l.i
-
-abbrev pub decreases-loop-i : goal.decreases-loop-i
-decreases-loop-i l = l.n - l.i

@@ -2,9 +2,9 @@ use Rattle.records.proofs.Refines.NameLaws.{walk_start, walk-hashed, tables-room
 use native.Mathlib.Omega.{arith}
 use Rattle.records.proofs.unique.name_ok.Goals as goal
 
-pub returns-then-n-eq0 : goal.returns-then-n-eq0
-returns-then-n-eq0 c =
-    let a = c.args in name_empty a.terms.now a.chars.now a.c a.m a.t c.requires.1 _ c.second-n.ensures c.if-n-eq0.true
+pub returns-then-second-eq0 : goal.returns-then-second-eq0
+returns-then-second-eq0 c =
+    let a = c.args in name_empty a.terms.now a.chars.now a.c a.m a.t c.requires.1 _ c.second.ensures c.if-second-eq0.true
 
 pub loop-u-init : goal.loop-u-init
 loop-u-init c =
@@ -54,4 +54,4 @@ pub returns : goal.returns
 returns c =
     let a = c.args in
     let o = c.loop-u in
-    name_free a.terms.now a.chars.now a.c a.m a.t c.requires.1 o.u o.invariant _ c.second-n.ensures c.if-n-eq0.false c.loop-u-test.false
+    name_free a.terms.now a.chars.now a.c a.m a.t c.requires.1 o.u o.invariant _ c.second.ensures c.if-second-eq0.false c.loop-u-test.false
