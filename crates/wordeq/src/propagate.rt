@@ -14,7 +14,7 @@ ghost use Rattle.sides.specs.Working.Sides.{Spelled};
 ghost use Rattle.sides.specs.Working.Stripping.{Readable, Pair};
 ghost use Rattle.wordeq.specs.Working.Propagates.{aliased, emptied, assigned, linked};
 
-use records::{Made, State, make, rules};
+use records::{Refusal, State, make, rules};
 use sides::{StepResult, letters, stripping};
 
 // The constant of a constant side, "" for none.
@@ -26,7 +26,7 @@ pub(crate) fn side_word_unchecked(
     keys: &[u32],
     c: State,
     side: &[u32],
-) -> Made
+) -> Result<(u32, State), Refusal>
     requires ready { Ready (lent terms.old cells.now chars.old reasons.now keys.now) c }
     requires side_len_bound { length side.now ≤ list_limit }
     requires side_value { fixed (store_of (lent terms.old cells.now chars.old reasons.now keys.now) c) side.now ≡ true }
@@ -90,17 +90,13 @@ fn empties_unchecked(
     keys: &[u32],
     c: State,
     side: &[u32],
-) -> StepResult
+) -> Result<StepResult, Refusal>
     requires ready { Ready (lent terms.old cells.now chars.old reasons.now keys.now) c }
     requires side_value { emptied (termed terms.old c) [] side.now ≡ true }
     ensures { Between (Tries (empties [] side.now)) (across (changing terms) cells (changing chars) reasons keys) c result }
 {
-    let word: [u32; 0] = [];
-    let empty = make::make_constant_unchecked(terms, cells, chars, reasons, keys, c, &word);
-    match empty {
-        Made::Term(t, d) => link_first(terms, chars, d, side, t),
-        Made::Refused(k) => StepResult::Refused(k),
-    }
+    let (t, d) = make::make_constant_unchecked(terms, cells, chars, reasons, keys, c, &[])?;
+    Ok(link_first(terms, chars, d, side, t))
 }
 
 // A lone variable against constants: it is propagated to their joined word.
@@ -113,17 +109,14 @@ fn assigns_unchecked(
     c: State,
     v: u32,
     side: &[u32],
-) -> StepResult
+) -> Result<StepResult, Refusal>
     requires ready { Ready (lent terms.old cells.now chars.old reasons.now keys.now) c }
     requires side_len_bound { length side.now ≤ list_limit }
     requires side_value { (is_variable (termed terms.old c) v && fixed (termed terms.old c) side.now) ≡ true }
     ensures { Between (Tries (assigns (v ∷ []) side.now)) (across (changing terms) cells (changing chars) reasons keys) c result }
 {
-    let word = side_word_unchecked(terms, cells, chars, reasons, keys, c, side);
-    match word {
-        Made::Term(t, d) => StepResult::Propagate(d, v, t, false),
-        Made::Refused(k) => StepResult::Refused(k),
-    }
+    let (t, d) = side_word_unchecked(terms, cells, chars, reasons, keys, c, side)?;
+    Ok(StepResult::Propagate(d, v, t, false))
 }
 
 // Step 4. Where "" is made and no variable is left to propagate, no later way applies: so each is tested on the store as it came.
@@ -136,13 +129,13 @@ pub(crate) fn propagate_unchecked(
     c: State,
     lhs: &[u32],
     rhs: &[u32],
-) -> StepResult
+) -> Result<StepResult, Refusal>
     requires ready { Ready (lent terms.old cells.now chars.old reasons.now keys.now) c }
     requires both_lists { BothLists (store_of (lent terms.old cells.now chars.old reasons.now keys.now) c) lhs.now rhs.now }
     ensures { let l = lhs.now in let r = rhs.now in Between (Tries (alias l r or_else empties l r or_else empties r l or_else assigns l r or_else assigns r l)) (across (changing terms) cells (changing chars) reasons keys) c result }
 {
     if is_alias(terms, chars, c, lhs, rhs) {
-        StepResult::Propagate(c, lhs[0], rhs[0], false)
+        Ok(StepResult::Propagate(c, lhs[0], rhs[0], false))
     } else if is_emptied_unchecked(terms, c, lhs, rhs) {
         empties_unchecked(terms, cells, chars, reasons, keys, c, rhs)
     } else if is_emptied_unchecked(terms, c, rhs, lhs) {
@@ -152,6 +145,6 @@ pub(crate) fn propagate_unchecked(
     } else if is_assigned(terms, c, rhs, lhs) {
         assigns_unchecked(terms, cells, chars, reasons, keys, c, rhs[0], lhs)
     } else {
-        StepResult::Done(c)
+        Ok(StepResult::Done(c))
     }
 }

@@ -16,7 +16,7 @@ ghost use Rattle.wordeq.specs.Working.Resolving.{soft, closing, flat_steps, ran}
 
 use crate::stepping;
 use normalize::flat;
-use records::{LIST_LIMIT, State, rules};
+use records::{LIST_LIMIT, Refusal, State, rules};
 use sides::StepResult;
 
 // Whether some atom is a concatenation.
@@ -76,7 +76,7 @@ fn flat_steps(
     rhs: &[u32],
     guard: i32,
     list: &mut [u32],
-) -> StepResult
+) -> Result<StepResult, Refusal>
     requires ready { Ready (lent terms.old cells.old chars.old reasons.old keys.old) c }
     requires both_lists { BothLists (store_of (lent terms.old cells.old chars.old reasons.old keys.old) c) lhs.now rhs.now }
     requires guard_value { is_guard guard ≡ true }
@@ -86,14 +86,14 @@ fn flat_steps(
     let mut left: [u32; 1024] = [0; 1024];
     let n = flatten_list_unchecked(terms, cells, c, lhs, &mut left);
     if LIST_LIMIT < n {
-        return StepResult::Refused(6);
+        return Err(Refusal::List);
     }
     let mut right: [u32; 1024] = [0; 1024];
     let k = flatten_list_unchecked(terms, cells, c, rhs, &mut right);
     if LIST_LIMIT < k {
-        return StepResult::Refused(6);
+        return Err(Refusal::List);
     }
-    soften(stepping::steps_unchecked(
+    let o = stepping::steps_unchecked(
         terms,
         cells,
         chars,
@@ -104,7 +104,8 @@ fn flat_steps(
         &right[..k],
         guard,
         list,
-    ))
+    )?;
+    Ok(soften(o))
 }
 
 // The steps, on flattened lists where some atom is a concatenation.
@@ -119,7 +120,7 @@ fn run<'a>(
     rhs: &'a [u32],
     guard: i32,
     list: &mut [u32],
-) -> StepResult
+) -> Result<StepResult, Refusal>
     requires ready { Ready (lent terms.old cells.old chars.old reasons.old keys.old) c }
     requires both_lists { BothLists (store_of (lent terms.old cells.old chars.old reasons.old keys.old) c) lhs.now rhs.now }
     requires guard_value { is_guard guard ≡ true }
@@ -157,13 +158,13 @@ pub fn resolve_unchecked<'a>(
     rhs: &'a [u32],
     guard: i32,
     list: &mut [u32],
-) -> StepResult
+) -> Result<StepResult, Refusal>
     requires ready { Ready (lent terms.old cells.old chars.old reasons.old keys.old) c }
     requires both_lists { BothLists (store_of (lent terms.old cells.old chars.old reasons.old keys.old) c) lhs.now rhs.now }
     requires guard_value { is_guard guard ≡ true }
     requires list_limit_in_bounds { list_limit ≤ length list.old }
     ensures { Does (resolve lhs.now rhs.now guard) (across (changing terms) (changing cells) (changing chars) (changing reasons) (changing keys)) c (resolved result into changing list) }
 {
-    let o = run(terms, cells, chars, reasons, keys, c, lhs, rhs, guard, list);
-    close(c.reasons, o)
+    let o = run(terms, cells, chars, reasons, keys, c, lhs, rhs, guard, list)?;
+    Ok(close(c.reasons, o))
 }

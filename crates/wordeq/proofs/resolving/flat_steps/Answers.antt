@@ -1,12 +1,13 @@
 use lib.ListN.{take}
 use Rattle.records.specs.View.{lent}
 use Rattle.wordeq.proofs.Flattened.{list-passes, list-says, list-flat}
-use Rattle.wordeq.proofs.Refines.Flattening.{guard_passed, left-passes, right-passes, flat-done}
+use Rattle.wordeq.proofs.Refines.Flattening.{guard_passed, left-passes, right-passes, flat-after, flat-done}
 use Rattle.normalize.proofs.FormReady.{ready_nested}
 use lib.Seq.{length-take-le}
 use mathlib.Core.Path.{sym}
 use native.Mathlib.Omega.{arith}
 use borrow.Author.Rules.{rules}
+use Rattle.records.proofs.Public.{handed}
 use Rattle.wordeq.proofs.resolving.flat_steps.Goals as goal
 
 pub flatten_list_unchecked-n-requires : goal.flatten_list_unchecked-n-requires
@@ -54,17 +55,20 @@ steps_unchecked-requires c =
       list_limit_in_bounds = c.requires.list_limit_in_bounds;
     }
 
+pub returns-in_err-o : goal.returns-in_err-o
+returns-in_err-o c =
+    rw (handed _ c.from_residual.ensures.1)
+    (flat-after (lent c.args.terms.now c.args.cells.now c.args.chars.now c.args.reasons.now c.args.keys.now) c.args.c
+    c.args.lhs.now c.args.rhs.now c.args.guard (take c.flatten_list_unchecked-n.result c.flatten_list_unchecked-n.new.out)
+    (list-says c.requires.ready c.args.lhs.now _ _ _ c.flatten_list_unchecked-n.ensures c.if-n-gt-LIST_LIMIT.false (let k = c.flatten_list_unchecked-n.auto.out in omega arith))
+    c.ranges.guard (take c.flatten_list_unchecked-k.result c.flatten_list_unchecked-k.new.out)
+    (list-says c.requires.ready c.args.rhs.now _ _ _ c.flatten_list_unchecked-k.ensures c.if-k-gt-LIST_LIMIT.false (let k = c.flatten_list_unchecked-k.auto.out in omega arith)) c.in_err-o.ensures)
+
 pub returns : goal.returns
 returns c =
-    let the-reasons = c.args.reasons.now in
-    flat-done (lent c.args.terms.now c.args.cells.now c.args.chars.now the-reasons c.args.keys.now) c.args.c
-    c.args.lhs.now c.args.rhs.now c.args.guard
-    (take c.flatten_list_unchecked-n.result c.flatten_list_unchecked-n.new.out)
-    (list-says {m = lent c.args.terms.now c.args.cells.now c.args.chars.now the-reasons c.args.keys.now}
-    {c = c.args.c} c.requires.ready c.args.lhs.now _ _ _ c.flatten_list_unchecked-n.ensures c.if-n-gt-LIST_LIMIT.false
-    (let k = c.flatten_list_unchecked-n.auto.out in omega arith))
+    flat-done (lent c.args.terms.now c.args.cells.now c.args.chars.now c.args.reasons.now c.args.keys.now) c.args.c
+    c.args.lhs.now c.args.rhs.now c.args.guard (take c.flatten_list_unchecked-n.result c.flatten_list_unchecked-n.new.out)
+    (list-says c.requires.ready c.args.lhs.now _ _ _ c.flatten_list_unchecked-n.ensures c.if-n-gt-LIST_LIMIT.false (let k = c.flatten_list_unchecked-n.auto.out in omega arith))
     c.ranges.guard (take c.flatten_list_unchecked-k.result c.flatten_list_unchecked-k.new.out)
-    (list-says {m = lent c.args.terms.now c.args.cells.now c.args.chars.now the-reasons c.args.keys.now}
-    {c = c.args.c} c.requires.ready c.args.rhs.now _ _ _ c.flatten_list_unchecked-k.ensures c.if-k-gt-LIST_LIMIT.false
-    (let k = c.flatten_list_unchecked-k.auto.out in omega arith))
-    _ c.steps_unchecked.result c.steps_unchecked.ensures _ c.soften.ensures
+    (list-says c.requires.ready c.args.rhs.now _ _ _ c.flatten_list_unchecked-k.ensures c.if-k-gt-LIST_LIMIT.false (let k = c.flatten_list_unchecked-k.auto.out in omega arith))
+    _ c.in_ok-o.o c.in_ok-o.ensures _ c.soften.ensures
