@@ -1,14 +1,15 @@
 // The commands that change the store, the list or what is lent.
 use crate::Counts;
 use crate::words::{
-    narrow, put_chain, put_class, put_edge, put_expansions, put_line, put_numbered, put_pairs,
-    put_reason, put_same, put_term, put_tower, put_variables, put_words,
+    CONGRUENCE, narrow, put_chain, put_class, put_concatenation, put_edge, put_expansions,
+    put_line, put_numbered, put_pairs, put_reason, put_same, put_term, put_tower, put_variables,
+    put_words,
 };
 use lines::indexing::{put_index, term_place};
 use lines::lending::{Lens, Lent};
 use lines::put;
 use lines::reading::Command;
-use records::CELL_WIDTH;
+use records::{CELL_WIDTH, Kind};
 
 pub fn reasoned(c: Counts, reasons: usize) -> Counts {
     Counts { reasons, ..c }
@@ -26,20 +27,20 @@ fn line(terms: &mut [u32], chars: &mut [u32], m: u32, k: &mut Counts) {
 }
 
 // A constant or a variable with the characters counted next, m of them.
-fn text(terms: &mut [u32], kind: u32, m: u32, k: &mut Counts) {
+fn text(terms: &mut [u32], kind: Kind, m: u32, k: &mut Counts) {
     k.terms = k.terms.wrapping_add(1);
-    put_term(terms, k.terms, kind, k.chars, m);
+    put_term(terms, k.terms, u32::from(kind), k.chars, m);
     k.chars = k.chars.wrapping_add(m);
 }
 
-fn spelled(terms: &mut [u32], chars: &mut [u32], kind: u32, c: Command<'_>, k: &mut Counts) {
+fn spelled(terms: &mut [u32], chars: &mut [u32], kind: Kind, c: Command<'_>, k: &mut Counts) {
     put_words(chars, k.chars as usize, c);
     text(terms, kind, narrow(c.last), k);
 }
 
 fn repeated(terms: &mut [u32], chars: &mut [u32], m: u32, x: u32, k: &mut Counts) {
     put_same(chars, k.chars as usize, m, x);
-    text(terms, 1, m, k);
+    text(terms, Kind::Constant, m, k);
 }
 
 // The cells of a chain, from the first free one on. Answers that one.
@@ -52,7 +53,7 @@ fn chain(cells: &mut [u32], c: Command<'_>, from: usize, wide: usize, k: &mut Co
 fn concatenation(terms: &mut [u32], cells: &mut [u32], c: Command<'_>, k: &mut Counts) {
     let e = chain(cells, c, 1, 1, k);
     k.terms = k.terms.wrapping_add(1);
-    put_term(terms, k.terms, 3, e, 0);
+    put_concatenation(terms, k.terms, e);
 }
 
 fn words(terms: &mut [u32], c: Command<'_>, k: &mut Counts) {
@@ -64,7 +65,7 @@ fn congruence(terms: &mut [u32], cells: &mut [u32], c: Command<'_>, k: &mut Coun
     let t = c.number(1);
     let p = c.number(2);
     let e = chain(cells, c, 4, 2, k);
-    put_edge(terms, t, p, 3, e, c.number(3));
+    put_edge(terms, t, p, CONGRUENCE, e, c.number(3));
     put_class(terms, t, p);
 }
 
@@ -99,8 +100,8 @@ fn change_records(
     match c.letter {
         b'V' => variables(terms, chars, a, k),
         b'H' => line(terms, chars, a, k),
-        b'K' | b'S' => spelled(terms, chars, 1, c, k),
-        b'I' => spelled(terms, chars, 2, c, k),
+        b'K' | b'S' => spelled(terms, chars, Kind::Constant, c, k),
+        b'I' => spelled(terms, chars, Kind::Variable, c, k),
         b'O' => repeated(terms, chars, a, b, k),
         b'P' => concatenation(terms, cells, c, k),
         b'X' => words(terms, c, k),

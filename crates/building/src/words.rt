@@ -2,7 +2,12 @@
 use lines::indexing::term_place;
 use lines::reading::Command;
 use lines::{put, put_all};
-use records::CELL_WIDTH;
+use records::{CELL_WIDTH, Kind};
+
+// What an edge's label says of it: asserted by the reason that it names, or a congruence of the pairs of a chain.
+const ASSERTED: u32 = 1;
+
+pub const CONGRUENCE: u32 = 3;
 
 // A count as a word; none here is above 65,535.
 pub fn narrow(x: usize) -> u32 {
@@ -16,6 +21,11 @@ pub fn put_term(terms: &mut [u32], t: u32, kind: u32, first: u32, second: u32) {
         term_place(t, 0),
         &[kind, first, second, t, t, 0, 0, 0],
     );
+}
+
+// Of the parts in the chain from cell e on.
+pub fn put_concatenation(terms: &mut [u32], t: u32, e: u32) {
+    put_term(terms, t, u32::from(Kind::Concatenation), e, 0);
 }
 
 pub fn put_class(terms: &mut [u32], t: u32, p: u32) {
@@ -35,7 +45,7 @@ pub fn put_reason(reasons: &mut [u32], i: usize, kind: u32, value: u32) {
 }
 
 fn put_variable(terms: &mut [u32], chars: &mut [u32], t: u32) {
-    put_term(terms, t, 2, t, 1);
+    put_term(terms, t, u32::from(Kind::Variable), t, 1);
     put(chars, t as usize, t.wrapping_add(256));
 }
 
@@ -48,7 +58,7 @@ pub fn put_variables(terms: &mut [u32], chars: &mut [u32], above: u32, n: u32) {
 // The edge from t to the next term, and the next one's class parent.
 fn put_next(terms: &mut [u32], t: u32, first: u32) {
     let u = t.wrapping_add(1);
-    put_edge(terms, t, u, 1, t, t);
+    put_edge(terms, t, u, ASSERTED, t, t);
     put_class(terms, u, first);
 }
 
@@ -77,10 +87,10 @@ fn put_level(terms: &mut [u32], cells: &mut [u32], t: u32, e: u32, d: u32) {
     put_two(cells, e, a, 0, x, 0);
     put_two(cells, f, b, 0, y, 0);
     put_two(cells, g, a, b, x, y);
-    put_term(terms, t, 3, e, 0);
-    put_term(terms, u, 3, f, 0);
+    put_concatenation(terms, t, e);
+    put_concatenation(terms, u, f);
     put_class(terms, t, u);
-    put_edge(terms, t, u, 3, g, t);
+    put_edge(terms, t, u, CONGRUENCE, g, t);
 }
 
 // From term t and cell e on.
@@ -168,9 +178,9 @@ fn put_expansion(terms: &mut [u32], cells: &mut [u32], first: u32, n: u32, e: u3
     let t = last.wrapping_add(i);
     let at = e.wrapping_add(i.wrapping_mul(2));
     put_two(cells, at, x, 0, last, 0);
-    put_term(terms, t, 3, at, 0);
+    put_concatenation(terms, t, at);
     put_class(terms, w, t);
-    put_edge(terms, w, t, 1, i, i);
+    put_edge(terms, w, t, ASSERTED, i, i);
 }
 
 // x0 is the term `first`.

@@ -1,7 +1,7 @@
 // The index of a store whose records a test program has written by hand: 64 heads, and in each term's ninth word the next term of its bucket.
 use crate::{put, put_all};
 use records::fields::word;
-use records::{BUCKETS, TERM_WIDTH, fields};
+use records::{BUCKETS, Kind, TERM_WIDTH, fields};
 
 // Where word i of term t stands.
 pub fn term_place(t: u32, i: usize) -> usize {
@@ -35,9 +35,9 @@ fn chain_sum(cells: &[u32], e: u32) -> u32 {
 fn sum_of(terms: &[u32], cells: &[u32], chars: &[u32], t: u32) -> u32 {
     let x = fields::first(terms, t);
     let y = fields::second(terms, t);
-    match fields::kind(terms, t) {
-        1 | 2 => text_sum(chars, x, y),
-        3 => chain_sum(cells, x),
+    match Kind::try_from(fields::kind(terms, t)) {
+        Ok(Kind::Constant | Kind::Variable) => text_sum(chars, x, y),
+        Ok(Kind::Concatenation) => chain_sum(cells, x),
         _ => x.wrapping_add(y),
     }
 }

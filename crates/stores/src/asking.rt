@@ -1,15 +1,15 @@
 // The calls, each on the slices as they are lent.
 use crate::Store;
 use crate::keeping::{kept, save};
-use crate::saying::{refusal, tell};
+use crate::saying::{tell, verdict};
 use lines::reading::Command;
-use records::Made;
+use records::{Refusal, State};
 use std::io;
 
 pub(crate) fn ask_audit(rt: &impl Print, name: &[u8], s: &mut Store) -> io::Result<()> {
     let c = s.counts;
     let ((terms, cells, chars, reasons, keys), _) = s.lent();
-    let k = records::audit(terms, cells, chars, reasons, keys, c);
+    let k = verdict(records::audit(terms, cells, chars, reasons, keys, c));
     rt.write_all(name)?;
     print!(rt; " {k}\n")
 }
@@ -36,7 +36,7 @@ pub(crate) fn making_of(c: Command<'_>) -> Option<Making> {
     }
 }
 
-fn make(m: Making, s: &mut Store) -> Made {
+fn make(m: Making, s: &mut Store) -> Result<(u32, State), Refusal> {
     let c = s.counts;
     let ((terms, cells, chars, reasons, keys), list) = s.lent();
     match m {
@@ -61,6 +61,6 @@ fn make(m: Making, s: &mut Store) -> Made {
 pub(crate) fn ask_make(rt: &impl Print, m: Making, name: &[u8], s: &mut Store) -> io::Result<()> {
     let old = save(s);
     let r = make(m, s);
-    let same = kept(refusal(r), s, &old);
+    let same = kept(r, s, &old);
     tell(rt, name, r, same, s)
 }

@@ -2,7 +2,7 @@
 use crate::{CELL_WORDS, CHAR_WORDS, Store, TERM_WORDS, terms_of};
 use lines::indexing::term_place;
 use lines::lending::{front, rest};
-use records::{CELL_LIMIT, CELL_WIDTH, TERM_WIDTH};
+use records::{CELL_LIMIT, CELL_WIDTH, Refusal, State, TERM_WIDTH};
 
 // The words before a call.
 #[derive(Drop)]
@@ -35,31 +35,31 @@ fn cell_words(n: usize) -> usize {
     CELL_WIDTH * (n.min(CELL_LIMIT) + 1)
 }
 
-// The words that have to be as they were: all of them after refusals 1 to 5 and from 10 on, else those of the records counted.
-fn held(k: u32, counted: usize, len: usize) -> usize {
-    match k {
-        1..=5 | 10.. => len,
-        _ => counted,
+// The words that have to be as they were: those of the records counted after an answer and after refusals 6 to 9, else all of them.
+fn held(r: Result<(u32, State), Refusal>, counted: usize, len: usize) -> usize {
+    match r {
+        Ok(_) | Err(Refusal::List | Refusal::Reasons | Refusal::Room | Refusal::Names) => counted,
+        Err(_) => len,
     }
 }
 
 // Of terms: after an answer the records without their ninth words, after refusals 6 to 9 these and the heads too.
-fn terms_kept(k: u32, n: u32, now: &[u32], old: &[u32]) -> bool {
-    if k == 0 {
+fn terms_kept(r: Result<(u32, State), Refusal>, n: u32, now: &[u32], old: &[u32]) -> bool {
+    if r.is_ok() {
         return records_stay(now, old, n);
     }
-    let words = held(k, term_place(n, TERM_WIDTH), now.len());
+    let words = held(r, term_place(n, TERM_WIDTH), now.len());
     stays(now, old, 0, words)
 }
 
 // Of cells or characters, of which so many words are counted.
-fn words_kept(k: u32, counted: usize, now: &[u32], old: &[u32]) -> bool {
-    stays(now, old, 0, held(k, counted, now.len()))
+fn words_kept(r: Result<(u32, State), Refusal>, counted: usize, now: &[u32], old: &[u32]) -> bool {
+    stays(now, old, 0, held(r, counted, now.len()))
 }
 
-pub(crate) fn kept(k: u32, s: &Store, old: &Old) -> bool {
+pub(crate) fn kept(r: Result<(u32, State), Refusal>, s: &Store, old: &Old) -> bool {
     let c = s.counts;
-    terms_kept(k, terms_of(c), &s.terms, &old.terms)
-        && words_kept(k, cell_words(c.cells), &s.cells, &old.cells)
-        && words_kept(k, c.chars, &s.chars, &old.chars)
+    terms_kept(r, terms_of(c), &s.terms, &old.terms)
+        && words_kept(r, cell_words(c.cells), &s.cells, &old.cells)
+        && words_kept(r, c.chars, &s.chars, &old.chars)
 }

@@ -1,23 +1,13 @@
 // Printing what a call answered.
 use crate::Store;
-use records::{Made, State};
+use records::{Refusal, State};
 use std::io;
 
-fn say_term(rt: &impl Print, t: u32, c: State) -> io::Result<()> {
-    let terms = c.terms;
-    let cells = c.cells;
-    let chars = c.chars;
-    print!(rt; " 0 term {t} counts {terms} {cells} {chars}")
-}
-
-fn say_kept(rt: &impl Print, kept: bool) -> io::Result<()> {
-    rt.write_all(if kept { b" kept\n" } else { b" changed\n" })
-}
-
-pub(crate) fn refusal(r: Made) -> u32 {
+// 0, or the refusal's number.
+pub(crate) fn verdict<T: Drop>(r: Result<T, Refusal>) -> u32 {
     match r {
-        Made::Term(_, _) => 0,
-        Made::Refused(k) => k,
+        Ok(_) => 0,
+        Err(k) => u32::from(k),
     }
 }
 
@@ -25,17 +15,15 @@ pub(crate) fn refusal(r: Made) -> u32 {
 pub(crate) fn tell(
     rt: &impl Print,
     name: &[u8],
-    r: Made,
+    r: Result<(u32, State), Refusal>,
     kept: bool,
     s: &mut Store,
 ) -> io::Result<()> {
     rt.write_all(name)?;
-    match r {
-        Made::Term(t, d) => {
-            say_term(rt, t, d)?;
-            s.counts = d;
-        }
-        Made::Refused(k) => print!(rt; " {k}")?,
+    print!(rt; " {}", verdict(r))?;
+    if let Ok((t, d)) = r {
+        print!(rt; " term {t} counts {} {} {}", d.terms, d.cells, d.chars)?;
+        s.counts = d;
     }
-    say_kept(rt, kept)
+    rt.write_all(if kept { b" kept\n" } else { b" changed\n" })
 }
