@@ -12,13 +12,13 @@ ghost use Rattle.normalize.specs.Calls.{first_words, deepened};
 ghost use Rattle.normalize.specs.Working.Deeps.{opens_in, RoundOf, expand_atom, Expands};
 
 use crate::{DEEP_NF_ATOM_CAP, normal};
-use records::{Refusal, State, rules};
+use records::{Kind, Refusal, State, rules};
 
 // Whether a is expanded: a concatenation, and not the term itself.
 fn opens(terms: &[u32], n: usize, t: u32, a: u32) -> bool
     ensures { result ≡ opens_in (terms_view terms.now n) t a }
 {
-    rules::kind_of(terms, n, a) == 3 && a != t
+    rules::is_a(terms, n, a, Kind::Concatenation) && a != t
 }
 
 // Whether an atom of the list is expanded.

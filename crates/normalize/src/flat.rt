@@ -6,7 +6,7 @@ ghost use Rattle.normalize.specs.Working.Flat.{bare, Nested, Appended};
 
 use held::chains;
 use held::chains::Link;
-use records::{LIST_LIMIT, fields, rules};
+use records::{Kind, LIST_LIMIT, fields, rules};
 
 // One atom more; a list that is full passes the limit.
 fn push_atom(out: &mut [u32], count: usize, t: u32) -> usize
@@ -37,7 +37,7 @@ pub fn flatten_unchecked(
     requires list_limit_in_bounds { list_limit ≤ length out.old }
     ensures { Appended out.old out.new count (atoms (bare terms.now n cells.now m) t) result }
 {
-    if rules::kind_of(terms, n, t) != 3 {
+    if !rules::is_a(terms, n, t, Kind::Concatenation) {
         return push_atom(out, count, t);
     }
     let mut at = fields::first(terms, t);

@@ -7,13 +7,13 @@ ghost use Rattle.records.specs.Working.Audited.{Closed};
 ghost use Rattle.records.specs.Working.ClimbEnds.{Ends};
 ghost use Rattle.normalize.specs.Working.Nodes.{rank, with_node, with_nodes, node_at, Rooting, Keeps};
 
-use records::{classes, roots, rules};
+use records::{Kind, classes, roots, rules};
 
 // Constants before others.
 fn rep_rank(terms: &[u32], n: usize, t: u32) -> u32
     ensures { result ≡ rank (terms_view terms.now n) t }
 {
-    u32::from(rules::kind_of(terms, n, t) == 1)
+    u32::from(rules::is_a(terms, n, t, Kind::Constant))
 }
 
 // One candidate more, of the class of this root.

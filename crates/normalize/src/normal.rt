@@ -14,7 +14,7 @@ ghost use Rattle.normalize.specs.Calls.{first_words, formed};
 
 use crate::{deeper, flat, nodes, pushes};
 use engine::explain_unchecked;
-use records::{LIST_LIMIT, Refusal, State, rules};
+use records::{Kind, LIST_LIMIT, Refusal, State, rules};
 
 // The reasons that a is equal to r, where they differ.
 fn cite(
@@ -205,13 +205,13 @@ pub(crate) fn form_by(
     requires list_limit_in_bounds { list_limit ≤ length list.old }
     ensures { Does (normal_form known.now t) (across (changing terms) cells (changing chars) (changing reasons) keys) c (formed result into changing list) }
 {
-    if rules::kind_of(terms, c.terms, t) != 3 {
+    if rules::is_a(terms, c.terms, t, Kind::Concatenation) {
+        form_flat(terms, cells, chars, reasons, keys, c, known, table, t, list)
+    } else {
         let one: [u32; 1] = [t];
         form_atoms(
             terms, cells, chars, reasons, keys, c, known, table, &one, list,
         )
-    } else {
-        form_flat(terms, cells, chars, reasons, keys, c, known, table, t, list)
     }
 }
 

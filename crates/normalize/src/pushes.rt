@@ -9,13 +9,13 @@ ghost use Rattle.records.specs.Rules.{list_limit};
 ghost use Rattle.normalize.specs.Working.Pushes.{is_empty_in, joins_in, pushed};
 ghost use Rattle.normalize.specs.Calls.{first_words};
 
-use records::{Refusal, State, fields, make, rules};
+use records::{Kind, Refusal, State, fields, make, rules};
 
 // Whether t is "".
 fn is_empty(terms: &[u32], n: usize, t: u32) -> bool
     ensures { result ≡ is_empty_in (terms_view terms.now n) t }
 {
-    rules::kind_of(terms, n, t) == 1 && fields::second(terms, t) == 0
+    rules::is_a(terms, n, t, Kind::Constant) && fields::second(terms, t) == 0
 }
 
 // Whether t and the last atom of the list are constants.
@@ -23,7 +23,9 @@ fn joins_with_last(terms: &[u32], n: usize, t: u32, list: &[u32], count: usize) 
     requires { count ≤ length list.now }
     ensures { result ≡ joins_in (terms_view terms.now n) t (reverse (first_words list.now count)) }
 {
-    count != 0 && rules::kind_of(terms, n, t) == 1 && rules::kind_of(terms, n, list[count - 1]) == 1
+    count != 0
+        && rules::is_a(terms, n, t, Kind::Constant)
+        && rules::is_a(terms, n, list[count - 1], Kind::Constant)
 }
 
 // Joins t with the last atom, in its place.

@@ -2,7 +2,7 @@
 use Rattle.std.specs.Prelude.{Result, Ok, Err, Some, None, if◌then◌else◌}
 use Rattle.std.specs.Prelude as code
 use mathlib.Core.Path.{◌≡◌, refl, sym, ap, subst, ◌∙◌}
-use mathlib.Core.Bool.{Bool, true, false, not}
+use mathlib.Core.Bool.{Bool, true, false}
 use mathlib.Core.List.{List, [], ◌∷◌, ◌++◌}
 use mathlib.Core.Option.{Option, none, some}
 use Prim.Native.Nat.{ℕ, suc, ◌+◌, ◌*◌, ◌≤◌, ◌<◌}
@@ -11,7 +11,7 @@ use native.Mathlib.Omega.{arith}
 use lib.ListN.{length, length-take, take, drop, get_or, set, length-set, length-append, drop_of_length-le}
 use lib.Seq.{drop-cons, get_or-take, get_or-set_same, get_or-set_other}
 use lib.Dec.{eqb, ltb}
-use borrow.Author.Tests.{eqb-true, eqb-false, eq-eqb, ne_eqb, ltb-false, lt-ltb, le-ltb, not-true, not-false}
+use borrow.Author.Tests.{eqb-true, eqb-false, eq-eqb, ne_eqb, ltb-false, lt-ltb, le-ltb}
 use Rattle.records.specs.declared.State.{State}
 use Rattle.records.specs.declared.refusal.Refusal.{Refusal}
 use Rattle.records.specs.Lists.{all, any, is_in, none_left, and}
@@ -147,21 +147,21 @@ module _ {m : Lent} {c : State} (ready : Ready m c) (known : List ℕ) (t a : �
       let z = view_count m.terms c.terms in
       let y = ready.sized.term_limited in omega arith
 
-  pub one_plain : not b ≡ true → k < length next → Expands known t (a ∷ []) next k table m m c (set next k a) table (Ok (Some (k + 1), c))
+  pub one_plain : b ≡ false → k < length next → Expands known t (a ∷ []) next k table m m c (set next k a) table (Ok (Some (k + 1), c))
   one_plain h l = record {
     kept = keeps_same;
     ready = ready_for ready;
     is = λ met q. record {
       met = met;
-      is = expand-plain known t a st (record { list = first_words next k; met = met }) (sym e ∙ not-true b h)
+      is = expand-plain known t a st (record { list = first_words next k; met = met }) (sym e ∙ h)
           ∙ ap (λ (w : List ℕ). ok st (some (record { list = w; met = met }))) (sym (words-put next k a l) ∙ ap (first_words (set next k a)) (sym (add-one k)));
       tells = λ n d z. q;
     };
   }
 
-  module _ (h : not b ≡ false) where
+  module _ (h : b ≡ true) where
     opened : opens st t a ≡ true
-    opened = sym e ∙ not-false b h
+    opened = sym e ∙ h
 
     met-is : (met : List ℕ) → Met table met → is_in a met ≡ eqb (get_or table a 0) 1
     met-is met q = sym (q.tells a atom-place)

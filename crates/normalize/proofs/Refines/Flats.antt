@@ -5,7 +5,7 @@ use mathlib.Core.List.{List, [], ◌∷◌, ◌++◌, append-nil, append_assoc}
 use Prim.Native.Nat.{ℕ, suc, ◌≤◌, ◌<◌}
 use native.Mathlib.Omega.{arith}
 use lib.ListN.{length, take, length-append, length-take}
-use borrow.Author.Tests.{eq-eqb, ne_eqb}
+use borrow.Author.Tests.{eqb-true}
 use Rattle.records.specs.Lists.{concat_map, firsts, Every, and}
 use Rattle.records.specs.Store.{Store, within, kind, is_term, cell_in, is_concat, chain, parts}
 use Rattle.records.specs.View.{cell_at, term_at}
@@ -22,8 +22,8 @@ module _ (l : List ℕ) (n : ℕ) (e : List ℕ) (m : ℕ) where
   abbrev s : Store
   s = bare l n e m
 
-  pub one-atom : (out out' : List ℕ) (count t r k : ℕ) → k ≡ kind s t → (k ≡ 3 → ⊥) → Appended out out' count (t ∷ []) r → Appended out out' count (atoms s t) r
-  one-atom out out' count t r k i d a = rw (atoms-plain s t (ne_eqb (kind s t) 3 (λ q. d (i ∙ q)))) a
+  pub one-atom : (out out' : List ℕ) (count t r : ℕ) (b : Bool) → b ≡ is_concat s t → b ≡ false → Appended out out' count (t ∷ []) r → Appended out out' count (atoms s t) r
+  one-atom out out' count t r b i d a = rw (atoms-plain s t (sym i ∙ d)) a
 
   -- what is left of the chain, after the atoms so far, is what is asked
   pub record Left (out₀ out : List ℕ) (count t at k : ℕ) : Type 0 where
@@ -41,10 +41,10 @@ module _ (l : List ℕ) (n : ℕ) (e : List ℕ) (m : ℕ) where
   within_cells at b h = rw cells_are h
 
   module _ (nested : Nested s) where
-    pub begin : (out : List ℕ) (count t at k : ℕ) → k ≡ kind s t → k ≡ 3 → at ≡ (term_at l t).first → count ≤ list_limit → Left out out count t at count
-    begin out count t at k i d f h =
-        let q : is_concat s t ≡ true = eq-eqb (kind s t) 3 (sym i ∙ d) in
-        let p : firsts (chain s at) ≡ parts s t = ap (λ (x : ℕ). firsts (chain s x)) (first-at l n t at (counted t (kind-term s t 2 (sym i ∙ d))) f) in
+    pub begin : (out : List ℕ) (count t at : ℕ) (b : Bool) → b ≡ is_concat s t → b ≡ true → at ≡ (term_at l t).first → count ≤ list_limit → Left out out count t at count
+    begin out count t at b i d f h =
+        let q : is_concat s t ≡ true = sym i ∙ d in
+        let p : firsts (chain s at) ≡ parts s t = ap (λ (x : ℕ). firsts (chain s x)) (first-at l n t at (counted t (kind-term s t 2 (eqb-true (kind s t) 3 q))) f) in
         record {
           from = h;
           words = ap (λ (w : List ℕ). take count out ++ w) (ap (concat_map (λ x. atoms s x)) p ∙ sym (nested_atoms s nested t q));

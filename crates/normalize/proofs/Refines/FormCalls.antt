@@ -63,29 +63,29 @@ module _ (known : List ℕ) (t : ℕ) (m : Lent) (c : State) (l : List ℕ) wher
     deep_unready d = record { is = listed_unready (form_arguments known t) (deep_form known t) m c l h k v d; worth = λ s' w e. stop-not e; once = λ s' w e. stop-not e }
 
     module _ (z : k ≡ 0) (b : Bool) (e : b ≡ form_arguments known t (store_of m c)) where
-      pub form-unfit : not b ≡ true → PublicForm known t m m l l c (stop 5)
-      form-unfit g = record { is = listed-unfit (form_arguments known t) (normal_form known t) m c l h k v z b e g; worth = λ s' w q. stop-not q; once = λ s' w q. stop-not q }
+      pub form-unfit : b ≡ false → PublicForm known t m m l l c (stop 5)
+      form-unfit g = record { is = listed-unfit (form_arguments known t) (normal_form known t) m c l h k v z b e (ap not g); worth = λ s' w q. stop-not q; once = λ s' w q. stop-not q }
 
-      pub deep_unfit : not b ≡ true → PublicDeepForm known t m m l l c (stop 5)
-      deep_unfit g = record { is = listed-unfit (form_arguments known t) (deep_form known t) m c l h k v z b e g; worth = λ s' w q. stop-not q; once = λ s' w q. stop-not q }
+      pub deep_unfit : b ≡ false → PublicDeepForm known t m m l l c (stop 5)
+      deep_unfit g = record { is = listed-unfit (form_arguments known t) (deep_form known t) m c l h k v z b e (ap not g); worth = λ s' w q. stop-not q; once = λ s' w q. stop-not q }
 
-      module _ (g : not b ≡ false) where
+      module _ (g : b ≡ true) where
         pub form-ready : Ready m c
         form-ready = passed-ready m c k v z
 
         pub form-fit : form_arguments known t (store_of m c) ≡ true
-        form-fit = sym e ∙ not-false b g
+        form-fit = sym e ∙ g
 
         pub form_called : {m₁ m' : Lent} {l' : List ℕ} {r₁ r : Out (List ℕ)} → Working (normal_form known t) m m₁ c r₁ → Undone m₁ m' c.terms r₁ r → PublicForm known t m m' l l' c r
         form_called w u = record {
-          is = listed-works (form_arguments known t) (normal_form known t) m c l h k v z b e g (λ j q. refused_wider (omega arith) (form-stops known t (store_of m c) form-ready.audited form-fit j q)) w u;
+          is = listed-works (form_arguments known t) (normal_form known t) m c l h k v z b e (ap not g) (λ j q. refused_wider (omega arith) (form-stops known t (store_of m c) form-ready.audited form-fit j q)) w u;
           worth = λ s' x q. form-sound known t (store_of m c) form-ready.audited form-fit s' x (w.says ∙ sym (undone-is u) ∙ q);
           once = λ s' x q. (form-kept known t (store_of m c) form-ready.audited form-fit s' x (w.says ∙ sym (undone-is u) ∙ q)).reasons;
         }
 
         pub deep_called : {m₁ m' : Lent} {l' : List ℕ} {r₁ r : Out (Option (List ℕ))} → Working (deep_form known t) m m₁ c r₁ → Undone m₁ m' c.terms r₁ r → PublicDeepForm known t m m' l l' c r
         deep_called w u = record {
-          is = listed-works (form_arguments known t) (deep_form known t) m c l h k v z b e g (λ j q. refused_wider (omega arith) (deep_stops known t (store_of m c) form-ready.audited form-fit j q)) w u;
+          is = listed-works (form_arguments known t) (deep_form known t) m c l h k v z b e (ap not g) (λ j q. refused_wider (omega arith) (deep_stops known t (store_of m c) form-ready.audited form-fit j q)) w u;
           worth = λ s' x q. deep_sound known t (store_of m c) form-ready.audited form-fit s' x (w.says ∙ sym (undone-is u) ∙ q);
           once = λ s' x q. (deep_kept known t (store_of m c) form-ready.audited form-fit s' x (w.says ∙ sym (undone-is u) ∙ q)).reasons;
         }

@@ -1,17 +1,16 @@
 -- The ways of a normal form: a list that passes the limit, and the atoms pushed.
 use mathlib.Core.Path.{◌≡◌, refl, sym, ap, subst, ◌∙◌}
-use mathlib.Core.Bool.{true}
+use mathlib.Core.Bool.{Bool, true, false}
 use mathlib.Core.List.{List, [], ◌∷◌, ◌++◌, append-nil, reverse, reverse-reverse}
 use Prim.Native.Nat.{ℕ, ◌≤◌, ◌<◌}
 use native.Mathlib.Omega.{arith}
 use lib.ListN.{length, take, get_or, length-take}
 use lib.Dec.{leb}
-use borrow.Author.Tests.{ne_eqb}
 use Rattle.std.specs.Prelude.{Result, Ok, Err}
 use Rattle.records.specs.declared.State.{State}
 use Rattle.records.specs.declared.refusal.Refusal.{Refusal}
 use Rattle.records.specs.Lists.{all, concat_map, Every, none_left, and}
-use Rattle.records.specs.Store.{Store, ok, stop, and_then, ◌>>=◌, give, kind, count, within, root_in, is_string}
+use Rattle.records.specs.Store.{Store, ok, stop, and_then, ◌>>=◌, give, is_concat, count, within, root_in, is_string}
 use Rattle.records.specs.View.{Lent, store_of, terms_view, term_limit}
 use Rattle.records.specs.Working.Audited.{Ready}
 use Rattle.records.specs.Working.Doing.{Working}
@@ -79,9 +78,9 @@ module _ {m : Lent} {c : State} (ready : Ready m c) where
   pub one-string : (t : ℕ) → is_string s t ≡ true → all (is_string s) (t ∷ []) ≡ true
   one-string t e = every_all (and e none_left)
 
-  pub one-done : {m' : Lent} (known : List ℕ) (t : ℕ) (list : List ℕ) (x : Result (ℕ × State) Refusal) (k : ℕ) → k ≡ kind s t → (k ≡ 3 → ⊥) → Working (push_forms (known ++ t ∷ []) (t ∷ []) []) m m' c (pushed x m' list) → Working (normal_form known t) m m' c (formed x m' list)
+  pub one-done : {m' : Lent} (known : List ℕ) (t : ℕ) (list : List ℕ) (x : Result (ℕ × State) Refusal) (b : Bool) → b ≡ is_concat s t → b ≡ false → Working (push_forms (known ++ t ∷ []) (t ∷ []) []) m m' c (pushed x m' list) → Working (normal_form known t) m m' c (formed x m' list)
   unfolding concat_map
-  one-done known t list x k i d = atoms-done known t (t ∷ []) list x (append-nil (atoms s t) ∙ atoms-plain s t (ne_eqb (kind s t) 3 (λ q. d (i ∙ q)))) (omega arith)
+  one-done known t list x b i d = atoms-done known t (t ∷ []) list x (append-nil (atoms s t) ∙ atoms-plain s t (sym i ∙ d)) (omega arith)
 
   -- flattened
   module _ (t : ℕ) (l l' : List ℕ) (n : ℕ) (a : Appended l l' 0 (atoms (bare m.terms c.terms m.cells c.cells) t) n) where

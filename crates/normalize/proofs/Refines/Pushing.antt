@@ -7,7 +7,7 @@ use native.Mathlib.Numerals.{add-one}
 use native.Mathlib.Omega.{arith}
 use lib.ListN.{length, get_or, set}
 use lib.Dec.{eqb}
-use borrow.Author.Tests.{eqb-true, eq-eqb, ne_eqb}
+use borrow.Author.Tests.{eqb-true}
 use Rattle.records.specs.declared.State.{State}
 use Rattle.records.specs.Lists.{all, concat_map, table}
 use Rattle.records.specs.Store.{Store, Term as TermOf, Out, ok, stop, Work, and_then, give, within, kind, term, term_in, is_constant, text}
@@ -21,6 +21,7 @@ use Rattle.records.proofs.Grown.{kind-term}
 use Rattle.records.proofs.Doing.{working_same, working_stopped, working_is, working_left}
 use Rattle.normalize.specs.Normalize.{join, push}
 use Rattle.normalize.specs.Working.Flat.{bare}
+use Rattle.normalize.specs.Working.Nodes.{is_constant_in}
 use Rattle.normalize.specs.Working.Pushes.{is_empty_in, joins_in}
 use Rattle.normalize.specs.Calls.{first_words}
 use Rattle.normalize.proofs.Refines.Words.{words-put}
@@ -47,30 +48,30 @@ module _ (l : List ℕ) where
 
 -- TESTS
 
-pub empty-other : (ts : List TermOf) (t k : ℕ) → k ≡ (term_in ts t).kind → (k ≡ 1 → ⊥) → false ≡ is_empty_in ts t
+pub empty-other : (ts : List TermOf) (t : ℕ) (b : Bool) → b ≡ is_constant_in ts t → b ≡ false → b ≡ is_empty_in ts t
 unfolding is_empty_in
-empty-other ts t k e d = sym (left_false _ _ (ne_eqb (term_in ts t).kind 1 (λ q. d (e ∙ q))))
+empty-other ts t b e d = d ∙ sym (left_false _ _ (sym e ∙ d))
 
-pub empty_constant : (l : List ℕ) (n t k x : ℕ) → k ≡ (term_in (terms_view l n) t).kind → k ≡ 1 → x ≡ (term_at l t).second → eqb x 0 ≡ is_empty_in (terms_view l n) t
+pub empty_constant : (l : List ℕ) (n t : ℕ) (b : Bool) (x : ℕ) → b ≡ is_constant_in (terms_view l n) t → b ≡ true → x ≡ (term_at l t).second → eqb x 0 ≡ is_empty_in (terms_view l n) t
 unfolding is_empty_in
-empty_constant l n t k x e d f = rw (eq-eqb (term_in (terms_view l n) t).kind 1 (sym e ∙ d), ← second_at l n t x here f)
+empty_constant l n t b x e d f = rw (sym e ∙ d, ← second_at l n t x here f)
   where
     here : within n t ≡ true
-    here = rw (table-length (λ i. term_at l (suc i)) n) at (kind-term (bare l n [] 0) t 0 (sym e ∙ d))
+    here = rw (table-length (λ i. term_at l (suc i)) n) at (kind-term (bare l n [] 0) t 0 (eqb-true (term_in (terms_view l n) t).kind 1 (sym e ∙ d)))
 
 module _ (ts : List TermOf) (t : ℕ) where
   pub joins-none : (l : List ℕ) (n : ℕ) → n ≡ 0 → false ≡ joins_in ts t (reverse (first_words l n))
   unfolding joins_in table
   joins-none l n e = rw e
 
-  pub joins-other : (out : List ℕ) (k : ℕ) → k ≡ (term_in ts t).kind → (k ≡ 1 → ⊥) → false ≡ joins_in ts t out
+  pub joins-other : (out : List ℕ) (b : Bool) → b ≡ is_constant_in ts t → b ≡ false → false ≡ joins_in ts t out
   unfolding joins_in
-  joins-other [] k e d = refl
-  joins-other (u ∷ out) k e d = sym (left_false _ _ (ne_eqb (term_in ts t).kind 1 (λ q. d (e ∙ q))))
+  joins-other [] b e d = refl
+  joins-other (u ∷ out) b e d = sym (left_false _ _ (sym e ∙ d))
 
-  pub joins-last : (l : List ℕ) (n k x : ℕ) → (n ≡ 0 → ⊥) → k ≡ (term_in ts t).kind → k ≡ 1 → x ≡ (term_in ts (get_or l (n - 1) 0)).kind → eqb x 1 ≡ joins_in ts t (reverse (first_words l n))
+  pub joins-last : (l : List ℕ) (n : ℕ) (a b : Bool) → (n ≡ 0 → ⊥) → a ≡ is_constant_in ts t → a ≡ true → b ≡ is_constant_in ts (get_or l (n - 1) 0) → b ≡ joins_in ts t (reverse (first_words l n))
   unfolding joins_in
-  joins-last l n k x d e f g = rw (last-first l n (omega arith), eq-eqb (term_in ts t).kind 1 (sym e ∙ f), g)
+  joins-last l n a b d e f g = g ∙ rw (last-first l n (omega arith), sym e ∙ f)
 
   pub joins-some : (l : List ℕ) (n : ℕ) → joins_in ts t (reverse (first_words l n)) ≡ true → 0 < n
   unfolding joins_in table

@@ -2,7 +2,7 @@
 use Rattle.std.specs.Prelude.{Result, Ok, Err, Some, None, if◌then◌else◌}
 use Rattle.std.specs.Prelude as code
 use mathlib.Core.Path.{◌≡◌, refl, sym, ap, ◌∙◌}
-use mathlib.Core.Bool.{Bool, true, false, not}
+use mathlib.Core.Bool.{Bool, true, false}
 use mathlib.Core.List.{List, [], ◌∷◌, ◌++◌, reverse, reverse-reverse}
 use mathlib.Core.Option.{Option, none, some}
 use Prim.Native.Nat.{ℕ, suc, ◌+◌, ◌-◌, ◌≤◌, ◌<◌}
@@ -12,7 +12,7 @@ use native.Mathlib.Omega.{arith}
 use lib.ListN.{length, length-take, take, drop, get_or, drop_of_length-le}
 use lib.Seq.{drop-cons, get_or-take}
 use lib.Dec.{ltb}
-use borrow.Author.Tests.{lt-ltb, le-ltb, not-true, not-false}
+use borrow.Author.Tests.{lt-ltb, le-ltb}
 use Rattle.records.specs.declared.State.{State}
 use Rattle.records.specs.declared.refusal.Refusal.{Refusal}
 use Rattle.records.specs.Refusal.{number}
@@ -122,20 +122,20 @@ module _ {m m' : Lent} {c : State} (before list : List ℕ) where
 -- A ROUND
 
 module _ {m : Lent} {c : State} (known : List ℕ) (t : ℕ) (list : List ℕ) (n : ℕ) (table : List ℕ) (b : Bool) (e : b ≡ any (opens_in (store_of m c).terms t) (first_words list n)) where
-  pub round-stands : Ready m c → not b ≡ true → Turns known t (first_words list n) table m m c list table (Ok (turn.Ends (Some n) c))
+  pub round-stands : Ready m c → b ≡ false → Turns known t (first_words list n) table m m c list table (Ok (turn.Ends (Some n) c))
   unfolding round_then
   round-stands ready h = record {
     kept = keeps_same;
     ready = ready_for ready;
-    is = λ met q. record { met = met; is = λ more. rw (sym e ∙ not-true b h); tells = λ k f z. q };
+    is = λ met q. record { met = met; is = λ more. rw (sym e ∙ h); tells = λ k f z. q };
   }
 
-  module _ (h : not b ≡ false) (next : List ℕ) {m' : Lent} (next' table' : List ℕ) where
+  module _ (h : b ≡ true) (next : List ℕ) {m' : Lent} (next' table' : List ℕ) where
     round-says : (x : Result (code.Option ℕ × State) Refusal) (w : Expands known t (first_words list n) next 0 table m m' c next' table' x) (met : List ℕ) (q : Met table met) (more : List ℕ → List ℕ → Work (Option (List ℕ)))
         → round_then known t met (first_words list n) more (store_of m c) ≡ and_then (after_expand (first_words list n) more) (expanded x (w.is met q).met m' next')
     unfolding round_then
     round-says x w met q more =
-        rw (sym e ∙ not-false b h) (ap (λ (l : List ℕ). and_then (after_expand (first_words list n) more) (expand known t (first_words list n) (record { list = l; met = met }) (store_of m c))) (sym (words-none next))
+        rw (sym e ∙ h) (ap (λ (l : List ℕ). and_then (after_expand (first_words list n) more) (expand known t (first_words list n) (record { list = l; met = met }) (store_of m c))) (sym (words-none next))
         ∙ ap (and_then (after_expand (first_words list n) more)) (w.is met q).is)
 
     -- None and a refusal end the round

@@ -14,12 +14,12 @@ returns-in_err-audit c =
 
 pub returns-then-not-can_form : goal.returns-then-not-can_form
 returns-then-not-can_form c =
-    deep_unfit _ _ _ _ c.args.list.now c.if-list-lt-LIST_LIMIT.false _ c.in_ok-audit.ensures refl _ c.can_form.ensures c.if-not-can_form.true-raw
+    deep_unfit _ _ _ _ c.args.list.now c.if-list-lt-LIST_LIMIT.false _ c.in_ok-audit.ensures refl _ c.can_form.ensures c.if-not-can_form.true
 
 pub deep_normal_form_cited_unchecked-x-requires-clause-ready : goal.deep_normal_form_cited_unchecked-x-requires-clause-ready
 deep_normal_form_cited_unchecked-x-requires-clause-ready c =
     form-ready c.args.known.now c.args.t _ _ c.args.list.now c.if-list-lt-LIST_LIMIT.false _ c.in_ok-audit.ensures refl _
-    c.can_form.ensures c.if-not-can_form.false-raw
+    c.can_form.ensures c.if-not-can_form.false
 
 pub cut_refused-requires-clause-n_le_term_limit : goal.cut_refused-requires-clause-n_le_term_limit
 cut_refused-requires-clause-n_le_term_limit c =
@@ -33,5 +33,5 @@ cut_refused-requires-clause-terms_in_bounds c =
 
 pub returns : goal.returns
 returns c =
-    deep_called _ _ _ _ c.args.list.now c.if-list-lt-LIST_LIMIT.false _ c.in_ok-audit.ensures refl _ c.can_form.ensures c.if-not-can_form.false-raw
+    deep_called _ _ _ _ c.args.list.now c.if-list-lt-LIST_LIMIT.false _ c.in_ok-audit.ensures refl _ c.can_form.ensures c.if-not-can_form.false
     c.deep_normal_form_cited_unchecked-x.ensures (undone_deep _ _ _ _ _ _ c.cut_refused.ensures)

@@ -4,7 +4,7 @@ use Rattle.normalize.proofs.expands.expand_one.Goals as goal
 
 pub returns-then-not-opens : goal.returns-then-not-opens
 returns-then-not-opens c =
-    one_plain c.requires.ready _ _ _ c.requires.a_string _ _ _ _ c.opens.ensures c.if-not-opens.true-raw c.requires.k_in_bounds
+    one_plain c.requires.ready _ _ _ c.requires.a_string _ _ _ _ c.opens.ensures c.if-not-opens.true c.requires.k_in_bounds
 
 pub bounds-met-a : goal.bounds-met-a
 bounds-met-a c =
@@ -14,7 +14,7 @@ bounds-met-a c =
 
 pub returns-then-met-a-eq1 : goal.returns-then-met-a-eq1
 returns-then-met-a-eq1 c =
-    one_again c.requires.ready _ _ _ c.requires.a_string _ _ _ _ c.opens.ensures c.if-not-opens.false-raw c.if-met-a-eq1.true
+    one_again c.requires.ready _ _ _ c.requires.a_string _ _ _ _ c.opens.ensures c.if-not-opens.false c.if-met-a-eq1.true
 
 pub bounds-met-a-2 : goal.bounds-met-a-2
 bounds-met-a-2 c =
@@ -24,5 +24,5 @@ bounds-met-a-2 c =
 
 pub returns : goal.returns
 returns c =
-    one-opened c.requires.ready _ _ _ c.requires.a_string _ _ _ _ c.opens.ensures c.if-not-opens.false-raw c.if-met-a-eq1.false _ _
+    one-opened c.requires.ready _ _ _ c.requires.a_string _ _ _ _ c.opens.ensures c.if-not-opens.false c.if-met-a-eq1.false _ _
     c.expand_atom.ensures

@@ -5,8 +5,8 @@ use Rattle.normalize.proofs.Refines.Flats.{one-atom, begin, ended, part_lower, p
 use native.Mathlib.Omega.{arith}
 use Rattle.normalize.proofs.flat.+flatten_unchecked.Goals as goal
 
-pub returns-then-kind_of-ne3 : goal.returns-then-kind_of-ne3
-returns-then-kind_of-ne3 t c =
+pub returns-then-not-is_a : goal.returns-then-not-is_a
+returns-then-not-is_a t c =
     search one-atom
 
 pub loop-v-init : goal.loop-v-init

@@ -5,7 +5,7 @@ pub form_atoms-requires-clause-flat_strings : goal.form_atoms-requires-clause-fl
 form_atoms-requires-clause-flat_strings c =
     one-string c.requires.ready _ c.requires.t_string
 
-pub returns-then-kind_of-ne3 : goal.returns-then-kind_of-ne3
-returns-then-kind_of-ne3 c =
-    one-done c.requires.ready _ _ c.form_atoms.new.list c.form_atoms.result _ c.kind_of.ensures
-    c.if-kind_of-ne3.true c.form_atoms.ensures
+pub returns-else-is_a : goal.returns-else-is_a
+returns-else-is_a c =
+    one-done c.requires.ready _ _ c.form_atoms.new.list c.form_atoms.result _ c.is_a.ensures
+    c.if-is_a.false c.form_atoms.ensures

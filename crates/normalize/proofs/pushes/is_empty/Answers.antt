@@ -1,12 +1,10 @@
-use borrow.Author.Tests.{ne_eqb}
-use mathlib.Core.Path.{◌∙◌}
 use Rattle.normalize.proofs.Refines.Pushing.{empty-other, empty_constant}
 use Rattle.normalize.proofs.pushes.is_empty.Goals as goal
 
-pub returns-then-kind_of-eq1 : goal.returns-then-kind_of-eq1
-returns-then-kind_of-eq1 c =
-    empty_constant c.args.terms.now _ _ _ _ c.kind_of.ensures c.if-kind_of-eq1.true c.second.ensures
+pub returns-then-is_a : goal.returns-then-is_a
+returns-then-is_a c =
+    empty_constant c.args.terms.now _ _ _ _ c.is_a.ensures c.if-is_a.true c.second.ensures
 
-pub returns-else-kind_of-eq1 : goal.returns-else-kind_of-eq1
-returns-else-kind_of-eq1 c =
-    ne_eqb _ 1 c.if-kind_of-eq1.false ∙ empty-other _ _ _ c.kind_of.ensures c.if-kind_of-eq1.false
+pub returns-else-is_a : goal.returns-else-is_a
+returns-else-is_a c =
+    empty-other _ _ _ c.is_a.ensures c.if-is_a.false
