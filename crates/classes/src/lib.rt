@@ -31,10 +31,7 @@ fn is_root(terms: &[u32], n: usize, t: u32) -> bool
     requires { within n t ≡ true }
     ensures { result ≡ is_root_in (terms_view terms.now n) t }
 {
-    if class_parent(terms, t) != t {
-        return false;
-    }
-    forest_parent(terms, t) == t
+    class_parent(terms, t) == t && forest_parent(terms, t) == t
 }
 
 // Whether two classes can be merged so.
@@ -52,21 +49,11 @@ fn can_merge_unchecked(
     requires { Ready (lent terms.now cells.now chars.now reasons.now keys.now) c }
     ensures { result ≡ can_merge child parent n (store_of (across terms cells chars reasons keys).entry c) }
 {
-    if !is_string(terms, c.terms, child) {
-        return false;
-    }
-    if !is_string(terms, c.terms, parent) {
-        return false;
-    }
-    if !is_number(n) {
-        return false;
-    }
-    if !is_root(terms, c.terms, child) {
-        return false;
-    }
-    let a = root_unchecked(terms, c.terms, child);
-    let b = root_unchecked(terms, c.terms, parent);
-    a != b
+    is_string(terms, c.terms, child)
+        && is_string(terms, c.terms, parent)
+        && is_number(n)
+        && is_root(terms, c.terms, child)
+        && root_unchecked(terms, c.terms, child) != root_unchecked(terms, c.terms, parent)
 }
 
 // The child's record, under the parent.
@@ -113,26 +100,17 @@ pub struct Standing {
 fn is_reason_kind(k: u32) -> bool
     ensures { result ≡ is_reason_kind k }
 {
-    if k == 1 {
-        return true;
-    }
-    k == 2
+    k == 1 || k == 2
 }
 
 // Whether two terms can be joined under a reason: string terms, and a reason that a caller can give.
 fn can_join(terms: &[u32], c: State, a: u32, b: u32, kind: u32, number: u32) -> bool
     ensures { result ≡ join_arguments a b kind number (termed terms.now c) }
 {
-    if !is_string(terms, c.terms, a) {
-        return false;
-    }
-    if !is_string(terms, c.terms, b) {
-        return false;
-    }
-    if !is_reason_kind(kind) {
-        return false;
-    }
-    is_number(number)
+    is_string(terms, c.terms, a)
+        && is_string(terms, c.terms, b)
+        && is_reason_kind(kind)
+        && is_number(number)
 }
 
 // What joining answers over store and marks that pass: 1 where it joined, 0 where the terms are in one class already; and the counts after it.

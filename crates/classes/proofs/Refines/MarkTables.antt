@@ -71,12 +71,12 @@ module _ (l e : List ℕ) (c : State) (h : Markable l e c) (b : Bool) (q : b ≡
   seen : b ≡ classes_rule s
   seen = q ∙ classes-alone (terms_view l c.terms) s (termed l c)
 
-  pub table-not : not b ≡ true → false ≡ (classes_rule s && congruences_rule s)
-  table-not z = and-stop (classes_rule s) (congruences_rule s) (failed (classes_rule s) b seen z)
+  pub table-not : b ≡ false → b ≡ (classes_rule s && congruences_rule s)
+  table-not z = z ∙ and-stop (classes_rule s) (congruences_rule s) (sym seen ∙ z)
 
-  module _ (z : not b ≡ false) where
+  module _ (z : b ≡ true) where
     classed : Classed s
-    classed = classed-of s (passed (classes_rule s) b seen z)
+    classed = classed-of s (sym seen ∙ z)
 
     counted_in : (t : ℕ) → within c.terms t ≡ true → within (length (terms_view l c.terms)) t ≡ true
     counted_in t w = ap (λ (n : ℕ). within n t) (view_count l c.terms) ∙ w
@@ -93,7 +93,7 @@ module _ (l e : List ℕ) (c : State) (h : Markable l e c) (b : Bool) (q : b ≡
     }
 
     pub table_is : (r : Bool) → r ≡ congruences_rule s → r ≡ (classes_rule s && congruences_rule s)
-    table_is r k = and-next (classes_rule s) (congruences_rule s) r (passed (classes_rule s) b seen z) k
+    table_is r k = and-next (classes_rule s) (congruences_rule s) r (sym seen ∙ z) k
 
 -- THE TABLES OF ALL MARKS
 

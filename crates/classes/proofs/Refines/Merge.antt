@@ -4,7 +4,7 @@ use Rattle.records.specs.declared.refusal.Refusal.{Refusal}
 use Rattle.records.specs.declared.refusal.Refusal.TheVariants.{Argument}
 use Rattle.records.specs.Refusal.{number}
 use mathlib.Core.Path.{◌≡◌, refl, sym, ap, subst, ◌∙◌}
-use mathlib.Core.Bool.{Bool, true, false, not}
+use mathlib.Core.Bool.{Bool, true, false, not, ◌&&◌}
 use mathlib.Core.List.{List}
 use Prim.Native.Nat.{ℕ, ◌-◌, ◌≤◌, ◌<◌}
 use native.Mathlib.Omega.{arith}
@@ -21,7 +21,7 @@ use Rattle.records.specs.Rules.{audit, is_number}
 use Rattle.records.specs.Make.{with_terms, with_class, with_edge}
 use Rattle.records.specs.Working.Audited.{Ready, Closed, Audited}
 use Rattle.records.specs.Calls.{call}
-use Rattle.records.proofs.Lists.{failed, passed, and-stop, and-next, five_1, five_2, five_3, five_4, five-last, within_low, within-high}
+use Rattle.records.proofs.Lists.{and-stop, and-next, within_low, within-high, both_left, both_right}
 use Rattle.records.proofs.IndexStores.{left-none, left-then, left_same, indexed-like}
 use Rattle.records.proofs.Passed.{ready_of, ready-after, audit-of}
 use Rattle.records.proofs.Public.{call_refused, call-unfit}
@@ -47,52 +47,48 @@ module _ (l : List ℕ) (n t x : ℕ) (h : within n t ≡ true) (e : x ≡ (term
 -- THE TESTS
 
 module _ (m : Lent) (c : State) (child parent n : ℕ) where
-  abbrev first : Bool
-  first = is_string (store_of m c) child
+  abbrev s : Store
+  s = store_of m c
 
-  abbrev second : Bool
-  second = is_string (store_of m c) parent
+  -- all of the tests but the last, and but the last two
+  abbrev pub counted : Bool
+  counted = is_string s child && is_string s parent && is_number n
 
-  abbrev third : Bool
-  third = is_number n
+  abbrev pub rooted : Bool
+  rooted = counted && is_root_in s.terms child
 
-  abbrev fourth : Bool
-  fourth = is_root_in (terms_view m.terms c.terms) child
+  both-counted : counted ≡ true → (within c.terms child ≡ true) × (within c.terms parent ≡ true)
+  both-counted h =
+      let p = both_left (is_string s child && is_string s parent) _ h in
+      (term-within m c child (string-term s child (both_left _ _ p)), term-within m c parent (string-term s parent (both_right (is_string s child) _ p)))
 
-  abbrev fifth : Bool
-  fifth = not (same_class (store_of m c) child parent)
+  both-climb : rooted ≡ true → Ready m c → ((within c.terms child ≡ true) × (within c.terms parent ≡ true)) × Closed (class_up s.terms) c.terms
+  both-climb h d = (both-counted (both_left counted _ h), ready_roots m c d.audited.classed)
 
-  pub cannot_1 : (b : Bool) → b ≡ first → not b ≡ true → false ≡ can_merge child parent n (store_of m c)
-  unfolding can_merge
-  cannot_1 b e h = five_1 first second third fourth fifth (failed first b e h)
+  module _ (v : Bool) (e : v ≡ counted) where
+    pub child-counted : v ≡ true → within c.terms child ≡ true
+    child-counted h = (both-counted (sym e ∙ h)).0
 
-  pub cannot_2 : (b : Bool) → b ≡ second → not b ≡ true → false ≡ can_merge child parent n (store_of m c)
-  unfolding can_merge
-  cannot_2 b e h = five_2 first second third fourth fifth (failed second b e h)
+    pub test-root : v ≡ true → (r : Bool) → r ≡ is_root_in s.terms child → r ≡ rooted
+    test-root h r q = and-next counted _ r (sym e ∙ h) q
 
-  pub cannot_3 : (b : Bool) → b ≡ third → not b ≡ true → false ≡ can_merge child parent n (store_of m c)
-  unfolding can_merge
-  cannot_3 b e h = five_3 first second third fourth fifth (failed third b e h)
+    pub test-uncounted : v ≡ false → v ≡ rooted
+    test-uncounted h = h ∙ and-stop counted _ (sym e ∙ h)
 
-  pub cannot_4 : (b : Bool) → b ≡ fourth → not b ≡ true → false ≡ can_merge child parent n (store_of m c)
-  unfolding can_merge
-  cannot_4 b e h = five_4 first second third fourth fifth (failed fourth b e h)
+  module _ (w : Bool) (e : w ≡ rooted) where
+    pub child-climbs : w ≡ true → Ready m c → (within c.terms child ≡ true) × Closed (class_up s.terms) c.terms
+    child-climbs h d = let q = both-climb (sym e ∙ h) d in (q.0.0, q.1)
 
-  pub can-last : (b₁ b₂ b₃ b₄ : Bool) → b₁ ≡ first → not b₁ ≡ false → b₂ ≡ second → not b₂ ≡ false → b₃ ≡ third → not b₃ ≡ false → b₄ ≡ fourth → not b₄ ≡ false
-      → (x y : ℕ) → x ≡ root_in (terms_view m.terms c.terms) child → y ≡ root_in (terms_view m.terms c.terms) parent
-      → not (eqb x y) ≡ can_merge child parent n (store_of m c)
-  unfolding can_merge
-  can-last b₁ b₂ b₃ b₄ e₁ h₁ e₂ h₂ e₃ h₃ e₄ h₄ x y p q =
-      five-last first second third fourth fifth (not (eqb x y)) (passed first b₁ e₁ h₁) (passed second b₂ e₂ h₂) (passed third b₃ e₃ h₃) (passed fourth b₄ e₄ h₄)
-      (rw (p, q))
+    pub parent-climbs : w ≡ true → Ready m c → (within c.terms parent ≡ true) × Closed (class_up s.terms) c.terms
+    parent-climbs h d = let q = both-climb (sym e ∙ h) d in (q.0.1, q.1)
 
--- a string term is a term, and class parents are terms
-module _ (m : Lent) (c : State) (t : ℕ) (b : Bool) (e : b ≡ is_string (store_of m c) t) (h : not b ≡ false) where
-  pub string-within : within c.terms t ≡ true
-  string-within = term-within m c t (string-term (store_of m c) t (passed (is_string (store_of m c) t) b e h))
+    pub cannot-merge : w ≡ false → w ≡ can_merge child parent n s
+    unfolding can_merge
+    cannot-merge h = h ∙ and-stop rooted (not (same_class s child parent)) (sym e ∙ h)
 
-  pub can-climb : Ready m c → (within c.terms t ≡ true) × Closed (class_up (terms_view m.terms c.terms)) c.terms
-  can-climb d = (string-within, ready_roots m c d.audited.classed)
+    pub can-last : w ≡ true → (x y : ℕ) → x ≡ root_in s.terms child → y ≡ root_in s.terms parent → not (eqb x y) ≡ can_merge child parent n s
+    unfolding can_merge
+    can-last h x y p q = and-next rooted (not (same_class s child parent)) _ (sym e ∙ h) (rw (p, q))
 
 -- THE RECORD
 

@@ -14,9 +14,9 @@ undo_to_unchecked-requires c =
     let h = back-asked c.requires.ready_marks c.args.mark c.requires.mark_value (ap (λ (x : ℕ). x - 1) c.wide-left.ensures)
     (c.wide-joins.ensures ∙ c.word.ensures) in
     record {
-      fact_1 = h.0;
-      fact_2 = h.1.0;
-      fact_3 = h.1.1;
+      tabled = h.0;
+      order = h.1.0;
+      below = h.1.1;
     }
 
 pub returns : goal.returns

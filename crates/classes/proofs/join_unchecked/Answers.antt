@@ -24,8 +24,8 @@ record_join_unchecked-e-requires c =
     let h = record-asked c.requires.ready_marks c.args.a c.args.b c.args.kind c.args.number c.requires.c_value
     c.root_unchecked-under.ensures c.root_unchecked-over.ensures c.if-under-over.false in
     record {
-      fact_1 = h.0;
-      fact_2 = h.1;
+      sized = h.0;
+      room = h.1;
     }
 
 pub link_unchecked-requires : goal.link_unchecked-requires

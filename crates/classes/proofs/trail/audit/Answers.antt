@@ -16,10 +16,10 @@ returns-then-comes_first c =
 pub marks_ok_unchecked-requires : goal.marks_ok_unchecked-requires
 marks_ok_unchecked-requires c =
     record {
-      fact_1 = audit_asks (lent c.args.terms.now c.args.cells.now c.args.chars.now c.args.reasons.now c.args.keys.now)
+      markable = audit_asks (lent c.args.terms.now c.args.cells.now c.args.chars.now c.args.reasons.now c.args.keys.now)
           c.args.marks.now c.args.c c.args.d _ c.trail_sizes.ensures c.if-not-trail_sizes.false-raw _ c.audit-due.ensures _
           c.comes_first.ensures c.if-comes_first.false;
-      fact_2 = trail-fits (lent c.args.terms.now c.args.cells.now c.args.chars.now c.args.reasons.now c.args.keys.now)
+      sized = trail-fits (lent c.args.terms.now c.args.cells.now c.args.chars.now c.args.reasons.now c.args.keys.now)
           c.args.marks.now c.args.c c.args.d _ c.trail_sizes.ensures c.if-not-trail_sizes.false-raw _ c.audit-due.ensures _
           c.comes_first.ensures;
     }

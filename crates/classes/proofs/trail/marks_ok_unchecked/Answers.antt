@@ -20,10 +20,10 @@ copy_terms_unchecked-requires c =
 pub tables_ok_unchecked-requires : goal.tables_ok_unchecked-requires
 tables_ok_unchecked-requires c =
     record {
-      fact_1 = copy_markable c.args.terms.now c.args.cells.now c.args.c c.args.marks.now c.args.d _
-          c.counts_ok.ensures c.if-not-counts_ok.false-raw c.copy_terms_unchecked.ensures c.requires.fact_1;
-      fact_2 = c.requires.fact_2;
-      fact_3 = counts_are c.args.terms.now c.args.cells.now c.args.c c.args.marks.now c.args.d _
+      markable = copy_markable c.args.terms.now c.args.cells.now c.args.c c.args.marks.now c.args.d _
+          c.counts_ok.ensures c.if-not-counts_ok.false-raw c.copy_terms_unchecked.ensures c.requires.markable;
+      sized = c.requires.sized;
+      counts = counts_are c.args.terms.now c.args.cells.now c.args.c c.args.marks.now c.args.d _
           c.counts_ok.ensures c.if-not-counts_ok.false-raw;
     }
 

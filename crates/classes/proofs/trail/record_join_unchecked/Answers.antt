@@ -18,4 +18,4 @@ bounds-marks-at-3 c =
 
 pub returns : goal.returns
 returns c =
-    record_one c.args.marks.now c.args.d c.requires.fact_1 c.args.child c.args.old c.args.under c.requires.fact_2 c.if-d-eq0.false
+    record_one c.args.marks.now c.args.d c.requires.sized c.args.child c.args.old c.args.under c.requires.room c.if-d-eq0.false

@@ -11,9 +11,9 @@ loop-i-init c =
 pub undo_to_unchecked-requires : goal.undo_to_unchecked-requires
 undo_to_unchecked-requires c =
     record {
-      fact_1 = c.loop-i.invariant.markable.tabled;
-      fact_2 = first_low _ _ _ _ _ _ c.loop-i.invariant _ (omega (arith, c.loop-i-test.true)) refl _ (c.wide-first.ensures ∙ c.word.ensures);
-      fact_3 = joins_low _ _ _ _ _ _ c.loop-i.invariant c.requires.fact_2.few_joins;
+      tabled = c.loop-i.invariant.markable.tabled;
+      order = first_low _ _ _ _ _ _ c.loop-i.invariant _ (omega (arith, c.loop-i-test.true)) refl _ (c.wide-first.ensures ∙ c.word.ensures);
+      below = joins_low _ _ _ _ _ _ c.loop-i.invariant c.requires.sized.few_joins;
     }
 
 pub returns-then-not-undo_to_unchecked : goal.returns-then-not-undo_to_unchecked

@@ -1,11 +1,6 @@
-use Rattle.classes.proofs.Refines.Trails.{backward_begin, backward_done, backward_stop, backward_turn}
+use Rattle.classes.proofs.Refines.Trails.{backward_done, backward_stop, backward_turn}
 use mathlib.Core.Path.{refl}
-use borrow.Author.Rules.{rules}
 use Rattle.classes.proofs.trail.undo_to_unchecked.Goals as goal
-
-pub loop-j-init : goal.loop-j-init
-loop-j-init c =
-    search (rules, backward_begin)
 
 pub returns-then-not-undo_join_unchecked : goal.returns-then-not-undo_join_unchecked
 returns-then-not-undo_join_unchecked c =
