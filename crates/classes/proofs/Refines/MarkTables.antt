@@ -2,18 +2,16 @@
 use mathlib.Core.Path.{◌≡◌, refl, sym, ap, subst, ◌∙◌}
 use mathlib.Core.Bool.{Bool, true, false, not, ◌&&◌}
 use mathlib.Core.List.{List, [], ◌∷◌, ◌++◌}
-use mathlib.Core.Logic.{◌⊎◌, inl, inr}
 use mathlib.Core.Option.{Option, none, some}
 use Prim.Native.Nat.{ℕ, suc, ◌+◌, ◌-◌, ◌<◌, ◌≤◌}
 use native.Mathlib.Omega.{arith}
-use native.Mathlib.Nat.{eq-or-lt_of_le}
-use lib.ListN.{length, get_or, set, drop, length-set}
-use lib.Seq.{get_or-set_same, get_or-set_other, drop-append-le, drop-append_seam, drop-length}
+use lib.ListN.{length, get_or, drop}
+use lib.Seq.{drop-append-le, drop-append_seam, drop-length}
 use borrow.Author.Tests.{not-true, not-false}
 use Rattle.records.specs.declared.State.{State}
 use Rattle.records.specs.Lists.{all, table, firsts, Every}
 use Rattle.records.specs.Store.{Term, Store, term_in, term, chain, within, class_up}
-use Rattle.records.specs.View.{Lent, store_of, terms_view, term_words, term_limit, chained, termed}
+use Rattle.records.specs.View.{Lent, store_of, terms_view, chained, termed}
 use Rattle.records.specs.Rules.{classes_rule, congruences_rule}
 use Rattle.records.specs.Working.Audited.{Closed, Classed, Congruable}
 use Rattle.records.proofs.Lists.{and-stop, and-next, right-false, right-true, failed, passed, all_append, table-length, table-suc, table_add}
@@ -22,7 +20,7 @@ use Rattle.records.proofs.Climbs.{view_count}
 use Rattle.records.proofs.Passed.{classed-of}
 use Rattle.classes.specs.declared.Standing.{Standing}
 use Rattle.classes.specs.Joins.{Trace}
-use Rattle.classes.specs.Marks.{Trail, join_limit, trace_at, trail_of, undo_all, table_at, counts_rule, passes, marks_rule}
+use Rattle.classes.specs.Marks.{Trail, trace_at, trail_of, undo_all, table_at, counts_rule, passes, marks_rule}
 use Rattle.classes.specs.Working.Carries.{Forest, Undoes, Markable, Copied}
 use Rattle.classes.proofs.Alike.{Like}
 use Rattle.classes.proofs.Marking.{classes-alone, passes-alone}
@@ -31,32 +29,6 @@ use Rattle.classes.proofs.Refines.Trails.{Came, undoes_some, undoes_none}
 use Rattle.classes.proofs.Refines.Counting.{counts_step}
 
 -- THE COPY
-
--- the first i words are copied, the others are as they were
-pub record Copying (l k₀ k : List ℕ) (n i : ℕ) : Type 0 where
-  pub low : i ≤ term_words n
-  pub long : length k ≡ term_words term_limit
-  pub words : (j : ℕ) → j < i → get_or k j 0 ≡ get_or l j 0
-  pub rest : (j : ℕ) → i ≤ j → get_or k j 0 ≡ get_or k₀ j 0
-
-pub copying_begin : (l k : List ℕ) (n : ℕ) → length k ≡ term_words term_limit → Copying l k k n 0
-copying_begin l k n e = record { low = omega arith; long = e; words = λ j h. absurd (omega arith); rest = λ j h. refl }
-
-module _ {l k₀ k : List ℕ} {n i : ℕ} (c : Copying l k₀ k n i) where
-  pub copying_turn : (x : ℕ) → n ≤ term_limit → i < term_words n → x ≡ get_or l i 0 → Copying l k₀ (set k i x) n (i + 1)
-  copying_turn x m h e = record {
-    low = omega arith;
-    long = length-set k i x ∙ c.long;
-    words = λ j p. go j p (eq-or-lt_of_le (let q : j ≤ i = omega arith in q));
-    rest = λ j p. get_or-set_other k i j x 0 (λ z. omega arith) ∙ c.rest j (omega arith);
-  }
-    where
-      go : (j : ℕ) → j < i + 1 → (j ≡ i) ⊎ (j < i) → get_or (set k i x) j 0 ≡ get_or l j 0
-      go j p (inl q) = ap (λ (z : ℕ). get_or (set k i x) z 0) q ∙ get_or-set_same k i x 0 (let w = c.long in omega arith) ∙ e ∙ ap (λ (z : ℕ). get_or l z 0) (sym q)
-      go j p (inr q) = get_or-set_other k i j x 0 (λ z. omega arith) ∙ c.words j q
-
-  pub copied : term_words n ≤ i → Copied l k₀ k n
-  copied h = record { words = λ j p. c.words j (omega arith); rest = λ j p. c.rest j (let w = c.low in omega arith); long = c.long }
 
 -- the terms are those of the words copied
 copied-terms : {l k₀ k : List ℕ} {n : ℕ} → Copied l k₀ k n → terms_view k n ≡ terms_view l n
@@ -139,9 +111,6 @@ module _ (l₀ e : List ℕ) (c : State) (marks : List ℕ) (m n : ℕ) where
     pub counts : counts_rule (table f i) joins ≡ true
     pub is : undo_all (drop joins (table (trace_at marks) n)) s₀.terms ≡ some (terms_view l c.terms)
     pub left : all at (table f i) ≡ all at (table f m)
-
-  pub joins_low : {l : List ℕ} {joins i : ℕ} → Auditing l joins i → n ≤ join_limit → joins ≤ join_limit
-  joins_low a h = let k = a.fits in omega arith
 
   pub auditing_begin : Markable l₀ e c → counts_rule (table f m) n ≡ true → Auditing l₀ n m
   unfolding undo_all
@@ -231,9 +200,6 @@ module _ (l e : List ℕ) (c : State) (marks : List ℕ) (d : Standing) where
     marks-not z = and-stop (counts_rule trail.marks (length trail.joins)) _ (failed _ b counted z)
 
     module _ (z : not b ≡ false) where
-      pub counts_are : counts_rule trail.marks d.joins ≡ true
-      counts_are = sym q ∙ not-false b z
-
       tables_are : (r : Bool) → r ≡ all (each whole) trail.marks → r ≡ marks_rule whole trail
       unfolding marks_rule
       tables_are r k = and-next (counts_rule trail.marks (length trail.joins)) (all (each whole) trail.marks) r (passed _ b counted z) k

@@ -11,9 +11,9 @@ use native.Mathlib.Omega.{arith}
 use lib.ListN.{length, set}
 use lib.Seq.{set-set}
 use lib.Dec.{eqb}
-use borrow.Author.Tests.{eq-eqb, ne_eqb, not-true, not-false}
+use borrow.Author.Tests.{not-true, not-false}
 use Rattle.records.specs.declared.State.{State}
-use Rattle.records.specs.Store.{Term, Store, ok, count, within, is_string, same_class, root_in, class_up, forest_up}
+use Rattle.records.specs.Store.{Term, Store, ok, count, within, is_string, same_class, root_in, class_up}
 use Rattle.records.specs.View.{Lent, lent, store_of, term_at, terms_view, term_words, zero_term}
 use Rattle.records.specs.Working.Puts.{TermSet}
 use Rattle.records.specs.Index.{bucket}
@@ -26,23 +26,10 @@ use Rattle.records.proofs.IndexStores.{left-none, left-then, left_same, indexed-
 use Rattle.records.proofs.Passed.{ready_of, ready-after, audit-of}
 use Rattle.records.proofs.Public.{call_refused, call-unfit}
 use Rattle.records.proofs.Grown.{string-term}
-use Rattle.records.proofs.Climbs.{view_term, view_count, view_class, view_forest, term-within, ready_roots}
+use Rattle.records.proofs.Climbs.{view_term, view_count, term-within, ready_roots}
 use Rattle.classes.specs.Merge.{is_root_in, can_merge, under, merge_in, merge_classes, PublicMerge}
 use Rattle.classes.proofs.Alike.{bucket-like}
 use Rattle.classes.proofs.MergeKept.{mergeable, merge-like, merge-kept}
-
--- A ROOT
-
-module _ (l : List ℕ) (n t x : ℕ) (h : within n t ≡ true) (e : x ≡ (term_at l t).class_parent) where
-  pub root-not : (x ≡ t → ⊥) → false ≡ is_root_in (terms_view l n) t
-  unfolding is_root_in
-  root-not z = and-stop (eqb (class_up (terms_view l n) t) t) (eqb (forest_up (terms_view l n) t) t) (ne_eqb _ t (λ q. z (view_class l n t x h e ∙ q)))
-
-  pub root_by : (y : ℕ) → x ≡ t → y ≡ (term_at l t).forest_parent → eqb y t ≡ is_root_in (terms_view l n) t
-  unfolding is_root_in
-  root_by y q f = and-next (eqb (class_up (terms_view l n) t) t) (eqb (forest_up (terms_view l n) t) t) (eqb y t)
-      (eq-eqb _ t (sym (view_class l n t x h e) ∙ q))
-      (ap (λ (z : ℕ). eqb z t) (view_forest l n t y h f))
 
 -- THE TESTS
 
@@ -101,10 +88,6 @@ set_twice {l} {l₁} {l₂} {t} {x} {y} a b = record {
   index = left-then a.index b.index;
   terms = λ n h. b.terms n h ∙ ap (λ (ts : List Term). set ts (t - 1) y) (a.terms n h) ∙ set-set (terms_view l n) (t - 1) x y;
 }
-
--- and it leaves the slice as long as it was
-pub put-room : {l l₁ : List ℕ} {t : ℕ} {x : Term} → TermSet l l₁ t x → term_words t ≤ length l → term_words t ≤ length l₁
-put-room a h = let e = a.long in omega arith
 
 pub put_under : (l l₁ l₂ : List ℕ) (t p v s : ℕ) → TermSet l l₁ t (with_class (term_at l t) p) → TermSet l₁ l₂ t (with_edge (term_at l₁ t) p 1 v s) → TermSet l l₂ t (under (term_at l t) p v s)
 put_under l l₁ l₂ t p v s a b = subst (TermSet l l₂ t) (ap (λ (x : Term). with_edge x p 1 v s) a.here) (set_twice a b)

@@ -1,17 +1,15 @@
 -- Each way through the public calls: refused, or given as the working form gives it, with store and marks audited again.
 use mathlib.Core.Path.{◌≡◌, refl, sym, ap, subst, ◌∙◌}
-use mathlib.Core.Bool.{Bool, true, false, not, ◌&&◌}
+use mathlib.Core.Bool.{Bool, true, not}
 use mathlib.Core.List.{List}
 use Prim.Native.Nat.{ℕ, zero, suc, ◌≤◌}
 use native.Mathlib.Omega.{arith}
 use lib.ListN.{length, get_or}
-use lib.Dec.{eqb}
-use borrow.Author.Tests.{eq-eqb, ne_eqb, le-ltb, not-true}
+use borrow.Author.Tests.{le-ltb, not-true}
 use Rattle.records.specs.declared.State.{State}
-use Rattle.records.specs.Store.{Store, within, is_string}
+use Rattle.records.specs.Store.{Store, within}
 use Rattle.records.specs.View.{Lent, store_of}
-use Rattle.records.specs.Rules.{is_reason_kind, is_number}
-use Rattle.records.proofs.Lists.{and-next, left_false, both_true, or-stop, or-next, failed, passed, table-length}
+use Rattle.records.proofs.Lists.{table-length}
 use Rattle.classes.specs.declared.Standing.{Standing}
 use Rattle.std.specs.Prelude.{Result, Ok, Err}
 use Rattle.records.specs.declared.refusal.Refusal.{Refusal}
@@ -22,36 +20,6 @@ use Rattle.classes.specs.Marks.{Trail, mark_limit, trail_of, audit_marks}
 use Rattle.classes.specs.Calls.{Outcome, refuses, join_arguments, join_terms, set_mark, go_back, unless, tracked, Leaves, Tracks, PublicJoin}
 use Rattle.classes.specs.Working.Doing.{WorkingMarks, WorkingJoin}
 use Rattle.classes.proofs.ReadyMarks.{marks_pass}
-
--- THE ARGUMENTS OF A JOIN
-
-pub kind-one : (k : ℕ) → k ≡ 1 → true ≡ is_reason_kind k
-kind-one k e = or-stop (eqb k 1) (eqb k 2) (eq-eqb k 1 e)
-
-pub kind-two : (k : ℕ) → (k ≡ 1 → ⊥) → eqb k 2 ≡ is_reason_kind k
-kind-two k d = or-next (eqb k 1) (eqb k 2) (eqb k 2) (ne_eqb k 1 d) refl
-
-module _ (s : Store) (a b k v : ℕ) where
-  abbrev strings : Bool
-  strings = is_string s a && is_string s b
-
-  pub cannot_one : (x : Bool) → x ≡ is_string s a → not x ≡ true → false ≡ join_arguments a b k v s
-  cannot_one x e h = sym (left_false (strings && is_reason_kind k) (is_number v) (left_false strings (is_reason_kind k) (left_false _ _ (failed _ x e h))))
-
-  module _ (x : Bool) (e : x ≡ is_string s a) (h : not x ≡ false) (y : Bool) (f : y ≡ is_string s b) where
-    pub cannot_other : not y ≡ true → false ≡ join_arguments a b k v s
-    cannot_other i =
-        sym (left_false (strings && is_reason_kind k) (is_number v) (left_false strings (is_reason_kind k) (sym (and-next (is_string s a) (is_string s b) false (passed _ x e h) (sym (failed _ y f i))))))
-
-    module _ (i : not y ≡ false) (z : Bool) (g : z ≡ is_reason_kind k) where
-      both-strings : strings ≡ true
-      both-strings = both_true _ _ (passed _ x e h) (passed _ y f i)
-
-      pub cannot_kind : not z ≡ true → false ≡ join_arguments a b k v s
-      cannot_kind j = sym (left_false (strings && is_reason_kind k) (is_number v) (sym (and-next strings (is_reason_kind k) false both-strings (sym (failed _ z g j)))))
-
-      pub can-number : not z ≡ false → (w : Bool) → w ≡ is_number v → w ≡ join_arguments a b k v s
-      can-number j w q = and-next (strings && is_reason_kind k) (is_number v) w (both_true _ _ both-strings (passed _ z g j)) q
 
 not-given : {A : Type 0} {k : Refusal} {n : ℕ} {e : Standing} → ◌≡◌ {A = Result (ℕ × Standing) Refusal} (Err k) (Ok (n, e)) → A
 not-given q = let z : ◌≡◌ {A = ℕ} 0 1 = cc in absurd (omega arith)

@@ -1,7 +1,6 @@
 use mathlib.Core.Path.{sym}
 use Rattle.records.proofs.Public.{handed}
 use Rattle.records.specs.View.{lent}
-use Rattle.records.proofs.Lists.{passed}
 use Rattle.classes.specs.Calls.{go_back}
 use Rattle.classes.proofs.ReadyMarks.{marks-ready}
 use Rattle.classes.proofs.Refines.PublicCalls.{call-audit, back-absent, call-given}
@@ -17,12 +16,8 @@ returns-then-not-is_within c =
     c.args.marks.now c.args.c c.args.d (sym c.in_ok-audit.ensures) c.args.mark _
     c.is_within.ensures c.if-not-is_within.true-raw
 
-pub go_back_unchecked-e-requires : goal.go_back_unchecked-e-requires
-go_back_unchecked-e-requires c =
-    record {
-      ready_marks = marks-ready (sym c.in_ok-audit.ensures);
-      mark_value = passed _ _ c.is_within.ensures c.if-not-is_within.false-raw;
-    }
+pub go_back_unchecked-e-requires-clause-ready_marks : goal.go_back_unchecked-e-requires-clause-ready_marks
+go_back_unchecked-e-requires-clause-ready_marks c = marks-ready (sym c.in_ok-audit.ensures)
 
 pub returns : goal.returns
 returns c =

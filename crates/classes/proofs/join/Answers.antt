@@ -1,7 +1,6 @@
 use mathlib.Core.Path.{sym}
 use Rattle.records.proofs.Public.{handed}
 use Rattle.records.specs.View.{lent}
-use Rattle.records.proofs.Lists.{passed}
 use Rattle.classes.proofs.ReadyMarks.{marks-ready}
 use Rattle.classes.proofs.Refines.PublicCalls.{join_unready, join-wrong, join-gives}
 use Rattle.classes.proofs.join.Goals as goal
@@ -16,12 +15,8 @@ returns-then-not-can_join c =
     c.args.marks.now c.args.c c.args.d c.args.a c.args.b c.args.kind c.args.number
     (sym c.in_ok-audit.ensures) _ c.can_join.ensures c.if-not-can_join.true-raw
 
-pub join_unchecked-r-requires : goal.join_unchecked-r-requires
-join_unchecked-r-requires c =
-    record {
-      ready_marks = marks-ready (sym c.in_ok-audit.ensures);
-      c_value = passed _ _ c.can_join.ensures c.if-not-can_join.false-raw;
-    }
+pub join_unchecked-r-requires-clause-ready_marks : goal.join_unchecked-r-requires-clause-ready_marks
+join_unchecked-r-requires-clause-ready_marks c = marks-ready (sym c.in_ok-audit.ensures)
 
 pub returns : goal.returns
 returns c =

@@ -15,12 +15,8 @@ returns-then-d-ge-MARK_LIMIT c =
     mark_full (lent c.args.terms.now c.args.cells.now c.args.chars.now c.args.reasons.now c.args.keys.now)
     c.args.marks.now c.args.c c.args.d (sym c.in_ok-audit.ensures) c.if-d-ge-MARK_LIMIT.true
 
-pub set_mark_unchecked-e-requires : goal.set_mark_unchecked-e-requires
-set_mark_unchecked-e-requires c =
-    record {
-      ready_marks = marks-ready (sym c.in_ok-audit.ensures);
-      marks_lt_mark_limit = c.if-d-ge-MARK_LIMIT.false;
-    }
+pub set_mark_unchecked-e-requires-clause-ready_marks : goal.set_mark_unchecked-e-requires-clause-ready_marks
+set_mark_unchecked-e-requires-clause-ready_marks c = marks-ready (sym c.in_ok-audit.ensures)
 
 pub returns : goal.returns
 returns c =

@@ -1,10 +1,6 @@
 use native.Mathlib.Omega.{arith}
-use Rattle.classes.proofs.Refines.CarryWords.{carrying_begin, carrying_room, carrying_out, carrying_end, carrying_turn}
+use Rattle.classes.proofs.Refines.CarryWords.{carrying_room, carrying_out, carrying_end, carrying_turn}
 use Rattle.classes.proofs.links.carry_unchecked.Goals as goal
-
-pub loop-init : goal.loop-init
-loop-init c =
-    carrying_begin _ _ _ _ _ _ _ c.requires
 
 pub put_edge_unchecked-requires : goal.put_edge_unchecked-requires
 put_edge_unchecked-requires c =
@@ -17,10 +13,6 @@ returns-then-above-at c =
 pub loop-preserved : goal.loop-preserved
 loop-preserved c =
     carrying_turn c.loop.invariant c.loop-test.true c.put_edge_unchecked.ensures _ c.forest_parent-above.ensures _ _ _ c.if-above-at.false c.label_kind-its_kind.ensures c.label_value-its_value.ensures c.stamp-its_stamp.ensures
-
-pub returns : goal.returns
-returns c =
-    carrying_out c.loop.invariant c.loop-test.false
 
 pub returns-else-above-at : goal.returns-else-above-at
 returns-else-above-at c =

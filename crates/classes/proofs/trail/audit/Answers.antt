@@ -13,16 +13,17 @@ returns-then-comes_first c =
     c.args.marks.now c.args.c c.args.d _ c.trail_sizes.ensures c.if-not-trail_sizes.false-raw _ c.audit-due.ensures _
     c.comes_first.ensures c.if-comes_first.true
 
-pub marks_ok_unchecked-requires : goal.marks_ok_unchecked-requires
-marks_ok_unchecked-requires c =
-    record {
-      markable = audit_asks (lent c.args.terms.now c.args.cells.now c.args.chars.now c.args.reasons.now c.args.keys.now)
-          c.args.marks.now c.args.c c.args.d _ c.trail_sizes.ensures c.if-not-trail_sizes.false-raw _ c.audit-due.ensures _
-          c.comes_first.ensures c.if-comes_first.false;
-      sized = trail-fits (lent c.args.terms.now c.args.cells.now c.args.chars.now c.args.reasons.now c.args.keys.now)
-          c.args.marks.now c.args.c c.args.d _ c.trail_sizes.ensures c.if-not-trail_sizes.false-raw _ c.audit-due.ensures _
-          c.comes_first.ensures;
-    }
+pub marks_ok_unchecked-requires-clause-markable : goal.marks_ok_unchecked-requires-clause-markable
+marks_ok_unchecked-requires-clause-markable c =
+    audit_asks (lent c.args.terms.now c.args.cells.now c.args.chars.now c.args.reasons.now c.args.keys.now)
+    c.args.marks.now c.args.c c.args.d _ c.trail_sizes.ensures c.if-not-trail_sizes.false-raw _ c.audit-due.ensures _
+    c.comes_first.ensures c.if-comes_first.false
+
+pub marks_ok_unchecked-requires-clause-sized : goal.marks_ok_unchecked-requires-clause-sized
+marks_ok_unchecked-requires-clause-sized c =
+    trail-fits (lent c.args.terms.now c.args.cells.now c.args.chars.now c.args.reasons.now c.args.keys.now)
+    c.args.marks.now c.args.c c.args.d _ c.trail_sizes.ensures c.if-not-trail_sizes.false-raw _ c.audit-due.ensures _
+    c.comes_first.ensures
 
 pub returns-then-not-marks_ok_unchecked : goal.returns-then-not-marks_ok_unchecked
 returns-then-not-marks_ok_unchecked c =

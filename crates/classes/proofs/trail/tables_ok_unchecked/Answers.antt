@@ -1,6 +1,6 @@
 use native.Mathlib.Omega.{arith}
 use mathlib.Core.Path.{refl, ◌∙◌}
-use Rattle.classes.proofs.Refines.MarkTables.{auditing_begin, first_low, joins_low, auditing_none, auditing_asks, auditing_bad, auditing_turn, auditing_done}
+use Rattle.classes.proofs.Refines.MarkTables.{auditing_begin, first_low, auditing_none, auditing_asks, auditing_bad, auditing_turn, auditing_done}
 use borrow.Author.Rules.{rules}
 use Rattle.classes.proofs.trail.tables_ok_unchecked.Goals as goal
 
@@ -8,13 +8,9 @@ pub loop-i-init : goal.loop-i-init
 loop-i-init c =
     search (rules, auditing_begin)
 
-pub undo_to_unchecked-requires : goal.undo_to_unchecked-requires
-undo_to_unchecked-requires c =
-    record {
-      tabled = c.loop-i.invariant.markable.tabled;
-      order = first_low _ _ _ _ _ _ c.loop-i.invariant _ (omega (arith, c.loop-i-test.true)) refl _ (c.wide-first.ensures ∙ c.word.ensures);
-      below = joins_low _ _ _ _ _ _ c.loop-i.invariant c.requires.sized.few_joins;
-    }
+pub undo_to_unchecked-requires-clause-order : goal.undo_to_unchecked-requires-clause-order
+undo_to_unchecked-requires-clause-order c =
+    first_low _ _ _ _ _ _ c.loop-i.invariant _ (omega (arith, c.loop-i-test.true)) refl _ (c.wide-first.ensures ∙ c.word.ensures)
 
 pub returns-then-not-undo_to_unchecked : goal.returns-then-not-undo_to_unchecked
 returns-then-not-undo_to_unchecked c =
