@@ -22,12 +22,9 @@ fn is_kind(terms: &[u32], c: State, a: u32, k: u32, is: bool) -> bool
 pub fn first_of_kind_unchecked(terms: &[u32], c: State, l: &[u32], k: u32, is: bool) -> usize
     ensures { First (of_kind (termed terms.now c) k is) l.now result }
 {
-    for (i, &a) in l.iter().enumerate() {
-        if is_kind(terms, c, a, k, is) {
-            return i;
-        }
-    }
-    l.len()
+    l.iter()
+        .position(|&a| is_kind(terms, c, a, k, is))
+        .unwrap_or(l.len())
 }
 
 // Whether all atoms are constants.

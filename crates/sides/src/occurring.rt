@@ -27,11 +27,9 @@ fn count_full(terms: &[u32], c: State, l: &[u32]) -> usize
     requires { Texts terms.now c × (length l.now ≤ list_limit) }
     ensures { result ≡ length (keep (is_full (termed terms.now c)) l.now) }
 {
-    let mut n: usize = 0;
-    for &a in l {
-        n += own_count(terms, c, a);
-    }
-    n
+    l.iter()
+        .filter(|&&a| letters::is_full_unchecked(terms, c, a))
+        .count()
 }
 
 // Whether an atom is of the class of root x, and of the list's n non-empty constants one is at another place.

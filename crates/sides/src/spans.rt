@@ -46,21 +46,13 @@ fn fits<'a>(
     letters::is_tiled(terms, chars, c, word, side, Cursor { atom: 0, place }, m)
 }
 
-// One for a variable, none for a constant.
-fn variable_count(terms: &[u32], c: State, a: u32) -> usize
-    ensures { result ≡ (if is_constant (termed terms.now c) a then 0 else 1) }
-{
-    usize::from(rules::kind_of(terms, c.terms, a) != 1)
-}
-
+// The variables of a list, counted.
 pub fn variables_length(terms: &[u32], c: State, l: &[u32]) -> usize
     ensures { result ≡ length (variables (termed terms.now c) l.now) }
 {
-    let mut total: usize = 0;
-    for &a in l {
-        total += variable_count(terms, c, a);
-    }
-    total
+    l.iter()
+        .filter(|&&a| rules::kind_of(terms, c.terms, a) != 1)
+        .count()
 }
 
 fn atom_agrees(terms: &[u32], chars: &[u32], c: State, a: u32, v: u32) -> bool

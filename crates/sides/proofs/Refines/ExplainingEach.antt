@@ -16,9 +16,9 @@ use Rattle.records.specs.View.{Lent, lent, store_of, terms_view, read_in}
 use Rattle.records.specs.Working.Audited.{Audited, Ready}
 use Rattle.records.specs.Calls.{added}
 use Rattle.records.specs.Working.Doing.{Working}
-use Rattle.records.proofs.Lists.{both_left, both_right, both_true, clash, decide, every_at, drop_head}
+use Rattle.records.proofs.Lists.{both_left, both_right, clash, decide, every_at, drop_head}
 use Rattle.records.proofs.Doing.{working_same, working_is}
-use Rattle.engine.specs.Explain.{explain, explain_arguments}
+use Rattle.engine.specs.Explain.{explain}
 use Rattle.records.proofs.Outcomes.{ends-give, ends-map, ends_if}
 use Rattle.sides.specs.Wordeq.{same, explain_all, variables}
 use Rattle.sides.specs.Working.Stripping.{Pair}
@@ -39,9 +39,6 @@ module _ (t e h r ks : List ℕ) (c : State) (u v k : ℕ) (i : k ≡ (term_in (
   module _ (d : k ≡ 1 → ⊥) where
     other : eqb (term_in (terms_view t c.terms) u).kind 1 ≡ false
     other = ne_eqb _ 1 (λ q. d (i ∙ q))
-
-    pub atom_arguments : Pair (read_in t h c) u v → OneClass (terms_view t c.terms) u v → explain_arguments u v (store_of (lent t e h r ks) c) ≡ true
-    atom_arguments p o = both_true _ _ (both_true _ _ p.one p.other) (o.class other)
 
     pub atom-explained : {m' : Lent} {o : Out (Unit {0})} → Working (explain u v) (lent t e h r ks) m' c o → Working (explain_atom u v) (lent t e h r ks) m' c o
     unfolding explain_atom

@@ -5,7 +5,7 @@ use mathlib.Core.Bool.{Bool, true, false, ◌||◌}
 use mathlib.Core.List.{List, [], ◌∷◌, ◌++◌, append-nil}
 use mathlib.Core.Logic.{⊎_elim}
 use Prim.Native.Nat.{ℕ, zero, suc, ◌+◌, ◌-◌, ◌<◌, ◌≤◌}
-use native.Mathlib.Nat.{le_antisymm, eq-or-lt_of_le, le_of_suc-le-suc, not-suc-le-zero}
+use native.Mathlib.Nat.{eq-or-lt_of_le, le_of_suc-le-suc, not-suc-le-zero}
 use native.Mathlib.Numerals.{add-one}
 use native.Mathlib.Omega.{arith}
 use lib.ListN.{take, drop, take-append-drop, length, get_or, set, replicate, length-set, length-replicate, get_or-replicate}
@@ -66,9 +66,6 @@ pub unseen_none : (h t : List ℕ) (n x : ℕ) → Unseen h t n x 0
 unseen_none h t n x = record { within = omega arith; none = seen-zero h t x }
 
 module _ (h t : List ℕ) (n x i : ℕ) (a : Unseen h t n x i) where
-  pub unseen_done : n ≤ i → false ≡ seen h t n x
-  unseen_done q = let e : i ≡ n = le_antisymm a.within q in sym (ap (λ (z : ℕ). seen h t z x) (sym e) ∙ a.none)
-
   module _ (b : Bool) (e : b ≡ used_at h t x i) (q : i < n) where
     pub unseen_stop : b ≡ true → true ≡ seen h t n x
     unfolding seen

@@ -15,23 +15,15 @@ use Rattle.records.specs.View.{Lent, lent, store_of, read_in}
 use Rattle.records.specs.Working.Audited.{Ready}
 use Rattle.records.specs.Calls.{added}
 use Rattle.records.specs.Working.Doing.{Working}
-use Rattle.records.proofs.Lists.{both_true, all_every, every_at, drop_head}
+use Rattle.records.proofs.Lists.{all_every, every_at, drop_head}
 use Rattle.records.proofs.Doing.{working_same, working_is}
-use Rattle.engine.specs.Explain.{explain, explain_arguments}
+use Rattle.engine.specs.Explain.{explain}
 use Rattle.sides.specs.Wordeq.{explain_pair, nf_explain}
 use Rattle.sides.specs.Working.Stripping.{Pair, way}
 use Rattle.sides.proofs.Refines.AddingReasons.{going_pair}
 use Rattle.sides.proofs.FrontOrEnd.{way-length, way_every}
 use Rattle.sides.proofs.Refines.Turning.{Turning, turning_none, turning_end, turning_refused, turning_on}
 use Rattle.sides.proofs.Equal.{pair_ends}
-
--- two constants of equal characters
-module _ (s : Store) (a b : ℕ) (x : Bool) (i : x ≡ (is_constant s a && is_constant s b)) where
-  pub alike-not : not x ≡ true → false ≡ (is_constant s a && is_constant s b && same_word (text s a) (text s b))
-  alike-not j = rw (sym i ∙ not-true x j)
-
-  pub alike-text : not x ≡ false → (r : Bool) → r ≡ same_word (text s a) (text s b) → r ≡ (is_constant s a && is_constant s b && same_word (text s a) (text s b))
-  alike-text j r e = rw (sym i ∙ not-false x j) e
 
 -- ONE PAIR
 
@@ -57,9 +49,6 @@ module _ (t e h r ks : List ℕ) (c : State) (a b : ℕ) where
       pair-apart k z = working_same k (rw (ne_eqb a b d, sym i ∙ j, sym f ∙ not-true y z))
 
       module _ (z : not y ≡ false) where
-        pub pair_arguments : Pair (read_in t h c) a b → explain_arguments a b s ≡ true
-        pair_arguments p = both_true _ _ (both_true _ _ p.one p.other) (sym f ∙ not-false y z)
-
         pub pair-explained : {m' : Lent} {o : Out (Unit {0})} → Working (explain a b) m m' c o → Working (explain_pair a b) m m' c o
         unfolding explain_pair
         pair-explained w = working_is (rw (ne_eqb a b d, sym i ∙ j, sym f ∙ not-false y z)) w

@@ -14,7 +14,7 @@ use Rattle.records.specs.Lists.{table, same_word}
 use Rattle.records.specs.Store.{Term, kind, term, is_constant, text}
 use Rattle.records.specs.View.{span, read_in, termed, term_at}
 use Rattle.records.specs.Make.{strk}
-use Rattle.records.proofs.Lists.{decide, and-stop, and-next, both_left, both_right, both_true, failed, table_at_lem, table-length, table_add, word-differs}
+use Rattle.records.proofs.Lists.{decide, and-stop, and-next, both_left, both_right, both_true, table_at_lem, table-length, table_add, word-differs}
 use Rattle.records.proofs.Views.{term-there, text-words}
 use Rattle.sides.specs.Wordeq.{is_plain, differ}
 use Rattle.sides.specs.Working.Sides.{Spelled}
@@ -38,9 +38,6 @@ module _ (h : List ℕ) (p n q m : ℕ) where
     pub one : j ≤ n
     pub other : j ≤ m
     pub rest : differ (drop j (span h p n)) (drop j (span h q m)) ≡ differ (span h p n) (span h q m)
-
-  pub alike_none : Alike 0
-  alike_none = record { one = omega arith; other = omega arith; rest = refl }
 
   alike_short : (j : ℕ) → Alike j → m ≤ j → false ≡ differ (span h p n) (span h q m)
   alike_short j a l =
@@ -105,10 +102,6 @@ module _ (w h : List ℕ) (c : State) (a b : ℕ) (x : Spelled w h c) (y : (is_c
   pub differ-is : (p n q m : ℕ) (r : Bool) → p ≡ (term_at w a).first → n ≡ (term_at w a).second → q ≡ (term_at w b).first → m ≡ (term_at w b).second
       → r ≡ differ (span h p n) (span h q m) → r ≡ (is_constant (read_in w h c) a && is_constant (read_in w h c) b && differ (text (read_in w h c) a) (text (read_in w h c) b))
   differ-is p n q m r e f g i d = and-next _ _ r y (d ∙ (rw (e, f, g, i, one-text, other_text)))
-
-pub differ-not : (w h : List ℕ) (c : State) (a b : ℕ) (x : Bool) → x ≡ (is_constant (termed w c) a && is_constant (termed w c) b) → not x ≡ true
-    → false ≡ (is_constant (read_in w h c) a && is_constant (read_in w h c) b && differ (text (read_in w h c) a) (text (read_in w h c) b))
-differ-not w h c a b x e n = and-stop _ _ (failed _ x e n)
 
 -- PLAIN VARIABLES
 

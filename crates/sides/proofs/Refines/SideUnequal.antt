@@ -1,13 +1,13 @@
 -- Two constant sides compared: the walk of one over the other.
 use mathlib.Core.Path.{◌≡◌, refl, sym, ap, ◌∙◌}
-use mathlib.Core.Bool.{Bool, true, false, not}
+use mathlib.Core.Bool.{Bool, true, not}
 use mathlib.Core.List.{List, [], ◌∷◌}
 use Prim.Native.Nat.{ℕ}
 use Rattle.records.specs.View.{read_in, termed}
 use Rattle.records.specs.declared.State.{State}
 use Rattle.records.specs.Lists.{all, concat_map, same_word}
 use Rattle.records.specs.Store.{Store, is_constant}
-use Rattle.records.proofs.Lists.{both_left, both_right, left_false, right-false, failed, passed, word_is, word_same, same_test}
+use Rattle.records.proofs.Lists.{both_left, both_right, word_is, word_same, same_test}
 use Rattle.sides.specs.Wordeq.{fixed, letters_of, letters, unequal, filled}
 
 -- a side of constants has no place to fill

@@ -42,9 +42,6 @@ rest_end s l i j q = ap (drop j) (letters-end s l i q) ∙ drop-none j
 pub record Onward (w : List ℕ) (c : State) (l : List ℕ) (i₀ j₀ i j : ℕ) : Type 0 where
   pub same : (h : List ℕ) → rest (read_in w h c) l i j ≡ rest (read_in w h c) l i₀ j₀
 
-pub onward-none : (w : List ℕ) (c : State) (l : List ℕ) (i j : ℕ) → Onward w c l i j i j
-onward-none w c l i j = record { same = λ h. refl }
-
 module _ (w : List ℕ) (c : State) (l : List ℕ) (k : Cursor) (i j : ℕ) (a : Onward w c l k.atom k.place i j) where
   pub onward-end : length l ≤ i → Settled w c l k (record { atom = length l; place = j })
   onward-end q =
@@ -54,9 +51,6 @@ module _ (w : List ℕ) (c : State) (l : List ℕ) (k : Cursor) (i j : ℕ) (a :
       }
 
   module _ (n : ℕ) (e : n ≡ length (letters_of (termed w c) (get_or l i 0))) where
-    pub onward-here : j < n → Settled w c l k (record { atom = i; place = j })
-    onward-here q = record { same = a.same; at = record { there = λ z. omega arith } }
-
     pub onward-atom : Texts w c → i < length l → n ≤ j → Onward w c l k.atom k.place (i + 1) (j - n)
     onward-atom x q m = record { same = λ h. rw add-one (sym (skip h) ∙ a.same h) }
       where

@@ -8,7 +8,7 @@ use native.Mathlib.Omega.{arith}
 use lib.ListN.{length, take, drop, get_or, length-drop, length-reverse, drop_of_length-le}
 use lib.Seq.{take_all, drop-cons, drop-drop}
 use lib.Dec.{eqb}
-use borrow.Author.Tests.{not-true, not-false, eq-eqb, ne_eqb}
+use borrow.Author.Tests.{not-true, not-false, ne_eqb}
 use Rattle.records.specs.declared.State.{State}
 use Rattle.std.specs.Prelude.{Result, Ok, Err}
 use Rattle.records.specs.declared.refusal.Refusal.{Refusal}
@@ -19,12 +19,12 @@ use Rattle.records.specs.Working.Audited.{Ready}
 use Rattle.records.specs.Calls.{added}
 use Rattle.records.specs.Working.Doing.{Working}
 use Rattle.records.proofs.IndexStores.{keeps-terms}
-use Rattle.records.proofs.Lists.{both_true, decide, all_every, every_at, all_take, all_drop, any_append, or_left, clash, drop_head}
+use Rattle.records.proofs.Lists.{both_true, decide, all_every, every_at, all_take, all_drop, any_append, or_left, drop_head}
 use Rattle.records.proofs.Doing.{working_stopped, working_at, working_is, working_answer}
 use Rattle.records.proofs.Works.{one_store}
-use Rattle.engine.specs.Explain.{explain_arguments, is_reasoned}
+use Rattle.engine.specs.Explain.{explain_arguments}
 use Rattle.sides.specs.declared.Rest.{Rest}
-use Rattle.sides.specs.Wordeq.{same, same_heads, same_tails, matches, inner, rest, explain_matches, needs_reason, is_bare, strip, nf_equal, nf_explain}
+use Rattle.sides.specs.Wordeq.{same, same_heads, same_tails, matches, inner, rest, explain_matches, needs_reason, strip, nf_equal, nf_explain}
 use Rattle.sides.specs.Working.Stripping.{Pair, way, part, Finds, Strips, Needs, Asked}
 use Rattle.sides.proofs.FrontOrEnd.{way-front, way_back, way-length, way_twice, way_every, way-all, way-take, way-drop}
 use Rattle.sides.proofs.Strip.{plainly, same_class_lem, matches-append, off_heads, Match}
@@ -36,31 +36,19 @@ pub same_read : (t e h ks rs : List ℕ) (c : State) (a b : ℕ) → same (store
 unfolding same
 same_read t e h ks rs c a b = refl
 
--- ONE MATCH THAT NEEDS A REASON OR NONE
+-- ONE MATCH THAT MAY NEED A REASON
 
 module _ (t e h r ks : List ℕ) (c : State) (a b : ℕ) where
   abbrev s : Store
   s = store_of (lent t e h r ks) c
 
-  pub need_number : a ≡ b → false ≡ needs_reason s (a, b)
-  unfolding needs_reason
-  need_number i = rw (eq-eqb a b i)
-
   module _ (d : a ≡ b → ⊥) (x : Bool) (i : x ≡ (is_constant s a && is_constant s b)) where
-    pub need_constants : x ≡ true → false ≡ needs_reason s (a, b)
-    unfolding needs_reason
-    need_constants j = rw (ne_eqb a b d, sym i ∙ j)
-
     module _ (j : x ≡ false) where
       apart : plainly s a b ≡ false
       apart = rw (ne_eqb a b d, sym i ∙ j)
 
       pub need_arguments : Pair (read_in t h c) a b → same (read_in t h c) a b ≡ true → explain_arguments a b s ≡ true
       need_arguments p k = both_true _ _ (both_true _ _ p.one p.other) (same_class_lem s a b (same_read t e h ks r c a b ∙ k) apart)
-
-      pub need_reasoned : (y : Bool) → y ≡ is_reasoned s a b → y ≡ needs_reason s (a, b)
-      unfolding needs_reason
-      need_reasoned y e = rw (ne_eqb a b d, sym i ∙ j) e
 
 -- PARTS
 
@@ -161,9 +149,6 @@ module _ (s : Store) (l r : List ℕ) (tail : Bool) where
   pub record Counted (i : ℕ) : Type 0 where
     pub sum : i + length (same_heads s (drop i (way tail l)) (drop i (way tail r))) ≡ length (same_heads s (way tail l) (way tail r))
 
-  pub counted_none : Counted 0
-  counted_none = record { sum = omega arith }
-
   module _ (n : ℕ) (z : n ≡ min (length l) (length r)) {i : ℕ} (k : Counted i) where
     least : n ≡ min (length (way tail l)) (length (way tail r))
     least = rw (way-length tail l, way-length tail r) z
@@ -226,9 +211,6 @@ module _ (m : Lent) (c : State) (s : Store) (l r : List ℕ) (tail : Bool) (h : 
 
   all-pairs : length pairs ≡ length l
   all-pairs = equal-heads s (way tail l) (way tail r) h ∙ way-length tail l
-
-  pub needing_none : Needing m c pairs 0
-  needing_none = record { is = refl }
 
   pub needing_end : {i : ℕ} → Needing m c pairs i → length l ≤ i → Needs m c pairs false
   unfolding any
@@ -385,12 +367,6 @@ module _ (t e h ks l r : List ℕ) {c : State} {rs : List ℕ} (x : Rest) (f : F
 module _ (t e h rs ks l r : List ℕ) (c : State) (x : Rest) (f : Finds (read_in t h c) l r x) where
   abbrev lent_now : Lent
   lent_now = lent t e h rs ks
-
-  pub asked-bare : x.lhs ≡ x.from → x.rhs ≡ x.from → Asked lent_now c l r x.from x.lhs x.rhs false
-  asked-bare i j = record { is = λ z. clash (bare (x.lhs - x.from) (x.rhs - x.from) (omega arith) (omega arith)) z }
-    where
-      bare : (m n : ℕ) → m ≡ 0 → n ≡ 0 → is_bare (take m (drop x.from l)) (take n (drop x.from r)) ≡ true
-      bare m n p q = rw (p, q)
 
   both_needed : (b : Bool) → b ≡ any (needs_reason (store_of lent_now c)) (same_heads (read_in t h c) l r ++ same_tails (read_in t h c) x.from l r)
       → Asked lent_now c l r x.from x.lhs x.rhs b

@@ -52,7 +52,7 @@ drop-next j l = rw add-one (go j l)
     go (suc j) [] = refl
     go (suc j) (x ∷ l) = go j l
 
--- THE LEAVES
+-- ONE ATOM
 
 pub count-constant : (w : List ℕ) (c : State) (a k m v r : ℕ) → k ≡ kind (termed w c) a → k ≡ 1 → Texts w c → v ≡ (term_at w a).second → r ≡ v → r ≡ fill_count (termed w c) a m
 count-constant w c a k m v r e n x f g = rw (eq-eqb (kind (termed w c) a) 1 (sym e ∙ n)) (count-some w c a k v r x e n f g)
@@ -98,9 +98,6 @@ module _ (w h : List ℕ) (c : State) (word side : List ℕ) (v : Cursor) (m : �
   -- the side from atom i on against the word from k on
   pub record Walked (k : Cursor) (i : ℕ) : Type 0 where
     pub left : same_word (filled (read_in w h c) first (drop i side)) (rest (read_in w h c) word k.atom k.place) ≡ whole
-
-  pub walked_none : Walked (record { atom = 0; place = 0 }) 0
-  walked_none = record { left = refl }
 
   -- the walk came to the end of the side
   module _ (k x : Cursor) (i : ℕ) (b : Bool) (t : Texts w c) (a : Walked k i) (l : length side ≤ i) (p : Settled w c word k x) (e : b ≡ leb (length word) x.atom) where

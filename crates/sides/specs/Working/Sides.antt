@@ -1,7 +1,7 @@
 -- What the tests of two lists read: the terms and characters alone, and a place within a side's constant characters.
 use Rattle.std.specs.Prelude.{◌≡◌, Bool, true, false, not, List, [], ◌∷◌, ℕ, ◌+◌, ◌≤◌, ◌<◌, length, take, drop, get_or, eqb, if◌then◌else◌}
 use Rattle.records.specs.declared.State.{State}
-use Rattle.records.specs.Lists.{any, same_word}
+use Rattle.records.specs.Lists.{any}
 use Rattle.records.specs.Store.{Store, kind, term, is_constant}
 use Rattle.records.specs.View.{char_limit, read_in, termed}
 use Rattle.sides.specs.declared.letters.Cursor.{Cursor}

@@ -1,9 +1,8 @@
-use mathlib.Core.Path.{refl, sym, ◌∙◌}
+use mathlib.Core.Path.{sym, ◌∙◌}
 use borrow.Author.Tests.{eqb-true}
 use Rattle.sides.proofs.Refines.ExplainingEach.{citing-none, citing-end, citing-pair, citing-class, citing-refused, citing-turn}
 use Rattle.records.proofs.Public.{handed}
 use native.Mathlib.Omega.{arith}
-use borrow.Author.Rules.{rules}
 use Rattle.sides.proofs.explaining.explain_all_unchecked.Goals as goal
 
 pub returns-then-is_empty : goal.returns-then-is_empty

@@ -1,4 +1,4 @@
-use Rattle.sides.proofs.Refines.ExplainingEach.{atom-constant, atom_arguments, atom-explained}
+use Rattle.sides.proofs.Refines.ExplainingEach.{atom-constant, atom-explained}
 use Rattle.sides.proofs.explaining.explain_atom.Goals as goal
 
 pub returns-then-kind_of-eq1 : goal.returns-then-kind_of-eq1

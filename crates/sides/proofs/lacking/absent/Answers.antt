@@ -1,6 +1,3 @@
-use mathlib.Core.Path.{◌∙◌}
-use Prim.Native.Nat.{ℕ}
-use lib.ListN.{length-replicate}
 use Rattle.sides.proofs.Refines.LackingSides.{absent-not, absent-bare, absent-is}
 use Rattle.sides.proofs.lacking.absent.Goals as goal
 

@@ -1,4 +1,4 @@
-use Rattle.sides.proofs.Refines.LackingPlaces.{unseen_none, unseen_stop, unseen_one, unseen_done}
+use Rattle.sides.proofs.Refines.LackingPlaces.{unseen_none, unseen_stop, unseen_one}
 use Rattle.sides.proofs.lacking.is_seen.Goals as goal
 
 pub loop-i-init : goal.loop-i-init

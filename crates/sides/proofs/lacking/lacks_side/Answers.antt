@@ -1,5 +1,4 @@
-use Rattle.sides.proofs.Refines.LackingSides.{found_none, found-stop, found-one, found-done}
-use mathlib.Core.Path.{◌∙◌}
+use Rattle.sides.proofs.Refines.LackingSides.{found-stop, found-one, found-done}
 use Rattle.sides.proofs.lacking.lacks_side.Goals as goal
 
 pub returns-then-lacks_atom : goal.returns-then-lacks_atom

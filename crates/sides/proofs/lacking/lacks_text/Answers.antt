@@ -1,4 +1,4 @@
-use Rattle.sides.proofs.Refines.LackingSides.{looked_none, looked_stop, looked_one, looked_done}
+use Rattle.sides.proofs.Refines.LackingSides.{looked_none, looked_stop, looked_one}
 use Rattle.sides.proofs.lacking.lacks_text.Goals as goal
 
 pub loop-j-init : goal.loop-j-init

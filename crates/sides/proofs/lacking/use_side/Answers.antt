@@ -1,5 +1,4 @@
-use Rattle.sides.proofs.Refines.LackingSides.{using_side_none, using_side_one, using_side_done}
-use mathlib.Core.Path.{◌∙◌}
+use Rattle.sides.proofs.Refines.LackingSides.{using_side_one, using_side_done}
 use Rattle.sides.proofs.lacking.use_side.Goals as goal
 
 pub loop-a-preserved : goal.loop-a-preserved

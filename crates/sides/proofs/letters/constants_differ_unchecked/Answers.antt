@@ -1,6 +1,6 @@
 use mathlib.Core.Path.{◌∙◌}
 use Rattle.records.proofs.Lists.{passed}
-use Rattle.sides.proofs.Refines.SideTexts.{one-room, other-room, differ-is, differ-not}
+use Rattle.sides.proofs.Refines.SideTexts.{one-room, other-room, differ-is}
 use native.Mathlib.Omega.{arith}
 use Rattle.sides.proofs.letters.constants_differ_unchecked.Goals as goal
 

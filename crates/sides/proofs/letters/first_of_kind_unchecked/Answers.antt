@@ -1,11 +1,14 @@
-use native.Mathlib.Omega.{arith}
-use Rattle.sides.proofs.FirstOfKind.{first-here, first-turn, first-none, first-start}
+use borrow.Author.Rules.{rules}
+use Rattle.std.proofs.Common.{tests}
+use Rattle.std.proofs.lemmas.Iterator.Search.{position_from_yields_List}
+use Rattle.std.proofs.lemmas.Iterator.{YieldsList-from_slice}
+use Rattle.records.specs.View.{termed}
+use Rattle.sides.specs.Working.Sides.{of_kind}
+use Rattle.sides.proofs.FirstOfKind.{first-found}
 use Rattle.sides.proofs.letters.first_of_kind_unchecked.Goals as goal
 
-pub loop-i-init : goal.loop-i-init
-loop-i-init c =
-    first-start _ c.args.l.now
-
-pub loop-i-preserved : goal.loop-i-preserved
-loop-i-preserved c =
-    first-turn _ _ c.loop-i.invariant c.loop-i-test.true _ c.is_kind.ensures c.if-is_kind.false
+pub returns : goal.returns
+returns c =
+    first-found _ _ _ _
+    (position_from_yields_List (of_kind (termed c.args.terms.now c.args.c) c.args.k c.args.is) _ _ _ c.position.ensures.ran (YieldsList-from_slice c.args.l.now cc) (λ x b q k. search (rules, tests)))
+    c.unwrap_or.ensures

@@ -1,4 +1,3 @@
-use borrow.Author.Rules.{rules}
 use Rattle.std.proofs.lemmas.Grind.{common_steps}
 use native.Mathlib.Omega.{arith}
 use Rattle.sides.specs.Working.Sides.{of_kind}

@@ -1,5 +1,5 @@
 use mathlib.Core.Path.{refl}
-use Rattle.sides.proofs.Refines.TileWalk.{walked_none, filling_start, filling_one, filling_end, filling_differs, word_limit_lem, source_limit, walked_end}
+use Rattle.sides.proofs.Refines.TileWalk.{filling_start, filling_one, filling_end, filling_differs, word_limit_lem, source_limit, walked_end}
 use Rattle.sides.proofs.letters.is_tiled.Goals as goal
 
 pub loop-init : goal.loop-init

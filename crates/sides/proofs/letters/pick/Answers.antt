@@ -1,6 +1,4 @@
 use borrow.Author.Rules.{rules}
-use Rattle.std.proofs.lemmas.Grind.{common_steps}
-use native.Mathlib.Omega.{arith}
 use Rattle.sides.specs.Working.Sides.{picked}
 use Rattle.sides.proofs.letters.pick.Goals as goal
 

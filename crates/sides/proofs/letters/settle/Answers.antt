@@ -1,4 +1,4 @@
-use Rattle.sides.proofs.Refines.SideWalk.{onward-none, onward-here, onward-atom, onward-end}
+use Rattle.sides.proofs.Refines.SideWalk.{onward-atom, onward-end}
 use Rattle.sides.proofs.letters.settle.Goals as goal
 
 pub loop-i-preserved : goal.loop-i-preserved

@@ -1,5 +1,5 @@
 use native.Mathlib.Omega.{arith}
-use Rattle.sides.proofs.Refines.SideTexts.{alike_none, alike_differ, alike_one, alike_done}
+use Rattle.sides.proofs.Refines.SideTexts.{alike_differ, alike_one, alike_done}
 use Rattle.sides.proofs.letters.spans_differ.Goals as goal
 
 pub returns-then-chars-p : goal.returns-then-chars-p

@@ -1,6 +1,6 @@
 use Rattle.records.specs.View.{termed}
 use Rattle.records.proofs.Lists.{all_every, every_at}
-use Rattle.sides.proofs.Refines.Elsewhere.{seeking_none, seeking_hit, seeking_turn, seeking_end}
+use Rattle.sides.proofs.Refines.Elsewhere.{seeking_hit, seeking_turn, seeking_end}
 use Rattle.sides.proofs.occurring.find.Goals as goal
 
 pub occurs_here-requires-clause-a_value : goal.occurs_here-requires-clause-a_value

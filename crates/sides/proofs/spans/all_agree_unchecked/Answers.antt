@@ -2,8 +2,6 @@ use Rattle.records.specs.View.{read_in}
 use Rattle.records.proofs.Lists.{failed, passed}
 use Rattle.records.proofs.Loops.{all-stop, all-turn, all_done}
 use Rattle.sides.proofs.Refines.Fitting.{pair_at_lem}
-use mathlib.Core.Path.{refl}
-use native.Mathlib.Omega.{arith}
 use Rattle.sides.proofs.spans.all_agree_unchecked.Goals as goal
 
 pub atom_agrees-requires-clause-pair : goal.atom_agrees-requires-clause-pair

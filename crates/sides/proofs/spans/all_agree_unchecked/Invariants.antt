@@ -1,7 +1,6 @@
 use Rattle.records.specs.View.{read_in}
-use Prim.Native.Nat.{◌-◌, ◌≤◌}
 use mathlib.Core.Path.{◌≡◌}
-use lib.ListN.{length, drop}
+use lib.ListN.{drop}
 use Rattle.records.specs.Lists.{all}
 use Rattle.sides.specs.Working.Spans.{agrees}
 use Rattle.sides.proofs.spans.all_agree_unchecked.Given as goal

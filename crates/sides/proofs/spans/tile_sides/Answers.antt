@@ -1,7 +1,5 @@
 use Rattle.records.proofs.Public.{handed}
 use Rattle.sides.proofs.Refines.TileCalls.{tile-none, tile-fits, tile-pairs, tile-classes, tile-conflict, tile-refused}
-use Rattle.records.proofs.ListLaws.{list-short}
-use Rattle.records.specs.View.{lent, store_of}
 use Rattle.sides.proofs.spans.tile_sides.Goals as goal
 use Rattle.sides.proofs.spans.tile_sides.Goals.{then-side-i-via-then-side-i, then-side-i-via-else-side-i+then-not-is_unfit}
 

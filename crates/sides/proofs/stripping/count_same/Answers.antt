@@ -1,7 +1,6 @@
 use Rattle.records.specs.View.{read_in}
 use Rattle.sides.proofs.Refines.Pairs.{pair_at_lem}
-use Rattle.sides.proofs.Refines.Stripping.{counted_none, count_all, count_stop, count_turn, below_left, below_right}
-use native.Mathlib.Omega.{arith}
+use Rattle.sides.proofs.Refines.Stripping.{count_all, count_stop, count_turn, below_left, below_right}
 use Rattle.sides.proofs.stripping.count_same.Goals as goal
 
 pub same_unchecked-requires-clause-fact_2 : goal.same_unchecked-requires-clause-fact_2

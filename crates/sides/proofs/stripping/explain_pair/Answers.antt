@@ -1,5 +1,4 @@
-use Rattle.sides.proofs.SideReady.{ready_readable}
-use Rattle.sides.proofs.Refines.Pairs.{pair-number, pair-alike, pair-apart, pair_arguments, pair-explained}
+use Rattle.sides.proofs.Refines.Pairs.{pair-number, pair-alike, pair-apart, pair-explained}
 use Rattle.sides.proofs.stripping.explain_pair.Goals as goal
 use Rattle.sides.proofs.stripping.explain_pair.Goals.{then-a-b-via-then-a-b, then-a-b-via-else-a-b+then-is_alike, then-a-b-via-else-a-b+else-is_alike+then-not-same_class_unchecked}
 

@@ -1,8 +1,5 @@
-use mathlib.Core.Path.{refl}
 use Rattle.sides.proofs.Refines.Pairs.{pairing_none, pairing_end, pairing_pair, pairing_refused, pairing_turn}
 use Rattle.records.proofs.Public.{handed}
-use native.Mathlib.Omega.{arith}
-use borrow.Author.Rules.{rules}
 use Rattle.sides.proofs.stripping.explain_pairs.Goals as goal
 
 pub loop-i-init : goal.loop-i-init

@@ -1,9 +1,9 @@
-use mathlib.Core.Bool.{true, false}
-use lib.ListN.{length, take}
+use mathlib.Core.Bool.{true}
+use lib.ListN.{length}
 use Rattle.sides.specs.Working.Stripping.{part}
 use Rattle.records.proofs.Public.{handed}
 use Rattle.records.proofs.Lists.{all_take}
-use Rattle.sides.proofs.Refines.Stripping.{both-refused, heads-going, both-explained, through-length, heads_through, tails_through, part-strings}
+use Rattle.sides.proofs.Refines.Stripping.{both-refused, heads-going, both-explained, through-length, tails_through, part-strings}
 use Rattle.sides.proofs.Refines.AddingReasons.{going_strings}
 use Rattle.sides.proofs.stripping.explain_stripped.Goals as goal
 

@@ -1,6 +1,5 @@
-use Rattle.sides.proofs.Refines.Stripping.{asked-bare, asked-heads, asked-tails, heads_through, tails_through, part-strings}
+use Rattle.sides.proofs.Refines.Stripping.{asked-heads, asked-tails, heads_through, tails_through, part-strings}
 use Rattle.records.proofs.Lists.{all_take}
-use Rattle.records.specs.View.{read_in}
 use Rattle.sides.proofs.stripping.matches_need.Goals as goal
 
 pub pairs_need-requires-clause-lhs_strings : goal.pairs_need-requires-clause-lhs_strings

@@ -1,9 +1,6 @@
-use mathlib.Core.Path.{refl}
 use Rattle.records.specs.View.{lent, read_in}
 use Rattle.sides.proofs.Refines.Pairs.{pair_at_lem}
-use Rattle.sides.proofs.Refines.Stripping.{needing_none, needing_end, needing_stop, needing_turn, equal-within, equal-same}
-use native.Mathlib.Omega.{arith}
-use borrow.Author.Rules.{rules}
+use Rattle.sides.proofs.Refines.Stripping.{needing_end, needing_stop, needing_turn, equal-within, equal-same}
 use Rattle.sides.proofs.stripping.pairs_need.Goals as goal
 
 pub atom_unchecked-v-requires : goal.atom_unchecked-v-requires

@@ -1,4 +1,4 @@
-use Rattle.sides.proofs.Refines.Alike.{string-within, roots-closed, classes-compared}
+use Rattle.sides.proofs.Refines.Alike.{string-within, roots-closed}
 use Rattle.sides.proofs.stripping.same_class_unchecked.Goals as goal
 
 pub root_unchecked-x-requires : goal.root_unchecked-x-requires
