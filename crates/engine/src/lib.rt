@@ -81,10 +81,10 @@ fn give(
     }
 }
 
-// Walks a up to the nearest shared ancestor, then b: each edge's reasons, in that order, and how many there are then. A pair seen before is skipped. `table` has
-// from its start a bit for each pair seen, and from its end a word for each term, where the reason of the term's edge was found last
-// (see is_listed). It is one slice, and of the counts a walk is handed those that it reads, because a walk within a walk keeps what it
-// was handed on the stack.
+// Walks a up to the nearest shared ancestor, then b: each edge's reasons, in that order, and how many there are then. A pair seen before
+// is skipped. `table` has from its start a bit for each pair seen, and from its end a word for each term, where the reason of the term's
+// edge was found last (see is_listed). It is one slice, and of the counts a walk is handed those that it reads, because a walk within a
+// walk keeps what it was handed on the stack.
 #[cycle(expand_edge_explain_rec)]
 fn explain_rec(
     terms: &[u32],
@@ -207,7 +207,7 @@ fn give_plain(
     Ok(d.reasons)
 }
 
-// As expand_edge, for an edge that leads to no other pair: None where it is a congruence edge, whose pairs need the table.
+// As expand_edge, for an edge that leads to no other pair. Any other is left to expand_edge, which has a table for the pairs: None.
 fn plain_edge(
     terms: &[u32],
     c: State,
@@ -230,7 +230,7 @@ fn plain_edge(
     }
 }
 
-// As explain_rec, for a path without congruence edges: None where it meets one. It meets no second pair, so it needs no table.
+// As explain_rec, for a path without congruence edges, which meets no second pair, so it needs no table. None where it meets such an edge.
 fn explain_plain(
     terms: &[u32],
     c: State,

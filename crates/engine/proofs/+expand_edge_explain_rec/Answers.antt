@@ -1,5 +1,5 @@
 use Rattle.engine.proofs.Refines.Turns.{pairing_walkable, pairing_low, pairing_less, pairing_begin, pairing_turn, pairing_stop, pairing_done, slot_past, edge_hints, edge-nothing, edge_other}
-use Rattle.engine.proofs.Refines.Rises.{rising_walkable, rising-low, pair_same, pair-seen, place_inside, nearest-fit, rising_begin, rising_switch, rising_turn, rising_stop, rising_done, far_switch, far-turn}
+use Rattle.engine.proofs.Refines.Rises.{rising_walkable, rising-low, pair_same, pair-seen, place_inside, nearest-fit, rising_begin, rising_switch, rising_turn, rising_stop, rising_done, far-turn}
 use mathlib.Core.Path.{refl, sym, ◌∙◌}
 use native.Mathlib.Omega.{arith}
 use Rattle.records.proofs.Public.{handed}
@@ -9,10 +9,6 @@ use Rattle.engine.proofs.+expand_edge_explain_rec.Goals as goal
 pub expand_edge-overflow_sub-table-in-1 : goal.expand_edge-overflow_sub-table-in-1
 expand_edge-overflow_sub-table-in-1 t c =
     let h = slot_past _ _ _ _ _ _ _ _ c.requires in omega arith
-
-pub expand_edge-give-requires : goal.expand_edge-give-requires
-expand_edge-give-requires t c =
-    c.requires.roomy
 
 pub expand_edge-loop-at-init : goal.expand_edge-loop-at-init
 expand_edge-loop-at-init t c =
@@ -105,10 +101,6 @@ pub explain_rec-returns-then-last : goal.explain_rec-returns-then-last
 explain_rec-returns-then-last t c =
     rising_done _ _ _ _ _ _ _ _ _ _ _ c.if-a-b.false _ c.place-at.ensures c.is_seen.ensures c.if-is_seen.false c.note_seen.ensures _ _ _ _ _
     _ c.loop-x.invariant c.if-last.true c.if-x-top.true
-
-pub explain_rec-loop-x-smaller-then-x-top : goal.explain_rec-loop-x-smaller-then-x-top
-explain_rec-loop-x-smaller-then-x-top t c =
-    far_switch _ _ _ _ _ c.if-x-top.true c.if-last.false
 
 pub explain_rec-loop-x-preserved-then-x-top : goal.explain_rec-loop-x-preserved-then-x-top
 explain_rec-loop-x-preserved-then-x-top t c =

@@ -99,9 +99,6 @@ triangle-twice (suc n) =
 triangle_half : (n : ℕ) → n * (n + 1) / 2 ≡ triangle n
 triangle_half n = let e = triangle-twice n in omega arith
 
-pub triangle-fits : (n : ℕ) → n < 2 ^ 32 → n * (n + 1) ≤ 4294967295 * 4294967296
-triangle-fits n h = mul-le-mul {n₁ = n} {m₁ = n + 1} {n₂ = 4294967295} {m₂ = 4294967296} (omega arith) (omega arith)
-
 triangle-up : (m n : ℕ) → m ≤ n → triangle m ≤ triangle n
 unfolding triangle
 triangle-up m zero h = let e : m ≡ 0 = omega arith in rw e (omega arith)

@@ -1,7 +1,7 @@
 -- Each way through `expand_edge`: an edge by its label, and the pairs of a congruence edge in turn.
 use Rattle.std.specs.Prelude.{Result, Ok, Err}
 use mathlib.Core.Path.{◌≡◌, refl, sym, ap, ◌∙◌}
-use mathlib.Core.Bool.{Bool, true, false}
+use mathlib.Core.Bool.{true, false}
 use mathlib.Core.List.{List, [], ◌∷◌}
 use mathlib.Core.Logic.{⊎_elim}
 use Prim.Native.Nat.{ℕ, suc, ◌+◌, ◌*◌, ◌-◌, ◌/◌, ◌%◌, ◌≤◌, ◌<◌, min}
@@ -10,19 +10,18 @@ use lib.ListN.{length}
 use lib.Dec.{eqb, ltb}
 use borrow.Author.Tests.{ltb-true, eqb-true, eqb-false}
 use Rattle.records.specs.declared.refusal.Refusal.{Refusal}
-use Rattle.records.specs.declared.refusal.Refusal.TheVariants.{Classes, Reasons}
+use Rattle.records.specs.declared.refusal.Refusal.TheVariants.{Classes}
 use Rattle.records.specs.Lists.{firsts, one_more, Every, and}
 use Rattle.records.specs.Store.{Term, Cell, Store, Out, ok, stop, Work, and_then, term, cell, count, is_term, is_edge, within, kind, parts, chain, chain_in, path_in, term_in, cell_in}
 use Rattle.records.specs.View.{term_at, cell_at, pair_at, terms_view, cells_view, pairs_view, reason_room, reason_limit}
 use Rattle.records.specs.Make.{with_reasons, is_listed, add_reason}
 use Rattle.records.specs.Working.Audited.{Audited, Label, asserted, interface, congruence, definitional, Next, last, later}
-use Rattle.records.specs.Working.Puts.{Pushed}
 use Rattle.records.proofs.Lists.{clash, decide, within_low, within-high, within-is, within-zero, table-length}
 use Rattle.records.proofs.Views.{term_is, cell-is, table_is}
 use Rattle.records.proofs.Chains.{chain-none, chain-is}
 use Rattle.engine.specs.Explain.{Seen, each, edge, highest, walked}
 use Rattle.engine.specs.Working.Seen.{triangle, place, bit, seen_at, Tables}
-use Rattle.engine.specs.Working.Listing.{Besides, Looked}
+use Rattle.engine.specs.Working.Listing.{Besides}
 use Rattle.engine.specs.Working.Walks.{Standing, Together, Edge, Wide, Walkable, Came, Shows, Walks, Gives}
 use Rattle.engine.proofs.Fits.{Fit, fit-height, pairs-fit}
 use Rattle.engine.proofs.Refines.Bits.{place-small}
@@ -64,55 +63,6 @@ standing_on reasons' h e = record {
 -- a view of fewer reasons
 pub fewer : (l l' : List ℕ) (m n : ℕ) → m ≤ n → pairs_view l' n ≡ pairs_view l n → pairs_view l' m ≡ pairs_view l m
 fewer l l' m n h e = Rattle.records.proofs.Lists.table_same _ _ m (λ i b. table_is _ _ n i e (omega arith))
-
--- ONE REASON
-
-pub gives-listed : (l places places' : List ℕ) (n kind value slot : ℕ) (b : Bool) → Looked l places places' n kind value slot b → b ≡ true
-    → Gives l l places places' n kind value slot (Ok n)
-gives-listed l places places' n kind value slot b i z = record {
-  kept = refl;
-  listed = λ y. refl;
-  given = λ y h. clash (sym i.is ∙ z) y;
-  full = λ y h. clash (sym i.is ∙ z) y;
-  elsewhere = i.elsewhere;
-}
-
-module _ (l l' places places' : List ℕ) (n kind value slot : ℕ) (b : Bool) (i : Looked l places places' n kind value slot b) (z : b ≡ false) (r : Bool) (p : Pushed l l' n kind value r) where
-  lacked : {X : Type 0} → is_listed (kind, value) (pairs_view l n) ≡ true → X
-  lacked y = clash y (sym i.is ∙ z)
-
-  pub gives_one : r ≡ true → Gives l l' places places' n kind value slot (Ok (n + 1))
-  gives_one e = record {
-    kept = p.kept;
-    listed = lacked;
-    given = λ x y. (refl, p.grown e);
-    full = λ x y. clash (sym p.fits ∙ e) y;
-    elsewhere = i.elsewhere;
-  }
-
-  pub gives_refused : r ≡ false → Gives l l' places places' n kind value slot (Err Reasons)
-  gives_refused e = record {
-    kept = p.kept;
-    listed = lacked;
-    given = λ x y. clash y (sym p.fits ∙ e);
-    full = λ x h. refl;
-    elsewhere = i.elsewhere;
-  }
-
--- another count is one more, and below the limit before
-module _ {l l' places places' : List ℕ} {n kind value slot d : ℕ} (g : Gives l l' places places' n kind value slot (Ok d)) (other : d ≡ n → ⊥) where
-  risen : (n < reason_room l) × (d ≡ n + 1)
-  risen = decide (is_listed (kind, value) (pairs_view l n))
-      (λ e. let p = g.listed e in absurd (other cc))
-      (λ e. decide (ltb n (reason_room l))
-      (λ h. let p = (g.given e h).0 in (ltb-true n (reason_room l) h, cc))
-      (λ h. let p = g.full e h in let z : ◌≡◌ {A = ℕ} 0 1 = cc in absurd (omega arith)))
-
-  pub gives-low : n < reason_limit
-  gives-low = let h = risen.0 in omega arith
-
-  pub gives-counted : (m : ℕ) → m ≡ n + 1 → Gives l l' places places' n kind value slot (Ok m)
-  gives-counted m e = rw (e, ← risen.1) g
 
 -- AN EDGE BY ITS LABEL
 

@@ -1,4 +1,4 @@
-use Rattle.engine.proofs.Refines.Listing.{lacks-none, lacks-turn, place_found, place_none}
+use Rattle.engine.proofs.Refines.Listing.{lacks-none, lacks-turn, place_found}
 use Rattle.engine.proofs.listing.place_of.Goals as goal
 
 pub loop-i-init : goal.loop-i-init
@@ -12,7 +12,3 @@ returns-then-pair_is_unchecked c =
 pub loop-i-preserved : goal.loop-i-preserved
 loop-i-preserved c =
     lacks-turn _ 0 _ _ _ _ c.pair_is_unchecked.ensures c.if-pair_is_unchecked.false c.loop-i.invariant
-
-pub returns : goal.returns
-returns c =
-    place_none _ _ _ _ _ c.loop-i.auto.i-end c.loop-i-test.false c.loop-i.invariant
