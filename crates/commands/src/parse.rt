@@ -19,36 +19,6 @@ fn read_text(rest: &[u8], list: &mut [u32]) -> Option<usize>
     read_chars(text, list)
 }
 
-fn read_constant(rest: &[u8], list: &mut [u32]) -> Option<Command>
-    requires in_line { length rest.now ≤ line_limit }
-    requires room { length rest.now ≤ length list.old }
-    ensures { parsed_is result list.new ≡ through as_constant (text_after rest.now) }
-{
-    read_text(rest, list).map(Command::Constant)
-}
-
-fn read_variable(rest: &[u8], list: &mut [u32]) -> Option<Command>
-    requires in_line { length rest.now ≤ line_limit }
-    requires room { length rest.now ≤ length list.old }
-    ensures { parsed_is result list.new ≡ through as_variable (text_after rest.now) }
-{
-    read_text(rest, list).map(Command::Variable)
-}
-
-fn read_concatenation(rest: &[u8], list: &mut [u32]) -> Option<Command>
-    requires { length rest.now ≤ length list.old }
-    ensures { parsed_is result list.new ≡ through as_concatenation (numbers_after rest.now) }
-{
-    read_numbers(rest, list).map(Command::Concatenation)
-}
-
-fn read_known(rest: &[u8], list: &mut [u32]) -> Option<Command>
-    requires { length rest.now ≤ length list.old }
-    ensures { parsed_is result list.new ≡ through as_known (numbers_after rest.now) }
-{
-    read_numbers(rest, list).map(Command::Known)
-}
-
 fn read_equation(rest: &[u8], list: &mut [u32]) -> Option<Command>
     requires { length rest.now ≤ length list.old }
     ensures { parsed_is result list.new ≡ through as_equation (numbers_after rest.now) }
@@ -76,12 +46,12 @@ fn by_letter(letter: u8, rest: &[u8], list: &mut [u32]) -> Option<Command>
     ensures { parsed_is result list.new ≡ by_letter letter rest.now }
 {
     match letter {
-        b'C' => read_constant(rest, list),
-        b'V' => read_variable(rest, list),
-        b'P' => read_concatenation(rest, list),
+        b'C' => read_text(rest, list).map(Command::Constant),
+        b'V' => read_text(rest, list).map(Command::Variable),
+        b'P' => read_numbers(rest, list).map(Command::Concatenation),
         b'E' => read_equation(rest, list),
         b'M' => read_merge(rest, list),
-        b'K' => read_known(rest, list),
+        b'K' => read_numbers(rest, list).map(Command::Known),
         b'R' => read_resolve(rest),
         _ => None,
     }
