@@ -9,7 +9,7 @@ ghost use Rattle.records.specs.Working.Leaves.{alone_at, class_test, pair_words,
 ghost use Rattle.records.specs.Working.Audited.{Closed, Steps, Rooted, Pathed, TermPair, Congruable};
 ghost use Rattle.records.specs.Working.Heights.{Heights, Told};
 
-use crate::{State, fields, heights, roots, rules};
+use crate::{Kind, Label, State, fields, heights, roots, rules};
 
 // Where following parents ends, in the forest or in the class. A climb that does not end, in a store that fails the audit, stops after n
 // steps.
@@ -145,12 +145,9 @@ fn alike_ok(r: u32, q: u32, p: u32, u: u32) -> bool
 fn edge_label_ok(k: u32, v: u32) -> bool
     ensures { result ≡ edge_label k v }
 {
-    match k {
-        1 | 2 => rules::is_number(v),
-        3 => true,
-        4 => v == 0,
-        _ => false,
-    }
+    (rules::is_reason_kind(k) && rules::is_number(v))
+        || k == u32::from(Label::Congruence)
+        || (k == u32::from(Label::Definitional) && v == 0)
 }
 
 fn label_ok(terms: &[u32], c: State, t: u32) -> bool
@@ -305,8 +302,8 @@ fn congruence_ok(terms: &[u32], cells: &[u32], c: State, t: u32, heights: &mut [
     let p = fields::label_value(terms, t);
     let a = fields::first(terms, t);
     let b = fields::first(terms, u);
-    fields::kind(terms, t) == 3
-        && fields::kind(terms, u) == 3
+    fields::is_a(terms, t, Kind::Concatenation)
+        && fields::is_a(terms, u, Kind::Concatenation)
         && pairs_either_ok(cells, c.cells, p, a, b)
         && falls_hold(terms, cells, c, fields::stamp(terms, t), p, heights)
 }
@@ -318,7 +315,7 @@ fn edge_ok(terms: &[u32], cells: &[u32], c: State, t: u32, heights: &mut [usize]
     ensures { Told (termed terms.now c) cells.now heights.new result (edge_rule (chained terms.now cells.now c) t) }
 {
     fields::forest_parent(terms, t) == t
-        || fields::label_kind(terms, t) != 3
+        || fields::label_kind(terms, t) != u32::from(Label::Congruence)
         || congruence_ok(terms, cells, c, t, heights)
 }
 

@@ -12,7 +12,7 @@ ghost use Rattle.records.specs.Working.Puts.{TextsWithin};
 ghost use Rattle.records.specs.Working.Indexing.{Walkable, Bucketed, Reached, Tied, cut_at, Cut, word_after, NoneMet, LinksRead};
 
 use crate::rules::is_within;
-use crate::{BUCKETS, Refusal, State, TERM_WIDTH, fields};
+use crate::{BUCKETS, Kind, Refusal, State, TERM_WIDTH, fields};
 
 // The index that the records determine is the one of which the Note's sentences hold, and the one that passes the test.
 pub fn index_says()
@@ -112,12 +112,13 @@ fn bucket_of_term(terms: &[u32], cells: &[u32], chars: &[u32], c: State, t: u32)
     let k = fields::kind(terms, t);
     let x = fields::first(terms, t);
     let y = fields::second(terms, t);
-    match k {
-        1 => bucket_of_text(chars, 1, fields::wide(x), fields::wide(y)),
-        2 => bucket_of_text(chars, 2, fields::wide(x), fields::wide(y)),
-        3 => bucket_of_chain(cells, c.cells, x),
-        4 => bucket_of_sides(4, x, 0),
-        _ => bucket_of_sides(k, x, y),
+    match Kind::try_from(k) {
+        Ok(Kind::Constant) => bucket_of_text(chars, k, fields::wide(x), fields::wide(y)),
+        Ok(Kind::Variable) => bucket_of_text(chars, k, fields::wide(x), fields::wide(y)),
+        Ok(Kind::Concatenation) => bucket_of_chain(cells, c.cells, x),
+        Ok(Kind::Length) => bucket_of_sides(k, x, 0),
+        Ok(Kind::Equation) => bucket_of_sides(k, x, y),
+        Err(_) => bucket_of_sides(k, x, y),
     }
 }
 

@@ -12,6 +12,7 @@ pub mod fields;
 mod heights;
 pub mod index;
 pub mod kind;
+pub mod label;
 pub mod make;
 pub mod names;
 pub mod put;
@@ -22,6 +23,7 @@ pub mod text;
 mod unique;
 
 pub use kind::Kind;
+pub use label::Label;
 pub use refusal::Refusal;
 
 // The heads of the index, which stand before record 0 of terms.

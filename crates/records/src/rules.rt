@@ -5,15 +5,15 @@ ghost use Rattle.records.specs.Lists.{all};
 ghost use Rattle.records.specs.Store.{term_in, within, cell, chain};
 ghost use Rattle.records.specs.View.{store_of, terms_view, chars_view, pairs_view, across, termed, read_in, chained, records_in, lent};
 ghost use Rattle.records.specs.View.{term_words, cell_words, term_limit, cell_limit, char_limit, reason_limit, sizes};
-ghost use Rattle.records.specs.Rules.{is_char, is_number, is_equatable, records_rule, each_term, each_cell, is_list};
+ghost use Rattle.records.specs.Rules.{is_char, is_number, is_reason_kind, is_equatable, records_rule, each_term, each_cell, is_list};
 ghost use Rattle.records.specs.Rules.{reason_rule, key_rule, cell_rule, text_rule, part_rule, concat_rule, length_rule, equation_rule, term_rule};
 ghost use Rattle.records.specs.Working.Hashes.{Tables, Passing};
 ghost use Rattle.records.specs.Working.Audited.{Sized};
 
 use crate::unique::variable_ok;
 use crate::{
-    BUCKETS, CELL_LIMIT, CELL_WIDTH, CHAR_LIMIT, KEY_LIMIT, Kind, LIST_LIMIT, REASON_LIMIT, State,
-    TERM_LIMIT, TERM_WIDTH, fields,
+    BUCKETS, CELL_LIMIT, CELL_WIDTH, CHAR_LIMIT, KEY_LIMIT, Kind, LIST_LIMIT, Label, REASON_LIMIT,
+    State, TERM_LIMIT, TERM_WIDTH, fields,
 };
 
 pub fn is_char(c: u32) -> bool
@@ -88,13 +88,17 @@ pub(crate) fn sizes(
 
 // RULES OF A RECORD
 
+// The kinds of reasons that a list has and a caller can give.
+pub fn is_reason_kind(k: u32) -> bool
+    ensures { result ≡ is_reason_kind k }
+{
+    k == u32::from(Label::Asserted) || k == u32::from(Label::Interface)
+}
+
 fn reason_ok(k: u32, v: u32) -> bool
     ensures { result ≡ reason_rule (k, v) }
 {
-    match k {
-        1 | 2 => is_number(v),
-        _ => false,
-    }
+    is_reason_kind(k) && is_number(v)
 }
 
 fn key_ok(terms: &[u32], c: State, a: u32, b: u32) -> bool
@@ -140,7 +144,7 @@ pub fn is_equatable(terms: &[u32], c: State, a: u32, b: u32) -> bool
     ensures { result ≡ is_equatable (termed terms.now c) a b }
 {
     (is_string(terms, c.terms, a) && is_string(terms, c.terms, b))
-        || (kind_of(terms, c.terms, a) == 4 && kind_of(terms, c.terms, b) == 4)
+        || (is_a(terms, c.terms, a, Kind::Length) && is_a(terms, c.terms, b, Kind::Length))
 }
 
 // A list of string terms that is not too long.
@@ -198,14 +202,13 @@ fn term_ok(
     requires { (within c.terms t ≡ true) × (c.chars ≤ length chars.now) × Tables (read_in terms.now chars.now c) hashes.old links.old heads.old t }
     ensures { let s = records_in terms.now cells.now chars.now c in Passing (read_in terms.now chars.now c) (term_rule s t) hashes.new links.new heads.new t result }
 {
-    let k = fields::kind(terms, t);
-    match k {
-        1 => text_ok(terms, c, t),
-        2 => variable_ok(terms, chars, c, hashes, links, heads, t),
-        3 => concat_ok(terms, cells, c, t),
-        4 => length_ok(terms, c, t),
-        5 => equation_ok(terms, c, t),
-        _ => false,
+    match Kind::try_from(fields::kind(terms, t)) {
+        Ok(Kind::Constant) => text_ok(terms, c, t),
+        Ok(Kind::Variable) => variable_ok(terms, chars, c, hashes, links, heads, t),
+        Ok(Kind::Concatenation) => concat_ok(terms, cells, c, t),
+        Ok(Kind::Length) => length_ok(terms, c, t),
+        Ok(Kind::Equation) => equation_ok(terms, c, t),
+        Err(_) => false,
     }
 }
 

@@ -230,31 +230,6 @@ module _ (l : List ℕ) (c : State) (t : ℕ) (w : within c.terms t ≡ true) wh
     unfolding alone_at
     alone-parent b r d f h g = or-next _ _ _ (not_root d) (and-next _ _ r (passed _ b f h) (g ∙ ap (is_string (termed l c)) (view_class l c.terms t p w e)))
 
--- the label of an edge
-module _ (k v : ℕ) where
-  pub label_reason : (r : Bool) → 1 ≤ k → k < 3 → r ≡ is_number v → r ≡ edge_label k v
-  unfolding edge_label
-  label_reason r l h e =
-      let b : (eqb k 1 || eqb k 2) ≡ true = decide (eqb k 1) (λ q. rw q) (λ q. let z = eqb-false k 1 q in rw (q, eq-eqb k 2 (omega arith))) in
-      let f : ◌≡◌ {A = Bool} (is_number v || false || false) (is_number v) = right_falsum (is_number v || false) false refl ∙ right_falsum (is_number v) false refl in
-      rw (b, ne_eqb k 3 (λ z. omega arith), ne_eqb k 4 (λ z. omega arith)) (e ∙ sym f)
-
-  pub label_congruence : k ≡ 3 → true ≡ edge_label k v
-  unfolding edge_label
-  label_congruence e = rw e
-
-  pub label_definitional : k ≡ 4 → eqb v 0 ≡ edge_label k v
-  unfolding edge_label
-  label_definitional e = rw e
-
-  pub label_low : k < 1 → false ≡ edge_label k v
-  unfolding edge_label
-  label_low h = let e : k ≡ 0 = omega arith in rw e
-
-  pub label_high : 2 < k → (k ≡ 3 → ⊥) → (k ≡ 4 → ⊥) → false ≡ edge_label k v
-  unfolding edge_label
-  label_high h x y = rw (ne_eqb k 1 (λ e. omega arith), ne_eqb k 2 (λ e. omega arith), ne_eqb k 3 x, ne_eqb k 4 y)
-
 -- roots at hand
 module _ (l : List ℕ) (c : State) (t r q : ℕ) (h : Rooted (termed l c) c.terms t r q) where
   pub root-here : within c.terms r ≡ true

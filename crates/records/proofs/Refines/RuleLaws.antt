@@ -35,18 +35,6 @@ limit_is n k b h = and-next (leb n k) b b (le-leb n k h) refl
 
 -- REASONS, KEYS, CELLS
 
-pub reason_is : (k v : ℕ) (r : Bool) → 1 ≤ k → k < 3 → r ≡ is_number v → r ≡ reason_rule (k, v)
-unfolding reason_rule
-reason_is k v r l h e = decide (eqb k 1) (λ q. rw q e) (λ q. let z = eqb-false k 1 q in rw (q, eq-eqb k 2 (omega arith)) e)
-
-pub reason_low : (k v : ℕ) → k < 1 → false ≡ reason_rule (k, v)
-unfolding reason_rule
-reason_low k v h = rw (ne_eqb k 1 (λ e. omega arith), ne_eqb k 2 (λ e. omega arith))
-
-pub reason_high : (k v : ℕ) → 2 < k → false ≡ reason_rule (k, v)
-unfolding reason_rule
-reason_high k v h = rw (ne_eqb k 1 (λ e. omega arith), ne_eqb k 2 (λ e. omega arith))
-
 -- as a key, and as a reason
 module _ (s : Store) (p : ℕ × ℕ) (key r : Bool) where
   pub pair_key : key ≡ true → r ≡ key_rule s p → r ≡ pair_rule key s p

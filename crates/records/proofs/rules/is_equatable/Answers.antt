@@ -7,10 +7,10 @@ pub returns-then-is_string-2 : goal.returns-then-is_string-2
 unfolding is_equatable
 returns-then-is_string-2 c = grind (arith, nat_tests)
 
-pub returns-then-kind_of-eq4 : goal.returns-then-kind_of-eq4
+pub returns-then-is_a : goal.returns-then-is_a
 unfolding is_equatable
-returns-then-kind_of-eq4 c = grind (arith, nat_tests)
+returns-then-is_a c = grind (arith, nat_tests)
 
-pub returns-else-kind_of-eq4 : goal.returns-else-kind_of-eq4
+pub returns-else-is_a : goal.returns-else-is_a
 unfolding is_equatable
-returns-else-kind_of-eq4 c = grind (arith, nat_tests)
+returns-else-is_a c = grind (arith, nat_tests)
