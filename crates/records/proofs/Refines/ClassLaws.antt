@@ -4,18 +4,17 @@ use mathlib.Core.Path.{◌≡◌, refl, sym, ap, ◌∙◌}
 use mathlib.Core.Bool.{Bool, true, false, not, ◌&&◌, ◌||◌}
 use mathlib.Core.List.{List}
 use mathlib.Core.Logic.{⊎_elim}
-use Prim.Native.Nat.{ℕ, zero, suc, ◌≤◌, ◌<◌}
-use native.Mathlib.Omega.{arith}
+use Prim.Native.Nat.{ℕ, zero, suc}
 use lib.ListN.{length}
 use lib.Dec.{eqb}
 use borrow.Author.Tests.{eqb-true, eqb-false, eq-eqb, ne_eqb}
 use Rattle.records.specs.declared.State.{State}
 use Rattle.records.specs.Store.{Store, term, count, is_term, is_string, within, climb, class_up, forest_up, root, top, same_class, same_tree}
-use Rattle.records.specs.Rules.{each_term, parents_rule, ends_rule, alike_rule, alone_rule, is_number, edge_label, label_rule, classes_rule}
+use Rattle.records.specs.Rules.{each_term, parents_rule, ends_rule, alike_rule, alone_rule, edge_label, label_rule, classes_rule}
 use Rattle.records.specs.Working.Leaves.{parent_of, up_in, alike_at, alone_at, class_test}
 use Rattle.records.specs.View.{Lent, store_of, terms_view, termed, term_at}
 use Rattle.records.specs.Working.Audited.{Closed, Rooted}
-use Rattle.records.proofs.Lists.{both_left, both_right, both_true, right-false, right_falsum, or-stop, or-next, either, or_left, or_right, decide, clash, same_test, and-stop, and-next, failed, passed}
+use Rattle.records.proofs.Lists.{both_left, both_right, both_true, right-false, or-stop, or-next, either, or_left, or_right, decide, clash, same_test, and-stop, and-next, failed, passed}
 use Rattle.records.proofs.Climbs.{climb-up, climb-stays, climb-within, rule_at, rule_all, parents_up, view_count, view_term, view_up, view_class, view_forest}
 
 -- what a term's tests say of its roots

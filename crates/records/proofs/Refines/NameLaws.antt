@@ -1,7 +1,7 @@
 -- Names are unique (src/unique.rt): hashes of texts, chains of variables by their hashes, and a walk down one chain.
 use mathlib.Core.Path.{◌≡◌, refl, sym, ap, ◌∙◌}
 use mathlib.Core.Bool.{Bool, true, false, not, ◌&&◌}
-use mathlib.Core.List.{List, ◌∷◌, ◌++◌, []}
+use mathlib.Core.List.{List, []}
 use Prim.Native.Nat.{ℕ, suc, ◌+◌, ◌-◌, ◌*◌, ◌/◌, ◌%◌, ◌<◌, ◌≤◌}
 use mathlib.Core.Logic.{◌⊎◌, ⊎_elim}
 use native.Mathlib.Nat.{eq-or-lt_of_le}
@@ -12,7 +12,7 @@ use lib.Seq.{get_or-set_same, get_or-set_other}
 use lib.Dec.{eqb, ltb}
 use borrow.Author.Tests.{eqb-true, eq-eqb, ne_eqb, leb-true, lt-ltb, le-ltb}
 use Rattle.records.specs.declared.State.{State}
-use Rattle.records.specs.Lists.{all_below, table, same_word}
+use Rattle.records.specs.Lists.{all_below, same_word}
 use Rattle.records.specs.Store.{Term, Store, term, within, is_variable, text, term_in}
 use Rattle.records.specs.View.{lent, store_of, term_at, chars_view, span}
 use Rattle.records.specs.Working.Leaves.{has_text}

@@ -7,15 +7,15 @@ use native.Mathlib.Omega.{arith}
 use lib.ListN.{length, get_or}
 use Rattle.std.proofs.lemmas.Bool.Decides.{nat_tests}
 use lib.Dec.{eqb, ltb, leb}
-use borrow.Author.Tests.{lt-ltb, le-ltb, le-leb, lt-leb, eq-eqb, ne_eqb, eqb-false, leb-true}
+use borrow.Author.Tests.{lt-ltb, le-ltb, le-leb, lt-leb, eq-eqb, ne_eqb, leb-true}
 use Rattle.records.specs.Lists.{all}
 use Rattle.records.specs.Store.{Store, term_in, within, term, cell, chain, chain_by, is_string}
 use Rattle.records.specs.View.{Lent, lent, store_of, cell_at, pair_at, terms_view, term_words, cell_words, sizes, term_limit, cell_limit, char_limit, reason_limit, key_limit}
 use Rattle.records.specs.declared.State.{State}
 use Rattle.records.specs.Working.Leaves.{pair_rule}
 use Rattle.records.specs.Working.Audited.{Sized}
-use Rattle.records.specs.Rules.{is_number, reason_rule, key_rule, cell_rule, text_rule, part_rule, concat_rule, length_rule, is_equatable, equation_rule}
-use Rattle.records.proofs.Lists.{within-high, and-stop, and-next, or-stop, right-false, right-true, or_none_lem, three_1, three_2, three_3, three-first, three-last, decide, table-length, both_left, both_right, both_true}
+use Rattle.records.specs.Rules.{reason_rule, key_rule, cell_rule, text_rule, part_rule, concat_rule, length_rule, is_equatable, equation_rule}
+use Rattle.records.proofs.Lists.{within-high, and-stop, and-next, or-stop, right-false, right-true, or_none_lem, three_1, three_2, three_3, three-first, three-last, table-length, both_left, both_right, both_true}
 use Rattle.records.proofs.Views.{term-none, term-past, next_at_lem}
 
 past : (n t : ℕ) → within n t ≡ false → 0 < t → n < t

@@ -1,5 +1,4 @@
 use Rattle.records.proofs.Refines.HeightLaws.{Raising}
-use Prim.Native.Nat.{suc, ◌-◌}
 use Rattle.records.proofs.heights.height_up.Given as goal
 
 abbrev pub invariant-loop : goal.invariant-loop

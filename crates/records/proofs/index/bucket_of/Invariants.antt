@@ -1,5 +1,3 @@
-use Prim.Native.Nat.{◌-◌}
-use lib.ListN.{length}
 use Rattle.records.specs.Index.{bucket_of}
 use Rattle.records.proofs.Refines.IndexBuckets.{AddingFrom}
 use Rattle.records.proofs.index.bucket_of.Given as goal

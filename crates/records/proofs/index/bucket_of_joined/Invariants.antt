@@ -2,8 +2,6 @@ use Rattle.records.proofs.Refines.IndexBuckets.{JoinedFrom}
 use Rattle.records.specs.Index.{bucket_of}
 use Rattle.records.specs.View.{text_at}
 use Rattle.records.specs.Lists.{concat_map}
-use lib.ListN.{length}
-use Prim.Native.Nat.{◌-◌}
 use Rattle.records.proofs.index.bucket_of_joined.Given as goal
 
 abbrev pub invariant-loop-t : goal.invariant-loop-t

@@ -1,10 +1,8 @@
 use mathlib.Core.Path.{◌≡◌}
 use mathlib.Core.Bool.{true}
-use Prim.Native.Nat.{◌-◌, ◌≤◌}
 use lib.ListN.{get_or}
 use lib.Dec.{eqb}
 use Rattle.records.specs.Lists.{all_below}
-use Rattle.records.specs.View.{buckets}
 use Rattle.records.specs.Working.Indexing.{word_after}
 use Rattle.records.proofs.index.chains_end.Given as goal
 

@@ -1,5 +1,4 @@
 use Rattle.records.proofs.Lists.{any-zero, any-turn, any-stop, any-done}
-use native.Mathlib.Omega.{arith}
 use Rattle.records.proofs.put.has_pair.Goals as goal
 
 pub loop-i-init : goal.loop-i-init

@@ -1,7 +1,6 @@
 use Rattle.records.specs.Make.{same_pair}
 use Rattle.records.specs.View.{pairs_view}
 use Rattle.records.specs.Lists.{any}
-use Prim.Native.Nat.{◌≤◌, ◌-◌}
 use mathlib.Core.Bool.{false}
 use mathlib.Core.Path.{◌≡◌}
 use Rattle.records.proofs.put.has_pair.Given as goal

@@ -1,6 +1,6 @@
 use Rattle.records.proofs.Refines.Puts.{Chained}
 use lib.ListN.{length}
-use Prim.Native.Nat.{◌≤◌, ◌-◌, ◌+◌}
+use Prim.Native.Nat.{◌+◌}
 use mathlib.Core.Path.{◌≡◌}
 use Rattle.records.proofs.put.put_chain_unchecked.Given as goal
 

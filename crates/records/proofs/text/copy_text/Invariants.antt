@@ -1,6 +1,5 @@
 use Rattle.records.proofs.Refines.Texts.{Copied}
 use Rattle.records.specs.View.{span}
-use Prim.Native.Nat.{◌-◌}
 use Rattle.records.proofs.text.copy_text.Given as goal
 
 abbrev pub invariant-loop-i : goal.invariant-loop-i

@@ -1,6 +1,4 @@
 use Rattle.records.proofs.Refines.JoinedTexts.{Matched}
-use lib.ListN.{length}
-use Prim.Native.Nat.{◌-◌}
 use Rattle.records.proofs.text.joined_is_unchecked.Given as goal
 
 abbrev pub invariant-loop-t : goal.invariant-loop-t

@@ -1,7 +1,5 @@
 use Rattle.records.proofs.Loops.{Summing}
 use Rattle.records.specs.View.{lengths}
-use lib.ListN.{length}
-use Prim.Native.Nat.{◌-◌}
 use Rattle.records.proofs.text.joined_length_unchecked.Given as goal
 
 abbrev pub invariant-loop-t : goal.invariant-loop-t

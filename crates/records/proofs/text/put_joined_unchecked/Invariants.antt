@@ -1,6 +1,4 @@
 use Rattle.records.proofs.Refines.JoinedTexts.{Joined}
-use lib.ListN.{length}
-use Prim.Native.Nat.{◌-◌}
 use Rattle.records.proofs.text.put_joined_unchecked.Given as goal
 
 abbrev pub invariant-loop-i : goal.invariant-loop-i

@@ -1,6 +1,4 @@
 use Rattle.records.proofs.Refines.Texts.{Agreed}
-use lib.ListN.{length}
-use Prim.Native.Nat.{◌-◌}
 use Rattle.records.proofs.text.text_past.Given as goal
 
 abbrev pub invariant-loop-i : goal.invariant-loop-i
