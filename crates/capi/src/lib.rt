@@ -14,8 +14,8 @@ ghost use Rattle.capi.specs.Steps.{ExportedStep};
 use engine::Found;
 use records::{build, make};
 use telling::{
-    STATE_ROOM, flag_of, is_roomy, state_of, tell, tell_answer, tell_counts, tell_deep_form,
-    tell_form, tell_outcome, tell_still,
+    STATE_ROOM, is_roomy, state_of, tell, tell_answer, tell_counts, tell_deep_form, tell_form,
+    tell_outcome, tell_still,
 };
 use wordeq::Equality;
 
@@ -286,7 +286,7 @@ pub extern "C" fn labels_nf_equal(
     let c = state_of(state);
     let compared = wordeq::nf_equal(terms, cells, chars, reasons, keys, c, lhs, rhs);
     match compared {
-        Equality::Is(b) => tell_still(state, answer, &[flag_of(b)]),
+        Equality::Is(b) => tell_still(state, answer, &[u32::from(b)]),
         Equality::Refused(k) => k,
     }
 }

@@ -6,7 +6,7 @@ ghost use Rattle.capi.specs.Parts.{ExportedParts};
 ghost use Rattle.capi.specs.Working.Leaves.{written, ToldIn};
 ghost use Rattle.capi.specs.Working.Parting.{parts_telling, NarrowParts};
 
-use crate::telling::{STATE_ROOM, flag_of, is_roomy, state_of, tell_words};
+use crate::telling::{STATE_ROOM, is_roomy, state_of, tell_words};
 use empties::Empties;
 
 // The count, the number of "" and the link flag into the words.
@@ -16,7 +16,7 @@ fn tell_parts(state: &mut [u32], answer: &mut [u32], made: Empties) -> u32
     ensures { ToldIn written parts_telling (changing state) (changing answer) made result }
 {
     match made {
-        Empties::Parts(c, e, n, f) => tell_words(state, answer, c, &[n as u32, e, flag_of(f)]),
+        Empties::Parts(c, e, n, f) => tell_words(state, answer, c, &[n as u32, e, u32::from(f)]),
         Empties::Refused(k) => k,
     }
 }

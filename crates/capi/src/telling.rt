@@ -41,12 +41,15 @@ pub(crate) fn write_state(state: &mut [u32], c: State)
     requires { (state_room ≤ length state.old) × Narrow c }
     ensures { state.new ≡ written c state.old }
 {
-    state[0] = c.terms as u32;
-    state[1] = c.cells as u32;
-    state[2] = c.chars as u32;
-    state[3] = c.reasons as u32;
-    state[4] = c.keys as u32;
-    state[5] = c.names;
+    let words = [
+        c.terms as u32,
+        c.cells as u32,
+        c.chars as u32,
+        c.reasons as u32,
+        c.keys as u32,
+        c.names,
+    ];
+    write_words(state, &words);
 }
 
 // Words put first in a slice.
@@ -54,21 +57,14 @@ pub(crate) fn write_words(to: &mut [u32], words: &[u32])
     requires { length words.now ≤ length to.old }
     ensures { to.new ≡ put_first words.now to.old }
 {
-    let mut i: usize = 0;
-    while i < words.len() {
-        to[i] = words[i];
-        i += 1;
-    }
+    to[..words.len()].copy_from_slice(words);
 }
 
 // Whether the state has n words and the answer its eight.
 pub(crate) fn is_roomy(n: usize, state: &[u32], answer: &[u32]) -> bool
     ensures { result ≡ roomy n state.now answer.now }
 {
-    if state.len() < n {
-        return false;
-    }
-    ANSWER_ROOM <= answer.len()
+    n <= state.len() && ANSWER_ROOM <= answer.len()
 }
 
 // The counts into the state's words, and words into the answer.
@@ -138,26 +134,6 @@ pub(crate) fn tell_deep_form(state: &mut [u32], answer: &mut [u32], made: DeepFo
     }
 }
 
-pub(crate) fn flag_of(b: bool) -> u32
-    ensures { result ≡ flag b }
-{
-    if b {
-        return 1;
-    }
-    0
-}
-
-// A number as a 32-bit two's complement.
-pub(crate) fn bits_of(g: i32) -> u32
-    ensures { result ≡ of_z w32 g }
-{
-    if g < 0 {
-        let below = (-1 - g) as u32;
-        return 4294967295 - below;
-    }
-    g as u32
-}
-
 // An answer of wordeq into the words.
 pub(crate) fn tell_answer(state: &mut [u32], answer: &mut [u32], made: StepResult) -> u32
     requires { (roomy state_room state.old answer.old ≡ true) × NarrowAnswer made }
@@ -167,12 +143,12 @@ pub(crate) fn tell_answer(state: &mut [u32], answer: &mut [u32], made: StepResul
         StepResult::Done(c) => tell_words(state, answer, c, &[0]),
         StepResult::Saturated(c) => tell_words(state, answer, c, &[1]),
         StepResult::Conflict(c) => tell_words(state, answer, c, &[2]),
-        StepResult::Propagate(c, v, w, f) => tell_words(state, answer, c, &[3, v, w, flag_of(f)]),
+        StepResult::Propagate(c, v, w, f) => tell_words(state, answer, c, &[3, v, w, u32::from(f)]),
         StepResult::Split(c, n, g, k) => tell_words(
             state,
             answer,
             c,
-            &[4, n as u32, bits_of(g), k],
+            &[4, n as u32, g.cast_unsigned(), k],
         ),
         StepResult::Refused(k) => k,
     }

@@ -1,6 +1,6 @@
-use Rattle.capi.proofs.Words.{told_as, told-refuses}
+use Rattle.capi.proofs.Words.{flag_from, told_as, told-refuses}
 use Rattle.capi.specs.Working.Parting.{parts_telling}
-use mathlib.Core.Path.{ap}
+use mathlib.Core.Path.{ap, ◌∙◌}
 use mathlib.Core.List.{[], ◌∷◌}
 use Prim.Native.Nat.{ℕ}
 use native.Mathlib.Omega.{arith}
@@ -16,7 +16,7 @@ tell_words-requires c =
 
 pub returns-in-Parts : goal.returns-in-Parts
 returns-in-Parts c =
-    told_as (ap parts_telling c.in-Parts.is) c.tell_words.ensures.is (ap (λ (x : ℕ). c.in-Parts.n ∷ c.in-Parts.e ∷ x ∷ []) c.flag_of.ensures)
+    told_as (ap parts_telling c.in-Parts.is) c.tell_words.ensures.is (ap (λ (x : ℕ). c.in-Parts.n ∷ c.in-Parts.e ∷ x ∷ []) (c.from.ensures ∙ flag_from _))
 
 pub returns-in-Refused : goal.returns-in-Refused
 returns-in-Refused c =
