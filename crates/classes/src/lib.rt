@@ -5,7 +5,6 @@
 ghost use Rattle.std.specs.Prelude.{◌≡◌, true, ◌≤◌, ◌<◌, length};
 ghost use Rattle.records.specs.Store.{within};
 ghost use Rattle.records.specs.View.{store_of, term_at, terms_view, term_words, termed, across, Between, changing, lent};
-ghost use Rattle.records.specs.Rules.{is_reason_kind};
 ghost use Rattle.records.specs.Working.Puts.{TermSet};
 ghost use Rattle.records.specs.Working.Audited.{Ready};
 ghost use Rattle.classes.specs.Marks.{mark_limit};
@@ -20,8 +19,8 @@ use crate::trail::{
 use records::classes::{root_unchecked, top_unchecked};
 use records::fields::{class_parent, forest_parent, wide, word};
 use records::put::{put_class_parent_unchecked, put_edge_unchecked};
-use records::rules::{is_number, is_string, is_within};
-use records::{Refusal, State};
+use records::rules::{is_number, is_reason_kind, is_string, is_within};
+use records::{Label, Refusal, State};
 
 mod links;
 pub mod trail;
@@ -62,7 +61,7 @@ fn put_under_unchecked(terms: &mut [u32], child: u32, parent: u32, n: u32, stamp
     ensures { TermSet terms.old terms.new child (under (term_at terms.old child) parent n stamp) }
 {
     put_class_parent_unchecked(terms, child, parent);
-    put_edge_unchecked(terms, child, parent, 1, n, stamp);
+    put_edge_unchecked(terms, child, parent, Label::Asserted.into(), n, stamp);
 }
 
 // Puts the child's class under the parent. The caller's stamps count up.
@@ -96,12 +95,6 @@ pub struct Standing {
 }
 
 // JOINING, MARKS, GOING BACK
-
-fn is_reason_kind(k: u32) -> bool
-    ensures { result ≡ is_reason_kind k }
-{
-    k == 1 || k == 2
-}
 
 // Whether two terms can be joined under a reason: string terms, and a reason that a caller can give.
 fn can_join(terms: &[u32], c: State, a: u32, b: u32, kind: u32, number: u32) -> bool
