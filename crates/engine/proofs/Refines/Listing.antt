@@ -1,10 +1,10 @@
 -- Each way through `place_of` and `is_at`.
+use Rattle.std.specs.Prelude.{Some}
 use mathlib.Core.Path.{◌≡◌, sym, ◌∙◌}
 use mathlib.Core.Bool.{Bool, true, false}
 use mathlib.Core.List.{List}
 use Prim.Native.Nat.{ℕ, ◌+◌, ◌-◌, ◌≤◌, ◌<◌}
 use native.Mathlib.Omega.{arith}
-use borrow.Author.Tests.{lt-ltb}
 use Rattle.records.specs.View.{pair_at, pairs_view}
 use Rattle.records.specs.Make.{same_pair, is_listed}
 use Rattle.records.proofs.Lists.{any-zero, any-turn, any-stays, any-stop}
@@ -23,9 +23,9 @@ module _ (l : List ℕ) (n a b : ℕ) where
   unfolding is_listed
   lacks-turn i x e t h = record { is = any-turn (same_pair (a, b)) (pair_at l) i x e t h.is }
 
-  pub place_found : (i : ℕ) (x : Bool) → x ≡ same_pair (a, b) (pair_at l i) → x ≡ true → i < n → Placed l n a b (i + 1)
+  pub place_found : (i : ℕ) (x : Bool) → x ≡ same_pair (a, b) (pair_at l i) → x ≡ true → i < n → Placed l n a b (Some i)
   unfolding is_listed
-  place_found i x e t h = record { is = lt-ltb 0 (i + 1) (omega arith) ∙ any-stop (same_pair (a, b)) (pair_at l) n i x e t h; low = omega arith }
+  place_found i x e t h = record { is = any-stop (same_pair (a, b)) (pair_at l) n i x e t h; low = h }
 
   pub stands_by : (p : ℕ) (x : Bool) → (0 < p) × (p ≤ n) → x ≡ same_pair (a, b) (pair_at l (p - 1)) → Stands l n a b x
   unfolding is_listed
