@@ -143,7 +143,7 @@ module _ {m m₁ : Lent} {c : State} (known : List ℕ) (t : ℕ) where
   form-stop : {k : ℕ} (rs : List (ℕ × ℕ)) (f : List ℕ → Work Stepped) → Working (deep_form known t) m m₁ c (stop k) → Working (form_then known t rs f) m m₁ c (stop k)
   form-stop rs f w = working_stopped (ap (and_then (or_unexpanded rs f)) w.says) w.kept
 
-  module _ (ready : Ready m c) (fit : form_arguments known t (store_of m c) ≡ true) {d : State} where
+  module _ (ready : Ready m c) (fit : form_arguments known t (store_of m c) ≡ true) (d : State) where
     form-none : (n : ℕ) (f : List ℕ → Work Stepped) → n ≤ c.reasons → Working (deep_form known t) m m₁ c (ok (store_of m₁ d) none) → Working (form_then known t (pairs_view m.reasons n) f) m m₁ c (ok (store_of m₁ (reasons_at d n)) unexpanded)
     form-none n f h w =
         let r = reasons-kept m m₁ c w.kept.store n h in
@@ -152,7 +152,7 @@ module _ {m m₁ : Lent} {c : State} (known : List ℕ) (t : ℕ) where
         working_left (ready-beside (w.ready d none refl) refl refl a (record { terms = refl; cells = refl; chars = refl }))
         (ap (and_then (or_unexpanded (pairs_view m.reasons n) f)) w.says ∙ ap (λ (rs : List (ℕ × ℕ)). or_unexpanded rs f none (store_of m₁ d)) (sym r)) w.kept
 
-module _ {m m₁ : Lent} {c : State} (list known : List ℕ) (t : ℕ) (ready : Ready m c) (fit : form_arguments known t (store_of m c) ≡ true) {j : ℕ} {d : State} (w : Working (deep_form known t) m m₁ c (ok (store_of m₁ d) (some (first_words list j)))) where
+module _ {m m₁ : Lent} {c : State} (list known : List ℕ) (t : ℕ) (ready : Ready m c) (fit : form_arguments known t (store_of m c) ≡ true) (j : ℕ) (d : State) (w : Working (deep_form known t) m m₁ c (ok (store_of m₁ d) (some (first_words list j)))) where
   form-later : Later (store_of m c) (store_of m₁ d)
   form-later = deep_kept known t (store_of m c) ready.audited fit (store_of m₁ d) (some (first_words list j)) w.says
 
@@ -204,16 +204,16 @@ module _ {m m₁ : Lent} {c : State} (known : List ℕ) (t n : ℕ) (g : ℤ) (l
   unfolding right_form
   right-stop w = form-stop known t (pairs_view m.reasons n) (λ r. resolve_forms l r g (pairs_view m.reasons n)) w
 
-  module _ (h : n ≤ c.reasons) (ready : Ready m c) (fit : form_arguments known t (store_of m c) ≡ true) {d : State} where
+  module _ (h : n ≤ c.reasons) (ready : Ready m c) (fit : form_arguments known t (store_of m c) ≡ true) (d : State) where
     pub right-none : {d' : State} → Working (deep_form known t) m m₁ c (ok (store_of m₁ d) none) → d' ≡ reasons_at d n → Working (right_form known t g l (pairs_view m.reasons n)) m m₁ c (ok (store_of m₁ d') unexpanded)
     unfolding right_form
-    right-none w z = rw z (form-none known t ready fit n (λ r. resolve_forms l r g (pairs_view m.reasons n)) h w)
+    right-none w z = rw z (form-none known t ready fit d n (λ r. resolve_forms l r g (pairs_view m.reasons n)) h w)
 
-    pub right-some : (list : List ℕ) {j : ℕ} → Working (deep_form known t) m m₁ c (ok (store_of m₁ d) (some (first_words list j))) → {m₂ : Lent} {r : List ℕ} {o : Out Stepped} → r ≡ first_words list j → (z : ℤ) → z ≡ g
+    pub right-some : (list : List ℕ) (j : ℕ) → Working (deep_form known t) m m₁ c (ok (store_of m₁ d) (some (first_words list j))) → {m₂ : Lent} {r : List ℕ} {o : Out Stepped} → r ≡ first_words list j → (z : ℤ) → z ≡ g
         → Working (resolve_forms l r z (pairs_view m₁.reasons n)) m₁ m₂ d o → Working (right_form known t g l (pairs_view m.reasons n)) m m₂ c o
     unfolding right_form
-    right-some list {j} w {m₂} {r} {o} i z u v =
-        form-some list known t ready fit w (pairs_view m.reasons n) (λ r. resolve_forms l r g (pairs_view m.reasons n))
+    right-some list j w {m₂} {r} {o} i z u v =
+        form-some list known t ready fit j d w (pairs_view m.reasons n) (λ r. resolve_forms l r g (pairs_view m.reasons n))
         (subst (λ (rs : List (ℕ × ℕ)). Working (resolve_forms l (first_words list j) g rs) m₁ m₂ d o) (reasons-kept m m₁ c w.kept.store n h)
         (subst (λ (y : List ℕ). Working (resolve_forms l y g (pairs_view m₁.reasons n)) m₁ m₂ d o) i (subst (λ (y : ℤ). Working (resolve_forms l r y (pairs_view m₁.reasons n)) m₁ m₂ d o) u v)))
 
@@ -255,25 +255,25 @@ module _ (known : List ℕ) (e : ℕ) (g : ℤ) (m : Lent) (c : State) (ready : 
   unfolding step right_form resolve_forms
   step_from a b i j = rw (left_is a i) (rw (right_is b j) refl)
 
-  module _ {m₁ : Lent} (a b : ℕ) (i : a ≡ (term_at m.terms e).first) (j : b ≡ (term_at m.terms e).second) where
+  module _ (a b : ℕ) (i : a ≡ (term_at m.terms e).first) (j : b ≡ (term_at m.terms e).second) where
     from : {m₂ : Lent} {o : Out Stepped} → Working (form_then known a (pairs_view m.reasons c.reasons) (λ l. right_form known b g l (pairs_view m.reasons c.reasons))) m m₂ c o → Working (step known e g) m m₂ c o
     from v = working_is (step_from a b i j) v
 
-    pub left-stop : {k : ℕ} → Working (deep_form known a) m m₁ c (stop k) → Working (step known e g) m m₁ c (stop k)
+    pub left-stop : {m₁ : Lent} {k : ℕ} → Working (deep_form known a) m m₁ c (stop k) → Working (step known e g) m m₁ c (stop k)
     left-stop w = from (form-stop known a _ _ w)
 
-    pub left-none : {d d' : State} → Working (deep_form known a) m m₁ c (ok (store_of m₁ d) none) → d' ≡ reasons_at d c.reasons → Working (step known e g) m m₁ c (ok (store_of m₁ d') unexpanded)
-    left-none w z = from (rw z (form-none known a ready (left-fits a i) c.reasons _ (omega arith) w))
+    pub left-none : {m₁ : Lent} (d : State) {d' : State} → Working (deep_form known a) m m₁ c (ok (store_of m₁ d) none) → d' ≡ reasons_at d c.reasons → Working (step known e g) m m₁ c (ok (store_of m₁ d') unexpanded)
+    left-none d w z = from (rw z (form-none known a ready (left-fits a i) d c.reasons _ (omega arith) w))
 
-    module _ (list : List ℕ) {n : ℕ} {d : State} (w : Working (deep_form known a) m m₁ c (ok (store_of m₁ d) (some (first_words list n)))) where
+    module _ {m₁ : Lent} (list : List ℕ) (n : ℕ) (d : State) (w : Working (deep_form known a) m m₁ c (ok (store_of m₁ d) (some (first_words list n)))) where
       pub right-fits : form_arguments known b (store_of m₁ d) ≡ true
       right-fits =
-          both_true (is_list (store_of m₁ d) known) _ (form-keeps list known a ready (left-fits a i) w known (both_left (is_list s known) _ lists))
-          (form-string list known a ready (left-fits a i) w b (right-string b j))
+          both_true (is_list (store_of m₁ d) known) _ (form-keeps list known a ready (left-fits a i) n d w known (both_left (is_list s known) _ lists))
+          (form-string list known a ready (left-fits a i) n d w b (right-string b j))
 
       pub left-some : {m₂ : Lent} {l : List ℕ} {o : Out Stepped} → l ≡ first_words list n → (y : ℤ) → y ≡ g → Working (right_form known b y l (pairs_view m₁.reasons c.reasons)) m₁ m₂ d o → Working (step known e g) m m₂ c o
       left-some {m₂} {l} {o} z y u v =
-          from (form-some list known a ready (left-fits a i) w (pairs_view m.reasons c.reasons) (λ l. right_form known b g l (pairs_view m.reasons c.reasons))
+          from (form-some list known a ready (left-fits a i) n d w (pairs_view m.reasons c.reasons) (λ l. right_form known b g l (pairs_view m.reasons c.reasons))
           (subst (λ (rs : List (ℕ × ℕ)). Working (right_form known b g (first_words list n) rs) m₁ m₂ d o) (reasons-kept m m₁ c w.kept.store c.reasons (omega arith))
           (subst (λ (h : List ℕ). Working (right_form known b g h (pairs_view m₁.reasons c.reasons)) m₁ m₂ d o) z (subst (λ (h : ℤ). Working (right_form known b h l (pairs_view m₁.reasons c.reasons)) m₁ m₂ d o) u v))))
 

@@ -7,8 +7,8 @@ use Rattle.records.proofs.Public.{handed}
 use Rattle.equation.proofs.Refines.StepCalls.{forms-refused, forms_resolved}
 use Rattle.equation.proofs.resolve_forms.Goals as goal
 
-pub resolve_unchecked-o-requires : goal.resolve_unchecked-o-requires
-resolve_unchecked-o-requires c =
+pub resolve_unchecked-requires : goal.resolve_unchecked-requires
+resolve_unchecked-requires c =
     record {
       ready = c.requires.ready;
       both_lists = c.requires.both_lists;
@@ -23,6 +23,6 @@ returns-in_err-o c =
 
 pub returns : goal.returns
 returns c =
-    forms_resolved c.args.lhs.now c.args.rhs.now c.resolve_unchecked-o.new.list c.args.guard
+    forms_resolved c.args.lhs.now c.args.rhs.now c.resolve_unchecked.new.list c.args.guard
     (to_z w32 (of_z w32 c.args.guard)) c.args.incoming c.in_ok-o.o _ c.requires.ready c.requires.both_lists c.requires.list_limit_in_bounds.1
     (to_z-of_z w32 c.args.guard c.ranges.guard) c.in_ok-o.ensures c.carried.ensures

@@ -32,11 +32,18 @@ returns-in_err-form c =
     rw (handed _ c.from_residual.ensures.1)
     (left-stop c.args.known.now c.args.e c.args.guard _ _ c.requires.ready c.requires.c_value c.first-a.result c.second-b.result c.first-a.ensures c.second-b.ensures c.in_err-form.ensures)
 
+pub slice_bounds-left-end : goal.slice_bounds-left-end
+slice_bounds-left-end c =
+    let w = rw c.in-Some.is at c.in_ok-form.ensures in
+    let h = form-short c.deep_form_by_unchecked.new.list c.args.known.now c.first-a.result c.requires.ready
+    (left-fits c.args.known.now c.args.e c.args.guard _ _ c.requires.ready c.requires.c_value _ c.first-a.ensures) c.in-Some.n c.in_ok-form.d w in
+    let k = c.deep_form_by_unchecked.auto.list in omega arith
+
 pub slice_bounds-right_form-end : goal.slice_bounds-right_form-end
 slice_bounds-right_form-end c =
     let w = rw c.in-Some.is at c.in_ok-form.ensures in
     let h = form-short c.deep_form_by_unchecked.new.list c.args.known.now c.first-a.result c.requires.ready
-    (left-fits c.args.known.now c.args.e c.args.guard _ _ c.requires.ready c.requires.c_value _ c.first-a.ensures) w in
+    (left-fits c.args.known.now c.args.e c.args.guard _ _ c.requires.ready c.requires.c_value _ c.first-a.ensures) c.in-Some.n c.in_ok-form.d w in
     let k = c.deep_form_by_unchecked.auto.list in sym (length-take-le _ c.deep_form_by_unchecked.new.list (omega arith))
 
 pub right_form-requires : goal.right_form-requires
@@ -44,17 +51,17 @@ right_form-requires c =
     let fits = left-fits c.args.known.now c.args.e c.args.guard _ _ c.requires.ready c.requires.c_value _ c.first-a.ensures in
     let list = c.deep_form_by_unchecked.new.list in
     let w = rw c.in-Some.is at c.in_ok-form.ensures in
-    let short = form-short list c.args.known.now c.first-a.result c.requires.ready fits w in
+    let short = form-short list c.args.known.now c.first-a.result c.requires.ready fits c.in-Some.n c.in_ok-form.d w in
     record {
       ready = (
-        form-ready list c.args.known.now c.first-a.result c.requires.ready fits w,
-        form_candidates list c.args.known.now c.first-a.result c.requires.ready fits w c.known_table_unchecked-table.ensures,
+        form-ready list c.args.known.now c.first-a.result c.requires.ready fits c.in-Some.n c.in_ok-form.d w,
+        form_candidates list c.args.known.now c.first-a.result c.requires.ready fits c.in-Some.n c.in_ok-form.d w c.known_table_unchecked-table.ensures,
       );
-      arguments = right-fits c.args.known.now c.args.e c.args.guard _ _ c.requires.ready c.requires.c_value c.first-a.result c.second-b.result c.first-a.ensures c.second-b.ensures list w;
-      lhs_value = form-list list c.args.known.now c.first-a.result c.requires.ready fits w (first_part list _ (let k = c.deep_form_by_unchecked.auto.list in omega arith));
+      arguments = right-fits c.args.known.now c.args.e c.args.guard _ _ c.requires.ready c.requires.c_value c.first-a.result c.second-b.result c.first-a.ensures c.second-b.ensures list c.in-Some.n c.in_ok-form.d w;
+      lhs_value = form-list list c.args.known.now c.first-a.result c.requires.ready fits c.in-Some.n c.in_ok-form.d w (first_part list _ (let k = c.deep_form_by_unchecked.auto.list in omega arith));
       guard_value = ap is_guard (to_z-of_z w32 c.args.guard c.ranges.guard)
           ∙ step-guard c.args.known.now c.args.e c.args.guard _ _ c.requires.ready c.requires.c_value;
-      list_limit_in_bounds = (c.requires.list_limit_in_bounds, form-incoming list c.args.known.now c.first-a.result c.requires.ready fits w (omega arith));
+      list_limit_in_bounds = (c.requires.list_limit_in_bounds, form-incoming list c.args.known.now c.first-a.result c.requires.ready fits c.in-Some.n c.in_ok-form.d w (omega arith));
     }
 
 pub returns-in-Some : goal.returns-in-Some
@@ -62,11 +69,11 @@ returns-in-Some c =
     let fits = left-fits c.args.known.now c.args.e c.args.guard _ _ c.requires.ready c.requires.c_value _ c.first-a.ensures in
     let list = c.deep_form_by_unchecked.new.list in
     let w = rw c.in-Some.is at c.in_ok-form.ensures in
-    let short = form-short list c.args.known.now c.first-a.result c.requires.ready fits w in
-    left-some c.args.known.now c.args.e c.args.guard _ _ c.requires.ready c.requires.c_value c.first-a.result c.second-b.result c.first-a.ensures c.second-b.ensures list w
+    let short = form-short list c.args.known.now c.first-a.result c.requires.ready fits c.in-Some.n c.in_ok-form.d w in
+    left-some c.args.known.now c.args.e c.args.guard _ _ c.requires.ready c.requires.c_value c.first-a.result c.second-b.result c.first-a.ensures c.second-b.ensures list c.in-Some.n c.in_ok-form.d w
     (first_part list _ (let k = c.deep_form_by_unchecked.auto.list in omega arith)) _ (to_z-of_z w32 c.args.guard c.ranges.guard) c.right_form.ensures
 
 pub returns-in-None : goal.returns-in-None
 returns-in-None c =
     let w = rw c.in-None.is at c.in_ok-form.ensures in
-    left-none c.args.known.now c.args.e c.args.guard _ _ c.requires.ready c.requires.c_value c.first-a.result c.second-b.result c.first-a.ensures c.second-b.ensures w c.with_reasons.ensures
+    left-none c.args.known.now c.args.e c.args.guard _ _ c.requires.ready c.requires.c_value c.first-a.result c.second-b.result c.first-a.ensures c.second-b.ensures c.in_ok-form.d w c.with_reasons.ensures
