@@ -24,19 +24,17 @@ fn push_all(
     keys: &[u32],
     c: State,
     next: &[u32],
-    k: usize,
     out: &mut [u32],
 ) -> Result<(usize, State), Refusal>
     requires ready { Ready (lent terms.old cells.now chars.old reasons.now keys.now) c }
-    requires strings { all (is_string (store_of (lent terms.old cells.now chars.old reasons.now keys.now) c)) (first_words next.now k) ≡ true }
-    requires k_in_bounds { k ≤ length next.now }
-    requires k_le_list_limit { k ≤ list_limit }
+    requires strings { all (is_string (store_of (lent terms.old cells.now chars.old reasons.now keys.now) c)) next.now ≡ true }
+    requires next_len_bound { length next.now ≤ list_limit }
     requires list_limit_in_bounds { list_limit ≤ length out.old }
-    ensures { Does (push_all (first_words next.now k) []) (across (changing terms) cells (changing chars) reasons keys) c (pushed result into changing out) }
+    ensures { Does (push_all next.now []) (across (changing terms) cells (changing chars) reasons keys) c (pushed result into changing out) }
 {
     let mut d = c;
     let mut count: usize = 0;
-    for &a in &next[..k] {
+    for &a in next {
         (count, d) = pushes::push(terms, cells, chars, reasons, keys, d, a, out, count)?;
     }
     Ok((count, d))
@@ -51,19 +49,18 @@ fn settle(
     keys: &[u32],
     c: State,
     next: &[u32],
-    k: usize,
     list: &mut [u32],
     count: usize,
 ) -> Result<Turn, Refusal>
     requires ready { Ready (lent terms.old cells.now chars.old reasons.now keys.now) c }
-    requires strings { all (is_string (store_of (lent terms.old cells.now chars.old reasons.now keys.now) c)) (first_words next.now k) ≡ true }
-    requires k_in_bounds { (k ≤ length next.now) × (k ≤ list_limit) }
+    requires strings { all (is_string (store_of (lent terms.old cells.now chars.old reasons.now keys.now) c)) next.now ≡ true }
+    requires next_len_bound { length next.now ≤ list_limit }
     requires count_in_bounds { count ≤ length list.old }
     requires deep_limit_in_bounds { deep_limit ≤ length list.old }
-    ensures { Between (Settles (first_words list.old count) (first_words next.now k)) (across (changing terms) cells (changing chars) reasons keys) c list.new result }
+    ensures { Between (Settles (first_words list.old count) next.now) (across (changing terms) cells (changing chars) reasons keys) c list.new result }
 {
     let mut out: [u32; 1024] = [0; 1024];
-    let (n, d) = push_all(terms, cells, chars, reasons, keys, c, next, k, &mut out)?;
+    let (n, d) = push_all(terms, cells, chars, reasons, keys, c, next, &mut out)?;
     if DEEP_NF_ATOM_CAP < n {
         return Ok(Turn::Ends(None, d));
     }
@@ -96,17 +93,38 @@ fn round(
     requires met_table { MetTable met.old }
     ensures { let l = first_words list.old count in Between (Turns known.now t l met.old) (across (changing terms) cells (changing chars) (changing reasons) keys) c list.new met.new result }
 {
-    if !expands::any_opens(terms, c.terms, t, list, count) {
+    if !expands::any_opens(terms, c.terms, t, &list[..count]) {
         return Ok(Turn::Ends(Some(count), c));
     }
     let mut next: [u32; 512] = [0; 512];
     let (made, d) = expands::expand(
-        terms, cells, chars, reasons, keys, c, known, table, t, list, count, met, &mut next,
+        terms,
+        cells,
+        chars,
+        reasons,
+        keys,
+        c,
+        known,
+        table,
+        t,
+        &list[..count],
+        met,
+        &mut next,
     )?;
     let Some(k) = made else {
         return Ok(Turn::Ends(None, d));
     };
-    settle(terms, cells, chars, reasons, keys, d, &next, k, list, count)
+    settle(
+        terms,
+        cells,
+        chars,
+        reasons,
+        keys,
+        d,
+        &next[..k],
+        list,
+        count,
+    )
 }
 
 // At most 64 rounds.

@@ -22,11 +22,10 @@ fn opens(terms: &[u32], n: usize, t: u32, a: u32) -> bool
 }
 
 // Whether an atom of the list is expanded.
-pub(crate) fn any_opens(terms: &[u32], n: usize, t: u32, list: &[u32], count: usize) -> bool
-    requires { count ≤ length list.now }
-    ensures { result ≡ any (opens_in (terms_view terms.now n) t) (first_words list.now count) }
+pub(crate) fn any_opens(terms: &[u32], n: usize, t: u32, list: &[u32]) -> bool
+    ensures { result ≡ any (opens_in (terms_view terms.now n) t) list.now }
 {
-    list[..count].iter().any(|&a| opens(terms, n, t, a))
+    list.iter().any(|&a| opens(terms, n, t, a))
 }
 
 // The normal form of a concatenation after the first k words of the round's list.
@@ -109,18 +108,17 @@ pub(crate) fn expand(
     table: &[u32; 513],
     t: u32,
     list: &[u32],
-    count: usize,
     met: &mut [u8; 513],
     next: &mut [u32],
 ) -> Result<(Option<usize>, State), Refusal>
     requires ready { Ready (lent terms.old cells.now chars.old reasons.old keys.now) c }
     requires candidates { Candidates (store_of (lent terms.old cells.now chars.old reasons.old keys.now) c) known.now table.now }
-    requires round_of { RoundOf (store_of (lent terms.old cells.now chars.old reasons.old keys.now) c) list.now count met.old next.old }
-    ensures { let l = first_words list.now count in Between (Expands known.now t l next.old 0 met.old) (across (changing terms) cells (changing chars) (changing reasons) keys) c next.new met.new result }
+    requires round_of { RoundOf (store_of (lent terms.old cells.now chars.old reasons.old keys.now) c) list.now (length list.now) met.old next.old }
+    ensures { Between (Expands known.now t list.now next.old 0 met.old) (across (changing terms) cells (changing chars) (changing reasons) keys) c next.new met.new result }
 {
     let mut d = c;
     let mut k: usize = 0;
-    for &a in &list[..count] {
+    for &a in list {
         let (made, e) = expand_one(
             terms, cells, chars, reasons, keys, d, known, table, t, a, met, next, k,
         )?;

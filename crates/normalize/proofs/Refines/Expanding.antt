@@ -8,9 +8,9 @@ use mathlib.Core.Option.{Option, none, some}
 use Prim.Native.Nat.{ℕ, suc, ◌+◌, ◌*◌, ◌≤◌, ◌<◌}
 use native.Mathlib.Numerals.{add-one}
 use native.Mathlib.Omega.{arith}
-use lib.ListN.{length, length-take, take, drop, get_or, set, length-set, length-append, drop_of_length-le}
-use lib.Seq.{drop-cons, get_or-take, get_or-set_same, get_or-set_other}
-use lib.Dec.{eqb, ltb}
+use lib.ListN.{replicate, length, take, drop, get_or, set, length-set, length-append, drop_of_length-le}
+use lib.Seq.{drop-cons, length-take-le, get_or-set_same, get_or-set_other}
+use lib.Dec.{eqb, ltb, lit≤}
 use borrow.Author.Tests.{eqb-true, eqb-false, eq-eqb, ne_eqb, ltb-false, lt-ltb, le-ltb}
 use Rattle.records.specs.declared.State.{State}
 use Rattle.records.specs.declared.refusal.Refusal.{Refusal}
@@ -19,7 +19,7 @@ use Rattle.records.specs.Store.{Store, Out, ok, stop, Work, and_then, give, coun
 use Rattle.records.specs.View.{Lent, store_of, term_limit}
 use Rattle.records.specs.Working.Audited.{Ready}
 use Rattle.records.specs.Working.Doing.{Working}
-use Rattle.records.proofs.Lists.{decide, all_every, every_all, every_at, table_at_lem, within-high}
+use Rattle.records.proofs.Lists.{decide, all_every, every_all, every_at, within-high}
 use Rattle.records.proofs.Works.{via}
 use Rattle.records.proofs.Grown.{string-term, Strings, strings-later}
 use Rattle.records.proofs.Climbs.{view_count}
@@ -30,13 +30,13 @@ use Rattle.normalize.specs.Normalize.{deep_limit, normal_form, opens, Round, exp
 use Rattle.records.specs.Rules.{list_limit}
 use Rattle.normalize.specs.Working.Pushes.{Candidates}
 use Rattle.normalize.specs.Calls.{first_words, deepened}
-use Rattle.normalize.specs.Working.Deeps.{opens_in, Met, RoundOf, expand_atom, expanded, ExpandedTo, Expands}
+use Rattle.normalize.specs.Working.Deeps.{opens_in, Met, MetTable, RoundOf, expand_atom, expanded, ExpandedTo, Expands}
 use Rattle.normalize.proofs.Rewritten.{Rewritten}
 use Rattle.normalize.proofs.Formed.{form-ends}
 use Rattle.normalize.proofs.Deep.{expand-ends}
 use Rattle.normalize.proofs.Carried.{Carried, carried_none, carried-kept, carried-then}
 use Rattle.normalize.proofs.Candidates.{candidates_later}
-use Rattle.normalize.proofs.Refines.Words.{words-length, words-none, words-put}
+use Rattle.normalize.proofs.Refines.Words.{words-length, words-none, words-put, words-take, words-whole}
 
 -- ONE EXPANSION
 
@@ -269,42 +269,33 @@ walking_none {m} {c} known t l next table r = record {
   rest = λ met q. record { now = met; tells = q; is = refl };
 }
 
-module _ (list : List ℕ) (count' : ℕ) {known : List ℕ} {t : ℕ} {next₀ table₀ : List ℕ} {m₀ m : Lent} {c d : State} {next : List ℕ} {k : ℕ} {table : List ℕ} {i : ℕ}
-    (g : Walking known t (first_words list count') next₀ table₀ m₀ c m d next k table i) (nodes : List ℕ) (cs : Candidates (store_of m₀ c) known nodes)
-    (o : RoundOf (store_of m₀ c) list count' table₀ next₀) (h : i < length (take count' list)) where
+module _ (list : List ℕ) {known : List ℕ} {t : ℕ} {next₀ table₀ : List ℕ} {m₀ m : Lent} {c d : State} {next : List ℕ} {k : ℕ} {table : List ℕ} {i : ℕ}
+    (g : Walking known t list next₀ table₀ m₀ c m d next k table i) (nodes : List ℕ) (cs : Candidates (store_of m₀ c) known nodes)
+    (o : RoundOf (store_of m₀ c) list (length list) table₀ next₀) (h : i < length list) where
   abbrev sw : Store
   sw = store_of m d
 
   abbrev at : ℕ
-  at = get_or (take count' list) i 0
+  at = get_or list i 0
 
   pub walk_candidates : Candidates sw known nodes
   walk_candidates = candidates_later cs g.carried.later
 
-  below : i < count'
-  below = omega (arith, length-take count' list)
-
-  at_is : get_or (first_words list count') i 0 ≡ at
-  at_is = table_at_lem (λ j. get_or list j 0) count' i 0 below ∙ sym (get_or-take count' list i 0 below)
-
-  inside : i < length (first_words list count')
-  inside = let z = words-length list count' in let y = below in omega arith
-
-  left_is : drop i (first_words list count') ≡ at ∷ drop (suc i) (first_words list count')
-  left_is = drop-cons (first_words list count') i 0 inside ∙ ap (λ (x : ℕ). x ∷ drop (suc i) (first_words list count')) at_is
+  left_is : drop i list ≡ at ∷ drop (suc i) list
+  left_is = drop-cons list i 0 h
 
   pub walk-string : is_string sw at ≡ true
-  walk-string = subst (λ (x : ℕ). is_string sw x ≡ true) at_is (every_at (first_words list count') i 0 (strings-later g.carried.later.grown (all_every (is_string (store_of m₀ c)) _ o.strings)) inside)
+  walk-string = every_at list i 0 (strings-later g.carried.later.grown (all_every (is_string (store_of m₀ c)) _ (rw (words-whole list) at o.strings))) h
 
   module _ {m' : Lent} (next' table' : List ℕ) (x : Result (code.Option ℕ × State) Refusal) (w : Expands known t (at ∷ []) next k table m m' d next' table' x) where
     one : (met : List ℕ) (z : Met table₀ met) → ExpandedTo (expand known t (at ∷ []) (record { list = first_words next k; met = (g.rest met z).now }) sw) m' next' table' x
     one met z = w.is (g.rest met z).now (g.rest met z).tells
 
     rest-says : (met : List ℕ) (z : Met table₀ met)
-        → and_then (next_round (expand known t (drop (suc i) (first_words list count')))) (expanded x (one met z).met m' next') ≡ expand known t (first_words list count') (record { list = first_words next₀ 0; met = met }) (store_of m₀ c)
+        → and_then (next_round (expand known t (drop (suc i) list))) (expanded x (one met z).met m' next') ≡ expand known t list (record { list = first_words next₀ 0; met = met }) (store_of m₀ c)
     rest-says met z =
-        ap (and_then (next_round (expand known t (drop (suc i) (first_words list count'))))) (sym (one met z).is)
-        ∙ sym (expand-step known t at (drop (suc i) (first_words list count')) (record { list = first_words next k; met = (g.rest met z).now }) sw)
+        ap (and_then (next_round (expand known t (drop (suc i) list)))) (sym (one met z).is)
+        ∙ sym (expand-step known t at (drop (suc i) list) (record { list = first_words next k; met = (g.rest met z).now }) sw)
         ∙ ap (λ (l : List ℕ). expand known t l (record { list = first_words next k; met = (g.rest met z).now }) sw) (sym left_is) ∙ (g.rest met z).is
 
   module _ {m' : Lent} (next' table' : List ℕ) where
@@ -317,7 +308,7 @@ module _ (list : List ℕ) (count' : ℕ) {known : List ℕ} {t : ℕ} {next₀ 
           (expand-ends known t (at ∷ []) (record { list = first_words next k; met = (g.rest o.told.met o.told.is).now }) sw g.carried.later.audited
           (all_every (is_string sw) known walk_candidates.strings) (and walk-string none_left) g.out).given (store_of m' d') (some (record { list = first_words next' n; met = first_one.met })) first_one.is
 
-      pub walking_turn : Walking known t (first_words list count') next₀ table₀ m₀ c m' d' next' n table' (i + 1)
+      pub walking_turn : Walking known t list next₀ table₀ m₀ c m' d' next' n table' (i + 1)
       walking_turn = record {
         carried = carried-then g.carried m' d' w.kept rewritten.later (w.ready d' (some (first_words next' n)) refl);
         out = rewritten.strings;
@@ -331,52 +322,72 @@ module _ (list : List ℕ) (count' : ℕ) {known : List ℕ} {t : ℕ} {next₀ 
       }
 
     -- None and a refusal end the loop
-    pub walking_ended : {d' : State} → Expands known t (at ∷ []) next k table m m' d next' table' (Ok (None, d')) → Expands known t (first_words list count') next₀ 0 table₀ m₀ m' c next' table' (Ok (None, d'))
+    pub walking_ended : {d' : State} → Expands known t (at ∷ []) next k table m m' d next' table' (Ok (None, d')) → Expands known t list next₀ 0 table₀ m₀ m' c next' table' (Ok (None, d'))
     walking_ended w = record { kept = carried-kept g.carried m' w.kept; ready = w.ready; is = λ met z. record { met = []; is = sym (rest-says next' table' _ w met z); tells = λ n f y. no_list y } }
 
-    pub walking_stopped : {e : Refusal} → Expands known t (at ∷ []) next k table m m' d next' table' (Err e) → Expands known t (first_words list count') next₀ 0 table₀ m₀ m' c next' table' (Err e)
+    pub walking_stopped : {e : Refusal} → Expands known t (at ∷ []) next k table m m' d next' table' (Err e) → Expands known t list next₀ 0 table₀ m₀ m' c next' table' (Err e)
     walking_stopped w = record { kept = carried-kept g.carried m' w.kept; ready = w.ready; is = λ met z. record { met = []; is = sym (rest-says next' table' _ w met z); tells = λ n f y. no_refusal y } }
 
-pub walking_done : (list : List ℕ) (n : ℕ) {known : List ℕ} {t : ℕ} {next₀ table₀ : List ℕ} {m₀ m : Lent} {c d : State} {next : List ℕ} {k : ℕ} {table : List ℕ} {i : ℕ}
-    → Walking known t (first_words list n) next₀ table₀ m₀ c m d next k table i → n ≤ i → Expands known t (first_words list n) next₀ 0 table₀ m₀ m c next table (Ok (Some k, d))
+pub walking_done : (list : List ℕ) {known : List ℕ} {t : ℕ} {next₀ table₀ : List ℕ} {m₀ m : Lent} {c d : State} {next : List ℕ} {k : ℕ} {table : List ℕ} {i : ℕ}
+    → Walking known t list next₀ table₀ m₀ c m d next k table i → length list ≤ i → Expands known t list next₀ 0 table₀ m₀ m c next table (Ok (Some k, d))
 unfolding expand
-walking_done list n {i = i} g h = record {
+walking_done list g h = record {
   kept = g.carried.kept;
   ready = ready_for g.carried.ready;
   is = λ met z. record {
     met = (g.rest met z).now;
-    is = sym (rw (drop_of_length-le (first_words list n) {i = i} (let y = words-length list n in omega arith)) at (g.rest met z).is);
+    is = sym (rw (drop_of_length-le list h) at (g.rest met z).is);
     tells = λ j f y. (g.rest met z).tells;
   };
 }
 
 -- A ROUND'S LIST
 
+-- the first words of a slice, as a round begins with them
+module _ (list : List ℕ) (n : ℕ) (p : (n ≤ deep_limit) × (list_limit ≤ length list)) where
+  pub words-list : first_words list n ≡ take n list
+  words-list = words-take list n (omega arith)
+
+  pub round_of : {s : Store} {table : List ℕ} → all (is_string s) (first_words list n) ≡ true → MetTable table → RoundOf s (take n list) (length (take n list)) table (replicate 512 0)
+  round_of e met = record {
+    strings = rw (words-whole (take n list), ← words-list) e;
+    short = (let z = length-take-le n list (omega arith) in omega arith);
+    within = omega arith;
+    told = met;
+    room = lit≤ tt;
+  }
+
 pub expanded-ready : {known : List ℕ} {t : ℕ} {l next : List ℕ} {j : ℕ} {table : List ℕ} {m m' : Lent} {c : State} {next' table' : List ℕ} {k : ℕ} {d : State} → Expands known t l next j table m m' c next' table' (Ok (Some k, d)) → Ready m' d
 expanded-ready {next' = next'} {k = k} {d = d} w = w.ready d (some (first_words next' k)) refl
 
-module _ {m m' : Lent} {c : State} (ready : Ready m c) (known nodes : List ℕ) (cs : Candidates (store_of m c) known nodes) (t : ℕ) {list next table next' table' : List ℕ} {n : ℕ} (o : RoundOf (store_of m c) list n table next)
-    (k : ℕ) (d : State) (w : Expands known t (first_words list n) next 0 table m m' c next' table' (Ok (Some k, d))) where
-  witness : ExpandedTo (expand known t (first_words list n) (record { list = first_words next 0; met = o.told.met }) (store_of m c)) m' next' table' (Ok (Some k, d))
+module _ {m m' : Lent} {c : State} (ready : Ready m c) (known nodes : List ℕ) (cs : Candidates (store_of m c) known nodes) (t : ℕ) {list next table next' table' : List ℕ} (o : RoundOf (store_of m c) list (length list) table next)
+    (k : ℕ) (d : State) (w : Expands known t list next 0 table m m' c next' table' (Ok (Some k, d))) where
+  witness : ExpandedTo (expand known t list (record { list = first_words next 0; met = o.told.met }) (store_of m c)) m' next' table' (Ok (Some k, d))
   witness = w.is o.told.met o.told.is
 
-  says : expand known t (first_words list n) (record { list = first_words next 0; met = o.told.met }) (store_of m c) ≡ ok (store_of m' d) (some (record { list = first_words next' k; met = witness.met }))
+  says : expand known t list (record { list = first_words next 0; met = o.told.met }) (store_of m c) ≡ ok (store_of m' d) (some (record { list = first_words next' k; met = witness.met }))
   says = witness.is
 
-  list-ends : Rewritten (store_of m c) (store_of m' d) (first_words next 0 ++ first_words list n) (first_words next' k)
+  list-ends : Rewritten (store_of m c) (store_of m' d) (first_words next 0 ++ list) (first_words next' k)
   list-ends =
-      (expand-ends known t (first_words list n) (record { list = first_words next 0; met = o.told.met }) (store_of m c) ready.audited (all_every (is_string (store_of m c)) known cs.strings)
-      (all_every (is_string (store_of m c)) _ o.strings) (subst (Strings (store_of m c)) (sym (words-none next)) none_left)).given (store_of m' d) (some (record { list = first_words next' k; met = witness.met })) says
+      (expand-ends known t list (record { list = first_words next 0; met = o.told.met }) (store_of m c) ready.audited (all_every (is_string (store_of m c)) known cs.strings)
+      (all_every (is_string (store_of m c)) _ (rw (words-whole list) at o.strings)) (subst (Strings (store_of m c)) (sym (words-none next)) none_left)).given (store_of m' d) (some (record { list = first_words next' k; met = witness.met })) says
 
   pub round-carried : Carried m c m' d
   round-carried = carried-then (carried_none ready) m' d w.kept list-ends.later (expanded-ready w)
 
-  pub round-strings : all (is_string (store_of m' d)) (first_words next' k) ≡ true
-  round-strings = every_all list-ends.strings
-
-  pub round-short : k ≤ 2 * deep_limit
+  round-short : k ≤ 2 * deep_limit
   round-short =
-      let z = expand_shorts known t (first_words list n) (record { list = first_words next 0; met = o.told.met }) (store_of m c) (store_of m' d) (record { list = first_words next' k; met = witness.met }) deep_limit says (let y = words-length next 0 in omega arith) (omega arith) in
+      let z = expand_shorts known t list (record { list = first_words next 0; met = o.told.met }) (store_of m c) (store_of m' d) (record { list = first_words next' k; met = witness.met }) deep_limit says (let y = words-length next 0 in omega arith) (omega arith) in
       let a = words-length next' k in
-      let b = words-length list n in
       let s = o.short in omega arith
+
+  pub round-listed : k ≤ list_limit
+  round-listed = let s = round-short in omega arith
+
+  module _ (e : length next' ≡ length next) where
+    pub round-fits : k ≤ length next'
+    round-fits = let s = round-short in let r = o.room in omega arith
+
+    pub round-strings : all (is_string (store_of m' d)) (take k next') ≡ true
+    round-strings = rw (← words-take next' k round-fits) (every_all list-ends.strings)

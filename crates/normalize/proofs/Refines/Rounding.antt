@@ -9,8 +9,8 @@ use Prim.Native.Nat.{ℕ, suc, ◌+◌, ◌-◌, ◌≤◌, ◌<◌}
 use native.Mathlib.Nat.{zero-add}
 use native.Mathlib.Numerals.{add-one}
 use native.Mathlib.Omega.{arith}
-use lib.ListN.{length, length-take, take, drop, get_or, drop_of_length-le}
-use lib.Seq.{drop-cons, get_or-take}
+use lib.ListN.{length, drop, get_or, drop_of_length-le}
+use lib.Seq.{drop-cons}
 use lib.Dec.{ltb}
 use borrow.Author.Tests.{lt-ltb, le-ltb}
 use Rattle.records.specs.declared.State.{State}
@@ -21,7 +21,7 @@ use Rattle.records.specs.Store.{Store, Out, ok, stop, Work, and_then, give, is_s
 use Rattle.records.specs.View.{Lent, store_of}
 use Rattle.records.specs.Working.Audited.{Ready}
 use Rattle.records.specs.Working.Doing.{Working}
-use Rattle.records.proofs.Lists.{all_every, every_all, every_at, table_at_lem, word_is}
+use Rattle.records.proofs.Lists.{all_every, every_all, every_at, word_is}
 use Rattle.normalize.specs.declared.Turn.{Turn}
 use Rattle.normalize.specs.declared.Turn.TheVariants as turn
 use Rattle.normalize.specs.Normalize.{deep_limit, normal_form, push, push_all, expand, settle, after_expand, rounds, deep_form}
@@ -43,46 +43,37 @@ use Rattle.normalize.proofs.Refines.Expanding.{met-none}
 
 -- JOINING A ROUND'S LIST
 
--- the work that is left after i atoms of the first n words
-abbrev pub all_left : List ℕ → ℕ → ℕ → List ℕ → Work (List ℕ)
-all_left next n i out = push_all (drop i (first_words next n)) out
+-- the work that is left after i atoms
+abbrev pub all_left : List ℕ → ℕ → List ℕ → Work (List ℕ)
+all_left next i out = push_all (drop i next) out
 
-module _ (next : List ℕ) (n : ℕ) {m₀ m : Lent} {c d : State} {out : List ℕ} {k i : ℕ} (g : Heaping (all_left next n) m₀ c m d out k i) where
+module _ (next : List ℕ) {m₀ m : Lent} {c d : State} {out : List ℕ} {k i : ℕ} (g : Heaping (all_left next) m₀ c m d out k i) where
   abbrev at : ℕ
-  at = get_or (take n next) i 0
+  at = get_or next i 0
 
   abbrev so : List ℕ
   so = reverse (first_words out k)
 
-  module _ (good : all (is_string (store_of m₀ c)) (first_words next n) ≡ true) (h : i < length (take n next)) where
-    below : i < n
-    below = omega (arith, length-take n next)
-
-    at_is : get_or (first_words next n) i 0 ≡ at
-    at_is = table_at_lem (λ j. get_or next j 0) n i 0 below ∙ sym (get_or-take n next i 0 below)
-
-    inside : i < length (first_words next n)
-    inside = let z = words-length next n in let y = below in omega arith
-
-    all-next : all_left next n i so (store_of m d) ≡ and_then (all_left next n (i + 1)) (push at so (store_of m d))
+  module _ (good : all (is_string (store_of m₀ c)) next ≡ true) (h : i < length next) where
+    all-next : all_left next i so (store_of m d) ≡ and_then (all_left next (i + 1)) (push at so (store_of m d))
     unfolding push_all
-    all-next = rw (drop-cons (first_words next n) i 0 inside, at_is, add-one i)
+    all-next = rw (drop-cons next i 0 h, add-one i)
 
     at_pushed : Ends (λ s' out'. Pushed (store_of m d) s' (at ∷ []) so out') (push at so (store_of m d))
     at_pushed =
-        let s = every_at (first_words next n) i 0 (strings-later g.carried.later.grown (all_every (is_string (store_of m₀ c)) _ good)) inside in
-        push-ends at so (store_of m d) g.carried.later.audited (rw at_is at s) g.strings
+        let s = every_at next i 0 (strings-later g.carried.later.grown (all_every (is_string (store_of m₀ c)) _ good)) h in
+        push-ends at so (store_of m d) g.carried.later.audited s g.strings
 
     module _ {m' : Lent} where
-      pub all-turn : (out' : List ℕ) (j : ℕ) (d' : State) → Working (push at so) m m' d (ok (store_of m' d') (reverse (first_words out' j))) → Heaping (all_left next n) m₀ c m' d' out' j (i + 1)
-      all-turn = heaping_turn (all_left next n) g (push at so) at all-next at_pushed
+      pub all-turn : (out' : List ℕ) (j : ℕ) (d' : State) → Working (push at so) m m' d (ok (store_of m' d') (reverse (first_words out' j))) → Heaping (all_left next) m₀ c m' d' out' j (i + 1)
+      all-turn = heaping_turn (all_left next) g (push at so) at all-next at_pushed
 
-      pub all-stopped : {j : ℕ} → Working (push at so) m m' d (stop j) → Working (push_all (first_words next n) []) m₀ m' c (stop j)
-      all-stopped = heaping_stopped (all_left next n) g (push at so) at all-next at_pushed
+      pub all-stopped : {j : ℕ} → Working (push at so) m m' d (stop j) → Working (push_all next []) m₀ m' c (stop j)
+      all-stopped = heaping_stopped (all_left next) g (push at so) at all-next at_pushed
 
-  pub all_done : n ≤ i → Working (push_all (first_words next n) []) m₀ m c (ok (store_of m d) so)
+  pub all_done : length next ≤ i → Working (push_all next []) m₀ m c (ok (store_of m d) so)
   unfolding push_all
-  all_done h = heaping_end (all_left next n) g (rw (drop_of_length-le (first_words next n) {i = i} (let z = words-length next n in omega arith)))
+  all_done h = heaping_end (all_left next) g (rw (drop_of_length-le next h))
 
 -- THE END OF A ROUND
 
@@ -121,31 +112,31 @@ module _ {m m' : Lent} {c : State} (before list : List ℕ) where
 
 -- A ROUND
 
-module _ {m : Lent} {c : State} (known : List ℕ) (t : ℕ) (list : List ℕ) (n : ℕ) (table : List ℕ) (b : Bool) (e : b ≡ any (opens_in (store_of m c).terms t) (first_words list n)) where
-  pub round-stands : Ready m c → b ≡ false → Turns known t (first_words list n) table m m c list table (Ok (turn.Ends (Some n) c))
+module _ {m : Lent} {c : State} (known : List ℕ) (t : ℕ) (before : List ℕ) (table : List ℕ) (b : Bool) (e : b ≡ any (opens_in (store_of m c).terms t) before) where
+  pub round-stands : Ready m c → b ≡ false → (list : List ℕ) (n : ℕ) → before ≡ first_words list n → Turns known t before table m m c list table (Ok (turn.Ends (Some n) c))
   unfolding round_then
-  round-stands ready h = record {
+  round-stands ready h list n p = record {
     kept = keeps_same;
     ready = ready_for ready;
-    is = λ met q. record { met = met; is = λ more. rw (sym e ∙ h); tells = λ k f z. q };
+    is = λ met q. record { met = met; is = λ more. rw (sym e ∙ h) (ap (λ (l : List ℕ). ok (store_of m c) (some l)) p); tells = λ k f z. q };
   }
 
   module _ (h : b ≡ true) (next : List ℕ) {m' : Lent} (next' table' : List ℕ) where
-    round-says : (x : Result (code.Option ℕ × State) Refusal) (w : Expands known t (first_words list n) next 0 table m m' c next' table' x) (met : List ℕ) (q : Met table met) (more : List ℕ → List ℕ → Work (Option (List ℕ)))
-        → round_then known t met (first_words list n) more (store_of m c) ≡ and_then (after_expand (first_words list n) more) (expanded x (w.is met q).met m' next')
+    round-says : (x : Result (code.Option ℕ × State) Refusal) (w : Expands known t before next 0 table m m' c next' table' x) (met : List ℕ) (q : Met table met) (more : List ℕ → List ℕ → Work (Option (List ℕ)))
+        → round_then known t met before more (store_of m c) ≡ and_then (after_expand before more) (expanded x (w.is met q).met m' next')
     unfolding round_then
     round-says x w met q more =
-        rw (sym e ∙ h) (ap (λ (l : List ℕ). and_then (after_expand (first_words list n) more) (expand known t (first_words list n) (record { list = l; met = met }) (store_of m c))) (sym (words-none next))
-        ∙ ap (and_then (after_expand (first_words list n) more)) (w.is met q).is)
+        rw (sym e ∙ h) (ap (λ (l : List ℕ). and_then (after_expand before more) (expand known t before (record { list = l; met = met }) (store_of m c))) (sym (words-none next))
+        ∙ ap (and_then (after_expand before more)) (w.is met q).is)
 
     -- None and a refusal end the round
-    pub round-ended : (d : State) → Expands known t (first_words list n) next 0 table m m' c next' table' (Ok (None, d)) → (l : List ℕ) → Turns known t (first_words list n) table m m' c l table' (Ok (turn.Ends None d))
+    pub round-ended : (d : State) → Expands known t before next 0 table m m' c next' table' (Ok (None, d)) → (l : List ℕ) → Turns known t before table m m' c l table' (Ok (turn.Ends None d))
     round-ended d w l = record { kept = w.kept; ready = w.ready; is = λ met q. record { met = []; is = λ more. round-says _ w met q more; tells = λ k f z. (let y : ◌≡◌ {A = ℕ} 0 1 = cc in absurd (omega arith)) } }
 
-    pub round-stopped : (j : Refusal) → Expands known t (first_words list n) next 0 table m m' c next' table' (Err j) → (l : List ℕ) → Turns known t (first_words list n) table m m' c l table' (Err j)
+    pub round-stopped : (j : Refusal) → Expands known t before next 0 table m m' c next' table' (Err j) → (l : List ℕ) → Turns known t before table m m' c l table' (Err j)
     round-stopped j w l = record { kept = w.kept; ready = w.ready; is = λ met q. record { met = []; is = λ more. round-says _ w met q more; tells = λ k f z. (let y : ◌≡◌ {A = ℕ} 0 1 = cc in absurd (omega arith)) } }
 
-    pub round-settled : (k : ℕ) (d : State) → (w : Expands known t (first_words list n) next 0 table m m' c next' table' (Ok (Some k, d))) → Carried m c m' d → {m'' : Lent} (l : List ℕ) (y : Result Turn Refusal) → Settles (first_words list n) (first_words next' k) m' m'' d l y → Turns known t (first_words list n) table m m'' c l table' y
+    pub round-settled : (k : ℕ) (d : State) → (w : Expands known t before next 0 table m m' c next' table' (Ok (Some k, d))) → Carried m c m' d → {m'' : Lent} (l : List ℕ) (y : Result Turn Refusal) → Settles before (first_words next' k) m' m'' d l y → Turns known t before table m m'' c l table' y
     round-settled k d w a {m''} l y v = record {
       kept = carried-kept a m'' v.kept;
       ready = v.ready;

@@ -5,7 +5,7 @@ use mathlib.Core.List.{List, [], ◌∷◌, ◌++◌}
 use Prim.Native.Nat.{ℕ, suc, ◌+◌, ◌≤◌, ◌<◌}
 use native.Mathlib.Omega.{arith}
 use lib.ListN.{length, take, get_or, set, length-append, length-take}
-use lib.Seq.{get_or-set_same, get_or-set_other, ext_get_or, get_or-take, length-take-le}
+use lib.Seq.{get_or-set_same, get_or-set_other, ext_get_or, get_or-take, length-take-le, take-length}
 use borrow.Rule.Slice.PartMut.{put_mid, post_of}
 use Rattle.std.proofs.lemmas.Slice.{take-put_mid}
 use lib.Dec.{eqb}
@@ -45,6 +45,9 @@ pub words-take : (l : List ℕ) (n : ℕ) → n ≤ length l → first_words l n
 words-take l n h =
     let m = words-length l n in
     ext_get_or 0 _ _ (simp length-take (omega arith)) (λ i q. let r : i < n = omega arith in table_at_lem (λ j. get_or l j 0) n i 0 r ∙ sym (get_or-take n l i 0 r))
+
+pub words-whole : (l : List ℕ) → first_words l (length l) ≡ l
+words-whole l = words-take l (length l) (omega arith) ∙ take-length l
 
 -- the library's comparison of the first words of two slices
 pub words_same : (one other : List ℕ) (n k : ℕ) → n ≤ length one → k ≤ length other → pointwise eqb (take n one) (take k other) ≡ same_word (first_words one n) (first_words other k)

@@ -1,8 +1,6 @@
 use Rattle.records.proofs.Public.{handed}
-use lib.Seq.{length-take-le}
 use Rattle.normalize.proofs.Refines.Heaping.{heaping_none}
 use Rattle.normalize.proofs.Refines.Rounding.{all-turn, all-stopped, all_done}
-use native.Mathlib.Omega.{arith}
 use Rattle.normalize.proofs.deeper.push_all.Goals as goal
 
 pub loop-a-init : goal.loop-a-init
@@ -12,14 +10,13 @@ loop-a-init c =
 pub returns-in_err-count : goal.returns-in_err-count
 returns-in_err-count c =
     rw (handed _ c.from_residual.ensures.1)
-    (all-stopped c.args.next.now c.args.k c.loop-a.invariant c.requires.strings c.loop-a-test.true c.in_err-count.ensures)
+    (all-stopped c.args.next.now c.loop-a.invariant c.requires.strings c.loop-a-test.true c.in_err-count.ensures)
 
 pub loop-a-preserved : goal.loop-a-preserved
 loop-a-preserved c =
-    all-turn c.args.next.now c.args.k c.loop-a.invariant c.requires.strings c.loop-a-test.true c.push.new.list _ _
+    all-turn c.args.next.now c.loop-a.invariant c.requires.strings c.loop-a-test.true c.push.new.list _ _
     c.in_ok-count.ensures
 
 pub returns : goal.returns
 returns c =
-    all_done c.args.next.now c.args.k c.loop-a.invariant
-    (let l = length-take-le _ c.args.next.now c.requires.k_in_bounds in let h = c.loop-a-test.false in omega arith)
+    all_done c.args.next.now c.loop-a.invariant c.loop-a-test.false
