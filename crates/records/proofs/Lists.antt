@@ -13,6 +13,7 @@ use native.Mathlib.Omega.{arith}
 use lib.ListN.{length, take, drop, get_or, replicate, length-append, get_or-append, get_or-eq_default}
 use lib.Seq.{get_or_at, drop-cons}
 use lib.Dec.{eqb, ltb}
+use lib.Pointwise.{pointwise}
 use borrow.Author.Count.{below_more}
 use borrow.Author.Tests.{not-true, not-false, eqb-true, eq-eqb, ltb-true, leb-true, lt-ltb, le-leb, le-ltb, lt-leb}
 use Rattle.records.specs.Lists.{all, any, concat_map, table, same_word, firsts, seconds, all_below, first_below, last_below, Every, none_left, and}
@@ -358,6 +359,14 @@ pub all-list : {A : Type 0} (p : A → Bool) (l : List A) → list_all p l ≡ a
 unfolding all
 all-list p [] = refl
 all-list p (x ∷ l) = ap (λ b. p x && b) (all-list p l)
+
+-- what `v == w` answers of two slices
+pub pointwise-words : (v w : List ℕ) → pointwise eqb v w ≡ same_word v w
+unfolding same_word
+pointwise-words [] [] = refl
+pointwise-words [] (y ∷ w) = refl
+pointwise-words (x ∷ v) [] = refl
+pointwise-words (x ∷ v) (y ∷ w) = ap (λ b. eqb x y && b) (pointwise-words v w)
 
 -- a loop `for t in 1..=n` has come to i: the numbers from 1 on below i pass
 pub record UpTo (q : ℕ → Bool) (i : ℕ) : Type 0 where

@@ -15,28 +15,16 @@ pub fn text_is(chars: &[u32], p: u32, w: &[u32]) -> bool
     text_from(chars, p as usize, w)
 }
 
-// Two characters a turn: a loop of one takes one cycle or two by where it is linked.
+// The same from a place that is counted wide.
 fn text_from(chars: &[u32], at: usize, w: &[u32]) -> bool
     requires { at + length w.now ≤ 0x7FFF_FFFF_FFFF_FFFF }
     ensures { result ≡ same_word (span chars.now at (length w.now)) w.now }
 {
     if chars.len() < at + w.len() {
-        return text_past(chars, at, w);
+        text_past(chars, at, w)
+    } else {
+        &chars[at..at + w.len()] == w
     }
-    let mut i: usize = 0;
-    while i + 1 < w.len() {
-        if chars[at + i] != w[i] {
-            return false;
-        }
-        if chars[at + i + 1] != w[i + 1] {
-            return false;
-        }
-        i += 2;
-    }
-    if w.len() <= i {
-        return true;
-    }
-    chars[at + i] == w[i]
 }
 
 // The same where w reaches past the end of the slice.
@@ -101,13 +89,12 @@ pub(crate) fn joined_is_unchecked(terms: &[u32], chars: &[u32], p: u32, list: &[
 
 // n characters from place `from` on, copied to place `at`, which is above them.
 fn copy_text(chars: &mut [u32], from: usize, n: usize, at: usize)
-    requires fact_1 { from + n ≤ at }
-    requires fact_2 { at + n ≤ length chars.old }
+    requires below { from + n ≤ at }
+    requires room { at + n ≤ length chars.old }
     ensures { CharsPut chars.old chars.new at (span chars.old from n) }
 {
-    for i in 0..n {
-        chars[at + i] = chars[from + i];
-    }
+    let (below, above) = chars.split_at_mut(at);
+    above[..n].copy_from_slice(&below[from..from + n]);
 }
 
 // Part i of a list added to the word held: `held` characters from place `to` on, above all texts. The standard joins from the left,

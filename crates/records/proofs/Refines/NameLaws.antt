@@ -79,9 +79,6 @@ module _ (l h : List ℕ) (c : State) where
     pub name_part : c.chars ≤ length h → take ((p + n) - p) (drop p h) ≡ text here t
     name_part r = let e : (p + n) - p ≡ n = omega arith in rw (e, part-span h p n (name_ends r)) name_span
 
-    pub hash-is : (r : ℕ) → r ≡ hash_from 1 (span h p n) → r ≡ hash here t
-    hash-is r q = q ∙ ap (hash_from 1) name_span
-
   -- ONE NAME
 
   -- variables of one name have one hash

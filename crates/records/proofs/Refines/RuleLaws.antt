@@ -6,16 +6,15 @@ use Prim.Native.Nat.{ℕ, zero, suc, ◌+◌, ◌-◌, ◌*◌, ◌<◌, ◌≤�
 use native.Mathlib.Omega.{arith}
 use lib.ListN.{length, get_or}
 use Rattle.std.proofs.lemmas.Bool.Decides.{nat_tests}
-use lib.Dec.{eqb, ltb, leb}
-use borrow.Author.Tests.{lt-ltb, le-ltb, le-leb, lt-leb, eq-eqb, ne_eqb, leb-true}
+use lib.Dec.{leb}
+use borrow.Author.Tests.{le-leb, leb-true}
 use Rattle.records.specs.Lists.{all}
-use Rattle.records.specs.Store.{Store, term_in, within, term, cell, chain, chain_by, is_string}
+use Rattle.records.specs.Store.{Store, term_in, within, term, cell, chain, chain_by}
 use Rattle.records.specs.View.{Lent, lent, store_of, cell_at, pair_at, terms_view, term_words, cell_words, sizes, term_limit, cell_limit, char_limit, reason_limit, key_limit}
 use Rattle.records.specs.declared.State.{State}
-use Rattle.records.specs.Working.Leaves.{pair_rule}
 use Rattle.records.specs.Working.Audited.{Sized}
-use Rattle.records.specs.Rules.{reason_rule, key_rule, cell_rule, text_rule, part_rule, concat_rule, length_rule, is_equatable, equation_rule}
-use Rattle.records.proofs.Lists.{within-high, and-stop, and-next, or-stop, right-false, right-true, or_none_lem, three_1, three_2, three_3, three-first, three-last, table-length, both_left, both_right, both_true}
+use Rattle.records.specs.Rules.{text_rule, part_rule}
+use Rattle.records.proofs.Lists.{right-false, right-true, table-length, both_left, both_right, both_true}
 use Rattle.records.proofs.Views.{term-none, term-past, next_at_lem}
 
 past : (n t : ℕ) → within n t ≡ false → 0 < t → n < t
@@ -26,108 +25,18 @@ pub kind-none : (l : List ℕ) (n t : ℕ) → within n t ≡ false → 0 ≡ (t
 kind-none l n zero h = rw (term-none l n) refl
 kind-none l n (suc t) h = rw (term-past l n (suc t) (past n (suc t) h (omega arith))) refl
 
--- a count above its limit, and one within it
-pub limit-past : (n k : ℕ) (b : Bool) → k < n → false ≡ (leb n k && b)
-limit-past n k b h = and-stop (leb n k) b (lt-leb n k h)
-
-pub limit_is : (n k : ℕ) (b : Bool) → n ≤ k → b ≡ (leb n k && b)
-limit_is n k b h = and-next (leb n k) b b (le-leb n k h) refl
-
 -- REASONS, KEYS, CELLS
-
--- as a key, and as a reason
-module _ (s : Store) (p : ℕ × ℕ) (key r : Bool) where
-  pub pair_key : key ≡ true → r ≡ key_rule s p → r ≡ pair_rule key s p
-  pair_key h e = rw h e
-
-  pub pair_reason : key ≡ false → r ≡ reason_rule p → r ≡ pair_rule key s p
-  pair_reason h e = rw h e
 
 -- a rule of the pair at a place
 pub pair_test : (p : ℕ × ℕ → Bool) (l : List ℕ) (i x y : ℕ) (b : Bool) → b ≡ p (x, y) → x ≡ get_or l (2 * i) 0 → y ≡ get_or l (2 * i + 1) 0 → b ≡ p (pair_at l i)
 pair_test p l i x y b e f g = rw (native.Mathlib.Nat.add-zero (2 * i)) (e ∙ ap (λ z. p (z, y)) f ∙ ap (λ z. p (get_or l (2 * i) 0, z)) g)
 
 module _ (s : Store) where
-  pub key_order : (a b : ℕ) → b ≤ a → false ≡ key_rule s (a, b)
-  unfolding key_rule
-  key_order a b h = three_1 (ltb a b) _ _ (le-ltb a b h)
-
-  pub key_first : (a b : ℕ) (x : Bool) → x ≡ is_string s a → x ≡ false → false ≡ key_rule s (a, b)
-  unfolding key_rule
-  key_first a b x e h = three_2 (ltb a b) _ _ (sym e ∙ h)
-
-  pub key_is : (a b : ℕ) (x r : Bool) → a < b → x ≡ is_string s a → x ≡ true → r ≡ is_string s b → r ≡ key_rule s (a, b)
-  unfolding key_rule
-  key_is a b x r l e h q = three-last (ltb a b) _ _ r (lt-ltb a b l) (sym e ∙ h) q
-
-  pub cell-ends : (c x : ℕ) → x ≡ (cell s c).next → x ≡ 0 → true ≡ cell_rule s c
-  unfolding cell_rule
-  cell-ends c x e z = or-stop (eqb (cell s c).next 0) _ (eq-eqb _ 0 (sym e ∙ z))
-
-  pub cell-back : (c x : ℕ) → x ≡ (cell s c).next → (x ≡ 0 → ⊥) → x ≤ c → false ≡ cell_rule s c
-  unfolding cell_rule
-  cell-back c x e z h = rw (← e, ne_eqb x 0 z, le-ltb c x h)
-
-  pub cell_test : (c x w n : ℕ) → x ≡ (cell s c).next → (x ≡ 0 → ⊥) → c < x → w ≡ x → length s.cells ≡ n → leb w n ≡ cell_rule s c
-  unfolding cell_rule
-  cell_test c x w n e z h q m = rw (q, sym m, ← e, ne_eqb x 0 z, lt-ltb c x h)
-
   -- TERMS
 
   pub text_test : (t p n v w m : ℕ) → p ≡ (term s t).first → n ≡ (term s t).second → v ≡ p → w ≡ n → length s.chars ≡ m → leb (v + w) m ≡ text_rule s t
   unfolding text_rule
   text_test t p n v w m a b d e h = rw (d, e, a, b, sym h)
-
-  pub part-other : (t u o x : ℕ) → (x ≡ 0 → ⊥) → x ≡ o → false ≡ part_rule s t (u, o)
-  unfolding part_rule
-  part-other t u o x z e = three_3 (is_string s u) (ltb u t) _ (ne_eqb o 0 (λ q. z (e ∙ q)))
-
-  pub part_upper : (t u o x : ℕ) → x ≡ u → t ≤ x → false ≡ part_rule s t (u, o)
-  unfolding part_rule
-  part_upper t u o x e h = three_2 (is_string s u) (ltb u t) _ (le-ltb u t (omega arith))
-
-  pub part-is : (t u o x y : ℕ) (r : Bool) → x ≡ o → x ≡ 0 → y ≡ u → y < t → r ≡ is_string s y → r ≡ part_rule s t (u, o)
-  unfolding part_rule
-  part-is t u o x y r e z q h g = three-first (is_string s u) _ _ r (rw q at g) (lt-ltb u t (omega arith)) (eq-eqb o 0 (sym e ∙ z))
-
-  pub length_second_lem : (t x : ℕ) → (x ≡ 0 → ⊥) → x ≡ (term s t).second → false ≡ length_rule s t
-  unfolding length_rule
-  length_second_lem t x z e = three_3 (is_string s (term s t).first) (ltb (term s t).first t) _ (ne_eqb _ 0 (λ q. z (e ∙ q)))
-
-  pub length_upper : (t x : ℕ) → x ≡ (term s t).first → t ≤ x → false ≡ length_rule s t
-  unfolding length_rule
-  length_upper t x e h = three_2 (is_string s (term s t).first) (ltb (term s t).first t) _ (le-ltb _ t (omega arith))
-
-  pub length_is_lem : (t x y : ℕ) (r : Bool) → x ≡ (term s t).second → x ≡ 0 → y ≡ (term s t).first → y < t → r ≡ is_string s y → r ≡ length_rule s t
-  unfolding length_rule
-  length_is_lem t x y r e z q h g = three-first (is_string s (term s t).first) _ _ r (rw q at g) (lt-ltb _ t (omega arith)) (eq-eqb _ 0 (sym e ∙ z))
-
-  -- a string term is no length
-  pub equatable_strings : (a b : ℕ) (x r : Bool) → x ≡ is_string s a → x ≡ true → r ≡ is_string s b → r ≡ is_equatable s a b
-  unfolding is_equatable
-  equatable_strings a b x r e h q =
-      let w = within-high 3 (term s a).kind (sym e ∙ h) in
-      rw (sym e ∙ h, ne_eqb (term s a).kind 4 (λ z. omega arith)) (q ∙ sym (or_none_lem (is_string s b)))
-
-  pub equatable_none : (a b k : ℕ) (x : Bool) → x ≡ is_string s a → x ≡ false → k ≡ (term s a).kind → (k ≡ 4 → ⊥) → false ≡ is_equatable s a b
-  unfolding is_equatable
-  equatable_none a b k x e h q z = rw (sym e ∙ h, ← q, ne_eqb k 4 z)
-
-  pub equatable_lengths : (a b k j : ℕ) (x : Bool) → x ≡ is_string s a → x ≡ false → k ≡ (term s a).kind → k ≡ 4 → j ≡ (term s b).kind → eqb j 4 ≡ is_equatable s a b
-  unfolding is_equatable
-  equatable_lengths a b k j x e h q z g = rw (sym e ∙ h, ← q, z, g)
-
-  pub equation_first_lem : (t x : ℕ) → x ≡ (term s t).first → t ≤ x → false ≡ equation_rule s t
-  unfolding equation_rule
-  equation_first_lem t x e h = three_2 (is_equatable s (term s t).first (term s t).second) (ltb (term s t).first t) _ (le-ltb _ t (omega arith))
-
-  pub equation_second_lem : (t x : ℕ) → x ≡ (term s t).second → t ≤ x → false ≡ equation_rule s t
-  unfolding equation_rule
-  equation_second_lem t x e h = three_3 (is_equatable s (term s t).first (term s t).second) (ltb (term s t).first t) _ (le-ltb _ t (omega arith))
-
-  pub equation-is : (t x y : ℕ) (r : Bool) → x ≡ (term s t).first → y ≡ (term s t).second → x < t → y < t → r ≡ is_equatable s x y → r ≡ equation_rule s t
-  unfolding equation_rule
-  equation-is t x y r e q h g p = three-first (is_equatable s (term s t).first (term s t).second) _ _ r (rw (e, q) at p) (lt-ltb _ t (omega arith)) (lt-ltb _ t (omega arith))
 
 -- SIZES
 
@@ -221,14 +130,6 @@ module _ (s : Store) (t : ℕ) where
   rest-turn k i c w h =
       let m : i + suc (length (chain_by k s.cells (cell s c).next)) ≡ (i + 1) + length (chain_by k s.cells (cell s c).next) = omega arith in
       rw (chain_more k c w, h, m)
-
-  pub concat_second_lem : (x : ℕ) → (x ≡ 0 → ⊥) → x ≡ (term s t).second → false ≡ concat_rule s t
-  unfolding concat_rule
-  concat_second_lem x z e = three_3 (leb 2 (length (chain s (term s t).first))) (all (part_rule s t) (chain s (term s t).first)) _ (ne_eqb _ 0 (λ q. z (e ∙ q)))
-
-  pub concat-is : (x f : ℕ) (r : Bool) → x ≡ (term s t).second → x ≡ 0 → f ≡ (term s t).first → r ≡ whole f → r ≡ concat_rule s t
-  unfolding concat_rule
-  concat-is x f r e z q g = (rw q at g) ∙ sym (right-true (whole (term s t).first) _ (eq-eqb _ 0 (sym e ∙ z)))
 
 -- the walk along the chain from f, of the words l of terms and e of cells
 module _ (l e : List ℕ) (st : State) (t f : ℕ) where
