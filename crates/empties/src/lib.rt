@@ -4,29 +4,29 @@
 ghost use Rattle.std.specs.Prelude.{◌≡◌, true, [], ◌∷◌, ◌≤◌, ◌<◌, length, take};
 ghost use Rattle.records.specs.Lists.{all, any};
 ghost use Rattle.records.specs.Store.{is_string, same_class};
-ghost use Rattle.records.specs.View.{store_of, across, read_in, term_limit, term_words, changing, lent};
+ghost use Rattle.records.specs.View.{store_of, across, read_in, changing, lent};
 ghost use Rattle.records.specs.Rules.{list_limit, is_list};
 ghost use Rattle.records.specs.Calls.{Writes, ◌into◌};
-ghost use Rattle.records.specs.Working.Doing.{Does, CutRefused};
+ghost use Rattle.records.specs.Working.Doing.{Does};
 ghost use Rattle.records.specs.Working.Audited.{Ready};
 ghost use Rattle.sides.specs.Working.Results.{BothLists};
 ghost use Rattle.sides.specs.Working.Stripping.{Readable};
 ghost use Rattle.empties.specs.Empties.{unmet, emptied, sides, empty_parts};
 ghost use Rattle.empties.specs.Working.Listing.{Starts, tried};
-ghost use Rattle.empties.specs.Working.Cuts.{unlisted};
 ghost use Rattle.empties.specs.Calls.{listed, PublicEmpties};
 
-use records::index::cut_unchecked;
-use records::{LIST_LIMIT, Made, State, make};
+use records::index::cut_refused;
+use records::{LIST_LIMIT, Refusal, State, make};
 use sides::stripping;
 use wordeq::{propagate, resolving};
 
-// The answer, with the new counts.
+// The answer: the new counts, the number of "", how many variables are listed, and the link flag.
 #[derive(Clone, Copy)]
-pub enum Empties {
-    // the number of "", how many variables are listed, the link flag
-    Parts(records::State, u32, usize, bool),
-    Refused(u32),
+pub struct Empties {
+    pub state: State,
+    pub empty: u32,
+    pub listed: usize,
+    pub link: bool,
 }
 
 // Whether a string term is of the class of "" or of a variable listed before.
@@ -100,20 +100,20 @@ fn empties_unchecked(
     c: State,
     side: &[u32],
     list: &mut [u32],
-) -> Empties
+) -> Result<Empties, Refusal>
     requires ready { Ready (lent terms.old cells.now chars.old reasons.now keys.now) c }
     requires side_is_list { is_list (store_of (lent terms.old cells.now chars.old reasons.now keys.now) c) side.now ≡ true }
     requires list_limit_in_bounds { list_limit ≤ length list.old }
     ensures { Does (emptied side.now) (across (changing terms) cells (changing chars) reasons keys) c (listed result into changing list) }
 {
-    let empty = make::make_constant_unchecked(terms, cells, chars, reasons, keys, c, &[]);
-    match empty {
-        Made::Term(t, d) => {
-            let n = list_unmet(terms, chars, d, side, t, list);
-            Empties::Parts(d, t, n, 0 < n)
-        }
-        Made::Refused(k) => Empties::Refused(k),
-    }
+    let (empty, state) = make::make_constant_unchecked(terms, cells, chars, reasons, keys, c, &[])?;
+    let listed = list_unmet(terms, chars, state, side, empty, list);
+    Ok(Empties {
+        state,
+        empty,
+        listed,
+        link: 0 < listed,
+    })
 }
 
 // One of two flattened lists empty, the other two or more variables; other lists give none, and nothing is made.
@@ -127,7 +127,7 @@ fn sides_unchecked(
     lhs: &[u32],
     rhs: &[u32],
     list: &mut [u32],
-) -> Empties
+) -> Result<Empties, Refusal>
     requires ready { Ready (lent terms.old cells.now chars.old reasons.now keys.now) c }
     requires both_lists { BothLists (store_of (lent terms.old cells.now chars.old reasons.now keys.now) c) lhs.now rhs.now }
     requires list_limit_in_bounds { list_limit ≤ length list.old }
@@ -138,7 +138,12 @@ fn sides_unchecked(
     } else if propagate::is_emptied_unchecked(terms, c, rhs, lhs) {
         empties_unchecked(terms, cells, chars, reasons, keys, c, lhs, list)
     } else {
-        Empties::Parts(c, 0, 0, false)
+        Ok(Empties {
+            state: c,
+            empty: 0,
+            listed: 0,
+            link: false,
+        })
     }
 }
 
@@ -153,7 +158,7 @@ pub fn empty_parts_unchecked(
     lhs: &[u32],
     rhs: &[u32],
     list: &mut [u32],
-) -> Empties
+) -> Result<Empties, Refusal>
     requires ready { Ready (lent terms.old cells.now chars.old reasons.now keys.now) c }
     requires both_lists { BothLists (store_of (lent terms.old cells.now chars.old reasons.now keys.now) c) lhs.now rhs.now }
     requires list_limit_in_bounds { list_limit ≤ length list.old }
@@ -162,12 +167,12 @@ pub fn empty_parts_unchecked(
     let mut left: [u32; 1024] = [0; 1024];
     let n = resolving::flatten_list_unchecked(terms, cells, c, lhs, &mut left);
     if LIST_LIMIT < n {
-        return Empties::Refused(6);
+        return Err(Refusal::List);
     }
     let mut right: [u32; 1024] = [0; 1024];
     let k = resolving::flatten_list_unchecked(terms, cells, c, rhs, &mut right);
     if LIST_LIMIT < k {
-        return Empties::Refused(6);
+        return Err(Refusal::List);
     }
     sides_unchecked(
         terms,
@@ -193,34 +198,16 @@ pub fn empty_parts(
     lhs: &[u32],
     rhs: &[u32],
     list: &mut [u32],
-) -> Empties
+) -> Result<Empties, Refusal>
     ensures { Writes (PublicEmpties lhs.now rhs.now) (across (changing terms) cells (changing chars) reasons keys) (changing list) c (listed result) }
 {
     if list.len() < LIST_LIMIT {
-        return Empties::Refused(1);
+        return Err(Refusal::Sizes);
     }
-    let k = records::audit(terms, cells, chars, reasons, keys, c);
-    if k != 0 {
-        return Empties::Refused(k);
-    }
+    records::audit(terms, cells, chars, reasons, keys, c)?;
     if !wordeq::are_lists(terms, c, lhs, rhs) {
-        return Empties::Refused(5);
+        return Err(Refusal::Argument);
     }
-    let o = empty_parts_unchecked(terms, cells, chars, reasons, keys, c, lhs, rhs, list);
-    cut_unlisted(terms, c.terms, o)
-}
-
-// After a refusal the index names no term that was made on the way.
-fn cut_unlisted(terms: &mut [u32], n: usize, o: Empties) -> Empties
-    requires fact_1 { n ≤ term_limit }
-    requires fact_2 { term_words n ≤ length terms.old }
-    ensures { CutRefused unlisted terms.old terms.new n o result }
-{
-    match o {
-        Empties::Parts(d, t, k, f) => Empties::Parts(d, t, k, f),
-        Empties::Refused(k) => {
-            cut_unchecked(terms, n);
-            Empties::Refused(k)
-        }
-    }
+    let parts = empty_parts_unchecked(terms, cells, chars, reasons, keys, c, lhs, rhs, list);
+    cut_refused(terms, c.terms, parts)
 }
