@@ -129,8 +129,7 @@ fn counts_ok(marks: &[u32], d: Standing) -> bool
         return false;
     }
     let mut last: u32 = 0;
-    for i in 0..d.marks {
-        let n = word(marks, i);
+    for &n in &marks[..d.marks] {
         if n < last {
             return false;
         }

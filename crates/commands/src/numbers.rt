@@ -80,11 +80,7 @@ fn negative(x: u32) -> i32
 
 // The guard with this word: from 2,147,483,648 on a negative one.
 pub fn guard_of_word(x: u32) -> i32 {
-    if x < 0x8000_0000 {
-        positive(x)
-    } else {
-        negative(0xFFFF_FFFF - x + 1)
-    }
+    x.cast_signed()
 }
 
 // A guard: digits, after a minus sign where it is below 0.

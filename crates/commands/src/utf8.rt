@@ -48,7 +48,7 @@ fn two_bytes(a: u8, b: u8) -> Option<(usize, u32)>
     if !is_next(b) {
         return None;
     }
-    shape(2, 0x80, six_more((a - 0xC0) as u32, b))
+    shape(2, 0x80, six_more(u32::from(a - 0xC0), b))
 }
 
 fn three_bytes(a: u8, b: u8, c: u8) -> Option<(usize, u32)>
