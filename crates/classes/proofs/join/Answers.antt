@@ -1,6 +1,5 @@
 use mathlib.Core.Path.{sym}
 use Rattle.records.proofs.Public.{handed}
-use Rattle.records.specs.View.{lent}
 use Rattle.classes.proofs.ReadyMarks.{marks-ready}
 use Rattle.classes.proofs.Refines.PublicCalls.{join_unready, join-wrong, join-gives}
 use Rattle.classes.proofs.join.Goals as goal
@@ -11,8 +10,7 @@ returns-in_err-audit c =
 
 pub returns-then-not-can_join : goal.returns-then-not-can_join
 returns-then-not-can_join c =
-    join-wrong (lent c.args.terms.now c.args.cells.now c.args.chars.now c.args.reasons.now c.args.keys.now)
-    c.args.marks.now c.args.c c.args.d c.args.a c.args.b c.args.kind c.args.number
+    join-wrong _ _ _ _ _ _ _ _
     (sym c.in_ok-audit.ensures) _ c.can_join.ensures c.if-not-can_join.true-raw
 
 pub join_unchecked-r-requires-clause-ready_marks : goal.join_unchecked-r-requires-clause-ready_marks
@@ -20,6 +18,5 @@ join_unchecked-r-requires-clause-ready_marks c = marks-ready (sym c.in_ok-audit.
 
 pub returns : goal.returns
 returns c =
-    join-gives (lent c.args.terms.now c.args.cells.now c.args.chars.now c.args.reasons.now c.args.keys.now)
-    c.args.marks.now c.args.c c.args.d c.args.a c.args.b c.args.kind c.args.number
+    join-gives _ _ _ _ _ _ _ _
     (sym c.in_ok-audit.ensures) c.join_unchecked-r.ensures

@@ -1,7 +1,6 @@
 use mathlib.Core.Path.{refl}
 use Rattle.classes.proofs.Refines.Merge.{merge_unready, merge-unfit, merge-room, merge-is}
 use Rattle.records.proofs.Public.{handed, passed-ready}
-use Rattle.records.specs.View.{lent}
 use Rattle.classes.proofs.merge.Goals as goal
 
 pub returns-in_err-audit : goal.returns-in_err-audit
@@ -10,23 +9,19 @@ returns-in_err-audit c =
 
 pub can_merge_unchecked-requires : goal.can_merge_unchecked-requires
 can_merge_unchecked-requires c =
-    passed-ready (lent c.args.terms.now c.args.cells.now c.args.chars.now c.args.reasons.now c.args.keys.now)
-    c.args.c _ c.in_ok-audit.ensures refl
+    passed-ready _ _ _ c.in_ok-audit.ensures refl
 
 pub returns-then-not-can_merge_unchecked : goal.returns-then-not-can_merge_unchecked
 returns-then-not-can_merge_unchecked c =
-    merge-unfit (lent c.args.terms.now c.args.cells.now c.args.chars.now c.args.reasons.now c.args.keys.now)
-    c.args.c c.args.child c.args.parent c.args.n c.args.stamp _ c.in_ok-audit.ensures refl _
+    merge-unfit _ _ _ _ _ _ _ c.in_ok-audit.ensures refl _
     c.can_merge_unchecked.ensures c.if-not-can_merge_unchecked.true-raw
 
 pub put_under_unchecked-requires : goal.put_under_unchecked-requires
 put_under_unchecked-requires c =
-    merge-room (lent c.args.terms.now c.args.cells.now c.args.chars.now c.args.reasons.now c.args.keys.now)
-    c.args.c c.args.child c.args.parent c.args.n c.args.stamp _ c.in_ok-audit.ensures refl _
+    merge-room _ _ c.args.child c.args.parent c.args.n c.args.stamp _ c.in_ok-audit.ensures refl _
     c.can_merge_unchecked.ensures c.if-not-can_merge_unchecked.false-raw
 
 pub returns : goal.returns
 returns c =
-    merge-is c.args.terms.now c.args.cells.now c.args.chars.now c.args.reasons.now c.args.keys.now _
-    c.args.c c.args.child c.args.parent c.args.n c.args.stamp _ c.in_ok-audit.ensures refl _
+    merge-is _ _ _ _ _ _ _ _ _ _ _ _ c.in_ok-audit.ensures refl _
     c.can_merge_unchecked.ensures c.if-not-can_merge_unchecked.false-raw c.put_under_unchecked.ensures

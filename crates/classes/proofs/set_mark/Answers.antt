@@ -1,6 +1,5 @@
 use mathlib.Core.Path.{sym}
 use Rattle.records.proofs.Public.{handed}
-use Rattle.records.specs.View.{lent}
 use Rattle.classes.specs.Calls.{set_mark}
 use Rattle.classes.proofs.ReadyMarks.{marks-ready}
 use Rattle.classes.proofs.Refines.PublicCalls.{call-audit, mark_full, call-given}
@@ -12,8 +11,7 @@ returns-in_err-audit c =
 
 pub returns-then-d-ge-MARK_LIMIT : goal.returns-then-d-ge-MARK_LIMIT
 returns-then-d-ge-MARK_LIMIT c =
-    mark_full (lent c.args.terms.now c.args.cells.now c.args.chars.now c.args.reasons.now c.args.keys.now)
-    c.args.marks.now c.args.c c.args.d (sym c.in_ok-audit.ensures) c.if-d-ge-MARK_LIMIT.true
+    mark_full _ _ _ _ (sym c.in_ok-audit.ensures) c.if-d-ge-MARK_LIMIT.true
 
 pub set_mark_unchecked-e-requires-clause-ready_marks : goal.set_mark_unchecked-e-requires-clause-ready_marks
 set_mark_unchecked-e-requires-clause-ready_marks c = marks-ready (sym c.in_ok-audit.ensures)

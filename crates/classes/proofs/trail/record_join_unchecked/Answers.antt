@@ -8,4 +8,4 @@ returns-then-d-eq0 c =
 
 pub returns : goal.returns
 returns c =
-    record_one c.args.marks.now c.args.d c.requires.sized c.args.child c.args.old c.args.under c.requires.room c.if-d-eq0.false
+    record_one _ _ c.requires.sized _ _ _ c.requires.room c.if-d-eq0.false
