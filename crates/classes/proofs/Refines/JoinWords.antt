@@ -7,7 +7,6 @@ use Prim.Native.Nat.{ℕ, suc, ◌≤◌}
 use native.Mathlib.Omega.{arith}
 use lib.ListN.{length}
 use lib.Dec.{eqb}
-use borrow.Author.Tests.{not-true, not-false}
 use Rattle.records.specs.Store.{Term, within, climb, class_up, forest_up, root_in}
 use Rattle.records.specs.View.{term_at, terms_view, term_words}
 use Rattle.records.specs.Make.{with_class}
@@ -149,16 +148,16 @@ module _ (l : List ℕ) (n child old under : ℕ) where
         and-next edged fifth _ t (ap (λ (c : ℕ). not (eqb c under)) (view_class l n under z u g)) ∙ the-test
 
   module _ (b : Bool) (e : b ≡ is_trace ts x) where
-    none_is : not b ≡ true → undo_in ts x ≡ none
+    none_is : b ≡ false → undo_in ts x ≡ none
     unfolding undo_in
-    none_is h = rw (sym e ∙ not-true b h)
+    none_is h = rw (sym e ∙ h)
 
-    pub undo-not : not b ≡ true → Tabled l n → Undoes l l n (undo_in ts x) false
+    pub undo-not : b ≡ false → Tabled l n → Undoes l l n (undo_in ts x) false
     undo-not h d = subst (λ (o : Option (List Term)). Undoes l l n o false) (sym (none_is h)) (no_table (record { long = refl; away = λ t w. refl; is = refl; index = left-none }) d)
 
-    module _ (h : not b ≡ false) (d : Tabled l n) where
+    module _ (h : b ≡ true) (d : Tabled l n) where
       traced : Traced ts x
-      traced = trace-says ts x (sym e ∙ not-false b h)
+      traced = trace-says ts x (sym e ∙ h)
 
       uncounted : (t : ℕ) → within (length ts) t ≡ true → within n t ≡ true
       uncounted t w = ap (λ (m : ℕ). within m t) (sym (view_count l n)) ∙ w

@@ -1,20 +1,19 @@
 -- The audit of marks over words: the copy, one table, the tables of all marks, and the answers of the audit.
 use mathlib.Core.Path.{◌≡◌, refl, sym, ap, subst, ◌∙◌}
-use mathlib.Core.Bool.{Bool, true, false, not, ◌&&◌}
+use mathlib.Core.Bool.{Bool, true, false, ◌&&◌}
 use mathlib.Core.List.{List, [], ◌∷◌, ◌++◌}
 use mathlib.Core.Option.{Option, none, some}
 use Prim.Native.Nat.{ℕ, suc, ◌+◌, ◌-◌, ◌<◌, ◌≤◌}
 use native.Mathlib.Omega.{arith}
 use lib.ListN.{length, get_or, drop}
 use lib.Seq.{drop-append-le, drop-append_seam, drop-length}
-use borrow.Author.Tests.{not-true, not-false}
 use Rattle.records.specs.declared.State.{State}
 use Rattle.records.specs.Lists.{all, table, firsts, Every}
 use Rattle.records.specs.Store.{Term, Store, term_in, term, chain, within, class_up}
 use Rattle.records.specs.View.{Lent, store_of, terms_view, chained, termed}
 use Rattle.records.specs.Rules.{classes_rule, congruences_rule}
 use Rattle.records.specs.Working.Audited.{Closed, Classed, Congruable}
-use Rattle.records.proofs.Lists.{and-stop, and-next, right-false, right-true, failed, passed, all_append, table-length, table-suc, table_add}
+use Rattle.records.proofs.Lists.{and-stop, and-next, right-false, right-true, all_append, table-length, table-suc, table_add}
 use Rattle.records.proofs.Views.{terms-agree}
 use Rattle.records.proofs.Climbs.{view_count}
 use Rattle.records.proofs.Passed.{classed-of}
@@ -139,12 +138,12 @@ module _ (l₀ e : List ℕ) (c : State) (marks : List ℕ) (m n : ℕ) where
     fails : at first ≡ false → false ≡ all at (table f m)
     fails g = sym (sym a.left ∙ all-last at f j i one_appended ∙ right-false (all at (table f i)) (at (f i)) (ap at (sym q) ∙ g))
 
-    pub auditing_none : {l' : List ℕ} (r : Bool) → Undoes l l' c.terms (undo_all (drop first (table (trace_at marks) joins)) (terms_view l c.terms)) r → not r ≡ true → false ≡ all at (table f m)
-    auditing_none {l'} r u z = fails (ap (passes s₀) (here none (undoes_none (subst (Undoes l l' c.terms _) (not-true r z) u))))
+    pub auditing_none : {l' : List ℕ} (r : Bool) → Undoes l l' c.terms (undo_all (drop first (table (trace_at marks) joins)) (terms_view l c.terms)) r → r ≡ false → false ≡ all at (table f m)
+    auditing_none {l'} r u z = fails (ap (passes s₀) (here none (undoes_none (subst (Undoes l l' c.terms _) z u))))
 
-    module _ {l' : List ℕ} (r : Bool) (u : Undoes l l' c.terms (undo_all (drop first (table (trace_at marks) joins)) (terms_view l c.terms)) r) (z : not r ≡ false) where
+    module _ {l' : List ℕ} (r : Bool) (u : Undoes l l' c.terms (undo_all (drop first (table (trace_at marks) joins)) (terms_view l c.terms)) r) (z : r ≡ true) where
       came : Came l l' c.terms (undo_all (drop first (table (trace_at marks) joins)) (terms_view l c.terms))
-      came = undoes_some (subst (Undoes l l' c.terms _) (not-false r z) u)
+      came = undoes_some (subst (Undoes l l' c.terms _) z u)
 
       back : undo_all (drop first (table (trace_at marks) n)) s₀.terms ≡ some (terms_view l' c.terms)
       back = here (some (terms_view l' c.terms)) (came.is ∙ ap some (sym came.becomes.is))
@@ -162,17 +161,17 @@ module _ (l₀ e : List ℕ) (c : State) (marks : List ℕ) (m n : ℕ) where
       passing = ap (passes s₀) back ∙ passes-alone (some (terms_view l' c.terms)) (chained l' e c) s₀ refl
 
       module _ (b : Bool) (g : b ≡ (classes_rule (chained l' e c) && congruences_rule (chained l' e c))) where
-        pub auditing_bad : not b ≡ true → false ≡ all at (table f m)
-        auditing_bad y = fails (passing ∙ sym g ∙ not-true b y)
+        pub auditing_bad : b ≡ false → false ≡ all at (table f m)
+        auditing_bad y = fails (passing ∙ sym g ∙ y)
 
-        pub auditing_turn : not b ≡ false → Auditing l' first i
+        pub auditing_turn : b ≡ true → Auditing l' first i
         auditing_turn y = record {
           long = came.becomes.long ∙ a.long;
           markable = auditing_asks;
           fits = (let k = first_low in let w = a.fits in omega arith);
           counts = ap (counts_rule (table f i)) q ∙ step.0;
           is = back;
-          left = sym (right-true (all at (table f i)) (at (f i)) (ap at (sym q) ∙ passing ∙ sym g ∙ not-false b y)) ∙ sym (all-last at f j i one_appended) ∙ a.left;
+          left = sym (right-true (all at (table f i)) (at (f i)) (ap at (sym q) ∙ passing ∙ sym g ∙ y)) ∙ sym (all-last at f j i one_appended) ∙ a.left;
         }
 
   pub auditing_done : {l : List ℕ} {joins i : ℕ} → Auditing l joins i → i ≤ 0 → true ≡ all at (table f m)
@@ -195,14 +194,14 @@ module _ (l e : List ℕ) (c : State) (marks : List ℕ) (d : Standing) where
     counted : b ≡ counts_rule trail.marks (length trail.joins)
     counted = q ∙ ap (counts_rule trail.marks) (sym (table-length (trace_at marks) d.joins))
 
-    pub marks-not : not b ≡ true → false ≡ marks_rule whole trail
+    pub marks-not : b ≡ false → false ≡ marks_rule whole trail
     unfolding marks_rule
-    marks-not z = and-stop (counts_rule trail.marks (length trail.joins)) _ (failed _ b counted z)
+    marks-not z = and-stop (counts_rule trail.marks (length trail.joins)) _ (sym counted ∙ z)
 
-    module _ (z : not b ≡ false) where
+    module _ (z : b ≡ true) where
       tables_are : (r : Bool) → r ≡ all (each whole) trail.marks → r ≡ marks_rule whole trail
       unfolding marks_rule
-      tables_are r k = and-next (counts_rule trail.marks (length trail.joins)) (all (each whole) trail.marks) r (passed _ b counted z) k
+      tables_are r k = and-next (counts_rule trail.marks (length trail.joins)) (all (each whole) trail.marks) r (sym counted ∙ z) k
 
       pub marks-none : d.marks ≡ 0 → true ≡ marks_rule whole trail
       unfolding all table

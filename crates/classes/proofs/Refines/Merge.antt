@@ -11,7 +11,6 @@ use native.Mathlib.Omega.{arith}
 use lib.ListN.{length, set}
 use lib.Seq.{set-set}
 use lib.Dec.{eqb}
-use borrow.Author.Tests.{not-true, not-false}
 use Rattle.records.specs.declared.State.{State}
 use Rattle.records.specs.Store.{Term, Store, ok, count, within, is_string, same_class, root_in, class_up}
 use Rattle.records.specs.View.{Lent, lent, store_of, term_at, terms_view, term_words, zero_term}
@@ -105,13 +104,13 @@ merge_unready m c child parent n stamp e v = record { says = (call_refused (can_
 
 module _ (m : Lent) (c : State) (child parent n stamp k : ℕ) (v : k ≡ audit m c) where
   module _ (z : k ≡ 0) (b : Bool) (e : b ≡ can_merge child parent n (store_of m c)) where
-    pub merge-unfit : not b ≡ true → PublicMerge m m c child parent n stamp (Err Argument)
-    merge-unfit h = record { says = (call-unfit (can_merge child parent n) (merge_classes child parent n stamp) m c k v z b e (not-true b h)).says; idle = λ j q. refl; others = λ t d. refl; index = λ n. left_same left-none n; kept = λ q. not-merged q }
+    pub merge-unfit : b ≡ false → PublicMerge m m c child parent n stamp (Err Argument)
+    merge-unfit h = record { says = (call-unfit (can_merge child parent n) (merge_classes child parent n stamp) m c k v z b e h).says; idle = λ j q. refl; others = λ t d. refl; index = λ n. left_same left-none n; kept = λ q. not-merged q }
 
     -- the child's record is within the slice
-    pub merge-room : not b ≡ false → term_words child ≤ length m.terms
+    pub merge-room : b ≡ true → term_words child ≤ length m.terms
     merge-room h =
-        let w = within-high c.terms child (child-within m c child parent n (sym e ∙ not-false b h)) in
+        let w = within-high c.terms child (child-within m c child parent n (sym e ∙ h)) in
         let r = (ready_of m c (sym v ∙ z)).sized.term_room in
         omega arith
 
@@ -121,13 +120,13 @@ unfolding zero_term
 zero-away a h = let p = a.away 0 (λ e. omega arith) in let q = a.index.nexts 0 in cc
 
 module _ (t e h r ks t' : List ℕ) (c : State) (child parent n stamp k : ℕ) (v : k ≡ audit (lent t e h r ks) c) (z : k ≡ 0)
-    (b : Bool) (f : b ≡ can_merge child parent n (store_of (lent t e h r ks) c)) (y : not b ≡ false) where
+    (b : Bool) (f : b ≡ can_merge child parent n (store_of (lent t e h r ks) c)) (y : b ≡ true) where
   pub merge-is : TermSet t t' child (under (term_at t child) parent n stamp) → PublicMerge (lent t e h r ks) (lent t' e h r ks) c child parent n stamp (Ok tt)
   unfolding call merge_classes
   merge-is j =
       let m = lent t e h r ks in
       let a : audit m c ≡ 0 = sym v ∙ z in
-      let g : can_merge child parent n (store_of m c) ≡ true = sym f ∙ not-false b y in
+      let g : can_merge child parent n (store_of m c) ≡ true = sym f ∙ y in
       let w = child-within m c child parent n g in
       let p : terms_view t' c.terms ≡ merge_in (terms_view t c.terms) child parent n stamp =
       j.terms c.terms w ∙ ap (λ (x : Term). set (terms_view t c.terms) (child - 1) (under x parent n stamp)) (sym (view_term t c.terms child w)) in

@@ -1,11 +1,11 @@
 -- Each way through the public calls: refused, or given as the working form gives it, with store and marks audited again.
 use mathlib.Core.Path.{◌≡◌, refl, sym, ap, subst, ◌∙◌}
-use mathlib.Core.Bool.{Bool, true, not}
+use mathlib.Core.Bool.{Bool, false}
 use mathlib.Core.List.{List}
 use Prim.Native.Nat.{ℕ, zero, suc, ◌≤◌}
 use native.Mathlib.Omega.{arith}
 use lib.ListN.{length, get_or}
-use borrow.Author.Tests.{le-ltb, not-true}
+use borrow.Author.Tests.{le-ltb}
 use Rattle.records.specs.declared.State.{State}
 use Rattle.records.specs.Store.{Store, within}
 use Rattle.records.specs.View.{Lent, store_of}
@@ -63,10 +63,10 @@ pub join_unready : (m : Lent) (l : List ℕ) (c : State) (d : Standing) (a b k v
 join_unready m l c d a b k v j e = record { tracks = call-audit (join_terms a b k v) m l c d j e; same = λ f g. not-given g; linked = λ f g. not-given g }
 
 module _ (m : Lent) (l : List ℕ) (c : State) (d : Standing) (a b k v : ℕ) (z : audit_marks m l c d ≡ 0) where
-  pub join-wrong : (x : Bool) → x ≡ join_arguments a b k v (store_of m c) → not x ≡ true → PublicJoin a b k v m m l l c d (Err Argument)
+  pub join-wrong : (x : Bool) → x ≡ join_arguments a b k v (store_of m c) → x ≡ false → PublicJoin a b k v m m l l c d (Err Argument)
   unfolding join_terms
   join-wrong x q y = record {
-    tracks = call-refused (join_terms a b k v) m l c d Argument z (rw (sym q ∙ not-true x y));
+    tracks = call-refused (join_terms a b k v) m l c d Argument z (rw (sym q ∙ y));
     same = λ f g. not-given g;
     linked = λ f g. not-given g;
   }
@@ -88,6 +88,6 @@ module _ (m : Lent) (l : List ℕ) (c : State) (d : Standing) (z : audit_marks m
   unfolding set_mark
   mark_full g = call-refused set_mark m l c d Mark z (rw (le-ltb (length (trail_of l d).marks) mark_limit (let q = stand in omega arith)))
 
-  pub back-absent : (i : ℕ) (b : Bool) → b ≡ within d.marks i → not b ≡ true → Tracks (go_back i) m m l l c d (Err Mark)
+  pub back-absent : (i : ℕ) (b : Bool) → b ≡ within d.marks i → b ≡ false → Tracks (go_back i) m m l l c d (Err Mark)
   unfolding go_back
-  back-absent i b q y = call-refused (go_back i) m l c d Mark z (rw (ap (λ (n : ℕ). within n i) stand ∙ sym q ∙ not-true b y))
+  back-absent i b q y = call-refused (go_back i) m l c d Mark z (rw (ap (λ (n : ℕ). within n i) stand ∙ sym q ∙ y))

@@ -1,6 +1,6 @@
 -- The words lent for marks: their sizes, a join or a mark recorded, and joins undone one after the other.
 use mathlib.Core.Path.{◌≡◌, refl, sym, ap, subst, ◌∙◌}
-use mathlib.Core.Bool.{Bool, true, false, not, ◌&&◌}
+use mathlib.Core.Bool.{Bool, true, false, ◌&&◌}
 use mathlib.Core.List.{List, [], ◌∷◌}
 use mathlib.Core.Option.{Option, none, some}
 use Prim.Native.Nat.{ℕ, suc, ◌+◌, ◌-◌, ◌*◌, ◌<◌, ◌≤◌}
@@ -8,7 +8,7 @@ use native.Mathlib.Omega.{arith}
 use lib.ListN.{length, get_or, set, drop, length-set}
 use lib.Seq.{get_or-set_same, get_or-set_other, drop-append-le, drop-length}
 use lib.Dec.{eqb, ltb, leb}
-use borrow.Author.Tests.{not-true, not-false, eqb-true, eqb-false, le-leb, le-ltb, lt-ltb, ltb-false, leb-true}
+use borrow.Author.Tests.{eqb-true, eqb-false, le-leb, le-ltb, lt-ltb, ltb-false, leb-true}
 use Rattle.records.specs.Lists.{table, one_more}
 use Rattle.records.specs.Store.{Term}
 use Rattle.records.specs.View.{terms_view}
@@ -202,17 +202,17 @@ module _ {l₀ l : List ℕ} {n : ℕ} {marks : List ℕ} {joins first j : ℕ} 
         ap (λ (k : ℕ). drop first (table (trace_at marks) k)) (let q : j ≡ suc i = omega arith in q) ∙ ap (drop first) (table-suc (trace_at marks) i)
         ∙ drop-append-le first (table (trace_at marks) i) _ (let q = table-length (trace_at marks) i in omega arith)
 
-    pub backward_stop : {l' : List ℕ} (r : Bool) → Undoes l l' n (undo_in (terms_view l n) (trace_at marks i)) r → not r ≡ true → Undoes l₀ l' n (undo_all (drop first (table (trace_at marks) joins)) (terms_view l₀ n)) false
+    pub backward_stop : {l' : List ℕ} (r : Bool) → Undoes l l' n (undo_in (terms_view l n) (trace_at marks i)) r → r ≡ false → Undoes l₀ l' n (undo_all (drop first (table (trace_at marks) joins)) (terms_view l₀ n)) false
     unfolding undo_all
     backward_stop {l'} r u z =
-        let v = undoes_none (subst (Undoes l l' n (undo_in (terms_view l n) (trace_at marks i))) (not-true r z) u) in
+        let v = undoes_none (subst (Undoes l l' n (undo_in (terms_view l n) (trace_at marks i))) z u) in
         undoes_is (b.left ∙ ap (λ (k : List Trace). undo_all k (terms_view l n)) last-first ∙ undo-stops (drop first (table (trace_at marks) i)) (trace_at marks i ∷ []) (terms_view l n) v)
         (no_table (becomes-then b.until (undoes_tabled u).0) (undoes_tabled u).1)
 
-    pub backward_turn : {l' : List ℕ} (r : Bool) → Undoes l l' n (undo_in (terms_view l n) (trace_at marks i)) r → not r ≡ false → Backward l₀ l' n marks joins first i
+    pub backward_turn : {l' : List ℕ} (r : Bool) → Undoes l l' n (undo_in (terms_view l n) (trace_at marks i)) r → r ≡ true → Backward l₀ l' n marks joins first i
     unfolding undo_all
     backward_turn {l'} r u z =
-        let c = undoes_some (subst (Undoes l l' n (undo_in (terms_view l n) (trace_at marks i))) (not-false r z) u) in
+        let c = undoes_some (subst (Undoes l l' n (undo_in (terms_view l n) (trace_at marks i))) z u) in
         record {
           low = omega arith;
           high = (let k = b.high in omega arith);

@@ -12,7 +12,7 @@ returns-in_err-audit c =
 pub returns-then-not-is_within : goal.returns-then-not-is_within
 returns-then-not-is_within c =
     back-absent _ _ _ _ (sym c.in_ok-audit.ensures) _ _
-    c.is_within.ensures c.if-not-is_within.true-raw
+    c.is_within.ensures c.if-not-is_within.true
 
 pub go_back_unchecked-e-requires-clause-ready_marks : goal.go_back_unchecked-e-requires-clause-ready_marks
 go_back_unchecked-e-requires-clause-ready_marks c = marks-ready (sym c.in_ok-audit.ensures)

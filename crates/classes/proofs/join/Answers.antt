@@ -11,7 +11,7 @@ returns-in_err-audit c =
 pub returns-then-not-can_join : goal.returns-then-not-can_join
 returns-then-not-can_join c =
     join-wrong _ _ _ _ _ _ _ _
-    (sym c.in_ok-audit.ensures) _ c.can_join.ensures c.if-not-can_join.true-raw
+    (sym c.in_ok-audit.ensures) _ c.can_join.ensures c.if-not-can_join.true
 
 pub join_unchecked-r-requires-clause-ready_marks : goal.join_unchecked-r-requires-clause-ready_marks
 join_unchecked-r-requires-clause-ready_marks c = marks-ready (sym c.in_ok-audit.ensures)

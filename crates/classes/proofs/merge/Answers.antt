@@ -14,14 +14,14 @@ can_merge_unchecked-requires c =
 pub returns-then-not-can_merge_unchecked : goal.returns-then-not-can_merge_unchecked
 returns-then-not-can_merge_unchecked c =
     merge-unfit _ _ _ _ _ _ _ c.in_ok-audit.ensures refl _
-    c.can_merge_unchecked.ensures c.if-not-can_merge_unchecked.true-raw
+    c.can_merge_unchecked.ensures c.if-not-can_merge_unchecked.true
 
 pub put_under_unchecked-requires : goal.put_under_unchecked-requires
 put_under_unchecked-requires c =
     merge-room _ _ c.args.child c.args.parent c.args.n c.args.stamp _ c.in_ok-audit.ensures refl _
-    c.can_merge_unchecked.ensures c.if-not-can_merge_unchecked.false-raw
+    c.can_merge_unchecked.ensures c.if-not-can_merge_unchecked.false
 
 pub returns : goal.returns
 returns c =
     merge-is _ _ _ _ _ _ _ _ _ _ _ _ c.in_ok-audit.ensures refl _
-    c.can_merge_unchecked.ensures c.if-not-can_merge_unchecked.false-raw c.put_under_unchecked.ensures
+    c.can_merge_unchecked.ensures c.if-not-can_merge_unchecked.false c.put_under_unchecked.ensures

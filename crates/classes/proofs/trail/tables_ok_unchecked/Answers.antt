@@ -15,22 +15,22 @@ undo_to_unchecked-requires-clause-order c =
 pub returns-then-not-undo_to_unchecked : goal.returns-then-not-undo_to_unchecked
 returns-then-not-undo_to_unchecked c =
     auditing_none _ _ _ _ _ _ c.loop-i.invariant _ (omega (arith, c.loop-i-test.true)) refl _ (c.wide-first.ensures ∙ c.word.ensures) _
-    c.undo_to_unchecked.ensures c.if-not-undo_to_unchecked.true-raw
+    c.undo_to_unchecked.ensures c.if-not-undo_to_unchecked.true
 
 pub table_ok_unchecked-requires : goal.table_ok_unchecked-requires
 table_ok_unchecked-requires c =
     auditing_asks _ _ _ _ _ _ c.loop-i.invariant _ (omega (arith, c.loop-i-test.true)) refl _ (c.wide-first.ensures ∙ c.word.ensures) _
-    c.undo_to_unchecked.ensures c.if-not-undo_to_unchecked.false-raw
+    c.undo_to_unchecked.ensures c.if-not-undo_to_unchecked.false
 
 pub returns-then-not-table_ok_unchecked : goal.returns-then-not-table_ok_unchecked
 returns-then-not-table_ok_unchecked c =
     auditing_bad _ _ _ _ _ _ c.loop-i.invariant _ (omega (arith, c.loop-i-test.true)) refl _ (c.wide-first.ensures ∙ c.word.ensures) _
-    c.undo_to_unchecked.ensures c.if-not-undo_to_unchecked.false-raw _ c.table_ok_unchecked.ensures c.if-not-table_ok_unchecked.true-raw
+    c.undo_to_unchecked.ensures c.if-not-undo_to_unchecked.false _ c.table_ok_unchecked.ensures c.if-not-table_ok_unchecked.true
 
 pub loop-i-preserved : goal.loop-i-preserved
 loop-i-preserved c =
     auditing_turn _ _ _ _ _ _ c.loop-i.invariant _ (omega (arith, c.loop-i-test.true)) refl _ (c.wide-first.ensures ∙ c.word.ensures) _
-    c.undo_to_unchecked.ensures c.if-not-undo_to_unchecked.false-raw _ c.table_ok_unchecked.ensures c.if-not-table_ok_unchecked.false-raw
+    c.undo_to_unchecked.ensures c.if-not-undo_to_unchecked.false _ c.table_ok_unchecked.ensures c.if-not-table_ok_unchecked.false
 
 pub returns : goal.returns
 returns c =
