@@ -25,16 +25,11 @@ fn chain_is(cells: &[u32], n: usize, c: u32, l: &[u32]) -> bool
     ensures { result ≡ same_word (firsts (chain_in (cells_view cells.now n) c)) l.now }
 {
     let mut at = c;
-    let mut i: usize = 0;
-    while i < l.len() {
-        if !is_within(n, at) {
-            return false;
-        }
-        if value(cells, at) != l[i] {
+    for &x in l {
+        if !is_within(n, at) || value(cells, at) != x {
             return false;
         }
         at = next(cells, at);
-        i += 1;
     }
     !is_within(n, at)
 }

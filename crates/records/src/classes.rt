@@ -173,9 +173,9 @@ fn alone_ok(terms: &[u32], c: State, t: u32) -> bool
 
 // One term's tests, with the roots that were climbed to at hand.
 pub(crate) fn rooted_ok(terms: &[u32], c: State, t: u32, r: u32, q: u32, p: u32, u: u32) -> bool
-    requires fact_1 { let s = termed terms.now c in Rooted s c.terms t r q }
-    requires fact_2 { let s = termed terms.now c in p ≡ root s q }
-    requires fact_3 { let s = termed terms.now c in u ≡ top s r }
+    requires rooted { let s = termed terms.now c in Rooted s c.terms t r q }
+    requires root_is { let s = termed terms.now c in p ≡ root s q }
+    requires top_is { let s = termed terms.now c in u ≡ top s r }
     ensures { result ≡ class_test (termed terms.now c) t }
 {
     ends_ok(terms, c, t, r, q)
@@ -294,7 +294,7 @@ fn pairs_either_ok(cells: &[u32], n: usize, p: u32, a: u32, b: u32) -> bool
 
 fn congruence_ok(terms: &[u32], cells: &[u32], c: State, t: u32, heights: &mut [usize]) -> bool
     requires congruable { Congruable terms.now cells.now c }
-    requires t_value { within c.terms t ≡ true }
+    requires here { within c.terms t ≡ true }
     requires heights { Heights (termed terms.now c) cells.now heights.old }
     ensures { Told (termed terms.now c) cells.now heights.new result (congruence_rule (chained terms.now cells.now c) t) }
 {
@@ -310,7 +310,7 @@ fn congruence_ok(terms: &[u32], cells: &[u32], c: State, t: u32, heights: &mut [
 
 fn edge_ok(terms: &[u32], cells: &[u32], c: State, t: u32, heights: &mut [usize]) -> bool
     requires congruable { Congruable terms.now cells.now c }
-    requires t_value { within c.terms t ≡ true }
+    requires here { within c.terms t ≡ true }
     requires heights { Heights (termed terms.now c) cells.now heights.old }
     ensures { Told (termed terms.now c) cells.now heights.new result (edge_rule (chained terms.now cells.now c) t) }
 {

@@ -104,9 +104,9 @@ fn bucket_of_chain(cells: &[u32], n: usize, f: u32) -> usize
 
 // A term of the store.
 fn bucket_of_term(terms: &[u32], cells: &[u32], chars: &[u32], c: State, t: u32) -> usize
-    requires fact_1 { within c.terms t ≡ true }
-    requires fact_2 { c.chars ≤ length chars.now }
-    requires fact_3 { Bucketed (records_in terms.now cells.now chars.now c) }
+    requires here { within c.terms t ≡ true }
+    requires chars { c.chars ≤ length chars.now }
+    requires bucketed { Bucketed (records_in terms.now cells.now chars.now c) }
     ensures { result ≡ bucket (records_in terms.now cells.now chars.now c) t }
 {
     let k = fields::kind(terms, t);
@@ -126,9 +126,9 @@ fn bucket_of_term(terms: &[u32], cells: &[u32], chars: &[u32], c: State, t: u32)
 
 // The place of the word that ends the chain of bucket b: its head's, or the ninth word of its last term.
 fn end_of(terms: &[u32], n: usize, b: usize) -> usize
-    requires fact_1 { n ≤ term_limit }
-    requires fact_2 { b < buckets }
-    requires fact_3 { Walkable terms.now n b }
+    requires limited { n ≤ term_limit }
+    requires bucket { b < buckets }
+    requires walkable { Walkable terms.now n b }
     ensures { Reached terms.now n b result }
 {
     let mut place = b;
@@ -142,10 +142,10 @@ fn end_of(terms: &[u32], n: usize, b: usize) -> usize
 
 // Term n + 1 at the end of the chain of bucket b.
 pub(crate) fn link(terms: &mut [u32], n: usize, b: usize)
-    requires fact_1 { n < term_limit }
-    requires fact_2 { term_words (n + 1) ≤ length terms.old }
-    requires fact_3 { b < buckets }
-    requires fact_4 { Walkable terms.old n b }
+    requires limited { n < term_limit }
+    requires room { term_words (n + 1) ≤ length terms.old }
+    requires bucket { b < buckets }
+    requires walkable { Walkable terms.old n b }
     ensures { Tied terms.old terms.new n b }
 {
     let place = end_of(terms, n, b);
@@ -205,9 +205,9 @@ fn word_after(terms: &[u32], b: usize, t: u32) -> u32
 
 // Each term stands where its bucket has come to. `ends` has the last term of each bucket that was met, 0 where none was.
 fn terms_linked(terms: &[u32], cells: &[u32], chars: &[u32], c: State, ends: &mut [u32; 64]) -> bool
-    requires terms_le_term_limit_1 { c.terms ≤ term_limit }
-    requires terms_le_term_limit_2 { c.chars ≤ length chars.now }
-    requires terms_le_term_limit_3 { Bucketed (records_in terms.now cells.now chars.now c) }
+    requires limited { c.terms ≤ term_limit }
+    requires chars { c.chars ≤ length chars.now }
+    requires bucketed { Bucketed (records_in terms.now cells.now chars.now c) }
     requires none_met { NoneMet ends.old }
     ensures { LinksRead terms.now (bucket (records_in terms.now cells.now chars.now c)) c.terms ends.new result }
 {
@@ -235,9 +235,9 @@ fn chains_end(terms: &[u32], ends: &[u32; 64]) -> bool
 
 // Heads and ninth words are those of the records (refusal 12).
 pub(crate) fn index_ok(terms: &[u32], cells: &[u32], chars: &[u32], c: State) -> bool
-    requires fact_1 { c.terms ≤ term_limit }
-    requires fact_2 { c.chars ≤ length chars.now }
-    requires fact_3 { Bucketed (records_in terms.now cells.now chars.now c) }
+    requires limited { c.terms ≤ term_limit }
+    requires chars { c.chars ≤ length chars.now }
+    requires bucketed { Bucketed (records_in terms.now cells.now chars.now c) }
     ensures { result ≡ index_rule terms.now (records_in terms.now cells.now chars.now c) }
 {
     let mut ends: [u32; 64] = [0; 64];

@@ -70,14 +70,12 @@ fn free_name(
     requires { Ready (lent terms.now cells.now chars.now reasons.now keys.now) c }
     ensures { Free (store_of (across terms cells chars reasons keys).entry c) result }
 {
-    let mut x = c.names;
-    while x < crate::NAME_LIMIT {
+    for x in c.names..crate::NAME_LIMIT {
         if !is_taken(terms, cells, chars, reasons, keys, c, x) {
             return x;
         }
-        x += 1;
     }
-    x
+    crate::NAME_LIMIT
 }
 
 // The next free name, with the counter past it.

@@ -29,10 +29,10 @@ pub(crate) fn put_term_unchecked(
     second: u32,
     b: usize,
 )
-    requires fact_1 { n < term_limit }
-    requires fact_2 { term_words (n + 1) ≤ length terms.old }
-    requires fact_3 { b < buckets }
-    requires fact_4 { Walkable terms.old n b }
+    requires limited { n < term_limit }
+    requires room { term_words (n + 1) ≤ length terms.old }
+    requires bucket { b < buckets }
+    requires walkable { Walkable terms.old n b }
     ensures { TermPut terms.old terms.new n kind first second b }
 {
     link(terms, n, b);
@@ -41,8 +41,8 @@ pub(crate) fn put_term_unchecked(
 
 // The words of record n + 1; no term comes after it yet.
 fn put_words(terms: &mut [u32], n: usize, kind: u32, first: u32, second: u32)
-    requires fact_1 { n < term_limit }
-    requires fact_2 { term_words (n + 1) ≤ length terms.old }
+    requires limited { n < term_limit }
+    requires room { term_words (n + 1) ≤ length terms.old }
     ensures { WordsPut terms.old terms.new n kind first second }
 {
     let at = BUCKETS + TERM_WIDTH * (n + 1);
@@ -80,16 +80,16 @@ pub fn put_edge_unchecked(terms: &mut [u32], t: u32, parent: u32, kind: u32, val
 
 // k cells more fit.
 pub(crate) fn cells_fit(cells: &[u32], n: usize, k: usize) -> bool
-    requires fact_1 { n ≤ cell_limit }
-    requires fact_2 { cell_words n ≤ length cells.now }
+    requires limited { n ≤ cell_limit }
+    requires room { cell_words n ≤ length cells.now }
     ensures { result ≡ leb (n + k) (cell_room cells.now) }
 {
     k <= crate::CELL_LIMIT - n && CELL_WIDTH * (n + k + 1) <= cells.len()
 }
 
 fn put_cell(cells: &mut [u32], n: usize, value: u32, next: u32)
-    requires fact_1 { n < cell_limit }
-    requires fact_2 { cell_words (n + 1) ≤ length cells.old }
+    requires limited { n < cell_limit }
+    requires room { cell_words (n + 1) ≤ length cells.old }
     ensures { CellPut cells.old cells.new n value next }
 {
     let at = CELL_WIDTH * (n + 1);
@@ -100,8 +100,8 @@ fn put_cell(cells: &mut [u32], n: usize, value: u32, next: u32)
 
 // A chain of the values of l, from record n + 1 on: each cell names the one after it, and the last names none.
 pub(crate) fn put_chain_unchecked(cells: &mut [u32], n: usize, l: &[u32])
-    requires fact_1 { n + length l.now ≤ cell_limit }
-    requires fact_2 { cell_words (n + length l.now) ≤ length cells.old }
+    requires limited { n + length l.now ≤ cell_limit }
+    requires room { cell_words (n + length l.now) ≤ length cells.old }
     ensures { ChainPut cells.old cells.new n l.now }
 {
     if l.is_empty() {
@@ -140,24 +140,6 @@ pub fn push_reason_unchecked(reasons: &mut [u32], n: usize, kind: u32, value: u3
     fits
 }
 
-fn lower(a: u32, b: u32) -> u32
-    ensures { result ≡ min a b }
-{
-    if a < b {
-        return a;
-    }
-    b
-}
-
-pub(crate) fn higher(a: u32, b: u32) -> u32
-    ensures { result ≡ max a b }
-{
-    if a < b {
-        return b;
-    }
-    a
-}
-
 pub fn add_key_unchecked(
     terms: &[u32],
     cells: &[u32],
@@ -173,7 +155,7 @@ pub fn add_key_unchecked(
     ensures { Does (add_key a b) (across terms cells chars reasons (changing keys)) c (added result) }
 {
     if pair_fits(keys, crate::KEY_LIMIT, c.keys) {
-        push_pair(keys, c.keys, lower(a, b), higher(a, b));
+        push_pair(keys, c.keys, a.min(b), a.max(b));
         return Ok(c.with_key());
     }
     Err(Refusal::Room)

@@ -46,8 +46,8 @@ pub fn kept_root_unchecked(terms: &[u32], n: usize, t: u32, roots: &[u32; 513]) 
 
 // The root of t's tree in the forest, likewise.
 fn kept_top_unchecked(terms: &[u32], n: usize, t: u32, tops: &[u32; 513]) -> u32
-    requires n_le_term_limit { n ≤ term_limit }
-    requires t_value { within n t ≡ true }
+    requires limited { n ≤ term_limit }
+    requires here { within n t ≡ true }
     requires closed { Closed (forest_up (terms_view terms.now n)) n }
     requires ends { Ends (forest_up (terms_view terms.now n)) n tops.now }
     ensures { result ≡ top_in (terms_view terms.now n) t }
@@ -72,10 +72,10 @@ fn class_kept_ok(
     roots: &mut [u32; 513],
     tops: &mut [u32; 513],
 ) -> bool
-    requires fact_1 { c.terms ≤ term_limit }
-    requires fact_2 { within c.terms t ≡ true }
-    requires fact_3 { let s = termed terms.now c in each_term s (parents_rule s) ≡ true }
-    requires fact_4 { let s = termed terms.now c in Kept s c.terms roots.old tops.old }
+    requires limited { c.terms ≤ term_limit }
+    requires here { within c.terms t ≡ true }
+    requires parents { let s = termed terms.now c in each_term s (parents_rule s) ≡ true }
+    requires kept { let s = termed terms.now c in Kept s c.terms roots.old tops.old }
     ensures { Tested (termed terms.now c) c.terms t result roots.new tops.new }
 {
     let r = kept_root_unchecked(terms, c.terms, t, roots);

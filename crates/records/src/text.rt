@@ -62,8 +62,8 @@ pub(crate) fn joined_length_unchecked(terms: &[u32], list: &[u32]) -> usize
 
 // Whether n characters from place `at` on are those from place `from` on.
 fn spans_agree(chars: &[u32], at: usize, from: usize, n: usize) -> bool
-    requires fact_1 { at + n ≤ 0x7FFF_FFFF_FFFF_FFFF }
-    requires fact_2 { from + n ≤ length chars.now }
+    requires counted { at + n ≤ 0x7FFF_FFFF_FFFF_FFFF }
+    requires within { from + n ≤ length chars.now }
     ensures { result ≡ same_word (span chars.now at n) (span chars.now from n) }
 {
     text_from(chars, at, &chars[from..from + n])
@@ -71,8 +71,8 @@ fn spans_agree(chars: &[u32], at: usize, from: usize, n: usize) -> bool
 
 // Whether the characters from place p on are the joined texts of a list of terms.
 pub(crate) fn joined_is_unchecked(terms: &[u32], chars: &[u32], p: u32, list: &[u32]) -> bool
-    requires fact_1 { length list.now ≤ list_limit }
-    requires fact_2 { TextsWithin terms.now (length chars.now) list.now }
+    requires short { length list.now ≤ list_limit }
+    requires within { TextsWithin terms.now (length chars.now) list.now }
     ensures { let w = concat_map (text_at terms.now chars.now) list.now in result ≡ same_word (span chars.now p (lengths terms.now list.now)) w }
 {
     let mut at = p as usize;

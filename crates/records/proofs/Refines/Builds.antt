@@ -174,24 +174,24 @@ module _ (e : List ℕ) (n : ℕ) (w : List ℕ) (c at i : ℕ) (up : Ascends (c
       let s = cell-is e n at (within_low n at q) (within-high n at q) in
       chain-is (cells_view e n) at up (rw size q) ∙ ap (λ (x : Cell). (x.value, x.other) ∷ chain_in (cells_view e n) x.next) s
 
-  pub walk_ends : i < length w → not b ≡ true → false ≡ same_word (firsts (chain_in (cells_view e n) c)) w
+  pub walk_ends : i < length w → b ≡ false → false ≡ same_word (firsts (chain_in (cells_view e n) c)) w
   unfolding firsts same_word
   walk_ends l f =
-      let z : same_word (firsts (chain_in (cells_view e n) at)) (drop i w) ≡ false = rw (none_here (not-true b f), drop-cons w i 0 l) in
+      let z : same_word (firsts (chain_in (cells_view e n) at)) (drop i w) ≡ false = rw (none_here f, drop-cons w i 0 l) in
       sym z ∙ h.rest
 
-  pub walk-differs : (v : ℕ) → i < length w → not b ≡ false → v ≡ (cell_at e at).value → (v ≡ get_or w i 0 → ⊥) → false ≡ same_word (firsts (chain_in (cells_view e n) c)) w
+  pub walk-differs : (v : ℕ) → i < length w → b ≡ true → v ≡ (cell_at e at).value → (v ≡ get_or w i 0 → ⊥) → false ≡ same_word (firsts (chain_in (cells_view e n) c)) w
   unfolding firsts same_word
   walk-differs v l f q d =
       let z : same_word (firsts (chain_in (cells_view e n) at)) (drop i w) ≡ false
-      = rw (one-here (not-false b f), drop-cons w i 0 l) (left_false _ _ (ne_eqb _ _ (λ p. d (q ∙ p)))) in
+      = rw (one-here f, drop-cons w i 0 l) (left_false _ _ (ne_eqb _ _ (λ p. d (q ∙ p)))) in
       sym z ∙ h.rest
 
-  pub walk-on : (v x : ℕ) → i < length w → not b ≡ false → v ≡ (cell_at e at).value → v ≡ get_or w i 0 → x ≡ (cell_at e at).next → Walked e n w c x (i + 1)
+  pub walk-on : (v x : ℕ) → i < length w → b ≡ true → v ≡ (cell_at e at).value → v ≡ get_or w i 0 → x ≡ (cell_at e at).next → Walked e n w c x (i + 1)
   unfolding firsts same_word
   walk-on v x l f q p y =
       let z : same_word (firsts (chain_in (cells_view e n) at)) (drop i w) ≡ same_word (firsts (chain_in (cells_view e n) x)) (drop (i + 1) w)
-      = rw (one-here (not-false b f), drop-cons w i 0 l, ← y, add-one i, ← p, ← q, eq-eqb v v refl) in
+      = rw (one-here f, drop-cons w i 0 l, ← y, add-one i, ← p, ← q, eq-eqb v v refl) in
       record { upto = omega arith; rest = sym z ∙ h.rest }
 
   pub walk_over : length w ≤ i → not b ≡ same_word (firsts (chain_in (cells_view e n) c)) w

@@ -16,10 +16,10 @@ pub put_term_unchecked-requires : goal.put_term_unchecked-requires
 put_term_unchecked-requires c =
     let h = walk-to _ _ c.requires.fact_1 _ (rw c.into.ensures at c.bucket_of_sides-at.ensures) in
     record {
-      fact_1 = fits-limit c.args.terms.now _ _ c.term_fits.ensures c.if-term_fits.true;
-      fact_2 = fits-words c.args.terms.now _ _ c.term_fits.ensures c.if-term_fits.true;
-      fact_3 = h.0;
-      fact_4 = h.1;
+      limited = fits-limit c.args.terms.now _ _ c.term_fits.ensures c.if-term_fits.true;
+      room = fits-words c.args.terms.now _ _ c.term_fits.ensures c.if-term_fits.true;
+      bucket = h.0;
+      walkable = h.1;
     }
 
 pub with_term-requires : goal.with_term-requires

@@ -23,9 +23,9 @@ top_unchecked-u-requires c =
 pub rooted_ok-requires : goal.rooted_ok-requires
 rooted_ok-requires c =
     record {
-      fact_1 = seen-rooted c.args.terms.now c.args.c c.requires.1 _ _ _ c.requires.0 c.root_unchecked-r.ensures c.top_unchecked-q.ensures;
-      fact_2 = c.root_unchecked-p.ensures;
-      fact_3 = c.top_unchecked-u.ensures;
+      rooted = seen-rooted c.args.terms.now c.args.c c.requires.1 _ _ _ c.requires.0 c.root_unchecked-r.ensures c.top_unchecked-q.ensures;
+      root_is = c.root_unchecked-p.ensures;
+      top_is = c.top_unchecked-u.ensures;
     }
 
 pub returns : goal.returns

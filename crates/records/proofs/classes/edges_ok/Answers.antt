@@ -12,7 +12,7 @@ pub edge_ok-requires : goal.edge_ok-requires
 edge_ok-requires c =
     record {
       congruable = c.requires.congruable;
-      t_value = within-is _ _ (omega arith) (omega arith);
+      here = within-is _ _ (omega arith) (omega arith);
       heights = c.loop-t.invariant.1;
     }
 

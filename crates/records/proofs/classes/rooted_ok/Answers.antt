@@ -6,9 +6,9 @@ use Rattle.records.proofs.classes.rooted_ok.Goals as goal
 pub returns-then-label_ok : goal.returns-then-label_ok
 unfolding class_test
 returns-then-label_ok c =
-    let a = c.args in let e = alike_is a.terms.now a.c a.t a.r a.q c.requires.fact_1 _ _ c.requires.fact_2 c.requires.fact_3 in grind arith
+    let a = c.args in let e = alike_is a.terms.now a.c a.t a.r a.q c.requires.rooted _ _ c.requires.root_is c.requires.top_is in grind arith
 
 pub returns-else-label_ok : goal.returns-else-label_ok
 unfolding class_test
 returns-else-label_ok c =
-    let a = c.args in let e = alike_is a.terms.now a.c a.t a.r a.q c.requires.fact_1 _ _ c.requires.fact_2 c.requires.fact_3 in grind arith
+    let a = c.args in let e = alike_is a.terms.now a.c a.t a.r a.q c.requires.rooted _ _ c.requires.root_is c.requires.top_is in grind arith

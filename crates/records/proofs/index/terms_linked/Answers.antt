@@ -12,8 +12,8 @@ use Rattle.records.proofs.index.terms_linked.Goals as goal
 pub loop-t-init : goal.loop-t-init
 loop-t-init c = reading-none _ _ _ _ c.requires.none_met
 
-pub bucket_of_term-b-requires-clause-fact_1 : goal.bucket_of_term-b-requires-clause-fact_1
-bucket_of_term-b-requires-clause-fact_1 c = within-is _ _ (omega arith) (omega arith)
+pub bucket_of_term-b-requires-clause-here : goal.bucket_of_term-b-requires-clause-here
+bucket_of_term-b-requires-clause-here c = within-is _ _ (omega arith) (omega arith)
 
 pub offset_bounds-ends-b : goal.offset_bounds-ends-b
 offset_bounds-ends-b c = let h = bucket-low _ _ _ c.bucket_of_term-b.ensures in omega arith

@@ -23,10 +23,10 @@ pub put_term_unchecked-requires : goal.put_term_unchecked-requires
 put_term_unchecked-requires c =
     let h = walk-to _ _ c.requires.fact_1 _ (rw c.into-2.ensures at c.bucket_of.ensures) in
     record {
-      fact_1 = one-limit c.requires.fact_1.sized _ c.if-not-term_fits.false-raw c.term_fits.ensures;
-      fact_2 = one-room c.requires.fact_1.sized _ c.if-not-term_fits.false-raw c.term_fits.ensures;
-      fact_3 = h.0;
-      fact_4 = h.1;
+      limited = one-limit c.requires.fact_1.sized _ c.if-not-term_fits.false-raw c.term_fits.ensures;
+      room = one-room c.requires.fact_1.sized _ c.if-not-term_fits.false-raw c.term_fits.ensures;
+      bucket = h.0;
+      walkable = h.1;
     }
 
 pub with_chars-d-requires : goal.with_chars-d-requires

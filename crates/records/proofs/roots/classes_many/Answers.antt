@@ -12,10 +12,10 @@ loop-t-init c = (upto_none _, kept-none _ _ c.requires.0)
 pub class_kept_ok-requires : goal.class_kept_ok-requires
 class_kept_ok-requires c =
     record {
-      fact_1 = c.requires.0;
-      fact_2 = within-is _ _ (omega arith) (omega arith);
-      fact_3 = c.requires.1;
-      fact_4 = c.loop-t.invariant.1;
+      limited = c.requires.0;
+      here = within-is _ _ (omega arith) (omega arith);
+      parents = c.requires.1;
+      kept = c.loop-t.invariant.1;
     }
 
 pub returns-then-not-class_kept_ok : goal.returns-then-not-class_kept_ok

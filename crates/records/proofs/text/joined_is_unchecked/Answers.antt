@@ -9,8 +9,8 @@ loop-t-init c =
 pub spans_agree-requires : goal.spans_agree-requires
 spans_agree-requires c =
     record {
-      fact_1 = omega arith;
-      fact_2 = within-at c.args.terms.now _ _ _ _ _ c.requires.fact_2 c.loop-t-test.true c.first-from.ensures c.second-n.ensures;
+      counted = omega arith;
+      within = within-at c.args.terms.now _ _ _ _ _ c.requires.within c.loop-t-test.true c.first-from.ensures c.second-n.ensures;
     }
 
 pub returns-then-not-spans_agree : goal.returns-then-not-spans_agree
