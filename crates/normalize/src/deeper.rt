@@ -93,38 +93,19 @@ fn round(
     requires met_table { MetTable met.old }
     ensures { let l = first_words list.old count in Between (Turns known.now t l met.old) (across (changing terms) cells (changing chars) (changing reasons) keys) c list.new met.new result }
 {
-    if !expands::any_opens(terms, c.terms, t, &list[..count]) {
+    let before = &list[..count];
+    if !expands::any_opens(terms, c.terms, t, before) {
         return Ok(Turn::Ends(Some(count), c));
     }
     let mut next: [u32; 512] = [0; 512];
     let (made, d) = expands::expand(
-        terms,
-        cells,
-        chars,
-        reasons,
-        keys,
-        c,
-        known,
-        table,
-        t,
-        &list[..count],
-        met,
-        &mut next,
+        terms, cells, chars, reasons, keys, c, known, table, t, before, met, &mut next,
     )?;
     let Some(k) = made else {
         return Ok(Turn::Ends(None, d));
     };
-    settle(
-        terms,
-        cells,
-        chars,
-        reasons,
-        keys,
-        d,
-        &next[..k],
-        list,
-        count,
-    )
+    let after = &next[..k];
+    settle(terms, cells, chars, reasons, keys, d, after, list, count)
 }
 
 // At most 64 rounds.

@@ -1,10 +1,9 @@
-use lib.ListN.{replicate, length-take}
+use lib.ListN.{replicate}
 use lib.Seq.{length-take-le}
 use mathlib.Core.Path.{sym}
-use native.Mathlib.Omega.{arith}
 use Rattle.records.proofs.Public.{handed}
 use Rattle.normalize.proofs.Refines.Words.{words-take}
-use Rattle.normalize.proofs.Refines.Expanding.{words-list, round_of, expanded-ready, round-carried, round-fits, round-listed, round-strings}
+use Rattle.normalize.proofs.Refines.Expanding.{words-list, round_of, expanded-ready, round-carried, round-fits, round-strings}
 use Rattle.normalize.proofs.Refines.Rounding.{round-stands, round-ended, round-stopped, round-settled}
 use Rattle.normalize.proofs.deeper.round.Goals as goal
 
@@ -31,8 +30,8 @@ pub slice_bounds-next-end : goal.slice_bounds-next-end
 slice_bounds-next-end c =
     round-fits c.requires.ready _ _ c.requires.candidates _ (round_of c.args.list.now c.args.count c.requires.count_le_deep_limit c.requires.strings c.requires.met_table) _ _ (rw c.in-Some.is at c.in_ok-made.ensures) c.expand.auto.next
 
-pub slice_bounds-settle-end : goal.slice_bounds-settle-end
-slice_bounds-settle-end c =
+pub slice_bounds-after-end : goal.slice_bounds-after-end
+slice_bounds-after-end c =
     sym (length-take-le c.in-Some.k c.expand.new.next (round-fits c.requires.ready _ _ c.requires.candidates _ (round_of c.args.list.now c.args.count c.requires.count_le_deep_limit c.requires.strings c.requires.met_table) _ _ (rw c.in-Some.is at c.in_ok-made.ensures) c.expand.auto.next))
 
 pub settle-requires-clause-ready : goal.settle-requires-clause-ready
@@ -42,10 +41,6 @@ settle-requires-clause-ready c =
 pub settle-requires-clause-strings : goal.settle-requires-clause-strings
 settle-requires-clause-strings c =
     round-strings c.requires.ready _ _ c.requires.candidates _ (round_of c.args.list.now c.args.count c.requires.count_le_deep_limit c.requires.strings c.requires.met_table) _ _ (rw c.in-Some.is at c.in_ok-made.ensures) c.expand.auto.next
-
-pub settle-requires-clause-next_len_bound : goal.settle-requires-clause-next_len_bound
-settle-requires-clause-next_len_bound c =
-    (let s = round-listed c.requires.ready _ _ c.requires.candidates _ (round_of c.args.list.now c.args.count c.requires.count_le_deep_limit c.requires.strings c.requires.met_table) _ _ (rw c.in-Some.is at c.in_ok-made.ensures) in let l = length-take c.in-Some.k c.expand.new.next in omega arith)
 
 pub returns : goal.returns
 returns c =
