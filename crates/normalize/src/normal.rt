@@ -131,18 +131,9 @@ fn form_atoms(
             &mut [],
         )
     } else {
+        let places: &mut [u32; 513] = &mut [0; 513];
         push_forms(
-            terms,
-            cells,
-            chars,
-            reasons,
-            keys,
-            c,
-            known,
-            flat,
-            &own,
-            list,
-            &mut [0; 513],
+            terms, cells, chars, reasons, keys, c, known, flat, &own, list, places,
         )
     }
 }
