@@ -11,7 +11,7 @@ ghost use Rattle.engine.specs.Working.Seen.{place, seen_at, Noted};
 ghost use Rattle.engine.specs.Working.Walks.{Walkable, Together, Edge, Walks, Gives, Explainable, Plainly, PlainEdge, PlainPair, PlainPath, Along, PairExplained};
 ghost use Rattle.engine.specs.Calls.{found, PublicExplain};
 
-use records::{Refusal, State, classes, fields, put, rules};
+use records::{Label, Refusal, State, classes, fields, put, rules};
 
 mod listing;
 
@@ -143,10 +143,12 @@ fn expand_edge(
 {
     let kind = fields::label_kind(terms, node);
     let value = fields::label_value(terms, node);
-    let number = node as usize;
-    match kind {
-        1 | 2 => give(reasons, count, kind, value, table.len() - 1 - number, table),
-        3 => {
+    match Label::try_from(kind) {
+        Ok(Label::Asserted | Label::Interface) => {
+            let slot = table.len() - 1 - node as usize;
+            give(reasons, count, kind, value, slot, table)
+        }
+        Ok(Label::Congruence) => {
             let mut at = value;
             let mut given = count;
             while at != 0 {
@@ -159,8 +161,8 @@ fn expand_edge(
             }
             Ok(given)
         }
-        4 => Ok(count),
-        _ => Err(Refusal::Classes),
+        Ok(Label::Definitional) => Ok(count),
+        Err(_) => Err(Refusal::Classes),
     }
 }
 
@@ -220,12 +222,12 @@ fn plain_edge(
 {
     let kind = fields::label_kind(terms, node);
     let value = fields::label_value(terms, node);
-    match kind {
-        1 | 2 => {
+    match Label::try_from(kind) {
+        Ok(Label::Asserted | Label::Interface) => {
             let given = give_plain(c, reasons, kind, value, node as usize, places)?;
             Ok(Some(given))
         }
-        4 => Ok(Some(c.reasons)),
+        Ok(Label::Definitional) => Ok(Some(c.reasons)),
         _ => Ok(None),
     }
 }

@@ -1,18 +1,20 @@
-use Rattle.engine.proofs.Refines.Turns.{pairing_walkable, pairing_low, pairing_less, pairing_begin, pairing_turn, pairing_stop, pairing_done, slot_past, edge_hints, edge-nothing, edge_other}
+use Rattle.engine.proofs.Refines.Turns.{label_is, reason_label, pairing_walkable, pairing_low, pairing_less, pairing_begin, pairing_turn, pairing_stop, pairing_done, slot_past, edge_hints, edge-nothing, edge_other}
 use Rattle.engine.proofs.Refines.Rises.{rising_walkable, rising-low, pair_same, pair-seen, place_inside, nearest-fit, rising_begin, rising_switch, rising_turn, rising_stop, rising_done, far-turn}
+use borrow.Author.Rules.{rules}
 use mathlib.Core.Path.{refl, sym, ◌∙◌}
 use native.Mathlib.Omega.{arith}
 use Rattle.records.proofs.Public.{handed}
-use Rattle.engine.proofs.+expand_edge_explain_rec.Goals.{expand_edge-then-s-t+in_ok-given-in-3, expand_edge-else-s-t}
+use Rattle.engine.proofs.+expand_edge_explain_rec.Goals.{expand_edge-then-s-t+in_ok-given-in-Ok-Congruence, expand_edge-else-s-t}
 use Rattle.engine.proofs.+expand_edge_explain_rec.Goals as goal
 
-pub expand_edge-overflow_sub-table-in-1 : goal.expand_edge-overflow_sub-table-in-1
-expand_edge-overflow_sub-table-in-1 t c =
+pub expand_edge-overflow_sub-slot-in-Ok-Asserted : goal.expand_edge-overflow_sub-slot-in-Ok-Asserted
+expand_edge-overflow_sub-slot-in-Ok-Asserted t c =
     let h = slot_past _ _ _ _ _ _ _ _ c.requires in omega arith
 
 pub expand_edge-loop-at-init : goal.expand_edge-loop-at-init
 expand_edge-loop-at-init t c =
-    pairing_begin _ _ _ _ _ _ _ _ _ _ c.in-3.is (record { kind_is = c.label_kind-kind.ensures; value_is = c.label_value-value.ensures })
+    pairing_begin _ _ _ _ _ _ _ _ _ _ (label_is c.in-Ok-Congruence.ensures c.in-Ok-Congruence.field-0-is)
+    (record { kind_is = c.label_kind-kind.ensures; value_is = c.label_value-value.ensures })
 
 pub expand_edge-explain_rec-requires : goal.expand_edge-explain_rec-requires
 expand_edge-explain_rec-requires t c = (
@@ -23,12 +25,12 @@ expand_edge-explain_rec-requires t c = (
       c.other-t.ensures,
 )
 
-pub expand_edge-returns-in_err-given-in-3 : goal.expand_edge-returns-in_err-given-in-3
-expand_edge-returns-in_err-given-in-3 t c =
+pub expand_edge-returns-in_err-given-in-Ok-Congruence : goal.expand_edge-returns-in_err-given-in-Ok-Congruence
+expand_edge-returns-in_err-given-in-Ok-Congruence t c =
     rw (handed _ c.from_residual.ensures.1)
     (pairing_stop _ _ _ _ _ _ _ _ _ _ _ _ _ _ _ _ c.loop-at.invariant c.loop-at-test.true
     (record { one = c.value-s.ensures; other = c.other-t.ensures; next_is = refl }) _ _ c.explain_rec.auto.table
-    c.explain_rec.auto.reasons c.in_err-given-in-3.ensures _ _ c.in-3.is refl
+    c.explain_rec.auto.reasons c.in_err-given-in-Ok-Congruence.ensures _ _ (label_is c.in-Ok-Congruence.ensures c.in-Ok-Congruence.field-0-is) refl
     (record { kind_is = c.label_kind-kind.ensures; value_is = c.label_value-value.ensures }))
 
 pub expand_edge-loop-at-smaller : goal.expand_edge-loop-at-smaller
@@ -38,10 +40,10 @@ expand_edge-loop-at-smaller t c =
 pub expand_edge-loop-at-preserved : goal.expand_edge-loop-at-preserved
 expand_edge-loop-at-preserved t c =
     elim c.if-s-t.branch [
-      | expand_edge-then-s-t+in_ok-given-in-3 w ↦
+      | expand_edge-then-s-t+in_ok-given-in-Ok-Congruence w ↦
           rw (w.table-is, w.reasons-is, w.given-is)
           (pairing_turn _ _ _ _ _ _ _ _ _ _ _ _ _ _ _ _ c.loop-at.invariant c.loop-at-test.true
-          (record { one = c.value-s.ensures; other = c.other-t.ensures; next_is = c.next-at.ensures }) _ _ w.explain_rec.auto.table w.explain_rec.auto.reasons w.in_ok-given-in-3.ensures)
+          (record { one = c.value-s.ensures; other = c.other-t.ensures; next_is = c.next-at.ensures }) _ _ w.explain_rec.auto.table w.explain_rec.auto.reasons w.in_ok-given-in-Ok-Congruence.ensures)
       | expand_edge-else-s-t w ↦
           rw (w.table-is, w.reasons-is, w.given-is)
           (pairing_turn _ _ _ _ _ _ _ _ _ _ _ _ _ _ _ _ c.loop-at.invariant c.loop-at-test.true
@@ -49,28 +51,24 @@ expand_edge-loop-at-preserved t c =
           (pair_same _ _ _ _ _ _ _ _ _ w.if-s-t.false))
     ]
 
-pub expand_edge-returns-in-1 : goal.expand_edge-returns-in-1
-expand_edge-returns-in-1 t c =
-    edge_hints _ _ _ _ _ _ _ _ c.requires _ _ _ _ _ (omega (arith, c.in-1)) (omega (arith, c.in-1))
+pub expand_edge-returns-in-Ok-Asserted : goal.expand_edge-returns-in-Ok-Asserted
+expand_edge-returns-in-Ok-Asserted t c =
+    edge_hints _ _ _ _ _ _ _ _ c.requires _ _ _ _ _ (reason_label c.in-Ok-Asserted.ensures (search rules))
     (record { kind_is = c.label_kind-kind.ensures; value_is = c.label_value-value.ensures }) c.give.ensures
 
 pub expand_edge-returns-after-loop-at : goal.expand_edge-returns-after-loop-at
 expand_edge-returns-after-loop-at t c =
-    pairing_done _ _ _ _ _ _ _ _ _ _ _ _ _ c.loop-at.invariant c.loop-at-test.false _ _ c.in-3.is refl
+    pairing_done _ _ _ _ _ _ _ _ _ _ _ _ _ c.loop-at.invariant c.loop-at-test.false _ _ (label_is c.in-Ok-Congruence.ensures c.in-Ok-Congruence.field-0-is) refl
     (record { kind_is = c.label_kind-kind.ensures; value_is = c.label_value-value.ensures })
 
-pub expand_edge-returns-in-4 : goal.expand_edge-returns-in-4
-expand_edge-returns-in-4 t c =
-    edge-nothing _ _ _ _ _ _ _ _ _ _ c.in-4.is (record { kind_is = c.label_kind-kind.ensures; value_is = c.label_value-value.ensures })
+pub expand_edge-returns-in-Ok-Definitional : goal.expand_edge-returns-in-Ok-Definitional
+expand_edge-returns-in-Ok-Definitional t c =
+    edge-nothing _ _ _ _ _ _ _ _ _ _ (label_is c.in-Ok-Definitional.ensures c.in-Ok-Definitional.field-0-is)
+    (record { kind_is = c.label_kind-kind.ensures; value_is = c.label_value-value.ensures })
 
-pub expand_edge-returns-in_default : goal.expand_edge-returns-in_default
-expand_edge-returns-in_default t c =
-    edge_other _ _ _ _ _ _ _ _ _ _ (λ e. omega (arith, c.in_default)) (λ e. omega (arith, c.in_default)) (λ e. omega (arith, c.in_default)) (λ e. omega (arith, c.in_default))
-    (record { kind_is = c.label_kind-kind.ensures; value_is = c.label_value-value.ensures }) c.requires
-
-pub expand_edge-returns-in_default-2 : goal.expand_edge-returns-in_default-2
-expand_edge-returns-in_default-2 t c =
-    edge_other _ _ _ _ _ _ _ _ _ _ (λ e. omega (arith, c.in_default)) (λ e. omega (arith, c.in_default)) (λ e. omega (arith, c.in_default)) (λ e. omega (arith, c.in_default))
+pub expand_edge-returns-in-Err : goal.expand_edge-returns-in-Err
+expand_edge-returns-in-Err t c =
+    edge_other _ _ _ _ _ _ _ _ _ _ c.in-Err.ensures.1
     (record { kind_is = c.label_kind-kind.ensures; value_is = c.label_value-value.ensures }) c.requires
 
 pub explain_rec-returns-then-a-b : goal.explain_rec-returns-then-a-b

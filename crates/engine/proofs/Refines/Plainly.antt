@@ -19,12 +19,12 @@ use Rattle.engine.proofs.Refines.Starts.{none_noted, explained-by, explainable_w
 
 -- AN EDGE
 
-module _ (terms reasons reasons' : List ℕ) {places places' : List ℕ} (node kind value count : ℕ) {slot : ℕ} (low : 1 ≤ kind) (high : kind ≤ 2) (l : Labelled terms node kind value) where
+module _ (terms reasons reasons' : List ℕ) {places places' : List ℕ} (node kind value count : ℕ) {slot : ℕ} (two : (1 ≤ kind) × (kind ≤ 2)) (l : Labelled terms node kind value) where
   pub plain-given : {d : ℕ} → Gives reasons reasons' places places' count kind value slot (Ok d) → Plainly (PlainEdge terms reasons reasons' node count) reasons reasons' count (Ok (Some d))
-  plain-given {d} g = record { kept = g.kept; done = λ cells tab n k. edge-gives terms cells tab tab reasons reasons' n k node kind value count (Ok d) low high l g (λ seen m. m) }
+  plain-given {d} g = record { kept = g.kept; done = λ cells tab n k. edge-gives terms cells tab tab reasons reasons' n k node kind value count (Ok d) two l g (λ seen m. m) }
 
   pub plain-refused : {e : Refusal} → Gives reasons reasons' places places' count kind value slot (Err e) → Plainly (PlainEdge terms reasons reasons' node count) reasons reasons' count (Err e)
-  plain-refused {e} g = record { kept = g.kept; done = λ cells tab n k. edge-gives terms cells tab tab reasons reasons' n k node kind value count (Err e) low high l g (λ seen m. m) }
+  plain-refused {e} g = record { kept = g.kept; done = λ cells tab n k. edge-gives terms cells tab tab reasons reasons' n k node kind value count (Err e) two l g (λ seen m. m) }
 
 pub plain-nothing : (terms reasons : List ℕ) (node kind value count : ℕ) → kind ≡ 4 → Labelled terms node kind value
     → Plainly (PlainEdge terms reasons reasons node count) reasons reasons count (Ok (Some count))

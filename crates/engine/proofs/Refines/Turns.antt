@@ -3,7 +3,7 @@ use Rattle.std.specs.Prelude.{Result, Ok, Err}
 use mathlib.Core.Path.{◌≡◌, refl, sym, ap, ◌∙◌}
 use mathlib.Core.Bool.{true, false}
 use mathlib.Core.List.{List, [], ◌∷◌}
-use mathlib.Core.Logic.{⊎_elim}
+use mathlib.Core.Logic.{◌⊎◌, inl, inr, ⊎_elim}
 use Prim.Native.Nat.{ℕ, suc, ◌+◌, ◌*◌, ◌-◌, ◌/◌, ◌%◌, ◌≤◌, ◌<◌, min}
 use native.Mathlib.Omega.{arith}
 use lib.ListN.{length}
@@ -11,11 +11,14 @@ use lib.Dec.{eqb, ltb}
 use borrow.Author.Tests.{ltb-true, eqb-true, eqb-false}
 use Rattle.records.specs.declared.refusal.Refusal.{Refusal}
 use Rattle.records.specs.declared.refusal.Refusal.TheVariants.{Classes}
+use Rattle.records.specs.declared.label.Label.{Label}
+use Rattle.records.specs.declared.label.Label.TheVariants.{Asserted, Interface}
+use Rattle.records.specs.Label.{label_number}
 use Rattle.records.specs.Lists.{firsts, one_more, Every, and}
 use Rattle.records.specs.Store.{Term, Cell, Store, Out, ok, stop, Work, and_then, term, cell, count, is_term, is_edge, within, kind, parts, chain, chain_in, path_in, term_in, cell_in}
 use Rattle.records.specs.View.{term_at, cell_at, pair_at, terms_view, cells_view, pairs_view, reason_room, reason_limit}
 use Rattle.records.specs.Make.{with_reasons, is_listed, add_reason}
-use Rattle.records.specs.Working.Audited.{Audited, Label, asserted, interface, congruence, definitional, Next, last, later}
+use Rattle.records.specs.Working.Audited.{Audited, Label as EdgeLabel, asserted, interface, congruence, definitional, Next, last, later}
 use Rattle.records.proofs.Lists.{clash, decide, within_low, within-high, within-is, within-zero, table-length}
 use Rattle.records.proofs.Views.{term_is, cell-is, table_is}
 use Rattle.records.proofs.Chains.{chain-none, chain-is}
@@ -66,6 +69,15 @@ fewer l l' m n h e = Rattle.records.proofs.Lists.table_same _ _ m (λ i b. table
 
 -- AN EDGE BY ITS LABEL
 
+-- the number of a label that was told from its word
+pub label_is : {k : ℕ} {x y : Label} → label_number x ≡ k → x ≡ y → k ≡ label_number y
+label_is e q = sym e ∙ ap label_number q
+
+-- of a reason that is given, asserted or interface
+pub reason_label : {k : ℕ} {x : Label} → label_number x ≡ k → (x ≡ Asserted) ⊎ (x ≡ Interface) → (1 ≤ k) × (k ≤ 2)
+reason_label e (inl q) = let i = label_is e q in (omega arith, omega arith)
+reason_label e (inr q) = let i = label_is e q in (omega arith, omega arith)
+
 -- the label's words, as they were read
 pub record Labelled (terms : List ℕ) (node kind value : ℕ) : Type 0 where
   pub kind_is : kind ≡ (term_at terms node).label_kind
@@ -79,11 +91,11 @@ module _ {terms cells reasons : List ℕ} {n k node kind value : ℕ} (e : Stand
   label_value_lem = ap (λ (t : Term). t.label_value) (standing-term e node q.here) ∙ sym l.value_is
 
 -- the reason of an edge, asserted or interface
-edge-adds : (s : Store) (node j v : ℕ) (seen : Seen) → 1 ≤ j → j ≤ 2 → (term s node).label_kind ≡ j → (term s node).label_value ≡ v
+edge-adds : (s : Store) (node j v : ℕ) (seen : Seen) → (1 ≤ j) × (j ≤ 2) → (term s node).label_kind ≡ j → (term s node).label_value ≡ v
     → edge walked node seen s ≡ and_then (λ u. λ s₁. ok s₁ seen) (add_reason j v s)
 unfolding edge
-edge-adds s node j v seen low high e f =
-    decide (eqb j 1) (λ h. let i = eqb-true j 1 h in rw (e, f, i)) (λ h. let d = eqb-false j 1 h in let i : j ≡ 2 = omega arith in rw (e, f, i))
+edge-adds s node j v seen two e f =
+    decide (eqb j 1) (λ h. let i = eqb-true j 1 h in rw (e, f, i)) (λ h. let d = eqb-false j 1 h in let i : j ≡ 2 = omega (arith, two.0, two.1) in rw (e, f, i))
 
 module _ (s : Store) (j v : ℕ) (rs : List (ℕ × ℕ)) where
   added-there : is_listed (j, v) rs ≡ true → add_reason j v (with_reasons s rs) ≡ ok (with_reasons s rs) tt
@@ -99,10 +111,10 @@ module _ (s : Store) (j v : ℕ) (rs : List (ℕ × ℕ)) where
   added_full y h = rw (y, h)
 
 -- the reason is given, and the table at exit has the pairs of that at entry
-pub edge-gives : (terms cells tab tab' reasons reasons' : List ℕ) {places places' : List ℕ} (n k node kind value count : ℕ) {slot : ℕ} (r : Result ℕ Refusal) → 1 ≤ kind → kind ≤ 2
+pub edge-gives : (terms cells tab tab' reasons reasons' : List ℕ) {places places' : List ℕ} (n k node kind value count : ℕ) {slot : ℕ} (r : Result ℕ Refusal) → (1 ≤ kind) × (kind ≤ 2)
     → Labelled terms node kind value → Gives reasons reasons' places places' count kind value slot r → ((seen : Seen) → Tables n tab seen → Tables n tab' seen)
     → Walks (edge walked node) (λ s. Edge s node) terms cells tab tab' reasons reasons' n k count r
-edge-gives terms cells tab tab' reasons reasons' n k node kind value count r low high l g over =
+edge-gives terms cells tab tab' reasons reasons' n k node kind value count r two l g over =
     decide (is_listed (kind, value) (pairs_view reasons count))
     (λ y. rw (g.listed y) (record {
       kept = g.kept;
@@ -134,7 +146,7 @@ edge-gives terms cells tab tab' reasons reasons' n k node kind value count r low
   where
     adds : (e : Standing terms cells reasons n k) → Edge e.store node → (seen : Seen)
         → edge walked node seen (with_reasons e.store (pairs_view reasons count)) ≡ and_then (λ u. λ s₁. ok s₁ seen) (add_reason kind value (with_reasons e.store (pairs_view reasons count)))
-    adds e q seen = edge-adds (with_reasons e.store (pairs_view reasons count)) node kind value seen low high (label_kind_lem e q l) (label_value_lem e q l)
+    adds e q seen = edge-adds (with_reasons e.store (pairs_view reasons count)) node kind value seen two (label_kind_lem e q l) (label_value_lem e q l)
 
 -- a table of which a word past those of the pairs is another has the same pairs
 tables-over : (n slot : ℕ) (tab tab' : List ℕ) → triangle n + n < 32 * slot → Besides tab tab' slot → (seen : Seen) → Tables n tab seen → Tables n tab' seen
@@ -150,10 +162,10 @@ module _ (terms cells tab reasons : List ℕ) (n k node count : ℕ) (w : Walkab
   pub slot_past : 32 * node + 32 + triangle n + n < 32 * length tab
   slot_past = let a = within-high n node (standing-within w.standing node w.fit.here) in let l = w.wide.long in omega arith
 
-  pub edge_hints : (tab' reasons' : List ℕ) (kind value : ℕ) (r : Result ℕ Refusal) → 1 ≤ kind → kind ≤ 2 → Labelled terms node kind value
+  pub edge_hints : (tab' reasons' : List ℕ) (kind value : ℕ) (r : Result ℕ Refusal) → (1 ≤ kind) × (kind ≤ 2) → Labelled terms node kind value
       → Gives reasons reasons' tab tab' count kind value (length tab - 1 - node) r → Walks (edge walked node) (λ s. Edge s node) terms cells tab tab' reasons reasons' n k count r
-  edge_hints tab' reasons' kind value r low high l g =
-      edge-gives terms cells tab tab' reasons reasons' n k node kind value count r low high l g (tables-over n _ tab tab' (let p = slot_past in omega arith) g.elsewhere)
+  edge_hints tab' reasons' kind value r two l g =
+      edge-gives terms cells tab tab' reasons reasons' n k node kind value count r two l g (tables-over n _ tab tab' (let p = slot_past in omega arith) g.elsewhere)
 
 pub edge-nothing : (terms cells tab reasons : List ℕ) (n k node kind value count : ℕ) → kind ≡ 4 → Labelled terms node kind value
     → Walks (edge walked node) (λ s. Edge s node) terms cells tab tab reasons reasons n k count (Ok count)
@@ -166,20 +178,23 @@ edge-nothing terms cells tab reasons n k node kind value count i l = record {
 }
 
 -- no edge has another label
-pub edge_other : (terms cells tab reasons : List ℕ) (n k node kind value count : ℕ) → (kind ≡ 1 → ⊥) → (kind ≡ 2 → ⊥) → (kind ≡ 3 → ⊥) → (kind ≡ 4 → ⊥)
+pub edge_other : (terms cells tab reasons : List ℕ) (n k node kind value count : ℕ) → (kind ≡ 0) ⊎ (4 < kind)
     → Labelled terms node kind value → Walkable terms cells tab reasons n k count (λ s. Edge s node)
     → Walks (edge walked node) (λ s. Edge s node) terms cells tab tab reasons reasons n k count (Err Classes)
-edge_other terms cells tab reasons n k node kind value count d₁ d₂ d₃ d₄ l w =
+edge_other terms cells tab reasons n k node kind value count other l w =
     absurd (go (w.standing.audited.classed.labels node w.fit.here w.fit.joins))
   where
     same : (term w.standing.store node).label_kind ≡ kind
     same = label_kind_lem w.standing w.fit l
 
-    go : Label w.standing.store node → ⊥
-    go (asserted a b) = d₁ (sym same ∙ a)
-    go (interface a b) = d₂ (sym same ∙ a)
-    go (congruence a) = d₃ (sym same ∙ a)
-    go (definitional a b) = d₄ (sym same ∙ a)
+    none : (m : ℕ) → 1 ≤ m → m ≤ 4 → kind ≡ m → ⊥
+    none m low high e = ⊎_elim (λ i. absurd (omega arith)) (λ i. absurd (omega arith)) other
+
+    go : EdgeLabel w.standing.store node → ⊥
+    go (asserted a b) = none 1 (omega arith) (omega arith) (sym same ∙ a)
+    go (interface a b) = none 2 (omega arith) (omega arith) (sym same ∙ a)
+    go (congruence a) = none 3 (omega arith) (omega arith) (sym same ∙ a)
+    go (definitional a b) = none 4 (omega arith) (omega arith) (sym same ∙ a)
 
 -- THE PAIRS OF A CONGRUENCE
 
