@@ -252,7 +252,7 @@ pub fn make_constant(
     ensures { Answers (constant_arguments w.now) (make_constant w.now) (across (changing terms) cells (changing chars) reasons keys) c (made result) }
 {
     crate::audit(terms, cells, chars, reasons, keys, c)?;
-    if !chars_ok(w, w.len()) {
+    if !chars_ok(w) {
         return Err(Refusal::Argument);
     }
     let r = make_constant_unchecked(terms, cells, chars, reasons, keys, c, w);
@@ -275,7 +275,7 @@ pub fn make_variable(
     if w.len() == 0 {
         return Err(Refusal::Argument);
     }
-    if !chars_ok(w, w.len()) {
+    if !chars_ok(w) {
         return Err(Refusal::Argument);
     }
     let r = make_variable_unchecked(terms, cells, chars, reasons, keys, c, w);

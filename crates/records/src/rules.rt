@@ -226,15 +226,10 @@ fn cells_ok(cells: &[u32], c: State) -> bool
     true
 }
 
-pub(crate) fn chars_ok(chars: &[u32], n: usize) -> bool
-    ensures { result ≡ all is_char (chars_view chars.now n) }
+pub(crate) fn chars_ok(w: &[u32]) -> bool
+    ensures { result ≡ all is_char w.now }
 {
-    for i in 0..n {
-        if !is_char(fields::word(chars, i)) {
-            return false;
-        }
-    }
-    true
+    w.iter().all(|&c| is_char(c))
 }
 
 // Whether each of the first n pairs of a slice passes: reasons, or keys.
@@ -297,7 +292,7 @@ pub(crate) fn records_ok(
 {
     terms_ok(terms, cells, chars, c)
         && cells_ok(cells, c)
-        && chars_ok(chars, c.chars)
+        && chars_ok(&chars[..c.chars])
         && pairs_pass(reasons, c.reasons, reason_ok)
         && pairs_pass(keys, c.keys, |a, b| key_ok(terms, c, a, b))
 }

@@ -68,7 +68,7 @@ module _ (l w : List ℕ) (p : ℕ) where
 
 -- COPYING
 
-view-take : (l : List ℕ) (n : ℕ) → n ≤ length l → chars_view l n ≡ take n l
+pub view-take : (l : List ℕ) (n : ℕ) → n ≤ length l → chars_view l n ≡ take n l
 view-take l n h =
     let m = table-length (λ i. get_or l i 0) n in
     ext_get_or 0 _ _ (simp (length-take, table-length) (omega arith)) (λ i q.

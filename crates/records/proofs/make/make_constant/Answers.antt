@@ -9,13 +9,13 @@ returns-in_err-audit c =
 
 pub returns-then-not-chars_ok : goal.returns-then-not-chars_ok
 returns-then-not-chars_ok c =
-    constant-unfit c.args.w.now _ _ _ c.in_ok-audit.ensures refl _ c.chars_ok.ensures c.if-not-chars_ok.true-raw
+    constant-unfit c.args.w.now _ _ _ c.in_ok-audit.ensures refl _ c.chars_ok.ensures c.if-not-chars_ok.true
 
 pub make_constant_unchecked-r-requires : goal.make_constant_unchecked-r-requires
 make_constant_unchecked-r-requires c =
     record {
       ready = passed-ready _ _ _ c.in_ok-audit.ensures refl;
-      c_value = right _ _ c.chars_ok.ensures c.if-not-chars_ok.false-raw;
+      c_value = right _ _ c.chars_ok.ensures c.if-not-chars_ok.false;
     }
 
 pub cut_refused-requires : goal.cut_refused-requires
@@ -28,5 +28,5 @@ cut_refused-requires c =
 
 pub returns : goal.returns
 returns c =
-    constant_called c.args.w.now _ _ _ c.in_ok-audit.ensures refl _ c.chars_ok.ensures c.if-not-chars_ok.false-raw
+    constant_called c.args.w.now _ _ _ c.in_ok-audit.ensures refl _ c.chars_ok.ensures c.if-not-chars_ok.false
     c.make_constant_unchecked-r.ensures (undone-made _ _ _ _ _ c.cut_refused.ensures)

@@ -13,13 +13,13 @@ returns-then-w-eq0 c =
 
 pub returns-then-not-chars_ok : goal.returns-then-not-chars_ok
 returns-then-not-chars_ok c =
-    variable-unfit c.args.w.now _ _ _ c.in_ok-audit.ensures refl _ c.chars_ok.ensures c.if-w-eq0.false c.if-not-chars_ok.true-raw
+    variable-unfit c.args.w.now _ _ _ c.in_ok-audit.ensures refl _ c.chars_ok.ensures c.if-w-eq0.false c.if-not-chars_ok.true
 
 pub make_variable_unchecked-r-requires : goal.make_variable_unchecked-r-requires
 make_variable_unchecked-r-requires c =
     record {
       ready = passed-ready _ _ _ c.in_ok-audit.ensures refl;
-      c_value = right_name c.args.w.now _ c.chars_ok.ensures c.if-w-eq0.false c.if-not-chars_ok.false-raw;
+      c_value = right_name c.args.w.now _ c.chars_ok.ensures c.if-w-eq0.false c.if-not-chars_ok.false;
     }
 
 pub cut_refused-requires : goal.cut_refused-requires
@@ -32,5 +32,5 @@ cut_refused-requires c =
 
 pub returns : goal.returns
 returns c =
-    variable_called c.args.w.now _ _ _ c.in_ok-audit.ensures refl _ c.chars_ok.ensures c.if-w-eq0.false c.if-not-chars_ok.false-raw
+    variable_called c.args.w.now _ _ _ c.in_ok-audit.ensures refl _ c.chars_ok.ensures c.if-w-eq0.false c.if-not-chars_ok.false
     c.make_variable_unchecked-r.ensures (undone-made _ _ _ _ _ c.cut_refused.ensures)
