@@ -27,7 +27,3 @@ rooted_ok-requires c =
       root_is = c.root_unchecked-p.ensures;
       top_is = c.top_unchecked-u.ensures;
     }
-
-pub returns : goal.returns
-returns c =
-    c.rooted_ok.ensures

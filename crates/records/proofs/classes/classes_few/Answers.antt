@@ -1,12 +1,9 @@
-use Rattle.records.proofs.Lists.{within-is, upto_none, upto_more, upto-stop, upto-done}
+use Rattle.records.proofs.Lists.{within-is, upto_more, upto-stop, upto-done}
 use Rattle.records.specs.Working.Leaves.{class_test}
 use Rattle.records.specs.View.{termed, term_at}
 use Prim.Native.Nat.{suc}
 use native.Mathlib.Omega.{arith}
 use Rattle.records.proofs.classes.classes_few.Goals as goal
-
-pub loop-t-init : goal.loop-t-init
-loop-t-init c = upto_none _
 
 pub class_ok-requires : goal.class_ok-requires
 class_ok-requires c = (within-is _ _ (omega arith) (omega arith), c.requires.1)
@@ -15,9 +12,6 @@ pub returns-then-not-class_ok : goal.returns-then-not-class_ok
 returns-then-not-class_ok c =
     let a = c.args in
     upto-stop (λ j. term_at a.terms.now (suc j)) (class_test (termed a.terms.now a.c)) a.c.terms _ _ c.class_ok.ensures c.if-not-class_ok.true (omega arith) (omega arith)
-
-pub loop-t-preserved : goal.loop-t-preserved
-loop-t-preserved c = upto_more _ _ _ c.loop-t.invariant c.class_ok.ensures c.if-not-class_ok.false
 
 pub returns : goal.returns
 returns c =

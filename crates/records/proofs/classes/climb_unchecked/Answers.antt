@@ -1,4 +1,4 @@
-use Rattle.records.proofs.Climbs.{climbing_begin, climbing_turn, climbing_here, climbing_done}
+use Rattle.records.proofs.Climbs.{climbing_begin, climbing_turn, climbing_here}
 use Rattle.records.proofs.classes.climb_unchecked.Goals as goal
 
 pub loop-init : goal.loop-init
@@ -9,6 +9,3 @@ returns-then-y-x g c = λ up s. let p = c.loop.invariant up s in climbing_here _
 
 pub loop-preserved : goal.loop-preserved
 loop-preserved g c = λ up s. let p = c.loop.invariant up s in climbing_turn _ _ _ _ _ _ p (s.is _ _ p.here c.parent-y.ensures) s.closed c.loop-test.true
-
-pub returns : goal.returns
-returns g c = λ up s. climbing_done _ _ _ _ _ (c.loop.invariant up s) c.loop-test.false

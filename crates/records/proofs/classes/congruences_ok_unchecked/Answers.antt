@@ -1,9 +1,6 @@
 use Rattle.records.proofs.Refines.HeightLaws.{heights_none}
 use Rattle.records.proofs.classes.congruences_ok_unchecked.Goals as goal
 
-pub edges_ok-requires-clause-heights : goal.edges_ok-requires-clause-heights
-edges_ok-requires-clause-heights c = heights_none _ _ 0
-
 pub edges_ok-requires-then-c-lt512-clause-heights : goal.edges_ok-requires-then-c-lt512-clause-heights
 edges_ok-requires-then-c-lt512-clause-heights c = heights_none _ _ 512
 

@@ -1,12 +1,9 @@
-use Rattle.records.proofs.Lists.{within-is, upto_none, upto_more, upto-stop, upto-done}
+use Rattle.records.proofs.Lists.{within-is, upto_more, upto-stop, upto-done}
 use Rattle.records.specs.Rules.{edge_rule, congruences_rule}
 use Rattle.records.specs.View.{term_at, chained}
 use Prim.Native.Nat.{suc}
 use native.Mathlib.Omega.{arith}
 use Rattle.records.proofs.classes.edges_ok.Goals as goal
-
-pub loop-t-init : goal.loop-t-init
-loop-t-init c = (upto_none _, c.requires.heights)
 
 pub edge_ok-requires : goal.edge_ok-requires
 edge_ok-requires c =

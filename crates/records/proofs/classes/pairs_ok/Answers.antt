@@ -1,18 +1,9 @@
-use Rattle.records.proofs.Refines.PairLaws.{linking_begin, linking_end, linking_stop, linking_turn, linking_done}
-use mathlib.Core.Path.{sym, ◌∙◌}
+use Rattle.records.proofs.Refines.PairLaws.{linking_end, linking_stop, linking_turn, linking_done}
 use Rattle.records.proofs.classes.pairs_ok.Goals as goal
-
-pub loop-init : goal.loop-init
-loop-init c =
-    linking_begin _ _ _ _ _
 
 pub returns-then-not-is_within : goal.returns-then-not-is_within
 returns-then-not-is_within c =
     linking_end _ _ _ _ _ _ _ _ _ c.loop.invariant _ _ c.loop-test.true c.is_within.ensures c.if-not-is_within.true c.both_ended.ensures
-
-pub pair_meets-requires : goal.pair_meets-requires
-pair_meets-requires c =
-    sym c.is_within.ensures ∙ c.if-not-is_within.false
 
 pub returns-then-not-pair_meets : goal.returns-then-not-pair_meets
 returns-then-not-pair_meets c =

@@ -20,10 +20,6 @@ loop-preserved c =
     raising_turn _ _ _ _ _ _ _ c.loop.invariant c.if-z-x.false _ c.stamp.ensures (omega arith) _ c.above-h.ensures _
     c.loop-test.true c.forest_parent-u.ensures c.requires.2 c.if-u-z.false
 
-pub returns : goal.returns
-returns c =
-    raising_done _ _ _ _ _ _ _ c.loop.invariant c.loop-test.false
-
 pub returns-else-u-z : goal.returns-else-u-z
 returns-else-u-z c =
     raising_done _ _ _ _ _ _ _ (raising_turn _ _ _ _ _ _ _ c.loop.invariant c.if-z-x.false _ c.stamp.ensures (omega arith) _ c.above-h.ensures _ c.loop-test.true c.forest_parent-u.ensures c.requires.2 c.if-u-z.false) (omega arith)

@@ -1,11 +1,7 @@
-use Rattle.records.proofs.Refines.IndexBuckets.{bucket-low, joined-start, joined-within, joined-turn, joined-done}
+use Rattle.records.proofs.Refines.IndexBuckets.{bucket-low, joined-within, joined-turn, joined-done}
 use mathlib.Core.Path.{◌∙◌}
 use native.Mathlib.Omega.{arith}
 use Rattle.records.proofs.index.bucket_of_joined.Goals as goal
-
-pub loop-t-init : goal.loop-t-init
-loop-t-init c =
-    let a = c.args in joined-start a.terms.now a.chars.now a.list.now
 
 pub bucket_of_text-requires : goal.bucket_of_text-requires
 bucket_of_text-requires c =

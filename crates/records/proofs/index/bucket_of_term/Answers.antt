@@ -17,10 +17,6 @@ bucket_of_text-requires-in-Ok-Variable c =
     text-within a.terms.now a.cells.now a.chars.now a.c a.t c.requires.here _ _ _ c.kind-k.ensures (c.wide-in-Ok-Variable.ensures ∙ c.first-x.ensures)
     (c.wide-in-Ok-Variable-2.ensures ∙ c.second-y.ensures) c.requires.bucketed (within-is 2 _ (let i = kind_is c.in-Ok-Variable.ensures c.in-Ok-Variable.field-0-is in omega arith) (let i = kind_is c.in-Ok-Variable.ensures c.in-Ok-Variable.field-0-is in omega arith)) c.requires.chars
 
-pub bucket_of_chain-requires : goal.bucket_of_chain-requires
-bucket_of_chain-requires c =
-    c.requires.bucketed.nexts
-
 pub returns-in-Ok-Constant : goal.returns-in-Ok-Constant
 returns-in-Ok-Constant c =
     let a = c.args in

@@ -1,6 +1,5 @@
 use Rattle.records.proofs.Lists.{below-zero}
-use Rattle.records.proofs.Refines.IndexReads.{end-not, end-turn, end-all}
-use native.Mathlib.Omega.{arith}
+use Rattle.records.proofs.Refines.IndexReads.{end-not, end-turn}
 use Rattle.records.proofs.index.chains_end.Goals as goal
 
 pub loop-b-init : goal.loop-b-init
@@ -15,7 +14,3 @@ pub loop-b-preserved : goal.loop-b-preserved
 loop-b-preserved c =
     let a = c.args in
     end-turn a.terms.now a.ends.now c.loop-b.b _ c.word_after.ensures c.if-word_after-ne0.false c.loop-b.invariant
-
-pub returns : goal.returns
-returns c =
-    let a = c.args in end-all a.terms.now a.ends.now c.loop-b.b (omega arith) c.loop-b-test.false c.loop-b.invariant

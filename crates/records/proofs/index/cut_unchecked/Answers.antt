@@ -1,4 +1,4 @@
-use Rattle.records.proofs.Refines.IndexCuts.{cutting_none, cutting_head, cutting_ninth, cut-done}
+use Rattle.records.proofs.Refines.IndexCuts.{cutting_none, cutting_ninth, cut-done}
 use mathlib.Core.Path.{◌≡◌}
 use Prim.Native.Nat.{◌+◌, ◌-◌}
 use native.Mathlib.Omega.{arith}
@@ -6,12 +6,6 @@ use Rattle.records.proofs.index.cut_unchecked.Goals as goal
 
 pub loop-b-init : goal.loop-b-init
 loop-b-init c = cutting_none _ _
-
-pub loop-b-preserved : goal.loop-b-preserved
-loop-b-preserved c = cutting_head _ _ _ _ _ c.requires.fact_2 c.loop-b.invariant c.loop-b-test.true c.cut_word.ensures
-
-pub loop-t-init : goal.loop-t-init
-loop-t-init c = (omega arith, cutting_none _ _)
 
 pub loop-t-preserved : goal.loop-t-preserved
 loop-t-preserved c =

@@ -26,9 +26,6 @@ returns-then-word_after-t c =
     let a = c.args in
     reading-not a.terms.now (bucket (records_in a.terms.now a.cells.now a.chars.now a.c)) a.c.terms (c.loop-t.t - 1) _ c.loop-t.invariant (omega arith) _ (omega arith) _ c.bucket_of_term-b.ensures (bucket-low _ _ _ c.bucket_of_term-b.ensures) _ c.word_after.ensures c.if-word_after-t.true
 
-pub offset_bounds-ends-b-in-loop-t : goal.offset_bounds-ends-b-in-loop-t
-offset_bounds-ends-b-in-loop-t c = let h = bucket-low _ _ _ c.bucket_of_term-b.ensures in omega arith
-
 pub bounds-ends-b-in-loop-t : goal.bounds-ends-b-in-loop-t
 bounds-ends-b-in-loop-t c = let h = bucket-low _ _ _ c.bucket_of_term-b.ensures in search (rules, h)
 
@@ -37,9 +34,6 @@ loop-t-preserved c =
     let a = c.args in
     let e : (c.loop-t.t + 1) - 1 ≡ c.loop-t.t = omega arith in
     rw e (reading-one a.terms.now (bucket (records_in a.terms.now a.cells.now a.chars.now a.c)) a.c.terms (c.loop-t.t - 1) _ c.loop-t.invariant (omega arith) _ (omega arith) _ c.bucket_of_term-b.ensures (bucket-low _ _ _ c.bucket_of_term-b.ensures) _ c.word_after.ensures c.if-word_after-t.false _ refl)
-
-pub returns : goal.returns
-returns c = let a = c.args in reading-all a.terms.now (bucket (records_in a.terms.now a.cells.now a.chars.now a.c)) a.c.terms _ _ c.loop-t.invariant (omega arith)
 
 pub returns-else-word_after-t : goal.returns-else-word_after-t
 returns-else-word_after-t c =

@@ -1,4 +1,4 @@
-use Rattle.records.proofs.Lists.{any-zero, any-turn, any-stop, any-done}
+use Rattle.records.proofs.Lists.{any-zero, any-turn, any-stop}
 use Rattle.records.proofs.put.has_pair.Goals as goal
 
 pub loop-i-init : goal.loop-i-init
@@ -12,7 +12,3 @@ returns-then-pair_is_unchecked c =
 pub loop-i-preserved : goal.loop-i-preserved
 loop-i-preserved c =
     search any-turn
-
-pub returns : goal.returns
-returns c =
-    search any-done

@@ -1,5 +1,5 @@
-use Rattle.records.proofs.Refines.Puts.{chained-none, chained-turn, chained-end, chain-empty}
-use borrow.Author.Tests.{eqb-true, eqb-false}
+use Rattle.records.proofs.Refines.Puts.{chained-turn, chained-end, chain-empty}
+use borrow.Author.Tests.{eqb-true}
 use mathlib.Core.Path.{sym, ◌∙◌}
 use native.Mathlib.Omega.{arith}
 use borrow.Author.Rules.{rules}
@@ -8,10 +8,6 @@ use Rattle.records.proofs.put.put_chain_unchecked.Goals as goal
 pub returns-then-is_empty : goal.returns-then-is_empty
 returns-then-is_empty c =
     let z = eqb-true _ _ (sym c.is_empty.ensures ∙ c.if-is_empty.true) in search chain-empty
-
-pub loop-i-init : goal.loop-i-init
-loop-i-init c =
-    (let z = eqb-false _ _ (sym c.is_empty.ensures ∙ c.if-is_empty.false) in omega arith, search chained-none)
 
 pub loop-i-preserved : goal.loop-i-preserved
 loop-i-preserved c =

@@ -1,8 +1,7 @@
 use mathlib.Core.Bool.{true, false}
 use Rattle.records.proofs.Refines.ClassLaws.{seen_up, seen-rooted, root-here, top-here}
-use Rattle.records.proofs.Lists.{failed, passed}
+use Rattle.records.proofs.Lists.{passed}
 use Rattle.records.proofs.ClimbEnds.{term_place_lem, tested_more}
-use mathlib.Core.Path.{sym}
 use Rattle.records.proofs.roots.class_kept_ok.Goals as goal
 
 pub kept_root_unchecked-r-requires : goal.kept_root_unchecked-r-requires
@@ -56,10 +55,6 @@ rooted_ok-requires c =
       root_is = c.kept_root_unchecked-p.ensures;
       top_is = c.kept_top_unchecked-u.ensures;
     }
-
-pub returns-then-not-rooted_ok : goal.returns-then-not-rooted_ok
-returns-then-not-rooted_ok c =
-    record { is = sym (failed _ _ c.rooted_ok.ensures c.if-not-rooted_ok.true-raw); kept = c.requires.kept }
 
 pub keep_end-requires : goal.keep_end-requires
 keep_end-requires c =

@@ -23,9 +23,6 @@ returns-then-not-class_kept_ok c =
     let a = c.args in
     upto-stop (λ j. term_at a.terms.now (suc j)) (class_test (termed a.terms.now a.c)) a.c.terms _ _ c.class_kept_ok.ensures.is c.if-not-class_kept_ok.true (omega arith) (omega arith)
 
-pub loop-t-preserved : goal.loop-t-preserved
-loop-t-preserved c = (upto_more _ _ _ c.loop-t.invariant.0 c.class_kept_ok.ensures.is c.if-not-class_kept_ok.false, c.class_kept_ok.ensures.kept)
-
 pub returns : goal.returns
 returns c =
     let a = c.args in

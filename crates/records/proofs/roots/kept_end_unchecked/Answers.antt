@@ -1,6 +1,6 @@
 use Prim.Native.Nat.{ℕ, ◌+◌}
 use Rattle.records.specs.Working.Audited.{Steps}
-use Rattle.records.proofs.Climbs.{Climbing, climbing_begin, climbing_turn, climbing_here, climbing_done}
+use Rattle.records.proofs.Climbs.{Climbing, climbing_begin, climbing_turn, climbing_here}
 use Rattle.records.proofs.ClimbEnds.{term_place_lem, climbing_kept}
 use Rattle.records.proofs.roots.kept_end_unchecked.Given as given
 use Rattle.records.proofs.roots.kept_end_unchecked.Goals as goal
@@ -19,6 +19,3 @@ loop-preserved g c =
     let turn : (up : ℕ → ℕ) → Steps (given.F-post g c.args.parent) up c.args.n → Climbing up c.args.n c.args.t c.parent-y.result (c.loop.counter + 1)
     = λ up s. let p = c.loop.invariant.1 up s in climbing_turn _ _ _ _ _ _ p (s.is _ _ p.here c.parent-y.ensures) s.closed c.loop-test.true in
     let (up, s) = c.requires.steps in (term_place_lem _ _ c.requires.limited (turn up s).here, turn)
-
-pub returns : goal.returns
-returns g c = λ up s k. climbing_done _ _ _ _ _ (c.loop.invariant.1 up s) c.loop-test.false

@@ -1,13 +1,10 @@
 use mathlib.Core.List.{[]}
-use Rattle.records.proofs.Lists.{within-is, upto_none, upto_more, upto-stop, upto-done}
+use Rattle.records.proofs.Lists.{within-is, upto_more, upto-stop, upto-done}
 use Rattle.records.specs.Rules.{cell_rule}
 use Rattle.records.specs.View.{chained, cell_at}
 use Prim.Native.Nat.{suc}
 use native.Mathlib.Omega.{arith}
 use Rattle.records.proofs.rules.cells_ok.Goals as goal
-
-pub loop-i-init : goal.loop-i-init
-loop-i-init c = upto_none _
 
 pub cell_ok-requires : goal.cell_ok-requires
 cell_ok-requires c = within-is _ _ (omega arith) (omega arith)
@@ -16,9 +13,6 @@ pub returns-then-not-cell_ok : goal.returns-then-not-cell_ok
 returns-then-not-cell_ok c =
     let a = c.args in
     upto-stop (λ j. cell_at a.cells.now (suc j)) (cell_rule (chained [] a.cells.now a.c)) a.c.cells _ _ c.cell_ok.ensures c.if-not-cell_ok.true (omega arith) (omega arith)
-
-pub loop-i-preserved : goal.loop-i-preserved
-loop-i-preserved c = upto_more _ _ _ c.loop-i.invariant c.cell_ok.ensures c.if-not-cell_ok.false
 
 pub returns : goal.returns
 returns c =

@@ -12,10 +12,6 @@ pub returns-then-not-is_within : goal.returns-then-not-is_within
 returns-then-not-is_within c =
     let a = c.args in walk_end a.terms.now a.cells.now a.c a.t a.f _ _ c.loop-i.invariant _ c.is_within.ensures c.if-not-is_within.true
 
-pub part_ok-requires : goal.part_ok-requires
-part_ok-requires c =
-    sym c.is_within.ensures ∙ c.if-not-is_within.false
-
 pub returns-then-not-part_ok : goal.returns-then-not-part_ok
 returns-then-not-part_ok c =
     let a = c.args in

@@ -17,9 +17,6 @@ returns-then-not-term_ok c =
     let a = c.args in
     upto-stop (λ j. term_at a.terms.now (suc j)) (term_rule (records_in a.terms.now a.cells.now a.chars.now a.c)) a.c.terms _ _ c.term_ok.ensures.passes c.if-not-term_ok.true (omega arith) (omega arith)
 
-pub loop-t-preserved : goal.loop-t-preserved
-loop-t-preserved c = (upto_more _ _ _ c.loop-t.invariant.0 c.term_ok.ensures.passes c.if-not-term_ok.false, c.term_ok.ensures.tables c.if-not-term_ok.false)
-
 pub returns : goal.returns
 returns c =
     let a = c.args in

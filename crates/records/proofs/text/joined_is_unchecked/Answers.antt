@@ -1,10 +1,6 @@
-use Rattle.records.proofs.Refines.JoinedTexts.{matched-none, matched-one, matched-stop, matched-all, within-at}
+use Rattle.records.proofs.Refines.JoinedTexts.{matched-one, matched-stop, matched-all, within-at}
 use native.Mathlib.Omega.{arith}
 use Rattle.records.proofs.text.joined_is_unchecked.Goals as goal
-
-pub loop-t-init : goal.loop-t-init
-loop-t-init c =
-    matched-none _ _ _ _
 
 pub spans_agree-requires : goal.spans_agree-requires
 spans_agree-requires c =

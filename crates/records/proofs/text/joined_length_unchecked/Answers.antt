@@ -1,11 +1,7 @@
-use Rattle.records.proofs.Loops.{summing_none, summing_all}
+use Rattle.records.proofs.Loops.{summing_all}
 use Rattle.records.proofs.Refines.JoinedTexts.{lengths_none, summed_one}
 use native.Mathlib.Omega.{arith}
 use Rattle.records.proofs.text.joined_length_unchecked.Goals as goal
-
-pub loop-t-init : goal.loop-t-init
-loop-t-init c =
-    summing_none _ _ _
 
 pub loop-t-preserved : goal.loop-t-preserved
 loop-t-preserved c =

@@ -26,11 +26,6 @@ returns-then-is_named c =
     let a = c.args in
     let o = c.loop-u in name_taken a.terms.now a.chars.now a.c a.m a.t c.requires.1 o.u o.invariant _ c.is_named.ensures c.if-is_named.true
 
-pub offset_bounds-links-u : goal.offset_bounds-links-u
-offset_bounds-links-u c =
-    let a = c.args in
-    let r = c.requires in let i = tables-room a.terms.now a.chars.now a.c _ _ _ a.t r.2 r.1.variable in omega (arith, c.loop-u.invariant.lower)
-
 pub bounds-links-u : goal.bounds-links-u
 bounds-links-u c =
     let a = c.args in

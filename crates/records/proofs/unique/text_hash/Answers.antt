@@ -1,13 +1,6 @@
 use Rattle.records.proofs.Refines.NameLaws.{hash-turn, hash-done}
-use mathlib.Core.Path.{refl}
 use native.Mathlib.Omega.{arith}
 use Rattle.records.proofs.unique.text_hash.Goals as goal
-
-pub loop-x-init : goal.loop-x-init
-loop-x-init c = (omega arith, refl)
-
-pub overflow_add-h-in-loop-x : goal.overflow_add-h-in-loop-x
-overflow_add-h-in-loop-x c = omega (arith, c.type_inv.w c.loop-x.x-index)
 
 pub loop-x-preserved : goal.loop-x-preserved
 loop-x-preserved c = (omega arith, hash-turn c.args.w.now _ _ _ _ c.loop-x.invariant.1 c.loop-x-test.true c.wide.ensures)

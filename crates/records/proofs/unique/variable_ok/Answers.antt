@@ -27,13 +27,6 @@ name_ok-requires c =
       c.requires.2,
     )
 
-pub returns-then-not-name_ok : goal.returns-then-not-name_ok
-returns-then-not-name_ok c =
-    let a = c.args in
-    passing-not a.terms.now a.chars.now a.c _ _ _ _ _
-    (and-next _ _ _ (passed _ _ (c.text_ok.ensures ∙ text_anywhere a.terms.now [] [] [] a.chars.now a.c a.t) c.if-not-text_ok.false-raw)
-    (sym (failed _ _ c.name_ok.ensures c.if-not-name_ok.true-raw)))
-
 pub bounds-hashes-t : goal.bounds-hashes-t
 bounds-hashes-t c =
     let a = c.args in let i = tables-room a.terms.now a.chars.now a.c _ _ _ a.t c.requires.2 c.requires.1 in i.0
