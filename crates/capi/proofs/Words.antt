@@ -11,6 +11,8 @@ use lib.Dec.{leb}
 use mir.Val.{bool_byte}
 use borrow.Author.Tests.{leb-true, lt-leb, le-leb}
 use Rattle.records.specs.declared.State.{State}
+use Rattle.records.specs.declared.refusal.Refusal.{Refusal}
+use Rattle.records.specs.Refusal.{number}
 use Rattle.records.specs.View.{Lent, counts}
 use Rattle.records.specs.Rules.{audit}
 use Rattle.records.proofs.Lists.{both_left, both_right, left_false, and-next}
@@ -87,5 +89,5 @@ module _ {S R : Type 0} {put : S → List ℕ → List ℕ} {f : R → Telling S
   pub told_as : {w w' a a' : List ℕ} {c : S} {v v' : List ℕ} {k : ℕ} → f r ≡ tells c v → ToldWords put w w' a a' (tells c v') k → v' ≡ v → ToldBy put f w w' a a' r k
   told_as {c = c} e t q = told-by (e ∙ ap (tells c) (sym q)) t
 
-  pub told-refuses : {w a : List ℕ} {k : ℕ} → f r ≡ refuses k → ToldBy put f w w a a r k
-  told-refuses e = record { is = rw e (record { code = refl; state = refl; answer = refl }) }
+  pub told-refuses : {w a : List ℕ} {j : Refusal} {k : ℕ} → f r ≡ refuses j → k ≡ number j → ToldBy put f w w a a r k
+  told-refuses e q = record { is = rw e (record { code = q; state = refl; answer = refl }) }

@@ -5,7 +5,7 @@ use Rattle.capi.proofs.labels_make_concatenation.Goals as goal
 
 pub returns-then-not-is_roomy : goal.returns-then-not-is_roomy
 returns-then-not-is_roomy c =
-    untold _ _ _ _ _ _ (sym c.is_roomy.ensures ∙ c.if-not-is_roomy.true)
+    untold _ _ _ _ _ _ (sym c.is_roomy.ensures ∙ c.if-not-is_roomy.true) c.from.ensures
 
 pub tell-requires : goal.tell-requires
 tell-requires c = (

@@ -4,13 +4,13 @@ use Rattle.capi.proofs.marks.labels_set_mark.Goals as goal
 
 pub returns-then-not-is_roomy : goal.returns-then-not-is_roomy
 returns-then-not-is_roomy c =
-    marks-short _ _ _ _ _ (sym c.is_roomy.ensures ∙ c.if-not-is_roomy.true)
+    marks-short _ _ _ _ _ (sym c.is_roomy.ensures ∙ c.if-not-is_roomy.true) c.from.ensures
 
 pub tell_number-requires : goal.tell_number-requires
 tell_number-requires c =
     record {
-      fact_1 = sym c.is_roomy.ensures ∙ c.if-not-is_roomy.false;
-      fact_2 = tracks_narrow c.set_mark-told.ensures;
+      room = sym c.is_roomy.ensures ∙ c.if-not-is_roomy.false;
+      narrow = tracks_narrow c.set_mark-told.ensures;
     }
 
 pub returns : goal.returns

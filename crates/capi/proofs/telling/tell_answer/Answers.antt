@@ -1,4 +1,4 @@
-use Rattle.capi.proofs.Words.{flag_from, told-by, told_as, told-refuses}
+use Rattle.capi.proofs.Words.{flag_from, told-by, told_as}
 use Rattle.capi.specs.Working.Leaves.{answer_telling}
 use mathlib.Core.Path.{ap, ◌∙◌}
 use mathlib.Core.List.{[], ◌∷◌}
@@ -54,7 +54,3 @@ returns-in-Split c =
     told_as (ap answer_telling c.in-Split.is) c.tell_words-in-Split.ensures.is
     (ap (λ (x : ℕ). 4 ∷ c.in-Split.n ∷ x ∷ c.in-Split.k ∷ [])
     (c.cast_unsigned.ensures ∙ ap (of_z w32) (to_z-of_z w32 _ (c.requires.1.split _ _ _ _ c.in-Split.is).guard)))
-
-pub returns-in-Refused : goal.returns-in-Refused
-returns-in-Refused c =
-    told-refuses (ap answer_telling c.in-Refused.is)
