@@ -1,6 +1,6 @@
 -- The joined texts of a list of terms: counted, compared and copied one after the other.
 use mathlib.Core.Path.{◌≡◌, refl, sym, ap, ◌∙◌}
-use mathlib.Core.Bool.{Bool, true, false, not, ◌&&◌}
+use mathlib.Core.Bool.{Bool, true, false, ◌&&◌}
 use mathlib.Core.List.{List, [], ◌∷◌, ◌++◌, map, map-append}
 use Prim.Native.Nat.{ℕ, suc, ◌+◌, ◌*◌, ◌<◌, ◌≤◌}
 use native.Mathlib.Numerals.{add-one}
@@ -8,7 +8,6 @@ use native.Mathlib.Nat.{add_assoc}
 use native.Mathlib.Omega.{arith}
 use lib.ListN.{length, get_or, take, drop, length-append, drop_of_length-le, take-append-drop}
 use lib.Seq.{drop-cons, take-suc, take_all}
-use borrow.Author.Tests.{not-true, not-false}
 use Rattle.records.specs.Lists.{table, concat_map, same_word, Every}
 use Rattle.records.specs.View.{span, text_at, term_at, lengths, chars_view}
 use Rattle.records.specs.Working.Puts.{CharsPut, TextsWithin}
@@ -88,13 +87,13 @@ module _ (l h ts : List ℕ) (p q i : ℕ) (m : Matched l h ts p q i) where
   matched-all b = let z : drop i ts ≡ [] = drop_of_length-le ts b in rw z at m.rest
 
   module _ (b : i < length ts) (a n : ℕ) (ea : a ≡ (term_at l (get_or ts i 0)).first) (en : n ≡ (term_at l (get_or ts i 0)).second) (r : Bool) (same : r ≡ same_word (span h q n) (span h a n)) where
-    pub matched-stop : not r ≡ true → false ≡ left_from l h ts p 0
-    matched-stop d = sym (left_false _ _ (sym same ∙ not-true r d)) ∙ sym (left_at l h ts q i a n b ea en) ∙ m.rest
+    pub matched-stop : r ≡ false → false ≡ left_from l h ts p 0
+    matched-stop d = sym (left_false _ _ (sym same ∙ d)) ∙ sym (left_at l h ts q i a n b ea en) ∙ m.rest
 
-    pub matched-one : not r ≡ false → n ≤ 4294967295 → Matched l h ts p (q + n) (i + 1)
+    pub matched-one : r ≡ true → n ≤ 4294967295 → Matched l h ts p (q + n) (i + 1)
     matched-one d s =
         let k = m.small in
-        let e : same_word (span h q n) (span h a n) ≡ true = sym same ∙ not-false r d in
+        let e : same_word (span h q n) (span h a n) ≡ true = sym same ∙ d in
         let f = left_at l h ts q i a n b ea en in
         record { within = omega arith; small = omega arith; rest = rw add-one ((sym (rw e at f)) ∙ m.rest) }
 

@@ -12,12 +12,12 @@ spans_agree-requires c =
 pub returns-then-not-spans_agree : goal.returns-then-not-spans_agree
 returns-then-not-spans_agree c =
     matched-stop _ _ _ _ _ _ c.loop-t.invariant c.loop-t-test.true _ _ c.first-from.ensures c.second-n.ensures _
-    c.spans_agree.ensures c.if-not-spans_agree.true-raw
+    c.spans_agree.ensures c.if-not-spans_agree.true
 
 pub loop-t-preserved : goal.loop-t-preserved
 loop-t-preserved c =
     matched-one _ _ _ _ _ _ c.loop-t.invariant c.loop-t-test.true _ _ c.first-from.ensures c.second-n.ensures _
-    c.spans_agree.ensures c.if-not-spans_agree.false-raw (omega arith)
+    c.spans_agree.ensures c.if-not-spans_agree.false (omega arith)
 
 pub returns : goal.returns
 returns c =
