@@ -6,18 +6,17 @@ use crate::calling::{
 };
 use crate::marking::{say_classes, say_marked, say_trail};
 use crate::saying::{say_after, say_list, say_reasons, say_refused};
-use crate::solving::{say_answer, say_outcome, say_parts};
+use crate::solving::{say_outcome, say_parts};
 use building::adding::reasoned;
 use building::words::narrow;
 use commands::numbers::guard_of_word;
-use engine::Found;
+use equation::Outcome;
 use forced::Forced;
 use lines::lending::front_mut;
 use lines::reading::Command;
-use normalize::{DeepForm, Form};
-use records::{Added, LIST_LIMIT};
+use records::{LIST_LIMIT, Refusal, State};
+use std::fmt::Display;
 use std::io;
-use wordeq::Equality;
 
 // What a command asks. Two sides are the first atoms of the list, so many, and the rest.
 #[derive(Clone, Copy)]
@@ -96,82 +95,75 @@ pub fn question_of(c: Command<'_>) -> Option<Question> {
     Some(q)
 }
 
-fn say_found(rt: &impl Print, r: Found) -> io::Result<()> {
+// A root, or whether two lists are equal.
+fn say_value<T: Display + Drop>(rt: &impl Print, r: Result<T, Refusal>) -> io::Result<()> {
     match r {
-        Found::Root(t) => print!(rt; ": {t}"),
-        Found::Refused(k) => say_refused(rt, k),
-    }
-}
-
-fn say_equality(rt: &impl Print, r: Equality) -> io::Result<()> {
-    match r {
-        Equality::Is(b) => print!(rt; ": {b}"),
-        Equality::Refused(k) => say_refused(rt, k),
+        Ok(x) => print!(rt; ": {x}"),
+        Err(k) => say_refused(rt, k),
     }
 }
 
 // k, c and l, then m and r, or the shortage.
-fn say_forced(rt: &impl Print, f: Forced) -> io::Result<()> {
-    match f {
-        Forced::Spans(k, c, l, m, r) => print!(rt; ": {k} {c} {l}, {m} {r}"),
-        Forced::Shortage(k, c, l, d) => print!(rt; ": {k} {c} {l}, short {d}"),
-        Forced::Refused(j) => say_refused(rt, j),
+fn say_forced(rt: &impl Print, r: Result<Forced, Refusal>) -> io::Result<()> {
+    match r {
+        Ok(Forced::Spans(k, c, l, m, r)) => print!(rt; ": {k} {c} {l}, {m} {r}"),
+        Ok(Forced::Shortage(k, c, l, d)) => print!(rt; ": {k} {c} {l}, short {d}"),
+        Err(k) => say_refused(rt, k),
     }
 }
 
-// The reasons that are counted now. After a refusal those of before, which are lent.
-fn say_explained(rt: &impl Print, r: Added, stays: bool, s: &mut Store) -> io::Result<()> {
+fn say_added(rt: &impl Print, r: Result<State, Refusal>, s: &Store) -> io::Result<()> {
     match r {
-        Added::Counts(d) => {
-            say_added(rt, d.reasons, s)?;
+        Ok(d) => {
+            rt.write_all(b": ")?;
+            say_reasons(rt, &s.reasons, d.reasons)
+        }
+        Err(k) => say_refused(rt, k),
+    }
+}
+
+// The reasons too that are counted and lent, where explain is refused.
+fn say_explained(
+    rt: &impl Print,
+    r: Result<State, Refusal>,
+    stays: bool,
+    s: &mut Store,
+) -> io::Result<()> {
+    say_added(rt, r, s)?;
+    let count = s.counts.reasons;
+    match r {
+        Ok(d) => {
             if stays {
                 s.counts = reasoned(s.counts, d.reasons);
             }
             Ok(())
         }
-        Added::Refused(k) => {
-            say_refused(rt, k)?;
-            rt.write_all(b", ")?;
-            let count = s.counts.reasons;
+        Err(_) => {
             let ((_, _, _, reasons, _), _, _) = s.lent();
+            rt.write_all(b", ")?;
             say_reasons(rt, reasons, count)
         }
     }
 }
 
-fn say_added(rt: &impl Print, count: usize, s: &Store) -> io::Result<()> {
-    rt.write_all(b": ")?;
-    say_reasons(rt, &s.reasons, count)
-}
-
-fn say_equal_explained(rt: &impl Print, r: Added, s: &Store) -> io::Result<()> {
-    match r {
-        Added::Counts(d) => say_added(rt, d.reasons, s),
-        Added::Refused(k) => say_refused(rt, k),
-    }
-}
-
-fn as_deep(f: Form) -> DeepForm {
-    match f {
-        Form::List(n, d) => DeepForm::List(n, d),
-        Form::Refused(k) => DeepForm::Refused(k),
-    }
-}
-
 // What a form made is not counted from here on.
-fn say_form(rt: &impl Print, f: DeepForm, list: &[u32], s: &mut Store) -> io::Result<()> {
-    let d = match f {
-        DeepForm::List(n, d) => {
+fn say_form(
+    rt: &impl Print,
+    r: Result<(Option<usize>, State), Refusal>,
+    list: &[u32],
+    s: &mut Store,
+) -> io::Result<()> {
+    let (form, d) = match r {
+        Ok(x) => x,
+        Err(k) => return say_refused(rt, k),
+    };
+    match form {
+        Some(n) => {
             rt.write_all(b": ")?;
             say_list(rt, list, n)?;
-            d
         }
-        DeepForm::None(d) => {
-            rt.write_all(b": none")?;
-            d
-        }
-        DeepForm::Refused(k) => return say_refused(rt, k),
-    };
+        None => rt.write_all(b": none")?,
+    }
     say_after(rt, s, d)?;
     s.uncount(narrow(d.terms));
     Ok(())
@@ -181,12 +173,16 @@ pub fn ask(rt: &impl Print, q: Question, s: &mut Store) -> io::Result<()> {
     let mut words: [u32; LIST_LIMIT] = [0; LIST_LIMIT];
     let list = front_mut(&mut words, s.counts.list);
     match q {
-        Question::Find(t) => say_found(rt, find(s, t)),
+        Question::Find(t) => say_value(rt, find(s, t)),
         Question::Explain { a, b, stays } => say_explained(rt, explain(s, a, b), stays, s),
-        Question::NormalForm(t) => say_form(rt, as_deep(normal_form(s, t, list)), list, s),
+        Question::NormalForm(t) => {
+            let r = normal_form(s, t, list).map(|(n, d)| (Some(n), d));
+            say_form(rt, r, list, s)
+        }
         Question::DeepForm(t) => say_form(rt, deep_form(s, t, list), list, s),
         Question::Resolve { p, guard, stays } => {
-            let d = say_answer(rt, resolve(s, p, guard, list), list, s)?;
+            let r = resolve(s, p, guard, list).map(Outcome::Answered);
+            let d = say_outcome(rt, r, list, s)?;
             s.settle(d, stays);
             Ok(())
         }
@@ -201,8 +197,8 @@ pub fn ask(rt: &impl Print, q: Question, s: &mut Store) -> io::Result<()> {
             Ok(())
         }
         Question::ForcedLength(p) => say_forced(rt, forced_length(s, p)),
-        Question::NfEqual(p) => say_equality(rt, nf_equal(s, p)),
-        Question::NfEqualExplain(p) => say_equal_explained(rt, nf_equal_explain(s, p), s),
+        Question::NfEqual(p) => say_value(rt, nf_equal(s, p)),
+        Question::NfEqualExplain(p) => say_added(rt, nf_equal_explain(s, p), s),
         Question::Join { a, b, kind, number } => {
             say_marked(rt, join(s, a, b, kind, number), &mut s.marks)
         }

@@ -1,10 +1,11 @@
 // The counts of marks and joins, and what is printed of them.
+use crate::saying::say_refused;
 use building::words::narrow;
+use classes::Standing;
 use classes::trail::{MARK_LIMIT, MARK_WORDS};
-use classes::{Answer, Standing};
 use lines::put;
-use records::fields;
 use records::fields::word;
+use records::{Refusal, fields};
 use std::io;
 
 // The words lent for marks stand first; after them how many marks stand, and how many joins are recorded.
@@ -23,13 +24,17 @@ pub fn standing(marks: &[u32]) -> Standing {
 }
 
 // Prints the answer, with the counts of marks and of joins after the call, which are counted from here on.
-pub fn say_marked(rt: &impl Print, r: Answer, marks: &mut [u32]) -> io::Result<()> {
+pub fn say_marked(
+    rt: &impl Print,
+    r: Result<(u32, Standing), Refusal>,
+    marks: &mut [u32],
+) -> io::Result<()> {
     match r {
-        Answer::Given(n, d) => {
+        Ok((n, d)) => {
             count(marks, narrow(d.marks), narrow(d.joins));
             print!(rt; ": {n}, {} {}", d.marks, d.joins)
         }
-        Answer::Refused(k) => print!(rt; ": refused {k}"),
+        Err(k) => say_refused(rt, k),
     }
 }
 

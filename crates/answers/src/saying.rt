@@ -2,11 +2,11 @@
 use crate::Store;
 use building::words::narrow;
 use records::fields::word;
-use records::{State, fields};
+use records::{Label, Refusal, State, fields};
 use std::io;
 
-pub fn say_refused(rt: &impl Print, k: u32) -> io::Result<()> {
-    print!(rt; ": refused {k}")
+pub fn say_refused(rt: &impl Print, k: Refusal) -> io::Result<()> {
+    print!(rt; ": refused {}", u32::from(k))
 }
 
 // The kind and the number of reason i.
@@ -28,7 +28,11 @@ fn follows(reasons: &[u32], i: usize) -> bool {
 fn say_reason(rt: &impl Print, reasons: &[u32], i: usize, count: usize) -> io::Result<()> {
     let (kind, number) = reason(reasons, i);
     if !follows(reasons, i) {
-        let letter = if kind == 1 { 'a' } else { 'i' };
+        let letter = if kind == u32::from(Label::Asserted) {
+            'a'
+        } else {
+            'i'
+        };
         return print!(rt; " {letter}{number}");
     }
     let after = i.wrapping_add(1);

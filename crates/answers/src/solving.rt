@@ -5,6 +5,7 @@ use crate::stating::say_store;
 use building::Counts;
 use empties::Empties;
 use equation::Outcome;
+use records::Refusal;
 use sides::StepResult;
 use std::io;
 
@@ -15,8 +16,7 @@ fn say_link(rt: &impl Print, link: bool) -> io::Result<()> {
     Ok(())
 }
 
-// Answers what is counted after the call, as do the functions below.
-pub fn say_answer(rt: &impl Print, r: StepResult, list: &[u32], s: &Store) -> io::Result<Counts> {
+fn say_step(rt: &impl Print, r: StepResult, list: &[u32], s: &Store) -> io::Result<Counts> {
     match r {
         StepResult::Done(d) => say_store(rt, ": done", s, d),
         StepResult::Saturated(d) => say_store(rt, ": saturated", s, d),
@@ -34,31 +34,42 @@ pub fn say_answer(rt: &impl Print, r: StepResult, list: &[u32], s: &Store) -> io
             print!(rt; "\n made {k}")?;
             Ok(e)
         }
-        StepResult::Refused(k) => {
+    }
+}
+
+// Answers what is counted after the call, as does say_parts.
+pub fn say_outcome(
+    rt: &impl Print,
+    r: Result<Outcome, Refusal>,
+    list: &[u32],
+    s: &Store,
+) -> io::Result<Counts> {
+    match r {
+        Ok(Outcome::Answered(o)) => say_step(rt, o, list, s),
+        Ok(Outcome::Unexpanded(d)) => say_store(rt, ": unexpanded", s, d),
+        Err(k) => {
             say_refused(rt, k)?;
             Ok(s.counts)
         }
     }
 }
 
-pub fn say_outcome(rt: &impl Print, o: Outcome, list: &[u32], s: &Store) -> io::Result<Counts> {
-    match o {
-        Outcome::Answered(r) => say_answer(rt, r, list, s),
-        Outcome::Unexpanded(d) => say_store(rt, ": unexpanded", s, d),
-    }
-}
-
 // The variables listed, the number of "", the link flag, and the store.
-pub fn say_parts(rt: &impl Print, r: Empties, list: &[u32], s: &Store) -> io::Result<Counts> {
+pub fn say_parts(
+    rt: &impl Print,
+    r: Result<Empties, Refusal>,
+    list: &[u32],
+    s: &Store,
+) -> io::Result<Counts> {
     match r {
-        Empties::Parts(d, e, n, link) => {
+        Ok(e) => {
             rt.write_all(b": ")?;
-            say_list(rt, list, n)?;
-            print!(rt; ", {e}")?;
-            say_link(rt, link)?;
-            say_store(rt, "", s, d)
+            say_list(rt, list, e.listed)?;
+            print!(rt; ", {}", e.empty)?;
+            say_link(rt, e.link)?;
+            say_store(rt, "", s, e.state)
         }
-        Empties::Refused(k) => {
+        Err(k) => {
             say_refused(rt, k)?;
             Ok(s.counts)
         }

@@ -3,7 +3,7 @@ use crate::Store;
 use crate::saying::{say_constant, say_reasons, say_text};
 use building::Counts;
 use building::words::narrow;
-use records::{State, fields};
+use records::{Kind, State, fields};
 use std::io;
 
 // A concatenation made has two parts.
@@ -16,14 +16,14 @@ fn say_concatenation(rt: &impl Print, cells: &[u32], e: u32) -> io::Result<()> {
 fn say_term(rt: &impl Print, s: &Store, t: u32) -> io::Result<()> {
     let first = fields::first(&s.terms, t);
     let second = fields::second(&s.terms, t);
-    match fields::kind(&s.terms, t) {
-        1 => say_constant(rt, s, t),
-        2 => {
+    match Kind::try_from(fields::kind(&s.terms, t)) {
+        Ok(Kind::Constant) => say_constant(rt, s, t),
+        Ok(Kind::Variable) => {
             rt.write_all(b" ")?;
             say_text(rt, &s.chars, first, second)
         }
-        3 => say_concatenation(rt, &s.cells, first),
-        4 => print!(rt; " |{first}|"),
+        Ok(Kind::Concatenation) => say_concatenation(rt, &s.cells, first),
+        Ok(Kind::Length) => print!(rt; " |{first}|"),
         _ => print!(rt; " {first}={second}"),
     }
 }

@@ -1,15 +1,14 @@
 // The commands that change the store, the list or what is lent.
 use crate::Counts;
 use crate::words::{
-    CONGRUENCE, narrow, put_chain, put_class, put_concatenation, put_edge, put_expansions,
-    put_line, put_numbered, put_pairs, put_reason, put_same, put_term, put_tower, put_variables,
-    put_words,
+    narrow, put_chain, put_class, put_concatenation, put_edge, put_expansions, put_line,
+    put_numbered, put_pairs, put_reason, put_same, put_term, put_tower, put_variables, put_words,
 };
 use lines::indexing::{put_index, term_place};
 use lines::lending::{Lens, Lent};
 use lines::put;
 use lines::reading::Command;
-use records::{CELL_WIDTH, Kind};
+use records::{CELL_WIDTH, Kind, Label};
 
 pub fn reasoned(c: Counts, reasons: usize) -> Counts {
     Counts { reasons, ..c }
@@ -65,7 +64,7 @@ fn congruence(terms: &mut [u32], cells: &mut [u32], c: Command<'_>, k: &mut Coun
     let t = c.number(1);
     let p = c.number(2);
     let e = chain(cells, c, 4, 2, k);
-    put_edge(terms, t, p, CONGRUENCE, e, c.number(3));
+    put_edge(terms, t, p, u32::from(Label::Congruence), e, c.number(3));
     put_class(terms, t, p);
 }
 

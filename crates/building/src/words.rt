@@ -2,12 +2,7 @@
 use lines::indexing::term_place;
 use lines::reading::Command;
 use lines::{put, put_all};
-use records::{CELL_WIDTH, Kind};
-
-// What an edge's label says of it: asserted by the reason that it names, or a congruence of the pairs of a chain.
-const ASSERTED: u32 = 1;
-
-pub const CONGRUENCE: u32 = 3;
+use records::{CELL_WIDTH, Kind, Label};
 
 // A count as a word; none here is above 65,535.
 pub fn narrow(x: usize) -> u32 {
@@ -58,7 +53,7 @@ pub fn put_variables(terms: &mut [u32], chars: &mut [u32], above: u32, n: u32) {
 // The edge from t to the next term, and the next one's class parent.
 fn put_next(terms: &mut [u32], t: u32, first: u32) {
     let u = t.wrapping_add(1);
-    put_edge(terms, t, u, ASSERTED, t, t);
+    put_edge(terms, t, u, u32::from(Label::Asserted), t, t);
     put_class(terms, u, first);
 }
 
@@ -90,7 +85,7 @@ fn put_level(terms: &mut [u32], cells: &mut [u32], t: u32, e: u32, d: u32) {
     put_concatenation(terms, t, e);
     put_concatenation(terms, u, f);
     put_class(terms, t, u);
-    put_edge(terms, t, u, CONGRUENCE, g, t);
+    put_edge(terms, t, u, u32::from(Label::Congruence), g, t);
 }
 
 // From term t and cell e on.
@@ -180,7 +175,7 @@ fn put_expansion(terms: &mut [u32], cells: &mut [u32], first: u32, n: u32, e: u3
     put_two(cells, at, x, 0, last, 0);
     put_concatenation(terms, t, at);
     put_class(terms, w, t);
-    put_edge(terms, w, t, ASSERTED, i, i);
+    put_edge(terms, w, t, u32::from(Label::Asserted), i, i);
 }
 
 // x0 is the term `first`.

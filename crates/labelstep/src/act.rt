@@ -2,28 +2,32 @@
 use crate::say::{say_bad, say_outcome, say_refused};
 use crate::session::Session;
 use classes::merge;
-use commands::Parsed;
+use commands::Command;
 use lines::lending::front;
 use records::build::{make_concatenation, make_equation};
 use records::make::{make_constant, make_variable};
 use records::rules::is_list;
-use records::{LIST_LIMIT, Made};
+use records::{LIST_LIMIT, Refusal, State};
 use std::io;
 
 // A line that finds the store full is refused; another that makes no term is bad.
-fn after_making(rt: &impl Print, r: Made, s: &mut Session) -> io::Result<()> {
+fn after_making(
+    rt: &impl Print,
+    r: Result<(u32, State), Refusal>,
+    s: &mut Session,
+) -> io::Result<()> {
     match r {
-        Made::Term(_, c) => {
+        Ok((_, c)) => {
             s.counts = c;
             Ok(())
         }
-        Made::Refused(8) => say_refused(rt, 8),
-        Made::Refused(_) => say_bad(rt, s.line.number),
+        Err(Refusal::Room) => say_refused(rt, Refusal::Room),
+        Err(_) => say_bad(rt, s.line.number),
     }
 }
 
-// `C text`, `V name`, `P t u ..` and `E t u`. Any other line makes no term.
-fn make(p: Parsed, s: &mut Session) -> Made {
+// `C text`, `V name`, `P t u ..` and `E t u`. The other commands make no term.
+fn make(p: Command, s: &mut Session) -> Result<(u32, State), Refusal> {
     let c = s.counts;
     let list = &s.list;
     let terms = &mut s.terms;
@@ -32,17 +36,17 @@ fn make(p: Parsed, s: &mut Session) -> Made {
     let reasons = &s.reasons;
     let keys = &s.keys;
     match p {
-        Parsed::Constant(n) => {
+        Command::Constant(n) => {
             make_constant(terms, cells, chars, reasons, keys, c, front(list, n))
         }
-        Parsed::Variable(n) => {
+        Command::Variable(n) => {
             make_variable(terms, cells, chars, reasons, keys, c, front(list, n))
         }
-        Parsed::Concatenation(n) => {
+        Command::Concatenation(n) => {
             make_concatenation(terms, cells, chars, reasons, keys, c, front(list, n))
         }
-        Parsed::Equation(t, u) => make_equation(terms, cells, chars, reasons, keys, c, t, u),
-        _ => Made::Refused(0),
+        Command::Equation(t, u) => make_equation(terms, cells, chars, reasons, keys, c, t, u),
+        _ => Err(Refusal::Argument),
     }
 }
 
@@ -56,7 +60,7 @@ fn merge_classes(
 ) -> io::Result<()> {
     let c = s.counts;
     let m = s.stamp;
-    let k = merge(
+    let r = merge(
         &mut s.terms,
         &s.cells,
         &s.chars,
@@ -68,7 +72,7 @@ fn merge_classes(
         n,
         m,
     );
-    if k != 0 {
+    if r.is_err() {
         return say_bad(rt, s.line.number);
     }
     s.stamp = m.wrapping_add(1);
@@ -91,7 +95,7 @@ fn resolve(rt: &impl Print, e: u32, g: i32, s: &mut Session) -> io::Result<()> {
     let c = s.counts;
     let n = s.known_len;
     let known = &s.known;
-    let o = equation::step(
+    let r = equation::step(
         &mut s.terms,
         &mut s.cells,
         &mut s.chars,
@@ -103,16 +107,21 @@ fn resolve(rt: &impl Print, e: u32, g: i32, s: &mut Session) -> io::Result<()> {
         g,
         &mut s.list,
     );
-    let d = say_outcome(rt, o, s)?;
-    s.counts = d.with_reasons(0);
-    Ok(())
+    match r {
+        Ok(o) => {
+            let d = say_outcome(rt, o, s)?;
+            s.counts = d.with_reasons(0);
+            Ok(())
+        }
+        Err(k) => say_refused(rt, k),
+    }
 }
 
-pub(crate) fn act(rt: &impl Print, p: Parsed, s: &mut Session) -> io::Result<()> {
+pub(crate) fn act(rt: &impl Print, p: Command, s: &mut Session) -> io::Result<()> {
     match p {
-        Parsed::Merge(t, u, n) => merge_classes(rt, t, u, n, s),
-        Parsed::Known(n) => set_known(rt, n, s),
-        Parsed::Resolve(e, g) => resolve(rt, e, g, s),
+        Command::Merge(t, u, n) => merge_classes(rt, t, u, n, s),
+        Command::Known(n) => set_known(rt, n, s),
+        Command::Resolve(e, g) => resolve(rt, e, g, s),
         _ => {
             let r = make(p, s);
             after_making(rt, r, s)

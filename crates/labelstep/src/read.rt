@@ -2,19 +2,25 @@
 use crate::act::act;
 use crate::say::say_bad;
 use crate::session::Session;
+use commands::Command;
 use commands::parse::parse;
 use lines::lending::front;
 use std::io;
 
+fn read_command(s: &mut Session) -> Option<Command> {
+    if s.line.over {
+        return None;
+    }
+    let n = s.line.len;
+    let bytes = &s.line.bytes;
+    parse(front(bytes, n), &mut s.list)
+}
+
 // A line that is whole.
 fn take_line(rt: &impl Print, s: &mut Session) -> io::Result<()> {
-    if s.line.over {
-        say_bad(rt, s.line.number)?;
-    } else {
-        let n = s.line.len;
-        let bytes = &s.line.bytes;
-        let p = parse(front(bytes, n), &mut s.list);
-        act(rt, p, s)?;
+    match read_command(s) {
+        Some(p) => act(rt, p, s)?,
+        None => say_bad(rt, s.line.number)?,
     }
     s.line.next();
     Ok(())

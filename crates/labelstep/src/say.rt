@@ -3,8 +3,8 @@ use crate::session::Session;
 use commands::print::{put_guard, put_name, put_number, put_reason};
 use equation::Outcome;
 use lines::lending::front;
-use records::State;
 use records::fields::word;
+use records::{Refusal, State};
 use sides::StepResult;
 use std::io;
 
@@ -112,8 +112,8 @@ fn say_one(rt: &impl Print, k: Name, x: u64) -> io::Result<()> {
     out.end(rt)
 }
 
-pub(crate) fn say_refused(rt: &impl Print, k: u32) -> io::Result<()> {
-    say_one(rt, Name::Refused, u64::from(k))
+pub(crate) fn say_refused(rt: &impl Print, k: Refusal) -> io::Result<()> {
+    say_one(rt, Name::Refused, u64::from(u32::from(k)))
 }
 
 pub(crate) fn say_bad(rt: &impl Print, line: u64) -> io::Result<()> {
@@ -185,10 +185,6 @@ fn say_answer(rt: &impl Print, r: StepResult, s: &Session) -> io::Result<State> 
         StepResult::Split(c, n, g, _) => {
             say_split(rt, front(list, n), g, reasons, c.reasons)?;
             Ok(c)
-        }
-        StepResult::Refused(k) => {
-            say_refused(rt, k)?;
-            Ok(s.counts)
         }
     }
 }

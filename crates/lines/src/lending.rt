@@ -47,11 +47,11 @@ pub fn part<T>(n: usize, s: &[T]) -> usize
 
 // The first n of a slice, or a shorter one whole.
 pub fn front<T>(s: &[T], n: usize) -> &[T] {
-    &s[..n.min(s.len())]
+    &s[..part(n, s)]
 }
 
 pub fn front_mut<T>(s: &mut [T], n: usize) -> &mut [T] {
-    let e = n.min(s.len());
+    let e = part(n, s);
     &mut s[..e]
 }
 
