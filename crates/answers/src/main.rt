@@ -71,7 +71,7 @@ use building::adding::{apply, uncount};
 use building::{Counts, none};
 use classes::trail::MARK_WORDS;
 use lines::indexing::put_index;
-use lines::input::read_text;
+use lines::input::{TEXT_LIMIT, read_text};
 use lines::lending::{Lent, front, front_mut};
 use lines::put;
 use lines::reading::{Command, letter};
@@ -94,9 +94,6 @@ const CHAR_WORDS: usize = CHAR_LIMIT + 2;
 const REASON_WORDS: usize = 2 * (REASON_LIMIT + 1);
 
 const KEY_WORDS: usize = 2 * (KEY_LIMIT + 1);
-
-// How many bytes of standard input are read; what follows them is not.
-const TEXT_LIMIT: usize = 65536;
 
 // The numbers or characters of a line, its letter before them.
 const NUMBERS: usize = 256;

@@ -24,7 +24,7 @@ mod saying;
 use crate::asking::{ask_audit, ask_make, making_of};
 use crate::changing::{change, change_records};
 use lines::indexing::put_index;
-use lines::input::read_text;
+use lines::input::{TEXT_LIMIT, read_text};
 use lines::lending::{Lens, Lent, front, front_mut};
 use lines::reading::{Command, letter, numbers, read_line};
 use records::{
@@ -43,9 +43,6 @@ pub(crate) const CHAR_WORDS: usize = CHAR_LIMIT + 8;
 const REASON_WORDS: usize = 2 * (REASON_LIMIT + 1);
 
 const KEY_WORDS: usize = 2 * (KEY_LIMIT + 1);
-
-// How many bytes of standard input are read; what follows them is not.
-const TEXT_LIMIT: usize = 65536;
 
 // The numbers of a line, its letter before them.
 const NUMBERS: usize = 64;
