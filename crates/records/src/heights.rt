@@ -1,5 +1,5 @@
 // How high the path of a pair is: the lowest stamp that a congruence edge with this pair may have.
-ghost use Rattle.std.specs.Prelude.{◌≡◌, true, suc, ◌≤◌, max, get_or};
+ghost use Rattle.std.specs.Prelude.{◌≡◌, true, suc, ◌≤◌, max};
 ghost use Rattle.records.specs.Store.{within, forest_up};
 ghost use Rattle.records.specs.View.{term_limit, cell_at, terms_view, termed};
 ghost use Rattle.records.specs.Working.Audited.{Closed, Pathed, TermPair};

@@ -3,7 +3,7 @@ ghost use Rattle.std.specs.Prelude.{ℕ, Bool, true, ◌≡◌, suc, ◌+◌, �
 ghost use Rattle.std.proofs.Math.Option.{none};
 ghost use Rattle.records.specs.Lists.{all, concat_map, first_below};
 ghost use Rattle.records.specs.Store.{within, is_constant, text};
-ghost use Rattle.records.specs.View.{term_limit, term_words, char_limit, char_room, store_of, text_at, lengths, across, changing, lent};
+ghost use Rattle.records.specs.View.{char_limit, char_room, store_of, text_at, lengths, across, changing, lent};
 ghost use Rattle.records.specs.Index.{bucket_of};
 ghost use Rattle.records.specs.Kind.{kind_number};
 ghost use Rattle.records.specs.Rules.{list_limit, named};

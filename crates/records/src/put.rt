@@ -1,5 +1,5 @@
 // Writing records above the counts: terms, cells, reasons and keys; and what joins classes, in a term's record.
-ghost use Rattle.std.specs.Prelude.{true, ◌≡◌, ◌+◌, ◌*◌, ◌/◌, ◌<◌, ◌≤◌, min, max, ltb, leb, length};
+ghost use Rattle.std.specs.Prelude.{true, ◌≡◌, ◌+◌, ◌*◌, ◌/◌, ◌<◌, ◌≤◌, min, ltb, leb, length};
 ghost use Rattle.records.specs.Lists.{any};
 ghost use Rattle.records.specs.View.{buckets, term_limit, cell_limit, term_at, term_words, cell_words, term_room, cell_room, pair_at, pairs_view, store_of, across, changing, lent};
 ghost use Rattle.records.specs.Rules.{key_rule};

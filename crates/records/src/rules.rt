@@ -3,8 +3,8 @@ ghost use Rattle.std.specs.Prelude.{Bool, ℕ, [], ◌≡◌, eqb, true, ◌&&�
 ghost use Rattle.records.specs.Kind.{kind_number};
 ghost use Rattle.records.specs.Lists.{all};
 ghost use Rattle.records.specs.Store.{term_in, within, cell, chain};
-ghost use Rattle.records.specs.View.{store_of, terms_view, chars_view, pairs_view, across, termed, read_in, chained, records_in, lent};
-ghost use Rattle.records.specs.View.{term_words, cell_words, term_limit, cell_limit, char_limit, reason_limit, sizes};
+ghost use Rattle.records.specs.View.{store_of, terms_view, pairs_view, across, termed, read_in, chained, records_in, lent};
+ghost use Rattle.records.specs.View.{term_limit, cell_limit, reason_limit, sizes};
 ghost use Rattle.records.specs.Rules.{is_char, is_number, is_reason_kind, is_equatable, records_rule, each_term, each_cell, is_list};
 ghost use Rattle.records.specs.Rules.{reason_rule, key_rule, cell_rule, text_rule, part_rule, concat_rule, length_rule, equation_rule, term_rule};
 ghost use Rattle.records.specs.Working.Hashes.{Tables, Passing};
