@@ -13,6 +13,7 @@ use Rattle.records.proofs.Lists.{table-length}
 use Rattle.records.proofs.Chains.{chain-is, chain-none}
 use Rattle.records.proofs.Views.{first-at, value-at, next_at_lem}
 use Rattle.records.proofs.Grown.{kind-term}
+use Rattle.held.proofs.Linking.{Words}
 use Rattle.normalize.specs.Normalize.{atoms}
 use Rattle.records.specs.Rules.{list_limit}
 use Rattle.normalize.specs.Working.Flat.{bare, Nested, Appended}
@@ -66,12 +67,12 @@ module _ (l : List ℕ) (n : ℕ) (e : List ℕ) (m : ℕ) where
             passes = λ h. let f = p.from in absurd (omega arith);
           }
 
-      module _ (x : ℕ) (b : Bool) (i : b ≡ within m at) (j : b ≡ true) (v : x ≡ (cell_at e at).value) where
+      module _ {x o y : ℕ} (w : Words e m at x o y) where
         abbrev rest : List ℕ
         rest = firsts (chain s (cell_in s.cells at).next)
 
         parts_are : firsts (chain s at) ≡ x ∷ rest
-        parts_are = firsts_is at x _ (sym i ∙ j) (value-at e m at x (sym i ∙ j) v) refl
+        parts_are = firsts_is at x _ (sym w.counted) (value-at e m at x (sym w.counted) w.value) refl
 
         head_lower : (q : List ℕ) → Every (λ p. p < t) (x ∷ q) → x < t
         head_lower q (and h z) = h
@@ -97,16 +98,15 @@ module _ (l : List ℕ) (n : ℕ) (e : List ℕ) (m : ℕ) where
             let o = a.passes z in
             record { fits = λ o'. absurd (omega arith); passes = λ o'. omega arith }
 
-        module _ (y : ℕ) (w : y ≡ (cell_at e at).next) where
-          next_is : y ≡ (cell_in s.cells at).next
-          next_is = next_at_lem e m at y (sym i ∙ j) w
+        next_is : y ≡ (cell_in s.cells at).next
+        next_is = next_at_lem e m at y (sym w.counted) w.next
 
-          pub part_done : (out' : List ℕ) (r : ℕ) → Appended out out' k (atoms s x) r → r ≤ list_limit → Left out₀ out' count t y r
-          part_done out' r a z = record {
-            from = z;
-            words = rw (a.fits z, next_is) (append_assoc (take k out) (atoms s x) (concat_map (λ z. atoms s z) rest) ∙ words_are);
-            lower = rw next_is (rest_lower _ (subst (Every (λ p. p < t)) parts_are p.lower));
-          }
+        pub part_done : (out' : List ℕ) (r : ℕ) → Appended out out' k (atoms s x) r → r ≤ list_limit → Left out₀ out' count t y r
+        part_done out' r a z = record {
+          from = z;
+          words = rw (a.fits z, next_is) (append_assoc (take k out) (atoms s x) (concat_map (λ z. atoms s z) rest) ∙ words_are);
+          lower = rw next_is (rest_lower _ (subst (Every (λ p. p < t)) parts_are p.lower));
+        }
 
-          pub chain_falls : length (chain s y) < length (chain s at)
-          chain_falls = let q = ap length (chain-is s.cells at nested.ascends (within_cells at true (sym i ∙ j))) in let f = ap (λ (q : ℕ). length (chain s q)) next_is in omega arith
+        pub chain_falls : length (chain s y) < length (chain s at)
+        chain_falls = let q = ap length (chain-is s.cells at nested.ascends (within_cells at true (sym w.counted))) in let f = ap (λ (q : ℕ). length (chain s q)) next_is in omega arith

@@ -2,7 +2,7 @@
 use Rattle.std.specs.Prelude.{if◌then◌else◌}
 use mathlib.Core.Path.{◌≡◌, refl, sym, ap, subst, ◌∙◌}
 use mathlib.Core.Bool.{true, ◌&&◌}
-use mathlib.Core.List.{List, [], ◌∷◌, reverse}
+use mathlib.Core.List.{List, [], ◌∷◌, ◌++◌, reverse}
 use Prim.Native.Nat.{ℕ, suc, ◌+◌, ◌≤◌, ◌<◌}
 use native.Mathlib.Numerals.{add-one}
 use native.Mathlib.Omega.{arith}
@@ -11,13 +11,13 @@ use lib.Seq.{drop-cons}
 use lib.Dec.{eqb}
 use borrow.Author.Tests.{eq-eqb, ne_eqb}
 use Rattle.records.specs.declared.State.{State}
-use Rattle.records.specs.Store.{Store, Out, ok, stop, Work, and_then, ◌>>=◌, give, within, class_up, is_string}
-use Rattle.records.specs.View.{Lent, store_of, terms_view, term_limit}
-use Rattle.records.specs.Working.Audited.{Ready, Closed}
+use Rattle.records.specs.Store.{Store, Out, ok, stop, Work, and_then, ◌>>=◌, give, within, is_string}
+use Rattle.records.specs.View.{Lent, store_of, terms_view}
+use Rattle.records.specs.Working.Audited.{Ready}
 use Rattle.records.specs.Working.Doing.{Working}
-use Rattle.records.proofs.Lists.{both_left, both_right, both_true, every_at}
-use Rattle.records.proofs.Grown.{string-term, Strings, strings-later}
-use Rattle.records.proofs.Climbs.{view_count, term-within, ready_roots}
+use Rattle.records.proofs.Lists.{all_every, every_right, both_left, both_right, both_true, every_at}
+use Rattle.records.proofs.Grown.{string-term, strings-later}
+use Rattle.records.proofs.Climbs.{view_count, term-within}
 use Rattle.records.proofs.Doing.{working_same, working_is}
 use Rattle.records.proofs.Sequence.{working_stop}
 use Rattle.engine.specs.Explain.{explain, explain_arguments}
@@ -77,8 +77,11 @@ for_is cs a out s = go ((if eqb (representative s cs a) a then give tt else expl
 abbrev pub forms_left : List ℕ → List ℕ → ℕ → List ℕ → Work (List ℕ)
 forms_left cs flat i out = push_forms cs (drop i flat) out
 
-module _ {m₀ m : Lent} {c d : State} {cs flat list : List ℕ} {count i : ℕ} (g : Heaping (forms_left cs flat) m₀ c m d list count i) (table : List ℕ) (k : Candidates (store_of m₀ c) cs table)
-    (atoms : Strings (store_of m₀ c) flat) (h : i < length flat) where
+module _ (known flat : List ℕ) {m₀ m : Lent} {c d : State} {list : List ℕ} {count i : ℕ} (g : Heaping (forms_left (known ++ flat) flat) m₀ c m d list count i)
+    (table : List ℕ) (k : Candidates (store_of m₀ c) (known ++ flat) table) (h : i < length flat) where
+  abbrev cs : List ℕ
+  cs = known ++ flat
+
   abbrev st : Store
   st = store_of m d
 
@@ -89,10 +92,10 @@ module _ {m₀ m : Lent} {c d : State} {cs flat list : List ℕ} {count i : ℕ}
   out = reverse (first_words list count)
 
   string : is_string st a ≡ true
-  string = every_at flat i 0 (strings-later g.carried.later.grown atoms) h
+  string = every_at flat i 0 (strings-later g.carried.later.grown (every_right known flat (all_every (is_string (store_of m₀ c)) cs k.strings))) h
 
-  pub rep_requires : (d.terms ≤ term_limit) × ((within d.terms a ≡ true) × Closed (class_up (terms_view m.terms d.terms)) d.terms)
-  rep_requires = (g.carried.ready.sized.term_limited, (term-within m d a (string-term st a string), ready_roots m d g.carried.ready.audited.classed))
+  pub rep_counted : within d.terms a ≡ true
+  rep_counted = term-within m d a (string-term st a string)
 
   module _ (r : ℕ) (e : r ≡ node_at (terms_view m.terms d.terms) table a) where
     rep_is : r ≡ representative st cs a

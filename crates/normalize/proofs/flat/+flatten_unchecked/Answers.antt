@@ -1,4 +1,4 @@
-use mathlib.Core.Bool.{true, false}
+use mathlib.Core.Bool.{false}
 use mathlib.Core.Path.{refl, sym, ap, ◌∙◌}
 use Rattle.held.proofs.Linking.{is_cell, other_tag, step_words_lem, words-none}
 use Rattle.normalize.proofs.Refines.Flats.{one-atom, begin, ended, part_lower, part_passes, part_done, chain_falls}
@@ -15,28 +15,27 @@ loop-v-init t c =
 
 pub flatten_unchecked-k-requires : goal.flatten_unchecked-k-requires
 flatten_unchecked-k-requires t c =
-    let w = step_words_lem c.args.cells.now c.args.m _ _ _ _ c.in-Cell.ensures in (
-      (let h = part_lower _ _ _ _ c.requires.nested c.loop-v.invariant _ true w.counted refl w.value in let e = c.requires-raw.0 in omega arith),
+    let h = part_lower _ _ _ _ c.requires.nested c.loop-v.invariant (step_words_lem c.args.cells.now c.args.m _ _ _ _ c.in-Cell.ensures) in
+    let e = c.requires-raw.0 in (
+      omega arith,
       (c.requires.nested, (c.loop-v.invariant.from, omega arith)),
     )
 
 pub returns-then-k-gt-LIST_LIMIT : goal.returns-then-k-gt-LIST_LIMIT
 returns-then-k-gt-LIST_LIMIT t c =
-    let w = step_words_lem c.args.cells.now c.args.m _ _ _ _ c.in-Cell.ensures in
-    part_passes _ _ _ _ c.requires.nested c.loop-v.invariant _ true w.counted refl w.value _ _ (omega arith)
-    (let f = c.loop-v.invariant.from in let l = c.loop-v.auto.out in let p0 = c.requires.nested in let p1 = c.requires.count_le_list_limit in let p2 = c.requires.list_limit_in_bounds in omega arith) c.flatten_unchecked-k.ensures
-    c.if-k-gt-LIST_LIMIT.true
+    let f = c.loop-v.invariant.from in
+    let l = c.loop-v.auto.out in
+    let p = c.requires.count_le_list_limit in
+    let q = c.requires.list_limit_in_bounds in
+    part_passes _ _ _ _ c.requires.nested c.loop-v.invariant (step_words_lem c.args.cells.now c.args.m _ _ _ _ c.in-Cell.ensures) _ _ (omega arith) (omega arith) c.flatten_unchecked-k.ensures c.if-k-gt-LIST_LIMIT.true
 
 pub loop-v-smaller : goal.loop-v-smaller
 loop-v-smaller t c =
-    let w = step_words_lem c.args.cells.now c.args.m _ _ _ _ c.in-Cell.ensures in
-    chain_falls _ _ _ _ c.requires.nested c.loop-v.invariant _ true w.counted refl w.value _ w.next
+    chain_falls _ _ _ _ c.requires.nested c.loop-v.invariant (step_words_lem c.args.cells.now c.args.m _ _ _ _ c.in-Cell.ensures)
 
 pub loop-v-preserved : goal.loop-v-preserved
 loop-v-preserved t c =
-    let w = step_words_lem c.args.cells.now c.args.m _ _ _ _ c.in-Cell.ensures in
-    part_done _ _ _ _ c.requires.nested c.loop-v.invariant _ true w.counted refl w.value _ w.next _ _ c.flatten_unchecked-k.ensures
-    c.if-k-gt-LIST_LIMIT.false
+    part_done _ _ _ _ c.requires.nested c.loop-v.invariant (step_words_lem c.args.cells.now c.args.m _ _ _ _ c.in-Cell.ensures) _ _ c.flatten_unchecked-k.ensures c.if-k-gt-LIST_LIMIT.false
 
 pub returns : goal.returns
 returns t c =
