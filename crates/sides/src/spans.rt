@@ -1,5 +1,5 @@
 // Step 5: a side of constants against a side with one variable class.
-ghost use Rattle.std.specs.Prelude.{◌≡◌, true, false, suc, ◌+◌, ◌<◌, ◌≤◌, length, drop, get_or, if◌then◌else◌};
+ghost use Rattle.std.specs.Prelude.{◌≡◌, true, false, not, suc, ◌+◌, ◌<◌, ◌≤◌, length, drop, get_or};
 ghost use Rattle.records.specs.Lists.{all};
 ghost use Rattle.records.specs.Store.{is_constant, is_string};
 ghost use Rattle.records.specs.View.{store_of, across, Between, read_in, termed, changing, lent};
@@ -46,13 +46,17 @@ fn fits<'a>(
     letters::is_tiled(terms, chars, c, word, side, Cursor { atom: 0, place }, m)
 }
 
+fn is_variable(terms: &[u32], c: State, a: u32) -> bool
+    ensures { result ≡ not (is_constant (termed terms.now c) a) }
+{
+    rules::kind_of(terms, c.terms, a) != 1
+}
+
 // The variables of a list, counted.
 pub fn variables_length(terms: &[u32], c: State, l: &[u32]) -> usize
     ensures { result ≡ length (variables (termed terms.now c) l.now) }
 {
-    l.iter()
-        .filter(|&&a| rules::kind_of(terms, c.terms, a) != 1)
-        .count()
+    l.iter().filter(|&&a| is_variable(terms, c, a)).count()
 }
 
 fn atom_agrees(terms: &[u32], chars: &[u32], c: State, a: u32, v: u32) -> bool
