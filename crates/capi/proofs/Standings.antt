@@ -72,6 +72,7 @@ pub marks-short : {P : Promise} {i j : ℕ} {fit : Bool} (m : Lent) (l w a : Lis
 marks-short {i = i} {j = j} m l w a n e q = record {
   is = λ f. not-both f e;
   short = λ f. q;
+  known = omega arith;
   state = inside-same i j w;
   answer = beyond_same 1 a;
   store_idle = λ f. refl;
@@ -95,6 +96,21 @@ read-refused refusal.Mark n w = refl
 read-refused refusal.Form n w = refl
 read-refused refusal.Index n w = refl
 
+-- no refusal has a higher number
+numbers_end : (e : Refusal) → number e ≤ 12
+numbers_end refusal.Sizes = omega arith
+numbers_end refusal.Records = omega arith
+numbers_end refusal.Classes = omega arith
+numbers_end refusal.Congruences = omega arith
+numbers_end refusal.Argument = omega arith
+numbers_end refusal.List = omega arith
+numbers_end refusal.Reasons = omega arith
+numbers_end refusal.Room = omega arith
+numbers_end refusal.Names = omega arith
+numbers_end refusal.Mark = omega arith
+numbers_end refusal.Form = omega arith
+numbers_end refusal.Index = omega arith
+
 -- what of a call its telling rests on
 record Tellable (P : Promise) (i j : ℕ) (m m' : Lent) (l l' w : List ℕ) (r : Result (ℕ × Standing) Refusal) : Type 0 where
   promise : P m m' l l' (state_of w) (standing_of w) r
@@ -110,6 +126,7 @@ module _ {P : Promise} {i j : ℕ} {fit : Bool} {m m' : Lent} {l l' w : List ℕ
       rw (u.code, u.state, u.answer) (record {
         is = λ y. subst (λ (r : Result (ℕ × Standing) Refusal). P m m' l l' (state_of w) (standing_of w) r) (sym q) t.promise;
         short = λ y. not-both f y;
+        known = omega arith;
         state = t.inside x e refl;
         answer = (g x e refl).1;
         store_idle = λ y. absurd (y refl);
@@ -121,6 +138,7 @@ module _ {P : Promise} {i j : ℕ} {fit : Bool} {m m' : Lent} {l l' w : List ℕ
       rw (u.code, u.state, u.answer) (record {
         is = λ y. subst (λ (r : Result (ℕ × Standing) Refusal). P m m' l l' (state_of w) (standing_of w) r) (sym (read-refused e n w)) t.promise;
         short = λ y. not-both f y;
+        known = numbers_end e;
         state = inside-same i j w;
         answer = beyond_same 1 a;
         store_idle = λ y. (t.idle e refl).0;

@@ -1,5 +1,5 @@
 -- What the exported calls of joining, setting a mark and going back promise (document 02, Note 1).
-use Rattle.std.specs.Prelude.{◌≡◌, Bool, true, false, List, [], ℕ, zero, suc, length, get_or, take, drop, leb, ◌∷◌, ◌-◌, Result, Ok, Err}
+use Rattle.std.specs.Prelude.{◌≡◌, Bool, true, false, List, [], ℕ, zero, suc, length, get_or, take, drop, leb, ◌∷◌, ◌-◌, ◌≤◌, Result, Ok, Err}
 use denote.Triple.Both.{Both}
 use Rattle.records.specs.declared.State.{State}
 use Rattle.records.specs.View.{Lent, Slice}
@@ -39,12 +39,13 @@ read_as (suc k) n w = Err (refusal_of (suc k))
 abbrev pub Promise : Type 1
 Promise = Lent → Lent → List ℕ → List ℕ → State → Standing → Result (ℕ × Standing) Refusal → Type 0
 
--- Where state and answer have their eight words (`fit`) the call's promise P holds of what is read off, and the refusal is 1 where they
+-- The result is 0 or a refusal's number. Where state and answer have their eight words (`fit`) the call's promise P holds of what is read off, and the refusal is 1 where they
 -- have not. On success the state is written from word i up to word j and the answer in word 0, no other word of either; 'Refusals added
 -- from here on write nothing': after a refusal every slice is as it was.
 pub record ExportedMarks (P : Promise) (i j : ℕ) (fit : Bool) (m m' : Lent) (l l' w w' a a' : List ℕ) (n k : ℕ) : Type 0 where
   pub is : fit ≡ true → P m m' l l' (state_of w) (standing_of w) (read_as k n w')
   pub short : fit ≡ false → k ≡ 1
+  pub known : k ≤ 12
   pub state : Inside i j w w'
   pub answer : Beyond 1 a a'
   pub store_idle : (k ≡ 0 → ⊥) → m' ≡ m

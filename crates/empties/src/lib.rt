@@ -15,7 +15,7 @@ ghost use Rattle.empties.specs.Empties.{unmet, emptied, sides, empty_parts};
 ghost use Rattle.empties.specs.Working.Listing.{Starts, tried};
 ghost use Rattle.empties.specs.Calls.{listed, PublicEmpties};
 
-use records::index::cut_refused;
+use records::index::cut_refused_unchecked;
 use records::{LIST_LIMIT, Refusal, State, make};
 use sides::stripping;
 use wordeq::{propagate, resolving};
@@ -209,5 +209,5 @@ pub fn empty_parts(
         return Err(Refusal::Argument);
     }
     let parts = empty_parts_unchecked(terms, cells, chars, reasons, keys, c, lhs, rhs, list);
-    cut_refused(terms, c.terms, parts)
+    cut_refused_unchecked(terms, c.terms, parts)
 }

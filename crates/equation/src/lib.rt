@@ -16,7 +16,7 @@ ghost use Rattle.equation.specs.Calls.{stepped, PublicStep};
 ghost use Rattle.equation.specs.Working.Forms.{incoming_of, resolve_forms, right_form, carried};
 
 use normalize::deeper::{deep_form_by_unchecked, known_table_unchecked};
-use records::index::cut_refused;
+use records::index::cut_refused_unchecked;
 use records::{LIST_LIMIT, Refusal, State, fields, rules};
 use sides::StepResult;
 use wordeq::resolving::resolve_unchecked;
@@ -185,5 +185,5 @@ pub fn step(
         return Err(Refusal::Argument);
     }
     let o = step_unchecked(terms, cells, chars, reasons, keys, c, known, e, guard, list);
-    cut_refused(terms, c.terms, o)
+    cut_refused_unchecked(terms, c.terms, o)
 }

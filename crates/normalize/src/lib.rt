@@ -9,7 +9,7 @@ ghost use Rattle.normalize.specs.Calls.{formed, deepened, PublicForm, PublicDeep
 
 use deeper::deep_normal_form_cited_unchecked;
 use normal::normal_form_cited_unchecked;
-use records::index::cut_refused;
+use records::index::cut_refused_unchecked;
 use records::{LIST_LIMIT, Refusal, State, rules};
 
 pub mod deeper;
@@ -57,7 +57,7 @@ pub fn normal_form_cited(
         return Err(Refusal::Argument);
     }
     let x = normal_form_cited_unchecked(terms, cells, chars, reasons, keys, c, known, t, list);
-    cut_refused(terms, c.terms, x)
+    cut_refused_unchecked(terms, c.terms, x)
 }
 
 // The deep form of t over the known list, in the first words of `list`: how many they are, or None.
@@ -82,5 +82,5 @@ pub fn deep_normal_form_cited(
         return Err(Refusal::Argument);
     }
     let x = deep_normal_form_cited_unchecked(terms, cells, chars, reasons, keys, c, known, t, list);
-    cut_refused(terms, c.terms, x)
+    cut_refused_unchecked(terms, c.terms, x)
 }

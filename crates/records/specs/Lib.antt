@@ -1,7 +1,6 @@
 pub mod Lists
 pub mod Refusal
 pub mod Kind
-pub mod Label
 pub mod Store
 pub mod View
 pub mod Index

@@ -13,7 +13,7 @@ ghost use Rattle.records.specs.Calls.{made, Answers};
 ghost use Rattle.records.specs.Working.Doing.{Does, Builds};
 
 use crate::fields::{first, is_a, next, second, value};
-use crate::index::{bucket_of, bucket_of_sides, cut_refused};
+use crate::index::{bucket_of, bucket_of_sides, cut_refused_unchecked};
 use crate::make::first_in;
 use crate::put::{cells_fit, put_chain_unchecked, put_term_unchecked, term_fits};
 use crate::rules::{is_equatable, is_list, is_string, is_within};
@@ -201,7 +201,7 @@ pub fn make_concatenation(
     }
     if is_list(terms, c, l) {
         let r = make_concatenation_unchecked(terms, cells, chars, reasons, keys, c, l);
-        return cut_refused(terms, c.terms, r);
+        return cut_refused_unchecked(terms, c.terms, r);
     }
     Err(Refusal::Argument)
 }
@@ -220,7 +220,7 @@ pub fn make_length(
     crate::audit(terms, cells, chars, reasons, keys, c)?;
     if is_string(terms, c.terms, t) {
         let r = make_length_unchecked(terms, cells, chars, reasons, keys, c, t);
-        return cut_refused(terms, c.terms, r);
+        return cut_refused_unchecked(terms, c.terms, r);
     }
     Err(Refusal::Argument)
 }
@@ -240,7 +240,7 @@ pub fn make_equation(
     crate::audit(terms, cells, chars, reasons, keys, c)?;
     if is_equatable(terms, c, a, b) {
         let r = make_equation_unchecked(terms, cells, chars, reasons, keys, c, a, b);
-        return cut_refused(terms, c.terms, r);
+        return cut_refused_unchecked(terms, c.terms, r);
     }
     Err(Refusal::Argument)
 }

@@ -14,7 +14,7 @@ pub struct UnknownLabel(pub u32);
 
 impl From<Label> for u32 {
     ghost use Rattle.std.specs.Prelude.{◌≡◌};
-    ghost use Rattle.records.specs.Label.{label_number};
+    ghost use Rattle.records.specs.Working.Label.{label_number};
 
     ghost from_gives = { λ label n. n ≡ label_number label };
 
@@ -31,7 +31,7 @@ impl From<Label> for u32 {
 impl TryFrom<u32> for Label {
     type Error = UnknownLabel;
 
-    ghost use Rattle.records.specs.Label.{Labels};
+    ghost use Rattle.records.specs.Working.Label.{Labels};
 
     ghost try_from_gives = { Labels };
 

@@ -16,7 +16,7 @@ ghost use Rattle.records.specs.Calls.{made, Answers};
 ghost use Rattle.records.specs.Working.Doing.{Does, Builds};
 
 use crate::fields::{first, is_a, second};
-use crate::index::{bucket_of, bucket_of_joined, cut_refused, head, next_term};
+use crate::index::{bucket_of, bucket_of_joined, cut_refused_unchecked, head, next_term};
 use crate::put::{put_term_unchecked, term_fits};
 use crate::rules::chars_ok;
 use crate::text::{
@@ -256,7 +256,7 @@ pub fn make_constant(
         return Err(Refusal::Argument);
     }
     let r = make_constant_unchecked(terms, cells, chars, reasons, keys, c, w);
-    cut_refused(terms, c.terms, r)
+    cut_refused_unchecked(terms, c.terms, r)
 }
 
 // The variable of a name.
@@ -279,5 +279,5 @@ pub fn make_variable(
         return Err(Refusal::Argument);
     }
     let r = make_variable_unchecked(terms, cells, chars, reasons, keys, c, w);
-    cut_refused(terms, c.terms, r)
+    cut_refused_unchecked(terms, c.terms, r)
 }

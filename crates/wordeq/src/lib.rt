@@ -7,7 +7,7 @@ ghost use Rattle.records.specs.Calls.{added, Answers, Promises, Writes};
 ghost use Rattle.sides.specs.Wordeq.{is_guard, resolve_arguments, nf_arguments};
 ghost use Rattle.wordeq.specs.Calls.{equal_arguments, equal_lists, compared, PublicEqualExplain, PublicResolve, resolved};
 
-use records::index::cut_refused;
+use records::index::cut_refused_unchecked;
 use records::{LIST_LIMIT, Refusal, State, rules};
 use sides::{StepResult, equal_lists};
 
@@ -110,5 +110,5 @@ pub fn resolve_equation<'a>(
     let o = resolving::resolve_unchecked(
         terms, cells, chars, reasons, keys, c, lhs, rhs, guard, list,
     );
-    cut_refused(terms, c.terms, o)
+    cut_refused_unchecked(terms, c.terms, o)
 }

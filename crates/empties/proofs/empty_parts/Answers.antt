@@ -31,8 +31,8 @@ empty_parts_unchecked-parts-requires c =
       list_limit_in_bounds = c.if-list-lt-LIST_LIMIT.false;
     }
 
-pub cut_refused-requires : goal.cut_refused-requires
-cut_refused-requires c =
+pub cut_refused_unchecked-requires : goal.cut_refused_unchecked-requires
+cut_refused_unchecked-requires c =
     let h = cut-asked (passed-ready _ _ _ c.in_ok-audit.ensures refl) c.empty_parts_unchecked-parts.auto.terms in
     record {
       n_le_term_limit = h.0;
@@ -43,4 +43,4 @@ pub returns : goal.returns
 returns c =
     parts_called c.args.lhs.now c.args.rhs.now _ _ c.args.list.now c.if-list-lt-LIST_LIMIT.false _ c.in_ok-audit.ensures refl _
     c.are_lists.ensures c.if-not-are_lists.false c.empty_parts_unchecked-parts.ensures
-    (undone-listed _ _ _ _ _ _ c.cut_refused.ensures)
+    (undone-listed _ _ _ _ _ _ c.cut_refused_unchecked.ensures)

@@ -13,7 +13,7 @@ use Rattle.records.specs.declared.refusal.Refusal.{Refusal}
 use Rattle.records.specs.declared.refusal.Refusal.TheVariants.{Classes}
 use Rattle.records.specs.declared.label.Label.{Label}
 use Rattle.records.specs.declared.label.Label.TheVariants.{Asserted, Interface}
-use Rattle.records.specs.Label.{label_number}
+use Rattle.records.specs.Working.Label.{label_number}
 use Rattle.records.specs.Lists.{firsts, one_more, Every, and}
 use Rattle.records.specs.Store.{Term, Cell, Store, Out, ok, stop, Work, and_then, term, cell, count, is_term, is_edge, within, kind, parts, chain, chain_in, path_in, term_in, cell_in}
 use Rattle.records.specs.View.{term_at, cell_at, pair_at, terms_view, cells_view, pairs_view, reason_room, reason_limit}

@@ -29,8 +29,8 @@ step_unchecked-o-requires c =
       list_limit_in_bounds = c.if-list-lt-LIST_LIMIT.false;
     }
 
-pub cut_refused-requires : goal.cut_refused-requires
-cut_refused-requires c =
+pub cut_refused_unchecked-requires : goal.cut_refused_unchecked-requires
+cut_refused_unchecked-requires c =
     let h = cut-asked (passed-ready _ _ _ c.in_ok-audit.ensures refl) c.step_unchecked-o.auto.terms in
     record {
       n_le_term_limit = h.0;
@@ -41,4 +41,4 @@ pub returns : goal.returns
 returns c =
     call-steps c.args.known.now c.args.e c.args.guard _ _ c.args.list.now c.if-list-lt-LIST_LIMIT.false _ c.in_ok-audit.ensures
     refl _ (to_z-of_z w32 c.args.guard c.ranges.guard) _ c.can_step.ensures c.if-not-can_step.false-raw
-    c.step_unchecked-o.ensures (undone-stepped _ _ _ _ _ _ c.cut_refused.ensures)
+    c.step_unchecked-o.ensures (undone-stepped _ _ _ _ _ _ c.cut_refused_unchecked.ensures)

@@ -21,17 +21,17 @@ deep_normal_form_cited_unchecked-x-requires-clause-ready c =
     form-ready c.args.known.now c.args.t _ _ c.args.list.now c.if-list-lt-LIST_LIMIT.false _ c.in_ok-audit.ensures refl _
     c.can_form.ensures c.if-not-can_form.false
 
-pub cut_refused-requires-clause-n_le_term_limit : goal.cut_refused-requires-clause-n_le_term_limit
-cut_refused-requires-clause-n_le_term_limit c =
+pub cut_refused_unchecked-requires-clause-n_le_term_limit : goal.cut_refused_unchecked-requires-clause-n_le_term_limit
+cut_refused_unchecked-requires-clause-n_le_term_limit c =
     let h = cut-asked (passed-ready _ _ _ c.in_ok-audit.ensures refl) c.deep_normal_form_cited_unchecked-x.auto.terms in
     h.0
 
-pub cut_refused-requires-clause-terms_in_bounds : goal.cut_refused-requires-clause-terms_in_bounds
-cut_refused-requires-clause-terms_in_bounds c =
+pub cut_refused_unchecked-requires-clause-terms_in_bounds : goal.cut_refused_unchecked-requires-clause-terms_in_bounds
+cut_refused_unchecked-requires-clause-terms_in_bounds c =
     let h = cut-asked (passed-ready _ _ _ c.in_ok-audit.ensures refl) c.deep_normal_form_cited_unchecked-x.auto.terms in
     h.1
 
 pub returns : goal.returns
 returns c =
     deep_called _ _ _ _ c.args.list.now c.if-list-lt-LIST_LIMIT.false _ c.in_ok-audit.ensures refl _ c.can_form.ensures c.if-not-can_form.false
-    c.deep_normal_form_cited_unchecked-x.ensures (undone_deep _ _ _ _ _ _ c.cut_refused.ensures)
+    c.deep_normal_form_cited_unchecked-x.ensures (undone_deep _ _ _ _ _ _ c.cut_refused_unchecked.ensures)

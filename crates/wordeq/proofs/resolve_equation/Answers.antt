@@ -32,8 +32,8 @@ resolve_unchecked-o-requires c =
       list_limit_in_bounds = c.if-list-lt-LIST_LIMIT.false;
     }
 
-pub cut_refused-requires : goal.cut_refused-requires
-cut_refused-requires c =
+pub cut_refused_unchecked-requires : goal.cut_refused_unchecked-requires
+cut_refused_unchecked-requires c =
     let h = cut-asked (passed-ready _ _ _ c.in_ok-audit.ensures refl) c.resolve_unchecked-o.auto.terms in
     record {
       n_le_term_limit = h.0;
@@ -44,4 +44,4 @@ pub returns : goal.returns
 returns c =
     resolve_called c.args.lhs.now c.args.rhs.now c.args.guard _ _ c.args.list.now c.if-list-lt-LIST_LIMIT.false _
     c.in_ok-audit.ensures refl c.ranges.guard _ c.can_resolve.ensures c.if-not-can_resolve.false-raw
-    c.resolve_unchecked-o.ensures (undone-resolved _ _ _ _ _ _ c.cut_refused.ensures)
+    c.resolve_unchecked-o.ensures (undone-resolved _ _ _ _ _ _ c.cut_refused_unchecked.ensures)

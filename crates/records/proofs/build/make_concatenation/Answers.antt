@@ -22,8 +22,8 @@ make_concatenation_unchecked-r-requires c =
           concat-right (lent a.terms.now a.cells.now a.chars.now a.reasons.now a.keys.now) a.c a.l.now _ (search rules) c.is_list.ensures c.if-is_list.true;
     }
 
-pub cut_refused-requires : goal.cut_refused-requires
-cut_refused-requires c =
+pub cut_refused_unchecked-requires : goal.cut_refused_unchecked-requires
+cut_refused_unchecked-requires c =
     let h = cut-asked (passed-ready _ _ _ c.in_ok-audit.ensures refl) c.make_concatenation_unchecked-r.auto.terms in
     record {
       n_le_term_limit = h.0;
@@ -32,7 +32,7 @@ cut_refused-requires c =
 
 pub returns-then-is_list : goal.returns-then-is_list
 returns-then-is_list c =
-    concat_called _ _ _ _ _ _ _ c.in_ok-audit.ensures refl _ c.if-l-lt2.false _ c.is_list.ensures c.if-is_list.true c.make_concatenation_unchecked-r.ensures (undone-made _ _ _ _ _ c.cut_refused.ensures)
+    concat_called _ _ _ _ _ _ _ c.in_ok-audit.ensures refl _ c.if-l-lt2.false _ c.is_list.ensures c.if-is_list.true c.make_concatenation_unchecked-r.ensures (undone-made _ _ _ _ _ c.cut_refused_unchecked.ensures)
 
 pub returns : goal.returns
 returns c =

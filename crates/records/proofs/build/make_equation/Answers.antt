@@ -16,8 +16,8 @@ make_equation_unchecked-r-requires c =
       c_value = let a = c.args in equation-right (lent a.terms.now a.cells.now a.chars.now a.reasons.now a.keys.now) a.c a.a a.b _ c.is_equatable.ensures c.if-is_equatable.true;
     }
 
-pub cut_refused-requires : goal.cut_refused-requires
-cut_refused-requires c =
+pub cut_refused_unchecked-requires : goal.cut_refused_unchecked-requires
+cut_refused_unchecked-requires c =
     let h = cut-asked (passed-ready _ _ _ c.in_ok-audit.ensures refl) c.make_equation_unchecked-r.auto.terms in
     record {
       n_le_term_limit = h.0;
@@ -26,7 +26,7 @@ cut_refused-requires c =
 
 pub returns-then-is_equatable : goal.returns-then-is_equatable
 returns-then-is_equatable c =
-    equation_called _ _ _ _ _ _ _ c.in_ok-audit.ensures refl _ _ _ c.is_equatable.ensures c.if-is_equatable.true c.make_equation_unchecked-r.ensures (undone-made _ _ _ _ _ c.cut_refused.ensures)
+    equation_called _ _ _ _ _ _ _ c.in_ok-audit.ensures refl _ _ _ c.is_equatable.ensures c.if-is_equatable.true c.make_equation_unchecked-r.ensures (undone-made _ _ _ _ _ c.cut_refused_unchecked.ensures)
 
 pub returns : goal.returns
 returns c =

@@ -15,8 +15,8 @@ make_length_unchecked-r-requires c =
       c_value = sym c.is_string.ensures ∙ c.if-is_string.true;
     }
 
-pub cut_refused-requires : goal.cut_refused-requires
-cut_refused-requires c =
+pub cut_refused_unchecked-requires : goal.cut_refused_unchecked-requires
+cut_refused_unchecked-requires c =
     let h = cut-asked (passed-ready _ _ _ c.in_ok-audit.ensures refl) c.make_length_unchecked-r.auto.terms in
     record {
       n_le_term_limit = h.0;
@@ -25,7 +25,7 @@ cut_refused-requires c =
 
 pub returns-then-is_string : goal.returns-then-is_string
 returns-then-is_string c =
-    length_called _ _ _ _ _ _ _ c.in_ok-audit.ensures refl _ _ c.is_string.ensures c.if-is_string.true c.make_length_unchecked-r.ensures (undone-made _ _ _ _ _ c.cut_refused.ensures)
+    length_called _ _ _ _ _ _ _ c.in_ok-audit.ensures refl _ _ c.is_string.ensures c.if-is_string.true c.make_length_unchecked-r.ensures (undone-made _ _ _ _ _ c.cut_refused_unchecked.ensures)
 
 pub returns : goal.returns
 returns c =

@@ -18,8 +18,8 @@ make_constant_unchecked-r-requires c =
       c_value = right _ _ c.chars_ok.ensures c.if-not-chars_ok.false;
     }
 
-pub cut_refused-requires : goal.cut_refused-requires
-cut_refused-requires c =
+pub cut_refused_unchecked-requires : goal.cut_refused_unchecked-requires
+cut_refused_unchecked-requires c =
     let h = cut-asked (passed-ready _ _ _ c.in_ok-audit.ensures refl) c.make_constant_unchecked-r.auto.terms in
     record {
       n_le_term_limit = h.0;
@@ -29,4 +29,4 @@ cut_refused-requires c =
 pub returns : goal.returns
 returns c =
     constant_called c.args.w.now _ _ _ c.in_ok-audit.ensures refl _ c.chars_ok.ensures c.if-not-chars_ok.false
-    c.make_constant_unchecked-r.ensures (undone-made _ _ _ _ _ c.cut_refused.ensures)
+    c.make_constant_unchecked-r.ensures (undone-made _ _ _ _ _ c.cut_refused_unchecked.ensures)

@@ -22,8 +22,8 @@ make_variable_unchecked-r-requires c =
       c_value = right_name c.args.w.now _ c.chars_ok.ensures c.if-w-eq0.false c.if-not-chars_ok.false;
     }
 
-pub cut_refused-requires : goal.cut_refused-requires
-cut_refused-requires c =
+pub cut_refused_unchecked-requires : goal.cut_refused_unchecked-requires
+cut_refused_unchecked-requires c =
     let h = cut-asked (passed-ready _ _ _ c.in_ok-audit.ensures refl) c.make_variable_unchecked-r.auto.terms in
     record {
       n_le_term_limit = h.0;
@@ -33,4 +33,4 @@ cut_refused-requires c =
 pub returns : goal.returns
 returns c =
     variable_called c.args.w.now _ _ _ c.in_ok-audit.ensures refl _ c.chars_ok.ensures c.if-w-eq0.false c.if-not-chars_ok.false
-    c.make_variable_unchecked-r.ensures (undone-made _ _ _ _ _ c.cut_refused.ensures)
+    c.make_variable_unchecked-r.ensures (undone-made _ _ _ _ _ c.cut_refused_unchecked.ensures)
