@@ -179,7 +179,11 @@ pub fn cut_unchecked(terms: &mut [u32], n: usize)
 }
 
 // After a refusal the index names no term that was made on the way.
-pub fn cut_refused_unchecked<T>(terms: &mut [u32], n: usize, r: Result<T, Refusal>) -> Result<T, Refusal>
+pub fn cut_refused_unchecked<T>(
+    terms: &mut [u32],
+    n: usize,
+    r: Result<T, Refusal>,
+) -> Result<T, Refusal>
     requires n_le_term_limit { n ≤ term_limit }
     requires terms_in_bounds { term_words n ≤ length terms.old }
     ensures { CutRefused terms.old terms.new n r result }
