@@ -17,7 +17,7 @@ ghost use Rattle.equation.specs.Working.Forms.{incoming_of, resolve_forms, right
 
 use normalize::deeper::{deep_form_by_unchecked, known_table_unchecked};
 use records::index::cut_refused_unchecked;
-use records::{LIST_LIMIT, Refusal, State, fields, rules};
+use records::{Kind, LIST_LIMIT, Refusal, State, fields, rules};
 use sides::StepResult;
 use wordeq::resolving::resolve_unchecked;
 
@@ -157,7 +157,7 @@ fn can_step(terms: &[u32], c: State, known: &[u32], e: u32, guard: i32) -> bool
     ensures { result ≡ step_arguments known.now e guard (termed terms.now c) }
 {
     rules::is_list(terms, c, known)
-        && rules::kind_of(terms, c.terms, e) == 5
+        && rules::is_a(terms, c.terms, e, Kind::Equation)
         && rules::is_string(terms, c.terms, fields::first(terms, e))
         && wordeq::is_guard(guard)
 }

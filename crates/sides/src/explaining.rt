@@ -8,7 +8,7 @@ ghost use Rattle.sides.specs.Wordeq.{explain_all, variables};
 ghost use Rattle.sides.specs.Working.Stripping.{Pair};
 ghost use Rattle.sides.specs.Working.Explaining.{OneClass, explain_atom};
 
-use records::{Refusal, State, rules};
+use records::{Kind, Refusal, State, rules};
 
 fn explain_atom(
     terms: &[u32],
@@ -26,7 +26,7 @@ fn explain_atom(
     requires one_class { OneClass (terms_view terms.now c.terms) u v }
     ensures { Does (explain_atom u v) (across terms cells chars (changing reasons) keys) c (added result) }
 {
-    if rules::kind_of(terms, c.terms, u) == 1 {
+    if rules::is_a(terms, c.terms, u, Kind::Constant) {
         return Ok(c);
     }
     engine::explain_unchecked(terms, cells, chars, reasons, keys, c, u, v, places)

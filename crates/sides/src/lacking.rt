@@ -9,7 +9,7 @@ ghost use Rattle.sides.specs.Working.Sides.{Texts, Spelled};
 ghost use Rattle.sides.specs.Working.Lacking.{used_at, seen, used, Uses, Lacking, conflicts};
 
 use crate::letters;
-use records::{State, fields, rules};
+use records::{Kind, State, fields, rules};
 
 fn used_at(chars: &[u32], table: &[u8; 16384], x: u32, i: usize) -> bool
     requires { (i < length chars.now) × (i < char_limit) }
@@ -52,7 +52,7 @@ fn use_atom(terms: &[u32], c: State, a: u32, table: &mut [u8; 16384])
     requires { Texts terms.now c × (length table.old ≡ char_limit) }
     ensures { Uses c.chars (λ h. letters_of (read_in terms.now h c) a) table.old table.new }
 {
-    if rules::kind_of(terms, c.terms, a) == 1 {
+    if rules::is_a(terms, c.terms, a, Kind::Constant) {
         let p = fields::wide(fields::first(terms, a));
         let n = fields::wide(fields::second(terms, a));
         use_text(table, p, n);
@@ -88,7 +88,7 @@ fn lacks_atom(terms: &[u32], chars: &[u32], c: State, a: u32, table: &mut [u8; 1
     requires { Spelled terms.now chars.now c × (length table.old ≡ char_limit) }
     ensures { let s = read_in terms.now chars.now c in Lacking chars.now c.chars (letters_of s a) table.old table.new result }
 {
-    if rules::kind_of(terms, c.terms, a) != 1 {
+    if !rules::is_a(terms, c.terms, a, Kind::Constant) {
         return false;
     }
     let p = fields::wide(fields::first(terms, a));

@@ -1,6 +1,7 @@
 // The constants of a side and their characters: counted, walked and compared. Nothing is written.
 ghost use Rattle.std.specs.Prelude.{◌≡◌, true, ◌&&◌, ◌∷◌, ◌+◌, ◌<◌, ◌≤◌, length, take};
 ghost use Rattle.records.specs.Lists.{same_word};
+ghost use Rattle.records.specs.Kind.{kind_number};
 ghost use Rattle.records.specs.Store.{is_constant, text};
 ghost use Rattle.records.specs.View.{char_limit, span, read_in, termed};
 ghost use Rattle.records.specs.Rules.{list_limit};
@@ -9,18 +10,18 @@ ghost use Rattle.sides.specs.Working.Sides.{Texts, Spelled, of_kind, First, whic
 
 use crate::stripping;
 use records::text::text_is;
-use records::{State, fields, rules};
+use records::{Kind, State, fields, rules};
 
-// Whether an atom's kind is k; where `is` is false, whether it is another.
-fn is_kind(terms: &[u32], c: State, a: u32, k: u32, is: bool) -> bool
-    ensures { result ≡ of_kind (termed terms.now c) k is a }
+// Whether an atom is of kind k; where `is` is false, whether it is of another.
+fn is_kind(terms: &[u32], c: State, a: u32, k: Kind, is: bool) -> bool
+    ensures { result ≡ of_kind (termed terms.now c) (kind_number k) is a }
 {
-    (rules::kind_of(terms, c.terms, a) == k) == is
+    rules::is_a(terms, c.terms, a, k) == is
 }
 
 // The place of the first atom whose kind is k, or is another; the list's end where there is none.
-pub fn first_of_kind_unchecked(terms: &[u32], c: State, l: &[u32], k: u32, is: bool) -> usize
-    ensures { First (of_kind (termed terms.now c) k is) l.now result }
+pub fn first_of_kind_unchecked(terms: &[u32], c: State, l: &[u32], k: Kind, is: bool) -> usize
+    ensures { First (of_kind (termed terms.now c) (kind_number k) is) l.now result }
 {
     l.iter()
         .position(|&a| is_kind(terms, c, a, k, is))
@@ -31,7 +32,7 @@ pub fn first_of_kind_unchecked(terms: &[u32], c: State, l: &[u32], k: u32, is: b
 pub fn is_fixed(terms: &[u32], c: State, l: &[u32]) -> bool
     ensures { result ≡ fixed (termed terms.now c) l.now }
 {
-    first_of_kind_unchecked(terms, c, l, 1, false) == l.len()
+    first_of_kind_unchecked(terms, c, l, Kind::Constant, false) == l.len()
 }
 
 // Which of two lists is all constants: 1 for the left one, where both are too, 2 for the right one, 0 for none.
@@ -63,7 +64,7 @@ fn fill_count(terms: &[u32], c: State, a: u32, m: usize) -> usize
     requires { Texts terms.now c }
     ensures { result ≡ fill_count (termed terms.now c) a m }
 {
-    if rules::kind_of(terms, c.terms, a) == 1 {
+    if rules::is_a(terms, c.terms, a, Kind::Constant) {
         fields::wide(fields::second(terms, a))
     } else {
         m
@@ -197,7 +198,7 @@ pub fn is_plain_unchecked(terms: &[u32], chars: &[u32], c: State, v: u32) -> boo
     requires { Spelled terms.now chars.now c }
     ensures { result ≡ is_plain (read_in terms.now chars.now c) v }
 {
-    if rules::kind_of(terms, c.terms, v) != 2 {
+    if !rules::is_a(terms, c.terms, v, Kind::Variable) {
         return false;
     }
     if fields::second(terms, v) < 5 {
@@ -223,7 +224,7 @@ fn onward(k: Cursor) -> Cursor
 fn fill_start(terms: &[u32], c: State, a: u32, i: usize, v: Cursor) -> Cursor
     ensures { result ≡ fill_start (termed terms.now c) a i v }
 {
-    if rules::kind_of(terms, c.terms, a) == 1 {
+    if rules::is_a(terms, c.terms, a, Kind::Constant) {
         Cursor { atom: i, place: 0 }
     } else {
         v
@@ -234,7 +235,7 @@ fn fill_start(terms: &[u32], c: State, a: u32, i: usize, v: Cursor) -> Cursor
 fn fill_source<'a>(terms: &[u32], c: State, a: u32, side: &'a [u32], word: &'a [u32]) -> &'a [u32]
     ensures { result.now ≡ fill_source (termed terms.now c) a side.now word.now }
 {
-    if rules::kind_of(terms, c.terms, a) == 1 {
+    if rules::is_a(terms, c.terms, a, Kind::Constant) {
         side
     } else {
         word

@@ -12,7 +12,7 @@ ghost use Rattle.sides.specs.Working.Occurring.{at_place, own_count};
 
 use crate::{StepResult, letters};
 use records::classes::root_unchecked;
-use records::{Refusal, State, rules};
+use records::{Kind, Refusal, State, rules};
 
 // 1 for a non-empty constant, 0 for any other atom.
 fn own_count(terms: &[u32], c: State, a: u32) -> usize
@@ -78,7 +78,7 @@ fn occurs_in(
     let &[x] = lone else {
         return Ok(StepResult::Done(c));
     };
-    if rules::kind_of(terms, c.terms, x) == 1 {
+    if rules::is_a(terms, c.terms, x, Kind::Constant) {
         return Ok(StepResult::Done(c));
     }
     let i = find(terms, c, side, x);

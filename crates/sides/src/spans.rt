@@ -13,12 +13,12 @@ ghost use Rattle.sides.specs.Working.Spans.{FirstVariable, agrees, unfit};
 
 use crate::letters::Cursor;
 use crate::{StepResult, explaining, letters, stripping};
-use records::{Refusal, State, rules};
+use records::{Kind, Refusal, State, rules};
 
 pub fn first_variable_unchecked(terms: &[u32], c: State, side: &[u32]) -> usize
     ensures { FirstVariable (termed terms.now c) side.now result }
 {
-    letters::first_of_kind_unchecked(terms, c, side, 1, false)
+    letters::first_of_kind_unchecked(terms, c, side, Kind::Constant, false)
 }
 
 // Whether one word for the side's k variables fits: there is a length m with k × m + n = l, where the word has l characters and the side
@@ -49,7 +49,7 @@ fn fits<'a>(
 fn is_variable(terms: &[u32], c: State, a: u32) -> bool
     ensures { result ≡ not (is_constant (termed terms.now c) a) }
 {
-    rules::kind_of(terms, c.terms, a) != 1
+    !rules::is_a(terms, c.terms, a, Kind::Constant)
 }
 
 // The variables of a list, counted.
@@ -64,7 +64,8 @@ fn atom_agrees(terms: &[u32], chars: &[u32], c: State, a: u32, v: u32) -> bool
     requires pair { Pair (read_in terms.now chars.now c) a v }
     ensures { result ≡ agrees (read_in terms.now chars.now c) v a }
 {
-    rules::kind_of(terms, c.terms, a) == 1 || stripping::same_unchecked(terms, chars, c, a, v)
+    rules::is_a(terms, c.terms, a, Kind::Constant)
+        || stripping::same_unchecked(terms, chars, c, a, v)
 }
 
 // Whether each variable of a list is the same as v.

@@ -10,12 +10,12 @@ ghost use Rattle.sides.specs.Wordeq.{same, same_heads, matches, explain_matches,
 ghost use Rattle.sides.specs.Working.Stripping.{Readable, Pair, way, Finds, Strips, Needs, Asked};
 
 use crate::{Rest, Stripped};
-use records::{Refusal, State, classes, fields, rules, text};
+use records::{Kind, Refusal, State, classes, fields, rules, text};
 
 pub fn both_constant(terms: &[u32], n: usize, a: u32, b: u32) -> bool
     ensures { result ≡ (eqb (term_in (terms_view terms.now n) a).kind 1 && eqb (term_in (terms_view terms.now n) b).kind 1) }
 {
-    rules::kind_of(terms, n, a) == 1 && rules::kind_of(terms, n, b) == 1
+    rules::is_a(terms, n, a, Kind::Constant) && rules::is_a(terms, n, b, Kind::Constant)
 }
 
 // Whether two constants have equal characters.

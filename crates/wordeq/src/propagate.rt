@@ -14,7 +14,7 @@ ghost use Rattle.sides.specs.Working.Sides.{Spelled};
 ghost use Rattle.sides.specs.Working.Stripping.{Readable, Pair};
 ghost use Rattle.wordeq.specs.Working.Propagates.{aliased, emptied, assigned, linked};
 
-use records::{Refusal, State, make, rules};
+use records::{Kind, Refusal, State, make, rules};
 use sides::{StepResult, letters, stripping};
 
 // The constant of a constant side, "" for none.
@@ -50,7 +50,8 @@ fn is_alias(terms: &[u32], chars: &[u32], c: State, l: &[u32], r: &[u32]) -> boo
 fn are_variables(terms: &[u32], c: State, l: &[u32]) -> bool
     ensures { result ≡ all (is_variable (termed terms.now c)) l.now }
 {
-    l.iter().all(|&a| rules::kind_of(terms, c.terms, a) == 2)
+    l.iter()
+        .all(|&a| rules::is_a(terms, c.terms, a, Kind::Variable))
 }
 
 // An empty side against two or more variables.
@@ -64,7 +65,9 @@ pub fn is_emptied_unchecked(terms: &[u32], c: State, l: &[u32], r: &[u32]) -> bo
 fn is_assigned(terms: &[u32], c: State, l: &[u32], r: &[u32]) -> bool
     ensures { result ≡ assigned (termed terms.now c) l.now r.now }
 {
-    l.len() == 1 && rules::kind_of(terms, c.terms, l[0]) == 2 && letters::is_fixed(terms, c, r)
+    l.len() == 1
+        && rules::is_a(terms, c.terms, l[0], Kind::Variable)
+        && letters::is_fixed(terms, c, r)
 }
 
 // The first variable that is not the same as the word is propagated to it.

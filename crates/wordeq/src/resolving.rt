@@ -16,14 +16,15 @@ ghost use Rattle.wordeq.specs.Working.Resolving.{soft, closing, flat_steps, ran}
 
 use crate::stepping;
 use normalize::flat;
-use records::{LIST_LIMIT, Refusal, State, rules};
+use records::{Kind, LIST_LIMIT, Refusal, State, rules};
 use sides::StepResult;
 
 // Whether some atom is a concatenation.
 fn has_concat(terms: &[u32], c: State, l: &[u32]) -> bool
     ensures { result ≡ any (is_concat (termed terms.now c)) l.now }
 {
-    l.iter().any(|&a| rules::kind_of(terms, c.terms, a) == 3)
+    l.iter()
+        .any(|&a| rules::is_a(terms, c.terms, a, Kind::Concatenation))
 }
 
 fn either_concat(terms: &[u32], c: State, lhs: &[u32], rhs: &[u32]) -> bool

@@ -2,10 +2,10 @@ use borrow.Author.Rules.{rules}
 use Rattle.sides.specs.Working.Spans.{agrees}
 use Rattle.sides.proofs.spans.atom_agrees.Goals as goal
 
-pub returns-then-kind_of-eq1 : goal.returns-then-kind_of-eq1
+pub returns-then-is_a : goal.returns-then-is_a
 unfolding agrees
-returns-then-kind_of-eq1 c = search rules
+returns-then-is_a c = search rules
 
-pub returns-else-kind_of-eq1 : goal.returns-else-kind_of-eq1
+pub returns-else-is_a : goal.returns-else-is_a
 unfolding agrees
-returns-else-kind_of-eq1 c = search rules
+returns-else-is_a c = search rules
