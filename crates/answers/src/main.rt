@@ -206,25 +206,26 @@ fn change(c: Command<'_>, s: &mut Store) {
     }
 }
 
-// A command that asks is printed with its answer, and a remark as it stands.
+// A remark is printed as it stands, and a command that asks with its answer.
 fn step(rt: &impl Print, line: &[u8], s: &mut Store) -> io::Result<()> {
-    let mut n: [u32; NUMBERS] = [0; NUMBERS];
     let l = letter(line);
+    if l == b'#' {
+        rt.write_all(line)?;
+        return rt.write_all(b"\n");
+    }
+    let mut n: [u32; NUMBERS] = [0; NUMBERS];
     let last = read(l, line, &mut n);
     let c = Command {
         letter: l,
         numbers: &n,
         last,
     };
-    let asked = question_of(c);
-    if asked.is_none() && l != b'#' {
+    let Some(q) = question_of(c) else {
         change(c, s);
         return Ok(());
-    }
+    };
     rt.write_all(line)?;
-    if let Some(q) = asked {
-        ask(rt, q, s)?;
-    }
+    ask(rt, q, s)?;
     rt.write_all(b"\n")
 }
 
