@@ -1,9 +1,9 @@
 // Cited normal forms.
 #![tactic(auto)]
 
-ghost use Rattle.std.specs.Prelude.{◌≡◌, ◌≤◌, length};
+ghost use Rattle.std.specs.Prelude.{◌≡◌};
 ghost use Rattle.records.specs.Calls.{Writes};
-ghost use Rattle.records.specs.View.{across, termed, term_limit, term_words, changing};
+ghost use Rattle.records.specs.View.{across, termed, changing};
 ghost use Rattle.normalize.specs.Normalize.{form_arguments};
 ghost use Rattle.normalize.specs.Calls.{formed, deepened, PublicForm, PublicDeepForm};
 
