@@ -198,14 +198,9 @@ pub fn is_plain_unchecked(terms: &[u32], chars: &[u32], c: State, v: u32) -> boo
     requires { Spelled terms.now chars.now c }
     ensures { result ≡ is_plain (read_in terms.now chars.now c) v }
 {
-    if !rules::is_a(terms, c.terms, v, Kind::Variable) {
-        return false;
-    }
-    if fields::second(terms, v) < 5 {
-        return true;
-    }
     let strk: [u32; 5] = [33, 115, 116, 114, 107];
-    !text_is(chars, fields::first(terms, v), &strk)
+    rules::is_a(terms, c.terms, v, Kind::Variable)
+        && (fields::second(terms, v) < 5 || !text_is(chars, fields::first(terms, v), &strk))
 }
 
 // THE SIDE OVER THE WORD
