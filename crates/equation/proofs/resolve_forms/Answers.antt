@@ -7,15 +7,6 @@ use Rattle.records.proofs.Public.{handed}
 use Rattle.equation.proofs.Refines.StepCalls.{forms-refused, forms_resolved}
 use Rattle.equation.proofs.resolve_forms.Goals as goal
 
-pub resolve_unchecked-requires : goal.resolve_unchecked-requires
-resolve_unchecked-requires c =
-    record {
-      ready = c.requires.ready;
-      both_lists = c.requires.both_lists;
-      guard_value = ap is_guard (to_z-of_z w32 c.args.guard c.ranges.guard) ∙ c.requires.guard_value;
-      list_limit_in_bounds = c.requires.list_limit_in_bounds.0;
-    }
-
 pub returns-in_err-o : goal.returns-in_err-o
 returns-in_err-o c =
     rw (handed _ c.from_residual.ensures.1)

@@ -9,15 +9,6 @@ use mir.ValLaws.{to_z-of_z}
 use native.Mathlib.Omega.{arith}
 use Rattle.equation.proofs.right_form.Goals as goal
 
-pub deep_form_by_unchecked-requires : goal.deep_form_by_unchecked-requires
-deep_form_by_unchecked-requires c =
-    record {
-      ready = c.requires.ready.0;
-      candidates = c.requires.ready.1;
-      t_value = term-string c.requires.ready.0 c.args.known.now c.args.t c.requires.arguments;
-      list_limit_in_bounds = omega arith;
-    }
-
 pub returns-in_err-form : goal.returns-in_err-form
 returns-in_err-form c =
     rw (handed _ c.from_residual.ensures.1) (right-stop c.args.known.now c.args.t c.args.incoming c.args.guard c.args.lhs.now c.in_err-form.ensures)
@@ -34,20 +25,27 @@ slice_bounds-resolve_forms-end c =
     let h = form-short c.deep_form_by_unchecked.new.list c.args.known.now c.args.t c.requires.ready.0 c.requires.arguments c.in-Some.n c.in_ok-form.both w in
     let k = c.deep_form_by_unchecked.auto.list in sym (length-take-le _ c.deep_form_by_unchecked.new.list (omega arith))
 
-pub resolve_forms-requires : goal.resolve_forms-requires
-resolve_forms-requires c =
+pub resolve_forms-requires-clause-ready : goal.resolve_forms-requires-clause-ready
+resolve_forms-requires-clause-ready c =
+    let list = c.deep_form_by_unchecked.new.list in
+    let w = rw c.in-Some.is at c.in_ok-form.ensures in
+    form-ready list c.args.known.now c.args.t c.requires.ready.0 c.requires.arguments c.in-Some.n c.in_ok-form.both w
+
+pub resolve_forms-requires-clause-both_lists : goal.resolve_forms-requires-clause-both_lists
+resolve_forms-requires-clause-both_lists c =
     let list = c.deep_form_by_unchecked.new.list in
     let w = rw c.in-Some.is at c.in_ok-form.ensures in
     let short = form-short list c.args.known.now c.args.t c.requires.ready.0 c.requires.arguments c.in-Some.n c.in_ok-form.both w in
     record {
-      ready = form-ready list c.args.known.now c.args.t c.requires.ready.0 c.requires.arguments c.in-Some.n c.in_ok-form.both w;
-      both_lists = record {
-        left = form-keeps list c.args.known.now c.args.t c.requires.ready.0 c.requires.arguments c.in-Some.n c.in_ok-form.both w c.args.lhs.now c.requires.lhs_value;
-        right = form-list list c.args.known.now c.args.t c.requires.ready.0 c.requires.arguments c.in-Some.n c.in_ok-form.both w (first_part list _ (let k = c.deep_form_by_unchecked.auto.list in omega arith));
-      };
-      guard_value = ap is_guard (to_z-of_z w32 c.args.guard c.ranges.guard) ∙ c.requires.guard_value;
-      list_limit_in_bounds = (c.requires.list_limit_in_bounds.0, form-incoming list c.args.known.now c.args.t c.requires.ready.0 c.requires.arguments c.in-Some.n c.in_ok-form.both w c.requires.list_limit_in_bounds.1);
+      left = form-keeps list c.args.known.now c.args.t c.requires.ready.0 c.requires.arguments c.in-Some.n c.in_ok-form.both w c.args.lhs.now c.requires.lhs_value;
+      right = form-list list c.args.known.now c.args.t c.requires.ready.0 c.requires.arguments c.in-Some.n c.in_ok-form.both w (first_part list _ (let k = c.deep_form_by_unchecked.auto.list in omega arith));
     }
+
+pub resolve_forms-requires-clause-list_limit_in_bounds : goal.resolve_forms-requires-clause-list_limit_in_bounds
+resolve_forms-requires-clause-list_limit_in_bounds c =
+    let list = c.deep_form_by_unchecked.new.list in
+    let w = rw c.in-Some.is at c.in_ok-form.ensures in
+    (c.requires.list_limit_in_bounds.0, form-incoming list c.args.known.now c.args.t c.requires.ready.0 c.requires.arguments c.in-Some.n c.in_ok-form.both w c.requires.list_limit_in_bounds.1)
 
 pub returns-in-Some : goal.returns-in-Some
 returns-in-Some c =

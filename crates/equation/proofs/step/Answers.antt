@@ -19,15 +19,10 @@ returns-then-not-can_step c =
     call-unfit c.args.known.now c.args.e c.args.guard _ _ c.args.list.now c.if-list-lt-LIST_LIMIT.false _ c.in_ok-audit.ensures
     refl _ (to_z-of_z w32 c.args.guard c.ranges.guard) _ c.can_step.ensures c.if-not-can_step.true-raw
 
-pub step_unchecked-o-requires : goal.step_unchecked-o-requires
-step_unchecked-o-requires c =
-    record {
-      ready = call-ready c.args.known.now c.args.e c.args.guard _ _ c.args.list.now c.if-list-lt-LIST_LIMIT.false _ c.in_ok-audit.ensures
-          refl _ (to_z-of_z w32 c.args.guard c.ranges.guard) _ c.can_step.ensures c.if-not-can_step.false-raw;
-      c_value = call-fit c.args.known.now c.args.e c.args.guard _ _ c.args.list.now c.if-list-lt-LIST_LIMIT.false _ c.in_ok-audit.ensures
-          refl _ (to_z-of_z w32 c.args.guard c.ranges.guard) _ c.can_step.ensures c.if-not-can_step.false-raw;
-      list_limit_in_bounds = c.if-list-lt-LIST_LIMIT.false;
-    }
+pub step_unchecked-o-requires-clause-ready : goal.step_unchecked-o-requires-clause-ready
+step_unchecked-o-requires-clause-ready c =
+    call-ready c.args.known.now c.args.e c.args.guard _ _ c.args.list.now c.if-list-lt-LIST_LIMIT.false _ c.in_ok-audit.ensures
+    refl _ (to_z-of_z w32 c.args.guard c.ranges.guard) _ c.can_step.ensures c.if-not-can_step.false-raw
 
 pub cut_refused_unchecked-requires : goal.cut_refused_unchecked-requires
 cut_refused_unchecked-requires c =

@@ -9,23 +9,10 @@ use mir.ValLaws.{to_z-of_z}
 use native.Mathlib.Omega.{arith}
 use Rattle.equation.proofs.step_unchecked.Goals as goal
 
-pub known_table_unchecked-table-requires : goal.known_table_unchecked-table-requires
-known_table_unchecked-table-requires c =
-    record {
-      ready = c.requires.ready;
-      known_value = known-list c.requires.ready c.args.known.now _
-          (left-fits c.args.known.now c.args.e c.args.guard _ _ c.requires.ready c.requires.c_value _ c.first-a.ensures);
-    }
-
-pub deep_form_by_unchecked-requires : goal.deep_form_by_unchecked-requires
-deep_form_by_unchecked-requires c =
-    record {
-      ready = c.requires.ready;
-      candidates = c.known_table_unchecked-table.ensures;
-      t_value = term-string c.requires.ready c.args.known.now _
-          (left-fits c.args.known.now c.args.e c.args.guard _ _ c.requires.ready c.requires.c_value _ c.first-a.ensures);
-      list_limit_in_bounds = omega arith;
-    }
+pub deep_form_by_unchecked-requires-clause-t_value : goal.deep_form_by_unchecked-requires-clause-t_value
+deep_form_by_unchecked-requires-clause-t_value c =
+    term-string c.requires.ready c.args.known.now _
+    (left-fits c.args.known.now c.args.e c.args.guard _ _ c.requires.ready c.requires.c_value _ c.first-a.ensures)
 
 pub returns-in_err-form : goal.returns-in_err-form
 returns-in_err-form c =
@@ -46,23 +33,35 @@ slice_bounds-right_form-end c =
     (left-fits c.args.known.now c.args.e c.args.guard _ _ c.requires.ready c.requires.c_value _ c.first-a.ensures) c.in-Some.n c.in_ok-form.d w in
     let k = c.deep_form_by_unchecked.auto.list in sym (length-take-le _ c.deep_form_by_unchecked.new.list (omega arith))
 
-pub right_form-requires : goal.right_form-requires
-right_form-requires c =
+pub right_form-requires-clause-ready : goal.right_form-requires-clause-ready
+right_form-requires-clause-ready c =
+    let fits = left-fits c.args.known.now c.args.e c.args.guard _ _ c.requires.ready c.requires.c_value _ c.first-a.ensures in
+    let list = c.deep_form_by_unchecked.new.list in
+    let w = rw c.in-Some.is at c.in_ok-form.ensures in (
+      form-ready list c.args.known.now c.first-a.result c.requires.ready fits c.in-Some.n c.in_ok-form.d w,
+      form_candidates list c.args.known.now c.first-a.result c.requires.ready fits c.in-Some.n c.in_ok-form.d w c.known_table_unchecked-table.ensures,
+    )
+
+pub right_form-requires-clause-arguments : goal.right_form-requires-clause-arguments
+right_form-requires-clause-arguments c =
+    let list = c.deep_form_by_unchecked.new.list in
+    let w = rw c.in-Some.is at c.in_ok-form.ensures in
+    right-fits c.args.known.now c.args.e c.args.guard _ _ c.requires.ready c.requires.c_value c.first-a.result c.second-b.result c.first-a.ensures c.second-b.ensures list c.in-Some.n c.in_ok-form.d w
+
+pub right_form-requires-clause-lhs_value : goal.right_form-requires-clause-lhs_value
+right_form-requires-clause-lhs_value c =
     let fits = left-fits c.args.known.now c.args.e c.args.guard _ _ c.requires.ready c.requires.c_value _ c.first-a.ensures in
     let list = c.deep_form_by_unchecked.new.list in
     let w = rw c.in-Some.is at c.in_ok-form.ensures in
     let short = form-short list c.args.known.now c.first-a.result c.requires.ready fits c.in-Some.n c.in_ok-form.d w in
-    record {
-      ready = (
-        form-ready list c.args.known.now c.first-a.result c.requires.ready fits c.in-Some.n c.in_ok-form.d w,
-        form_candidates list c.args.known.now c.first-a.result c.requires.ready fits c.in-Some.n c.in_ok-form.d w c.known_table_unchecked-table.ensures,
-      );
-      arguments = right-fits c.args.known.now c.args.e c.args.guard _ _ c.requires.ready c.requires.c_value c.first-a.result c.second-b.result c.first-a.ensures c.second-b.ensures list c.in-Some.n c.in_ok-form.d w;
-      lhs_value = form-list list c.args.known.now c.first-a.result c.requires.ready fits c.in-Some.n c.in_ok-form.d w (first_part list _ (let k = c.deep_form_by_unchecked.auto.list in omega arith));
-      guard_value = ap is_guard (to_z-of_z w32 c.args.guard c.ranges.guard)
-          ∙ step-guard c.args.known.now c.args.e c.args.guard _ _ c.requires.ready c.requires.c_value;
-      list_limit_in_bounds = (c.requires.list_limit_in_bounds, form-incoming list c.args.known.now c.first-a.result c.requires.ready fits c.in-Some.n c.in_ok-form.d w (omega arith));
-    }
+    form-list list c.args.known.now c.first-a.result c.requires.ready fits c.in-Some.n c.in_ok-form.d w (first_part list _ (let k = c.deep_form_by_unchecked.auto.list in omega arith))
+
+pub right_form-requires-clause-list_limit_in_bounds : goal.right_form-requires-clause-list_limit_in_bounds
+right_form-requires-clause-list_limit_in_bounds c =
+    let fits = left-fits c.args.known.now c.args.e c.args.guard _ _ c.requires.ready c.requires.c_value _ c.first-a.ensures in
+    let list = c.deep_form_by_unchecked.new.list in
+    let w = rw c.in-Some.is at c.in_ok-form.ensures in
+    (c.requires.list_limit_in_bounds, form-incoming list c.args.known.now c.first-a.result c.requires.ready fits c.in-Some.n c.in_ok-form.d w (omega arith))
 
 pub returns-in-Some : goal.returns-in-Some
 returns-in-Some c =

@@ -8,7 +8,7 @@ use mathlib.Core.Option.{Option, none, some}
 use Prim.Native.Nat.{ℕ, zero, suc, ◌+◌, ◌-◌, ◌≤◌, ◌<◌}
 use native.Mathlib.Nat.{eq-or-lt_of_le}
 use native.Mathlib.Omega.{arith}
-use lib.ListN.{length, take, drop, get_or}
+use lib.ListN.{length, drop, get_or}
 use lib.Seq.{drop-cons}
 use lib.IntN.{ℤ, pos, negsuc, neg_ℤ, ◌-ℤ◌, +ℤ_idl}
 use lib.Dec.{ltb, leb}
@@ -27,7 +27,7 @@ use Rattle.records.specs.Working.Doing.{Working}
 use Rattle.records.proofs.Lists.{both_left, both_right, clash, table_at_lem, table-length}
 use Rattle.records.proofs.Readings.{text-characters}
 use Rattle.records.proofs.Kept.{key_kept}
-use Rattle.records.proofs.Doing.{working_same, working_at, working_is, working_answer}
+use Rattle.records.proofs.Doing.{working_same, working_is, working_answer}
 use Rattle.records.proofs.Views.{text-words}
 use Rattle.sides.specs.Wordeq.{Answer, saturated, conflict, split, Tried, ◌or_else◌, is_full, differ, clashes, split_heads, split_by, splits, is_guard}
 use Rattle.sides.specs.Working.Results.{BothLists}

@@ -9,13 +9,11 @@ use Rattle.records.specs.Lists.{all, concat_map}
 use Rattle.records.specs.Store.{Store, Out, and_then, is_constant, is_variable, text}
 use Rattle.records.specs.View.{Lent, store_of}
 use Rattle.records.specs.Make.{make_constant}
-use Rattle.records.specs.Calls.{made}
 use Rattle.records.specs.Working.Doing.{Working}
 use Rattle.records.proofs.Lists.{all_every, every_map, concat_map-same}
 use Rattle.sides.specs.Wordeq.{propagate, answer, fixed, letters_of, letters, assigns}
 use Rattle.records.proofs.Doing.{working_is, working_answer}
 use Rattle.records.proofs.Works.{one_store}
-use Rattle.records.proofs.Sequence.{made_at}
 
 -- a side of constants: its constant characters are its characters
 pub letters-fixed : (s : Store) (l : List ℕ) → fixed s l ≡ true → letters s l ≡ concat_map (text s) l

@@ -31,7 +31,7 @@ use Rattle.sides.specs.Working.Results.{tried, Tries}
 use Rattle.wordeq.specs.Calls.{resolved}
 use Rattle.sides.specs.Working.Sides.{Spelled}
 use Rattle.wordeq.specs.Working.Heads.{HeadsApart}
-use Rattle.sides.specs.Working.Stripping.{part, stripped, Inside, Needed, Strips}
+use Rattle.sides.specs.Working.Stripping.{part, Strips}
 use Rattle.sides.proofs.Strip.{strip-ends}
 use Rattle.sides.proofs.Strip as strip
 use Rattle.wordeq.proofs.Refines.Heads.{heads-apart}

@@ -1,7 +1,7 @@
 use Rattle.records.proofs.Public.{handed, numbered}
 use mathlib.Core.Path.{refl}
 use Rattle.records.specs.View.{lent}
-use Rattle.wordeq.proofs.Refines.EqualCalls.{equal_unready, equal-unfit, equal_readable, equal-left, equal-right, equal-gives}
+use Rattle.wordeq.proofs.Refines.EqualCalls.{equal_unready, equal-unfit, equal_readable, equal-gives}
 use Rattle.wordeq.proofs.nf_equal.Goals as goal
 
 pub returns-in_err-audit : goal.returns-in_err-audit
@@ -13,17 +13,11 @@ returns-then-not-are_lists c =
     equal-unfit _ _ c.args.lhs.now c.args.rhs.now _ c.in_ok-audit.ensures refl _ c.are_lists.ensures
     c.if-not-are_lists.true-raw
 
-pub nf_equal_unchecked-requires : goal.nf_equal_unchecked-requires
-nf_equal_unchecked-requires c =
+pub nf_equal_unchecked-requires-clause-readable : goal.nf_equal_unchecked-requires-clause-readable
+nf_equal_unchecked-requires-clause-readable c =
     let by-lent = lent c.args.terms.now c.args.cells.now c.args.chars.now c.args.reasons.now c.args.keys.now in
-    record {
-      readable = equal_readable by-lent c.args.c c.args.lhs.now c.args.rhs.now _ c.in_ok-audit.ensures refl _
-          c.are_lists.ensures c.if-not-are_lists.false-raw;
-      lhs_value = equal-left by-lent c.args.c c.args.lhs.now c.args.rhs.now _ c.in_ok-audit.ensures refl _
-          c.are_lists.ensures c.if-not-are_lists.false-raw;
-      rhs_value = equal-right by-lent c.args.c c.args.lhs.now c.args.rhs.now _ c.in_ok-audit.ensures refl _
-          c.are_lists.ensures c.if-not-are_lists.false-raw;
-    }
+    equal_readable by-lent c.args.c c.args.lhs.now c.args.rhs.now _ c.in_ok-audit.ensures refl _
+    c.are_lists.ensures c.if-not-are_lists.false-raw
 
 pub returns : goal.returns
 returns c =

@@ -1,7 +1,6 @@
 use mathlib.Core.Path.{refl}
 use Rattle.records.proofs.Public.{handed, numbered, cut-asked, passed-ready}
-use Rattle.wordeq.proofs.Refines.ResolveCalls.{resolve-short, resolve_unready, resolve-unfit, resolve-ready, resolve_lists, resolve-guard, resolve_called, undone-resolved}
-use Rattle.wordeq.proofs.Refines.Flattening.{guard_passed}
+use Rattle.wordeq.proofs.Refines.ResolveCalls.{resolve-short, resolve_unready, resolve-unfit, resolve-ready, resolve_called, undone-resolved}
 use Rattle.records.specs.View.{lent}
 use Rattle.wordeq.proofs.resolve_equation.Goals as goal
 
@@ -18,19 +17,11 @@ returns-then-not-can_resolve c =
     resolve-unfit c.args.lhs.now c.args.rhs.now c.args.guard _ _ c.args.list.now c.if-list-lt-LIST_LIMIT.false _ c.in_ok-audit.ensures
     refl c.ranges.guard _ c.can_resolve.ensures c.if-not-can_resolve.true-raw
 
-pub resolve_unchecked-o-requires : goal.resolve_unchecked-o-requires
-resolve_unchecked-o-requires c =
+pub resolve_unchecked-o-requires-clause-ready : goal.resolve_unchecked-o-requires-clause-ready
+resolve_unchecked-o-requires-clause-ready c =
     let by-lent = lent c.args.terms.now c.args.cells.now c.args.chars.now c.args.reasons.now c.args.keys.now in
-    record {
-      ready = resolve-ready c.args.lhs.now c.args.rhs.now c.args.guard by-lent c.args.c c.args.list.now c.if-list-lt-LIST_LIMIT.false _
-          c.in_ok-audit.ensures refl c.ranges.guard _ c.can_resolve.ensures c.if-not-can_resolve.false-raw;
-      both_lists = resolve_lists c.args.lhs.now c.args.rhs.now c.args.guard by-lent c.args.c c.args.list.now c.if-list-lt-LIST_LIMIT.false
-          _ c.in_ok-audit.ensures refl c.ranges.guard _ c.can_resolve.ensures c.if-not-can_resolve.false-raw;
-      guard_value = guard_passed _ c.ranges.guard
-          (resolve-guard c.args.lhs.now c.args.rhs.now c.args.guard by-lent c.args.c c.args.list.now
-          c.if-list-lt-LIST_LIMIT.false _ c.in_ok-audit.ensures refl c.ranges.guard _ c.can_resolve.ensures c.if-not-can_resolve.false-raw);
-      list_limit_in_bounds = c.if-list-lt-LIST_LIMIT.false;
-    }
+    resolve-ready c.args.lhs.now c.args.rhs.now c.args.guard by-lent c.args.c c.args.list.now c.if-list-lt-LIST_LIMIT.false _
+    c.in_ok-audit.ensures refl c.ranges.guard _ c.can_resolve.ensures c.if-not-can_resolve.false-raw
 
 pub cut_refused_unchecked-requires : goal.cut_refused_unchecked-requires
 cut_refused_unchecked-requires c =

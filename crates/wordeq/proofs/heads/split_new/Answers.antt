@@ -5,24 +5,21 @@ use Rattle.wordeq.proofs.Refines.Heads.{opposite_kept, new-pair, new-below, new-
 use native.Mathlib.Omega.{arith}
 use Rattle.wordeq.proofs.heads.split_new.Goals as goal
 
-pub add_key_unchecked-requires : goal.add_key_unchecked-requires
-add_key_unchecked-requires c =
-    record {
-      ready = c.requires.ready;
-      b_value = key_rule_lem _ _ _ c.requires.head_pair.left c.requires.head_pair.right c.requires.head_pair.apart;
-    }
+pub add_key_unchecked-requires-clause-b_value : goal.add_key_unchecked-requires-clause-b_value
+add_key_unchecked-requires-clause-b_value c =
+    key_rule_lem _ _ _ c.requires.head_pair.left c.requires.head_pair.right c.requires.head_pair.apart
 
 pub returns-in_err-d : goal.returns-in_err-d
 returns-in_err-d c =
     rw (handed _ c.from_residual.ensures.1) (new-stop c.args.guard c.args.a c.args.b c.in_err-d.ensures)
 
-pub put_atoms-requires : goal.put_atoms-requires
-put_atoms-requires c =
-    record {
-      ready = c.in_ok-d.ensures.ready _ _ refl;
-      head_pair = new-pair c.args.guard c.args.a c.args.b c.in_ok-d.d c.in_ok-d.ensures c.requires.ready c.requires.head_pair;
-      in_bounds = c.requires.in_bounds;
-    }
+pub put_atoms-requires-clause-ready : goal.put_atoms-requires-clause-ready
+put_atoms-requires-clause-ready c =
+    c.in_ok-d.ensures.ready _ _ refl
+
+pub put_atoms-requires-clause-head_pair : goal.put_atoms-requires-clause-head_pair
+put_atoms-requires-clause-head_pair c =
+    new-pair c.args.guard c.args.a c.args.b c.in_ok-d.d c.in_ok-d.ensures c.requires.ready c.requires.head_pair
 
 pub returns-in_err-n : goal.returns-in_err-n
 returns-in_err-n c =

@@ -1,12 +1,10 @@
 use lib.ListN.{get_or}
-use mathlib.Core.Path.{sym, ap, ◌∙◌}
+use mathlib.Core.Path.{sym, ◌∙◌}
 use mir.ValLaws.{to_z-of_z}
 use mir.Syntax.{w32}
-use Rattle.sides.specs.Wordeq.{is_guard}
 use Rattle.records.proofs.Lists.{or_left}
 use Rattle.records.specs.View.{lent}
 use Rattle.wordeq.proofs.Refines.Heads.{read_in-of, left-none, right-none, heads_clash, heads-constant, heads-saturated, heads-new, pair_of, key_read}
-use native.Mathlib.Omega.{arith}
 use borrow.Author.Tests.{eqb-true, eqb-false}
 use Rattle.wordeq.proofs.heads.split_unchecked.Goals as goal
 use Rattle.wordeq.proofs.heads.split_unchecked.Goals.{then-is_empty-via-then-is_empty, then-is_empty-via-else-is_empty+then-is_empty-2, then-needed-via-then-needed, then-needed-via-else-needed+then-is_key_unchecked}
@@ -42,14 +40,9 @@ returns-then-needed c =
           c.args.c (get_or c.args.lhs.now 0 0) (get_or c.args.rhs.now 0 0) w.is_key_unchecked.ensures w.if-needed.false w.if-is_key_unchecked.true
     ])
 
-pub split_new-requires : goal.split_new-requires
-split_new-requires c =
-    record {
-      ready = c.requires.ready;
-      head_pair = pair_of _ _ _ c.requires.both_lists c.requires.heads_apart (eqb-false _ 0 (sym c.is_empty.ensures ∙ c.if-is_empty.false)) (eqb-false _ 0 (sym c.is_empty-else-is_empty.ensures ∙ c.if-is_empty-2.false)) (sym c.both_constant.ensures ∙ c.if-both_constant.false);
-      guard_value = ap is_guard (to_z-of_z w32 c.args.guard c.ranges.guard) ∙ c.requires.guard_value;
-      in_bounds = (let h = c.requires.list_limit_in_bounds in omega arith);
-    }
+pub split_new-requires-clause-head_pair : goal.split_new-requires-clause-head_pair
+split_new-requires-clause-head_pair c =
+    pair_of _ _ _ c.requires.both_lists c.requires.heads_apart (eqb-false _ 0 (sym c.is_empty.ensures ∙ c.if-is_empty.false)) (eqb-false _ 0 (sym c.is_empty-else-is_empty.ensures ∙ c.if-is_empty-2.false)) (sym c.both_constant.ensures ∙ c.if-both_constant.false)
 
 pub returns : goal.returns
 returns c =

@@ -3,14 +3,10 @@ use Rattle.wordeq.proofs.Refines.Propagate.{side_fixed, assigned-done, assigned-
 use Rattle.records.specs.View.{lent}
 use Rattle.wordeq.proofs.propagate.assigns_unchecked.Goals as goal
 
-pub side_word_unchecked-requires : goal.side_word_unchecked-requires
-side_word_unchecked-requires c =
-    record {
-      ready = c.requires.ready;
-      side_len_bound = c.requires.side_len_bound;
-      side_value = side_fixed (lent c.args.terms.now c.args.cells.now c.args.chars.now c.args.reasons.now c.args.keys.now)
-          c.args.c c.args.v c.args.side.now c.requires.side_value;
-    }
+pub side_word_unchecked-requires-clause-side_value : goal.side_word_unchecked-requires-clause-side_value
+side_word_unchecked-requires-clause-side_value c =
+    side_fixed (lent c.args.terms.now c.args.cells.now c.args.chars.now c.args.reasons.now c.args.keys.now)
+    c.args.c c.args.v c.args.side.now c.requires.side_value
 
 pub returns-in_err-t : goal.returns-in_err-t
 returns-in_err-t c =

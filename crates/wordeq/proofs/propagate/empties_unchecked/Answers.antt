@@ -5,12 +5,9 @@ use Rattle.wordeq.proofs.Refines.SplitAtoms.{no_characters}
 use mathlib.Core.Path.{refl}
 use Rattle.wordeq.proofs.propagate.empties_unchecked.Goals as goal
 
-pub make_constant_unchecked-requires : goal.make_constant_unchecked-requires
-make_constant_unchecked-requires c =
-    record {
-      ready = c.requires.ready;
-      c_value = no_characters;
-    }
+pub make_constant_unchecked-requires-clause-c_value : goal.make_constant_unchecked-requires-clause-c_value
+make_constant_unchecked-requires-clause-c_value c =
+    no_characters
 
 pub returns-in_err-t : goal.returns-in_err-t
 returns-in_err-t c =

@@ -1,19 +1,11 @@
 use Rattle.records.specs.View.{read_in}
 use Rattle.wordeq.proofs.Refines.Propagate.{linked-first, linked-turn, linked-none}
 use Rattle.records.proofs.Lists.{every_at}
-use mathlib.Core.Path.{refl}
 use Rattle.wordeq.proofs.propagate.link_first.Goals as goal
 
-pub loop-v-init : goal.loop-v-init
-loop-v-init c =
-    refl
-
-pub same_unchecked-requires : goal.same_unchecked-requires
-same_unchecked-requires c =
-    record {
-      fact_1 = c.requires.readable;
-      fact_2 = every_at c.args.side.now _ 0 c.requires.every c.loop-v-test.true;
-    }
+pub same_unchecked-requires-clause-fact_2 : goal.same_unchecked-requires-clause-fact_2
+same_unchecked-requires-clause-fact_2 c =
+    every_at c.args.side.now _ 0 c.requires.every c.loop-v-test.true
 
 pub returns-then-not-same_unchecked : goal.returns-then-not-same_unchecked
 returns-then-not-same_unchecked c =

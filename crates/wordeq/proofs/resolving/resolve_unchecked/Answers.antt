@@ -1,16 +1,6 @@
 use Rattle.records.proofs.Public.{handed}
 use Rattle.wordeq.proofs.Refines.ResolveCalls.{resolve-closed, resolve-refused}
-use Rattle.wordeq.proofs.Refines.Flattening.{guard_passed}
 use Rattle.wordeq.proofs.resolving.resolve_unchecked.Goals as goal
-
-pub run-requires : goal.run-requires
-run-requires c =
-    record {
-      ready = c.requires.ready;
-      both_lists = c.requires.both_lists;
-      guard_value = guard_passed _ c.ranges.guard c.requires.guard_value;
-      list_limit_in_bounds = c.requires.list_limit_in_bounds;
-    }
 
 pub returns-in_err-o : goal.returns-in_err-o
 returns-in_err-o c =

@@ -4,12 +4,9 @@ use Rattle.wordeq.proofs.Refines.SplitAtoms.{stays, one-character, character-str
 use mathlib.Core.Path.{refl}
 use Rattle.wordeq.proofs.splits.character_unchecked.Goals as goal
 
-pub make_constant_unchecked-requires : goal.make_constant_unchecked-requires
-make_constant_unchecked-requires c =
-    record {
-      ready = c.requires.ready;
-      c_value = one-character _ c.requires.ch_value;
-    }
+pub make_constant_unchecked-requires-clause-c_value : goal.make_constant_unchecked-requires-clause-c_value
+make_constant_unchecked-requires-clause-c_value c =
+    one-character _ c.requires.ch_value
 
 pub returns-in_err-h : goal.returns-in_err-h
 returns-in_err-h c =

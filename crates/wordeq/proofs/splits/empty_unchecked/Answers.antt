@@ -3,12 +3,9 @@ use Rattle.wordeq.proofs.Refines.SplitAtoms.{no_characters, empty-sides, empty-d
 use mathlib.Core.Path.{refl}
 use Rattle.wordeq.proofs.splits.empty_unchecked.Goals as goal
 
-pub make_constant_unchecked-requires : goal.make_constant_unchecked-requires
-make_constant_unchecked-requires c =
-    record {
-      ready = c.requires.ready;
-      c_value = no_characters;
-    }
+pub make_constant_unchecked-requires-clause-c_value : goal.make_constant_unchecked-requires-clause-c_value
+make_constant_unchecked-requires-clause-c_value c =
+    no_characters
 
 pub returns-in_err-t : goal.returns-in_err-t
 returns-in_err-t c =

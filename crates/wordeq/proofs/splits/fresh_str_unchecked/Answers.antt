@@ -6,15 +6,15 @@ pub returns-in_err-named : goal.returns-in_err-named
 returns-in_err-named c =
     rw (handed _ c.from_residual.ensures.1) (named-stop c.in_err-named.ensures)
 
-pub make_named-requires : goal.make_named-requires
-make_named-requires c =
+pub make_named-requires-clause-is_name : goal.make_named-requires-clause-is_name
+make_named-requires-clause-is_name c =
     let x = c.in_ok-named.ensures in
-    record {
-      ready = x.ready;
-      len_bound = x.fits;
-      is_name = named_arguments x;
-      is_new = named_new x;
-    }
+    named_arguments x
+
+pub make_named-requires-clause-is_new : goal.make_named-requires-clause-is_new
+make_named-requires-clause-is_new c =
+    let x = c.in_ok-named.ensures in
+    named_new x
 
 pub returns : goal.returns
 returns c =

@@ -1,6 +1,6 @@
 use Rattle.records.proofs.Public.{handed}
 use Rattle.wordeq.proofs.Refines.SplitAtoms.{prefix_parts, prefix_sides, prefix_done, prefix_stop, prefix_stop_2}
-use mathlib.Core.Path.{refl, ◌∙◌}
+use mathlib.Core.Path.{refl}
 use Rattle.wordeq.proofs.splits.prefix_unchecked.Goals as goal
 
 pub returns-in_err-z : goal.returns-in_err-z

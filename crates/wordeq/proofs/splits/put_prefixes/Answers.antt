@@ -1,7 +1,5 @@
 use Rattle.records.proofs.Public.{handed}
 use Rattle.wordeq.proofs.Refines.SplitAtoms.{stays, grows_prefix, prefixes_done, prefixes_stop, prefixes_stop_2}
-use lib.ListN.{length-set}
-use native.Mathlib.Omega.{arith}
 use mathlib.Core.Path.{refl}
 use Rattle.wordeq.proofs.splits.put_prefixes.Goals as goal
 
@@ -20,18 +18,6 @@ prefix_unchecked-requires-2 c =
 pub returns-in_err-u : goal.returns-in_err-u
 returns-in_err-u c =
     rw (handed _ c.from_residual-in_err-u.ensures.1) (prefixes_stop_2 _ _ _ c.in_ok-q.ensures c.in_err-u.ensures)
-
-pub bounds-list-0 : goal.bounds-list-0
-bounds-list-0 c =
-    let h = c.requires.in_bounds in omega arith
-
-pub bounds-list-1 : goal.bounds-list-1
-bounds-list-1 c =
-    let h = c.requires.in_bounds in simp length-set (omega arith)
-
-pub bounds-list-2 : goal.bounds-list-2
-bounds-list-2 c =
-    let h = c.requires.in_bounds in simp length-set (omega arith)
 
 pub returns : goal.returns
 returns c =

@@ -7,14 +7,17 @@ pub returns-in_err-p : goal.returns-in_err-p
 returns-in_err-p c =
     rw (handed _ c.from_residual.ensures.1) (heads-stop _ _ c.in_err-p.ensures)
 
-pub put_prefixes-requires : goal.put_prefixes-requires
-put_prefixes-requires c =
-    record {
-      ready = c.in_ok-p.ensures.ready _ _ refl;
-      a_value = stays c.in_ok-p.d (grows-lengths _ _) c.in_ok-p.ensures _ c.requires.a_value;
-      b_value = stays c.in_ok-p.d (grows-lengths _ _) c.in_ok-p.ensures _ c.requires.b_value;
-      in_bounds = c.requires.in_bounds;
-    }
+pub put_prefixes-requires-clause-ready : goal.put_prefixes-requires-clause-ready
+put_prefixes-requires-clause-ready c =
+    c.in_ok-p.ensures.ready _ _ refl
+
+pub put_prefixes-requires-clause-a_value : goal.put_prefixes-requires-clause-a_value
+put_prefixes-requires-clause-a_value c =
+    stays c.in_ok-p.d (grows-lengths _ _) c.in_ok-p.ensures _ c.requires.a_value
+
+pub put_prefixes-requires-clause-b_value : goal.put_prefixes-requires-clause-b_value
+put_prefixes-requires-clause-b_value c =
+    stays c.in_ok-p.d (grows-lengths _ _) c.in_ok-p.ensures _ c.requires.b_value
 
 pub returns : goal.returns
 returns c =

@@ -1,5 +1,3 @@
-use mathlib.Core.Path.{ap, ◌∙◌}
-use Rattle.sides.specs.Wordeq.{is_guard}
 use mir.Facts.{to_z-of_z}
 use Rattle.wordeq.proofs.Refines.Steps.{after-refused, after_early, after-refused_2, after-known, after-refused_3, after_tiled, after-split}
 use Rattle.sides.proofs.Trying.{passed_on, conflicts-rises, propagates-rises, tiles-rises, last_of}
@@ -46,51 +44,24 @@ tile_unchecked-requires c =
       both_lists = y.lists;
     }
 
-pub shape_of-reasons-in_default-tiled : goal.shape_of-reasons-in_default-tiled
-shape_of-reasons-in_default-tiled c =
-    c.tile_unchecked.auto.reasons ∙ c.conflicts_unchecked.auto.reasons
-
 pub returns-in_default-tiled : goal.returns-in_default-tiled
 returns-in_default-tiled c =
     after_tiled c.args.lhs.now c.args.rhs.now c.args.guard c.args.needed c.in_ok-early.ensures c.in-Done.is c.in_ok-known.ensures c.in-Done-known.is
     c.in_ok-tiled.ensures (last_of c.in_ok-tiled.tiled c.in_default-tiled.not-Done) c.args.list.now
 
-pub split_unchecked-requires : goal.split_unchecked-requires
-split_unchecked-requires c =
+pub split_unchecked-requires-clause-ready : goal.split_unchecked-requires-clause-ready
+split_unchecked-requires-clause-ready c =
     let x = passed_on (conflicts-rises c.args.lhs.now c.args.rhs.now) c.in_ok-early.ensures c.in-Done.is c.requires.both_lists in
     let y = passed_on (propagates-rises c.args.lhs.now c.args.rhs.now) c.in_ok-known.ensures c.in-Done-known.is x.lists in
     let z = passed_on (tiles-rises c.args.lhs.now c.args.rhs.now) c.in_ok-tiled.ensures c.in-Done-tiled.is y.lists in
-    record {
-      ready = z.ready;
-      both_lists = z.lists;
-      heads_apart = c.requires.heads_apart;
-      guard_value = ap is_guard (to_z-of_z c.ranges.guard) ∙ c.requires.guard_value;
-      list_limit_in_bounds = c.requires.list_limit_in_bounds;
-    }
+    z.ready
 
-pub shape_of-terms : goal.shape_of-terms
-shape_of-terms c =
-    c.split_unchecked.auto.terms ∙ c.propagate_unchecked.auto.terms
-
-pub shape_of-cells : goal.shape_of-cells
-shape_of-cells c =
-    c.split_unchecked.auto.cells
-
-pub shape_of-chars : goal.shape_of-chars
-shape_of-chars c =
-    c.split_unchecked.auto.chars ∙ c.propagate_unchecked.auto.chars
-
-pub shape_of-reasons : goal.shape_of-reasons
-shape_of-reasons c =
-    c.tile_unchecked.auto.reasons ∙ c.conflicts_unchecked.auto.reasons
-
-pub shape_of-keys : goal.shape_of-keys
-shape_of-keys c =
-    c.split_unchecked.auto.keys
-
-pub shape_of-list : goal.shape_of-list
-shape_of-list c =
-    c.split_unchecked.auto.list
+pub split_unchecked-requires-clause-both_lists : goal.split_unchecked-requires-clause-both_lists
+split_unchecked-requires-clause-both_lists c =
+    let x = passed_on (conflicts-rises c.args.lhs.now c.args.rhs.now) c.in_ok-early.ensures c.in-Done.is c.requires.both_lists in
+    let y = passed_on (propagates-rises c.args.lhs.now c.args.rhs.now) c.in_ok-known.ensures c.in-Done-known.is x.lists in
+    let z = passed_on (tiles-rises c.args.lhs.now c.args.rhs.now) c.in_ok-tiled.ensures c.in-Done-tiled.is y.lists in
+    z.lists
 
 pub returns : goal.returns
 returns c =
