@@ -23,7 +23,7 @@ pub record Inside (i j : ℕ) (w v : List ℕ) : Type 0 where
   pub first : take i v ≡ take i w
   pub rest : drop j v ≡ drop j w
 
--- the refusal of a number from 1 on
+-- the refusal of a number from 1 to 12
 abbrev pub refusal_of : ℕ → Refusal
 refusal_of k =
     get_or
@@ -39,9 +39,9 @@ read_as (suc k) n w = Err (refusal_of (suc k))
 abbrev pub Promise : Type 1
 Promise = Lent → Lent → List ℕ → List ℕ → State → Standing → Result (ℕ × Standing) Refusal → Type 0
 
--- The result is 0 or a refusal's number. Where state and answer have their eight words (`fit`) the call's promise P holds of what is read off, and the refusal is 1 where they
--- have not. On success the state is written from word i up to word j and the answer in word 0, no other word of either; 'Refusals added
--- from here on write nothing': after a refusal every slice is as it was.
+-- The result is 0 or a refusal's number. Where state and answer have their eight words (`fit`) the call's promise P holds of what is read
+-- off, and the refusal is 1 where they have not. On success the state is written from word i up to word j and the answer in word 0, no other
+-- word of either; 'Refusals added from here on write nothing': after a refusal every slice is as it was.
 pub record ExportedMarks (P : Promise) (i j : ℕ) (fit : Bool) (m m' : Lent) (l l' w w' a a' : List ℕ) (n k : ℕ) : Type 0 where
   pub is : fit ≡ true → P m m' l l' (state_of w) (standing_of w) (read_as k n w')
   pub short : fit ≡ false → k ≡ 1

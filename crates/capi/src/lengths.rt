@@ -6,7 +6,7 @@ use crate::telling::{STATE_ROOM, is_roomy, state_of, tell_still};
 use forced::Forced;
 use records::Refusal;
 
-// 0, k, c, l, m and r, or 1, k, c, l, the shortage and 0.
+// The answer's words: 0, k, c, l, m and r, or 1, k, c, l, the shortage and 0; the constants' c is n here.
 #[unsafe(no_mangle)]
 pub extern "C" fn labels_forced_length(
     state: &[u32],

@@ -6,7 +6,7 @@ ghost use Rattle.capi.specs.Parts.{ExportedParts};
 use crate::telling::{STATE_ROOM, is_roomy, state_of, tell_words};
 use records::Refusal;
 
-// The count, the number of "" and the link flag into the words.
+// The answer's words: the count, the number of "" and the link flag.
 #[unsafe(no_mangle)]
 pub extern "C" fn labels_empty_parts(
     state: &mut [u32],
